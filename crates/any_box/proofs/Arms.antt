@@ -1,17 +1,12 @@
 -- What a call does to a box, by which of the eight it is.
-use Rattle.std.proofs.Common.{◌≡◌, ℕ, List, sym, subst}
-use Rattle.std.specs.Prelude.{Option}
-use Rattle.sha2.specs.declared.Sha256.{Sha256}
-use Rattle.yasir_ticks.specs.declared.tick.Tick.{Tick}
-use Rattle.rtu_frame.specs.declared.rtu.Rtu.{Rtu}
-use Rattle.dnp_link_frame.specs.declared.dnp.Dnp.{Dnp}
-use Rattle.line_rules.specs.declared.line_rules.LineRules.{Ghosts as LineRules}
-use Rattle.hmac_tag.specs.declared.tag.Mac.{Ghosts as Mac}
-use Rattle.hmac_tag.specs.declared.keyed_hash.Hmac.{Hmac}
-use Rattle.hmac_tag.specs.declared.sha1_hasher.Sha1Hasher.{Sha1Hasher}
 use Rattle.any_box.specs.Boxes.{Steps, TakesRun}
-use Rattle.any_box.specs.declared.any_box.AnyBox.{AnyBox}
-use Rattle.any_box.specs.declared.any_note.AnyNote.{AnyNote}
+use Rattle.any_box.specs.declared.{any_box.AnyBox.AnyBox, any_note.AnyNote.AnyNote}
+use Rattle.{dnp_link_frame.specs.declared.dnp.Dnp.Dnp, hmac_tag.specs.declared.keyed_hash.Hmac.Hmac}
+use Rattle.hmac_tag.specs.declared.{sha1_hasher.Sha1Hasher.Sha1Hasher, tag.Mac.Ghosts as Mac}
+use Rattle.line_rules.specs.declared.line_rules.LineRules.{Ghosts as LineRules}
+use Rattle.{rtu_frame.specs.declared.rtu.Rtu.Rtu, sha2.specs.declared.Sha256.Sha256}
+use Rattle.std.proofs.Common.{◌≡◌, ℕ, List, sym, subst}
+use Rattle.{std.specs.Prelude.Option, yasir_ticks.specs.declared.tick.Tick.Tick}
 
 pub steps-at : (rtu : LineRules Rtu) (dnp : LineRules Dnp) (short : Mac (Hmac Sha1Hasher 20))
     (long : Mac (Hmac Sha256 32)) (old same : AnyBox) (before : ℕ) (new : AnyBox) (after : ℕ)

@@ -1,21 +1,19 @@
 -- What a step commits over slots in memory.
-use Rattle.std.proofs.Common.{◌≡◌, ◌∙◌, ℕ, ◌<◌, sym, ap, subst, inl, inr}
-use Rattle.std.specs.Prelude.{Option, Some, None}
-use Rattle.yasir_io.specs.Disks.{Slots, with_slot, other_slot}
-use Rattle.yasir_io.specs.Steady.{steady_slots}
-use Rattle.yasir_io.specs.declared.disk.SlotDisk.{Ghosts as SlotDisk}
-use Rattle.yasir_io.specs.declared.steady.SteadySlots.{SteadySlots}
-use Rattle.sequence_journal.specs.declared.journal.Journal.{Journal}
-use Rattle.sequence_journal.specs.Commits.{HasCommitted}
-use Rattle.sequence_journal.specs.Journal.{journal_link, journal_floor, kept_slot, told_with}
-use Rattle.sequence_journal.specs.Slots.{slot_bytes}
-use Rattle.seal_judgements.specs.declared.note.SealNote.{SealNote}
-use Rattle.seal_judgements.specs.declared.note.SealNote.TheVariants.{Sealed, Unsealed}
-use Rattle.seal_transmitter.specs.Answers.{CommitsNoted as SealCommits}
+use Rattle.any_box.specs.Commits.{CommitsOne, CommitsOneOrNone}
 use Rattle.check_receiver.specs.Checkings.{CommitsNoted as CheckCommits}
 use Rattle.link_verdicts.specs.declared.note.CheckNote.{CheckNote}
 use Rattle.link_verdicts.specs.declared.note.CheckNote.TheVariants.{Passed, Refused, Dropped}
-use Rattle.any_box.specs.Commits.{CommitsOne, CommitsOneOrNone}
+use Rattle.seal_judgements.specs.declared.note.SealNote.{SealNote}
+use Rattle.seal_judgements.specs.declared.note.SealNote.TheVariants.{Sealed, Unsealed}
+use Rattle.seal_transmitter.specs.Answers.{CommitsNoted as SealCommits}
+use Rattle.sequence_journal.specs.Commits.{HasCommitted}
+use Rattle.sequence_journal.specs.Journal.{journal_link, journal_floor, kept_slot, told_with}
+use Rattle.sequence_journal.specs.{Slots.slot_bytes, declared.journal.Journal.Journal}
+use Rattle.std.proofs.Common.{◌≡◌, ◌∙◌, ℕ, ◌<◌, sym, ap, subst, inl, inr}
+use Rattle.std.specs.Prelude.{Option, Some, None}
+use Rattle.yasir_io.specs.Disks.{Slots, with_slot, other_slot}
+use Rattle.yasir_io.specs.{Steady.steady_slots, declared.disk.SlotDisk.Ghosts as SlotDisk}
+use Rattle.yasir_io.specs.declared.steady.SteadySlots.{SteadySlots}
 
 -- what is told of slots in memory
 abbrev pub steady_disk : SlotDisk SteadySlots

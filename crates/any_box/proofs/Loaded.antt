@@ -1,17 +1,14 @@
 -- What a journal is that was loaded from slots that a caller gives: the old ones hold no number.
+use Rattle.sequence_journal.specs.declared.journal.{Journal.Journal, LoadError.LoadError}
 use Rattle.std.proofs.Common.{◌≡◌, ◌∙◌, ℕ, ◌+◌, refl, sym, ap, arith}
 use Rattle.std.specs.Prelude.{Option, Some, None, List, replicate}
-use Rattle.yasir_io.specs.Disks.{Slots}
-use Rattle.yasir_io.specs.declared.disk.TheConstants.{OLD_SLOT_LEN}
-use Rattle.sequence_journal.specs.declared.journal.Journal.{Journal}
-use Rattle.sequence_journal.specs.declared.journal.LoadError.{LoadError}
+use Rattle.yasir_io.specs.{Disks.Slots, declared.disk.TheConstants.OLD_SLOT_LEN}
 use Rattle.sequence_journal.specs.declared.journal.LoadError.TheVariants as Load
-use Rattle.sequence_journal.specs.declared.link.LinkId.{LinkId}
-use Rattle.sequence_journal.specs.Journal.{journal_link, journal_floor}
-use Rattle.sequence_journal.specs.Loading.{IsLoaded, LeavesLoaded, RefusesLoad}
-use Rattle.sequence_journal.specs.Slots.{floor_of, floor_by, own_floor, any_floor, old_floor}
-use Rattle.sequence_journal.specs.Slots.{old_number_held, old_slot_bytes, greater}
 use Rattle.any_box.specs.Held.{slots_given}
+use Rattle.sequence_journal.specs.{Journal.journal_link, Journal.journal_floor, Loading.IsLoaded}
+use Rattle.sequence_journal.specs.{Loading.LeavesLoaded, Loading.RefusesLoad, Slots.floor_of}
+use Rattle.sequence_journal.specs.Slots.{floor_by, own_floor, any_floor, old_floor, old_number_held}
+use Rattle.sequence_journal.specs.{Slots.old_slot_bytes, Slots.greater, declared.link.LinkId.LinkId}
 
 blank-none : old_number_held (replicate OLD_SLOT_LEN 0) ≡ None
 unfolding old_number_held old_slot_bytes

@@ -1,15 +1,12 @@
 -- Notes of a box as those of any box.
-use Rattle.std.proofs.Common.{◌≡◌, ◌∙◌, ℕ, ◌+◌, ◌≤◌, List, [], ◌∷◌, ◌++◌, length, map, take, refl, sym, ap}
-use Rattle.std.proofs.lemmas.List.{map-append, length-take-le}
+use Rattle.any_box.specs.{Noting.StepsAs, declared.any_note.AnyNote.AnyNote}
+use Rattle.burst_walk.specs.{Answers.told_notes, Answers.note_in, Walk.Noted}
+use Rattle.link_box.specs.{Stepping.Steps, Walking.Walking, Walking.full_notes}
+use Rattle.link_format.specs.Setup.{Setup}
+use Rattle.std.proofs.Common.{◌≡◌, ◌∙◌, ℕ, ◌+◌, ◌≤◌, List, [], ◌∷◌, ◌++◌, length, map, take, refl}
+use Rattle.std.proofs.{Common.sym, Common.ap, lemmas.List.map-append, lemmas.List.length-take-le}
 use Rattle.std.specs.Prelude.{Option, Some, None, option_map}
 use Rattle.yasir_ticks.specs.declared.tick.Tick.{Tick}
-use Rattle.burst_walk.specs.Answers.{told_notes, note_in}
-use Rattle.burst_walk.specs.Walk.{Noted}
-use Rattle.link_format.specs.Setup.{Setup}
-use Rattle.link_box.specs.Stepping.{Steps}
-use Rattle.link_box.specs.Walking.{Walking, full_notes}
-use Rattle.any_box.specs.Noting.{StepsAs}
-use Rattle.any_box.specs.declared.any_note.AnyNote.{AnyNote}
 
 module _ {F A : Type 0} (brief : F → A) (noted : A → AnyNote) where
   -- a note, told as one of any box

@@ -1,14 +1,12 @@
 -- A slot by its number, and the disk of a journal by what a box keeps of it.
+use Rattle.any_box.specs.Places.{slot_number}
+use Rattle.sequence_journal.specs.Journal.{journal_link, journal_floor, kept_slot, is_broken, Fits}
+use Rattle.sequence_journal.specs.Slots.{floor_of, floor_slot}
+use Rattle.sequence_journal.specs.declared.{journal.Journal.Journal, link.LinkId.LinkId}
 use Rattle.std.proofs.Common.{◌≡◌, ◌∙◌, ℕ, refl, sym, ap, arith}
 use Rattle.std.specs.Prelude.{Option, Some, None, option_map, false}
 use Rattle.yasir_io.specs.Disks.{Slots}
-use Rattle.yasir_io.specs.declared.disk.Slot.{Slot}
-use Rattle.yasir_io.specs.declared.disk.Slot.TheVariants.{A, B}
-use Rattle.sequence_journal.specs.declared.journal.Journal.{Journal}
-use Rattle.sequence_journal.specs.declared.link.LinkId.{LinkId}
-use Rattle.sequence_journal.specs.Journal.{journal_link, journal_floor, kept_slot, is_broken, Fits}
-use Rattle.sequence_journal.specs.Slots.{floor_of, floor_slot}
-use Rattle.any_box.specs.Places.{slot_number}
+use Rattle.yasir_io.specs.declared.disk.Slot.{Slot, TheVariants.A, TheVariants.B}
 
 abbrev number-or : Option ℕ → ℕ
 number-or None = 9

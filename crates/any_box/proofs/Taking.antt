@@ -1,16 +1,12 @@
 -- The front of a run.
+use Rattle.any_box.specs.{Boxes.TakesRun, declared.any_box.AnyBox.AnyBox}
+use Rattle.{dnp_link_frame.specs.declared.dnp.Dnp.Dnp, hmac_tag.specs.declared.keyed_hash.Hmac.Hmac}
+use Rattle.hmac_tag.specs.declared.{sha1_hasher.Sha1Hasher.Sha1Hasher, tag.Mac.Ghosts as Mac}
+use Rattle.line_rules.specs.declared.line_rules.LineRules.{Ghosts as LineRules}
+use Rattle.{rtu_frame.specs.declared.rtu.Rtu.Rtu, sha2.specs.declared.Sha256.Sha256}
 use Rattle.std.proofs.Common.{◌≡◌, ◌∙◌, ℕ, ◌+◌, ◌≤◌, List, length, take, sym, ap, subst, arith}
 use Rattle.std.proofs.lemmas.List.{length-take-le, length-take, take-take}
-use Rattle.sha2.specs.declared.Sha256.{Sha256}
 use Rattle.yasir_ticks.specs.declared.tick.Tick.{Tick}
-use Rattle.rtu_frame.specs.declared.rtu.Rtu.{Rtu}
-use Rattle.dnp_link_frame.specs.declared.dnp.Dnp.{Dnp}
-use Rattle.line_rules.specs.declared.line_rules.LineRules.{Ghosts as LineRules}
-use Rattle.hmac_tag.specs.declared.tag.Mac.{Ghosts as Mac}
-use Rattle.hmac_tag.specs.declared.keyed_hash.Hmac.{Hmac}
-use Rattle.hmac_tag.specs.declared.sha1_hasher.Sha1Hasher.{Sha1Hasher}
-use Rattle.any_box.specs.Boxes.{TakesRun}
-use Rattle.any_box.specs.declared.any_box.AnyBox.{AnyBox}
 
 module _ (n m : ℕ) (xs ys : List Tick) (front : ys ≡ take m xs) (within : n ≤ length ys) where
   pub within_whole : n ≤ length xs

@@ -1,26 +1,19 @@
 -- What a caller writes: slots that are again those of the box, and no floor that is lost.
+use Rattle.any_box.{proofs.Places.fits_back, specs.Commits.Owes, specs.Commits.IsOwed}
+use Rattle.any_box.specs.Held.{slots_held, link_held, floor_held, StepsHeld}
+use Rattle.any_box.specs.declared.held_box.{HeldBox.HeldBox, HeldStep.HeldStep}
+use Rattle.{any_box.specs.declared.owed.Commit.Commit, dnp_link_frame.specs.declared.dnp.Dnp.Dnp}
+use Rattle.hmac_tag.specs.declared.{keyed_hash.Hmac.Hmac, sha1_hasher.Sha1Hasher.Sha1Hasher}
+use Rattle.hmac_tag.specs.declared.tag.Mac.{Ghosts as Mac}
+use Rattle.line_rules.specs.declared.line_rules.LineRules.{Ghosts as LineRules}
+use Rattle.{rtu_frame.specs.declared.rtu.Rtu.Rtu, sequence_journal.proofs.FloorLaws.floor_of_images}
+use Rattle.sequence_journal.specs.Journal.{kept_slot, AreSameBut, HasFloorAtLeast}
+use Rattle.{sequence_journal.specs.Slots.floor_of, sha2.specs.declared.Sha256.Sha256}
 use Rattle.std.proofs.Common.{◌≡◌, ◌∙◌, ℕ, List, refl, sym, ap, subst}
 use Rattle.std.specs.Prelude.{Some}
-use Rattle.sha2.specs.declared.Sha256.{Sha256}
-use Rattle.yasir_ticks.specs.declared.tick.Tick.{Tick}
 use Rattle.yasir_io.specs.Disks.{Slots, with_slot, other_slot}
-use Rattle.yasir_io.specs.declared.disk.Slot.{Slot}
-use Rattle.yasir_io.specs.declared.disk.Slot.TheVariants.{A, B}
-use Rattle.rtu_frame.specs.declared.rtu.Rtu.{Rtu}
-use Rattle.dnp_link_frame.specs.declared.dnp.Dnp.{Dnp}
-use Rattle.line_rules.specs.declared.line_rules.LineRules.{Ghosts as LineRules}
-use Rattle.hmac_tag.specs.declared.tag.Mac.{Ghosts as Mac}
-use Rattle.hmac_tag.specs.declared.keyed_hash.Hmac.{Hmac}
-use Rattle.hmac_tag.specs.declared.sha1_hasher.Sha1Hasher.{Sha1Hasher}
-use Rattle.sequence_journal.specs.Journal.{kept_slot, AreSameBut, HasFloorAtLeast}
-use Rattle.sequence_journal.specs.Slots.{floor_of}
-use Rattle.sequence_journal.proofs.FloorLaws.{floor_of_images}
-use Rattle.any_box.proofs.Places.{fits_back}
-use Rattle.any_box.specs.Commits.{Owes, IsOwed}
-use Rattle.any_box.specs.Held.{slots_held, link_held, floor_held, StepsHeld}
-use Rattle.any_box.specs.declared.held_box.HeldBox.{HeldBox}
-use Rattle.any_box.specs.declared.held_box.HeldStep.{HeldStep}
-use Rattle.any_box.specs.declared.owed.Commit.{Commit}
+use Rattle.yasir_io.specs.declared.disk.Slot.{Slot, TheVariants.A, TheVariants.B}
+use Rattle.yasir_ticks.specs.declared.tick.Tick.{Tick}
 
 -- slots with one of them set are as they were but for this one
 but-set : (slot : Slot) (slots : Slots) (bytes : List ℕ)

@@ -1,13 +1,11 @@
 -- What a step does to a spacer, by which of the four it is.
+use Rattle.any_spacer.specs.{Spacers.StepsOn, declared.any_spacer.AnySpacer.AnySpacer}
+use Rattle.any_spacer.specs.declared.forgetful.ForgetfulDevice.{ForgetfulDevice}
+use Rattle.device_model.specs.declared.{device.Device.Ghosts as Device, rtu.RtuDevice.RtuDevice}
+use Rattle.dnp_link_frame.specs.declared.dnp.Dnp.{Dnp}
+use Rattle.line_spacer.specs.declared.spacer.SpaceStep.{SpaceStep}
 use Rattle.std.proofs.Common.{◌≡◌, sym, subst}
 use Rattle.yasir_ticks.specs.declared.tick.Tick.{Tick}
-use Rattle.dnp_link_frame.specs.declared.dnp.Dnp.{Dnp}
-use Rattle.device_model.specs.declared.device.Device.{Ghosts as Device}
-use Rattle.device_model.specs.declared.rtu.RtuDevice.{RtuDevice}
-use Rattle.line_spacer.specs.declared.spacer.SpaceStep.{SpaceStep}
-use Rattle.any_spacer.specs.Spacers.{StepsOn}
-use Rattle.any_spacer.specs.declared.any_spacer.AnySpacer.{AnySpacer}
-use Rattle.any_spacer.specs.declared.forgetful.ForgetfulDevice.{ForgetfulDevice}
 
 pub steps-at : (rtu : Device RtuDevice) (dnp : Device (ForgetfulDevice Dnp))
     (old same new : AnySpacer) (t : Tick) (step : SpaceStep) → old ≡ same

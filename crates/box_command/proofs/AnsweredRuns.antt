@@ -1,9 +1,8 @@
 -- What a box answers, as a run of ticks with a note or without one.
+use Rattle.box_command.specs.{Boxes.Boxed, Boxes.AnswersBox, Boxes.AnswersBoxRun, Sending.made_by}
+use Rattle.line_texts.specs.Sending.{AnswersNoted}
 use Rattle.std.proofs.Common.{◌∙◌, List, [], ◌∷◌, ℕ, sym, append-nil}
 use Rattle.yasir_ticks.specs.declared.tick.Tick.{Tick}
-use Rattle.line_texts.specs.Sending.{AnswersNoted}
-use Rattle.box_command.specs.Boxes.{Boxed, AnswersBox, AnswersBoxRun}
-use Rattle.box_command.specs.Sending.{made_by}
 
 -- in a step
 pub step_noted : (box : Boxed) (line : List Tick) (t answer : Tick) (note : List ℕ)

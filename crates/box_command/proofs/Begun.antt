@@ -1,13 +1,11 @@
 -- A box at its first tick, and what each tick more changes.
-use Rattle.std.proofs.Common.{◌≡◌, ◌∙◌, ℕ, List, [], ◌∷◌, ◌++◌, refl, sym}
-use Rattle.std.proofs.Common.{ap, subst}
-use Rattle.yasir_ticks.specs.Ticks.{Item, ticks_in}
-use Rattle.yasir_ticks.specs.Ticks.Item.{tick, mark}
-use Rattle.yasir_ticks.specs.declared.tick.Tick.{Tick}
-use Rattle.link_box.specs.declared.box_trait.LinkBox.{Ghosts as LinkBox}
-use Rattle.tick_drive.proofs.ItemLaws.{ticks_in-append, ticks_in-mark}
 use Rattle.box_command.specs.BoxLines.{BoxOrigin, Outputs, DrivesBox}
 use Rattle.box_command.specs.declared.box_lines.BoxLines.{BoxLines}
+use Rattle.link_box.specs.declared.box_trait.LinkBox.{Ghosts as LinkBox}
+use Rattle.std.proofs.Common.{◌≡◌, ◌∙◌, ℕ, List, [], ◌∷◌, ◌++◌, refl, sym, ap, subst}
+use Rattle.tick_drive.proofs.ItemLaws.{ticks_in-append, ticks_in-mark}
+use Rattle.yasir_ticks.specs.Ticks.{Item, ticks_in, Item.tick, Item.mark}
+use Rattle.yasir_ticks.specs.declared.tick.Tick.{Tick}
 
 pub one_more : (items : List Item) (t : Tick)
     → ticks_in (items ++ tick t ∷ []) ≡ ticks_in items ++ t ∷ []

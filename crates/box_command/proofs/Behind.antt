@@ -1,18 +1,14 @@
 -- What calls do to a box that is driven by references, and behind these.
-use Rattle.std.proofs.Common.{◌≡◌, ◌∙◌, ℕ, List, Option, Result, Ok, Err, refl, sym, subst}
-use Rattle.std.specs.Borrow.{GName}
-use Rattle.yasir_io.specs.declared.disk.SlotDisk.{Ghosts as SlotDisk}
-use Rattle.yasir_io.specs.declared.sink.Sink.{Ghosts as Sink}
-use Rattle.yasir_ticks.specs.Ticks.{Item}
-use Rattle.link_box.specs.declared.box_trait.LinkBox.{Ghosts as LinkBox}
-use Rattle.tick_drive.specs.Consumers.{Gives, GivesSome}
-use Rattle.tick_drive.specs.Drive.{Drives, answer_of}
-use Rattle.tick_drive.specs.declared.consumer.Stop.{Stop}
-use Rattle.tick_drive.specs.declared.end.End.{End}
 use Rattle.box_command.specs.BoxLines.{State, state_of, driving}
 use Rattle.box_command.specs.DrivenBox.{state_in, HoldsSame, driven_by}
-use Rattle.box_command.specs.declared.box_lines.BoxLines.{BoxLines}
-use Rattle.box_command.specs.declared.driven_box.DrivenBox.{DrivenBox}
+use Rattle.box_command.specs.declared.{box_lines.BoxLines.BoxLines, driven_box.DrivenBox.DrivenBox}
+use Rattle.link_box.specs.declared.box_trait.LinkBox.{Ghosts as LinkBox}
+use Rattle.std.proofs.Common.{◌≡◌, ◌∙◌, ℕ, List, Option, Result, Ok, Err, refl, sym, subst}
+use Rattle.std.specs.Borrow.{GName}
+use Rattle.tick_drive.specs.{Consumers.Gives, Consumers.GivesSome, Drive.Drives, Drive.answer_of}
+use Rattle.tick_drive.specs.declared.{consumer.Stop.Stop, end.End.End}
+use Rattle.yasir_io.specs.declared.{disk.SlotDisk.Ghosts as SlotDisk, sink.Sink.Ghosts as Sink}
+use Rattle.yasir_ticks.specs.Ticks.{Item}
 
 module _ {B N O L D : Type 0} (b : LinkBox B N) (line_of : N → List ℕ) (o : Sink O) (l : Sink L)
     (d : SlotDisk D) where

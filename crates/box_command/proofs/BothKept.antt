@@ -1,27 +1,21 @@
 -- What both boxes have taken of an input, by some items more.
-use Rattle.std.proofs.Common.{◌≡◌, ◌∙◌, ℕ, ◌+◌, ◌<◌, ◌≤◌, true, false, List, [], ◌∷◌, ◌++◌, length, take}
-use Rattle.std.proofs.Common.{Option, Ok, Err, refl, ap, sym, subst, arith}
-use Rattle.yasir_ticks.specs.Ticks.{Item, ticks_in}
-use Rattle.yasir_ticks.specs.Ticks.Item.{mark}
-use Rattle.yasir_ticks.specs.TickRun.{run_ticks, run_items}
-use Rattle.yasir_ticks.specs.declared.tick_run.TickRun.{TickRun}
-use Rattle.yasir_ticks.proofs.TickRuns.{length-run_items}
+use Rattle.box_command.specs.BothBoxes.{Setups, AreSteady, KeepsBoth, KeepsItems, keeping}
+use Rattle.box_command.specs.KeptBox.{KeepsSome}
+use Rattle.box_command.specs.declared.{both_boxes.BothBoxes.BothBoxes, kept_box.KeptBox.KeptBox}
 use Rattle.link_box.specs.declared.box_trait.LinkBox.{Ghosts as LinkBox}
-use Rattle.tick_drive.specs.Consumers.{Gives, GivesFirst}
-use Rattle.tick_drive.specs.Drive.{Drives, answer_of}
-use Rattle.tick_drive.specs.declared.consumer.Stop.{Stop}
-use Rattle.tick_drive.specs.declared.consumer.Stop.TheVariants.{NoMemory}
-use Rattle.tick_drive.specs.declared.end.End.{End}
-use Rattle.tick_drive.specs.declared.end.End.TheVariants.{Whole, Stopped}
-use Rattle.tick_drive.proofs.ItemLaws.{ticks_in-front}
-use Rattle.replay_lists.specs.Recordings.{has_mark, before_mark, behind_mark}
 use Rattle.replay_lists.proofs.Marks.{has_mark-mark, before_mark-mark, behind_mark-mark}
 use Rattle.replay_lists.proofs.Marks.{before_mark-more, behind_mark-more}
 use Rattle.replay_lists.proofs.Runs.{no_mark-front, has_mark-run, before_mark-run, behind_mark-run}
-use Rattle.box_command.specs.KeptBox.{KeepsSome}
-use Rattle.box_command.specs.BothBoxes.{Setups, AreSteady, KeepsBoth, KeepsItems, keeping}
-use Rattle.box_command.specs.declared.both_boxes.BothBoxes.{BothBoxes}
-use Rattle.box_command.specs.declared.kept_box.KeptBox.{KeptBox}
+use Rattle.replay_lists.specs.Recordings.{has_mark, before_mark, behind_mark}
+use Rattle.std.proofs.Common.{◌≡◌, ◌∙◌, ℕ, ◌+◌, ◌<◌, ◌≤◌, true, false, List, [], ◌∷◌, ◌++◌, length}
+use Rattle.std.proofs.Common.{take, Option, Ok, Err, refl, ap, sym, subst, arith}
+use Rattle.tick_drive.proofs.ItemLaws.{ticks_in-front}
+use Rattle.tick_drive.specs.{Consumers.Gives, Consumers.GivesFirst, Drive.Drives, Drive.answer_of}
+use Rattle.tick_drive.specs.declared.consumer.Stop.{Stop, TheVariants.NoMemory}
+use Rattle.tick_drive.specs.declared.end.End.{End, TheVariants.Whole, TheVariants.Stopped}
+use Rattle.yasir_ticks.proofs.TickRuns.{length-run_items}
+use Rattle.yasir_ticks.specs.{TickRun.run_ticks, TickRun.run_items, Ticks.Item, Ticks.ticks_in}
+use Rattle.yasir_ticks.specs.{Ticks.Item.mark, declared.tick_run.TickRun.TickRun}
 
 module _ {S C A B : Type 0} (s : LinkBox S A) (sent_line : A → List ℕ) (c : LinkBox C B)
     (got_line : B → List ℕ) (old : BothBoxes S C) where

@@ -1,23 +1,18 @@
 -- Two recordings that are filled to the same length, and the texts that are made of them.
-use Rattle.std.proofs.Common.{◌≡◌, ◌∙◌, ◌⊎◌, inl, inr, ℕ, ◌+◌, ◌-◌, ◌≤◌, max, List, [], ◌++◌, length, Option}
-use Rattle.std.proofs.Common.{codes, refl, ap, sym, subst, arith, length-append, append_assoc, append-nil}
-use Rattle.std.proofs.lemmas.List.{length-replicate}
-use Rattle.std.specs.Io.KnownBytes.{append_known}
-use Rattle.yasir_io.specs.Output.{GotPrefix}
-use Rattle.yasir_io.proofs.OutputLemmas.{append_known-nil, append_known-twice}
-use Rattle.yasir_ticks.specs.Ticks.{silent}
-use Rattle.yasir_ticks.specs.CanonicalText.{canonical_text}
-use Rattle.yasir_ticks.specs.declared.tick.Tick.{Tick}
-use Rattle.yasir_ticks.specs.declared.tick.Tick.TheVariants.{Silent}
+use Rattle.box_command.specs.{KeptBox.TimedBox, KeptBox.AreTextsOf, Recording.steps_of}
+use Rattle.box_command.specs.Recording.{filled, BothTexts, both_texts, both_lines, HoldsTexts}
+use Rattle.box_command.specs.{Recording.PrintsBoth, TimedLines.lines_before, TimedLines.AreInOrder}
+use Rattle.box_command.specs.declared.{kept_box.KeptTexts.KeptTexts, recording.Recorded.Recorded}
 use Rattle.replay_lists.specs.FrameList.{Kept, Holds}
-use Rattle.box_command.specs.KeptBox.{TimedBox, AreTextsOf}
-use Rattle.box_command.specs.Recording.{steps_of, filled, BothTexts, both_texts, both_lines, HoldsTexts}
-use Rattle.box_command.specs.Recording.{PrintsBoth}
 use Rattle.replay_status.specs.declared.status.Status.{Status}
 use Rattle.replay_status.specs.declared.status.Status.TheVariants.{Done, WriteFault}
-use Rattle.box_command.specs.TimedLines.{lines_before, AreInOrder}
-use Rattle.box_command.specs.declared.kept_box.KeptTexts.{KeptTexts}
-use Rattle.box_command.specs.declared.recording.Recorded.{Recorded}
+use Rattle.std.proofs.Common.{◌≡◌, ◌∙◌, ◌⊎◌, inl, inr, ℕ, ◌+◌, ◌-◌, ◌≤◌, max, List, [], ◌++◌}
+use Rattle.std.proofs.Common.{length, Option, codes, refl, ap, sym, subst, arith, length-append}
+use Rattle.std.proofs.{Common.append_assoc, Common.append-nil, lemmas.List.length-replicate}
+use Rattle.{std.specs.Io.KnownBytes.append_known, yasir_io.proofs.OutputLemmas.append_known-nil}
+use Rattle.yasir_io.{proofs.OutputLemmas.append_known-twice, specs.Output.GotPrefix}
+use Rattle.yasir_ticks.specs.{CanonicalText.canonical_text, Ticks.silent}
+use Rattle.yasir_ticks.specs.declared.tick.Tick.{Tick, TheVariants.Silent}
 
 -- a line with silence up to a length has this length
 pub length-filled : (steps : ℕ) (line : List Tick) → length line ≤ steps

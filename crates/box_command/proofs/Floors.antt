@@ -1,26 +1,21 @@
 -- What the images of the disk keep from the loading of the journal on, and the causes at the disk.
-use Rattle.std.proofs.Common.{◌≡◌, ◌∙◌, ℕ, Some, refl, sym, ap, subst, inl, unwrap_or}
-use Rattle.yasir_io.specs.Disks.{Slots, OneImage, LeavesOnly}
-use Rattle.yasir_io.specs.declared.disk.SlotDisk.{Ghosts as SlotDisk}
-use Rattle.yasir_io.proofs.Moments.{leaves_then, leaves_weaker}
-use Rattle.sequence_journal.specs.declared.journal.Journal.{Journal}
-use Rattle.sequence_journal.specs.declared.link.LinkId.{LinkId}
-use Rattle.sequence_journal.specs.Slots.{floor_of}
-use Rattle.sequence_journal.specs.Journal.{journal_link, journal_floor, IsCrashSafe}
-use Rattle.sequence_journal.specs.Journal.{HasFloorAtLeast, HasFloorFrom}
-use Rattle.sequence_journal.specs.Loading.{IsLoaded, KeepsLoadable}
 use Rattle.sequence_journal.proofs.LoadLemmas.{found_loaded}
 use Rattle.sequence_journal.proofs.SlotLemmas.{at_some, if_some_weaker}
-use Rattle.tick_drive.specs.Consumers.{IsDiskCause, is_journal_fault}
-use Rattle.tick_drive.specs.Drive.{answer_of}
+use Rattle.sequence_journal.specs.Journal.{journal_link, journal_floor, IsCrashSafe}
+use Rattle.sequence_journal.specs.Journal.{HasFloorAtLeast, HasFloorFrom}
+use Rattle.sequence_journal.specs.{Loading.IsLoaded, Loading.KeepsLoadable, Slots.floor_of}
+use Rattle.sequence_journal.specs.declared.{journal.Journal.Journal, link.LinkId.LinkId}
+use Rattle.std.proofs.Common.{◌≡◌, ◌∙◌, ℕ, Some, refl, sym, ap, subst, inl, unwrap_or}
+use Rattle.tick_drive.specs.{Consumers.IsDiskCause, Consumers.is_journal_fault, Drive.answer_of}
+use Rattle.yasir_io.proofs.Moments.{leaves_then, leaves_weaker}
+use Rattle.yasir_io.specs.Disks.{Slots, OneImage, LeavesOnly}
+use Rattle.yasir_io.specs.declared.disk.SlotDisk.{Ghosts as SlotDisk}
 use Rattle.tick_drive.specs.declared.consumer.Stop.TheVariants as stops
-use Rattle.tick_drive.specs.declared.end.End.{End}
-use Rattle.tick_drive.specs.declared.end.End.TheVariants.{Whole, Refused, TooLong, ReadFault}
-use Rattle.tick_drive.specs.declared.end.End.TheVariants.{Stopped}
+use Rattle.box_command.specs.{BoxLines.ToldFloor, ReplaysBox.KeepsFloor}
+use Rattle.box_command.specs.ReplaysBox.{KeepsFloorThroughout, KeepsFloorFromLoad, BoxDiskCause}
 use Rattle.replay_status.specs.Endings.{status_of}
-use Rattle.box_command.specs.BoxLines.{ToldFloor}
-use Rattle.box_command.specs.ReplaysBox.{KeepsFloor, KeepsFloorThroughout, KeepsFloorFromLoad}
-use Rattle.box_command.specs.ReplaysBox.{BoxDiskCause}
+use Rattle.tick_drive.specs.declared.end.End.{End, TheVariants.Whole}
+use Rattle.tick_drive.specs.declared.end.End.TheVariants.{Refused, TooLong, ReadFault, Stopped}
 
 -- A journal was loaded of a disk for a link.
 module _ {D : Type 0} (d : SlotDisk D) (link : LinkId) (journal : Journal) (old loaded : D)

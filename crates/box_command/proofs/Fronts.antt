@@ -1,40 +1,26 @@
 -- A box and its texts have taken a run, of which nothing is noted: what that does to the consumer.
-use Rattle.std.proofs.Common.{◌≡◌, ◌∙◌, ℕ, ◌+◌, ◌-◌, ◌<◌, ◌≤◌, List, [], ◌++◌, length, take}
-use Rattle.std.proofs.Common.{Ok, Err, refl, sym, ap, subst, arith}
-use Rattle.std.proofs.lemmas.List.{take-take, length-take}
-use Rattle.yasir_io.specs.Disks.{Slots}
-use Rattle.yasir_io.specs.declared.Failed.{Failed}
-use Rattle.yasir_io.specs.declared.disk.SlotDisk.{Ghosts as SlotDisk}
-use Rattle.yasir_io.specs.declared.sink.Sink.{Ghosts as Sink}
-use Rattle.yasir_ticks.specs.Ticks.{Item, ticks_in}
-use Rattle.yasir_ticks.specs.TickRun.{run_ticks, run_items}
-use Rattle.yasir_ticks.specs.declared.tick.Tick.{Tick}
-use Rattle.yasir_ticks.specs.declared.tick_run.TickRun.{TickRun}
-use Rattle.yasir_ticks.proofs.TickRuns.{length-run_items}
-use Rattle.burst_walk.specs.Causal.{IsCausal}
-use Rattle.burst_walk.proofs.Runs.{run-none}
-use Rattle.sequence_journal.specs.Journal.{journal_floor}
-use Rattle.link_format.specs.Setup.{Setup}
-use Rattle.link_box.specs.Walking.{number_after}
-use Rattle.link_box.specs.Runs.{HasTakenRun, TakesRun}
-use Rattle.link_box.specs.Stepping.{ServesLink}
-use Rattle.link_box.specs.declared.box_trait.LinkBox.{Ghosts as LinkBox}
-use Rattle.tick_drive.specs.Consumers.{Gives, GivesUpTo}
-use Rattle.tick_drive.specs.declared.consumer.Stop.TheVariants.{WriteFault}
-use Rattle.tick_drive.proofs.Causes.{disk_none}
-use Rattle.tick_drive.proofs.ItemLaws.{ticks_in-append, ticks_in-front, length-front}
-use Rattle.box_command.specs.Boxes.{AnswersBoxRun}
-use Rattle.box_command.specs.LinkBoxed.{boxed_of}
-use Rattle.box_command.specs.BoxLines.{BoxOrigin, DrivesBox, State, writing_at, outputs_of}
-use Rattle.box_command.specs.BoxLines.{driving}
-use Rattle.box_command.specs.BoxLinesLaws.{images_none}
+use Rattle.box_command.proofs.{AnsweredRuns.run_noted, Walking.run-answers}
+use Rattle.box_command.specs.BoxLines.{BoxOrigin, DrivesBox, State, writing_at, outputs_of, driving}
+use Rattle.box_command.specs.{BoxLinesLaws.images_none, Boxes.AnswersBoxRun, LinkBoxed.boxed_of}
 use Rattle.box_command.specs.Sending.{made_by, SendsBoxed, HasSentFronts}
+use Rattle.burst_walk.{proofs.Runs.run-none, specs.Causal.IsCausal}
+use Rattle.line_texts.proofs.{PushedRuns.pushed_none, Sending.sends_more, Sending.sent_in_part}
 use Rattle.line_texts.specs.Texts.{waiting_in, writing, texts_held, Pushes}
 use Rattle.line_texts.specs.declared.texts.Texts.{Texts}
-use Rattle.line_texts.proofs.PushedRuns.{pushed_none}
-use Rattle.box_command.proofs.Walking.{run-answers}
-use Rattle.line_texts.proofs.Sending.{sends_more, sent_in_part}
-use Rattle.box_command.proofs.AnsweredRuns.{run_noted}
+use Rattle.link_box.specs.{Runs.HasTakenRun, Runs.TakesRun, Stepping.ServesLink}
+use Rattle.link_box.specs.{Walking.number_after, declared.box_trait.LinkBox.Ghosts as LinkBox}
+use Rattle.{link_format.specs.Setup.Setup, sequence_journal.specs.Journal.journal_floor}
+use Rattle.std.proofs.Common.{◌≡◌, ◌∙◌, ℕ, ◌+◌, ◌-◌, ◌<◌, ◌≤◌, List, [], ◌++◌, length, take, Ok}
+use Rattle.std.proofs.Common.{Err, refl, sym, ap, subst, arith}
+use Rattle.std.proofs.lemmas.List.{take-take, length-take}
+use Rattle.tick_drive.proofs.{Causes.disk_none, ItemLaws.ticks_in-append, ItemLaws.ticks_in-front}
+use Rattle.tick_drive.{proofs.ItemLaws.length-front, specs.Consumers.Gives}
+use Rattle.tick_drive.specs.{Consumers.GivesUpTo, declared.consumer.Stop.TheVariants.WriteFault}
+use Rattle.yasir_io.specs.{Disks.Slots, declared.Failed.Failed}
+use Rattle.yasir_io.specs.declared.{disk.SlotDisk.Ghosts as SlotDisk, sink.Sink.Ghosts as Sink}
+use Rattle.yasir_ticks.proofs.TickRuns.{length-run_items}
+use Rattle.yasir_ticks.specs.{TickRun.run_ticks, TickRun.run_items, Ticks.Item, Ticks.ticks_in}
+use Rattle.yasir_ticks.specs.declared.{tick.Tick.Tick, tick_run.TickRun.TickRun}
 
 -- the first ones of a front are the first ones
 pub front_first : (n most : ℕ) (all front : List Tick) → front ≡ take most all → n ≤ length front

@@ -1,37 +1,27 @@
 -- What a box has made of a line, by some ticks more.
-use Rattle.std.proofs.Common.{◌≡◌, ◌∙◌, ℕ, ◌+◌, ◌-◌, ◌<◌, ◌≤◌, List, [], ◌∷◌, ◌++◌, length, map, take}
-use Rattle.std.proofs.Common.{Option, Some, None, Ok, Result, refl, ap, sym, subst, arith, append-nil}
-use Rattle.std.proofs.Common.{append_assoc, length-append}
-use Rattle.std.specs.Io.KnownBytes.{append_known}
-use Rattle.std.proofs.lemmas.List.{map-append, length-replicate, take-replicate, length-take}
-use Rattle.std.proofs.lemmas.List.{take-take, replicate-append-replicate}
-use Rattle.yasir_io.specs.TextBuffer.{waiting_bytes}
-use Rattle.yasir_io.specs.declared.Failed.{Failed}
-use Rattle.yasir_ticks.specs.Ticks.{silent}
-use Rattle.yasir_ticks.specs.Bursts.{bursts_from}
-use Rattle.yasir_ticks.specs.declared.tick.Tick.{Tick}
-use Rattle.yasir_ticks.specs.declared.tick.Tick.TheVariants.{Silent}
-use Rattle.burst_walk.specs.Walk.{Walker, Noted, notes_of, line_of}
-use Rattle.burst_walk.specs.Answers.{told_notes, note_in, AnswersTick}
-use Rattle.burst_walk.specs.Runs.{AnswersRun}
-use Rattle.link_format.specs.Setup.{Setup}
-use Rattle.link_box.specs.Runs.{TakesRun}
-use Rattle.link_box.specs.Stepping.{Steps}
-use Rattle.link_box.specs.Walking.{full_notes, other_line}
-use Rattle.link_box.specs.declared.box_trait.LinkBox.{Ghosts as LinkBox}
-use Rattle.sequence_journal.specs.Journal.{journal_floor}
-use Rattle.replay_lists.specs.FrameList.{Kept, Holds}
-use Rattle.line_texts.specs.Sending.{LineAndNotes, SinkTexts, sink_texts, SendsTexts}
-use Rattle.line_texts.specs.Sending.{PushesTicks}
-use Rattle.line_texts.specs.Texts.{waiting_in}
-use Rattle.line_texts.specs.Writer.{HasWritten}
-use Rattle.line_texts.proofs.Sending.{begins, sends_more}
+use Rattle.box_command.proofs.NotesInOrder.{order-more, order-to}
 use Rattle.box_command.specs.KeptBox.{timed_of, line_alone, KeepsLine, IsSteady, KeepsOn, KeepsUpTo}
 use Rattle.box_command.specs.KeptBox.{KeepsSome, KeepsWaiting, ticks_kept}
-use Rattle.box_command.specs.MemoryText.{text_bytes}
-use Rattle.box_command.specs.TimedLines.{timed_lines, AreInOrder}
+use Rattle.box_command.specs.{MemoryText.text_bytes, TimedLines.timed_lines, TimedLines.AreInOrder}
 use Rattle.box_command.specs.declared.kept_box.KeptBox.{KeptBox}
-use Rattle.box_command.proofs.NotesInOrder.{order-more, order-to}
+use Rattle.burst_walk.specs.Answers.{told_notes, note_in, AnswersTick}
+use Rattle.burst_walk.specs.{Runs.AnswersRun, Walk.Walker, Walk.Noted, Walk.notes_of, Walk.line_of}
+use Rattle.line_texts.proofs.Sending.{begins, sends_more}
+use Rattle.line_texts.specs.Sending.{LineAndNotes, SinkTexts, sink_texts, SendsTexts, PushesTicks}
+use Rattle.line_texts.specs.{Texts.waiting_in, Writer.HasWritten}
+use Rattle.link_box.specs.{Runs.TakesRun, Stepping.Steps, Walking.full_notes, Walking.other_line}
+use Rattle.link_box.specs.declared.box_trait.LinkBox.{Ghosts as LinkBox}
+use Rattle.{link_format.specs.Setup.Setup, replay_lists.specs.FrameList.Kept}
+use Rattle.{replay_lists.specs.FrameList.Holds, sequence_journal.specs.Journal.journal_floor}
+use Rattle.std.proofs.Common.{◌≡◌, ◌∙◌, ℕ, ◌+◌, ◌-◌, ◌<◌, ◌≤◌, List, [], ◌∷◌, ◌++◌, length, map}
+use Rattle.std.proofs.Common.{take, Option, Some, None, Ok, Result, refl, ap, sym, subst, arith}
+use Rattle.std.proofs.Common.{append-nil, append_assoc, length-append}
+use Rattle.std.proofs.lemmas.List.{map-append, length-replicate, take-replicate, length-take}
+use Rattle.std.proofs.lemmas.List.{take-take, replicate-append-replicate}
+use Rattle.std.specs.Io.KnownBytes.{append_known}
+use Rattle.yasir_io.specs.{TextBuffer.waiting_bytes, declared.Failed.Failed}
+use Rattle.yasir_ticks.specs.{Bursts.bursts_from, Ticks.silent}
+use Rattle.yasir_ticks.specs.declared.tick.Tick.{Tick, TheVariants.Silent}
 
 -- ---- beside
 

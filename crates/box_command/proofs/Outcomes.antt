@@ -1,62 +1,45 @@
 -- From how the run over the input of a box ended to what the status says of it.
+use Rattle.{burst_walk.specs.Causal.IsCausal, hmac_tag.specs.declared.dir.Dir.Dir}
+use Rattle.link_box.specs.{Walking.frames_of, declared.box_trait.LinkBox.Ghosts as LinkBox}
+use Rattle.link_format.specs.{NumberedFrame.numbers_of, Setup.Setup, Setup.setup_of}
+use Rattle.sequence_journal.specs.Journal.{journal_link, journal_floor, HasFloorAtLeast}
+use Rattle.sequence_journal.specs.Journal.{IsEitherFloor, Fits, IsCrashSafe}
+use Rattle.sequence_journal.specs.Loading.{IsLoaded, KeepsLoadable}
+use Rattle.sequence_journal.specs.{Slots.floor_of, Uptimes.RiseFrom}
+use Rattle.sequence_journal.specs.declared.{journal.Journal.Journal, link.LinkId.LinkId}
 use Rattle.std.proofs.Common.{◌≡◌, ◌∙◌, ℕ, ◌+◌, ◌≤◌, ◌⊎◌, inl, inr, true, false, List, [], ◌∷◌}
 use Rattle.std.proofs.Common.{◌++◌, length, length-append, map, take, drop, Option, Some, None}
 use Rattle.std.proofs.Common.{refl, sym, ap, subst, append_assoc, append-nil, arith}
-use Rattle.std.specs.Prelude.{IfSome}
 use Rattle.std.proofs.Math.Seq.{take-append_seam, take-append-add}
 use Rattle.std.proofs.lemmas.List.{take-append-drop, take-append-le}
+use Rattle.std.specs.Prelude.{IfSome}
+use Rattle.tick_drive.specs.{Consumers.is_write_fault, Drive.Drives, Drive.answer_of, Input.Takes}
 use Rattle.yasir_io.specs.Disks.{Slots, OneImage, LeavesOnly}
+use Rattle.yasir_io.specs.declared.{disk.SlotDisk.Ghosts as SlotDisk, sink.Sink.Ghosts as Sink}
 use Rattle.yasir_io.specs.declared.source.Source.{Ghosts as Source}
-use Rattle.yasir_io.specs.declared.sink.Sink.{Ghosts as Sink}
-use Rattle.yasir_io.specs.declared.disk.SlotDisk.{Ghosts as SlotDisk}
-use Rattle.yasir_ticks.specs.Ticks.{Item, ticks_in, AreTicks}
-use Rattle.yasir_ticks.specs.Ticks.Item.{tick}
-use Rattle.yasir_ticks.specs.TickText.{IsTickText, ended_items}
-use Rattle.yasir_ticks.specs.CanonicalText.{canonical_text}
-use Rattle.yasir_ticks.specs.declared.tick.Tick.{Tick}
-use Rattle.yasir_ticks.proofs.CanonicalLaws.{canonical_text-stands}
-use Rattle.yasir_ticks.proofs.TextLaws.{ended_items-begin}
-use Rattle.yasir_ticks.proofs.TickRuns.{ticks_in-ticks}
-use Rattle.hmac_tag.specs.declared.dir.Dir.{Dir}
-use Rattle.burst_walk.specs.Causal.{IsCausal}
-use Rattle.link_format.specs.NumberedFrame.{numbers_of}
-use Rattle.link_format.specs.Setup.{Setup, setup_of}
-use Rattle.link_box.specs.Walking.{frames_of}
-use Rattle.sequence_journal.specs.declared.link.LinkId.{LinkId}
-use Rattle.sequence_journal.specs.Journal.{journal_link, journal_floor, HasFloorAtLeast}
-use Rattle.sequence_journal.specs.Journal.{IsEitherFloor, Fits, IsCrashSafe}
-use Rattle.sequence_journal.specs.Slots.{floor_of}
-use Rattle.sequence_journal.specs.Loading.{IsLoaded, KeepsLoadable}
-use Rattle.sequence_journal.specs.Uptimes.{RiseFrom}
-use Rattle.sequence_journal.specs.declared.journal.Journal.{Journal}
-use Rattle.link_box.specs.declared.box_trait.LinkBox.{Ghosts as LinkBox}
-use Rattle.tick_drive.specs.Consumers.{is_write_fault}
-use Rattle.tick_drive.specs.Input.{Takes}
-use Rattle.tick_drive.specs.Drive.{Drives, answer_of}
+use Rattle.yasir_ticks.proofs.{CanonicalLaws.canonical_text-stands, TextLaws.ended_items-begin}
+use Rattle.yasir_ticks.{proofs.TickRuns.ticks_in-ticks, specs.CanonicalText.canonical_text}
+use Rattle.yasir_ticks.specs.{TickText.IsTickText, TickText.ended_items, Ticks.Item, Ticks.ticks_in}
+use Rattle.yasir_ticks.specs.{Ticks.AreTicks, Ticks.Item.tick, declared.tick.Tick.Tick}
 use Rattle.tick_drive.specs.declared.consumer.Stop.TheVariants as stops
-use Rattle.tick_drive.specs.declared.end.End.{End}
-use Rattle.tick_drive.specs.declared.end.End.TheVariants.{Whole, Refused, TooLong, ReadFault}
-use Rattle.tick_drive.specs.declared.end.End.TheVariants.{Stopped}
-use Rattle.tick_drive.proofs.ItemLaws.{ticks_in-append}
-use Rattle.replay_status.specs.Endings.{status_of}
-use Rattle.replay_status.specs.declared.status.Status.{Status}
-use Rattle.replay_status.specs.declared.status.Status.TheVariants.{Done, WriteFault}
-use Rattle.box_command.specs.Boxes.{Boxed, IsBoxed, FailsBox}
-use Rattle.line_texts.specs.Sending.{SinkTexts, sink_texts}
-use Rattle.box_command.specs.Sending.{made_by, SendsBoxed, HasSent, HasSentFronts}
-use Rattle.box_command.specs.LinkBoxed.{boxed_of}
+use Rattle.box_command.proofs.Floors.{told_before, keeps_floor, keeps_from_load, keeps_throughout}
+use Rattle.box_command.proofs.Walking.{walk-boxed}
 use Rattle.box_command.specs.BoxLines.{BoxOrigin, Outputs, ToldFloor, DrivesBox, StopsAtNumber}
 use Rattle.box_command.specs.BoxLines.{StopsAtWrite, KeepsImages, driving, state_of}
-use Rattle.box_command.specs.BoxLinesLaws.{floor_from_less}
-use Rattle.line_texts.specs.Texts.{waiting_in}
+use Rattle.box_command.specs.{BoxLinesLaws.floor_from_less, Boxes.Boxed, Boxes.IsBoxed}
+use Rattle.box_command.specs.{Boxes.FailsBox, LinkBoxed.boxed_of}
 use Rattle.box_command.specs.ReplaysBox.{Around, KeepsFloor, KeepsFloorFromLoad, LeavesUptime}
-use Rattle.box_command.specs.ReplaysBox.{KeepsFloorThroughout}
-use Rattle.box_command.specs.ReplaysBox.{boxed_with, texts_of}
-use Rattle.box_command.specs.ReplaysBox.{EndsBox, FailsAtNumber, WritesFronts, RunsBox}
+use Rattle.box_command.specs.ReplaysBox.{KeepsFloorThroughout, boxed_with, texts_of, EndsBox}
+use Rattle.box_command.specs.ReplaysBox.{FailsAtNumber, WritesFronts, RunsBox}
+use Rattle.box_command.specs.Sending.{made_by, SendsBoxed, HasSent, HasSentFronts}
 use Rattle.box_command.specs.declared.box_lines.BoxLines.{BoxLines}
-use Rattle.box_command.proofs.Walking.{walk-boxed}
-use Rattle.box_command.proofs.Floors.{told_before, keeps_floor, keeps_from_load, keeps_throughout}
 use Rattle.line_texts.proofs.Sending.{notes_all}
+use Rattle.line_texts.specs.{Sending.SinkTexts, Sending.sink_texts, Texts.waiting_in}
+use Rattle.replay_status.specs.{Endings.status_of, declared.status.Status.Status}
+use Rattle.replay_status.specs.declared.status.Status.TheVariants.{Done, WriteFault}
+use Rattle.tick_drive.proofs.ItemLaws.{ticks_in-append}
+use Rattle.tick_drive.specs.declared.end.End.{End, TheVariants.Whole}
+use Rattle.tick_drive.specs.declared.end.End.TheVariants.{Refused, TooLong, ReadFault, Stopped}
 
 -- ---- whole lines
 

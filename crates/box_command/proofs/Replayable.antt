@@ -1,31 +1,26 @@
 -- A right key, a number in a slot and a right input are refused by nothing but a fault outside.
-use Rattle.std.proofs.Common.{◌≡◌, ◌∙◌, ℕ, ◌+◌, ◌*◌, ◌≤◌, inl, inr, List, length, length-append}
-use Rattle.std.proofs.Common.{Option, Some, None, subst, sym, ap, refl, arith}
-use Rattle.hex.proofs.HexLemmas.{decode_of-ok}
-use Rattle.yasir_io.specs.declared.disk.Slot.{Slot}
-use Rattle.yasir_io.specs.Disks.{Slots}
-use Rattle.yasir_io.specs.declared.source.Source.{Ghosts as Source}
-use Rattle.yasir_io.specs.declared.sink.Sink.{Ghosts as Sink}
-use Rattle.yasir_io.specs.declared.disk.SlotDisk.{Ghosts as SlotDisk}
-use Rattle.hmac_tag.specs.declared.dir.Dir.{Dir}
-use Rattle.link_format.specs.Setup.{Setup}
-use Rattle.sequence_journal.specs.declared.link.LinkId.{LinkId}
-use Rattle.sequence_journal.specs.Links.{IsLink}
-use Rattle.sequence_journal.specs.Slots.{own_floor, any_floor, old_floor, any_number_held, greater}
-use Rattle.sequence_journal.specs.Slots.{floor_by, floor_of, place_of_greater, wrong_by}
-use Rattle.sequence_journal.specs.Loading.{FindsNone, FindsOther}
-use Rattle.sequence_journal.proofs.SlotLemmas.{no_own_floor}
+use Rattle.box_command.specs.Boxes.{Boxed}
+use Rattle.box_command.specs.ReplaysBox.{ReplaysBox, BoxDiskCause, IsReplayable}
+use Rattle.{hex.proofs.HexLemmas.decode_of-ok, hmac_tag.specs.declared.dir.Dir.Dir}
 use Rattle.key_text.specs.KeyText.{IsKeyText, IsKeyMet, IsNoKey}
-use Rattle.replay_status.specs.Outside.{Outside}
+use Rattle.link_format.specs.Setup.{Setup}
+use Rattle.replay_status.proofs.Readable.{met_of_told, all_of_told, not_refused, not_too_long}
 use Rattle.replay_status.specs.Causes.{ReadsCause, SinkCause, NoneRose}
-use Rattle.replay_status.specs.declared.status.Status.{Status}
+use Rattle.replay_status.specs.{Outside.Outside, declared.status.Status.Status}
 use Rattle.replay_status.specs.declared.status.Status.TheVariants.{Done, Usage, BadTicks, ReadFault}
 use Rattle.replay_status.specs.declared.status.Status.TheVariants.{WriteFault, JournalFault}
 use Rattle.replay_status.specs.declared.status.Status.TheVariants.{TooLong, HasJournal, BadKey}
 use Rattle.replay_status.specs.declared.status.Status.TheVariants.{BadJournal, WrongLink, NoMemory}
-use Rattle.replay_status.proofs.Readable.{met_of_told, all_of_told, not_refused, not_too_long}
-use Rattle.box_command.specs.Boxes.{Boxed}
-use Rattle.box_command.specs.ReplaysBox.{ReplaysBox, BoxDiskCause, IsReplayable}
+use Rattle.sequence_journal.{proofs.SlotLemmas.no_own_floor, specs.Links.IsLink}
+use Rattle.sequence_journal.specs.Loading.{FindsNone, FindsOther}
+use Rattle.sequence_journal.specs.Slots.{own_floor, any_floor, old_floor, any_number_held, greater}
+use Rattle.sequence_journal.specs.Slots.{floor_by, floor_of, place_of_greater, wrong_by}
+use Rattle.sequence_journal.specs.declared.link.LinkId.{LinkId}
+use Rattle.std.proofs.Common.{◌≡◌, ◌∙◌, ℕ, ◌+◌, ◌*◌, ◌≤◌, inl, inr, List, length, length-append}
+use Rattle.std.proofs.Common.{Option, Some, None, subst, sym, ap, refl, arith}
+use Rattle.yasir_io.specs.Disks.{Slots}
+use Rattle.yasir_io.specs.declared.disk.{Slot.Slot, SlotDisk.Ghosts as SlotDisk}
+use Rattle.yasir_io.specs.declared.{sink.Sink.Ghosts as Sink, source.Source.Ghosts as Source}
 
 key_text_short : (text key : List ℕ) → IsKeyText text key → length text ≤ 130
 key_text_short text key is =

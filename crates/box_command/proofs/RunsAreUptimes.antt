@@ -1,35 +1,26 @@
 -- Each end of a run of a box leaves an uptime, or the slots as they were.
-use Rattle.std.proofs.Common.{◌≡◌, ◌∙◌, ◌⊎◌, ℕ, List, Option, Some, None, inl, inr}
-use Rattle.std.proofs.Common.{sym, ap, subst, ⊎_elim}
-use Rattle.yasir_io.specs.declared.disk.Slot.TheVariants.{A}
-use Rattle.yasir_io.specs.Disks.{Slots, OneImage}
-use Rattle.yasir_io.specs.declared.source.Source.{Ghosts as Source}
-use Rattle.yasir_io.specs.declared.sink.Sink.{Ghosts as Sink}
-use Rattle.yasir_io.specs.declared.disk.SlotDisk.{Ghosts as SlotDisk}
-use Rattle.yasir_ticks.specs.declared.tick.Tick.{Tick}
-use Rattle.hmac_tag.specs.declared.dir.Dir.{Dir}
-use Rattle.link_format.specs.Setup.{Setup}
-use Rattle.sequence_journal.specs.declared.link.LinkId.{LinkId}
-use Rattle.sequence_journal.specs.Links.{IsLink}
-use Rattle.sequence_journal.specs.Slots.{any_floor, old_floor, floor_by, floor_of}
-use Rattle.sequence_journal.specs.Journal.{AreSameBut}
-use Rattle.sequence_journal.specs.Loading.{IsOld}
-use Rattle.sequence_journal.proofs.LoadLemmas.{while_loading}
-use Rattle.sequence_journal.proofs.SlotLemmas.{at_some, no_own_floor}
-use Rattle.sequence_journal.proofs.UptimeLaws.{ends-loading}
-use Rattle.replay_status.specs.Outside.{Outside}
-use Rattle.replay_status.specs.declared.status.Status.{Status}
+use Rattle.box_command.specs.{BoxLines.ToldFloor, Boxes.Boxed}
+use Rattle.box_command.specs.ReplaysBox.{Around, around_of, boxed_with, LeavesUptime, EndsBox}
+use Rattle.box_command.specs.ReplaysBox.{LooksAtJournal, FailsAtLoad, RunsBox, RunsKeyed}
+use Rattle.box_command.specs.ReplaysBox.{ReplaysBox}
+use Rattle.box_command.specs.Uptimes.{WasUptime, WasTakenOver, IsUptimeOrNone}
+use Rattle.{hmac_tag.specs.declared.dir.Dir.Dir, link_format.specs.Setup.Setup}
+use Rattle.replay_status.specs.{Outside.Outside, declared.status.Status.Status}
 use Rattle.replay_status.specs.declared.status.Status.TheVariants.{Done, Usage, BadTicks, ReadFault}
 use Rattle.replay_status.specs.declared.status.Status.TheVariants.{WriteFault, JournalFault}
 use Rattle.replay_status.specs.declared.status.Status.TheVariants.{TooLong, HasJournal, BadKey}
 use Rattle.replay_status.specs.declared.status.Status.TheVariants.{BadJournal, WrongLink, NoMemory}
-use Rattle.tick_drive.specs.declared.end.End.{End}
-use Rattle.box_command.specs.Boxes.{Boxed}
-use Rattle.box_command.specs.BoxLines.{ToldFloor}
-use Rattle.box_command.specs.ReplaysBox.{Around, around_of, boxed_with, LeavesUptime}
-use Rattle.box_command.specs.ReplaysBox.{EndsBox, LooksAtJournal, FailsAtLoad}
-use Rattle.box_command.specs.ReplaysBox.{RunsBox, RunsKeyed, ReplaysBox}
-use Rattle.box_command.specs.Uptimes.{WasUptime, WasTakenOver, IsUptimeOrNone}
+use Rattle.sequence_journal.proofs.{LoadLemmas.while_loading, SlotLemmas.at_some}
+use Rattle.sequence_journal.proofs.{SlotLemmas.no_own_floor, UptimeLaws.ends-loading}
+use Rattle.sequence_journal.specs.{Journal.AreSameBut, Links.IsLink, Loading.IsOld}
+use Rattle.sequence_journal.specs.Slots.{any_floor, old_floor, floor_by, floor_of}
+use Rattle.sequence_journal.specs.declared.link.LinkId.{LinkId}
+use Rattle.std.proofs.Common.{◌≡◌, ◌∙◌, ◌⊎◌, ℕ, List, Option, Some, None, inl, inr, sym, ap, subst}
+use Rattle.{std.proofs.Common.⊎_elim, tick_drive.specs.declared.end.End.End}
+use Rattle.yasir_io.specs.Disks.{Slots, OneImage}
+use Rattle.yasir_io.specs.declared.disk.{Slot.TheVariants.A, SlotDisk.Ghosts as SlotDisk}
+use Rattle.yasir_io.specs.declared.{sink.Sink.Ghosts as Sink, source.Source.Ghosts as Source}
+use Rattle.yasir_ticks.specs.declared.tick.Tick.{Tick}
 
 -- a floor that is told is that of the slots
 floor-told : (link : LinkId) (floor : ℕ) (told : Option Slots) (begins : Slots)

@@ -1,17 +1,12 @@
 -- What the definitions of the two commands show is what the walks of the boxes give.
-use Rattle.std.proofs.Common.{◌≡◌, ℕ, refl}
+use Rattle.box_command.specs.{CheckBoxed.checking, CheckLines.check_line, LinkBoxed.boxed_of}
+use Rattle.box_command.specs.{SealBoxed.sealing, SealLines.seal_line}
+use Rattle.{check_receiver.specs.Boxed.check_walking, hmac_tag.specs.declared.tag.Mac.Ghosts as Mac}
 use Rattle.line_rules.specs.declared.line_rules.LineRules.{Ghosts as LineRules}
-use Rattle.hmac_tag.specs.declared.tag.Mac.{Ghosts as Mac}
-use Rattle.link_format.specs.Profile.{profile_of}
-use Rattle.link_format.specs.Setup.{Setup}
-use Rattle.sequence_journal.specs.declared.numbers.TheConstants.{LIMIT}
+use Rattle.link_format.specs.{Profile.profile_of, Setup.Setup}
 use Rattle.seal_transmitter.specs.Boxed.{seal_walking}
-use Rattle.check_receiver.specs.Boxed.{check_walking}
-use Rattle.box_command.specs.LinkBoxed.{boxed_of}
-use Rattle.box_command.specs.SealLines.{seal_line}
-use Rattle.box_command.specs.SealBoxed.{sealing}
-use Rattle.box_command.specs.CheckLines.{check_line}
-use Rattle.box_command.specs.CheckBoxed.{checking}
+use Rattle.sequence_journal.specs.declared.numbers.TheConstants.{LIMIT}
+use Rattle.std.proofs.Common.{◌≡◌, ℕ, refl}
 
 module _ {R M : Type 0} (proto : LineRules R) (macs : Mac M) (word_len : ℕ) (setup : Setup) where
   pub sealing-shown : boxed_of (seal_walking proto macs word_len) seal_line setup

@@ -1,38 +1,27 @@
 -- A box and its texts have taken a tick: what that does to the consumer.
-use Rattle.std.proofs.Common.{◌≡◌, ◌∙◌, ℕ, List, [], ◌∷◌, ◌++◌, Result, Ok, Err, refl, sym}
-use Rattle.std.proofs.Common.{◌+◌, arith, subst}
-use Rattle.yasir_io.specs.declared.Failed.{Failed}
-use Rattle.yasir_io.specs.declared.disk.SlotDisk.{Ghosts as SlotDisk}
-use Rattle.yasir_io.specs.declared.sink.Sink.{Ghosts as Sink}
-use Rattle.yasir_ticks.specs.Ticks.{Item, ticks_in}
-use Rattle.yasir_ticks.specs.Ticks.Item.{tick}
-use Rattle.yasir_ticks.specs.declared.tick.Tick.{Tick}
 use Rattle.burst_walk.specs.declared.box_step.BoxStep.{BoxStep}
-use Rattle.link_format.specs.NumberedFrame.{numbers_of}
-use Rattle.link_format.specs.Setup.{Setup}
 use Rattle.link_box.specs.Stepping.{HasStepped, Steps, FailsStep, KeepsJournal}
 use Rattle.link_box.specs.Walking.{frames_of, number_after}
 use Rattle.link_box.specs.declared.box_trait.LinkBox.{Ghosts as LinkBox}
-use Rattle.sequence_journal.specs.declared.journal.Journal.{Journal}
-use Rattle.sequence_journal.specs.declared.journal.JournalFault.{JournalFault}
-use Rattle.sequence_journal.specs.Journal.{journal_link, journal_floor}
-use Rattle.sequence_journal.specs.Uptimes.{RiseFrom}
-use Rattle.tick_drive.specs.Consumers.{Gives}
+use Rattle.link_format.specs.{NumberedFrame.numbers_of, Setup.Setup}
+use Rattle.sequence_journal.specs.{Journal.journal_link, Journal.journal_floor, Uptimes.RiseFrom}
+use Rattle.sequence_journal.specs.declared.journal.{Journal.Journal, JournalFault.JournalFault}
+use Rattle.std.proofs.Common.{◌≡◌, ◌∙◌, ℕ, List, [], ◌∷◌, ◌++◌, Result, Ok, Err, refl, sym, ◌+◌}
+use Rattle.std.proofs.Common.{arith, subst}
+use Rattle.{tick_drive.specs.Consumers.Gives, yasir_io.specs.declared.Failed.Failed}
+use Rattle.yasir_io.specs.declared.{disk.SlotDisk.Ghosts as SlotDisk, sink.Sink.Ghosts as Sink}
+use Rattle.yasir_ticks.specs.{Ticks.Item, Ticks.ticks_in, Ticks.Item.tick, declared.tick.Tick.Tick}
 use Rattle.tick_drive.specs.declared.consumer.Stop.TheVariants as stops
-use Rattle.tick_drive.proofs.Causes.{sinks_none}
-use Rattle.yasir_io.proofs.FlushLaws.{none_flushed}
-use Rattle.box_command.specs.Boxes.{FailsBox, line_of_note}
-use Rattle.box_command.specs.Sending.{made_by, SendsBoxed, HasSentFronts}
-use Rattle.line_texts.specs.Texts.{waiting_in, writing, texts_held, Pushes}
-use Rattle.line_texts.specs.declared.texts.Texts.{Texts}
-use Rattle.line_texts.specs.Sending.{AnswersNoted}
-use Rattle.line_texts.proofs.Sending.{sends_more, sent_in_part}
-use Rattle.box_command.proofs.AnsweredRuns.{step_noted}
-use Rattle.box_command.specs.LinkBoxed.{boxed_of}
+use Rattle.box_command.proofs.{AnsweredRuns.step_noted, Begun.one_more}
+use Rattle.box_command.proofs.Walking.{step-answers, step-fails}
 use Rattle.box_command.specs.BoxLines.{BoxOrigin, ToldFloor, DrivesBox, State, writing_at}
 use Rattle.box_command.specs.BoxLines.{outputs_of, KeepsImages, driving}
-use Rattle.box_command.proofs.Begun.{one_more}
-use Rattle.box_command.proofs.Walking.{step-answers, step-fails}
+use Rattle.box_command.specs.{Boxes.FailsBox, Boxes.line_of_note, LinkBoxed.boxed_of}
+use Rattle.box_command.specs.Sending.{made_by, SendsBoxed, HasSentFronts}
+use Rattle.line_texts.proofs.Sending.{sends_more, sent_in_part}
+use Rattle.line_texts.specs.{Sending.AnswersNoted, Texts.waiting_in, Texts.writing}
+use Rattle.line_texts.specs.{Texts.texts_held, Texts.Pushes, declared.texts.Texts.Texts}
+use Rattle.{tick_drive.proofs.Causes.sinks_none, yasir_io.proofs.FlushLaws.none_flushed}
 
 -- The box took a tick over its journal and its disk.
 module _ {B N O L D : Type 0} (b : LinkBox B N) (line_of : N → List ℕ) (o : Sink O) (l : Sink L)

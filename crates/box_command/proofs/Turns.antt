@@ -1,12 +1,10 @@
 -- A consumer that tries a run in two ways, and else takes one tick.
 use Rattle.std.proofs.Common.{◌≡◌, ℕ, ◌<◌, ◌≤◌, List, [], ◌∷◌, length, Ok, Err, ap, arith}
-use Rattle.yasir_ticks.specs.Ticks.{Item, ticks_in}
-use Rattle.yasir_ticks.specs.Ticks.Item.{tick}
-use Rattle.yasir_ticks.specs.declared.tick.Tick.{Tick}
-use Rattle.tick_drive.specs.Consumers.{Consuming, AreJoined, MayTake, Gives, GivesFirst, GivesUpTo}
-use Rattle.tick_drive.specs.declared.consumer.Stop.{Stop}
 use Rattle.tick_drive.proofs.Fronts.{none_given, some_given, still_may, front_then, one_given}
 use Rattle.tick_drive.proofs.Fronts.{one_stopped}
+use Rattle.tick_drive.specs.Consumers.{Consuming, AreJoined, MayTake, Gives, GivesFirst, GivesUpTo}
+use Rattle.tick_drive.specs.declared.consumer.Stop.{Stop}
+use Rattle.yasir_ticks.specs.{Ticks.Item, Ticks.ticks_in, Ticks.Item.tick, declared.tick.Tick.Tick}
 
 -- The first way took nothing.
 module _ {C : Type 0} (meaning : Consuming C) (joins : AreJoined meaning) (c0 c1 : C)

@@ -1,30 +1,22 @@
 -- A box of a link as a command shows it: what is asked of a box, and what its steps and its runs
 -- answer, follow from its walk.
-use Rattle.std.proofs.Common.{◌≡◌, ◌∙◌, ℕ, ◌<◌, ◌≤◌, List, [], ◌∷◌, ◌++◌, length, Option, Some}
-use Rattle.std.proofs.Common.{None, IfSome, refl, ap, subst, sym, arith, append-nil}
-use Rattle.std.proofs.Common.{length-append}
-use Rattle.std.specs.List.{flat_map, filter_map}
-use Rattle.std.proofs.lemmas.Grind.{flat_map-append}
-use Rattle.std.proofs.lemmas.List.{length-map}
-use Rattle.std.proofs.lemmas.List.Elements.{filter_map-append}
-use Rattle.yasir_ticks.specs.Bursts.{bursts_from}
-use Rattle.yasir_ticks.specs.declared.tick.Tick.{Tick}
-use Rattle.yasir_io.specs.Disks.{Slots}
-use Rattle.burst_walk.specs.Walk.{Noted}
-use Rattle.burst_walk.specs.Answers.{told_notes, note_in, AnswersTick}
-use Rattle.burst_walk.specs.Causal.{IsCausal}
-use Rattle.burst_walk.specs.Longer.{Begins}
-use Rattle.burst_walk.specs.Runs.{AnswersRun}
+use Rattle.box_command.specs.Boxes.{Boxed, IsBoxed, AnswersBox, AnswersBoxRun, FailsBox}
+use Rattle.box_command.specs.{Boxes.line_of_note, LinkBoxed.boxed_of}
 use Rattle.burst_walk.proofs.Longer.{extends, length-line_of}
-use Rattle.link_format.specs.NumberedFrame.{NumberedFrame, numbers_of, last_number}
-use Rattle.link_format.specs.Setup.{Setup}
-use Rattle.link_box.specs.Walking.{Walking, full_notes, frames_of, number_after}
+use Rattle.burst_walk.specs.Answers.{told_notes, note_in, AnswersTick}
+use Rattle.burst_walk.specs.{Causal.IsCausal, Longer.Begins, Runs.AnswersRun, Walk.Noted}
 use Rattle.link_box.specs.Stepping.{FailsStep}
-use Rattle.sequence_journal.specs.declared.journal.Journal.{Journal}
-use Rattle.sequence_journal.specs.Journal.{IsEitherFloor, journal_link, journal_floor}
-use Rattle.sequence_journal.specs.Uptimes.{RiseFrom, last_from}
-use Rattle.box_command.specs.Boxes.{Boxed, IsBoxed, AnswersBox, AnswersBoxRun, FailsBox, line_of_note}
-use Rattle.box_command.specs.LinkBoxed.{boxed_of}
+use Rattle.link_box.specs.Walking.{Walking, full_notes, frames_of, number_after}
+use Rattle.link_format.specs.NumberedFrame.{NumberedFrame, numbers_of, last_number}
+use Rattle.{link_format.specs.Setup.Setup, sequence_journal.specs.Journal.IsEitherFloor}
+use Rattle.sequence_journal.specs.{Journal.journal_link, Journal.journal_floor, Uptimes.RiseFrom}
+use Rattle.sequence_journal.specs.{Uptimes.last_from, declared.journal.Journal.Journal}
+use Rattle.std.proofs.Common.{◌≡◌, ◌∙◌, ℕ, ◌<◌, ◌≤◌, List, [], ◌∷◌, ◌++◌, length, Option, Some}
+use Rattle.std.proofs.Common.{None, IfSome, refl, ap, subst, sym, arith, append-nil, length-append}
+use Rattle.std.proofs.lemmas.Grind.{flat_map-append}
+use Rattle.std.proofs.lemmas.List.{length-map, Elements.filter_map-append}
+use Rattle.{std.specs.List.flat_map, std.specs.List.filter_map, yasir_io.specs.Disks.Slots}
+use Rattle.yasir_ticks.specs.{Bursts.bursts_from, declared.tick.Tick.Tick}
 
 -- ---- frames with their numbers
 

@@ -1,38 +1,29 @@
 -- A burst that begins in a run of bytes.
-use Rattle.std.proofs.Common.{◌≡◌, ◌∙◌, ◌⊎◌, ℕ, zero, suc, ◌+◌, ◌<◌, ◌≤◌, ◌==◌, true, List, [], ◌∷◌}
-use Rattle.std.proofs.Common.{◌++◌, length, take, drop, get_or, map, refl, sym, ap}
-use Rattle.std.proofs.Common.{subst, arith, append_assoc, inl, inr, ⊎_elim, Option, Some, None}
-use Rattle.std.proofs.lemmas.Bool.{cases_Bool, cond-true, cond-false}
-use Rattle.std.proofs.lemmas.List.{append-nil, take-append-le, take-take, length-take-le}
-use Rattle.yasir_ticks.specs.Ticks.{silent}
-use Rattle.yasir_ticks.specs.Bursts.{Burst}
-use Rattle.yasir_ticks.specs.declared.tick.Tick.{Tick}
-use Rattle.yasir_ticks.specs.declared.tick.Tick.TheVariants.{Silent, Byte}
-use Rattle.line_rules.specs.Rules.{Rules, head_of}
-use Rattle.line_rules.specs.declared.head.Head.TheVariants.{Good, Bad}
-use Rattle.line_rules.specs.declared.line_rules.LineRules.{Ghosts as LineRules}
-use Rattle.frame_ending.specs.Cuts.{cut_of, byte_cut}
-use Rattle.frame_ending.specs.LiveBytes.{live_end}
-use Rattle.frame_ending.specs.SoFar.{last_burst}
+use Rattle.burst_walk.proofs.Runs.{run-joined, run-tick}
+use Rattle.burst_walk.specs.{Answered.answered, Answers.AnswersTick as AnswersTickOf, Walk.Walker}
+use Rattle.burst_walk.specs.declared.box_step.BoxStep.{BoxStep}
+use Rattle.check_receiver.proofs.Heads.{head-is-good, head-is-bad, head-isn't-short}
+use Rattle.check_receiver.specs.Runs.{HasTakenRun, IsFront, KeepsHeader}
+use Rattle.check_receiver.specs.{Stands.StandsAt, Stands.HasTaken, declared.checker.Checker.Checker}
+use Rattle.frame_ending.specs.{Cuts.cut_of, Cuts.byte_cut, LiveBytes.live_end, SoFar.last_burst}
 use Rattle.frame_ending.specs.Stands.{StandsFor as CutStandsFor}
 use Rattle.frame_ending.specs.declared.burst_cut.BurstCut.{BurstCut}
 use Rattle.frame_ending.specs.declared.cut.Cut.TheVariants.{Start, Live, Extra}
-use Rattle.burst_walk.specs.Answered.{answered}
-use Rattle.burst_walk.specs.Answers.{AnswersTick as AnswersTickOf}
-use Rattle.burst_walk.specs.Walk.{Walker}
-use Rattle.burst_walk.proofs.Runs.{run-joined, run-tick}
 use Rattle.hmac_tag.specs.declared.tag.Mac.{Ghosts as Mac}
-use Rattle.link_format.specs.Profile.{profile_of}
-use Rattle.link_format.specs.Setup.{Setup}
-use Rattle.sequence_journal.specs.declared.numbers.TheConstants.{LIMIT}
-use Rattle.link_verdicts.specs.Verdicts.{CheckState}
+use Rattle.line_rules.specs.Rules.{Rules, head_of}
+use Rattle.line_rules.specs.declared.head.Head.TheVariants.{Good, Bad}
+use Rattle.line_rules.specs.declared.line_rules.LineRules.{Ghosts as LineRules}
+use Rattle.link_format.specs.{Profile.profile_of, Setup.Setup}
 use Rattle.link_verdicts.specs.Checking.{FullNote, checker, at_floor, brief_note}
-use Rattle.link_verdicts.specs.declared.note.CheckNote.{CheckNote}
-use Rattle.check_receiver.specs.Runs.{HasTakenRun, IsFront, KeepsHeader}
-use Rattle.check_receiver.specs.Stands.{StandsAt, HasTaken}
-use Rattle.check_receiver.specs.declared.checker.Checker.{Checker}
-use Rattle.burst_walk.specs.declared.box_step.BoxStep.{BoxStep}
-use Rattle.check_receiver.proofs.Heads.{head-is-good, head-is-bad, head-isn't-short}
+use Rattle.link_verdicts.specs.{Verdicts.CheckState, declared.note.CheckNote.CheckNote}
+use Rattle.sequence_journal.specs.declared.numbers.TheConstants.{LIMIT}
+use Rattle.std.proofs.Common.{◌≡◌, ◌∙◌, ◌⊎◌, ℕ, zero, suc, ◌+◌, ◌<◌, ◌≤◌, ◌==◌, true, List, [], ◌∷◌}
+use Rattle.std.proofs.Common.{◌++◌, length, take, drop, get_or, map, refl, sym, ap, subst, arith}
+use Rattle.std.proofs.Common.{append_assoc, inl, inr, ⊎_elim, Option, Some, None}
+use Rattle.std.proofs.lemmas.Bool.{cases_Bool, cond-true, cond-false}
+use Rattle.std.proofs.lemmas.List.{append-nil, take-append-le, take-take, length-take-le}
+use Rattle.yasir_ticks.specs.{Bursts.Burst, Ticks.silent}
+use Rattle.yasir_ticks.specs.declared.tick.Tick.{Tick, TheVariants.Silent, TheVariants.Byte}
 
 -- ---- what a byte is
 

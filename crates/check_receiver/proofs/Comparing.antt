@@ -1,11 +1,9 @@
 -- Two lists of bytes that are compared by gathering the bits in which they differ.
 use Rattle.std.proofs.Common.{◌≡◌, ℕ, ◌+◌, ◌<◌, ◌≤◌, inl, inr, List, length, get_or, nat_eq}
 use Rattle.std.proofs.Common.{bytes_eq, sym, ◌∙◌, ap, subst, arith}
-use Rattle.std.proofs.lemmas.Bool.{cases_lt}
-use Rattle.std.proofs.lemmas.Bool.Decides.{same_from_decides}
-use Rattle.std.proofs.lemmas.Grind.{same_number_lists}
-use Rattle.std.proofs.lemmas.Nat.{and_le_l, and_le_r, le_or_l, le_or_r}
-use Rattle.std.proofs.lemmas.Slice.Eq.{bytes_eq-Decides}
+use Rattle.std.proofs.lemmas.Bool.{cases_lt, Decides.same_from_decides}
+use Rattle.std.proofs.lemmas.{Grind.same_number_lists, Nat.and_le_l, Nat.and_le_r, Nat.le_or_l}
+use Rattle.std.proofs.lemmas.{Nat.le_or_r, Slice.Eq.bytes_eq-Decides}
 use Rattle.std.specs.Cmp.{unsigned_Decides}
 use Rattle.std.specs.Int.Bits.{bit_xor, bit_or, xor_self, xor_add_and, or_zero_l}
 

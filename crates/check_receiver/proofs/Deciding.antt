@@ -1,33 +1,24 @@
 -- The verdict on the burst with a whole trailer.
-use Rattle.std.proofs.Common.{◌≡◌, ◌∙◌, ℕ, ◌+◌, ◌≤◌, List, [], ◌∷◌, ◌++◌, length, sym, ap, subst}
-use Rattle.std.proofs.Common.{Some, Result, Ok, Err, true, false}
-use Rattle.yasir_ticks.specs.declared.TheConstants.{MAX_TICKS}
-use Rattle.yasir_ticks.specs.Bursts.{Burst}
-use Rattle.yasir_ticks.specs.declared.tick.Tick.{Tick}
-use Rattle.yasir_ticks.specs.declared.tick.Tick.TheVariants.{Silent}
-use Rattle.line_rules.specs.Rules.{Rules, left_of}
-use Rattle.line_rules.specs.declared.line_rules.LineRules.{Ghosts as LineRules}
+use Rattle.burst_walk.specs.{Causal.going_on, declared.box_step.BoxStep.BoxStep}
+use Rattle.check_receiver.proofs.Hearing.{Hears, hears-whole, next-last, whole-long, whole-trailer}
+use Rattle.check_receiver.proofs.Hearing.{refuse-taken, pass-taken, passes-with}
+use Rattle.check_receiver.specs.{Between.IsWhole, Between.verdict_told, Checkings.PassesWith}
+use Rattle.check_receiver.specs.{Stands.MacHolds, Stands.HasTaken, Turning.Turned}
+use Rattle.check_receiver.specs.{Turning.TurnedRefused, declared.checker.Checker.Checker}
 use Rattle.frame_ending.specs.LiveBytes.{live_bytes}
 use Rattle.frame_ending.specs.SoFar.{last_burst, live_bytes_so_far, start_so_far}
 use Rattle.frame_ending.specs.Stands.{StandsFor as CutStandsFor, ticks_taken as ticks_cut}
-use Rattle.burst_walk.specs.Causal.{going_on}
-use Rattle.hmac_tag.specs.declared.tag.Mac.{Ghosts as Mac}
-use Rattle.link_format.specs.Profile.{Profile, profile_of}
-use Rattle.link_format.specs.Setup.{Setup}
+use Rattle.{hmac_tag.specs.declared.tag.Mac.Ghosts as Mac, line_rules.specs.Rules.Rules}
+use Rattle.line_rules.specs.{Rules.left_of, declared.line_rules.LineRules.Ghosts as LineRules}
+use Rattle.link_format.specs.{Profile.Profile, Profile.profile_of, Setup.Setup}
+use Rattle.link_verdicts.specs.{Holding.trailer_so_far, Verdicts.trailer_of, Verdicts.whole_verdict}
+use Rattle.link_verdicts.specs.declared.note.CheckNote.{CheckNote, TheVariants.Passed}
+use Rattle.link_verdicts.specs.declared.note.{CheckNote.TheVariants.Refused, RefusedWhy.RefusedWhy}
 use Rattle.sequence_journal.specs.declared.numbers.TheConstants.{LIMIT}
-use Rattle.link_verdicts.specs.Verdicts.{trailer_of, whole_verdict}
-use Rattle.link_verdicts.specs.Holding.{trailer_so_far}
-use Rattle.link_verdicts.specs.declared.note.CheckNote.TheVariants.{Passed, Refused}
-use Rattle.link_verdicts.specs.declared.note.RefusedWhy.{RefusedWhy}
-use Rattle.check_receiver.specs.Between.{IsWhole, verdict_told}
-use Rattle.check_receiver.specs.Checkings.{PassesWith}
-use Rattle.check_receiver.specs.Stands.{MacHolds, HasTaken}
-use Rattle.check_receiver.specs.Turning.{Turned, TurnedRefused}
-use Rattle.check_receiver.specs.declared.checker.Checker.{Checker}
-use Rattle.burst_walk.specs.declared.box_step.BoxStep.{BoxStep}
-use Rattle.link_verdicts.specs.declared.note.CheckNote.{CheckNote}
-use Rattle.check_receiver.proofs.Hearing.{Hears, hears-whole, next-last, whole-long, whole-trailer}
-use Rattle.check_receiver.proofs.Hearing.{refuse-taken, pass-taken, passes-with}
+use Rattle.std.proofs.Common.{◌≡◌, ◌∙◌, ℕ, ◌+◌, ◌≤◌, List, [], ◌∷◌, ◌++◌, length, sym, ap, subst}
+use Rattle.std.proofs.Common.{Some, Result, Ok, Err, true, false}
+use Rattle.yasir_ticks.specs.{Bursts.Burst, declared.TheConstants.MAX_TICKS}
+use Rattle.yasir_ticks.specs.declared.tick.Tick.{Tick, TheVariants.Silent}
 
 -- A burst with a whole trailer is judged so.
 abbrev pub Judges : {R M : Type 0} → LineRules R → Mac M → {B D : ℕ} → Checker R M B D → ℕ

@@ -1,53 +1,38 @@
 -- A burst is dropped for its header: nothing of it leaves.
-use Rattle.std.proofs.Common.{◌≡◌, ◌∙◌, ℕ, ◌+◌, ◌-◌, ◌<◌, ◌≤◌, true, false, List, [], ◌∷◌}
-use Rattle.std.proofs.Common.{◌++◌, length, length-append, take, refl, sym, ap, subst, arith}
-use Rattle.std.proofs.Common.{⊎_elim}
-use Rattle.std.proofs.Common.{Option, Some, None}
-use Rattle.std.proofs.lemmas.Bool.{cases_lt}
-use Rattle.yasir_ticks.specs.Ticks.{silent}
-use Rattle.yasir_ticks.specs.Bursts.{Burst, bursts}
-use Rattle.yasir_ticks.specs.declared.tick.Tick.{Tick}
-use Rattle.yasir_ticks.specs.declared.tick.Tick.TheVariants.{Silent, Byte}
-use Rattle.line_rules.specs.Rules.{Rules, head_of}
-use Rattle.line_rules.specs.RulesLaws.{IsLawful, IsHeaded}
-use Rattle.line_rules.specs.declared.head.Head.TheVariants.{Bad}
-use Rattle.line_rules.specs.declared.line_rules.LineRules.{Ghosts as LineRules}
-use Rattle.frame_ending.specs.declared.cut.Cut.{Cut}
-use Rattle.frame_ending.specs.declared.cut.Cut.TheVariants.{Live}
-use Rattle.frame_ending.specs.LiveBytes.{up_to_byte, live_bytes, live_end}
-use Rattle.frame_ending.specs.SoFar.{last_of, start_in, start_so_far, live_bytes_in}
-use Rattle.frame_ending.specs.SoFar.{live_bytes_so_far}
-use Rattle.frame_ending.specs.Stands.{StandsFor as CutStandsFor}
-use Rattle.delay_ring.specs.DelayRing.{ring_ticks}
-use Rattle.spoiler.specs.Outlet.{StandsFor as OutletStandsFor, owed_by}
 use Rattle.burst_walk.specs.Causal.{MayGoOn, going_on}
-use Rattle.burst_walk.specs.HasCome.{HasCome}
-use Rattle.hmac_tag.specs.declared.tag.Mac.{Ghosts as Mac}
-use Rattle.hmac_tag.specs.Tag.{direction_number}
-use Rattle.link_format.specs.Profile.{Profile, profile_of, IsWordLen}
-use Rattle.link_format.specs.Setup.{Setup}
-use Rattle.sequence_journal.specs.declared.numbers.TheConstants.{LIMIT}
-use Rattle.link_verdicts.specs.Verdicts.{CheckState, checked}
-use Rattle.link_verdicts.specs.Verdicts.Verdict.{dropped as dropped_for}
-use Rattle.link_verdicts.specs.Checking.{checker, at_floor, head_tick, note_tick}
-use Rattle.link_verdicts.specs.Holding.{Rests}
-use Rattle.link_verdicts.specs.declared.note.CheckNote.TheVariants.{Dropped}
-use Rattle.link_verdicts.specs.declared.note.DroppedWhy.TheVariants.{Head as NoHead}
-use Rattle.link_verdicts.proofs.Judging.{head-short, checked-short, checked-bad}
-use Rattle.link_verdicts.proofs.Settling.{is_over, open-bytes, open-end, long-header}
-use Rattle.link_verdicts.proofs.Opening.{short-same, come-rests}
-use Rattle.link_verdicts.proofs.Resting.{rest-drops}
-use Rattle.check_receiver.specs.Between.{IsBetween}
-use Rattle.check_receiver.specs.Stands.{HasTaken}
-use Rattle.check_receiver.specs.Turning.{TurnedClear, dropped}
-use Rattle.check_receiver.specs.declared.checker.Checker.{Checker}
-use Rattle.burst_walk.specs.declared.box_step.BoxStep.{BoxStep}
-use Rattle.link_verdicts.specs.declared.note.CheckNote.{CheckNote}
+use Rattle.burst_walk.specs.{HasCome.HasCome, declared.box_step.BoxStep.BoxStep}
 use Rattle.check_receiver.proofs.Heads.{head-is-bad, head-isn't-short}
 use Rattle.check_receiver.proofs.Machine.{flow, ring-waits, assembled}
 use Rattle.check_receiver.proofs.OpenBursts.{timely, open-walks}
+use Rattle.check_receiver.specs.{Between.IsBetween, Stands.HasTaken, Turning.TurnedClear}
+use Rattle.check_receiver.specs.{Turning.dropped, declared.checker.Checker.Checker}
+use Rattle.delay_ring.specs.DelayRing.{ring_ticks}
+use Rattle.frame_ending.specs.LiveBytes.{up_to_byte, live_bytes, live_end}
+use Rattle.frame_ending.specs.SoFar.{last_of, start_in, start_so_far, live_bytes_in}
+use Rattle.frame_ending.specs.{SoFar.live_bytes_so_far, Stands.StandsFor as CutStandsFor}
+use Rattle.frame_ending.specs.declared.cut.Cut.{Cut, TheVariants.Live}
+use Rattle.hmac_tag.specs.{Tag.direction_number, declared.tag.Mac.Ghosts as Mac}
+use Rattle.line_rules.specs.{Rules.Rules, Rules.head_of, RulesLaws.IsLawful, RulesLaws.IsHeaded}
+use Rattle.line_rules.specs.declared.head.Head.TheVariants.{Bad}
+use Rattle.line_rules.specs.declared.line_rules.LineRules.{Ghosts as LineRules}
+use Rattle.link_format.specs.{Profile.Profile, Profile.profile_of, Profile.IsWordLen, Setup.Setup}
+use Rattle.link_verdicts.proofs.Judging.{head-short, checked-short, checked-bad}
 use Rattle.link_verdicts.proofs.Opened.{last_of-more, opens-of, may-of, unowed-of, silently, joined}
 use Rattle.link_verdicts.proofs.Opened.{joined-last, still}
+use Rattle.link_verdicts.proofs.{Opening.short-same, Opening.come-rests, Resting.rest-drops}
+use Rattle.link_verdicts.proofs.Settling.{is_over, open-bytes, open-end, long-header}
+use Rattle.link_verdicts.specs.Checking.{checker, at_floor, head_tick, note_tick}
+use Rattle.link_verdicts.specs.Holding.{Rests}
+use Rattle.link_verdicts.specs.Verdicts.{CheckState, checked, Verdict.dropped as dropped_for}
+use Rattle.link_verdicts.specs.declared.note.CheckNote.{CheckNote, TheVariants.Dropped}
+use Rattle.link_verdicts.specs.declared.note.DroppedWhy.TheVariants.{Head as NoHead}
+use Rattle.sequence_journal.specs.declared.numbers.TheConstants.{LIMIT}
+use Rattle.spoiler.specs.Outlet.{StandsFor as OutletStandsFor, owed_by}
+use Rattle.std.proofs.Common.{◌≡◌, ◌∙◌, ℕ, ◌+◌, ◌-◌, ◌<◌, ◌≤◌, true, false, List, [], ◌∷◌, ◌++◌}
+use Rattle.std.proofs.Common.{length, length-append, take, refl, sym, ap, subst, arith, ⊎_elim}
+use Rattle.std.proofs.{Common.Option, Common.Some, Common.None, lemmas.Bool.cases_lt}
+use Rattle.yasir_ticks.specs.{Bursts.Burst, Bursts.bursts, Ticks.silent}
+use Rattle.yasir_ticks.specs.declared.tick.Tick.{Tick, TheVariants.Silent, TheVariants.Byte}
 
 -- ---- the ring is emptied
 

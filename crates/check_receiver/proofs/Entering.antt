@@ -1,38 +1,26 @@
 -- A live byte enters the ring.
+use Rattle.burst_walk.specs.{Causal.going_on, declared.box_step.BoxStep.BoxStep}
+use Rattle.check_receiver.proofs.{Machine.assembled, OpenBursts.open-walks, OpenBursts.moved}
+use Rattle.check_receiver.specs.{Between.IsBetween, Stands.MacHolds, Stands.HasTaken}
+use Rattle.check_receiver.specs.Turning.{Turned, with_until}
+use Rattle.check_receiver.specs.declared.checker.Checker.{Checker}
+use Rattle.delay_ring.specs.DelayRing.{ring_ticks}
+use Rattle.frame_ending.specs.{LiveBytes.live_bytes, SoFar.live_bytes_in, SoFar.live_bytes_so_far}
+use Rattle.frame_ending.specs.declared.cut.Cut.TheVariants.{Live}
+use Rattle.hmac_tag.specs.declared.tag.Mac.{Ghosts as Mac}
+use Rattle.line_rules.specs.{Rules.Rules, Rules.head_of, declared.head.Head.TheVariants.Bad}
+use Rattle.line_rules.specs.declared.line_rules.LineRules.{Ghosts as LineRules}
+use Rattle.{link_format.specs.Setup.Setup, link_verdicts.proofs.Judging.head-bad}
+use Rattle.link_verdicts.proofs.Opened.{opens-of, long-of, more-of, unowed-of, joined-last, goes-as}
+use Rattle.link_verdicts.proofs.Opened.{live-goes, live-gap, live-adds, live-before, live-after}
+use Rattle.link_verdicts.proofs.{Opening.length-silent, Rings.ring-byte}
+use Rattle.{link_verdicts.specs.declared.note.CheckNote.CheckNote, spoiler.specs.Outlet.owed_by}
 use Rattle.std.proofs.Common.{◌≡◌, ◌∙◌, ℕ, ◌+◌, ◌-◌, ◌≤◌, ◌==◌, true, false, List, [], ◌∷◌, ◌++◌}
 use Rattle.std.proofs.Common.{length, length-append, take, drop, refl, sym, ap, subst, arith}
 use Rattle.std.proofs.Common.{⊎_elim, Option, Some, None, IfSome}
-use Rattle.std.proofs.lemmas.Bool.{cases_Bool, ne_eqb}
-use Rattle.std.proofs.lemmas.List.{append-nil, length-drop}
-use Rattle.yasir_ticks.specs.Ticks.{silent, bytes_in}
-use Rattle.yasir_ticks.specs.Bursts.{Burst, end_of}
-use Rattle.yasir_ticks.specs.declared.tick.Tick.{Tick}
-use Rattle.yasir_ticks.specs.declared.tick.Tick.TheVariants.{Byte}
-use Rattle.line_rules.specs.Rules.{Rules, head_of}
-use Rattle.line_rules.specs.declared.line_rules.LineRules.{Ghosts as LineRules}
-use Rattle.frame_ending.specs.declared.cut.Cut.TheVariants.{Live}
-use Rattle.burst_walk.specs.Causal.{going_on}
-use Rattle.line_rules.specs.declared.head.Head.TheVariants.{Bad}
-use Rattle.frame_ending.specs.LiveBytes.{live_bytes}
-use Rattle.frame_ending.specs.SoFar.{live_bytes_in, live_bytes_so_far}
-use Rattle.delay_ring.specs.DelayRing.{ring_ticks}
-use Rattle.spoiler.specs.Outlet.{owed_by}
-use Rattle.hmac_tag.specs.declared.tag.Mac.{Ghosts as Mac}
-use Rattle.link_format.specs.Setup.{Setup}
-use Rattle.link_verdicts.proofs.Judging.{head-bad}
-use Rattle.link_verdicts.proofs.Opened.{opens-of, long-of, more-of, unowed-of, joined-last}
-use Rattle.link_verdicts.proofs.Opened.{goes-as, live-goes, live-gap, live-adds, live-before}
-use Rattle.link_verdicts.proofs.Opened.{live-after}
-use Rattle.link_verdicts.proofs.Opening.{length-silent}
-use Rattle.link_verdicts.proofs.Rings.{ring-byte}
-use Rattle.check_receiver.specs.Between.{IsBetween}
-use Rattle.check_receiver.specs.Stands.{MacHolds, HasTaken}
-use Rattle.check_receiver.specs.Turning.{Turned, with_until}
-use Rattle.check_receiver.specs.declared.checker.Checker.{Checker}
-use Rattle.burst_walk.specs.declared.box_step.BoxStep.{BoxStep}
-use Rattle.link_verdicts.specs.declared.note.CheckNote.{CheckNote}
-use Rattle.check_receiver.proofs.Machine.{assembled}
-use Rattle.check_receiver.proofs.OpenBursts.{open-walks, moved}
+use Rattle.std.proofs.lemmas.{Bool.cases_Bool, Bool.ne_eqb, List.append-nil, List.length-drop}
+use Rattle.yasir_ticks.specs.{Bursts.Burst, Bursts.end_of, Ticks.silent, Ticks.bytes_in}
+use Rattle.yasir_ticks.specs.declared.tick.Tick.{Tick, TheVariants.Byte}
 
 -- a live byte finds its burst open
 

@@ -1,64 +1,45 @@
 -- A byte that isn't live, of the burst whose verdict is open.
-use Rattle.std.proofs.Common.{◌≡◌, ◌∙◌, ℕ, ◌+◌, ◌-◌, ◌<◌, ◌≤◌, ◌==◌, Bool, true, false, List, []}
-use Rattle.std.proofs.Common.{◌∷◌, ◌++◌, length, length-append, take, drop, get_or, refl, sym, ap}
-use Rattle.std.proofs.Common.{subst, arith, Option, Some, None, IfSome}
-use Rattle.std.proofs.lemmas.Bool.{ne_eqb}
-use Rattle.std.proofs.lemmas.List.{length-drop, take_all}
-use Rattle.yasir_ticks.specs.Ticks.{silent, bytes_in}
-use Rattle.yasir_ticks.specs.Bursts.{Burst, end_of}
-use Rattle.yasir_ticks.specs.declared.tick.Tick.{Tick}
-use Rattle.yasir_ticks.specs.declared.tick.Tick.TheVariants.{Silent, Byte}
-use Rattle.line_rules.specs.Rules.{Rules, left_of}
-use Rattle.line_rules.specs.declared.line_rules.LineRules.{Ghosts as LineRules}
-use Rattle.frame_ending.specs.Cuts.{cut_of}
-use Rattle.frame_ending.specs.declared.cut.Cut.TheVariants.{Extra}
-use Rattle.frame_ending.specs.LiveBytes.{live_bytes, live_end}
-use Rattle.frame_ending.specs.SoFar.{last_burst, live_bytes_in, live_bytes_so_far, start_in}
-use Rattle.frame_ending.specs.SoFar.{start_so_far}
-use Rattle.frame_ending.specs.Stands.{StandsFor as CutStandsFor, ticks_taken as ticks_cut}
-use Rattle.frame_ending.proofs.Dividing.{longer-line}
-use Rattle.frame_ending.proofs.Running.{extra-tick}
-use Rattle.delay_ring.specs.DelayRing.{ring_ticks}
-use Rattle.spoiler.specs.Outlet.{Refuses, owed_by}
-use Rattle.spoiler.proofs.Standing.{stands-unowed}
-use Rattle.burst_walk.specs.Causal.{going_on}
-use Rattle.burst_walk.specs.Walk.{Noted}
 use Rattle.burst_walk.proofs.Coming.{notes-step, note-now}
-use Rattle.hmac_tag.specs.declared.tag.Mac.{Ghosts as Mac}
-use Rattle.hmac_tag.specs.Tag.{direction_number}
-use Rattle.link_format.specs.Profile.{Profile, profile_of, IsWordLen, delay, pause_len, trailer_len}
-use Rattle.link_format.specs.Setup.{Setup}
-use Rattle.sequence_journal.specs.declared.numbers.TheConstants.{LIMIT}
-use Rattle.link_verdicts.specs.Verdicts.{CheckState, after_live, checked, trailer_of, whole_verdict}
-use Rattle.link_verdicts.specs.Verdicts.Verdict.{passed_with, refused}
-use Rattle.link_verdicts.specs.Emissions.{owed}
-use Rattle.link_verdicts.specs.Checking.{FullNote, checker, at_floor, check_notes, note_by}
-use Rattle.link_verdicts.specs.Checking.{note_tick}
-use Rattle.link_verdicts.specs.Checking.FullNote.{passed_note}
-use Rattle.link_verdicts.specs.declared.note.CheckNote.{CheckNote}
-use Rattle.link_verdicts.specs.declared.note.CheckNote.TheVariants.{Passed, Refused}
-use Rattle.link_verdicts.specs.declared.note.RefusedWhy.{RefusedWhy}
-use Rattle.link_verdicts.specs.declared.note.RefusedWhy.TheVariants.{Trailer}
-use Rattle.link_verdicts.specs.Holding.{trailer_so_far}
-use Rattle.link_verdicts.specs.Going.{Goes}
-use Rattle.link_verdicts.proofs.Opened.{IsOpen, opens-of, may-of, long-of, more-of, unowed-of}
-use Rattle.link_verdicts.proofs.Opened.{bytes-of, bytes-next, trailer-long as grown, goes-as, joined}
-use Rattle.link_verdicts.proofs.Opened.{joined-last, extra-end, extra-bytes, extra-adds, extra-goes}
-use Rattle.link_verdicts.proofs.Opened.{extra-breaks, whole-checked, whole-tick, whole-refuses}
-use Rattle.link_verdicts.proofs.Opened.{whole-passes}
-use Rattle.link_verdicts.proofs.Opening.{length-silent}
-use Rattle.link_verdicts.proofs.Resting.{causal}
-use Rattle.link_verdicts.proofs.Settling.{after-long}
-use Rattle.check_receiver.specs.Arrivals.{bytes_come}
-use Rattle.check_receiver.specs.Between.{IsBetween, IsWhole}
+use Rattle.burst_walk.specs.{Causal.going_on, Walk.Noted, declared.box_step.BoxStep.BoxStep}
+use Rattle.check_receiver.proofs.Machine.{waiting-some, ring-waits, assembled}
+use Rattle.check_receiver.proofs.OpenBursts.{open-walks, Moved, moved}
+use Rattle.check_receiver.specs.{Arrivals.bytes_come, Between.IsBetween, Between.IsWhole}
 use Rattle.check_receiver.specs.Checkings.{PassesWith}
 use Rattle.check_receiver.specs.Stands.{MacHolds, Walks, HasTaken}
 use Rattle.check_receiver.specs.Turning.{Turned, TurnedRefused, refused as refused_with}
-use Rattle.check_receiver.specs.declared.arriving.Arriving.{Arriving}
-use Rattle.check_receiver.specs.declared.checker.Checker.{Checker}
-use Rattle.burst_walk.specs.declared.box_step.BoxStep.{BoxStep}
-use Rattle.check_receiver.proofs.Machine.{waiting-some, ring-waits, assembled}
-use Rattle.check_receiver.proofs.OpenBursts.{open-walks, Moved, moved}
+use Rattle.check_receiver.specs.declared.{arriving.Arriving.Arriving, checker.Checker.Checker}
+use Rattle.delay_ring.specs.DelayRing.{ring_ticks}
+use Rattle.frame_ending.proofs.{Dividing.longer-line, Running.extra-tick}
+use Rattle.frame_ending.specs.{Cuts.cut_of, LiveBytes.live_bytes, LiveBytes.live_end}
+use Rattle.frame_ending.specs.SoFar.{last_burst, live_bytes_in, live_bytes_so_far, start_in}
+use Rattle.frame_ending.specs.{SoFar.start_so_far, Stands.StandsFor as CutStandsFor}
+use Rattle.frame_ending.specs.{Stands.ticks_taken as ticks_cut, declared.cut.Cut.TheVariants.Extra}
+use Rattle.hmac_tag.specs.{Tag.direction_number, declared.tag.Mac.Ghosts as Mac}
+use Rattle.line_rules.specs.Rules.{Rules, left_of}
+use Rattle.line_rules.specs.declared.line_rules.LineRules.{Ghosts as LineRules}
+use Rattle.link_format.specs.Profile.{Profile, profile_of, IsWordLen, delay, pause_len, trailer_len}
+use Rattle.{link_format.specs.Setup.Setup, link_verdicts.proofs.Opened.IsOpen}
+use Rattle.link_verdicts.proofs.Opened.{opens-of, may-of, long-of, more-of, unowed-of, bytes-of}
+use Rattle.link_verdicts.proofs.Opened.{bytes-next, trailer-long as grown, goes-as, joined}
+use Rattle.link_verdicts.proofs.Opened.{joined-last, extra-end, extra-bytes, extra-adds, extra-goes}
+use Rattle.link_verdicts.proofs.Opened.{extra-breaks, whole-checked, whole-tick, whole-refuses}
+use Rattle.link_verdicts.proofs.{Opened.whole-passes, Opening.length-silent, Resting.causal}
+use Rattle.link_verdicts.{proofs.Settling.after-long, specs.Checking.FullNote}
+use Rattle.link_verdicts.specs.Checking.{checker, at_floor, check_notes, note_by, note_tick}
+use Rattle.link_verdicts.specs.{Checking.FullNote.passed_note, Emissions.owed, Going.Goes}
+use Rattle.link_verdicts.specs.{Holding.trailer_so_far, Verdicts.CheckState, Verdicts.after_live}
+use Rattle.link_verdicts.specs.Verdicts.{checked, trailer_of, whole_verdict, Verdict.passed_with}
+use Rattle.link_verdicts.specs.{Verdicts.Verdict.refused, declared.note.CheckNote.CheckNote}
+use Rattle.link_verdicts.specs.declared.note.CheckNote.TheVariants.{Passed, Refused}
+use Rattle.link_verdicts.specs.declared.note.RefusedWhy.{RefusedWhy, TheVariants.Trailer}
+use Rattle.sequence_journal.specs.declared.numbers.TheConstants.{LIMIT}
+use Rattle.spoiler.{proofs.Standing.stands-unowed, specs.Outlet.Refuses, specs.Outlet.owed_by}
+use Rattle.std.proofs.Common.{◌≡◌, ◌∙◌, ℕ, ◌+◌, ◌-◌, ◌<◌, ◌≤◌, ◌==◌, Bool, true, false, List, []}
+use Rattle.std.proofs.Common.{◌∷◌, ◌++◌, length, length-append, take, drop, get_or, refl, sym, ap}
+use Rattle.std.proofs.Common.{subst, arith, Option, Some, None, IfSome}
+use Rattle.std.proofs.lemmas.{Bool.ne_eqb, List.length-drop, List.take_all}
+use Rattle.yasir_ticks.specs.{Bursts.Burst, Bursts.end_of, Ticks.silent, Ticks.bytes_in}
+use Rattle.yasir_ticks.specs.declared.tick.Tick.{Tick, TheVariants.Silent, TheVariants.Byte}
 
 -- ---- what is known then
 

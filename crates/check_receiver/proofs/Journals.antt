@@ -1,14 +1,11 @@
 -- What a step does to the journal and its disk.
-use Rattle.std.proofs.Common.{refl, arith, inl, Ok, Option, Some, None}
-use Rattle.yasir_io.specs.Disks.{Slots}
-use Rattle.yasir_io.specs.declared.disk.SlotDisk.{Ghosts as SlotDisk}
-use Rattle.sequence_journal.specs.declared.journal.Journal.{Journal}
-use Rattle.sequence_journal.specs.Journal.{Fits}
+use Rattle.burst_walk.specs.declared.box_step.BoxStep.{BoxStep}
+use Rattle.check_receiver.specs.{Between.IsNoPass, Checkings.CommitsNoted, Checkings.KeepsJournal}
 use Rattle.link_verdicts.specs.declared.note.CheckNote.{CheckNote}
 use Rattle.link_verdicts.specs.declared.note.CheckNote.TheVariants.{Passed, Refused, Dropped}
-use Rattle.check_receiver.specs.Between.{IsNoPass}
-use Rattle.check_receiver.specs.Checkings.{CommitsNoted, KeepsJournal}
-use Rattle.burst_walk.specs.declared.box_step.BoxStep.{BoxStep}
+use Rattle.sequence_journal.specs.{Journal.Fits, declared.journal.Journal.Journal}
+use Rattle.std.proofs.Common.{refl, arith, inl, Ok, Option, Some, None}
+use Rattle.yasir_io.specs.{Disks.Slots, declared.disk.SlotDisk.Ghosts as SlotDisk}
 
 module _ {S : Type 0} (d : SlotDisk S) (journal : Journal) (disk : S) where
   commits-none : (note : Option CheckNote) → IsNoPass note

@@ -1,24 +1,19 @@
 -- What a step does to the journal and its disk, as a step of a box of a link; and runs as its runs.
-use Rattle.std.proofs.Common.{◌≡◌, ◌≤◌, ℕ, List, Ok, Err, Option, Some, None, ap, arith}
-use Rattle.yasir_ticks.specs.declared.tick.Tick.{Tick}
-use Rattle.yasir_io.specs.declared.disk.SlotDisk.{Ghosts as SlotDisk}
 use Rattle.burst_walk.specs.declared.box_step.BoxStep.{BoxStep}
-use Rattle.line_rules.specs.declared.line_rules.LineRules.{Ghosts as LineRules}
-use Rattle.hmac_tag.specs.declared.tag.Mac.{Ghosts as Mac}
-use Rattle.link_format.specs.Setup.{Setup}
-use Rattle.link_box.specs.Stepping.{KeepsJournal as KeepsBoxed}
-use Rattle.link_box.specs.Runs.{TakesRun}
-use Rattle.link_box.proofs.TakenRuns.{takes-as}
-use Rattle.sequence_journal.specs.declared.journal.Journal.{Journal}
-use Rattle.sequence_journal.specs.declared.journal.JournalFault.{JournalFault}
-use Rattle.sequence_journal.specs.Journal.{journal_floor}
-use Rattle.link_verdicts.specs.declared.note.CheckNote.{CheckNote}
-use Rattle.link_verdicts.specs.declared.note.CheckNote.TheVariants.{Passed, Refused, Dropped}
-use Rattle.check_receiver.specs.Checkings.{CommitsNoted, KeepsJournal}
-use Rattle.check_receiver.specs.Boxed.{check_walking}
-use Rattle.check_receiver.specs.Runs.{HasTakenRun}
-use Rattle.check_receiver.specs.Stands.{StandsAt}
+use Rattle.check_receiver.specs.{Boxed.check_walking, Checkings.CommitsNoted}
+use Rattle.check_receiver.specs.{Checkings.KeepsJournal, Runs.HasTakenRun, Stands.StandsAt}
 use Rattle.check_receiver.specs.declared.checker.Checker.{Checker}
+use Rattle.hmac_tag.specs.declared.tag.Mac.{Ghosts as Mac}
+use Rattle.line_rules.specs.declared.line_rules.LineRules.{Ghosts as LineRules}
+use Rattle.link_box.proofs.TakenRuns.{takes-as}
+use Rattle.link_box.specs.{Runs.TakesRun, Stepping.KeepsJournal as KeepsBoxed}
+use Rattle.{link_format.specs.Setup.Setup, link_verdicts.specs.declared.note.CheckNote.CheckNote}
+use Rattle.link_verdicts.specs.declared.note.CheckNote.TheVariants.{Passed, Refused, Dropped}
+use Rattle.sequence_journal.specs.Journal.{journal_floor}
+use Rattle.sequence_journal.specs.declared.journal.{Journal.Journal, JournalFault.JournalFault}
+use Rattle.std.proofs.Common.{◌≡◌, ◌≤◌, ℕ, List, Ok, Err, Option, Some, None, ap, arith}
+use Rattle.yasir_io.specs.declared.disk.SlotDisk.{Ghosts as SlotDisk}
+use Rattle.yasir_ticks.specs.declared.tick.Tick.{Tick}
 
 -- a step doesn't lower the journal's floor
 pub commits-rise : {S : Type 0} (d : SlotDisk S) (old new : Journal) (disk_old disk_new : S)

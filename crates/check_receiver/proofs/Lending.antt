@@ -1,31 +1,26 @@
 -- The bytes that are lent for a run of ticks.
-use Rattle.std.proofs.Common.{◌≡◌, ◌∙◌, ℕ, zero, suc, ◌+◌, ◌<◌, ◌≤◌, false, List, [], ◌∷◌}
-use Rattle.std.proofs.Common.{◌++◌, length, take, map, refl, sym, ap, subst, arith, nat_lt, ⊎_elim}
-use Rattle.std.proofs.Common.{◌-◌, length-append, drop, get_or, min, inr}
-use Rattle.std.proofs.Math.Seq.{take-append-add}
-use Rattle.std.specs.Prelude.{Result, Ok, Err, IsOk, OnOk}
-use Rattle.std.proofs.lemmas.Bool.{cases_lt, lt-ltb}
-use Rattle.std.proofs.lemmas.List.{append-nil, take_all, take-append-le, take-map, map-append}
-use Rattle.std.proofs.lemmas.List.{length-take-le, length-drop}
-use Rattle.yasir_ticks.specs.Ticks.{silent}
+use Rattle.burst_walk.{proofs.Runs.run-none, specs.Answered.answered}
+use Rattle.check_receiver.specs.Runs.{HasTakenRun, IsFront}
+use Rattle.check_receiver.specs.{Stands.StandsAt, declared.checker.Checker.Checker}
+use Rattle.delay_ring.proofs.Marks.{ticks-length}
 use Rattle.delay_ring.specs.DelayRing.{ring_ticks, marked_ticks, AreAlike}
 use Rattle.delay_ring.specs.declared.delay_ring.DelayRing.{DelayRing}
-use Rattle.delay_ring.proofs.Marks.{ticks-length}
-use Rattle.yasir_ticks.specs.declared.tick.Tick.{Tick}
-use Rattle.yasir_ticks.specs.declared.tick.Tick.TheVariants.{Silent, Byte}
-use Rattle.line_rules.specs.declared.line_rules.LineRules.{Ghosts as LineRules}
 use Rattle.frame_ending.specs.Stands.{StandsFor as CutStandsFor}
 use Rattle.frame_ending.specs.declared.burst_cut.BurstCut.{BurstCut}
-use Rattle.burst_walk.specs.Answered.{answered}
-use Rattle.burst_walk.proofs.Runs.{run-none}
 use Rattle.hmac_tag.specs.declared.tag.Mac.{Ghosts as Mac}
-use Rattle.link_format.specs.Profile.{profile_of}
-use Rattle.link_format.specs.Setup.{Setup}
-use Rattle.sequence_journal.specs.declared.numbers.TheConstants.{LIMIT}
+use Rattle.line_rules.specs.declared.line_rules.LineRules.{Ghosts as LineRules}
+use Rattle.link_format.specs.{Profile.profile_of, Setup.Setup}
 use Rattle.link_verdicts.specs.Checking.{checker, at_floor, brief_note}
-use Rattle.check_receiver.specs.Runs.{HasTakenRun, IsFront}
-use Rattle.check_receiver.specs.Stands.{StandsAt}
-use Rattle.check_receiver.specs.declared.checker.Checker.{Checker}
+use Rattle.sequence_journal.specs.declared.numbers.TheConstants.{LIMIT}
+use Rattle.std.proofs.Common.{◌≡◌, ◌∙◌, ℕ, zero, suc, ◌+◌, ◌<◌, ◌≤◌, false, List, [], ◌∷◌, ◌++◌}
+use Rattle.std.proofs.Common.{length, take, map, refl, sym, ap, subst, arith, nat_lt, ⊎_elim, ◌-◌}
+use Rattle.std.proofs.Common.{length-append, drop, get_or, min, inr}
+use Rattle.std.proofs.{Math.Seq.take-append-add, lemmas.Bool.cases_lt, lemmas.Bool.lt-ltb}
+use Rattle.std.proofs.lemmas.List.{append-nil, take_all, take-append-le, take-map, map-append}
+use Rattle.std.proofs.lemmas.List.{length-take-le, length-drop}
+use Rattle.std.specs.Prelude.{Result, Ok, Err, IsOk, OnOk}
+use Rattle.yasir_ticks.specs.Ticks.{silent}
+use Rattle.yasir_ticks.specs.declared.tick.Tick.{Tick, TheVariants.Silent, TheVariants.Byte}
 
 -- a ring has its ticks
 pub ring-whole : {D : ℕ} (ring : DelayRing D) → length (ring_ticks ring) ≡ D

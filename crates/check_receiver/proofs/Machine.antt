@@ -1,34 +1,24 @@
 -- How the machine's parts are together after a step.
+use Rattle.burst_walk.specs.{Answers.AnswersTick, declared.box_step.BoxStep.BoxStep}
+use Rattle.check_receiver.specs.Stands.{MacHolds, HasTaken}
+use Rattle.check_receiver.specs.{Turning.Turned, declared.checker.Checker.Checker}
+use Rattle.delay_ring.specs.DelayRing.{ring_ticks}
+use Rattle.frame_ending.specs.Stands.{StandsFor as CutStandsFor}
+use Rattle.hmac_tag.specs.{Tag.direction_number, declared.tag.Mac.Ghosts as Mac}
+use Rattle.line_rules.specs.declared.line_rules.LineRules.{Ghosts as LineRules}
+use Rattle.link_format.specs.{Profile.profile_of, Profile.IsWordLen, Setup.Setup}
+use Rattle.link_verdicts.proofs.{Flow.Flows, Flow.flows, Numbers.walked-number, Rings.ring-first}
+use Rattle.link_verdicts.{proofs.Rings.ring-silent, specs.Checking.checker}
+use Rattle.link_verdicts.specs.{Checking.at_floor, Checking.brief_note, Going.Goes, Leaving.is_none}
+use Rattle.link_verdicts.specs.{Turns.HasTurned, declared.note.CheckNote.CheckNote}
+use Rattle.sequence_journal.specs.declared.numbers.TheConstants.{LIMIT}
+use Rattle.spoiler.specs.Outlet.{StandsFor as OutletStandsFor, Refuses, owed_by}
 use Rattle.std.proofs.Common.{◌≡◌, ◌∙◌, ℕ, ◌+◌, ◌-◌, ◌<◌, ◌≤◌, ◌==◌, true, false, List, [], ◌∷◌}
 use Rattle.std.proofs.Common.{◌++◌, length, drop, get_or, refl, sym, ap, subst, arith, Option, Some}
 use Rattle.std.proofs.Common.{None, IfSome, IfNone, is_some}
 use Rattle.std.proofs.lemmas.Bool.{ne_eqb}
-use Rattle.yasir_ticks.specs.Ticks.{silent, bytes_in}
-use Rattle.yasir_ticks.specs.Bursts.{Burst}
-use Rattle.yasir_ticks.specs.declared.tick.Tick.{Tick}
-use Rattle.yasir_ticks.specs.declared.tick.Tick.TheVariants.{Silent}
-use Rattle.line_rules.specs.declared.line_rules.LineRules.{Ghosts as LineRules}
-use Rattle.frame_ending.specs.Stands.{StandsFor as CutStandsFor}
-use Rattle.delay_ring.specs.DelayRing.{ring_ticks}
-use Rattle.spoiler.specs.Outlet.{StandsFor as OutletStandsFor, Refuses, owed_by}
-use Rattle.burst_walk.specs.Answers.{AnswersTick}
-use Rattle.hmac_tag.specs.declared.tag.Mac.{Ghosts as Mac}
-use Rattle.hmac_tag.specs.Tag.{direction_number}
-use Rattle.link_format.specs.Profile.{profile_of, IsWordLen}
-use Rattle.link_format.specs.Setup.{Setup}
-use Rattle.sequence_journal.specs.declared.numbers.TheConstants.{LIMIT}
-use Rattle.link_verdicts.specs.Checking.{checker, at_floor, brief_note}
-use Rattle.link_verdicts.specs.declared.note.CheckNote.{CheckNote}
-use Rattle.link_verdicts.specs.Going.{Goes}
-use Rattle.link_verdicts.specs.Leaving.{is_none}
-use Rattle.link_verdicts.specs.Turns.{HasTurned}
-use Rattle.link_verdicts.proofs.Flow.{Flows, flows}
-use Rattle.link_verdicts.proofs.Rings.{ring-first, ring-silent}
-use Rattle.link_verdicts.proofs.Numbers.{walked-number}
-use Rattle.check_receiver.specs.Stands.{MacHolds, HasTaken}
-use Rattle.check_receiver.specs.Turning.{Turned}
-use Rattle.check_receiver.specs.declared.checker.Checker.{Checker}
-use Rattle.burst_walk.specs.declared.box_step.BoxStep.{BoxStep}
+use Rattle.yasir_ticks.specs.{Bursts.Burst, Ticks.silent, Ticks.bytes_in}
+use Rattle.yasir_ticks.specs.declared.tick.Tick.{Tick, TheVariants.Silent}
 
 pub waiting-none : (o : Option Burst) → is_some o ≡ false → o ≡ None
 waiting-none None never = refl

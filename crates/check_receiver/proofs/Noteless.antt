@@ -1,34 +1,30 @@
 -- Ticks that surely have no note: what is known of the burst that each belongs to.
-use Rattle.std.proofs.Common.{◌≡◌, ◌∙◌, ⊎_elim, ℕ, suc, ◌+◌, ◌-◌, ◌<◌, ◌≤◌, ◌==◌, ◌||◌, Bool, true}
-use Rattle.std.proofs.Common.{false, not, nat_lt, nat_le, if◌then◌else◌, List, [], ◌∷◌, ◌++◌, length}
-use Rattle.std.proofs.Common.{refl, sym, ap, subst, arith, take, Option, Some, None}
-use Rattle.std.proofs.lemmas.Bool.{cases_Bool, cases_lt, cond-true, cond-false, eq-eqb}
-use Rattle.std.proofs.lemmas.Bool.{lt-ltb, le-ltb, le-leb, lt-leb, ltb-true, or_parts}
-use Rattle.std.proofs.lemmas.List.{take_all}
-use Rattle.yasir_ticks.specs.Bursts.{Burst, end_of}
-use Rattle.yasir_ticks.proofs.BurstLaws.{alone, with_last}
-use Rattle.yasir_ticks.specs.declared.tick.Tick.{Tick}
-use Rattle.yasir_ticks.specs.declared.tick.Tick.TheVariants.{Silent, Byte}
-use Rattle.line_rules.specs.Rules.{Rules, head_of, fills_room}
-use Rattle.line_rules.specs.RulesLaws.{IsLawful}
-use Rattle.line_rules.specs.declared.head.Head.{Head}
-use Rattle.line_rules.specs.declared.head.Head.TheVariants.{Short, Good, Bad}
-use Rattle.line_rules.specs.declared.line_rules.LineRules.{Ghosts as LineRules}
-use Rattle.frame_ending.specs.declared.burst_cut.BurstCut.{BurstCut}
-use Rattle.frame_ending.specs.declared.cut.Cut.TheVariants.{Start, Live, Extra}
-use Rattle.frame_ending.specs.Cuts.{cut_of, byte_cut}
-use Rattle.frame_ending.specs.LiveBytes.{live_bytes}
-use Rattle.frame_ending.specs.SoFar.{last_burst, live_bytes_in, live_bytes_so_far, quiet_so_far}
-use Rattle.frame_ending.specs.SoFar.{quiet_in, is_over_in, has_paused_in, is_over_so_far}
-use Rattle.frame_ending.specs.Stands.{StandsFor as CutStandsFor}
+use Rattle.check_receiver.proofs.Beginnings.{good-keeps}
+use Rattle.check_receiver.proofs.Heads.{head-is-good, head-is-bad, head-isn't-short}
+use Rattle.check_receiver.specs.Noteless.{is_short, is_good, is_no_bad, silence_has_none}
+use Rattle.check_receiver.specs.Noteless.{first_has_none, extra_has_none, further_has_none}
+use Rattle.check_receiver.specs.{Noteless.has_none, declared.checker.Checker.Checker}
 use Rattle.frame_ending.proofs.Cutting.{cut-begin, cut-pass, cut-go_on}
 use Rattle.frame_ending.proofs.LastBurst.{grown, last_burst-byte, last_burst-silent}
 use Rattle.frame_ending.proofs.Running.{byte-lives}
-use Rattle.check_receiver.specs.Noteless.{is_short, is_good, is_no_bad, silence_has_none}
-use Rattle.check_receiver.specs.Noteless.{first_has_none, extra_has_none, further_has_none, has_none}
-use Rattle.check_receiver.specs.declared.checker.Checker.{Checker}
-use Rattle.check_receiver.proofs.Beginnings.{good-keeps}
-use Rattle.check_receiver.proofs.Heads.{head-is-good, head-is-bad, head-isn't-short}
+use Rattle.frame_ending.specs.{Cuts.cut_of, Cuts.byte_cut, LiveBytes.live_bytes}
+use Rattle.frame_ending.specs.SoFar.{last_burst, live_bytes_in, live_bytes_so_far, quiet_so_far}
+use Rattle.frame_ending.specs.SoFar.{quiet_in, is_over_in, has_paused_in, is_over_so_far}
+use Rattle.frame_ending.specs.Stands.{StandsFor as CutStandsFor}
+use Rattle.frame_ending.specs.declared.burst_cut.BurstCut.{BurstCut}
+use Rattle.frame_ending.specs.declared.cut.Cut.TheVariants.{Start, Live, Extra}
+use Rattle.line_rules.specs.Rules.{Rules, head_of, fills_room}
+use Rattle.line_rules.specs.{RulesLaws.IsLawful, declared.head.Head.Head}
+use Rattle.line_rules.specs.declared.head.Head.TheVariants.{Short, Good, Bad}
+use Rattle.line_rules.specs.declared.line_rules.LineRules.{Ghosts as LineRules}
+use Rattle.std.proofs.Common.{◌≡◌, ◌∙◌, ⊎_elim, ℕ, suc, ◌+◌, ◌-◌, ◌<◌, ◌≤◌, ◌==◌, ◌||◌, Bool, true}
+use Rattle.std.proofs.Common.{false, not, nat_lt, nat_le, if◌then◌else◌, List, [], ◌∷◌, ◌++◌}
+use Rattle.std.proofs.Common.{length, refl, sym, ap, subst, arith, take, Option, Some, None}
+use Rattle.std.proofs.lemmas.Bool.{cases_Bool, cases_lt, cond-true, cond-false, eq-eqb, lt-ltb}
+use Rattle.std.proofs.lemmas.Bool.{le-ltb, le-leb, lt-leb, ltb-true, or_parts}
+use Rattle.{std.proofs.lemmas.List.take_all, yasir_ticks.proofs.BurstLaws.alone}
+use Rattle.yasir_ticks.{proofs.BurstLaws.with_last, specs.Bursts.Burst, specs.Bursts.end_of}
+use Rattle.yasir_ticks.specs.declared.tick.Tick.{Tick, TheVariants.Silent, TheVariants.Byte}
 
 -- ---- live bytes
 

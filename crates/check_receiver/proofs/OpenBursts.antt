@@ -1,32 +1,19 @@
 -- The burst whose verdict is open, as the machine holds it.
+use Rattle.check_receiver.{proofs.Machine.some-left, specs.Stands.Walks, specs.Turning.Turned}
+use Rattle.check_receiver.specs.declared.{arriving.Arriving.Arriving, checker.Checker.Checker}
+use Rattle.delay_ring.specs.{DelayRing.ring_ticks, declared.delay_ring.DelayRing.DelayRing}
+use Rattle.hmac_tag.specs.declared.tag.Mac.{Ghosts as Mac}
+use Rattle.line_rules.specs.declared.line_rules.LineRules.{Ghosts as LineRules}
+use Rattle.link_format.specs.{Profile.profile_of, Setup.Setup}
+use Rattle.link_verdicts.proofs.{Flow.flows, Opened.IsOpen, Opening.leaves-front, Rings.ring-first}
+use Rattle.link_verdicts.specs.{Holding.HasWalked, Leaving.leaves, Timely.IsTimely, Turns.HasTurned}
+use Rattle.sequence_journal.specs.declared.numbers.TheConstants.{LIMIT}
+use Rattle.spoiler.specs.Outlet.{StandsFor as OutletStandsFor, owed_by, refused_by}
+use Rattle.spoiler.specs.declared.outlet.Outlet.{Outlet}
 use Rattle.std.proofs.Common.{◌≡◌, ◌∙◌, ℕ, ◌+◌, ◌-◌, ◌<◌, ◌≤◌, ◌==◌, Bool, false, List, ◌∷◌, ◌++◌}
 use Rattle.std.proofs.Common.{length, take, get_or, sym, ap, subst, arith, ⊎_elim, Option, Some}
-use Rattle.yasir_ticks.specs.Ticks.{silent, bytes_in}
-use Rattle.yasir_ticks.specs.Bursts.{Burst, bursts}
-use Rattle.yasir_ticks.specs.declared.tick.Tick.{Tick}
-use Rattle.yasir_ticks.specs.declared.tick.Tick.TheVariants.{Silent, Byte}
-use Rattle.line_rules.specs.declared.line_rules.LineRules.{Ghosts as LineRules}
-use Rattle.delay_ring.specs.DelayRing.{ring_ticks}
-use Rattle.delay_ring.specs.declared.delay_ring.DelayRing.{DelayRing}
-use Rattle.spoiler.specs.declared.outlet.Outlet.{Outlet}
-use Rattle.spoiler.specs.Outlet.{StandsFor as OutletStandsFor, owed_by, refused_by}
-use Rattle.hmac_tag.specs.declared.tag.Mac.{Ghosts as Mac}
-use Rattle.link_format.specs.Profile.{profile_of}
-use Rattle.link_format.specs.Setup.{Setup}
-use Rattle.sequence_journal.specs.declared.numbers.TheConstants.{LIMIT}
-use Rattle.link_verdicts.specs.Holding.{HasWalked}
-use Rattle.link_verdicts.specs.Leaving.{leaves}
-use Rattle.link_verdicts.specs.Timely.{IsTimely}
-use Rattle.link_verdicts.specs.Turns.{HasTurned}
-use Rattle.link_verdicts.proofs.Flow.{flows}
-use Rattle.link_verdicts.proofs.Opened.{IsOpen}
-use Rattle.link_verdicts.proofs.Opening.{leaves-front}
-use Rattle.link_verdicts.proofs.Rings.{ring-first}
-use Rattle.check_receiver.specs.Stands.{Walks}
-use Rattle.check_receiver.specs.Turning.{Turned}
-use Rattle.check_receiver.specs.declared.arriving.Arriving.{Arriving}
-use Rattle.check_receiver.specs.declared.checker.Checker.{Checker}
-use Rattle.check_receiver.proofs.Machine.{some-left}
+use Rattle.yasir_ticks.specs.{Bursts.Burst, Bursts.bursts, Ticks.silent, Ticks.bytes_in}
+use Rattle.yasir_ticks.specs.declared.tick.Tick.{Tick, TheVariants.Silent, TheVariants.Byte}
 
 -- a header is whole before its first byte leaves
 pub timely : {R M : Type 0} (proto : LineRules R) (macs : Mac M) (B : ℕ) (setup : Setup) → 2 ≤ B

@@ -1,20 +1,15 @@
 -- Silence in the pause behind the live bytes of the burst whose verdict is open.
+use Rattle.check_receiver.proofs.RunTicks.{RunsTo, runs-none, runs-first}
+use Rattle.frame_ending.specs.LiveBytes.{live_bytes, live_end}
+use Rattle.line_rules.specs.{Rules.Rules, declared.line_rules.LineRules.Ghosts as LineRules}
+use Rattle.{link_format.specs.Profile.Profile, link_verdicts.proofs.Opened.IsOpen}
+use Rattle.link_verdicts.{proofs.Opened.silent-goes, specs.Verdicts.CheckState}
 use Rattle.std.proofs.Common.{◌≡◌, ◌∙◌, ℕ, zero, suc, ◌+◌, ◌-◌, ◌<◌, ◌≤◌, false, List, [], ◌∷◌}
 use Rattle.std.proofs.Common.{◌++◌, length, length-append, take, drop, sym, ap, subst, arith}
-use Rattle.std.proofs.Common.{append_assoc, Some}
-use Rattle.std.proofs.lemmas.List.{append-nil}
+use Rattle.std.proofs.{Common.append_assoc, Common.Some, lemmas.List.append-nil}
+use Rattle.yasir_ticks.{proofs.SilenceLaws.bytes_in-append, specs.Bursts.Burst}
 use Rattle.yasir_ticks.specs.Ticks.{silent, bytes_in}
-use Rattle.yasir_ticks.specs.Bursts.{Burst}
-use Rattle.yasir_ticks.specs.declared.tick.Tick.{Tick}
-use Rattle.yasir_ticks.specs.declared.tick.Tick.TheVariants.{Silent}
-use Rattle.yasir_ticks.proofs.SilenceLaws.{bytes_in-append}
-use Rattle.line_rules.specs.Rules.{Rules}
-use Rattle.line_rules.specs.declared.line_rules.LineRules.{Ghosts as LineRules}
-use Rattle.frame_ending.specs.LiveBytes.{live_bytes, live_end}
-use Rattle.link_format.specs.Profile.{Profile}
-use Rattle.link_verdicts.specs.Verdicts.{CheckState}
-use Rattle.check_receiver.proofs.RunTicks.{RunsTo, runs-none, runs-first}
-use Rattle.link_verdicts.proofs.Opened.{IsOpen, silent-goes}
+use Rattle.yasir_ticks.specs.declared.tick.Tick.{Tick, TheVariants.Silent}
 
 module _ {R : Type 0} (proto : LineRules R) (profile : Profile) (floor : ℕ) (s : CheckState)
     (d : Burst) (headed : proto.rules.header_len ≤ length (live_bytes proto.rules d))

@@ -1,32 +1,22 @@
 -- Runs of ticks that begin no burst, while no verdict is open.
-use Rattle.std.proofs.Common.{◌≡◌, ◌∙◌, ℕ, zero, suc, ◌+◌, ◌-◌, ◌<◌, Bool, List, [], ◌∷◌, ◌++◌}
-use Rattle.std.proofs.Common.{length, take, drop, get_or, map, refl, sym, ap, subst}
-use Rattle.std.proofs.Common.{arith, append_assoc, inl, inr, None}
-use Rattle.std.proofs.lemmas.List.{append-nil}
-use Rattle.yasir_ticks.specs.Ticks.{silent, bytes_in}
-use Rattle.yasir_ticks.specs.Bursts.{Burst, bursts}
-use Rattle.yasir_ticks.specs.declared.tick.Tick.{Tick}
-use Rattle.yasir_ticks.specs.declared.tick.Tick.TheVariants.{Silent, Byte}
-use Rattle.yasir_ticks.proofs.SilenceLaws.{bytes_in-append}
-use Rattle.line_rules.specs.Rules.{Rules}
-use Rattle.line_rules.specs.declared.line_rules.LineRules.{Ghosts as LineRules}
-use Rattle.frame_ending.specs.Cuts.{cuts_after}
-use Rattle.frame_ending.specs.declared.cut.Cut.TheVariants.{Live, Extra, Quiet}
-use Rattle.burst_walk.specs.HasCome.{HasCome}
-use Rattle.burst_walk.specs.Laid.{tick_at}
-use Rattle.burst_walk.specs.Walk.{Walker}
-use Rattle.link_format.specs.Profile.{Profile}
-use Rattle.link_verdicts.specs.Verdicts.{CheckState}
-use Rattle.link_verdicts.specs.Checking.{FullNote, checker, at_floor}
-use Rattle.link_verdicts.specs.Going.{Goes}
-use Rattle.link_verdicts.specs.Holding.{HasWalked}
-use Rattle.link_verdicts.specs.Leaving.{leaves}
-use Rattle.link_verdicts.specs.Timely.{IsTimely}
-use Rattle.link_verdicts.proofs.Leavings.{leaves-none, leaves-silent, leaves-byte, fill_out-zero}
-use Rattle.link_verdicts.proofs.Resting.{goes-at, still-come, still-answers}
-use Rattle.check_receiver.specs.Runs.{BeginNone}
+use Rattle.burst_walk.specs.{HasCome.HasCome, Laid.tick_at, Walk.Walker}
 use Rattle.check_receiver.proofs.Resting.{comes}
 use Rattle.check_receiver.proofs.RunTicks.{RunsTo, runs-none, runs-first}
+use Rattle.{check_receiver.specs.Runs.BeginNone, frame_ending.specs.Cuts.cuts_after}
+use Rattle.frame_ending.specs.declared.cut.Cut.TheVariants.{Live, Extra, Quiet}
+use Rattle.line_rules.specs.{Rules.Rules, declared.line_rules.LineRules.Ghosts as LineRules}
+use Rattle.link_format.specs.Profile.{Profile}
+use Rattle.link_verdicts.proofs.Leavings.{leaves-none, leaves-silent, leaves-byte, fill_out-zero}
+use Rattle.link_verdicts.proofs.Resting.{goes-at, still-come, still-answers}
+use Rattle.link_verdicts.specs.Checking.{FullNote, checker, at_floor}
+use Rattle.link_verdicts.specs.{Going.Goes, Holding.HasWalked, Leaving.leaves, Timely.IsTimely}
+use Rattle.link_verdicts.specs.Verdicts.{CheckState}
+use Rattle.std.proofs.Common.{◌≡◌, ◌∙◌, ℕ, zero, suc, ◌+◌, ◌-◌, ◌<◌, Bool, List, [], ◌∷◌, ◌++◌}
+use Rattle.std.proofs.Common.{length, take, drop, get_or, map, refl, sym, ap, subst, arith}
+use Rattle.std.proofs.Common.{append_assoc, inl, inr, None}
+use Rattle.{std.proofs.lemmas.List.append-nil, yasir_ticks.proofs.SilenceLaws.bytes_in-append}
+use Rattle.yasir_ticks.specs.{Bursts.Burst, Bursts.bursts, Ticks.silent, Ticks.bytes_in}
+use Rattle.yasir_ticks.specs.declared.tick.Tick.{Tick, TheVariants.Silent, TheVariants.Byte}
 
 -- ---- ticks that begin no burst
 

@@ -1,39 +1,26 @@
 -- A tick that begins no burst, where no verdict is open.
+use Rattle.burst_walk.proofs.Coming.{RunsOn, closed-or-runs_on, come-runs_on, come-silent}
+use Rattle.burst_walk.specs.{HasCome.HasCome, declared.box_step.BoxStep.BoxStep}
+use Rattle.check_receiver.proofs.Machine.{waiting-none, until-last, flow, ring-waits, assembled}
+use Rattle.check_receiver.{proofs.OpenBursts.timely, specs.Between.IsBetween, specs.Runs.BeginsNone}
+use Rattle.check_receiver.specs.{Stands.HasTaken, Turning.Turned, declared.checker.Checker.Checker}
+use Rattle.frame_ending.proofs.Running.{divided-running, byte-lives, byte-over}
+use Rattle.frame_ending.specs.Cuts.{cut_of}
+use Rattle.frame_ending.specs.declared.cut.Cut.{Cut, TheVariants.Live, TheVariants.Extra}
+use Rattle.{hmac_tag.specs.declared.tag.Mac.Ghosts as Mac, line_rules.specs.Rules.Rules}
+use Rattle.line_rules.specs.{RulesLaws.IsLawful, declared.line_rules.LineRules.Ghosts as LineRules}
+use Rattle.link_format.specs.{Profile.Profile, Profile.profile_of, Setup.Setup}
+use Rattle.link_verdicts.proofs.Resting.{causal, rest-goes, knows-more}
+use Rattle.link_verdicts.specs.Checking.{checker, at_floor}
+use Rattle.link_verdicts.specs.{Holding.HasWalked, Timely.IsTimely, Verdicts.CheckState}
+use Rattle.link_verdicts.specs.declared.note.CheckNote.{CheckNote}
+use Rattle.sequence_journal.specs.declared.numbers.TheConstants.{LIMIT}
+use Rattle.spoiler.specs.Outlet.{Refuses, owed_by}
 use Rattle.std.proofs.Common.{◌≡◌, ◌∙◌, ◌⊎◌, ⊎_elim, ℕ, ◌-◌, false, List, [], ◌∷◌, ◌++◌, length}
 use Rattle.std.proofs.Common.{◌<◌, drop, sym, ap, subst, arith, Option, None, IfNone}
 use Rattle.std.proofs.lemmas.List.{length-drop, append-nil}
-use Rattle.yasir_ticks.specs.Bursts.{Burst, bursts}
-use Rattle.yasir_ticks.specs.Ticks.{bytes_in}
-use Rattle.yasir_ticks.specs.declared.tick.Tick.{Tick}
-use Rattle.yasir_ticks.specs.declared.tick.Tick.TheVariants.{Silent, Byte}
-use Rattle.line_rules.specs.Rules.{Rules}
-use Rattle.line_rules.specs.RulesLaws.{IsLawful}
-use Rattle.line_rules.specs.declared.line_rules.LineRules.{Ghosts as LineRules}
-use Rattle.frame_ending.specs.Cuts.{cut_of}
-use Rattle.frame_ending.specs.declared.cut.Cut.{Cut}
-use Rattle.frame_ending.specs.declared.cut.Cut.TheVariants.{Live, Extra}
-use Rattle.frame_ending.proofs.Running.{divided-running, byte-lives, byte-over}
-use Rattle.spoiler.specs.Outlet.{Refuses, owed_by}
-use Rattle.burst_walk.specs.HasCome.{HasCome}
-use Rattle.burst_walk.proofs.Coming.{RunsOn, closed-or-runs_on, come-runs_on, come-silent}
-use Rattle.hmac_tag.specs.declared.tag.Mac.{Ghosts as Mac}
-use Rattle.link_format.specs.Profile.{Profile, profile_of}
-use Rattle.link_format.specs.Setup.{Setup}
-use Rattle.sequence_journal.specs.declared.numbers.TheConstants.{LIMIT}
-use Rattle.link_verdicts.specs.Verdicts.{CheckState}
-use Rattle.link_verdicts.specs.Checking.{checker, at_floor}
-use Rattle.link_verdicts.specs.Holding.{HasWalked}
-use Rattle.link_verdicts.proofs.Resting.{causal, rest-goes, knows-more}
-use Rattle.check_receiver.specs.Between.{IsBetween}
-use Rattle.check_receiver.specs.Stands.{HasTaken}
-use Rattle.check_receiver.specs.Turning.{Turned}
-use Rattle.check_receiver.specs.declared.checker.Checker.{Checker}
-use Rattle.burst_walk.specs.declared.box_step.BoxStep.{BoxStep}
-use Rattle.link_verdicts.specs.declared.note.CheckNote.{CheckNote}
-use Rattle.check_receiver.proofs.Machine.{waiting-none, until-last, flow, ring-waits, assembled}
-use Rattle.check_receiver.proofs.OpenBursts.{timely}
-use Rattle.link_verdicts.specs.Timely.{IsTimely}
-use Rattle.check_receiver.specs.Runs.{BeginsNone}
+use Rattle.yasir_ticks.specs.{Bursts.Burst, Bursts.bursts, Ticks.bytes_in}
+use Rattle.yasir_ticks.specs.declared.tick.Tick.{Tick, TheVariants.Silent, TheVariants.Byte}
 
 -- a byte that begins no burst comes while one runs
 runs-on : (rules : Rules) (lawful : IsLawful rules) (line : List Tick) (b : ℕ)

@@ -1,25 +1,17 @@
 -- Runs of ticks without a note, joined from single ticks, and what they make of a ring.
+use Rattle.burst_walk.proofs.Runs.{run-none, run-joined, run-tick}
+use Rattle.burst_walk.specs.{Answered.answered, Runs.AnswersRun, Walk.Walker}
+use Rattle.{check_receiver.specs.Runs.IsFront, line_rules.specs.Rules.Rules}
+use Rattle.link_format.specs.Profile.{Profile}
+use Rattle.link_verdicts.specs.Checking.{FullNote, checker, at_floor, brief_note}
+use Rattle.link_verdicts.specs.{Going.Goes, Holding.HasWalked, Verdicts.CheckState}
 use Rattle.std.proofs.Common.{◌≡◌, ◌∙◌, ℕ, zero, suc, ◌+◌, ◌<◌, ◌≤◌, Bool, List, [], ◌∷◌, ◌++◌}
 use Rattle.std.proofs.Common.{length, take, drop, get_or, map, refl, sym, ap, subst, arith}
 use Rattle.std.proofs.Common.{append_assoc, ⊎_elim, Option, None, ◌⊎◌}
-use Rattle.std.proofs.lemmas.List.{append-nil, length-take-le, get_or-take}
-use Rattle.std.proofs.lemmas.Bool.{cases_lt}
-use Rattle.yasir_ticks.specs.Ticks.{silent, bytes_in}
-use Rattle.yasir_ticks.specs.Bursts.{Burst, bursts}
-use Rattle.yasir_ticks.specs.declared.tick.Tick.{Tick}
-use Rattle.yasir_ticks.specs.declared.tick.Tick.TheVariants.{Silent, Byte}
+use Rattle.std.proofs.lemmas.{Bool.cases_lt, List.append-nil, List.length-take-le, List.get_or-take}
 use Rattle.yasir_ticks.proofs.SilenceLaws.{bytes_in-append}
-use Rattle.line_rules.specs.Rules.{Rules}
-use Rattle.burst_walk.specs.Answered.{answered}
-use Rattle.burst_walk.specs.Runs.{AnswersRun}
-use Rattle.burst_walk.specs.Walk.{Walker}
-use Rattle.burst_walk.proofs.Runs.{run-none, run-joined, run-tick}
-use Rattle.link_format.specs.Profile.{Profile}
-use Rattle.link_verdicts.specs.Verdicts.{CheckState}
-use Rattle.link_verdicts.specs.Checking.{FullNote, checker, at_floor, brief_note}
-use Rattle.link_verdicts.specs.Going.{Goes}
-use Rattle.link_verdicts.specs.Holding.{HasWalked}
-use Rattle.check_receiver.specs.Runs.{IsFront}
+use Rattle.yasir_ticks.specs.{Bursts.Burst, Bursts.bursts, Ticks.silent, Ticks.bytes_in}
+use Rattle.yasir_ticks.specs.declared.tick.Tick.{Tick, TheVariants.Silent, TheVariants.Byte}
 
 -- ---- what a ring makes of ticks that enter
 

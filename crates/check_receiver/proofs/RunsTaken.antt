@@ -1,53 +1,38 @@
 -- The receiver after a run of ticks.
-use Rattle.std.proofs.Common.{◌≡◌, ◌∙◌, ℕ, ◌+◌, ◌-◌, ◌<◌, ◌≤◌, Bool, true, false, List}
-use Rattle.std.proofs.Common.{[], ◌∷◌, ◌++◌, inr, length, take, drop, map, refl, sym, ap, subst}
-use Rattle.std.proofs.Common.{arith, append_assoc, Option, Some, None, IfSome, IfNone, ⊎_elim, is_some}
-use Rattle.std.proofs.lemmas.Bool.{cases_lt}
-use Rattle.std.proofs.lemmas.List.{length-drop, take-append-le, drop-append-le}
-use Rattle.std.proofs.lemmas.List.{take-append-drop, replicate-append-replicate}
-use Rattle.yasir_ticks.specs.Ticks.{silent, bytes_in}
-use Rattle.yasir_ticks.specs.Bursts.{Burst, bursts}
-use Rattle.yasir_ticks.specs.declared.tick.Tick.{Tick}
-use Rattle.yasir_ticks.specs.declared.tick.Tick.TheVariants.{Silent, Byte}
-use Rattle.yasir_ticks.proofs.SilenceLaws.{bytes_in-append}
+use Rattle.{burst_walk.specs.Answered.answered, check_receiver.proofs.Lending.ring-whole}
+use Rattle.check_receiver.proofs.{LiveRuns.LiveRun, LiveRuns.live-run, Machine.waiting-none}
+use Rattle.check_receiver.proofs.{Machine.waiting-some, OpenBursts.timely, OpenBursts.open-walks}
+use Rattle.check_receiver.proofs.{PauseRuns.pause-run, RestRuns.idle-run, RestRuns.flow-run}
+use Rattle.check_receiver.proofs.{RunTicks.RunsTo, RunTicks.front-answered, TrailerRuns.trailer-run}
+use Rattle.check_receiver.specs.{Arrivals.bytes_come, Runs.HasTakenRun, Runs.BeginNone}
+use Rattle.check_receiver.specs.{Runs.IsFront, Runs.KeepsHeader, Stands.MacHolds, Stands.StandsAt}
+use Rattle.check_receiver.specs.declared.{arriving.Arriving.Arriving, checker.Checker.Checker}
+use Rattle.delay_ring.specs.DelayRing.{ring_ticks, AreAlike}
+use Rattle.delay_ring.specs.declared.delay_ring.DelayRing.{DelayRing}
+use Rattle.frame_ending.specs.{Cuts.cuts_after, LiveBytes.live_bytes, SoFar.live_bytes_in}
+use Rattle.frame_ending.specs.{SoFar.live_bytes_so_far, Stands.StandsFor as CutStandsFor}
+use Rattle.frame_ending.specs.declared.burst_cut.BurstCut.{BurstCut}
+use Rattle.frame_ending.specs.declared.cut.Cut.TheVariants.{Live, Extra}
+use Rattle.hmac_tag.specs.declared.tag.Mac.{Ghosts as Mac}
 use Rattle.line_rules.specs.Rules.{Rules, head_of}
 use Rattle.line_rules.specs.declared.head.Head.TheVariants.{Good, Short}
 use Rattle.line_rules.specs.declared.line_rules.LineRules.{Ghosts as LineRules}
-use Rattle.frame_ending.specs.Cuts.{cuts_after}
-use Rattle.frame_ending.specs.LiveBytes.{live_bytes}
-use Rattle.frame_ending.specs.SoFar.{live_bytes_in, live_bytes_so_far}
-use Rattle.frame_ending.specs.Stands.{StandsFor as CutStandsFor}
-use Rattle.frame_ending.specs.declared.burst_cut.BurstCut.{BurstCut}
-use Rattle.frame_ending.specs.declared.cut.Cut.TheVariants.{Live, Extra}
-use Rattle.delay_ring.specs.DelayRing.{ring_ticks, AreAlike}
-use Rattle.delay_ring.specs.declared.delay_ring.DelayRing.{DelayRing}
-use Rattle.spoiler.specs.Outlet.{Refuses, owed_by}
-use Rattle.spoiler.proofs.Standing.{stands-unowed}
-use Rattle.burst_walk.specs.Answered.{answered}
-use Rattle.hmac_tag.specs.declared.tag.Mac.{Ghosts as Mac}
-use Rattle.link_format.specs.Profile.{Profile, profile_of, delay}
-use Rattle.link_format.specs.Setup.{Setup}
-use Rattle.sequence_journal.specs.declared.numbers.TheConstants.{LIMIT}
+use Rattle.link_format.specs.{Profile.Profile, Profile.profile_of, Profile.delay, Setup.Setup}
+use Rattle.link_verdicts.proofs.{Judging.head-short, Opened.IsOpen}
+use Rattle.link_verdicts.proofs.Opened.{last-of, may-of, long-of, unowed-of, bare-of, trailer-long}
+use Rattle.link_verdicts.proofs.{Opened.nothing-after, Settling.after-long}
+use Rattle.link_verdicts.specs.{Holding.HasWalked, Holding.trailer_so_far, Timely.IsTimely}
 use Rattle.link_verdicts.specs.Verdicts.{CheckState, after_live}
-use Rattle.link_verdicts.specs.Holding.{HasWalked, trailer_so_far}
-use Rattle.link_verdicts.specs.Timely.{IsTimely}
-use Rattle.link_verdicts.proofs.Judging.{head-short}
-use Rattle.link_verdicts.proofs.Settling.{after-long}
-use Rattle.check_receiver.specs.Arrivals.{bytes_come}
-use Rattle.check_receiver.specs.Runs.{HasTakenRun, BeginNone, IsFront, KeepsHeader}
-use Rattle.check_receiver.specs.Stands.{MacHolds, StandsAt}
-use Rattle.check_receiver.specs.declared.checker.Checker.{Checker}
-use Rattle.check_receiver.proofs.LiveRuns.{LiveRun, live-run}
-use Rattle.check_receiver.proofs.Machine.{waiting-none, waiting-some}
-use Rattle.check_receiver.proofs.PauseRuns.{pause-run}
-use Rattle.check_receiver.proofs.RestRuns.{idle-run, flow-run}
-use Rattle.check_receiver.proofs.RunTicks.{RunsTo, front-answered}
-use Rattle.check_receiver.proofs.OpenBursts.{timely, open-walks}
-use Rattle.check_receiver.proofs.TrailerRuns.{trailer-run}
-use Rattle.check_receiver.specs.declared.arriving.Arriving.{Arriving}
-use Rattle.link_verdicts.proofs.Opened.{IsOpen, last-of, may-of, long-of, unowed-of, bare-of}
-use Rattle.link_verdicts.proofs.Opened.{trailer-long, nothing-after}
-use Rattle.check_receiver.proofs.Lending.{ring-whole}
+use Rattle.sequence_journal.specs.declared.numbers.TheConstants.{LIMIT}
+use Rattle.spoiler.{proofs.Standing.stands-unowed, specs.Outlet.Refuses, specs.Outlet.owed_by}
+use Rattle.std.proofs.Common.{◌≡◌, ◌∙◌, ℕ, ◌+◌, ◌-◌, ◌<◌, ◌≤◌, Bool, true, false, List, [], ◌∷◌}
+use Rattle.std.proofs.Common.{◌++◌, inr, length, take, drop, map, refl, sym, ap, subst, arith}
+use Rattle.std.proofs.Common.{append_assoc, Option, Some, None, IfSome, IfNone, ⊎_elim, is_some}
+use Rattle.std.proofs.lemmas.{Bool.cases_lt, List.length-drop, List.take-append-le}
+use Rattle.std.proofs.lemmas.List.{drop-append-le, take-append-drop, replicate-append-replicate}
+use Rattle.yasir_ticks.proofs.SilenceLaws.{bytes_in-append}
+use Rattle.yasir_ticks.specs.{Bursts.Burst, Bursts.bursts, Ticks.silent, Ticks.bytes_in}
+use Rattle.yasir_ticks.specs.declared.tick.Tick.{Tick, TheVariants.Silent, TheVariants.Byte}
 
 no-ticks : (x : List Tick) → length x ≡ 0 → x ≡ []
 no-ticks [] none = refl

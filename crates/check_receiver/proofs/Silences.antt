@@ -1,43 +1,28 @@
 -- A silent tick.
-use Rattle.std.proofs.Common.{◌≡◌, ◌∙◌, ℕ, ◌+◌, ◌-◌, ◌<◌, ◌≤◌, true, false, List, [], ◌∷◌}
-use Rattle.std.proofs.Common.{◌++◌, length, drop, ap, sym, subst, arith, refl}
-use Rattle.std.proofs.Common.{Option, Some, None, IfSome}
-use Rattle.std.proofs.lemmas.List.{length-drop}
-use Rattle.yasir_ticks.specs.Bursts.{Burst}
-use Rattle.yasir_ticks.specs.declared.tick.Tick.{Tick}
-use Rattle.yasir_ticks.specs.declared.tick.Tick.TheVariants.{Silent}
-use Rattle.line_rules.specs.Rules.{left_of}
-use Rattle.line_rules.specs.declared.line_rules.LineRules.{Ghosts as LineRules}
-use Rattle.frame_ending.specs.declared.cut.Cut.{Cut}
-use Rattle.frame_ending.specs.LiveBytes.{live_bytes, live_end}
-use Rattle.frame_ending.specs.SoFar.{last_burst, start_in, start_so_far, live_bytes_in}
-use Rattle.frame_ending.specs.SoFar.{live_bytes_so_far}
-use Rattle.frame_ending.proofs.LastBurst.{last_burst-silent}
-use Rattle.frame_ending.proofs.Dividing.{longer-line}
-use Rattle.spoiler.specs.Outlet.{Refuses, owed_by}
-use Rattle.spoiler.proofs.Standing.{stands-unowed}
-use Rattle.hmac_tag.specs.declared.tag.Mac.{Ghosts as Mac}
-use Rattle.link_format.specs.Profile.{Profile, profile_of, delay}
-use Rattle.link_format.specs.Setup.{Setup}
-use Rattle.sequence_journal.specs.declared.numbers.TheConstants.{LIMIT}
-use Rattle.link_verdicts.specs.Emissions.{owed}
-use Rattle.link_verdicts.specs.declared.note.CheckNote.TheVariants.{Refused}
-use Rattle.link_verdicts.specs.declared.note.RefusedWhy.TheVariants.{Trailer}
-use Rattle.link_verdicts.proofs.Opened.{opens-of, last-of, long-of, more-of, unowed-of, bytes-of}
-use Rattle.link_verdicts.proofs.Opened.{goes-as, bytes-next}
-use Rattle.link_verdicts.proofs.Opened.{silent-goes, silent-breaks}
-use Rattle.check_receiver.specs.Between.{IsBetween}
-use Rattle.check_receiver.specs.Stands.{MacHolds, HasTaken}
-use Rattle.check_receiver.specs.Turning.{Turned, TurnedRefused, refused}
-use Rattle.check_receiver.specs.declared.checker.Checker.{Checker}
 use Rattle.burst_walk.specs.declared.box_step.BoxStep.{BoxStep}
-use Rattle.link_verdicts.specs.declared.note.CheckNote.{CheckNote}
-use Rattle.check_receiver.proofs.Machine.{ring-waits}
-use Rattle.check_receiver.proofs.Machine.{assembled}
-use Rattle.check_receiver.proofs.OpenBursts.{open-walks, moved}
+use Rattle.check_receiver.proofs.{Machine.ring-waits, Machine.assembled, OpenBursts.open-walks}
+use Rattle.check_receiver.{proofs.OpenBursts.moved, specs.Between.IsBetween, specs.Stands.MacHolds}
+use Rattle.check_receiver.specs.{Stands.HasTaken, Turning.Turned, Turning.TurnedRefused}
+use Rattle.check_receiver.specs.{Turning.refused, declared.checker.Checker.Checker}
+use Rattle.frame_ending.proofs.{Dividing.longer-line, LastBurst.last_burst-silent}
+use Rattle.frame_ending.specs.{LiveBytes.live_bytes, LiveBytes.live_end, SoFar.last_burst}
+use Rattle.frame_ending.specs.SoFar.{start_in, start_so_far, live_bytes_in, live_bytes_so_far}
+use Rattle.{frame_ending.specs.declared.cut.Cut.Cut, hmac_tag.specs.declared.tag.Mac.Ghosts as Mac}
+use Rattle.line_rules.specs.{Rules.left_of, declared.line_rules.LineRules.Ghosts as LineRules}
+use Rattle.link_format.specs.{Profile.Profile, Profile.profile_of, Profile.delay, Setup.Setup}
+use Rattle.link_verdicts.proofs.Opened.{opens-of, last-of, long-of, more-of, unowed-of, bytes-of}
+use Rattle.link_verdicts.proofs.Opened.{goes-as, bytes-next, silent-goes, silent-breaks}
+use Rattle.link_verdicts.specs.Emissions.{owed}
+use Rattle.link_verdicts.specs.declared.note.CheckNote.{CheckNote, TheVariants.Refused}
+use Rattle.link_verdicts.specs.declared.note.RefusedWhy.TheVariants.{Trailer}
+use Rattle.sequence_journal.specs.declared.numbers.TheConstants.{LIMIT}
+use Rattle.spoiler.{proofs.Standing.stands-unowed, specs.Outlet.Refuses, specs.Outlet.owed_by}
+use Rattle.std.proofs.Common.{◌≡◌, ◌∙◌, ℕ, ◌+◌, ◌-◌, ◌<◌, ◌≤◌, true, false, List, [], ◌∷◌, ◌++◌}
+use Rattle.std.proofs.Common.{length, drop, ap, sym, subst, arith, refl, Option, Some, None, IfSome}
+use Rattle.{std.proofs.lemmas.List.length-drop, yasir_ticks.specs.Bursts.Burst}
+use Rattle.yasir_ticks.specs.declared.tick.Tick.{Tick, TheVariants.Silent}
 pub use Rattle.check_receiver.proofs.OpenBursts.{timely}
-use Rattle.std.proofs.Common.{◌==◌, take}
-use Rattle.std.proofs.lemmas.Bool.{ne_eqb}
+use Rattle.std.proofs.{Common.◌==◌, Common.take, lemmas.Bool.ne_eqb}
 use Rattle.yasir_ticks.specs.Ticks.{bytes_in}
 
 -- where more than one live tick is to leave, this step's isn't the last one

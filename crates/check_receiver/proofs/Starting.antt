@@ -1,66 +1,46 @@
 -- The first byte of a burst.
+use Rattle.burst_walk.proofs.Coming.{closed-or-runs_on, come-alone, waiting-may}
+use Rattle.burst_walk.specs.{HasCome.HasCome, declared.box_step.BoxStep.BoxStep}
+use Rattle.check_receiver.proofs.{Beginnings.ring-still, Dropping.drops}
+use Rattle.check_receiver.proofs.Heads.{head-is-bad, head-isn't-short}
+use Rattle.check_receiver.proofs.Machine.{until-last, flow, ring-waits, assembled}
+use Rattle.check_receiver.{proofs.OpenBursts.timely, specs.Arrivals.bytes_come}
+use Rattle.check_receiver.specs.{Between.IsBetween, Stands.MacHolds, Stands.HasTaken}
+use Rattle.check_receiver.specs.Turning.{Turned, TurnedClear, with_until}
+use Rattle.check_receiver.specs.declared.{arriving.Arriving.Arriving, checker.Checker.Checker}
+use Rattle.delay_ring.specs.DelayRing.{ring_ticks}
+use Rattle.frame_ending.proofs.{Pauses.up_to_byte-le, Running.byte-starts, Running.start-bytes}
+use Rattle.frame_ending.specs.{Cuts.cut_of, LiveBytes.live_bytes, LiveBytes.live_end}
+use Rattle.frame_ending.specs.SoFar.{last_of, last_burst, start_in, start_so_far, live_bytes_in}
+use Rattle.frame_ending.specs.{SoFar.live_bytes_so_far, declared.cut.Cut.TheVariants.Start}
+use Rattle.{hmac_tag.specs.declared.tag.Mac.Ghosts as Mac, line_rules.specs.Rules.Rules}
+use Rattle.line_rules.specs.{Rules.head_of, RulesLaws.IsLawful, declared.head.Head.TheVariants.Bad}
+use Rattle.line_rules.specs.declared.line_rules.LineRules.{Ghosts as LineRules}
+use Rattle.link_format.specs.{Profile.Profile, Profile.profile_of, Profile.delay, Setup.Setup}
+use Rattle.link_verdicts.proofs.Beginning.{rests-none, live-none, begun-end, begun-seen}
+use Rattle.link_verdicts.proofs.{Beginning.opens-begun, Judging.head-bad, Judging.checked-busy}
+use Rattle.link_verdicts.proofs.{Judging.checked-bad, Opened.nothing-after, Opened.last_of-more}
+use Rattle.link_verdicts.proofs.Opening.{open-goes, length-silent}
+use Rattle.link_verdicts.proofs.Resting.{causal, rest-drops, knows-more}
+use Rattle.link_verdicts.proofs.{Rings.ring-first, Rings.ring-begun, Settling.after-long}
+use Rattle.link_verdicts.specs.Checking.{checker, at_floor, head_tick, note_tick}
+use Rattle.link_verdicts.specs.Holding.{HasWalked, Opens, trailer_so_far}
+use Rattle.link_verdicts.specs.{Timely.IsTimely, Turns.HasTurned, Turns.tick_or_silence}
+use Rattle.link_verdicts.specs.Verdicts.{CheckState, after_live, Verdict.dropped as dropped_for}
+use Rattle.link_verdicts.specs.declared.note.CheckNote.{CheckNote, TheVariants.Dropped}
+use Rattle.link_verdicts.specs.declared.note.DroppedWhy.TheVariants.{Busy, Head as NoHead}
+use Rattle.sequence_journal.specs.declared.numbers.TheConstants.{LIMIT}
+use Rattle.spoiler.proofs.Standing.{stands-unowed}
+use Rattle.spoiler.specs.Outlet.{StandsFor as OutletStandsFor, Refuses, owed_by, filled}
+use Rattle.spoiler.specs.{Outlet.filled_bytes, declared.outlet.Outlet.Outlet}
 use Rattle.std.proofs.Common.{◌≡◌, ◌∙◌, ℕ, ◌+◌, ◌-◌, ◌<◌, ◌≤◌, ◌==◌, true, false, List, [], ◌∷◌}
 use Rattle.std.proofs.Common.{◌++◌, length, take, drop, get_or, refl, sym, ap, subst, arith, ⊎_elim}
 use Rattle.std.proofs.Common.{Option, Some, None, IfNone, is_some}
-use Rattle.std.proofs.lemmas.Bool.{cases_Bool}
-use Rattle.std.proofs.lemmas.List.{append-nil, length-drop}
-use Rattle.yasir_ticks.specs.Ticks.{silent, bytes_in}
-use Rattle.yasir_ticks.specs.Bursts.{Burst, bursts, end_of, AreClosed}
-use Rattle.yasir_ticks.specs.BurstsOf.{one}
-use Rattle.yasir_ticks.specs.declared.tick.Tick.{Tick}
-use Rattle.yasir_ticks.specs.declared.tick.Tick.TheVariants.{Silent, Byte}
+use Rattle.std.proofs.lemmas.{Bool.cases_Bool, List.append-nil, List.length-drop}
 use Rattle.yasir_ticks.proofs.BurstLaws.{alone}
-use Rattle.line_rules.specs.Rules.{Rules, head_of}
-use Rattle.line_rules.specs.RulesLaws.{IsLawful}
-use Rattle.line_rules.specs.declared.head.Head.TheVariants.{Bad}
-use Rattle.line_rules.specs.declared.line_rules.LineRules.{Ghosts as LineRules}
-use Rattle.frame_ending.specs.Cuts.{cut_of}
-use Rattle.frame_ending.specs.declared.cut.Cut.TheVariants.{Start}
-use Rattle.frame_ending.specs.LiveBytes.{live_bytes, live_end}
-use Rattle.frame_ending.specs.SoFar.{last_of, last_burst, start_in, start_so_far, live_bytes_in}
-use Rattle.frame_ending.specs.SoFar.{live_bytes_so_far}
-use Rattle.frame_ending.proofs.Pauses.{up_to_byte-le}
-use Rattle.frame_ending.proofs.Running.{byte-starts, start-bytes}
-use Rattle.delay_ring.specs.DelayRing.{ring_ticks}
-use Rattle.spoiler.specs.declared.outlet.Outlet.{Outlet}
-use Rattle.spoiler.specs.Outlet.{StandsFor as OutletStandsFor, Refuses, owed_by, filled}
-use Rattle.spoiler.specs.Outlet.{filled_bytes}
-use Rattle.spoiler.proofs.Standing.{stands-unowed}
-use Rattle.burst_walk.specs.HasCome.{HasCome}
-use Rattle.burst_walk.proofs.Coming.{closed-or-runs_on, come-alone, waiting-may}
-use Rattle.hmac_tag.specs.declared.tag.Mac.{Ghosts as Mac}
-use Rattle.link_format.specs.Profile.{Profile, profile_of, delay}
-use Rattle.link_format.specs.Setup.{Setup}
-use Rattle.sequence_journal.specs.declared.numbers.TheConstants.{LIMIT}
-use Rattle.link_verdicts.specs.Verdicts.{CheckState, after_live}
-use Rattle.link_verdicts.specs.Verdicts.Verdict.{dropped as dropped_for}
-use Rattle.link_verdicts.specs.Checking.{checker, at_floor, head_tick, note_tick}
-use Rattle.link_verdicts.specs.Holding.{HasWalked, Opens, trailer_so_far}
-use Rattle.link_verdicts.specs.Timely.{IsTimely}
-use Rattle.link_verdicts.specs.Turns.{HasTurned, tick_or_silence}
-use Rattle.link_verdicts.specs.declared.note.CheckNote.TheVariants.{Dropped}
-use Rattle.link_verdicts.specs.declared.note.DroppedWhy.TheVariants.{Busy, Head as NoHead}
-use Rattle.link_verdicts.proofs.Beginning.{rests-none, live-none, begun-end, begun-seen}
-use Rattle.link_verdicts.proofs.Beginning.{opens-begun}
-use Rattle.link_verdicts.proofs.Judging.{head-bad, checked-busy, checked-bad}
-use Rattle.link_verdicts.proofs.Opened.{nothing-after, last_of-more}
-use Rattle.link_verdicts.proofs.Opening.{open-goes, length-silent}
-use Rattle.link_verdicts.proofs.Resting.{causal, rest-drops, knows-more}
-use Rattle.link_verdicts.proofs.Rings.{ring-first, ring-begun}
-use Rattle.link_verdicts.proofs.Settling.{after-long}
-use Rattle.check_receiver.specs.Arrivals.{bytes_come}
-use Rattle.check_receiver.specs.Between.{IsBetween}
-use Rattle.check_receiver.specs.Stands.{MacHolds, HasTaken}
-use Rattle.check_receiver.specs.Turning.{Turned, TurnedClear, with_until}
-use Rattle.check_receiver.specs.declared.arriving.Arriving.{Arriving}
-use Rattle.check_receiver.specs.declared.checker.Checker.{Checker}
-use Rattle.burst_walk.specs.declared.box_step.BoxStep.{BoxStep}
-use Rattle.link_verdicts.specs.declared.note.CheckNote.{CheckNote}
-use Rattle.check_receiver.proofs.Heads.{head-is-bad, head-isn't-short}
-use Rattle.check_receiver.proofs.Machine.{until-last, flow, ring-waits, assembled}
-use Rattle.check_receiver.proofs.OpenBursts.{timely}
-use Rattle.check_receiver.proofs.Dropping.{drops}
-use Rattle.check_receiver.proofs.Beginnings.{ring-still}
+use Rattle.yasir_ticks.specs.Bursts.{Burst, bursts, end_of, AreClosed}
+use Rattle.yasir_ticks.specs.{BurstsOf.one, Ticks.silent, Ticks.bytes_in}
+use Rattle.yasir_ticks.specs.declared.tick.Tick.{Tick, TheVariants.Silent, TheVariants.Byte}
 
 -- ---- no burst runs before it
 

@@ -1,27 +1,18 @@
 -- A byte of a trailer is kept.
-use Rattle.std.proofs.Common.{◌≡◌, ℕ, ◌+◌, ◌<◌, ◌≤◌, true, List, [], ◌∷◌, ◌++◌, length}
-use Rattle.std.proofs.Common.{ap, subst, arith, None, ⊎_elim}
-use Rattle.yasir_ticks.specs.Bursts.{Burst}
-use Rattle.yasir_ticks.specs.declared.tick.Tick.{Tick}
-use Rattle.yasir_ticks.specs.declared.tick.Tick.TheVariants.{Silent}
-use Rattle.line_rules.specs.Rules.{Rules}
-use Rattle.line_rules.specs.declared.line_rules.LineRules.{Ghosts as LineRules}
-use Rattle.frame_ending.specs.declared.cut.Cut.TheVariants.{Extra}
-use Rattle.frame_ending.specs.LiveBytes.{live_end}
-use Rattle.burst_walk.specs.Causal.{going_on}
-use Rattle.hmac_tag.specs.declared.tag.Mac.{Ghosts as Mac}
-use Rattle.link_format.specs.Profile.{pause_len}
-use Rattle.link_format.specs.Setup.{Setup}
-use Rattle.check_receiver.specs.Arrivals.{bytes_come}
-use Rattle.check_receiver.specs.Between.{IsBetween, IsWhole}
-use Rattle.check_receiver.specs.Stands.{MacHolds, HasTaken}
-use Rattle.check_receiver.specs.Turning.{Turned}
-use Rattle.check_receiver.specs.declared.arriving.Arriving.{Arriving}
-use Rattle.check_receiver.specs.declared.checker.Checker.{Checker}
-use Rattle.burst_walk.specs.declared.box_step.BoxStep.{BoxStep}
-use Rattle.link_verdicts.specs.declared.note.CheckNote.{CheckNote}
+use Rattle.burst_walk.specs.{Causal.going_on, declared.box_step.BoxStep.BoxStep}
 use Rattle.check_receiver.proofs.Hearing.{Hears, hears-between, next-last, until-long, until-some}
 use Rattle.check_receiver.proofs.Hearing.{mac_holds, next-mac_holds, trailer-long, trailer-taken}
+use Rattle.check_receiver.specs.{Arrivals.bytes_come, Between.IsBetween, Between.IsWhole}
+use Rattle.check_receiver.specs.{Stands.MacHolds, Stands.HasTaken, Turning.Turned}
+use Rattle.check_receiver.specs.declared.{arriving.Arriving.Arriving, checker.Checker.Checker}
+use Rattle.frame_ending.specs.{LiveBytes.live_end, declared.cut.Cut.TheVariants.Extra}
+use Rattle.hmac_tag.specs.declared.tag.Mac.{Ghosts as Mac}
+use Rattle.line_rules.specs.{Rules.Rules, declared.line_rules.LineRules.Ghosts as LineRules}
+use Rattle.link_format.specs.{Profile.pause_len, Setup.Setup}
+use Rattle.{link_verdicts.specs.declared.note.CheckNote.CheckNote, std.proofs.Common.◌≡◌}
+use Rattle.std.proofs.Common.{ℕ, ◌+◌, ◌<◌, ◌≤◌, true, List, [], ◌∷◌, ◌++◌, length, ap, subst, arith}
+use Rattle.{std.proofs.Common.None, std.proofs.Common.⊎_elim, yasir_ticks.specs.Bursts.Burst}
+use Rattle.yasir_ticks.specs.declared.tick.Tick.{Tick, TheVariants.Silent}
 
 module _ {R M : Type 0} (proto : LineRules R) (macs : Mac M) {B D : ℕ} (old : Checker R M B D)
     (last : ℕ) (setup : Setup) (line : List Tick) (t : Tick) (b : ℕ)

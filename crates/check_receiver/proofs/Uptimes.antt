@@ -1,13 +1,12 @@
 -- The number of a step's note is the one that the step commits.
-use Rattle.std.proofs.Common.{Option, Some, None, Result, Ok, Err, IfOk}
-use Rattle.yasir_io.specs.declared.disk.SlotDisk.{Ghosts as SlotDisk}
-use Rattle.sequence_journal.specs.declared.journal.Journal.{Journal}
-use Rattle.sequence_journal.specs.declared.journal.JournalFault.{JournalFault}
-use Rattle.sequence_journal.specs.Uptimes.{CommitsAnswered}
+use Rattle.burst_walk.specs.declared.box_step.BoxStep.{BoxStep}
+use Rattle.check_receiver.specs.Checkings.{CommitsNoted, KeepsJournal, numbers_noted}
 use Rattle.link_verdicts.specs.declared.note.CheckNote.{CheckNote}
 use Rattle.link_verdicts.specs.declared.note.CheckNote.TheVariants.{Passed, Refused, Dropped}
-use Rattle.check_receiver.specs.Checkings.{CommitsNoted, KeepsJournal, numbers_noted}
-use Rattle.burst_walk.specs.declared.box_step.BoxStep.{BoxStep}
+use Rattle.sequence_journal.specs.Uptimes.{CommitsAnswered}
+use Rattle.sequence_journal.specs.declared.journal.{Journal.Journal, JournalFault.JournalFault}
+use Rattle.std.proofs.Common.{Option, Some, None, Result, Ok, Err, IfOk}
+use Rattle.yasir_io.specs.declared.disk.SlotDisk.{Ghosts as SlotDisk}
 
 module _ {S : Type 0} (d : SlotDisk S) (old new : Journal) (before after : S) where
   answered : (note : Option CheckNote) → CommitsNoted d old new before after note

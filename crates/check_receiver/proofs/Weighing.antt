@@ -1,28 +1,21 @@
 -- What has come of a whole trailer gives the verdict.
-use Rattle.std.proofs.Common.{◌≡◌, ◌∙◌, ℕ, ◌+◌, ◌^◌, ◌<◌, ◌≤◌, Bool, true, false, List, ◌∷◌, ◌++◌}
-use Rattle.std.proofs.Common.{length, drop, sym, ap, subst, arith, Option, Some, None, bytes_eq}
-use Rattle.std.specs.Int.{w64, to_be_bytes}
-use Rattle.std.proofs.lemmas.Bool.{cond-true, cond-false}
-use Rattle.byteorder.specs.Endian.{big_number}
-use Rattle.yasir_ticks.specs.Bursts.{Burst}
-use Rattle.yasir_ticks.specs.declared.tick.Tick.{Tick}
-use Rattle.line_rules.specs.Rules.{Rules, is_frame_of}
-use Rattle.line_rules.specs.declared.line_rules.LineRules.{Ghosts as LineRules}
+use Rattle.{byteorder.specs.Endian.big_number, check_receiver.specs.Arrivals.bytes_come}
+use Rattle.check_receiver.specs.{Stands.MacHolds, declared.arriving.Arriving.Arriving}
 use Rattle.frame_ending.specs.LiveBytes.{live_bytes}
 use Rattle.frame_ending.specs.SoFar.{last_burst, live_bytes_in, live_bytes_so_far}
-use Rattle.hmac_tag.specs.declared.tag.Mac.{Ghosts as Mac}
-use Rattle.link_format.specs.Profile.{Profile, profile_of}
-use Rattle.link_format.specs.Setup.{Setup}
-use Rattle.sequence_journal.specs.declared.numbers.TheConstants.{LIMIT}
-use Rattle.sequence_journal.specs.Numbers.{full_of}
+use Rattle.{hmac_tag.specs.declared.tag.Mac.Ghosts as Mac, line_rules.specs.Rules.Rules}
+use Rattle.line_rules.specs.{Rules.is_frame_of, declared.line_rules.LineRules.Ghosts as LineRules}
+use Rattle.link_format.specs.{Profile.Profile, Profile.profile_of, Setup.Setup}
+use Rattle.link_verdicts.{proofs.Passing.number-within, specs.Holding.trailer_so_far}
 use Rattle.link_verdicts.specs.Verdicts.{number_of, tag_in, verdict_by_number, whole_verdict}
 use Rattle.link_verdicts.specs.Verdicts.Verdict.{passed_with, refused}
-use Rattle.link_verdicts.specs.Holding.{trailer_so_far}
 use Rattle.link_verdicts.specs.declared.note.RefusedWhy.TheVariants.{Tag, Number}
-use Rattle.link_verdicts.proofs.Passing.{number-within}
-use Rattle.check_receiver.specs.Arrivals.{bytes_come}
-use Rattle.check_receiver.specs.Stands.{MacHolds}
-use Rattle.check_receiver.specs.declared.arriving.Arriving.{Arriving}
+use Rattle.sequence_journal.specs.{Numbers.full_of, declared.numbers.TheConstants.LIMIT}
+use Rattle.std.proofs.Common.{◌≡◌, ◌∙◌, ℕ, ◌+◌, ◌^◌, ◌<◌, ◌≤◌, Bool, true, false, List, ◌∷◌, ◌++◌}
+use Rattle.std.proofs.Common.{length, drop, sym, ap, subst, arith, Option, Some, None, bytes_eq}
+use Rattle.std.proofs.lemmas.Bool.{cond-true, cond-false}
+use Rattle.std.specs.Int.{w64, to_be_bytes}
+use Rattle.yasir_ticks.specs.{Bursts.Burst, declared.tick.Tick.Tick}
 
 -- the live bytes of the last burst are a frame
 pub last-frame : (rules : Rules) (line : List Tick) (d : Burst) (good : Bool)

@@ -1,8 +1,7 @@
 -- The number of a word doesn't depend on more than its remainder.
-use Rattle.std.proofs.Common.{◌≡◌, ◌∙◌, ℕ, ◌+◌, ◌-◌, ◌%◌, ◌<◌, nat_le, ap, arith, Some, None}
-use Rattle.std.proofs.Common.{if◌then◌else◌}
-use Rattle.std.proofs.Math.Nat.{mod-add-mod, mod-lt}
 use Rattle.sequence_journal.specs.Numbers.{least_with, full_of}
+use Rattle.std.proofs.Common.{◌≡◌, ◌∙◌, ℕ, ◌+◌, ◌-◌, ◌%◌, ◌<◌, nat_le, ap, arith, Some, None}
+use Rattle.std.proofs.{Common.if◌then◌else◌, Math.Nat.mod-add-mod, Math.Nat.mod-lt}
 
 least-mod : (m floor w : ℕ) → 0 < m → least_with m floor (w % m) ≡ least_with m floor w
 least-mod m floor w some =

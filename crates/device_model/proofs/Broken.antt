@@ -1,16 +1,13 @@
 -- Whether ticks are no frame, whatever their bytes are, as a byte follows them.
+use Rattle.device_model.specs.{RtuFamily.is_broken, RtuReads.begins_silent, RtuReads.has_silence}
+use Rattle.frame_ending.proofs.Pauses.{contiguous-ends}
 use Rattle.std.proofs.Common.{◌≡◌, ◌∙◌, ℕ, zero, suc, ◌+◌, ◌<◌, ◌≤◌, nat_lt, nat_le, Bool, true}
 use Rattle.std.proofs.Common.{false, ◌||◌, List, [], ◌∷◌, ◌++◌, length, refl, sym, ap, arith}
 use Rattle.std.proofs.Common.{⊎_elim, length-append, append_assoc}
 use Rattle.std.proofs.lemmas.Bool.{cases_lt, lt-ltb, le-ltb, le-leb, lt-leb, or_right, ltb-true}
+use Rattle.yasir_ticks.{proofs.SilenceLaws.bytes_in-append, specs.BurstsOf.IsContiguous}
 use Rattle.yasir_ticks.specs.Ticks.{silent, bytes_in}
-use Rattle.yasir_ticks.specs.BurstsOf.{IsContiguous}
-use Rattle.yasir_ticks.specs.declared.tick.Tick.{Tick}
-use Rattle.yasir_ticks.specs.declared.tick.Tick.TheVariants.{Silent, Byte}
-use Rattle.yasir_ticks.proofs.SilenceLaws.{bytes_in-append}
-use Rattle.frame_ending.proofs.Pauses.{contiguous-ends}
-use Rattle.device_model.specs.RtuReads.{begins_silent, has_silence}
-use Rattle.device_model.specs.RtuFamily.{is_broken}
+use Rattle.yasir_ticks.specs.declared.tick.Tick.{Tick, TheVariants.Silent, TheVariants.Byte}
 
 -- ---- silent ticks that are together
 

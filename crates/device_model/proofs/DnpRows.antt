@@ -1,15 +1,13 @@
 -- What a DNP3 device reads of small lines, computed: a reset of a link behind other bytes, a read
 -- of class data with silence inside, and frames that are damaged.
-use Rattle.std.proofs.Common.{◌≡◌, ℕ, List, [], ◌∷◌, ◌++◌, map, refl}
-use Rattle.line_rules.specs.Crc.{bit_step, bit_steps, byte_step, crc}
-use Rattle.yasir_ticks.specs.Ticks.{silent}
-use Rattle.yasir_ticks.specs.declared.tick.Tick.{Tick}
-use Rattle.yasir_ticks.specs.declared.tick.Tick.TheVariants.{Byte}
-use Rattle.line_rules.specs.Endings.{ends_in_check}
-use Rattle.dnp_link_frame.specs.Blocks.{begins_right, is_good_header, end_in_crcs, is_frame}
+use Rattle.device_model.specs.{DnpReads.dnp_reads, Hunt.hunt}
 use Rattle.dnp_link_frame.proofs.Rows.{reset_link, wrong_reset, read_class, cut_before_zeros}
-use Rattle.device_model.specs.Hunt.{hunt}
-use Rattle.device_model.specs.DnpReads.{dnp_reads}
+use Rattle.dnp_link_frame.specs.Blocks.{begins_right, is_good_header, end_in_crcs, is_frame}
+use Rattle.line_rules.specs.Crc.{bit_step, bit_steps, byte_step, crc}
+use Rattle.line_rules.specs.Endings.{ends_in_check}
+use Rattle.std.proofs.Common.{◌≡◌, ℕ, List, [], ◌∷◌, ◌++◌, map, refl}
+use Rattle.yasir_ticks.specs.Ticks.{silent}
+use Rattle.yasir_ticks.specs.declared.tick.Tick.{Tick, TheVariants.Byte}
 
 abbrev on_line : List ℕ → List Tick
 on_line x = map (λ b. Byte b) x

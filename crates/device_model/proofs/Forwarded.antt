@@ -1,29 +1,21 @@
 -- What a transmitter forwards as a frame is what a device reads.
+use Rattle.device_model.{proofs.ReadLaws.is_frame-long, specs.Forwarded.is_forwarded}
+use Rattle.device_model.specs.Forwarded.{frame_forwarded, is_ended_frame, frames_forwarded}
+use Rattle.device_model.specs.{Forwarded.rtu_forwarded, Frames.FrameRead, RtuReads.has_silence}
+use Rattle.device_model.specs.RtuReads.{is_frame_body, is_read, frame_in, frames_read, rtu_reads}
+use Rattle.frame_ending.proofs.Pauses.{ended, contiguous-ends, before_pause-whole}
+use Rattle.frame_ending.specs.LiveBytes.{before_pause, has_pause, spelled, live_bytes}
+use Rattle.rtu_frame.{proofs.FrameLaws.is_frame-true, specs.Frame.is_frame, specs.Rules.rtu_rules}
 use Rattle.std.proofs.Common.{◌≡◌, ◌∙◌, ℕ, ◌<◌, ◌≤◌, Bool, true, false, not, ◌&&◌, List, [], ◌∷◌}
 use Rattle.std.proofs.Common.{◌+◌, nat_le, cond, length, take, map, refl, sym, ap, subst, arith}
-use Rattle.std.proofs.Common.{⊎_elim}
-use Rattle.std.specs.Prelude.{filter}
-use Rattle.std.specs.List.{All, Contains}
-use Rattle.std.proofs.lemmas.Bool.{cases_Bool, cases_lt, lt-ltb, le-ltb}
-use Rattle.std.proofs.lemmas.List.{take_all, length-take}
+use Rattle.std.proofs.{Common.⊎_elim, lemmas.Bool.cases_Bool, lemmas.Bool.cases_lt}
+use Rattle.std.proofs.lemmas.{Bool.lt-ltb, Bool.le-ltb, List.take_all, List.length-take}
 use Rattle.std.proofs.lemmas.List.Elements.{All-nil, All-cons, All-contains}
-use Rattle.rtu_frame.specs.Frame.{is_frame}
-use Rattle.rtu_frame.specs.Rules.{rtu_rules}
-use Rattle.rtu_frame.proofs.FrameLaws.{is_frame-true}
-use Rattle.yasir_ticks.specs.Ticks.{bytes_in}
-use Rattle.yasir_ticks.specs.Bursts.{Burst, bursts, end_of}
-use Rattle.yasir_ticks.specs.BurstsOf.{IsContiguous, AreBursts}
-use Rattle.yasir_ticks.specs.declared.tick.Tick.{Tick}
-use Rattle.yasir_ticks.specs.declared.tick.Tick.TheVariants.{Silent, Byte}
+use Rattle.std.specs.{List.All, List.Contains, Prelude.filter}
 use Rattle.yasir_ticks.proofs.BurstsOfLaws.{bursts_from-are}
-use Rattle.frame_ending.specs.LiveBytes.{before_pause, has_pause, spelled, live_bytes}
-use Rattle.frame_ending.proofs.Pauses.{ended, contiguous-ends, before_pause-whole}
-use Rattle.device_model.specs.RtuReads.{has_silence, is_frame_body, is_read, frame_in}
-use Rattle.device_model.specs.RtuReads.{frames_read, rtu_reads}
-use Rattle.device_model.specs.Frames.{FrameRead}
-use Rattle.device_model.specs.Forwarded.{is_forwarded, frame_forwarded, is_ended_frame}
-use Rattle.device_model.specs.Forwarded.{frames_forwarded, rtu_forwarded}
-use Rattle.device_model.proofs.ReadLaws.{is_frame-long}
+use Rattle.yasir_ticks.specs.Bursts.{Burst, bursts, end_of}
+use Rattle.yasir_ticks.specs.{BurstsOf.IsContiguous, BurstsOf.AreBursts, Ticks.bytes_in}
+use Rattle.yasir_ticks.specs.declared.tick.Tick.{Tick, TheVariants.Silent, TheVariants.Byte}
 
 -- ---- the bursts of a line are contiguous
 

@@ -1,26 +1,24 @@
 -- The hunt by cases, and what is undecided.
-use Rattle.std.proofs.Common.{◌≡◌, ◌∙◌, ℕ, zero, suc, ◌-◌, ◌<◌, ◌≤◌, nat_lt, true}
-use Rattle.std.proofs.Common.{false, ◌&&◌, cond, List, [], ◌∷◌, ◌++◌, length, take, drop, refl}
-use Rattle.std.proofs.Common.{sym, ap, subst, arith, ⊎_elim, length-append}
-use Rattle.std.proofs.lemmas.Bool.{cond-true, cond-false, cases_lt, cases_Bool, le-leb, lt-ltb}
-use Rattle.std.proofs.lemmas.List.{take_all, take-append-drop, length-take-le, take-map}
-use Rattle.line_rules.specs.Rules.{Rules, head_of, left_by, left_of}
-use Rattle.line_rules.specs.RulesLaws.{IsLawful, IsHeaded, IsFramed}
-use Rattle.line_rules.specs.declared.head.Head.{Head}
-use Rattle.line_rules.specs.declared.head.Head.TheVariants.{Short, Good, Bad}
-use Rattle.device_model.specs.declared.hunting.Next.{Next}
-use Rattle.device_model.specs.declared.hunting.Next.TheVariants.{Waits, Loses, Ends}
-use Rattle.device_model.specs.Frames.{FrameRead}
+use Rattle.device_model.proofs.Heads.{head-short, head-good, head-bad, good-long, good-header}
+use Rattle.device_model.proofs.Heads.{bad-long, short-short, head-more}
+use Rattle.device_model.proofs.Hunts.{timed_bytes-length, begins-more, begins-front, hunt-none}
+use Rattle.device_model.proofs.Hunts.{hunt-no_start, taken-is, found-is, hunt-few, hunt-taken}
+use Rattle.device_model.{proofs.Hunts.taken_by-more, specs.Frames.FrameRead}
 use Rattle.device_model.specs.Hunt.{Timed, timed_bytes, header_in, taken_by, frame_of, found_by}
 use Rattle.device_model.specs.Hunt.{begins, bytes_taken, found, hunt}
 use Rattle.device_model.specs.HuntLaws.{IsHunted, whole_frame, HuntsByCases}
 use Rattle.device_model.specs.HuntingDevice.{IsUndecided, nothing, first_byte, header_begun}
 use Rattle.device_model.specs.HuntingDevice.{next_by, next_of, frame_at}
-use Rattle.device_model.proofs.Heads.{head-short, head-good, head-bad, good-long, good-header}
-use Rattle.device_model.proofs.Heads.{bad-long, short-short, head-more}
-use Rattle.device_model.proofs.Hunts.{timed_bytes-length, begins-more, begins-front, hunt-none}
-use Rattle.device_model.proofs.Hunts.{hunt-no_start, taken-is, found-is, hunt-few, hunt-taken}
-use Rattle.device_model.proofs.Hunts.{taken_by-more}
+use Rattle.device_model.specs.declared.hunting.Next.{Next, TheVariants.Waits, TheVariants.Loses}
+use Rattle.{device_model.specs.declared.hunting.Next.TheVariants.Ends, line_rules.specs.Rules.Rules}
+use Rattle.line_rules.specs.{Rules.head_of, Rules.left_by, Rules.left_of, RulesLaws.IsLawful}
+use Rattle.line_rules.specs.{RulesLaws.IsHeaded, RulesLaws.IsFramed, declared.head.Head.Head}
+use Rattle.line_rules.specs.declared.head.Head.TheVariants.{Short, Good, Bad}
+use Rattle.std.proofs.Common.{◌≡◌, ◌∙◌, ℕ, zero, suc, ◌-◌, ◌<◌, ◌≤◌, nat_lt, true, false, ◌&&◌}
+use Rattle.std.proofs.Common.{cond, List, [], ◌∷◌, ◌++◌, length, take, drop, refl, sym, ap, subst}
+use Rattle.std.proofs.Common.{arith, ⊎_elim, length-append}
+use Rattle.std.proofs.lemmas.Bool.{cond-true, cond-false, cases_lt, cases_Bool, le-leb, lt-ltb}
+use Rattle.std.proofs.lemmas.List.{take_all, take-append-drop, length-take-le, take-map}
 
 module _ (first second : ℕ) (rules : Rules) (headed : IsHeaded rules)
     (hunted : IsHunted first second rules) where

@@ -1,30 +1,22 @@
 -- The steps of a device that hunts anew after silence.
-use Rattle.std.proofs.Common.{◌≡◌, ◌∙◌, ℕ, zero, suc, ◌+◌, ◌<◌, ◌≤◌, ◌==◌, nat_lt, cond, true}
-use Rattle.std.proofs.Common.{false}
-use Rattle.std.proofs.Common.{List, [], ◌∷◌, ◌++◌, length, refl, sym, ap, subst, arith}
-use Rattle.std.proofs.Common.{append_assoc}
-use Rattle.std.proofs.Common.{Option, Some, None}
-use Rattle.std.proofs.lemmas.Bool.{eqb-true, eqb-false, lt-ltb, le-ltb, cond-true, cond-false}
-use Rattle.std.proofs.lemmas.List.{append-nil}
-use Rattle.std.proofs.lemmas.List.Concat.{flat_map-append}
-use Rattle.line_rules.specs.Rules.{Rules}
-use Rattle.line_rules.specs.declared.line_rules.LineRules.{Ghosts as LineRules}
-use Rattle.yasir_ticks.specs.Ticks.{silent}
-use Rattle.yasir_ticks.specs.Bursts.{Burst, bursts_from, end_of}
-use Rattle.yasir_ticks.specs.declared.tick.Tick.{Tick}
-use Rattle.yasir_ticks.specs.declared.tick.Tick.TheVariants.{Silent, Byte}
-use Rattle.yasir_ticks.proofs.BurstLaws.{alone}
-use Rattle.device_model.specs.declared.hunting_family.HuntingFamily.{HuntingFamily}
-use Rattle.device_model.specs.Frames.{FrameRead}
-use Rattle.device_model.specs.Hunt.{Timed, timed, hunt}
-use Rattle.device_model.specs.HuntingDevice.{HasHeard, HuntStandsFor, nothing}
-use Rattle.device_model.specs.HuntFamily.{hunt_bursts, hunt_family, timed_in, IsAnew, IsSince}
-use Rattle.device_model.specs.HuntFamily.{FamilyStandsFor}
-use Rattle.device_model.specs.Parted.{IsParted}
-use Rattle.device_model.proofs.Hunts.{hunt-none}
 use Rattle.device_model.proofs.HuntSteps.{timed-append, timed-byte, timed-silent}
+use Rattle.device_model.proofs.Hunts.{hunt-none}
 use Rattle.device_model.proofs.Parting.{longer, grown_by, parted-nothing, parted-begins}
 use Rattle.device_model.proofs.Parting.{parted-goes_on, parted-rests, parted-waits, parted-ends}
+use Rattle.device_model.specs.{Frames.FrameRead, Hunt.Timed, Hunt.timed, Hunt.hunt}
+use Rattle.device_model.specs.HuntFamily.{hunt_bursts, hunt_family, timed_in, IsAnew, IsSince}
+use Rattle.device_model.specs.HuntFamily.{FamilyStandsFor}
+use Rattle.device_model.specs.HuntingDevice.{HasHeard, HuntStandsFor, nothing}
+use Rattle.device_model.specs.{Parted.IsParted, declared.hunting_family.HuntingFamily.HuntingFamily}
+use Rattle.line_rules.specs.{Rules.Rules, declared.line_rules.LineRules.Ghosts as LineRules}
+use Rattle.std.proofs.Common.{◌≡◌, ◌∙◌, ℕ, zero, suc, ◌+◌, ◌<◌, ◌≤◌, ◌==◌, nat_lt, cond, true}
+use Rattle.std.proofs.Common.{false, List, [], ◌∷◌, ◌++◌, length, refl, sym, ap, subst, arith}
+use Rattle.std.proofs.Common.{append_assoc, Option, Some, None}
+use Rattle.std.proofs.lemmas.Bool.{eqb-true, eqb-false, lt-ltb, le-ltb, cond-true, cond-false}
+use Rattle.std.proofs.lemmas.List.{append-nil, Concat.flat_map-append}
+use Rattle.yasir_ticks.proofs.BurstLaws.{alone}
+use Rattle.yasir_ticks.specs.{Bursts.Burst, Bursts.bursts_from, Bursts.end_of, Ticks.silent}
+use Rattle.yasir_ticks.specs.declared.tick.Tick.{Tick, TheVariants.Silent, TheVariants.Byte}
 
 abbrev pub byte_at : ℕ → ℕ → Timed
 byte_at n b = record { tick = n; byte = b }

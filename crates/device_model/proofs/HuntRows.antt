@@ -1,13 +1,10 @@
 -- What a hunt reads, computed with small rules: a header is 05 64, a count and that count again;
 -- the count says how many bytes follow; and the last byte of a frame is the count.
-use Rattle.std.proofs.Common.{◌≡◌, ℕ, ◌+◌, ◌-◌, ◌==◌, ◌&&◌, false, List, [], ◌∷◌, ◌++◌, length}
-use Rattle.std.proofs.Common.{get_or, refl}
-use Rattle.line_rules.specs.Rules.{Rules}
-use Rattle.yasir_ticks.specs.Ticks.{silent}
-use Rattle.yasir_ticks.specs.declared.tick.Tick.{Tick}
-use Rattle.yasir_ticks.specs.declared.tick.Tick.TheVariants.{Silent, Byte}
-use Rattle.device_model.specs.Frames.{FrameRead}
-use Rattle.device_model.specs.Hunt.{begins, hunt, hunt_line}
+use Rattle.device_model.specs.{Frames.FrameRead, Hunt.begins, Hunt.hunt, Hunt.hunt_line}
+use Rattle.{line_rules.specs.Rules.Rules, std.proofs.Common.◌≡◌}
+use Rattle.std.proofs.Common.{ℕ, ◌+◌, ◌-◌, ◌==◌, ◌&&◌, false, List, [], ◌∷◌, ◌++◌, length, get_or}
+use Rattle.{std.proofs.Common.refl, yasir_ticks.specs.Ticks.silent}
+use Rattle.yasir_ticks.specs.declared.tick.Tick.{Tick, TheVariants.Silent, TheVariants.Byte}
 
 abbrev small_rules : Rules
 small_rules = record {

@@ -1,33 +1,28 @@
 -- A device that hunts over a run of bytes: those where no header begins, and those of a frame whose
 -- header is good, before its last byte.
-use Rattle.std.proofs.Common.{◌≡◌, ◌∙◌, ℕ, suc, ◌+◌, ◌-◌, ◌<◌, ◌≤◌, true, false, List, []}
-use Rattle.std.proofs.Common.{◌∷◌, ◌++◌, length, take, map, get_or, refl, sym, ap, subst, arith}
-use Rattle.std.proofs.Common.{length-append, append_assoc, ⊎_elim, drop, Bool, not}
-use Rattle.std.proofs.lemmas.Bool.{cases_lt, eqb-true, lt-ltb, cond-true}
-use Rattle.std.proofs.lemmas.List.{append-nil, length-map, map-append, length-take, take_all}
-use Rattle.std.proofs.lemmas.List.{length-drop}
-use Rattle.std.proofs.lemmas.List.{take-append-le, take_more, take-take}
-use Rattle.std.proofs.Math.Seq.{take-append-add, take-add}
+use Rattle.device_model.proofs.Heads.{good-long, good-header, header-more, head-more}
+use Rattle.device_model.proofs.HuntCases.{good-starts, good-size, good-room, undecided-room}
+use Rattle.device_model.proofs.HuntSteps.{timed-append, reads-after, goes-after, starts-more}
+use Rattle.device_model.proofs.HuntSteps.{passes-hears, passes-reads, ends-hears, ends-reads}
+use Rattle.device_model.proofs.Hunts.{timed_bytes-append, timed_bytes-length, begins-more, taken-is}
+use Rattle.device_model.specs.Frames.{FrameRead}
+use Rattle.device_model.specs.Hunt.{Timed, timed, timed_bytes, begins, bytes_taken, hunt, header_in}
+use Rattle.device_model.specs.{HuntLaws.IsHunted, HuntingDevice.IsUndecided}
+use Rattle.device_model.specs.HuntingDevice.{nothing, first_byte, header_begun, HasHeard, TakesByte}
+use Rattle.device_model.specs.HuntingDevice.{TakesRun, MeetsEnd, HuntStandsFor, frame_at, StartsAt}
+use Rattle.device_model.specs.declared.hunting.{HuntingDevice.HuntingDevice, Next.TheVariants.Ends}
 use Rattle.line_rules.specs.Rules.{Rules, head_of, left_of, left_by}
 use Rattle.line_rules.specs.declared.head.Head.{Head}
 use Rattle.line_rules.specs.declared.head.Head.TheVariants.{Short, Good, Bad}
 use Rattle.line_rules.specs.declared.line_rules.LineRules.{Ghosts as LineRules}
-use Rattle.yasir_ticks.specs.declared.tick.Tick.{Tick}
-use Rattle.yasir_ticks.specs.declared.tick.Tick.TheVariants.{Byte}
-use Rattle.device_model.specs.declared.hunting.HuntingDevice.{HuntingDevice}
-use Rattle.device_model.specs.declared.hunting.Next.TheVariants.{Ends}
-use Rattle.device_model.specs.Frames.{FrameRead}
-use Rattle.device_model.specs.Hunt.{Timed, timed, timed_bytes, begins, bytes_taken, hunt}
-use Rattle.device_model.specs.Hunt.{header_in}
-use Rattle.device_model.specs.HuntLaws.{IsHunted}
-use Rattle.device_model.specs.HuntingDevice.{IsUndecided, nothing, first_byte, header_begun}
-use Rattle.device_model.specs.HuntingDevice.{HasHeard, TakesByte}
-use Rattle.device_model.specs.HuntingDevice.{TakesRun, MeetsEnd, HuntStandsFor, frame_at, StartsAt}
-use Rattle.device_model.proofs.Heads.{good-long, good-header, header-more, head-more}
-use Rattle.device_model.proofs.Hunts.{timed_bytes-append, timed_bytes-length, begins-more, taken-is}
-use Rattle.device_model.proofs.HuntCases.{good-starts, good-size, good-room, undecided-room}
-use Rattle.device_model.proofs.HuntSteps.{timed-append, reads-after, goes-after, starts-more}
-use Rattle.device_model.proofs.HuntSteps.{passes-hears, passes-reads, ends-hears, ends-reads}
+use Rattle.std.proofs.Common.{◌≡◌, ◌∙◌, ℕ, suc, ◌+◌, ◌-◌, ◌<◌, ◌≤◌, true, false, List, [], ◌∷◌}
+use Rattle.std.proofs.Common.{◌++◌, length, take, map, get_or, refl, sym, ap, subst, arith}
+use Rattle.std.proofs.Common.{length-append, append_assoc, ⊎_elim, drop, Bool, not}
+use Rattle.std.proofs.Math.Seq.{take-append-add, take-add}
+use Rattle.std.proofs.lemmas.Bool.{cases_lt, eqb-true, lt-ltb, cond-true}
+use Rattle.std.proofs.lemmas.List.{append-nil, length-map, map-append, length-take, take_all}
+use Rattle.std.proofs.lemmas.List.{length-drop, take-append-le, take_more, take-take}
+use Rattle.yasir_ticks.specs.declared.tick.Tick.{Tick, TheVariants.Byte}
 
 pub not-true : (b : Bool) → not b ≡ true → b ≡ false
 not-true true is = absurd (cc)

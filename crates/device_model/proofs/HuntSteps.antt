@@ -1,30 +1,23 @@
 -- The steps of a device that hunts, over the values that it has before and after.
-use Rattle.std.proofs.Common.{◌≡◌, ◌∙◌, ℕ, zero, suc, ◌+◌, ◌<◌, ◌≤◌, true, false, ◌==◌}
-use Rattle.std.proofs.Common.{List, [], ◌∷◌, ◌++◌, length, refl, sym, ap, subst, arith}
-use Rattle.std.proofs.Common.{length-append, append_assoc}
-use Rattle.std.proofs.lemmas.Bool.{ne_eqb, eq-eqb, and_from}
-use Rattle.std.proofs.lemmas.List.{append-nil, length-replicate}
-use Rattle.line_rules.specs.Rules.{Rules, head_of, left_of}
-use Rattle.line_rules.specs.declared.head.Head.{Head}
-use Rattle.line_rules.specs.declared.line_rules.LineRules.{Ghosts as LineRules}
-use Rattle.yasir_ticks.specs.Ticks.{silent}
-use Rattle.yasir_ticks.specs.declared.tick.Tick.{Tick}
-use Rattle.yasir_ticks.specs.declared.tick.Tick.TheVariants.{Silent, Byte}
-use Rattle.device_model.specs.declared.hunting.HuntingDevice.{HuntingDevice}
-use Rattle.device_model.specs.declared.hunting.Next.{Next}
-use Rattle.device_model.specs.declared.hunting.Next.TheVariants.{Waits, Loses, Ends}
+use Rattle.device_model.proofs.HuntCases.{quiet, undecided-room, undecided-grown, follows}
+use Rattle.device_model.proofs.{HuntCases.taken-header, Hunts.timed_bytes-append}
+use Rattle.device_model.proofs.Hunts.{timed_bytes-length, begins-more, begins-two, begins-other}
+use Rattle.device_model.proofs.Hunts.{begins-before, hunt-none, hunt-no_start, hunt-whole, taken-is}
 use Rattle.device_model.specs.Frames.{FrameRead}
 use Rattle.device_model.specs.Hunt.{Timed, timed, timed_bytes, begins, bytes_taken, found, hunt}
-use Rattle.device_model.specs.HuntLaws.{IsHunted}
-use Rattle.device_model.specs.HuntingDevice.{IsUndecided, nothing, first_byte, header_begun}
-use Rattle.device_model.specs.HuntingDevice.{GoesOn, StartsAt, HasHeard, TakesByte, next_by}
-use Rattle.device_model.specs.HuntingDevice.{next_of}
-use Rattle.device_model.specs.HuntingDevice.{HuntStandsFor, frame_at}
-use Rattle.device_model.proofs.Hunts.{timed_bytes-append, timed_bytes-length, begins-more}
-use Rattle.device_model.proofs.Hunts.{begins-two, begins-other, begins-before, hunt-none}
-use Rattle.device_model.proofs.Hunts.{hunt-no_start, hunt-whole, taken-is}
-use Rattle.device_model.proofs.HuntCases.{quiet, undecided-room, undecided-grown, follows}
-use Rattle.device_model.proofs.HuntCases.{taken-header}
+use Rattle.device_model.specs.{HuntLaws.IsHunted, HuntingDevice.IsUndecided, HuntingDevice.nothing}
+use Rattle.device_model.specs.HuntingDevice.{first_byte, header_begun, GoesOn, StartsAt, HasHeard}
+use Rattle.device_model.specs.HuntingDevice.{TakesByte, next_by, next_of, HuntStandsFor, frame_at}
+use Rattle.device_model.specs.declared.hunting.{HuntingDevice.HuntingDevice, Next.Next}
+use Rattle.device_model.specs.declared.hunting.Next.TheVariants.{Waits, Loses, Ends}
+use Rattle.line_rules.specs.Rules.{Rules, head_of, left_of}
+use Rattle.line_rules.specs.declared.{head.Head.Head, line_rules.LineRules.Ghosts as LineRules}
+use Rattle.std.proofs.Common.{◌≡◌, ◌∙◌, ℕ, zero, suc, ◌+◌, ◌<◌, ◌≤◌, true, false, ◌==◌, List, []}
+use Rattle.std.proofs.Common.{◌∷◌, ◌++◌, length, refl, sym, ap, subst, arith, length-append}
+use Rattle.std.proofs.{Common.append_assoc, lemmas.Bool.ne_eqb}
+use Rattle.std.proofs.lemmas.{Bool.eq-eqb, Bool.and_from, List.append-nil, List.length-replicate}
+use Rattle.yasir_ticks.specs.Ticks.{silent}
+use Rattle.yasir_ticks.specs.declared.tick.Tick.{Tick, TheVariants.Silent, TheVariants.Byte}
 
 -- ---- the bytes of a line
 

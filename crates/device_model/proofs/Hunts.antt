@@ -1,19 +1,16 @@
 -- The hunt: what it does with the bytes that are taken together, and with too few.
-use Rattle.std.proofs.Common.{◌≡◌, ◌∙◌, ℕ, zero, suc, ◌-◌, ◌<◌, ◌≤◌, nat_le, true, false}
-use Rattle.std.proofs.Common.{◌&&◌, ◌==◌, cond, List, [], ◌∷◌, ◌++◌, length, take, drop, refl}
-use Rattle.std.proofs.Common.{sym, ap, arith, length-append}
-use Rattle.std.proofs.lemmas.Bool.{cond-true, cond-false, le-leb, lt-leb}
-use Rattle.std.proofs.lemmas.Bool.{and_left, and_right, ne_eqb}
-use Rattle.std.proofs.lemmas.List.{map-append, length-map, take-append-le}
-use Rattle.std.proofs.lemmas.List.{length-take-le, take-append-drop}
-use Rattle.line_rules.specs.Rules.{Rules, head_of}
-use Rattle.line_rules.specs.declared.head.Head.{Head}
-use Rattle.line_rules.specs.declared.head.Head.TheVariants.{Short, Good, Bad}
+use Rattle.device_model.proofs.Heads.{good-long, bad-long, short-short, header-more, head-more}
 use Rattle.device_model.specs.Frames.{FrameRead}
 use Rattle.device_model.specs.Hunt.{Timed, timed_bytes, header_in, taken_by, frame_of, found_by}
 use Rattle.device_model.specs.Hunt.{begins, bytes_taken, found, passed_over, hunt}
-use Rattle.device_model.proofs.Heads.{good-long}
-use Rattle.device_model.proofs.Heads.{bad-long, short-short, header-more, head-more}
+use Rattle.line_rules.specs.{Rules.Rules, Rules.head_of, declared.head.Head.Head}
+use Rattle.line_rules.specs.declared.head.Head.TheVariants.{Short, Good, Bad}
+use Rattle.std.proofs.Common.{◌≡◌, ◌∙◌, ℕ, zero, suc, ◌-◌, ◌<◌, ◌≤◌, nat_le, true, false, ◌&&◌}
+use Rattle.std.proofs.Common.{◌==◌, cond, List, [], ◌∷◌, ◌++◌, length, take, drop, refl, sym, ap}
+use Rattle.std.proofs.Common.{arith, length-append}
+use Rattle.std.proofs.lemmas.Bool.{cond-true, cond-false, le-leb, lt-leb, and_left, and_right}
+use Rattle.std.proofs.lemmas.{Bool.ne_eqb, List.map-append}
+use Rattle.std.proofs.lemmas.List.{length-map, take-append-le, length-take-le, take-append-drop}
 
 pub timed_bytes-append : (x z : List Timed)
     → timed_bytes (x ++ z) ≡ timed_bytes x ++ timed_bytes z

@@ -1,15 +1,13 @@
 -- One more tick of a line that is parted into its closed bursts and the running one.
+use Rattle.device_model.specs.Parted.{IsParted}
 use Rattle.std.proofs.Common.{◌≡◌, ◌∙◌, ℕ, ◌+◌, ◌-◌, ◌<◌, ◌≤◌, List, [], ◌∷◌, ◌++◌, length, refl}
 use Rattle.std.proofs.Common.{sym, ap, arith, length-append, Some, None}
 use Rattle.std.proofs.lemmas.List.{append-nil, length-replicate}
-use Rattle.yasir_ticks.specs.Ticks.{silent}
-use Rattle.yasir_ticks.specs.Bursts.{Burst, bursts_from, end_of, AreClosed}
-use Rattle.yasir_ticks.specs.declared.tick.Tick.{Tick}
-use Rattle.yasir_ticks.specs.declared.tick.Tick.TheVariants.{Silent, Byte}
 use Rattle.yasir_ticks.proofs.BurstLaws.{alone, extended, extended-closed, extended-joins}
-use Rattle.yasir_ticks.proofs.BurstLaws.{bursts_from-byte, bursts_from-silent}
-use Rattle.yasir_ticks.proofs.BurstLaws.{AreClosed-later, AreClosed-more}
-use Rattle.device_model.specs.Parted.{IsParted}
+use Rattle.yasir_ticks.proofs.BurstLaws.{bursts_from-byte, bursts_from-silent, AreClosed-later}
+use Rattle.yasir_ticks.{proofs.BurstLaws.AreClosed-more, specs.Bursts.Burst}
+use Rattle.yasir_ticks.specs.{Bursts.bursts_from, Bursts.end_of, Bursts.AreClosed, Ticks.silent}
+use Rattle.yasir_ticks.specs.declared.tick.Tick.{Tick, TheVariants.Silent, TheVariants.Byte}
 
 -- this burst, and after so much silence a byte
 abbrev pub grown_by : Burst → ℕ → ℕ → Burst

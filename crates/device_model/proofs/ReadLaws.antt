@@ -1,16 +1,13 @@
 -- What is read of bursts, as the line goes on.
-use Rattle.std.proofs.Common.{◌≡◌, ℕ, ◌+◌, ◌<◌, ◌≤◌, nat_le, cond, Bool, true, false, ◌&&◌, List}
-use Rattle.std.proofs.Common.{[], ◌∷◌, ◌++◌, length, map, refl, arith, sym, ◌∙◌, ap}
-use Rattle.std.specs.Prelude.{filter}
-use Rattle.std.proofs.Common.{⊎_elim}
-use Rattle.std.proofs.lemmas.Bool.{le-leb, lt-leb, cases_Bool}
-use Rattle.std.proofs.lemmas.List.{append-nil, map-append}
-use Rattle.std.proofs.lemmas.List.Elements.{filter-append}
-use Rattle.rtu_frame.specs.Frame.{is_frame}
-use Rattle.rtu_frame.proofs.FrameLaws.{is_frame-true}
-use Rattle.yasir_ticks.specs.Bursts.{Burst, end_of, AreClosed}
 use Rattle.device_model.specs.Frames.{FrameRead}
 use Rattle.device_model.specs.RtuReads.{is_frame_body, frame_in, frames_read}
+use Rattle.rtu_frame.{proofs.FrameLaws.is_frame-true, specs.Frame.is_frame}
+use Rattle.std.proofs.Common.{◌≡◌, ℕ, ◌+◌, ◌<◌, ◌≤◌, nat_le, cond, Bool, true, false, ◌&&◌, List}
+use Rattle.std.proofs.Common.{[], ◌∷◌, ◌++◌, length, map, refl, arith, sym, ◌∙◌, ap, ⊎_elim}
+use Rattle.std.proofs.lemmas.Bool.{le-leb, lt-leb, cases_Bool}
+use Rattle.std.proofs.lemmas.List.{append-nil, map-append, Elements.filter-append}
+use Rattle.std.specs.Prelude.{filter}
+use Rattle.yasir_ticks.specs.Bursts.{Burst, end_of, AreClosed}
 
 -- ---- frames among bursts
 

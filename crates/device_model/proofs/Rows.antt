@@ -1,15 +1,13 @@
 -- What is read of a recorded exchange, computed: a query, the same with a wrong check, and the
 -- least frame with one silent tick in it. A burst in which two silent ticks are together isn't
 -- read, nor one that only three silent ticks follow.
-use Rattle.std.proofs.Common.{◌≡◌, List, [], ◌∷◌, ◌++◌, refl}
-use Rattle.rtu_frame.specs.Crc.{bit_step, bit_steps, byte_step, crc}
-use Rattle.line_rules.specs.Endings.{ends_in_check}
-use Rattle.rtu_frame.specs.Frame.{is_frame, has_right_ending}
-use Rattle.yasir_ticks.specs.Ticks.{silent}
-use Rattle.yasir_ticks.specs.Bursts.{with_byte, bursts_from}
-use Rattle.yasir_ticks.specs.declared.tick.Tick.{Tick}
-use Rattle.yasir_ticks.specs.declared.tick.Tick.TheVariants.{Byte}
 use Rattle.device_model.specs.RtuReads.{has_silence, rtu_reads}
+use Rattle.line_rules.specs.Endings.{ends_in_check}
+use Rattle.rtu_frame.specs.Crc.{bit_step, bit_steps, byte_step, crc}
+use Rattle.rtu_frame.specs.Frame.{is_frame, has_right_ending}
+use Rattle.std.proofs.Common.{◌≡◌, List, [], ◌∷◌, ◌++◌, refl}
+use Rattle.yasir_ticks.specs.{Bursts.with_byte, Bursts.bursts_from, Ticks.silent}
+use Rattle.yasir_ticks.specs.declared.tick.Tick.{Tick, TheVariants.Byte}
 
 abbrev query : List Tick
 query = Byte 0x01 ∷ Byte 0x03 ∷ Byte 0x00 ∷ Byte 0x00 ∷ Byte 0x00 ∷ Byte 0x0A ∷ Byte 0xC5

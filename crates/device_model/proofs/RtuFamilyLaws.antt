@@ -1,30 +1,23 @@
 -- The steps of a Modbus RTU device, over the values that it has before and after.
-use Rattle.std.proofs.Common.{◌≡◌, ◌∙◌, ℕ, suc, ◌+◌, ◌<◌, ◌≤◌, ◌||◌, ◌&&◌, nat_lt, nat_le, cond}
-use Rattle.std.proofs.Common.{Bool}
-use Rattle.std.proofs.Common.{true, false, not, List, [], ◌∷◌, ◌++◌, length, refl, sym, ap, subst}
-use Rattle.std.proofs.Common.{arith, ◌==◌, Option, Some, None, IfSome, if◌then◌else◌}
-use Rattle.std.proofs.lemmas.Bool.{or_parts, ltb-true, leb-true, leb-false, eqb-true, eqb-false}
-use Rattle.std.proofs.lemmas.Bool.{lt-ltb, le-ltb, cond-true, cond-false}
-use Rattle.std.proofs.lemmas.List.{append-nil}
-use Rattle.rtu_frame.specs.Frame.{is_frame}
-use Rattle.yasir_ticks.specs.Ticks.{bytes_in}
-use Rattle.yasir_ticks.specs.Bursts.{Burst, bursts_from, end_of}
-use Rattle.yasir_ticks.specs.BurstsOf.{one}
-use Rattle.yasir_ticks.specs.declared.tick.Tick.{Tick}
-use Rattle.yasir_ticks.specs.declared.tick.Tick.TheVariants.{Silent, Byte}
-use Rattle.yasir_ticks.proofs.BurstLaws.{alone}
-use Rattle.yasir_ticks.proofs.BurstsOfLaws.{contiguous-more}
-use Rattle.device_model.specs.declared.rtu_family.RtuFamily.{RtuFamily}
-use Rattle.device_model.specs.Frames.{FrameRead}
-use Rattle.device_model.specs.Parted.{IsParted}
-use Rattle.device_model.specs.RtuReads.{has_silence, is_frame_body, frame_in, frames_read}
-use Rattle.device_model.specs.RtuFamily.{rtu_family_reads, is_broken, Keeps, RtuFamilyStandsFor}
-use Rattle.device_model.specs.RtuFamily.{frame_at_end}
 use Rattle.device_model.proofs.Broken.{grown-bytes, alone-whole, grown-is}
 use Rattle.device_model.proofs.Parting.{longer, grown_by, parted-nothing, parted-begins}
 use Rattle.device_model.proofs.Parting.{parted-goes_on, parted-rests, parted-waits, parted-ends}
 use Rattle.device_model.proofs.ReadLaws.{frames_read-front, frames_read-last, frames_read-later}
 use Rattle.device_model.proofs.ReadLaws.{is_frame-long}
+use Rattle.device_model.specs.{Frames.FrameRead, Parted.IsParted, RtuFamily.rtu_family_reads}
+use Rattle.device_model.specs.RtuFamily.{is_broken, Keeps, RtuFamilyStandsFor, frame_at_end}
+use Rattle.device_model.specs.RtuReads.{has_silence, is_frame_body, frame_in, frames_read}
+use Rattle.device_model.specs.declared.rtu_family.RtuFamily.{RtuFamily}
+use Rattle.rtu_frame.specs.Frame.{is_frame}
+use Rattle.std.proofs.Common.{◌≡◌, ◌∙◌, ℕ, suc, ◌+◌, ◌<◌, ◌≤◌, ◌||◌, ◌&&◌, nat_lt, nat_le, cond}
+use Rattle.std.proofs.Common.{Bool, true, false, not, List, [], ◌∷◌, ◌++◌, length, refl, sym, ap}
+use Rattle.std.proofs.Common.{subst, arith, ◌==◌, Option, Some, None, IfSome, if◌then◌else◌}
+use Rattle.std.proofs.lemmas.Bool.{or_parts, ltb-true, leb-true, leb-false, eqb-true, eqb-false}
+use Rattle.std.proofs.lemmas.Bool.{lt-ltb, le-ltb, cond-true, cond-false}
+use Rattle.{std.proofs.lemmas.List.append-nil, yasir_ticks.proofs.BurstLaws.alone}
+use Rattle.yasir_ticks.{proofs.BurstsOfLaws.contiguous-more, specs.Bursts.Burst}
+use Rattle.yasir_ticks.specs.{Bursts.bursts_from, Bursts.end_of, BurstsOf.one, Ticks.bytes_in}
+use Rattle.yasir_ticks.specs.declared.tick.Tick.{Tick, TheVariants.Silent, TheVariants.Byte}
 
 module _ (cut gap : ℕ) where
   -- ---- what is read of a line

@@ -1,29 +1,20 @@
 -- A Modbus RTU device over a run of bytes, or of silent ticks: what it reads in the run, and what
 -- it keeps behind it.
-use Rattle.std.proofs.Common.{◌≡◌, ◌∙◌, ℕ, zero, suc, ◌+◌, ◌<◌, ◌≤◌, ◌-◌, ◌||◌, nat_lt, Bool}
-use Rattle.std.proofs.Common.{true, false, List, [], ◌∷◌, ◌++◌, length, map, refl, sym, ap}
-use Rattle.std.proofs.Common.{subst, arith, Option, Some, None, IfSome, ◌⊎◌, ⊎_elim, inl, inr}
-use Rattle.std.proofs.Common.{if◌then◌else◌, append_assoc, length-append}
-use Rattle.std.proofs.lemmas.Bool.{ltb-true, lt-ltb, le-ltb, cond-true, cond-false, or_parts}
-use Rattle.std.proofs.lemmas.Bool.{cases_lt}
-use Rattle.std.proofs.lemmas.List.{append-nil, length-replicate, length-map}
-use Rattle.yasir_ticks.specs.Ticks.{bytes_in, silent}
-use Rattle.yasir_ticks.specs.Bursts.{Burst}
-use Rattle.yasir_ticks.specs.BurstsOf.{IsContiguous}
-use Rattle.yasir_ticks.specs.declared.tick.Tick.{Tick}
-use Rattle.yasir_ticks.specs.declared.tick.Tick.TheVariants.{Silent, Byte}
-use Rattle.yasir_ticks.proofs.BurstLaws.{alone}
-use Rattle.yasir_ticks.proofs.BurstsOfLaws.{contiguous-more}
-use Rattle.device_model.specs.declared.rtu_family.RtuFamily.{RtuFamily}
-use Rattle.device_model.specs.Frames.{FrameRead}
-use Rattle.device_model.specs.Parted.{IsParted}
-use Rattle.device_model.specs.RtuReads.{has_silence}
+use Rattle.device_model.proofs.{Broken.grown-bytes, Broken.grown-silence, Parting.grown_by}
+use Rattle.device_model.proofs.Parting.{parted-begins, parted-goes_on, parted-rests, parted-waits}
+use Rattle.device_model.proofs.{ReadLaws.frames_read-later, RtuFamilyLaws.reads-parted}
+use Rattle.device_model.specs.{Frames.FrameRead, Parted.IsParted}
 use Rattle.device_model.specs.RtuFamily.{rtu_family_reads, is_broken, Keeps, RtuFamilyStandsFor}
-use Rattle.device_model.proofs.Broken.{grown-bytes, grown-silence}
-use Rattle.device_model.proofs.Parting.{grown_by, parted-begins, parted-goes_on}
-use Rattle.device_model.proofs.Parting.{parted-rests, parted-waits}
-use Rattle.device_model.proofs.ReadLaws.{frames_read-later}
-use Rattle.device_model.proofs.RtuFamilyLaws.{reads-parted}
+use Rattle.device_model.specs.{RtuReads.has_silence, declared.rtu_family.RtuFamily.RtuFamily}
+use Rattle.std.proofs.Common.{◌≡◌, ◌∙◌, ℕ, zero, suc, ◌+◌, ◌<◌, ◌≤◌, ◌-◌, ◌||◌, nat_lt, Bool, true}
+use Rattle.std.proofs.Common.{false, List, [], ◌∷◌, ◌++◌, length, map, refl, sym, ap, subst, arith}
+use Rattle.std.proofs.Common.{Option, Some, None, IfSome, ◌⊎◌, ⊎_elim, inl, inr, if◌then◌else◌}
+use Rattle.std.proofs.{Common.append_assoc, Common.length-append, lemmas.Bool.ltb-true}
+use Rattle.std.proofs.lemmas.Bool.{lt-ltb, le-ltb, cond-true, cond-false, or_parts, cases_lt}
+use Rattle.std.proofs.lemmas.List.{append-nil, length-replicate, length-map}
+use Rattle.yasir_ticks.proofs.{BurstLaws.alone, BurstsOfLaws.contiguous-more}
+use Rattle.yasir_ticks.specs.{Bursts.Burst, BurstsOf.IsContiguous, Ticks.bytes_in, Ticks.silent}
+use Rattle.yasir_ticks.specs.declared.tick.Tick.{Tick, TheVariants.Silent, TheVariants.Byte}
 
 -- ---- the running burst, and bytes right behind it
 

@@ -1,24 +1,19 @@
 -- How the lines of a device's frames go on by some ticks.
+use Rattle.device_model.specs.{Frames.FrameRead, declared.device.Device.Ghosts as Device}
+use Rattle.device_replay.specs.FrameLines.{PrintsReads, StopsPrinting, KeepsHeld, printing}
+use Rattle.device_replay.specs.Lines.{frame_line, frame_lines}
+use Rattle.device_replay.specs.declared.frame_lines.FrameLines.{FrameLines}
 use Rattle.std.proofs.Common.{◌≡◌, ◌∙◌, ℕ, ◌+◌, ◌-◌, ◌<◌, ◌≤◌, List, [], ◌∷◌, ◌++◌, length, take}
 use Rattle.std.proofs.Common.{Option, Ok, Err, subst, sym, ap, refl, append-nil, arith}
 use Rattle.std.proofs.lemmas.Grind.{flat_map-append}
-use Rattle.yasir_io.specs.Output.{Buffered, GotPrefix}
-use Rattle.yasir_io.specs.TextBuffer.{waiting_bytes}
-use Rattle.yasir_io.specs.declared.sink.Sink.{Ghosts as Sink}
-use Rattle.yasir_ticks.specs.Ticks.{Item, ticks_in}
-use Rattle.yasir_ticks.specs.Ticks.Item.{mark}
-use Rattle.yasir_ticks.specs.TickRun.{run_ticks, run_items}
-use Rattle.yasir_ticks.specs.declared.tick.Tick.{Tick}
-use Rattle.yasir_ticks.specs.declared.tick_run.TickRun.{TickRun}
-use Rattle.yasir_ticks.proofs.TickRuns.{length-run_items}
-use Rattle.device_model.specs.Frames.{FrameRead}
-use Rattle.device_model.specs.declared.device.Device.{Ghosts as Device}
+use Rattle.tick_drive.proofs.ItemLaws.{ticks_in-append, ticks_in-mark, ticks_in-front, length-front}
 use Rattle.tick_drive.specs.Consumers.{Gives, GivesFirst}
 use Rattle.tick_drive.specs.declared.consumer.Stop.TheVariants.{WriteFault}
-use Rattle.tick_drive.proofs.ItemLaws.{ticks_in-append, ticks_in-mark, ticks_in-front, length-front}
-use Rattle.device_replay.specs.Lines.{frame_line, frame_lines}
-use Rattle.device_replay.specs.FrameLines.{PrintsReads, StopsPrinting, KeepsHeld, printing}
-use Rattle.device_replay.specs.declared.frame_lines.FrameLines.{FrameLines}
+use Rattle.yasir_io.specs.Output.{Buffered, GotPrefix}
+use Rattle.yasir_io.specs.{TextBuffer.waiting_bytes, declared.sink.Sink.Ghosts as Sink}
+use Rattle.yasir_ticks.{proofs.TickRuns.length-run_items, specs.TickRun.run_ticks}
+use Rattle.yasir_ticks.specs.{TickRun.run_items, Ticks.Item, Ticks.ticks_in, Ticks.Item.mark}
+use Rattle.yasir_ticks.specs.declared.{tick.Tick.Tick, tick_run.TickRun.TickRun}
 
 -- a mark is no tick of the line
 pub prints_at_mark : {V O : Type 0} (device : Device V) (o : Sink O) (printer : FrameLines V O)

@@ -1,29 +1,19 @@
 -- How the run of `read` ends: from the end of its input to its status.
-use Rattle.std.proofs.Common.{◌≡◌, ℕ, ◌⊎◌, inl, inr, false, List, [], length, Option, subst, sym}
-use Rattle.std.proofs.Common.{ap, refl, ◌∙◌}
-use Rattle.std.proofs.Math.Seq.{take-length}
-use Rattle.yasir_io.specs.Output.{Buffered, GotPrefix}
-use Rattle.yasir_io.specs.TextBuffer.{waiting_bytes}
-use Rattle.yasir_io.specs.declared.sink.Sink.{Ghosts as Sink}
-use Rattle.yasir_io.specs.Causes.{HasCause}
-use Rattle.yasir_ticks.specs.Ticks.{Item, ticks_in}
-use Rattle.yasir_ticks.specs.declared.tick.Tick.{Tick}
-use Rattle.device_model.specs.Frames.{FrameRead}
-use Rattle.device_model.specs.declared.device.Device.{Ghosts as Device}
-use Rattle.tick_drive.specs.Consumers.{is_write_fault}
-use Rattle.tick_drive.specs.Drive.{Drives, answer_of}
-use Rattle.tick_drive.specs.declared.consumer.Stop.{Stop}
-use Rattle.tick_drive.specs.declared.end.End.{End}
-use Rattle.tick_drive.specs.declared.end.End.TheVariants.{Whole, Refused, TooLong, ReadFault}
-use Rattle.tick_drive.specs.declared.end.End.TheVariants.{Stopped}
-use Rattle.device_replay.specs.Lines.{frame_lines}
-use Rattle.device_replay.specs.FrameLines.{PrintsReads, printing}
+use Rattle.device_model.specs.{Frames.FrameRead, declared.device.Device.Ghosts as Device}
+use Rattle.device_replay.specs.{FrameLines.PrintsReads, FrameLines.printing, Lines.frame_lines}
 use Rattle.device_replay.specs.PrintsFrames.{DrivesFrames, PrintsFrames, LinesAtEnd, read_rest}
 use Rattle.device_replay.specs.declared.frame_lines.FrameLines.{FrameLines}
-use Rattle.replay_status.specs.Endings.{status_of}
-use Rattle.yasir_io.proofs.OutputLemmas.{printed, append_known-nil}
-use Rattle.replay_status.specs.declared.status.Status.{Status}
+use Rattle.replay_status.specs.{Endings.status_of, declared.status.Status.Status}
 use Rattle.replay_status.specs.declared.status.Status.TheVariants.{Done, WriteFault}
+use Rattle.std.proofs.Common.{◌≡◌, ℕ, ◌⊎◌, inl, inr, false, List, [], length, Option, subst, sym}
+use Rattle.std.proofs.{Common.ap, Common.refl, Common.◌∙◌, Math.Seq.take-length}
+use Rattle.tick_drive.specs.{Consumers.is_write_fault, Drive.Drives, Drive.answer_of}
+use Rattle.tick_drive.specs.declared.{consumer.Stop.Stop, end.End.End, end.End.TheVariants.Whole}
+use Rattle.tick_drive.specs.declared.end.End.TheVariants.{Refused, TooLong, ReadFault, Stopped}
+use Rattle.yasir_io.proofs.OutputLemmas.{printed, append_known-nil}
+use Rattle.yasir_io.specs.{Causes.HasCause, Output.Buffered, Output.GotPrefix}
+use Rattle.yasir_io.specs.{TextBuffer.waiting_bytes, declared.sink.Sink.Ghosts as Sink}
+use Rattle.yasir_ticks.specs.{Ticks.Item, Ticks.ticks_in, declared.tick.Tick.Tick}
 
 module _ {V O : Type 0} (device : Device V) (o : Sink O)
     (before now : Option (List ℕ)) (old new : FrameLines V O)

@@ -1,16 +1,15 @@
 -- A right input, and no fault outside, give `Done`.
-use Rattle.std.proofs.Common.{◌≡◌, ℕ, inl, inr, List, Option, refl}
-use Rattle.yasir_ticks.specs.declared.tick.Tick.{Tick}
 use Rattle.device_model.specs.Frames.{FrameRead}
+use Rattle.device_replay.specs.PrintsFrames.{PrintsFrames, read_rest}
+use Rattle.replay_status.proofs.Readable.{not_refused, not_too_long}
 use Rattle.replay_status.specs.Causes.{InputCause, SinkCause, NoneRose}
-use Rattle.replay_status.specs.Readable.{IsReadable}
-use Rattle.replay_status.specs.declared.status.Status.{Status}
+use Rattle.replay_status.specs.{Readable.IsReadable, declared.status.Status.Status}
 use Rattle.replay_status.specs.declared.status.Status.TheVariants.{Done, Usage, BadTicks, ReadFault}
 use Rattle.replay_status.specs.declared.status.Status.TheVariants.{WriteFault, JournalFault}
 use Rattle.replay_status.specs.declared.status.Status.TheVariants.{TooLong, HasJournal, BadKey}
 use Rattle.replay_status.specs.declared.status.Status.TheVariants.{BadJournal, WrongLink, NoMemory}
-use Rattle.replay_status.proofs.Readable.{not_refused, not_too_long}
-use Rattle.device_replay.specs.PrintsFrames.{PrintsFrames, read_rest}
+use Rattle.std.proofs.Common.{◌≡◌, ℕ, inl, inr, List, Option, refl}
+use Rattle.yasir_ticks.specs.declared.tick.Tick.{Tick}
 
 module _ (reads : List Tick → List FrameRead) (before now out_before out_now : Option (List ℕ))
     (key0 key1 in0 in1 out0 out1 log0 log1 disk0 disk1 : ℕ) (readable : IsReadable before)

@@ -1,21 +1,18 @@
 -- How what becomes of the frames of a line goes on as the line does.
-use Rattle.std.proofs.Common.{◌≡◌, ◌∙◌, ℕ, ◌+◌, ◌<◌, ◌≤◌, List, [], ◌∷◌, ◌++◌}
-use Rattle.std.proofs.Common.{length, map, drop, max, fold, refl, sym, ap, subst, arith}
-use Rattle.std.proofs.Common.{append_assoc, length-append, true, false, ⊎_elim}
-use Rattle.std.proofs.lemmas.Bool.{cases_lt, le-leb, lt-leb, false≢true}
-use Rattle.std.proofs.lemmas.List.{append-nil, map-append, length-map}
-use Rattle.std.proofs.lemmas.List.Sums.{fold-append}
-use Rattle.yasir_ticks.specs.Bursts.{Burst}
-use Rattle.yasir_ticks.specs.declared.tick.Tick.{Tick}
-use Rattle.burst_walk.specs.Laid.{tick_at, laid}
 use Rattle.burst_walk.proofs.Emissions.{tick_at-none, tick_at-front, tick_at-before, laid-more}
-use Rattle.burst_walk.proofs.Emissions.{laid-same}
+use Rattle.burst_walk.{proofs.Emissions.laid-same, specs.Laid.tick_at, specs.Laid.laid}
 use Rattle.device_model.specs.Frames.{FrameRead}
-use Rattle.line_spacer.specs.Arrivals.{Arrival, arriving, gained, arrivals_behind, arrivals}
-use Rattle.line_spacer.specs.Spacing.{Spaced, count_from, free_from, sent_from, take_in}
-use Rattle.line_spacer.specs.Spacing.{spaced, accepted_of}
-use Rattle.line_spacer.specs.Stands.{HasSent, TakesIn, taken_in, AnswersSpaced}
 use Rattle.line_spacer.proofs.Sending.{waiting-count, frame-waits}
+use Rattle.line_spacer.specs.Arrivals.{Arrival, arriving, gained, arrivals_behind, arrivals}
+use Rattle.line_spacer.specs.Spacing.{Spaced, count_from, free_from, sent_from, take_in, spaced}
+use Rattle.line_spacer.specs.Spacing.{accepted_of}
+use Rattle.line_spacer.specs.Stands.{HasSent, TakesIn, taken_in, AnswersSpaced}
+use Rattle.std.proofs.Common.{◌≡◌, ◌∙◌, ℕ, ◌+◌, ◌<◌, ◌≤◌, List, [], ◌∷◌, ◌++◌, length, map, drop}
+use Rattle.std.proofs.Common.{max, fold, refl, sym, ap, subst, arith, append_assoc, length-append}
+use Rattle.std.proofs.Common.{true, false, ⊎_elim}
+use Rattle.std.proofs.lemmas.Bool.{cases_lt, le-leb, lt-leb, false≢true}
+use Rattle.std.proofs.lemmas.List.{append-nil, map-append, length-map, Sums.fold-append}
+use Rattle.yasir_ticks.specs.{Bursts.Burst, declared.tick.Tick.Tick}
 
 -- ---- the frames of a line
 

@@ -1,21 +1,17 @@
 -- What is made of small lines of DNP3, computed: a reset of a link, sent twice without a gap, and
 -- three of which one alone may wait; and the same heard by a device to which 18 silent ticks end
 -- what was taken.
-use Rattle.std.proofs.Common.{◌≡◌, ℕ, List, [], ◌∷◌, ◌++◌, take, drop, refl}
+use Rattle.burst_walk.specs.Laid.{tick_at}
+use Rattle.device_model.specs.{DnpReads.dnp_reads, Hunt.hunt, HuntFamily.dnp_family_reads}
+use Rattle.dnp_link_frame.proofs.Rows.{reset_link}
+use Rattle.dnp_link_frame.specs.Blocks.{begins_right, is_good_header, end_in_crcs, is_frame}
 use Rattle.line_rules.specs.Crc.{bit_step, bit_steps, byte_step, crc}
 use Rattle.line_rules.specs.Endings.{ends_in_check}
-use Rattle.dnp_link_frame.specs.Blocks.{begins_right, is_good_header, end_in_crcs, is_frame}
-use Rattle.dnp_link_frame.proofs.Rows.{reset_link}
-use Rattle.yasir_ticks.specs.Ticks.{silent}
-use Rattle.yasir_ticks.specs.Bursts.{with_byte, bursts_from}
-use Rattle.yasir_ticks.specs.declared.tick.Tick.{Tick}
-use Rattle.burst_walk.specs.Laid.{tick_at}
-use Rattle.device_model.specs.DnpReads.{dnp_reads}
-use Rattle.device_model.specs.Hunt.{hunt}
-use Rattle.device_model.specs.HuntFamily.{dnp_family_reads}
-use Rattle.line_spacer.specs.Arrivals.{arrivals_behind}
+use Rattle.line_spacer.{proofs.Sending.on_line, specs.Arrivals.arrivals_behind}
 use Rattle.line_spacer.specs.Spacing.{sent_from, take_in, spaced, spaced_line, waiting_of}
-use Rattle.line_spacer.proofs.Sending.{on_line}
+use Rattle.std.proofs.Common.{◌≡◌, ℕ, List, [], ◌∷◌, ◌++◌, take, drop, refl}
+use Rattle.yasir_ticks.specs.Bursts.{with_byte, bursts_from}
+use Rattle.yasir_ticks.specs.{Ticks.silent, declared.tick.Tick.Tick}
 
 -- Each is read with its last byte. The first one is sent in the ticks behind it, and the second one
 -- 21 silent ticks behind the first.

@@ -1,12 +1,10 @@
 -- A frame that is read, and waits as the next to begin or in the queue.
-use Rattle.std.proofs.Common.{◌≡◌, ◌∙◌, ℕ, suc, ◌+◌, ◌-◌, ◌<◌, ◌≤◌, List, [], ◌∷◌, ◌++◌}
-use Rattle.std.proofs.Common.{length, take, drop, refl, sym, ap, subst, arith}
-use Rattle.std.proofs.Common.{Bool, true, false}
-use Rattle.std.proofs.lemmas.List.{drop_all, length-take-le, nil_from_length}
 use Rattle.device_model.specs.Frames.{FrameRead}
-use Rattle.line_spacer.specs.Spacing.{Spaced}
+use Rattle.line_spacer.{proofs.Arriving.kept-sent, specs.Spacing.Spaced}
 use Rattle.line_spacer.specs.Stands.{HasSent, taken_in, left_of, with_next}
-use Rattle.line_spacer.proofs.Arriving.{kept-sent}
+use Rattle.std.proofs.Common.{◌≡◌, ◌∙◌, ℕ, suc, ◌+◌, ◌-◌, ◌<◌, ◌≤◌, List, [], ◌∷◌, ◌++◌, length}
+use Rattle.std.proofs.Common.{take, drop, refl, sym, ap, subst, arith, Bool, true, false}
+use Rattle.std.proofs.lemmas.List.{drop_all, length-take-le, nil_from_length}
 
 -- how many frames wait
 pub one-more : (ready : Bool) (frame : List ℕ) (queue : List (List ℕ)) (n : ℕ) → ready ≡ true

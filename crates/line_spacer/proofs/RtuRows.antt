@@ -1,16 +1,13 @@
 -- What is made of two queries of Modbus RTU that no more silence parts than ends the first one,
 -- computed.
-use Rattle.std.proofs.Common.{◌≡◌, ℕ, List, [], ◌∷◌, ◌++◌, refl}
-use Rattle.rtu_frame.specs.Crc.{bit_step, bit_steps, byte_step, crc}
-use Rattle.line_rules.specs.Endings.{ends_in_check}
-use Rattle.rtu_frame.specs.Frame.{is_frame, has_right_ending}
-use Rattle.yasir_ticks.specs.Ticks.{silent}
-use Rattle.yasir_ticks.specs.Bursts.{with_byte, bursts_from}
 use Rattle.burst_walk.specs.Laid.{tick_at}
 use Rattle.device_model.specs.RtuReads.{has_silence, rtu_reads}
-use Rattle.line_spacer.specs.Arrivals.{arrivals_behind}
-use Rattle.line_spacer.specs.Spacing.{take_in, spaced_line}
-use Rattle.line_spacer.proofs.Sending.{on_line}
+use Rattle.{line_rules.specs.Endings.ends_in_check, line_spacer.proofs.Sending.on_line}
+use Rattle.line_spacer.specs.{Arrivals.arrivals_behind, Spacing.take_in, Spacing.spaced_line}
+use Rattle.rtu_frame.specs.Crc.{bit_step, bit_steps, byte_step, crc}
+use Rattle.rtu_frame.specs.Frame.{is_frame, has_right_ending}
+use Rattle.std.proofs.Common.{◌≡◌, ℕ, List, [], ◌∷◌, ◌++◌, refl}
+use Rattle.yasir_ticks.specs.{Bursts.with_byte, Bursts.bursts_from, Ticks.silent}
 
 abbrev read_ten : List ℕ
 read_ten = 0x01 ∷ 0x03 ∷ 0x00 ∷ 0x00 ∷ 0x00 ∷ 0x0A ∷ 0xC5 ∷ 0xCD ∷ []

@@ -1,17 +1,15 @@
 -- A run of ticks of a spacer, by what it holds: the bytes of a frame in a room, how many of them
 -- were sent, and whether it is still to begin.
-use Rattle.std.proofs.Common.{◌≡◌, ◌∙◌, ℕ, ◌+◌, ◌-◌, ◌<◌, ◌≤◌, List, [], ◌∷◌, ◌++◌}
-use Rattle.std.proofs.Common.{length, take, drop, min, max, refl, sym, ap, subst, arith}
-use Rattle.std.proofs.Common.{length-drop, Bool, true, false, ⊎_elim}
-use Rattle.std.proofs.lemmas.Bool.{cases_lt}
+use Rattle.{burst_walk.specs.Answered.answered, line_spacer.proofs.Runs.bytes-leave}
+use Rattle.line_spacer.{proofs.Runs.silence-leaves, proofs.Runs.frame-leaves, specs.Runs.SendsRun}
+use Rattle.line_spacer.specs.Stands.{HasSent, left_of, with_next, rest_behind, tick_of}
+use Rattle.std.proofs.Common.{◌≡◌, ◌∙◌, ℕ, ◌+◌, ◌-◌, ◌<◌, ◌≤◌, List, [], ◌∷◌, ◌++◌, length, take}
+use Rattle.std.proofs.Common.{drop, min, max, refl, sym, ap, subst, arith, length-drop, Bool, true}
+use Rattle.std.proofs.{Common.false, Common.⊎_elim, lemmas.Bool.cases_lt}
 use Rattle.std.proofs.lemmas.List.{drop_all, drop-drop, drop-take, length-take-le, take-take}
 use Rattle.std.proofs.lemmas.List.{take_all, length-map, length-replicate, nil_from_length}
 use Rattle.yasir_ticks.specs.Bursts.{Burst}
 use Rattle.yasir_ticks.specs.declared.tick.Tick.TheVariants.{Silent, Byte}
-use Rattle.burst_walk.specs.Answered.{answered}
-use Rattle.line_spacer.specs.Runs.{SendsRun}
-use Rattle.line_spacer.specs.Stands.{HasSent, left_of, with_next, rest_behind, tick_of}
-use Rattle.line_spacer.proofs.Runs.{bytes-leave, silence-leaves, frame-leaves}
 
 -- ---- as many ticks as were taken
 

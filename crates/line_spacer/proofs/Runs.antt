@@ -1,27 +1,21 @@
 -- A run of ticks: what leaves in it, and what is read at its end.
-use Rattle.std.proofs.Common.{◌≡◌, ◌∙◌, ℕ, zero, suc, ◌+◌, ◌-◌, ◌<◌, ◌≤◌, List, [], ◌∷◌, ◌++◌}
-use Rattle.std.proofs.Common.{length}
-use Rattle.std.proofs.Common.{map, take, drop, fold, max, refl, sym, ap, subst, arith, append_assoc}
-use Rattle.std.proofs.Common.{length-append}
-use Rattle.std.proofs.Common.{length-drop, ⊎_elim}
-use Rattle.std.proofs.lemmas.Bool.{cases_lt}
-use Rattle.std.proofs.lemmas.List.{append-nil, drop_all, length-replicate, length-map, drop-drop}
-use Rattle.std.proofs.lemmas.List.{length-take-le, take-take, take-map}
-use Rattle.std.proofs.lemmas.List.Sums.{fold-append}
-use Rattle.yasir_ticks.specs.Ticks.{silent}
-use Rattle.yasir_ticks.specs.Bursts.{Burst}
-use Rattle.yasir_ticks.specs.declared.tick.Tick.{Tick}
-use Rattle.yasir_ticks.specs.declared.tick.Tick.TheVariants.{Silent, Byte}
-use Rattle.burst_walk.specs.Answered.{answered}
-use Rattle.burst_walk.specs.Laid.{tick_at, laid}
 use Rattle.burst_walk.proofs.Emissions.{laid-more, laid-same}
+use Rattle.burst_walk.specs.{Answered.answered, Laid.tick_at, Laid.laid}
 use Rattle.device_model.specs.Frames.{FrameRead}
+use Rattle.line_spacer.proofs.Arriving.{arrivals-append, drop-front}
+use Rattle.line_spacer.proofs.Sending.{on_line, byte-sent, rest-passes, nothing-sent, frame-begins}
 use Rattle.line_spacer.specs.Arrivals.{arriving, gained, arrivals_behind, arrivals}
 use Rattle.line_spacer.specs.Runs.{SendsRun}
 use Rattle.line_spacer.specs.Spacing.{Spaced, take_in, spaced, accepted_of}
 use Rattle.line_spacer.specs.Stands.{HasSent, rest_behind, TakesIn, taken_in, AnswersSpaced}
-use Rattle.line_spacer.proofs.Arriving.{arrivals-append, drop-front}
-use Rattle.line_spacer.proofs.Sending.{on_line, byte-sent, rest-passes, nothing-sent, frame-begins}
+use Rattle.std.proofs.Common.{◌≡◌, ◌∙◌, ℕ, zero, suc, ◌+◌, ◌-◌, ◌<◌, ◌≤◌, List, [], ◌∷◌, ◌++◌}
+use Rattle.std.proofs.Common.{length, map, take, drop, fold, max, refl, sym, ap, subst, arith}
+use Rattle.std.proofs.Common.{append_assoc, length-append, length-drop, ⊎_elim}
+use Rattle.std.proofs.lemmas.Bool.{cases_lt}
+use Rattle.std.proofs.lemmas.List.{append-nil, drop_all, length-replicate, length-map, drop-drop}
+use Rattle.std.proofs.lemmas.List.{length-take-le, take-take, take-map, Sums.fold-append}
+use Rattle.yasir_ticks.specs.{Bursts.Burst, Ticks.silent}
+use Rattle.yasir_ticks.specs.declared.tick.Tick.{Tick, TheVariants.Silent, TheVariants.Byte}
 
 -- ---- what leaves
 

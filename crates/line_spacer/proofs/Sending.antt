@@ -1,18 +1,16 @@
 -- What a spacer sends, tick by tick: it goes on with the frame that has begun, rests behind it, has
 -- nothing to send, or begins with the next one.
-use Rattle.std.proofs.Common.{◌≡◌, ◌∙◌, ℕ, suc, ◌+◌, ◌-◌, ◌<◌, ◌≤◌, List, []}
-use Rattle.std.proofs.Common.{◌∷◌, ◌++◌, length, map, drop, max, refl, sym, ap, subst, arith}
-use Rattle.std.proofs.Common.{append_assoc, get_or, drop-cons, nat_le, nat_lt, ◌&&◌, true, false}
-use Rattle.std.specs.List.{filter}
-use Rattle.std.proofs.lemmas.List.{append-nil, map-append, length-map, drop_all}
-use Rattle.std.proofs.lemmas.List.Elements.{filter-append}
-use Rattle.yasir_ticks.specs.Bursts.{Burst, end_of}
-use Rattle.yasir_ticks.specs.declared.tick.Tick.{Tick}
-use Rattle.yasir_ticks.specs.declared.tick.Tick.TheVariants.{Silent, Byte}
-use Rattle.burst_walk.specs.Laid.{tick_at}
 use Rattle.burst_walk.proofs.Emissions.{tick_at-none, tick_at-front, tick_at-before, tick_at-from}
+use Rattle.burst_walk.specs.Laid.{tick_at}
 use Rattle.line_spacer.specs.Spacing.{count_from, free_from, sent_from}
 use Rattle.line_spacer.specs.Stands.{tick_of, HaveBegun, AreDue, HasSent, Sends, rest_behind}
+use Rattle.std.proofs.Common.{◌≡◌, ◌∙◌, ℕ, suc, ◌+◌, ◌-◌, ◌<◌, ◌≤◌, List, [], ◌∷◌, ◌++◌, length}
+use Rattle.std.proofs.Common.{map, drop, max, refl, sym, ap, subst, arith, append_assoc, get_or}
+use Rattle.std.proofs.Common.{drop-cons, nat_le, nat_lt, ◌&&◌, true, false}
+use Rattle.std.proofs.lemmas.List.{append-nil, map-append, length-map, drop_all}
+use Rattle.std.{proofs.lemmas.List.Elements.filter-append, specs.List.filter}
+use Rattle.yasir_ticks.specs.Bursts.{Burst, end_of}
+use Rattle.yasir_ticks.specs.declared.tick.Tick.{Tick, TheVariants.Silent, TheVariants.Byte}
 
 abbrev pub on_line : List ℕ → List Tick
 on_line x = map (λ b. Byte b) x

@@ -1,44 +1,32 @@
 -- A right key, a number in a slot and a right text are refused by nothing but a fault outside.
+use Rattle.{hmac_tag.specs.declared.dir.Dir.Dir, key_text.specs.KeyText.IsKeyMet}
+use Rattle.link_format.specs.Setup.{Setup}
+use Rattle.replay_status.specs.{Statuses.fault_line, declared.status.Status.Status}
+use Rattle.sequence_journal.specs.{Links.IsLink, Loading.FindsNone, Loading.FindsOther}
+use Rattle.sequence_journal.specs.declared.link.LinkId.{LinkId}
 use Rattle.std.proofs.Common.{◌≡◌, ◌∙◌, ℕ, ◌+◌, List, [], ◌∷◌, ◌++◌, length, Option, Some, None}
 use Rattle.std.proofs.Common.{inl, inr, refl, sym, ap, subst, arith, append_assoc, length-append}
 use Rattle.std.specs.Io.KnownBytes.{prepend_known, IsAtEnd}
-use Rattle.yasir_io.specs.Causes.{Rose}
-use Rattle.yasir_io.specs.declared.source.Source.{Ghosts as Source}
-use Rattle.yasir_io.specs.declared.disk.SlotDisk.{Ghosts as SlotDisk}
-use Rattle.yasir_ticks.specs.Ticks.{ticks_in}
-use Rattle.yasir_ticks.specs.TickText.{IsTickText, ended_items}
-use Rattle.yasir_ticks.specs.declared.fault.BadTicks.{BadTicks}
-use Rattle.yasir_ticks.specs.declared.tick.Tick.{Tick}
-use Rattle.yasir_ticks.proofs.TextLaws.{ended_items-begin, IsTickText-one}
-use Rattle.hmac_tag.specs.declared.dir.Dir.{Dir}
-use Rattle.link_format.specs.Setup.{Setup}
-use Rattle.sequence_journal.specs.declared.link.LinkId.{LinkId}
-use Rattle.sequence_journal.specs.Links.{IsLink}
-use Rattle.sequence_journal.specs.Loading.{FindsNone, FindsOther}
-use Rattle.key_text.specs.KeyText.{IsKeyMet}
-use Rattle.tick_drive.specs.declared.consumer.Stop.{Stop}
+use Rattle.tick_drive.{proofs.ItemLaws.ticks_in-append, specs.declared.consumer.Stop.Stop}
 use Rattle.tick_drive.specs.declared.end.End.TheVariants.{Refused, TooLong}
-use Rattle.tick_drive.specs.declared.end.TooMuch.{TooMuch}
-use Rattle.tick_drive.specs.declared.end.TooMuch.TheVariants.{Ticks, Bytes}
-use Rattle.tick_drive.proofs.ItemLaws.{ticks_in-append}
-use Rattle.replay_status.specs.Statuses.{fault_line}
-use Rattle.replay_status.specs.declared.status.Status.{Status}
+use Rattle.tick_drive.specs.declared.end.TooMuch.{TooMuch, TheVariants.Ticks, TheVariants.Bytes}
+use Rattle.yasir_io.specs.{Causes.Rose, declared.disk.SlotDisk.Ghosts as SlotDisk}
+use Rattle.yasir_io.specs.declared.source.Source.{Ghosts as Source}
+use Rattle.yasir_ticks.proofs.TextLaws.{ended_items-begin, IsTickText-one}
+use Rattle.yasir_ticks.specs.{TickText.IsTickText, TickText.ended_items, Ticks.ticks_in}
+use Rattle.yasir_ticks.specs.declared.{fault.BadTicks.BadTicks, tick.Tick.Tick}
 use Rattle.replay_status.specs.declared.status.Status.TheVariants as status
-use Rattle.replay_status.proofs.Readable.{met_of_told, all_of_told}
-use Rattle.box_command.specs.Boxes.{Boxed}
-use Rattle.box_command.specs.ReplaysBox.{BoxDiskCause}
 use Rattle.box_command.proofs.Replayable.{no_key_refused, no_journal_refused, wrong_link_refused}
-use Rattle.live_port.specs.declared.port.Port.{Ghosts as Port}
-use Rattle.link_live.specs.TextEnds.{HasTooManyTicks, HasTooManyBytes, EndsText}
+use Rattle.box_command.specs.{Boxes.Boxed, LinkBoxes.seal_boxed, LinkBoxes.seal_rest}
+use Rattle.box_command.specs.{LinkBoxes.check_boxed, LinkBoxes.check_rest, ReplaysBox.BoxDiskCause}
 use Rattle.link_live.specs.Able.{IsLiveText, IsLivable, MayDo, IsCalm}
 use Rattle.link_live.specs.FaultText.{TellsFault}
 use Rattle.link_live.specs.LiveCommand.{Around, around, LivesBox, PortCauses}
-use Rattle.link_live.specs.Programs.{Does}
-use Rattle.box_command.specs.LinkBoxes.{seal_boxed, seal_rest, check_boxed, check_rest}
-use Rattle.link_live.specs.Words.{served}
-use Rattle.link_live.specs.declared.words.Command.{Command}
-use Rattle.link_live.specs.declared.words.Command.TheVariants.{Seal, Check}
-use Rattle.link_words.proofs.Links.{link-right}
+use Rattle.link_live.specs.{Programs.Does, TextEnds.HasTooManyTicks, TextEnds.HasTooManyBytes}
+use Rattle.link_live.specs.{TextEnds.EndsText, Words.served}
+use Rattle.link_live.specs.declared.words.Command.{Command, TheVariants.Seal, TheVariants.Check}
+use Rattle.{link_words.proofs.Links.link-right, live_port.specs.declared.port.Port.Ghosts as Port}
+use Rattle.replay_status.proofs.Readable.{met_of_told, all_of_told}
 
 -- what was read of a right text
 module _ (Heard : List Tick → Type 0) (Halts : Stop → List Tick → Type 0) (rest : ℕ)

@@ -1,14 +1,12 @@
 -- Words ask for one thing and no other.
+use Rattle.link_live.specs.Words.{IsCommand, Asks}
+use Rattle.link_live.specs.declared.words.Command.{Command, TheVariants.Seal, TheVariants.Check}
+use Rattle.{link_live.specs.declared.words.Linked.Linked, link_words.proofs.Telling.is_word}
+use Rattle.link_words.proofs.Telling.{proto_by, profile_by, dir_by, proto-by, profile-by, dir-by}
+use Rattle.link_words.specs.Words.{dir_word, link_word}
 use Rattle.std.proofs.Common.{◌≡◌, ◌∙◌, ℕ, zero, suc, ◌+◌, ◌*◌, Bool, List, [], ◌∷◌, Option, Some}
 use Rattle.std.proofs.Common.{None, cond, nat_eq, refl, sym, ap}
 use Rattle.std.specs.Prelude.{codes}
-use Rattle.link_words.specs.Words.{dir_word, link_word}
-use Rattle.link_words.proofs.Telling.{is_word, proto_by, profile_by, dir_by, proto-by, profile-by}
-use Rattle.link_words.proofs.Telling.{dir-by}
-use Rattle.link_live.specs.Words.{IsCommand, Asks}
-use Rattle.link_live.specs.declared.words.Linked.{Linked}
-use Rattle.link_live.specs.declared.words.Command.{Command}
-use Rattle.link_live.specs.declared.words.Command.TheVariants.{Seal, Check}
 
 abbrev linked_by : List ℕ → List ℕ → Linked
 linked_by first second =

@@ -1,35 +1,28 @@
 -- What a box has heard of a whole line, and of the silence behind it.
-use Rattle.std.proofs.Common.{◌≡◌, ◌∙◌, ◌⊎◌, ℕ, ◌+◌, ◌<◌, ◌≤◌, List, [], ◌∷◌, ◌++◌, length, Option}
-use Rattle.std.proofs.Common.{Ok, Err, true, false, refl, sym, ap, subst, inl, inr, arith, append_assoc}
-use Rattle.std.proofs.Common.{length-append}
-use Rattle.std.specs.Io.KnownBytes.{prepend_known, IsAtEnd}
-use Rattle.yasir_io.specs.Disks.{Slots}
-use Rattle.yasir_io.specs.declared.disk.SlotDisk.{Ghosts as SlotDisk}
-use Rattle.yasir_ticks.specs.Ticks.{Item, ticks_in, silent, items_of_run}
-use Rattle.yasir_ticks.specs.TickRun.{run_items}
-use Rattle.yasir_ticks.specs.TickText.{IsTickText, lines_of, ended_items}
-use Rattle.yasir_ticks.specs.declared.run.Run.{Run}
-use Rattle.yasir_ticks.specs.declared.tick.Tick.{Tick}
-use Rattle.yasir_ticks.specs.declared.tick_run.TickRun.TheVariants.{Silence}
-use Rattle.yasir_ticks.proofs.TickRuns.{ticks_in-run}
 use Rattle.link_box.specs.declared.box_trait.LinkBox.{Ghosts as LinkBox}
-use Rattle.tick_drive.specs.Consumers.{Gives}
-use Rattle.tick_drive.specs.declared.consumer.Stop.{Stop}
-use Rattle.tick_drive.specs.declared.end.End.{End}
-use Rattle.tick_drive.specs.declared.end.End.TheVariants.{Whole, Refused, TooLong, ReadFault}
-use Rattle.tick_drive.specs.declared.end.End.TheVariants.{Stopped}
-use Rattle.tick_drive.specs.declared.end.TooMuch.TheVariants.{Ticks, Bytes}
-use Rattle.tick_drive.proofs.ItemLaws.{ticks_in-append}
-use Rattle.live_port.specs.Lines.{HasRead, FinishAnswer as TextAnswer, IsOfText}
-use Rattle.live_port.specs.declared.lines.LineReader.{LineReader}
-use Rattle.live_port.specs.declared.port.Port.{Ghosts as Port}
-use Rattle.link_live.specs.Filtering.{LiveOrigin, filtering}
-use Rattle.link_live.specs.LiveLine.{Live, outside_of, read_further, LiveGoes, StopsHearing, HeardAt}
-use Rattle.link_live.specs.LiveLine.{TakenAt, LastAt, Given, HoldsBack, GiveAnswer, HearsAll, HearAnswer}
-use Rattle.link_live.specs.LiveLine.{HaltsAt, EndsAt, Finishes, Drives}
-use Rattle.link_live.specs.TextEnds.{EndsText}
 use Rattle.link_live.proofs.Heard.{goes_none, goes_of_text, goes_given, goes_stopped, goes_then}
 use Rattle.link_live.proofs.Heard.{heard_as, heard_more, stops_hearing}
+use Rattle.link_live.specs.Filtering.{LiveOrigin, filtering}
+use Rattle.link_live.specs.LiveLine.{Live, outside_of, read_further, LiveGoes, StopsHearing}
+use Rattle.link_live.specs.LiveLine.{HeardAt, TakenAt, LastAt, Given, HoldsBack, GiveAnswer}
+use Rattle.link_live.specs.LiveLine.{HearsAll, HearAnswer, HaltsAt, EndsAt, Finishes, Drives}
+use Rattle.link_live.specs.TextEnds.{EndsText}
+use Rattle.live_port.specs.Lines.{HasRead, FinishAnswer as TextAnswer, IsOfText}
+use Rattle.live_port.specs.declared.{lines.LineReader.LineReader, port.Port.Ghosts as Port}
+use Rattle.std.proofs.Common.{◌≡◌, ◌∙◌, ◌⊎◌, ℕ, ◌+◌, ◌<◌, ◌≤◌, List, [], ◌∷◌, ◌++◌, length, Option}
+use Rattle.std.proofs.Common.{Ok, Err, true, false, refl, sym, ap, subst, inl, inr, arith}
+use Rattle.std.proofs.Common.{append_assoc, length-append}
+use Rattle.std.specs.Io.KnownBytes.{prepend_known, IsAtEnd}
+use Rattle.tick_drive.{proofs.ItemLaws.ticks_in-append, specs.Consumers.Gives}
+use Rattle.tick_drive.specs.declared.{consumer.Stop.Stop, end.End.End, end.End.TheVariants.Whole}
+use Rattle.tick_drive.specs.declared.end.End.TheVariants.{Refused, TooLong, ReadFault, Stopped}
+use Rattle.tick_drive.specs.declared.end.TooMuch.TheVariants.{Ticks, Bytes}
+use Rattle.yasir_io.specs.{Disks.Slots, declared.disk.SlotDisk.Ghosts as SlotDisk}
+use Rattle.yasir_ticks.{proofs.TickRuns.ticks_in-run, specs.TickRun.run_items}
+use Rattle.yasir_ticks.specs.TickText.{IsTickText, lines_of, ended_items}
+use Rattle.yasir_ticks.specs.Ticks.{Item, ticks_in, silent, items_of_run}
+use Rattle.yasir_ticks.specs.declared.{run.Run.Run, tick.Tick.Tick}
+use Rattle.yasir_ticks.specs.declared.tick_run.TickRun.TheVariants.{Silence}
 
 no_items : ended_items [] ≡ []
 unfolding lines_of

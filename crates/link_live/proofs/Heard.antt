@@ -1,32 +1,26 @@
 -- What a box has heard of a line, by one call more.
-use Rattle.std.proofs.Common.{inl, ◌≡◌, ◌∙◌, ℕ, suc, ◌+◌, ◌-◌, ◌<◌, ◌≤◌, List, [], ◌∷◌, ◌++◌, length, take}
-use Rattle.std.proofs.Common.{drop, get_or, Option, Result, Ok, Err, true, false, refl, sym, ap, subst}
-use Rattle.std.proofs.Common.{arith, append-nil, append_assoc, drop-cons, length-append, length-drop}
-use Rattle.std.proofs.lemmas.List.{take-append-drop, take_all}
-use Rattle.yasir_io.specs.Disks.{Slots}
-use Rattle.yasir_io.specs.declared.disk.SlotDisk.{Ghosts as SlotDisk}
-use Rattle.yasir_ticks.specs.Ticks.{Item, ticks_in}
-use Rattle.yasir_ticks.specs.TickText.{ended_items}
-use Rattle.yasir_ticks.specs.declared.tick.Tick.{Tick}
 use Rattle.link_box.specs.declared.box_trait.LinkBox.{Ghosts as LinkBox}
-use Rattle.tick_drive.specs.Consumers.{Gives, is_journal_fault, is_write_fault}
-use Rattle.tick_drive.specs.Drive.{answer_of}
-use Rattle.tick_drive.specs.Input.{is_read_fault}
-use Rattle.tick_drive.specs.declared.consumer.Stop.{Stop}
-use Rattle.tick_drive.specs.declared.end.End.{End}
-use Rattle.tick_drive.specs.declared.end.End.TheVariants.{Whole, Refused, TooLong, ReadFault}
-use Rattle.tick_drive.specs.declared.end.End.TheVariants.{Stopped}
-use Rattle.tick_drive.specs.declared.end.TooMuch.TheVariants.{Ticks, Bytes}
-use Rattle.tick_drive.proofs.Causes.{disk_none, disk_then}
-use Rattle.tick_drive.proofs.ItemLaws.{ticks_in-append, ticks_with}
-use Rattle.live_port.specs.Lines.{HasRead, ReadsLine, FeedAnswer, IsOfText}
-use Rattle.live_port.specs.declared.lines.LineReader.{LineReader}
-use Rattle.live_port.specs.declared.port.Port.{Ghosts as Port}
 use Rattle.link_live.specs.Filtering.{LiveOrigin, GoesOn, filtering}
 use Rattle.link_live.specs.FilteringLaws.{images_none, images_then, outputs_none, outputs_then}
-use Rattle.link_live.specs.LiveLine.{Live, outside_of, read_further, IsReady, LiveGoes, HeardAt, TakenAt}
-use Rattle.link_live.specs.LiveLine.{EndsAt, Given, HoldsBack, StopsHearing, TakesBytes, EndsInBytes}
-use Rattle.link_live.specs.LiveLine.{TakesFirst, GiveAnswer}
+use Rattle.link_live.specs.LiveLine.{Live, outside_of, read_further, IsReady, LiveGoes, HeardAt}
+use Rattle.link_live.specs.LiveLine.{TakenAt, EndsAt, Given, HoldsBack, StopsHearing, TakesBytes}
+use Rattle.link_live.specs.LiveLine.{EndsInBytes, TakesFirst, GiveAnswer}
+use Rattle.live_port.specs.Lines.{HasRead, ReadsLine, FeedAnswer, IsOfText}
+use Rattle.live_port.specs.declared.{lines.LineReader.LineReader, port.Port.Ghosts as Port}
+use Rattle.std.proofs.Common.{inl, ◌≡◌, ◌∙◌, ℕ, suc, ◌+◌, ◌-◌, ◌<◌, ◌≤◌, List, [], ◌∷◌, ◌++◌}
+use Rattle.std.proofs.Common.{length, take, drop, get_or, Option, Result, Ok, Err, true, false}
+use Rattle.std.proofs.Common.{refl, sym, ap, subst, arith, append-nil, append_assoc, drop-cons}
+use Rattle.std.proofs.{Common.length-append, Common.length-drop, lemmas.List.take-append-drop}
+use Rattle.{std.proofs.lemmas.List.take_all, tick_drive.proofs.Causes.disk_none}
+use Rattle.tick_drive.proofs.{Causes.disk_then, ItemLaws.ticks_in-append, ItemLaws.ticks_with}
+use Rattle.tick_drive.specs.Consumers.{Gives, is_journal_fault, is_write_fault}
+use Rattle.tick_drive.specs.{Drive.answer_of, Input.is_read_fault}
+use Rattle.tick_drive.specs.declared.{consumer.Stop.Stop, end.End.End, end.End.TheVariants.Whole}
+use Rattle.tick_drive.specs.declared.end.End.TheVariants.{Refused, TooLong, ReadFault, Stopped}
+use Rattle.tick_drive.specs.declared.end.TooMuch.TheVariants.{Ticks, Bytes}
+use Rattle.yasir_io.specs.{Disks.Slots, declared.disk.SlotDisk.Ghosts as SlotDisk}
+use Rattle.yasir_ticks.specs.{TickText.ended_items, Ticks.Item, Ticks.ticks_in}
+use Rattle.yasir_ticks.specs.declared.tick.Tick.{Tick}
 
 -- ---- what calls do beside
 

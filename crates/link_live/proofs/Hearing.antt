@@ -1,36 +1,26 @@
 -- What a box has heard of a line whose bytes come, by one read more.
-use Rattle.std.proofs.Common.{inr, ◌≡◌, ◌∙◌, ℕ, ◌+◌, ◌<◌, ◌≤◌, List, [], ◌∷◌, ◌++◌, length, Option, Some}
-use Rattle.std.proofs.Common.{None, Ok, Err, true, false, refl, sym, ap, subst}
-use Rattle.std.proofs.Common.{arith, append-nil, append_assoc, length-append}
-use Rattle.std.specs.Io.KnownBytes.{prepend_known, IsAtEnd}
-use Rattle.yasir_io.specs.Causes.{HasCause}
-use Rattle.yasir_io.specs.Disks.{Slots}
-use Rattle.yasir_io.specs.declared.Failed.{Failed}
-use Rattle.yasir_io.specs.declared.disk.SlotDisk.{Ghosts as SlotDisk}
-use Rattle.yasir_ticks.specs.Ticks.{ticks_in}
-use Rattle.yasir_ticks.specs.TickText.{ended_items}
-use Rattle.yasir_ticks.specs.declared.tick.Tick.{Tick}
+use Rattle.{key_text.proofs.KeyLemmas.prepend_known-twice, line_texts.specs.Sending.LineAndNotes}
 use Rattle.link_box.specs.declared.box_trait.LinkBox.{Ghosts as LinkBox}
-use Rattle.line_texts.specs.Sending.{LineAndNotes}
-use Rattle.tick_drive.specs.Input.{is_read_fault}
-use Rattle.tick_drive.specs.declared.end.End.{End}
-use Rattle.tick_drive.specs.declared.end.End.TheVariants.{Whole, Refused, TooLong, ReadFault}
-use Rattle.tick_drive.specs.declared.end.End.TheVariants.{Stopped}
-use Rattle.tick_drive.specs.declared.end.TooMuch.TheVariants.{Bytes}
-use Rattle.tick_drive.proofs.Causes.{disk_none}
-use Rattle.key_text.proofs.KeyLemmas.{prepend_known-twice}
-use Rattle.live_port.specs.History.{Event}
-use Rattle.live_port.specs.Order.{Handed}
-use Rattle.live_port.specs.declared.lines.LineReader.{LineReader}
-use Rattle.live_port.specs.declared.port.Output.{Output}
-use Rattle.live_port.specs.declared.port.Port.{Ghosts as Port}
-use Rattle.link_live.specs.declared.live_box.TheConstants.{MAX_LIVE_BYTES}
+use Rattle.link_live.proofs.Heard.{goes_none, goes_of_text, goes_then, takes_none}
 use Rattle.link_live.specs.Filtering.{LiveOrigin, KeepsImages, made_at}
 use Rattle.link_live.specs.FilteringLaws.{images_none}
 use Rattle.link_live.specs.LiveLine.{Live, live_of, outside_of, read_further, IsReady, LiveGoes}
 use Rattle.link_live.specs.LiveLine.{TakenAt, EndsAt, TakesBytes, EndsInBytes, Hears, HearsAll}
 use Rattle.link_live.specs.LiveLine.{FailsToHear, EndsHearing, HearAnswer}
-use Rattle.link_live.proofs.Heard.{goes_none, goes_of_text, goes_then, takes_none}
+use Rattle.link_live.specs.declared.live_box.TheConstants.{MAX_LIVE_BYTES}
+use Rattle.live_port.specs.{History.Event, Order.Handed, declared.lines.LineReader.LineReader}
+use Rattle.live_port.specs.declared.port.{Output.Output, Port.Ghosts as Port}
+use Rattle.std.proofs.Common.{inr, ◌≡◌, ◌∙◌, ℕ, ◌+◌, ◌<◌, ◌≤◌, List, [], ◌∷◌, ◌++◌, length, Option}
+use Rattle.std.proofs.Common.{Some, None, Ok, Err, true, false, refl, sym, ap, subst, arith}
+use Rattle.std.proofs.Common.{append-nil, append_assoc, length-append}
+use Rattle.std.specs.Io.KnownBytes.{prepend_known, IsAtEnd}
+use Rattle.tick_drive.proofs.Causes.{disk_none}
+use Rattle.tick_drive.specs.{Input.is_read_fault, declared.end.End.End}
+use Rattle.tick_drive.specs.declared.end.End.TheVariants.{Whole, Refused, TooLong, ReadFault}
+use Rattle.tick_drive.specs.declared.end.{End.TheVariants.Stopped, TooMuch.TheVariants.Bytes}
+use Rattle.yasir_io.specs.{Causes.HasCause, Disks.Slots}
+use Rattle.yasir_io.specs.declared.{Failed.Failed, disk.SlotDisk.Ghosts as SlotDisk}
+use Rattle.yasir_ticks.specs.{TickText.ended_items, Ticks.ticks_in, declared.tick.Tick.Tick}
 
 prepend_then : (a c : List ℕ) (l m n : Option (List ℕ)) → l ≡ prepend_known a m
     → m ≡ prepend_known c n → l ≡ prepend_known (a ++ c) n

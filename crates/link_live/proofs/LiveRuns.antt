@@ -1,46 +1,30 @@
 -- From how a box was driven over a live line to what the status says of it.
-use Rattle.std.proofs.Common.{◌≡◌, ◌∙◌, ℕ, inl, inr, List, [], ◌∷◌, ◌++◌, Option, Some, refl}
-use Rattle.std.proofs.Common.{sym, ap, subst, true}
-use Rattle.yasir_io.specs.Causes.{Rose}
-use Rattle.yasir_io.specs.Disks.{Slots, OneImage, LeavesOnly}
-use Rattle.yasir_io.specs.declared.disk.SlotDisk.{Ghosts as SlotDisk}
-use Rattle.yasir_ticks.specs.Ticks.{ticks_in}
-use Rattle.yasir_ticks.specs.Ticks.Item.{tick}
-use Rattle.yasir_ticks.specs.declared.tick.Tick.{Tick}
-use Rattle.hmac_tag.specs.declared.dir.Dir.{Dir}
-use Rattle.burst_walk.specs.Causal.{IsCausal}
-use Rattle.link_format.specs.NumberedFrame.{numbers_of}
-use Rattle.link_format.specs.Setup.{Setup, setup_of}
-use Rattle.link_box.specs.Walking.{frames_of}
-use Rattle.link_box.specs.declared.box_trait.LinkBox.{Ghosts as LinkBox}
-use Rattle.sequence_journal.specs.declared.link.LinkId.{LinkId}
-use Rattle.sequence_journal.specs.declared.journal.Journal.{Journal}
+use Rattle.{burst_walk.specs.Causal.IsCausal, hmac_tag.specs.declared.dir.Dir.Dir}
+use Rattle.link_box.specs.{Walking.frames_of, declared.box_trait.LinkBox.Ghosts as LinkBox}
+use Rattle.link_format.specs.{NumberedFrame.numbers_of, Setup.Setup, Setup.setup_of}
 use Rattle.sequence_journal.specs.Journal.{journal_link, journal_floor, HasFloorAtLeast, Fits}
-use Rattle.sequence_journal.specs.Journal.{IsCrashSafe}
-use Rattle.sequence_journal.specs.Slots.{floor_of}
-use Rattle.sequence_journal.specs.Loading.{IsLoaded, KeepsLoadable}
-use Rattle.sequence_journal.specs.Uptimes.{RiseFrom}
-use Rattle.tick_drive.specs.Input.{is_read_fault}
-use Rattle.tick_drive.specs.declared.consumer.Stop.{Stop}
+use Rattle.sequence_journal.specs.{Journal.IsCrashSafe, Loading.IsLoaded, Loading.KeepsLoadable}
+use Rattle.sequence_journal.specs.{Slots.floor_of, Uptimes.RiseFrom}
+use Rattle.sequence_journal.specs.declared.{journal.Journal.Journal, link.LinkId.LinkId}
+use Rattle.std.proofs.Common.{◌≡◌, ◌∙◌, ℕ, inl, inr, List, [], ◌∷◌, ◌++◌, Option, Some, refl, sym}
+use Rattle.std.proofs.Common.{ap, subst, true}
+use Rattle.tick_drive.specs.{Input.is_read_fault, declared.consumer.Stop.Stop}
+use Rattle.yasir_io.specs.{Causes.Rose, Disks.Slots, Disks.OneImage, Disks.LeavesOnly}
+use Rattle.yasir_io.specs.declared.disk.SlotDisk.{Ghosts as SlotDisk}
+use Rattle.yasir_ticks.specs.{Ticks.ticks_in, Ticks.Item.tick, declared.tick.Tick.Tick}
 use Rattle.tick_drive.specs.declared.consumer.Stop.TheVariants as stops
-use Rattle.tick_drive.specs.declared.end.End.{End}
-use Rattle.tick_drive.specs.declared.end.End.TheVariants.{Whole, Refused, TooLong, ReadFault}
-use Rattle.tick_drive.specs.declared.end.End.TheVariants.{Stopped}
-use Rattle.tick_drive.proofs.ItemLaws.{ticks_in-append}
-use Rattle.replay_status.specs.Endings.{status_of}
-use Rattle.box_command.specs.Boxes.{Boxed, IsBoxed}
-use Rattle.box_command.specs.BoxLines.{ToldFloor}
-use Rattle.box_command.specs.LinkBoxed.{boxed_of}
-use Rattle.box_command.specs.ReplaysBox.{boxed_with, KeepsFloor, LeavesUptime, KeepsFloorThroughout}
 use Rattle.box_command.proofs.Floors.{told_before, keeps_floor, keeps_from_load, keeps_throughout}
 use Rattle.box_command.proofs.Walking.{walk-boxed}
-use Rattle.live_port.specs.History.{Event}
-use Rattle.live_port.specs.declared.port.Port.{Ghosts as Port}
-use Rattle.link_live.specs.Filtering.{LiveOrigin, Filters}
-use Rattle.link_live.specs.LiveLine.{Live, LiveGoes, HeardAt, HaltsAt, Drives}
+use Rattle.box_command.specs.{BoxLines.ToldFloor, Boxes.Boxed, Boxes.IsBoxed, LinkBoxed.boxed_of}
+use Rattle.box_command.specs.ReplaysBox.{boxed_with, KeepsFloor, LeavesUptime, KeepsFloorThroughout}
 use Rattle.link_live.proofs.TextEndsLaws.{text_by}
-use Rattle.link_live.specs.LiveCommand.{Around, around, Carries, HaltsBox, EndsLine, RunsLine}
-use Rattle.link_live.specs.LiveCommand.{PortCauses}
+use Rattle.link_live.specs.{Filtering.LiveOrigin, Filtering.Filters, LiveCommand.Around}
+use Rattle.link_live.specs.LiveCommand.{around, Carries, HaltsBox, EndsLine, RunsLine, PortCauses}
+use Rattle.link_live.specs.LiveLine.{Live, LiveGoes, HeardAt, HaltsAt, Drives}
+use Rattle.live_port.specs.{History.Event, declared.port.Port.Ghosts as Port}
+use Rattle.{replay_status.specs.Endings.status_of, tick_drive.proofs.ItemLaws.ticks_in-append}
+use Rattle.tick_drive.specs.declared.end.End.{End, TheVariants.Whole}
+use Rattle.tick_drive.specs.declared.end.End.TheVariants.{Refused, TooLong, ReadFault, Stopped}
 
 -- the status of an end
 runs_of : {P D : Type 0} (p : Port P) (d : SlotDisk D) (link : LinkId) (boxes : ℕ → Boxed) (rest : ℕ)

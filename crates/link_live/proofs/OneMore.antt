@@ -1,11 +1,9 @@
 -- A consumer that took none of a run at once, and then one tick.
 use Rattle.std.proofs.Common.{◌≡◌, ℕ, ◌≤◌, List, [], ◌∷◌, length, Ok, Err, ap, arith}
-use Rattle.yasir_ticks.specs.Ticks.{Item, ticks_in}
-use Rattle.yasir_ticks.specs.Ticks.Item.{tick}
-use Rattle.yasir_ticks.specs.declared.tick.Tick.{Tick}
+use Rattle.tick_drive.proofs.Fronts.{none_given, still_may, one_given, one_stopped}
 use Rattle.tick_drive.specs.Consumers.{Consuming, AreJoined, MayTake, Gives, GivesFirst, GivesUpTo}
 use Rattle.tick_drive.specs.declared.consumer.Stop.{Stop}
-use Rattle.tick_drive.proofs.Fronts.{none_given, still_may, one_given, one_stopped}
+use Rattle.yasir_ticks.specs.{Ticks.Item, Ticks.ticks_in, Ticks.Item.tick, declared.tick.Tick.Tick}
 
 module _ {C : Type 0} (meaning : Consuming C) (c0 c1 : C) (items : List Item)
     (may : MayTake meaning c0 items) (n : ℕ) (none : n ≤ 0) (first : GivesUpTo meaning c0 c1 items n)

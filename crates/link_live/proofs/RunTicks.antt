@@ -1,10 +1,9 @@
 -- The ticks of runs that lines stand for.
 use Rattle.std.proofs.Common.{◌≡◌, ℕ, List, [], ◌∷◌, map, replicate, refl, ap, sym}
-use Rattle.yasir_ticks.specs.Ticks.{ticks_in, silent}
-use Rattle.yasir_ticks.specs.Ticks.Item.{tick}
+use Rattle.yasir_ticks.proofs.TickRuns.{ticks_in-run}
+use Rattle.yasir_ticks.specs.Ticks.{ticks_in, silent, Item.tick}
 use Rattle.yasir_ticks.specs.declared.tick.Tick.TheVariants.{Silent, Byte}
 use Rattle.yasir_ticks.specs.declared.tick_run.TickRun.TheVariants.{Silence}
-use Rattle.yasir_ticks.proofs.TickRuns.{ticks_in-run}
 
 pub byte_ticks : (bytes : List ℕ) → map Byte bytes ≡ ticks_in (map (λ b. tick (Byte b)) bytes)
 byte_ticks [] = refl

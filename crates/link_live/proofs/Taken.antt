@@ -1,47 +1,34 @@
 -- A filter has taken some ticks, and handed on what the box makes of them.
-use Rattle.std.proofs.Common.{◌≡◌, ◌∙◌, ℕ, ◌+◌, ◌-◌, ◌<◌, ◌≤◌, List, [], ◌∷◌, ◌++◌, length, take}
-use Rattle.std.proofs.Common.{Option, Result, Ok, Err, true, false, refl, sym, ap, subst, arith, append-nil}
-use Rattle.std.proofs.lemmas.List.{take-take, length-take}
-use Rattle.yasir_io.specs.Disks.{Slots}
-use Rattle.yasir_io.specs.declared.Failed.{Failed}
-use Rattle.yasir_io.specs.declared.disk.SlotDisk.{Ghosts as SlotDisk}
-use Rattle.yasir_ticks.specs.Ticks.{Item, ticks_in}
-use Rattle.yasir_ticks.specs.Ticks.Item.{tick}
-use Rattle.yasir_ticks.specs.TickRun.{run_ticks, run_items}
-use Rattle.yasir_ticks.specs.declared.tick.Tick.{Tick}
-use Rattle.yasir_ticks.specs.declared.tick_run.TickRun.{TickRun}
-use Rattle.yasir_ticks.proofs.TickRuns.{length-run_items}
-use Rattle.burst_walk.specs.Causal.{IsCausal}
-use Rattle.burst_walk.specs.declared.box_step.BoxStep.{BoxStep}
-use Rattle.burst_walk.proofs.Runs.{run-none}
-use Rattle.sequence_journal.specs.declared.journal.Journal.{Journal}
-use Rattle.sequence_journal.specs.declared.journal.JournalFault.{JournalFault}
-use Rattle.sequence_journal.specs.Journal.{journal_link, journal_floor}
-use Rattle.sequence_journal.specs.Uptimes.{RiseFrom}
-use Rattle.link_format.specs.NumberedFrame.{numbers_of}
-use Rattle.link_format.specs.Setup.{Setup}
-use Rattle.link_box.specs.Walking.{frames_of, number_after}
-use Rattle.link_box.specs.Runs.{HasTakenRun, TakesRun}
-use Rattle.link_box.specs.Stepping.{HasStepped, Steps, FailsStep, KeepsJournal, ServesLink}
-use Rattle.link_box.specs.declared.box_trait.LinkBox.{Ghosts as LinkBox}
-use Rattle.line_texts.specs.Sending.{AnswersNoted}
-use Rattle.tick_drive.specs.Consumers.{Gives, GivesUpTo}
-use Rattle.tick_drive.specs.declared.consumer.Stop.TheVariants.{WriteFault, JournalFault as JournalStop}
-use Rattle.tick_drive.proofs.Causes.{disk_none}
-use Rattle.tick_drive.proofs.ItemLaws.{ticks_in-append, ticks_in-front, length-front}
-use Rattle.box_command.specs.Boxes.{AnswersBoxRun, FailsBox, line_of_note}
-use Rattle.box_command.specs.BoxLines.{ToldFloor}
-use Rattle.box_command.specs.LinkBoxed.{boxed_of}
-use Rattle.box_command.specs.Sending.{made_by}
-use Rattle.box_command.proofs.AnsweredRuns.{run_noted, step_noted}
-use Rattle.box_command.proofs.Begun.{one_more}
+use Rattle.box_command.proofs.{AnsweredRuns.run_noted, AnsweredRuns.step_noted, Begun.one_more}
 use Rattle.box_command.proofs.Walking.{run-answers, step-answers, step-fails}
-use Rattle.live_port.specs.Order.{Handed, HandedFronts}
-use Rattle.live_port.specs.Sent.{Hands, WritesCause}
-use Rattle.live_port.specs.declared.port.Port.{Ghosts as Port}
-use Rattle.link_live.specs.Filtering.{Outside, LiveOrigin, Filters, KeepsImages, PortCause, filtering}
-use Rattle.link_live.specs.Filtering.{made_at, box_at}
+use Rattle.box_command.specs.{BoxLines.ToldFloor, Boxes.AnswersBoxRun, Boxes.FailsBox}
+use Rattle.box_command.specs.{Boxes.line_of_note, LinkBoxed.boxed_of, Sending.made_by}
+use Rattle.burst_walk.proofs.Runs.{run-none}
+use Rattle.burst_walk.specs.{Causal.IsCausal, declared.box_step.BoxStep.BoxStep}
+use Rattle.{line_texts.specs.Sending.AnswersNoted, link_box.specs.Runs.HasTakenRun}
+use Rattle.link_box.specs.{Runs.TakesRun, Stepping.HasStepped, Stepping.Steps, Stepping.FailsStep}
+use Rattle.link_box.specs.{Stepping.KeepsJournal, Stepping.ServesLink, Walking.frames_of}
+use Rattle.link_box.specs.{Walking.number_after, declared.box_trait.LinkBox.Ghosts as LinkBox}
+use Rattle.link_format.specs.{NumberedFrame.numbers_of, Setup.Setup}
+use Rattle.link_live.specs.Filtering.{Outside, LiveOrigin, Filters, KeepsImages, PortCause}
+use Rattle.link_live.specs.Filtering.{filtering, made_at, box_at}
 use Rattle.link_live.specs.FilteringLaws.{images_none, port_none}
+use Rattle.live_port.specs.Order.{Handed, HandedFronts}
+use Rattle.live_port.specs.{Sent.Hands, Sent.WritesCause, declared.port.Port.Ghosts as Port}
+use Rattle.sequence_journal.specs.{Journal.journal_link, Journal.journal_floor, Uptimes.RiseFrom}
+use Rattle.sequence_journal.specs.declared.journal.{Journal.Journal, JournalFault.JournalFault}
+use Rattle.std.proofs.Common.{◌≡◌, ◌∙◌, ℕ, ◌+◌, ◌-◌, ◌<◌, ◌≤◌, List, [], ◌∷◌, ◌++◌, length, take}
+use Rattle.std.proofs.Common.{Option, Result, Ok, Err, true, false, refl, sym, ap, subst, arith}
+use Rattle.std.proofs.{Common.append-nil, lemmas.List.take-take, lemmas.List.length-take}
+use Rattle.tick_drive.proofs.{Causes.disk_none, ItemLaws.ticks_in-append, ItemLaws.ticks_in-front}
+use Rattle.tick_drive.{proofs.ItemLaws.length-front, specs.Consumers.Gives}
+use Rattle.tick_drive.specs.{Consumers.GivesUpTo, declared.consumer.Stop.TheVariants.WriteFault}
+use Rattle.tick_drive.specs.declared.consumer.Stop.TheVariants.{JournalFault as JournalStop}
+use Rattle.yasir_io.specs.Disks.{Slots}
+use Rattle.yasir_io.specs.declared.{Failed.Failed, disk.SlotDisk.Ghosts as SlotDisk}
+use Rattle.yasir_ticks.{proofs.TickRuns.length-run_items, specs.TickRun.run_ticks}
+use Rattle.yasir_ticks.specs.{TickRun.run_items, Ticks.Item, Ticks.ticks_in, Ticks.Item.tick}
+use Rattle.yasir_ticks.specs.declared.{tick.Tick.Tick, tick_run.TickRun.TickRun}
 
 module _ {P : Type 0} (p : Port P) where
   port_ok : (old new : P) → WritesCause p {T = Unit {0}} {E = Failed} old new (Ok tt)

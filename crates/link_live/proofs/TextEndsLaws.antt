@@ -1,13 +1,10 @@
 -- What holds at the end of a text, where more holds of the ticks that were taken.
-use Rattle.std.proofs.Common.{ℕ, List, ◌⊎◌, inl, inr}
-use Rattle.yasir_ticks.specs.Ticks.{Item}
-use Rattle.yasir_ticks.specs.declared.tick.Tick.{Tick}
-use Rattle.tick_drive.specs.declared.consumer.Stop.{Stop}
-use Rattle.tick_drive.specs.declared.end.End.{End}
-use Rattle.tick_drive.specs.declared.end.End.TheVariants.{Whole, Refused, TooLong, ReadFault}
-use Rattle.tick_drive.specs.declared.end.End.TheVariants.{Stopped}
-use Rattle.tick_drive.specs.declared.end.TooMuch.TheVariants.{Ticks, Bytes}
 use Rattle.link_live.specs.TextEnds.{HasTooManyTicks, EndsBehind, EndsWithin, EndsAtLast, EndsText}
+use Rattle.std.proofs.Common.{ℕ, List, ◌⊎◌, inl, inr}
+use Rattle.tick_drive.specs.declared.{consumer.Stop.Stop, end.End.End, end.End.TheVariants.Whole}
+use Rattle.tick_drive.specs.declared.end.End.TheVariants.{Refused, TooLong, ReadFault, Stopped}
+use Rattle.tick_drive.specs.declared.end.TooMuch.TheVariants.{Ticks, Bytes}
+use Rattle.yasir_ticks.specs.{Ticks.Item, declared.tick.Tick.Tick}
 
 module _ (Heard Heard' : List Tick → Type 0) (Halts Halts' : Stop → List Tick → Type 0)
     (hears : (line : List Tick) → Heard line → Heard' line)

@@ -1,21 +1,17 @@
 -- Words ask for one thing and no other.
-use Rattle.std.proofs.Common.{◌≡◌, ◌∙◌, ℕ, zero, suc, ◌+◌, ◌*◌, Bool, List, [], ◌∷◌, Option, Some}
-use Rattle.std.proofs.Common.{None, cond, nat_eq, refl, sym, ap, arith, subst, ◌≤◌, ◌^◌, ◌<◌}
-use Rattle.std.proofs.Common.{inl, inr}
-use Rattle.std.proofs.lemmas.Fmt.{decimal_is_IsNumeral}
-use Rattle.std.specs.Prelude.{codes, decimal}
-use Rattle.std.specs.Str.Parse.{digits_value}
-use Rattle.hmac_tag.specs.declared.dir.Dir.{Dir}
-use Rattle.link_words.specs.Words.{dir_word, link_word}
-use Rattle.link_words.proofs.Telling.{is_word, proto_by, profile_by, dir_by, proto-by, profile-by, dir-by}
-use Rattle.link_replay.specs.Words.{IsCommand, Asks, AreFloors}
-use Rattle.link_words.specs.declared.words.Profile.{Profile}
-use Rattle.link_words.specs.declared.words.Proto.{Proto}
-use Rattle.link_words.specs.declared.words.Proto.TheVariants.{Rtu, Dnp3}
-use Rattle.link_replay.specs.declared.words.Command.{Command}
+use Rattle.{hmac_tag.specs.declared.dir.Dir.Dir, link_replay.specs.Words.IsCommand}
+use Rattle.link_replay.specs.{Words.Asks, Words.AreFloors, declared.words.Command.Command}
 use Rattle.link_replay.specs.declared.words.Command.TheVariants.{Init, Read, Vectors, Seal, Check}
-use Rattle.link_replay.specs.declared.words.Command.TheVariants.{Replay, Trial, Space}
-use Rattle.link_replay.specs.declared.words.Command.TheVariants.{Audit, Duplex, Help, Version}
+use Rattle.link_replay.specs.declared.words.Command.TheVariants.{Replay, Trial, Space, Audit}
+use Rattle.link_replay.specs.declared.words.Command.TheVariants.{Duplex, Help, Version}
+use Rattle.link_words.proofs.Telling.{is_word, proto_by, profile_by, dir_by, proto-by, profile-by}
+use Rattle.link_words.proofs.Telling.{dir-by}
+use Rattle.link_words.specs.{Words.dir_word, Words.link_word, declared.words.Profile.Profile}
+use Rattle.link_words.specs.declared.words.Proto.{Proto, TheVariants.Rtu, TheVariants.Dnp3}
+use Rattle.std.proofs.Common.{◌≡◌, ◌∙◌, ℕ, zero, suc, ◌+◌, ◌*◌, Bool, List, [], ◌∷◌, Option, Some}
+use Rattle.std.proofs.Common.{None, cond, nat_eq, refl, sym, ap, arith, subst, ◌≤◌, ◌^◌, ◌<◌, inl}
+use Rattle.std.proofs.{Common.inr, lemmas.Fmt.decimal_is_IsNumeral}
+use Rattle.std.specs.{Prelude.codes, Prelude.decimal, Str.Parse.digits_value}
 
 -- the command whose first word this is, with the five words behind it
 abbrev command_by : List ℕ → List ℕ → List ℕ → List ℕ → List ℕ → List ℕ → Command

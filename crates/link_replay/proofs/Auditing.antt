@@ -1,34 +1,23 @@
 -- The session of an audit's words, its verdict, and what an input that didn't end well leaves.
-use Rattle.std.proofs.Common.{◌≡◌, ◌⊎◌, ℕ, ◌+◌, List, ◌++◌, Option, true, false, inl, inr, refl}
-use Rattle.std.proofs.Common.{arith}
-use Rattle.std.proofs.lemmas.Bool.{eq-eqb, ne_eqb}
-use Rattle.yasir_ticks.specs.Ticks.{Item, silent}
-use Rattle.yasir_ticks.specs.declared.TheConstants.{T3_5_TICKS}
-use Rattle.yasir_ticks.specs.declared.tick.Tick.{Tick}
-use Rattle.tick_drive.specs.declared.consumer.Stop.{Stop}
-use Rattle.tick_drive.specs.declared.end.End.{End}
-use Rattle.tick_drive.specs.declared.end.End.TheVariants.{Whole, Refused, TooLong, ReadFault}
-use Rattle.tick_drive.specs.declared.end.End.TheVariants.{Stopped}
-use Rattle.replay_status.specs.Endings.{status_of}
-use Rattle.replay_status.specs.declared.status.Status.TheVariants.{NoMemory}
-use Rattle.sequence_journal.specs.declared.numbers.TheConstants.{LIMIT}
-use Rattle.seal_judgements.specs.Sealing.{sealed}
+use Rattle.{box_command.specs.LinkBoxes.seal_rest, link_replay.specs.ReadCommand.device_reads}
 use Rattle.link_verdicts.specs.Checking.{passed}
-use Rattle.replay_lists.specs.Listed.{link_rest}
-use Rattle.session_audit.specs.AuditedInput.{FindsNone}
+use Rattle.link_words.specs.Links.{rules_of, link_profile_of, delay_of}
+use Rattle.link_words.specs.declared.words.Profile.{Profile, TheVariants.Y18, TheVariants.Y24}
+use Rattle.link_words.specs.declared.words.Proto.{Proto, TheVariants.Rtu, TheVariants.Dnp3}
+use Rattle.{recordings_replay.specs.Recorded.PrintsItems, replay_lists.specs.Listed.link_rest}
+use Rattle.replay_status.specs.{Endings.status_of, declared.status.Status.TheVariants.NoMemory}
+use Rattle.seal_judgements.specs.Sealing.{sealed}
+use Rattle.sequence_journal.specs.declared.numbers.TheConstants.{LIMIT}
+use Rattle.session_audit.{proofs.Auditing.kind-so, specs.AuditedInput.FindsNone}
 use Rattle.session_audit.specs.Sessions.{sent_setup, got_setup, verdict_of, verdict_with}
 use Rattle.session_audit.specs.Verdicts.{verdict_on}
-use Rattle.session_audit.specs.declared.session.Session.{Session}
-use Rattle.session_audit.specs.declared.verdict.Verdict.{Verdict}
-use Rattle.session_audit.proofs.Auditing.{kind-so}
-use Rattle.recordings_replay.specs.Recorded.{PrintsItems}
-use Rattle.link_words.specs.Links.{rules_of, link_profile_of, delay_of}
-use Rattle.link_replay.specs.ReadCommand.{device_reads}
-use Rattle.box_command.specs.LinkBoxes.{seal_rest}
-use Rattle.link_words.specs.declared.words.Profile.{Profile}
-use Rattle.link_words.specs.declared.words.Profile.TheVariants.{Y18, Y24}
-use Rattle.link_words.specs.declared.words.Proto.{Proto}
-use Rattle.link_words.specs.declared.words.Proto.TheVariants.{Rtu, Dnp3}
+use Rattle.session_audit.specs.declared.{session.Session.Session, verdict.Verdict.Verdict}
+use Rattle.std.proofs.Common.{◌≡◌, ◌⊎◌, ℕ, ◌+◌, List, ◌++◌, Option, true, false, inl, inr, refl}
+use Rattle.std.proofs.{Common.arith, lemmas.Bool.eq-eqb, lemmas.Bool.ne_eqb}
+use Rattle.tick_drive.specs.declared.{consumer.Stop.Stop, end.End.End, end.End.TheVariants.Whole}
+use Rattle.tick_drive.specs.declared.end.End.TheVariants.{Refused, TooLong, ReadFault, Stopped}
+use Rattle.yasir_ticks.specs.Ticks.{Item, silent}
+use Rattle.yasir_ticks.specs.declared.{TheConstants.T3_5_TICKS, tick.Tick.Tick}
 
 -- ---- the session
 

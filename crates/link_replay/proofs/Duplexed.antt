@@ -1,31 +1,26 @@
 -- What `duplex` does follows from what its boxes make of both recordings; and where all that it is
 -- given is right, it gives `Done` or `NoMemory`.
-use Rattle.std.proofs.Common.{◌≡◌, ◌⊎◌, ℕ, List, Option, false, refl}
-use Rattle.yasir_io.specs.declared.source.Source.{Ghosts as Source}
-use Rattle.yasir_io.specs.declared.sink.Sink.{Ghosts as Sink}
-use Rattle.yasir_io.specs.declared.disk.SlotDisk.{Ghosts as SlotDisk}
-use Rattle.yasir_ticks.specs.declared.tick.Tick.{Tick}
 use Rattle.hmac_tag.specs.declared.dir.Dir.{Dir}
-use Rattle.replay_status.specs.Outside.{Outside}
 use Rattle.replay_status.specs.Causes.{ReadsCause, SinkCause, NoneRose}
-use Rattle.replay_status.specs.declared.status.Status.{Status}
+use Rattle.replay_status.specs.{Outside.Outside, declared.status.Status.Status}
 use Rattle.replay_status.specs.declared.status.Status.TheVariants.{Done, BadTicks, ReadFault}
 use Rattle.replay_status.specs.declared.status.Status.TheVariants.{WriteFault, TooLong, NoMemory}
-use Rattle.tick_drive.specs.Consumers.{is_write_fault}
-use Rattle.tick_drive.specs.Drive.{answer_of}
+use Rattle.std.proofs.Common.{◌≡◌, ◌⊎◌, ℕ, List, Option, false, refl}
+use Rattle.tick_drive.specs.{Consumers.is_write_fault, Drive.answer_of}
+use Rattle.yasir_io.specs.declared.{disk.SlotDisk.Ghosts as SlotDisk, sink.Sink.Ghosts as Sink}
+use Rattle.yasir_io.specs.declared.source.Source.{Ghosts as Source}
+use Rattle.yasir_ticks.specs.declared.tick.Tick.{Tick}
 use Rattle.tick_drive.specs.declared.consumer.Stop.TheVariants as stops
 use Rattle.tick_drive.specs.declared.end.End.{End}
 use Rattle.tick_drive.specs.declared.end.End.TheVariants.{Whole, Refused, Stopped}
 use Rattle.tick_drive.specs.declared.end.End.TheVariants as ends
-use Rattle.replay_status.specs.Endings.{status_of}
 use Rattle.box_command.specs.Recording.{BothTexts, HoldsTexts, PrintsBoth, RecordsWhole}
-use Rattle.box_command.specs.Recording.{EndsOtherwise}
-use Rattle.box_command.specs.declared.recording.Recorded.{Recorded}
+use Rattle.box_command.specs.{Recording.EndsOtherwise, declared.recording.Recorded.Recorded}
+use Rattle.link_replay.proofs.KeyedRuns.{EndsAs, keyed_done}
 use Rattle.link_replay.specs.DuplexCommand.{DuplexesWith, Duplexes, duplex_texts}
 use Rattle.link_replay.specs.ReplayCommand.{IsListable}
-use Rattle.link_words.specs.declared.words.Profile.{Profile}
-use Rattle.link_words.specs.declared.words.Proto.{Proto}
-use Rattle.link_replay.proofs.KeyedRuns.{EndsAs, keyed_done}
+use Rattle.link_words.specs.declared.words.{Profile.Profile, Proto.Proto}
+use Rattle.replay_status.specs.Endings.{status_of}
 
 module _ {K S O L D : Type 0} (k : Source K) (s : Source S) (o : Sink O) (l : Sink L)
     (d : SlotDisk D) (proto : Proto) (profile : Profile) (dir : Dir)

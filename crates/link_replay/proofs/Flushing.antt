@@ -1,19 +1,17 @@
 -- A command that ends by a flush of both sinks, or by a write that failed: what it leaves of them,
 -- and the causes of its status where neither key nor disk was reached.
-use Rattle.std.proofs.Common.{◌≡◌, ◌⊎◌, ℕ, List, Option, inl, inr, refl, subst, sym, arith}
-use Rattle.yasir_ticks.specs.declared.tick.Tick.{Tick}
-use Rattle.yasir_io.specs.Disks.{Slots}
-use Rattle.yasir_io.specs.declared.sink.Sink.{Ghosts as Sink}
-use Rattle.sequence_journal.specs.declared.link.LinkId.{LinkId}
-use Rattle.device_model.specs.Frames.{FrameRead}
-use Rattle.device_replay.specs.PrintsFrames.{PrintsFrames}
+use Rattle.{device_model.specs.Frames.FrameRead, device_replay.specs.PrintsFrames.PrintsFrames}
 use Rattle.line_texts.specs.Sending.{LineAndNotes, SinkTexts}
-use Rattle.space_replay.specs.SpacesLine.{SpacesLine}
+use Rattle.link_replay.specs.InitCommand.{LeavesSinks, MakesJournal, IsNewJournal}
 use Rattle.replay_status.specs.Causes.{InputCause, ReadsCause, DiskCause}
 use Rattle.replay_status.specs.declared.status.Status.{Status}
 use Rattle.replay_status.specs.declared.status.Status.TheVariants.{Done, ReadFault, WriteFault}
 use Rattle.replay_status.specs.declared.status.Status.TheVariants.{JournalFault}
-use Rattle.link_replay.specs.InitCommand.{LeavesSinks, MakesJournal, IsNewJournal}
+use Rattle.sequence_journal.specs.declared.link.LinkId.{LinkId}
+use Rattle.space_replay.specs.SpacesLine.{SpacesLine}
+use Rattle.std.proofs.Common.{◌≡◌, ◌⊎◌, ℕ, List, Option, inl, inr, refl, subst, sym, arith}
+use Rattle.yasir_io.specs.{Disks.Slots, declared.sink.Sink.Ghosts as Sink}
+use Rattle.yasir_ticks.specs.declared.tick.Tick.{Tick}
 
 module _ {O L : Type 0} (o : Sink O) (l : Sink L) (out_before out_now : O)
     (log_before log_now : L) where

@@ -1,46 +1,32 @@
 -- The headline: what the lines of two recordings say of one another, for both protocols.
-use Rattle.std.proofs.Common.{◌≡◌, ℕ, ◌+◌, ◌≤◌, List, ◌++◌, Option, length, refl, arith}
-use Rattle.yasir_ticks.specs.Ticks.{Item, silent}
-use Rattle.yasir_ticks.specs.Bursts.{bursts}
-use Rattle.yasir_ticks.specs.declared.tick.Tick.{Tick}
-use Rattle.line_rules.specs.Rules.{Rules}
-use Rattle.rtu_frame.specs.Rules.{rtu_rules, rtu_lawful, rtu_framed}
-use Rattle.dnp_link_frame.specs.Rules.{dnp_rules}
-use Rattle.dnp_link_frame.specs.RulesLaws.{dnp_lawful, dnp_framed}
-use Rattle.device_model.specs.Frames.{FrameRead}
-use Rattle.device_model.specs.DnpReads.{dnp_reads}
-use Rattle.device_model.specs.RtuReads.{rtu_reads}
-use Rattle.yasir_io.specs.declared.source.Source.{Ghosts as Source}
-use Rattle.yasir_io.specs.declared.sink.Sink.{Ghosts as Sink}
-use Rattle.hmac_tag.specs.declared.dir.Dir.{Dir}
+use Rattle.box_command.specs.LinkBoxes.{seal_rest}
+use Rattle.device_model.specs.{DnpReads.dnp_reads, Frames.FrameRead, RtuReads.rtu_reads}
+use Rattle.dnp_link_frame.specs.{Rules.dnp_rules, RulesLaws.dnp_lawful, RulesLaws.dnp_framed}
+use Rattle.{hmac_tag.specs.declared.dir.Dir.Dir, line_rules.specs.Rules.Rules}
+use Rattle.link_format.proofs.Profiles.{y18-tags, y24-tags}
 use Rattle.link_format.specs.Profile.{Profile as LinkProfile, HasTags, delay}
 use Rattle.link_format.specs.Setup.{setup_of}
-use Rattle.link_format.proofs.Profiles.{y18-tags, y24-tags}
-use Rattle.sequence_journal.specs.declared.numbers.TheConstants.{LIMIT}
-use Rattle.seal_judgements.specs.Sealing.{sealed}
-use Rattle.link_verdicts.specs.Checking.{passed, received_line}
-use Rattle.receiver_laws.specs.Headline.{ReadsWhatWasSealed}
-use Rattle.receiver_laws.proofs.Headline.{reads-sealed}
-use Rattle.receiver_laws.proofs.Settled.{reads_with}
-use Rattle.receiver_laws.proofs.DnpReadings.{dnp_reads_what_passed}
-use Rattle.receiver_laws.proofs.RtuReadings.{rtu_reads_what_passed}
-use Rattle.tick_drive.specs.Input.{AreFew}
-use Rattle.replay_lists.specs.Recordings.{before_mark, behind_mark}
-use Rattle.replay_status.specs.declared.status.Status.{Status}
-use Rattle.replay_status.specs.declared.status.Status.TheVariants.{Done}
-use Rattle.recordings_replay.specs.Keyed.{ReadsKeyFirst}
-use Rattle.recordings_replay.specs.Recorded.{PrintsRecorded, device_line, link_ticks}
-use Rattle.recordings_replay.specs.Listing.{Listing}
-use Rattle.recordings_replay.specs.TellsOf.{TellsOf, device_rest}
-use Rattle.recordings_replay.proofs.Keying.{keyed-so}
-use Rattle.recordings_replay.proofs.Telling.{tells-of, few-bursts, few-before}
-use Rattle.link_words.specs.Links.{rules_of}
 use Rattle.link_replay.specs.ReplayCommand.{ReplaysWith, replay_listing, replay_profile}
-use Rattle.box_command.specs.LinkBoxes.{seal_rest}
-use Rattle.link_words.specs.declared.words.Profile.{Profile}
-use Rattle.link_words.specs.declared.words.Profile.TheVariants.{Y18, Y24}
-use Rattle.link_words.specs.declared.words.Proto.{Proto}
-use Rattle.link_words.specs.declared.words.Proto.TheVariants.{Rtu, Dnp3}
+use Rattle.link_verdicts.specs.Checking.{passed, received_line}
+use Rattle.link_words.specs.Links.{rules_of}
+use Rattle.link_words.specs.declared.words.Profile.{Profile, TheVariants.Y18, TheVariants.Y24}
+use Rattle.link_words.specs.declared.words.Proto.{Proto, TheVariants.Rtu, TheVariants.Dnp3}
+use Rattle.receiver_laws.proofs.{DnpReadings.dnp_reads_what_passed, Headline.reads-sealed}
+use Rattle.receiver_laws.proofs.{RtuReadings.rtu_reads_what_passed, Settled.reads_with}
+use Rattle.receiver_laws.specs.Headline.{ReadsWhatWasSealed}
+use Rattle.recordings_replay.proofs.{Keying.keyed-so, Telling.tells-of, Telling.few-bursts}
+use Rattle.recordings_replay.{proofs.Telling.few-before, specs.Keyed.ReadsKeyFirst}
+use Rattle.recordings_replay.specs.{Listing.Listing, Recorded.PrintsRecorded, Recorded.device_line}
+use Rattle.recordings_replay.specs.{Recorded.link_ticks, TellsOf.TellsOf, TellsOf.device_rest}
+use Rattle.replay_lists.specs.Recordings.{before_mark, behind_mark}
+use Rattle.replay_status.specs.declared.status.Status.{Status, TheVariants.Done}
+use Rattle.rtu_frame.specs.Rules.{rtu_rules, rtu_lawful, rtu_framed}
+use Rattle.seal_judgements.specs.Sealing.{sealed}
+use Rattle.sequence_journal.specs.declared.numbers.TheConstants.{LIMIT}
+use Rattle.std.proofs.Common.{◌≡◌, ℕ, ◌+◌, ◌≤◌, List, ◌++◌, Option, length, refl, arith}
+use Rattle.tick_drive.specs.Input.{AreFew}
+use Rattle.yasir_io.specs.declared.{sink.Sink.Ghosts as Sink, source.Source.Ghosts as Source}
+use Rattle.yasir_ticks.specs.{Bursts.bursts, Ticks.Item, Ticks.silent, declared.tick.Tick.Tick}
 
 rtu-law : (profile : LinkProfile) (line link : List Tick)
     → ReadsWhatWasSealed rtu_rules rtu_reads 4 profile 0 0 line link

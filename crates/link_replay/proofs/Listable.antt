@@ -1,28 +1,21 @@
 -- A right key and a right text with its marks give `Done` or `NoMemory`, where nothing outside
 -- fails.
-use Rattle.std.proofs.Common.{◌≡◌, ◌⊎◌, ℕ, List}
-use Rattle.yasir_ticks.specs.Ticks.{Item}
-use Rattle.yasir_io.specs.declared.source.Source.{Ghosts as Source}
-use Rattle.yasir_io.specs.declared.sink.Sink.{Ghosts as Sink}
-use Rattle.yasir_io.specs.declared.disk.SlotDisk.{Ghosts as SlotDisk}
-use Rattle.hmac_tag.specs.declared.dir.Dir.{Dir}
+use Rattle.{box_command.specs.LinkBoxes.seal_rest, hmac_tag.specs.declared.dir.Dir.Dir}
+use Rattle.link_replay.proofs.KeyedRuns.{EndsAs, keyed_done}
+use Rattle.link_replay.specs.AuditCommand.{Audits, audited_line}
+use Rattle.link_replay.specs.ReplayCommand.{Replays, ReplaysWith, IsListable, replay_listing}
+use Rattle.link_replay.specs.declared.commands.audit.Audited.{Audited}
+use Rattle.link_words.specs.declared.words.{Profile.Profile, Proto.Proto}
+use Rattle.recordings_replay.{proofs.Keying.keyed-so, specs.Keyed.ReadsKeyFirst}
+use Rattle.recordings_replay.specs.{Keyed.LeavesAll, Recorded.PrintsItems, Recorded.lines_of}
 use Rattle.replay_lists.specs.Listed.{link_rest}
-use Rattle.replay_status.specs.Outside.{Outside}
 use Rattle.replay_status.specs.Causes.{ReadsCause, SinkCause, NoneRose}
-use Rattle.replay_status.specs.declared.status.Status.{Status}
+use Rattle.replay_status.specs.{Outside.Outside, declared.status.Status.Status}
 use Rattle.replay_status.specs.declared.status.Status.TheVariants.{Done, BadTicks, ReadFault}
 use Rattle.replay_status.specs.declared.status.Status.TheVariants.{WriteFault, TooLong, NoMemory}
-use Rattle.recordings_replay.specs.Keyed.{ReadsKeyFirst, LeavesAll}
-use Rattle.recordings_replay.specs.Recorded.{PrintsItems, lines_of}
-use Rattle.recordings_replay.proofs.Keying.{keyed-so}
-use Rattle.link_replay.specs.AuditCommand.{Audits, audited_line}
-use Rattle.link_replay.specs.ReplayCommand.{Replays, ReplaysWith, IsListable}
-use Rattle.link_replay.specs.ReplayCommand.{replay_listing}
-use Rattle.box_command.specs.LinkBoxes.{seal_rest}
-use Rattle.link_replay.specs.declared.commands.audit.Audited.{Audited}
-use Rattle.link_words.specs.declared.words.Profile.{Profile}
-use Rattle.link_words.specs.declared.words.Proto.{Proto}
-use Rattle.link_replay.proofs.KeyedRuns.{EndsAs, keyed_done}
+use Rattle.std.proofs.Common.{◌≡◌, ◌⊎◌, ℕ, List}
+use Rattle.yasir_io.specs.declared.{disk.SlotDisk.Ghosts as SlotDisk, sink.Sink.Ghosts as Sink}
+use Rattle.{yasir_io.specs.declared.source.Source.Ghosts as Source, yasir_ticks.specs.Ticks.Item}
 
 module _ {K S O L D : Type 0} (k : Source K) (s : Source S) (o : Sink O) (l : Sink L)
     (d : SlotDisk D) where

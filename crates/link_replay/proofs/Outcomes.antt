@@ -1,42 +1,30 @@
 -- Right words, right input and no fault outside give `Done`, whatever the command is.
-use Rattle.std.proofs.Common.{◌≡◌, ◌∙◌, ℕ, ◌≤◌, List, [], Option, Some, None, IfSome, inl, inr}
-use Rattle.std.proofs.Common.{refl, sym, ap, subst, arith}
-use Rattle.yasir_io.specs.declared.source.Source.{Ghosts as Source}
-use Rattle.yasir_io.specs.declared.sink.Sink.{Ghosts as Sink}
-use Rattle.yasir_io.specs.declared.disk.SlotDisk.{Ghosts as SlotDisk}
-use Rattle.yasir_io.specs.Causes.{Rose}
-use Rattle.yasir_io.specs.Disks.{Slots}
-use Rattle.yasir_io.specs.Flushed.{IsNotFlushed}
-use Rattle.sequence_journal.specs.declared.link.LinkId.{LinkId}
-use Rattle.sequence_journal.specs.Slots.{greatest}
-use Rattle.replay_status.specs.Outside.{Outside}
-use Rattle.replay_status.specs.Causes.{SinkCause, DiskCause, NoneRose}
-use Rattle.replay_status.specs.Statuses.{fault_line}
-use Rattle.link_replay.specs.Commands.{Does, MayDo, IsCalm, HasOwnCauses, HasCauses}
-use Rattle.link_replay.specs.Commands.{EndsWell}
-use Rattle.link_replay.specs.InitCommand.{MakesJournal, IsBlank}
-use Rattle.link_replay.specs.ReadCommand.{device_reads}
-use Rattle.replay_status.specs.PrintsText.{PrintsText}
+use Rattle.box_command.proofs.Replayable.{replayable_done}
 use Rattle.box_command.specs.LinkBoxes.{seal_boxed, seal_rest, check_boxed, check_rest}
+use Rattle.{device_replay.proofs.Readable.readable_done, link_replay.proofs.Duplexed.duplex_done}
+use Rattle.link_replay.proofs.Listable.{listable_done, auditable_done}
+use Rattle.link_replay.{proofs.Spaced.whole-spaces, specs.AuditCommand.audited}
+use Rattle.link_replay.specs.Commands.{Does, MayDo, IsCalm, HasOwnCauses, HasCauses, EndsWell}
+use Rattle.link_replay.specs.InitCommand.{MakesJournal, IsBlank}
+use Rattle.link_replay.specs.{ReadCommand.device_reads, SpaceCommand.spaced_by}
+use Rattle.link_replay.specs.declared.words.Command.{Command}
+use Rattle.link_replay.specs.declared.words.Command.TheVariants.{Init, Read, Vectors, Seal, Check}
+use Rattle.link_replay.specs.declared.words.Command.TheVariants.{Replay, Trial, Space, Audit}
+use Rattle.link_replay.specs.declared.words.Command.TheVariants.{Duplex, Help, Version}
+use Rattle.link_words.{proofs.Links.link-right, specs.Links.link_of}
+use Rattle.replay_status.proofs.{FlushLaws.flushes_after, Logging.sinks_after}
+use Rattle.replay_status.specs.Causes.{SinkCause, DiskCause, NoneRose}
+use Rattle.replay_status.specs.{Outside.Outside, PrintsText.PrintsText, Statuses.fault_line}
 use Rattle.replay_status.specs.declared.status.Status.{Status}
 use Rattle.replay_status.specs.declared.status.Status.TheVariants.{Done, WriteFault, JournalFault}
 use Rattle.replay_status.specs.declared.status.Status.TheVariants.{HasJournal}
-use Rattle.link_replay.specs.declared.words.Command.{Command}
-use Rattle.link_replay.specs.declared.words.Command.TheVariants.{Init, Read, Vectors, Seal, Check}
-use Rattle.link_replay.specs.declared.words.Command.TheVariants.{Replay, Trial, Space}
-use Rattle.link_replay.specs.declared.words.Command.TheVariants.{Audit, Duplex, Help, Version}
-use Rattle.replay_status.proofs.Logging.{sinks_after}
-use Rattle.replay_status.proofs.FlushLaws.{flushes_after}
-use Rattle.device_replay.proofs.Readable.{readable_done}
-use Rattle.box_command.proofs.Replayable.{replayable_done}
-use Rattle.link_words.specs.Links.{link_of}
-use Rattle.link_words.proofs.Links.{link-right}
+use Rattle.sequence_journal.specs.{Slots.greatest, declared.link.LinkId.LinkId}
 use Rattle.space_replay.proofs.Readable.{spaced_done}
-use Rattle.link_replay.specs.SpaceCommand.{spaced_by}
-use Rattle.link_replay.specs.AuditCommand.{audited}
-use Rattle.link_replay.proofs.Listable.{listable_done, auditable_done}
-use Rattle.link_replay.proofs.Duplexed.{duplex_done}
-use Rattle.link_replay.proofs.Spaced.{whole-spaces}
+use Rattle.std.proofs.Common.{◌≡◌, ◌∙◌, ℕ, ◌≤◌, List, [], Option, Some, None, IfSome, inl, inr}
+use Rattle.std.proofs.Common.{refl, sym, ap, subst, arith}
+use Rattle.yasir_io.specs.{Causes.Rose, Disks.Slots, Flushed.IsNotFlushed}
+use Rattle.yasir_io.specs.declared.{disk.SlotDisk.Ghosts as SlotDisk, sink.Sink.Ghosts as Sink}
+use Rattle.yasir_io.specs.declared.source.Source.{Ghosts as Source}
 
 module _ (key0 key1 in0 in1 out0 out1 log0 log1 disk0 disk1 : ℕ)
     (calm : NoneRose key0 key1 in0 in1 out0 out1 log0 log1 disk0 disk1) where

@@ -1,13 +1,12 @@
 -- Which of the words are the paths of files, and whether a journal's file is made.
+use Rattle.link_replay.{proofs.Asking.asks-one, specs.OverFiles.path_in}
+use Rattle.link_replay.specs.{OverFiles.journal_kind, Words.IsCommand, Words.AskForJournal}
+use Rattle.link_replay.specs.{Words.Asks, Words.word_in, declared.words.Command.Command}
+use Rattle.link_replay.specs.declared.words.Command.TheVariants.{Init, Read, Vectors, Seal, Check}
+use Rattle.link_replay.specs.declared.words.Command.TheVariants.{Replay, Trial, Space, Audit}
+use Rattle.link_replay.specs.declared.words.Command.TheVariants.{Duplex, Help, Version}
 use Rattle.std.proofs.Common.{◌≡◌, ℕ, List, Option, Some, None, refl, sym, ap}
 use Rattle.yasir_io.specs.declared.files.SlotFile.TheVariants.{Standing, New}
-use Rattle.link_replay.specs.declared.words.Command.{Command}
-use Rattle.link_replay.specs.declared.words.Command.TheVariants.{Init, Read, Vectors, Seal, Check}
-use Rattle.link_replay.specs.declared.words.Command.TheVariants.{Replay, Trial, Space}
-use Rattle.link_replay.specs.declared.words.Command.TheVariants.{Audit, Duplex, Help, Version}
-use Rattle.link_replay.specs.Words.{IsCommand, AskForJournal, Asks, word_in}
-use Rattle.link_replay.specs.OverFiles.{path_in, journal_kind}
-use Rattle.link_replay.proofs.Asking.{asks-one}
 
 -- the word at the place that was found is the path
 pub word_in-path : (place : Command → Option ℕ) (words : List (List ℕ)) (asked : Option Command)

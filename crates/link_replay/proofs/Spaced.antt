@@ -1,33 +1,22 @@
 -- What a whole run of `space` leaves: all accepted frames have left.
-use Rattle.std.proofs.Common.{◌≡◌, ◌∙◌, ◌≤◌, ◌+◌, ◌*◌, ℕ, List, ◌++◌, length, Option, ap, sym, subst}
-use Rattle.std.proofs.Common.{arith, refl}
-use Rattle.yasir_ticks.specs.Ticks.{Item, ticks_in, silent, AreTicks}
-use Rattle.yasir_ticks.specs.declared.tick.Tick.{Tick}
-use Rattle.yasir_ticks.specs.declared.tick_run.TickRun.TheVariants.{Silence}
-use Rattle.yasir_ticks.proofs.TextTicks.{text-ticks}
-use Rattle.yasir_ticks.proofs.TickRuns.{ticks_in-run}
-use Rattle.dnp_link_frame.specs.Rules.{dnp_rules}
-use Rattle.dnp_link_frame.specs.RulesLaws.{dnp_lawful, dnp_framed}
-use Rattle.tick_drive.specs.Input.{Takes}
-use Rattle.tick_drive.specs.Items.{silent_items}
-use Rattle.tick_drive.specs.declared.end.End.TheVariants.{Whole}
-use Rattle.tick_drive.proofs.ItemLaws.{ticks_in-append}
-use Rattle.line_spacer.specs.Spacing.{accepted_of}
-use Rattle.spacer_laws.specs.Leaving.{HaveLeft, AllLeave}
-use Rattle.spacer_laws.proofs.Leaving.{rtu-leave, hunt-leave}
-use Rattle.line_texts.specs.Sending.{SinkTexts}
+use Rattle.dnp_link_frame.specs.{Rules.dnp_rules, RulesLaws.dnp_lawful, RulesLaws.dnp_framed}
+use Rattle.{line_spacer.specs.Spacing.accepted_of, line_texts.specs.Sending.SinkTexts}
+use Rattle.link_replay.specs.{ReadCommand.device_reads, SpaceCommand.spaced_by}
+use Rattle.{link_replay.specs.SpaceCommand.SpacesBy, link_words.specs.Links.gap_of}
+use Rattle.link_words.specs.declared.words.Profile.{Profile, TheVariants.Y18, TheVariants.Y24}
+use Rattle.link_words.specs.declared.words.Proto.{Proto, TheVariants.Rtu, TheVariants.Dnp3}
 use Rattle.replay_status.specs.Outside.{outside}
-use Rattle.replay_status.specs.declared.status.Status.{Status}
-use Rattle.replay_status.specs.declared.status.Status.TheVariants.{Done}
-use Rattle.space_replay.specs.SpacedTexts.{most_waiting}
-use Rattle.space_replay.specs.SpacesLine.{SpacesLine, space_rest}
-use Rattle.link_replay.specs.ReadCommand.{device_reads}
-use Rattle.link_words.specs.Links.{gap_of}
-use Rattle.link_replay.specs.SpaceCommand.{spaced_by, SpacesBy}
-use Rattle.link_words.specs.declared.words.Profile.{Profile}
-use Rattle.link_words.specs.declared.words.Profile.TheVariants.{Y18, Y24}
-use Rattle.link_words.specs.declared.words.Proto.{Proto}
-use Rattle.link_words.specs.declared.words.Proto.TheVariants.{Rtu, Dnp3}
+use Rattle.replay_status.specs.declared.status.Status.{Status, TheVariants.Done}
+use Rattle.space_replay.specs.{SpacedTexts.most_waiting, SpacesLine.SpacesLine}
+use Rattle.{space_replay.specs.SpacesLine.space_rest, spacer_laws.proofs.Leaving.rtu-leave}
+use Rattle.spacer_laws.{proofs.Leaving.hunt-leave, specs.Leaving.HaveLeft, specs.Leaving.AllLeave}
+use Rattle.std.proofs.Common.{◌≡◌, ◌∙◌, ◌≤◌, ◌+◌, ◌*◌, ℕ, List, ◌++◌, length, Option, ap, sym}
+use Rattle.std.proofs.Common.{subst, arith, refl}
+use Rattle.tick_drive.proofs.ItemLaws.{ticks_in-append}
+use Rattle.tick_drive.specs.{Input.Takes, Items.silent_items, declared.end.End.TheVariants.Whole}
+use Rattle.yasir_ticks.proofs.{TextTicks.text-ticks, TickRuns.ticks_in-run}
+use Rattle.yasir_ticks.specs.Ticks.{Item, ticks_in, silent, AreTicks}
+use Rattle.yasir_ticks.specs.declared.{tick.Tick.Tick, tick_run.TickRun.TheVariants.Silence}
 
 -- the silence behind an input is long enough
 all-leave : (proto : Proto) (profile : Profile) (line : List Tick) → AreTicks line

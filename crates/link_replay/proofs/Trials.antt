@@ -1,15 +1,12 @@
 -- What the numbers of a trial's line say of one another, for both protocols and profiles.
-use Rattle.std.proofs.Common.{ℕ, ◌^◌, ◌<◌, arith}
 use Rattle.link_format.proofs.Profiles.{y18-tags, y24-tags}
-use Rattle.sequence_journal.specs.declared.numbers.TheConstants.{LIMIT}
-use Rattle.trial_session.specs.Boxes.{trial_setup}
-use Rattle.trial_session.specs.Telling.{Tells}
-use Rattle.trial_session.proofs.Tellings.{rtu-tells, dnp-tells}
 use Rattle.link_replay.specs.TrialCommand.{trial_link_profile, trial_counts}
-use Rattle.link_words.specs.declared.words.Profile.{Profile}
-use Rattle.link_words.specs.declared.words.Profile.TheVariants.{Y18, Y24}
-use Rattle.link_words.specs.declared.words.Proto.{Proto}
-use Rattle.link_words.specs.declared.words.Proto.TheVariants.{Rtu, Dnp3}
+use Rattle.link_words.specs.declared.words.Profile.{Profile, TheVariants.Y18, TheVariants.Y24}
+use Rattle.link_words.specs.declared.words.Proto.{Proto, TheVariants.Rtu, TheVariants.Dnp3}
+use Rattle.sequence_journal.specs.declared.numbers.TheConstants.{LIMIT}
+use Rattle.std.proofs.Common.{ℕ, ◌^◌, ◌<◌, arith}
+use Rattle.trial_session.proofs.Tellings.{rtu-tells, dnp-tells}
+use Rattle.trial_session.specs.{Boxes.trial_setup, Telling.Tells}
 
 pub counts-tell : (proto : Proto) (profile : Profile) (seed count : ℕ) → count < 2 ^ 32
     → Tells (trial_counts proto profile seed count) count

@@ -1,13 +1,9 @@
 -- The links that the words name are links that a journal may serve.
-use Rattle.std.proofs.Common.{refl}
-use Rattle.hmac_tag.specs.declared.dir.Dir.{Dir}
-use Rattle.hmac_tag.specs.declared.dir.Dir.TheVariants.{Ab, Ba}
-use Rattle.sequence_journal.specs.Links.{IsLink}
-use Rattle.link_words.specs.declared.words.Profile.{Profile}
-use Rattle.link_words.specs.declared.words.Profile.TheVariants.{Y18, Y24}
-use Rattle.link_words.specs.declared.words.Proto.{Proto}
-use Rattle.link_words.specs.declared.words.Proto.TheVariants.{Rtu, Dnp3}
+use Rattle.hmac_tag.specs.declared.dir.Dir.{Dir, TheVariants.Ab, TheVariants.Ba}
 use Rattle.link_words.specs.Links.{link_of}
+use Rattle.link_words.specs.declared.words.Profile.{Profile, TheVariants.Y18, TheVariants.Y24}
+use Rattle.link_words.specs.declared.words.Proto.{Proto, TheVariants.Rtu, TheVariants.Dnp3}
+use Rattle.{sequence_journal.specs.Links.IsLink, std.proofs.Common.refl}
 
 pub link-right : (proto : Proto) (profile : Profile) (dir : Dir)
     → IsLink (link_of proto profile dir)

@@ -1,13 +1,10 @@
 -- The words of links are told apart.
+use Rattle.hmac_tag.specs.declared.dir.Dir.{Dir, TheVariants.Ab, TheVariants.Ba}
+use Rattle.link_words.specs.Words.{dir_word, link_word}
+use Rattle.link_words.specs.declared.words.Profile.{Profile, TheVariants.Y18, TheVariants.Y24}
+use Rattle.link_words.specs.declared.words.Proto.{Proto, TheVariants.Rtu, TheVariants.Dnp3}
 use Rattle.std.proofs.Common.{◌≡◌, ℕ, ◌+◌, ◌*◌, Bool, List, [], ◌∷◌, cond, nat_eq, refl}
 use Rattle.std.specs.Prelude.{codes}
-use Rattle.hmac_tag.specs.declared.dir.Dir.{Dir}
-use Rattle.hmac_tag.specs.declared.dir.Dir.TheVariants.{Ab, Ba}
-use Rattle.link_words.specs.Words.{dir_word, link_word}
-use Rattle.link_words.specs.declared.words.Profile.{Profile}
-use Rattle.link_words.specs.declared.words.Profile.TheVariants.{Y18, Y24}
-use Rattle.link_words.specs.declared.words.Proto.{Proto}
-use Rattle.link_words.specs.declared.words.Proto.TheVariants.{Rtu, Dnp3}
 
 -- A word as one number, so that two words are told apart by a test.
 abbrev pub number_of : List ℕ → ℕ

@@ -1,25 +1,19 @@
 -- Frames that passed and were sealed so are a subsequence of the sealed ones, since the numbers of
 -- both rise.
-use Rattle.std.proofs.Common.{◌≡◌, ◌∙◌, ◌==◌, ◌&&◌, ◌||◌, ℕ, zero, suc, ◌+◌, ◌<◌, ◌≤◌}
-use Rattle.std.proofs.Common.{Bool, true, false, List, [], ◌∷◌, length, refl, sym, ap, subst}
-use Rattle.std.proofs.Common.{arith, ⊎_elim, if◌then◌else◌}
-use Rattle.std.specs.Prelude.{bytes_eq}
-use Rattle.std.specs.List.{range_with_len}
-use Rattle.std.proofs.lemmas.Bool.{cases_lt, cases_eq, cases_Bool, eq-eqb, ne_eqb}
-use Rattle.std.proofs.lemmas.Bool.{and_left}
-use Rattle.std.proofs.lemmas.Slice.Eq.{bytes_eq-Decides}
-use Rattle.yasir_ticks.specs.declared.tick.Tick.{Tick}
-use Rattle.line_rules.specs.Rules.{Rules}
-use Rattle.line_rules.specs.RulesLaws.{IsLawful}
-use Rattle.sequence_journal.specs.Uptimes.{RiseFrom}
+use Rattle.line_rules.specs.{Rules.Rules, RulesLaws.IsLawful}
 use Rattle.link_format.specs.NumberedFrame.{NumberedFrame, numbers_of}
-use Rattle.link_format.specs.Profile.{Profile}
-use Rattle.seal_judgements.specs.Sealing.{sealed}
-use Rattle.seal_judgements.proofs.Numbers.{sealed-numbered}
+use Rattle.{link_format.specs.Profile.Profile, receiver_laws.proofs.Subsequences.nothing-is}
 use Rattle.receiver_laws.specs.Accounted.{Pair, pair_of, pairs_of, is_same_pair, is_among}
 use Rattle.receiver_laws.specs.Accounted.{rightly_passed, IsSubsequence, IsAccountedFor}
 use Rattle.receiver_laws.specs.Accounted.IsSubsequence.{none, skip, keep}
-use Rattle.receiver_laws.proofs.Subsequences.{nothing-is}
+use Rattle.seal_judgements.{proofs.Numbers.sealed-numbered, specs.Sealing.sealed}
+use Rattle.sequence_journal.specs.Uptimes.{RiseFrom}
+use Rattle.std.proofs.Common.{◌≡◌, ◌∙◌, ◌==◌, ◌&&◌, ◌||◌, ℕ, zero, suc, ◌+◌, ◌<◌, ◌≤◌, Bool, true}
+use Rattle.std.proofs.Common.{false, List, [], ◌∷◌, length, refl, sym, ap, subst, arith, ⊎_elim}
+use Rattle.std.proofs.Common.{if◌then◌else◌}
+use Rattle.std.proofs.lemmas.Bool.{cases_lt, cases_eq, cases_Bool, eq-eqb, ne_eqb, and_left}
+use Rattle.std.{proofs.lemmas.Slice.Eq.bytes_eq-Decides, specs.List.range_with_len}
+use Rattle.{std.specs.Prelude.bytes_eq, yasir_ticks.specs.declared.tick.Tick.Tick}
 
 -- ---- numbers that rise
 

@@ -1,34 +1,25 @@
 -- All has left of a link that has ended, once the delay and what its last burst lacks are over.
-use Rattle.std.proofs.Common.{◌≡◌, ◌∙◌, ℕ, zero, suc, ◌+◌, ◌≤◌, ◌<◌, List, [], ◌∷◌, ◌++◌, length}
-use Rattle.std.proofs.Common.{map, refl, sym, ap, arith, append_assoc, length-append}
-use Rattle.std.proofs.lemmas.List.{append-nil, length-replicate}
-use Rattle.yasir_ticks.specs.Ticks.{silent, AreTicks}
-use Rattle.yasir_ticks.specs.Bursts.{Burst, bursts, end_of}
-use Rattle.yasir_ticks.specs.declared.TheConstants.{T3_5_TICKS}
-use Rattle.yasir_ticks.specs.declared.tick.Tick.{Tick}
-use Rattle.yasir_ticks.specs.declared.tick.Tick.TheVariants.{Silent}
-use Rattle.yasir_ticks.proofs.BurstLaws.{bursts_from-silent_end}
-use Rattle.line_rules.specs.Rules.{Rules}
-use Rattle.line_rules.specs.RulesLaws.{IsLawful, IsHeaded}
-use Rattle.device_model.specs.Frames.{FrameRead}
-use Rattle.burst_walk.specs.Laid.{tick_at, laid}
-use Rattle.burst_walk.specs.Causal.{IsCausal}
-use Rattle.burst_walk.specs.Walk.{Walker, Noted, noted, walked, emitted, state_after, notes_before}
 use Rattle.burst_walk.proofs.Emissions.{tick_at-none, laid-more}
 use Rattle.burst_walk.proofs.Spread.{AreSpread, EndBy, bursts-spread, bursts-end}
 use Rattle.burst_walk.proofs.Walks.{before-early}
+use Rattle.burst_walk.specs.{Causal.IsCausal, Laid.tick_at, Laid.laid}
+use Rattle.burst_walk.specs.Walk.{Walker, Noted, noted, walked, emitted, state_after, notes_before}
+use Rattle.device_model.specs.Frames.{FrameRead}
+use Rattle.line_rules.specs.{Rules.Rules, RulesLaws.IsLawful, RulesLaws.IsHeaded}
 use Rattle.link_format.specs.Profile.{Profile, delay}
+use Rattle.link_verdicts.proofs.{Causality.checker-causal, Past.past}
 use Rattle.link_verdicts.specs.Checking.{FullNote, checker, at_floor, passed, received_line}
-use Rattle.link_verdicts.specs.Timely.{IsTimely}
-use Rattle.link_verdicts.specs.Verdicts.{CheckState}
-use Rattle.link_verdicts.proofs.Causality.{checker-causal}
-use Rattle.link_verdicts.proofs.Past.{past}
+use Rattle.link_verdicts.specs.{Timely.IsTimely, Verdicts.CheckState}
+use Rattle.receiver_laws.proofs.{InStep.free-by, Notes.frames_in, Recovering.left-by}
 use Rattle.receiver_laws.specs.AllLeft.{HasAllLeft, ReadsAllThatPassed}
-use Rattle.receiver_laws.specs.Reading.{ReadsWhatPassed, delivered}
-use Rattle.receiver_laws.specs.Recovery.{LackAtMost}
-use Rattle.receiver_laws.proofs.InStep.{free-by}
-use Rattle.receiver_laws.proofs.Notes.{frames_in}
-use Rattle.receiver_laws.proofs.Recovering.{left-by}
+use Rattle.receiver_laws.specs.{Reading.ReadsWhatPassed, Reading.delivered, Recovery.LackAtMost}
+use Rattle.std.proofs.Common.{◌≡◌, ◌∙◌, ℕ, zero, suc, ◌+◌, ◌≤◌, ◌<◌, List, [], ◌∷◌, ◌++◌, length}
+use Rattle.std.proofs.Common.{map, refl, sym, ap, arith, append_assoc, length-append}
+use Rattle.std.proofs.lemmas.List.{append-nil, length-replicate}
+use Rattle.yasir_ticks.proofs.BurstLaws.{bursts_from-silent_end}
+use Rattle.yasir_ticks.specs.Bursts.{Burst, bursts, end_of}
+use Rattle.yasir_ticks.specs.{Ticks.silent, Ticks.AreTicks, declared.TheConstants.T3_5_TICKS}
+use Rattle.yasir_ticks.specs.declared.tick.Tick.{Tick, TheVariants.Silent}
 
 -- ---- any causal walk
 

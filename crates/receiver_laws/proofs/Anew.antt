@@ -1,31 +1,23 @@
 -- A device that begins its hunt anew after silence takes a burst as the hunt does.
-use Rattle.std.proofs.Common.{◌≡◌, ◌∙◌, ◌⊎◌, inl, inr, ℕ, suc, ◌+◌, ◌-◌, ◌<◌, ◌≤◌, List, []}
-use Rattle.std.proofs.Common.{◌∷◌, ◌++◌, length, refl, sym, ap, subst, arith, ⊎_elim}
-use Rattle.std.proofs.Common.{length-append, append_assoc}
-use Rattle.std.specs.List.{flat_map}
-use Rattle.std.proofs.lemmas.Bool.{cases_lt}
-use Rattle.std.proofs.lemmas.List.{append-nil, length-replicate}
-use Rattle.yasir_ticks.specs.Ticks.{silent}
-use Rattle.yasir_ticks.specs.Bursts.{Burst, with_byte, bursts_from}
-use Rattle.yasir_ticks.specs.BurstsOf.{IsContiguous, one, more, StartsFrom}
-use Rattle.yasir_ticks.specs.declared.tick.Tick.{Tick}
-use Rattle.yasir_ticks.specs.declared.tick.Tick.TheVariants.{Silent, Byte}
-use Rattle.yasir_ticks.proofs.BurstLaws.{alone, with_byte-near, with_byte-far, bursts_from-starts}
-use Rattle.yasir_ticks.proofs.BurstLaws.{bursts_from-silent_end}
-use Rattle.yasir_ticks.proofs.BurstsOfLaws.{bursts_from-cons, bursts_from-silence}
-use Rattle.line_rules.specs.Rules.{Rules}
+use Rattle.device_model.proofs.{HuntSteps.timed-append, Hunts.hunt-none}
+use Rattle.device_model.specs.{Frames.FrameRead, Hunt.Timed, Hunt.timed, Hunt.hunt, Hunt.hunt_anew}
+use Rattle.{device_model.specs.HuntLaws.IsHunted, line_rules.specs.Rules.Rules}
 use Rattle.line_rules.specs.RulesLaws.{IsLawful, IsHeaded, IsFramed}
-use Rattle.line_rules.specs.Spoiling.{IsSpoiling}
-use Rattle.device_model.specs.Frames.{FrameRead}
-use Rattle.device_model.specs.Hunt.{Timed, timed, hunt, hunt_anew}
-use Rattle.device_model.specs.HuntLaws.{IsHunted}
-use Rattle.device_model.proofs.Hunts.{hunt-none}
-use Rattle.device_model.proofs.HuntSteps.{timed-append}
-use Rattle.link_format.specs.Profile.{Profile}
-use Rattle.receiver_laws.specs.Reading.{ReadsWhatPassed}
-use Rattle.receiver_laws.specs.Hunters.{IsFront, nothing, up_to, IsHunter}
+use Rattle.{line_rules.specs.Spoiling.IsSpoiling, link_format.specs.Profile.Profile}
 use Rattle.receiver_laws.proofs.HunterReadings.{hunter_reads_what_passed}
 use Rattle.receiver_laws.proofs.Hunters.{timed-silent_ticks}
+use Rattle.receiver_laws.specs.Hunters.{IsFront, nothing, up_to, IsHunter}
+use Rattle.receiver_laws.specs.Reading.{ReadsWhatPassed}
+use Rattle.std.proofs.Common.{◌≡◌, ◌∙◌, ◌⊎◌, inl, inr, ℕ, suc, ◌+◌, ◌-◌, ◌<◌, ◌≤◌, List, [], ◌∷◌}
+use Rattle.std.proofs.Common.{◌++◌, length, refl, sym, ap, subst, arith, ⊎_elim, length-append}
+use Rattle.std.proofs.{Common.append_assoc, lemmas.Bool.cases_lt, lemmas.List.append-nil}
+use Rattle.std.{proofs.lemmas.List.length-replicate, specs.List.flat_map}
+use Rattle.yasir_ticks.proofs.BurstLaws.{alone, with_byte-near, with_byte-far, bursts_from-starts}
+use Rattle.yasir_ticks.proofs.{BurstLaws.bursts_from-silent_end, BurstsOfLaws.bursts_from-cons}
+use Rattle.yasir_ticks.{proofs.BurstsOfLaws.bursts_from-silence, specs.Bursts.Burst}
+use Rattle.yasir_ticks.specs.{Bursts.with_byte, Bursts.bursts_from, BurstsOf.IsContiguous}
+use Rattle.yasir_ticks.specs.{BurstsOf.one, BurstsOf.more, BurstsOf.StartsFrom, Ticks.silent}
+use Rattle.yasir_ticks.specs.declared.tick.Tick.{Tick, TheVariants.Silent, TheVariants.Byte}
 
 -- Of contiguous ticks from tick n on, and others from tick m on, the first burst is these ticks
 -- and a tail, which is nothing, or the first burst of the others with the silence before it.

@@ -1,10 +1,8 @@
 -- In contiguous ticks no silence is long.
-use Rattle.std.proofs.Common.{◌≡◌, ◌∙◌, ℕ, zero, suc, ◌<◌, false, List, [], ◌∷◌, ◌++◌, refl, arith}
-use Rattle.yasir_ticks.specs.Ticks.{silent}
-use Rattle.yasir_ticks.specs.BurstsOf.{IsContiguous, one, more}
-use Rattle.yasir_ticks.specs.declared.tick.Tick.{Tick}
-use Rattle.yasir_ticks.specs.declared.tick.Tick.TheVariants.{Silent, Byte}
 use Rattle.device_model.specs.RtuReads.{has_silence}
+use Rattle.std.proofs.Common.{◌≡◌, ◌∙◌, ℕ, zero, suc, ◌<◌, false, List, [], ◌∷◌, ◌++◌, refl, arith}
+use Rattle.yasir_ticks.specs.{BurstsOf.IsContiguous, BurstsOf.one, BurstsOf.more, Ticks.silent}
+use Rattle.yasir_ticks.specs.declared.tick.Tick.{Tick, TheVariants.Silent, TheVariants.Byte}
 
 silence-byte : (pause b : ℕ) (x : List Tick) → 0 < pause
     → has_silence pause (Byte b ∷ x) ≡ has_silence pause x

@@ -1,15 +1,13 @@
 -- What a causal walk notes before the end of a line is settled, however the line goes on. So a
 -- burst that the end cuts isn't noted.
-use Rattle.std.proofs.Common.{◌≡◌, ◌∙◌, ◌==◌, ℕ, ◌+◌, ◌≤◌, nat_lt, List, [], ◌∷◌, ◌++◌}
-use Rattle.std.proofs.Common.{length, refl, sym, ap, arith, ⊎_elim, append_assoc, length-append}
-use Rattle.std.proofs.lemmas.Bool.{cases_lt, cases_Bool, cond-true, cond-false, eqb-true}
-use Rattle.std.proofs.lemmas.List.{append-nil}
-use Rattle.std.proofs.lemmas.List.Elements.{filter-append}
-use Rattle.yasir_ticks.specs.Bursts.{bursts}
-use Rattle.yasir_ticks.specs.declared.tick.Tick.{Tick}
-use Rattle.burst_walk.specs.Walk.{Walker, Noted, walked, notes_before, notes_at, notes_of}
-use Rattle.burst_walk.specs.Causal.{IsCausal}
 use Rattle.burst_walk.proofs.Walks.{adds_one_tick, before-early, before-late}
+use Rattle.burst_walk.specs.Causal.{IsCausal}
+use Rattle.burst_walk.specs.Walk.{Walker, Noted, walked, notes_before, notes_at, notes_of}
+use Rattle.std.proofs.Common.{◌≡◌, ◌∙◌, ◌==◌, ℕ, ◌+◌, ◌≤◌, nat_lt, List, [], ◌∷◌, ◌++◌, length}
+use Rattle.std.proofs.Common.{refl, sym, ap, arith, ⊎_elim, append_assoc, length-append}
+use Rattle.std.proofs.lemmas.Bool.{cases_lt, cases_Bool, cond-true, cond-false, eqb-true}
+use Rattle.std.proofs.lemmas.List.{append-nil, Elements.filter-append}
+use Rattle.yasir_ticks.specs.{Bursts.bursts, declared.tick.Tick.Tick}
 
 module _ {N : Type 0} where
   before-before : (m k : ℕ) (l : List (Noted N)) → m ≤ k

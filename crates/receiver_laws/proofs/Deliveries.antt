@@ -1,29 +1,22 @@
 -- An untouched link delivers all.
-use Rattle.std.proofs.Common.{◌≡◌, ◌∙◌, ℕ, ◌+◌, ◌-◌, ◌≤◌, List, [], ◌∷◌, ◌++◌, length}
-use Rattle.std.proofs.Common.{map, refl, sym, ap, subst, arith, length-append}
-use Rattle.std.proofs.lemmas.List.{length-replicate}
-use Rattle.std.proofs.lemmas.List.FromFn.{length-map-range_with_len}
-use Rattle.yasir_ticks.specs.Ticks.{silent}
-use Rattle.yasir_ticks.specs.Bursts.{Burst, bursts, end_of}
-use Rattle.yasir_ticks.specs.BurstsOf.{AreBursts}
-use Rattle.yasir_ticks.specs.declared.tick.Tick.{Tick}
-use Rattle.yasir_ticks.specs.declared.tick.Tick.TheVariants.{Silent}
-use Rattle.yasir_ticks.proofs.BurstLaws.{bursts_from-silent_end}
-use Rattle.yasir_ticks.proofs.BurstsOfLaws.{bursts_from-are}
-use Rattle.line_rules.specs.Rules.{Rules}
-use Rattle.line_rules.specs.RulesLaws.{IsLawful, IsFramed}
-use Rattle.burst_walk.specs.Laid.{laid, later, tick_at}
-use Rattle.burst_walk.specs.Walk.{walked, emitted, notes_before}
-use Rattle.burst_walk.proofs.LaidBursts.{bursts-laid, laid-later}
-use Rattle.burst_walk.proofs.Spread.{EndBy, bursts-spread, bursts-end}
+use Rattle.burst_walk.proofs.{LaidBursts.bursts-laid, LaidBursts.laid-later, Spread.EndBy}
+use Rattle.burst_walk.{proofs.Spread.bursts-spread, proofs.Spread.bursts-end, specs.Laid.laid}
+use Rattle.burst_walk.specs.{Laid.later, Laid.tick_at, Walk.walked, Walk.emitted, Walk.notes_before}
+use Rattle.line_rules.specs.{Rules.Rules, RulesLaws.IsLawful, RulesLaws.IsFramed}
 use Rattle.link_format.specs.Profile.{Profile, HasTags, pause_len, trailer_len, delay}
-use Rattle.seal_judgements.specs.Sealing.{sealer, at_floor as seal_floor, link_line}
-use Rattle.seal_judgements.proofs.Numbers.{frames_in as sealed_frames}
 use Rattle.link_verdicts.specs.Checking.{checker, at_floor as check_floor}
-use Rattle.receiver_laws.specs.Untouched.{IsUntouched, DeliversAll, untouched}
-use Rattle.receiver_laws.proofs.Notes.{frames_in}
+use Rattle.receiver_laws.proofs.{Delivering.PassesAll, Delivering.passes-all, Notes.frames_in}
 use Rattle.receiver_laws.proofs.Packing.{packets, packets-spread, packets-end, SealsAll, seals-all}
-use Rattle.receiver_laws.proofs.Delivering.{PassesAll, passes-all}
+use Rattle.receiver_laws.specs.Untouched.{IsUntouched, DeliversAll, untouched}
+use Rattle.seal_judgements.proofs.Numbers.{frames_in as sealed_frames}
+use Rattle.seal_judgements.specs.Sealing.{sealer, at_floor as seal_floor, link_line}
+use Rattle.std.proofs.Common.{◌≡◌, ◌∙◌, ℕ, ◌+◌, ◌-◌, ◌≤◌, List, [], ◌∷◌, ◌++◌, length, map, refl}
+use Rattle.std.proofs.Common.{sym, ap, subst, arith, length-append}
+use Rattle.std.proofs.lemmas.List.{length-replicate, FromFn.length-map-range_with_len}
+use Rattle.yasir_ticks.proofs.{BurstLaws.bursts_from-silent_end, BurstsOfLaws.bursts_from-are}
+use Rattle.yasir_ticks.specs.Bursts.{Burst, bursts, end_of}
+use Rattle.yasir_ticks.specs.{BurstsOf.AreBursts, Ticks.silent}
+use Rattle.yasir_ticks.specs.declared.tick.Tick.{Tick, TheVariants.Silent}
 
 -- ---- bursts and length of a line determine it
 

@@ -1,43 +1,28 @@
 -- What the receiver makes of the packets of spaced frames: each passes, and leaves as it came.
-use Rattle.std.proofs.Common.{◌≡◌, ◌∙◌, ℕ, suc, ◌+◌, ◌<◌, ◌≤◌, true, false, List}
-use Rattle.std.proofs.Common.{[], ◌∷◌, ◌++◌, length, map, drop, take, refl, sym, ap, subst, arith}
-use Rattle.std.proofs.Common.{⊎_elim}
-use Rattle.std.proofs.lemmas.Bool.{cases_Bool}
-use Rattle.std.proofs.lemmas.List.{append-nil, take_all}
-use Rattle.std.proofs.Math.Nat.{one-le-pow}
-use Rattle.std.proofs.Math.Seq.{drop-append_seam}
-use Rattle.yasir_ticks.specs.Ticks.{bytes_in}
-use Rattle.yasir_ticks.specs.Bursts.{Burst, end_of}
-use Rattle.yasir_ticks.specs.BurstsOf.{IsContiguous}
-use Rattle.yasir_ticks.specs.declared.tick.Tick.{Tick}
-use Rattle.yasir_ticks.specs.declared.tick.Tick.TheVariants.{Silent, Byte}
-use Rattle.line_rules.specs.Rules.{Rules}
-use Rattle.line_rules.specs.RulesLaws.{IsLawful, IsFramed}
-use Rattle.frame_ending.specs.LiveBytes.{before_pause, has_pause, up_to_byte, within_room}
-use Rattle.frame_ending.specs.LiveBytes.{live_bytes}
-use Rattle.frame_ending.specs.LiveBytes.{live_ticks, has_extra}
+use Rattle.burst_walk.proofs.{Spread.AreSpread, Spread.EndBy, Walks.before-early}
+use Rattle.burst_walk.specs.{Laid.later, Walk.Noted, Walk.walked, Walk.emitted, Walk.notes_before}
+use Rattle.frame_ending.proofs.{BurstSteps.live-le, LiveTicks.live_ticks-whole}
 use Rattle.frame_ending.proofs.Pauses.{ended, contiguous-ends, before_pause-paused}
 use Rattle.frame_ending.proofs.Pauses.{before_pause-goes_on, before_pause-whole, up_to_byte-append}
-use Rattle.frame_ending.proofs.BurstSteps.{live-le}
-use Rattle.frame_ending.proofs.LiveTicks.{live_ticks-whole}
-use Rattle.burst_walk.specs.Laid.{later}
-use Rattle.burst_walk.specs.Walk.{Noted, walked, emitted, notes_before}
-use Rattle.burst_walk.proofs.Spread.{AreSpread, EndBy}
-use Rattle.burst_walk.proofs.Walks.{before-early}
-use Rattle.link_format.specs.NumberedFrame.{NumberedFrame}
+use Rattle.frame_ending.specs.LiveBytes.{before_pause, has_pause, up_to_byte, within_room}
+use Rattle.frame_ending.specs.LiveBytes.{live_bytes, live_ticks, has_extra}
+use Rattle.line_rules.specs.{Rules.Rules, RulesLaws.IsLawful, RulesLaws.IsFramed}
+use Rattle.link_format.{proofs.Profiles.length-trailer, specs.NumberedFrame.NumberedFrame}
 use Rattle.link_format.specs.Profile.{Profile, HasTags, pause_len, trailer_len, trailer, words}
-use Rattle.link_format.specs.Profile.{delay}
-use Rattle.link_format.proofs.Profiles.{length-trailer}
-use Rattle.seal_judgements.specs.Sealing.{trailing}
-use Rattle.link_verdicts.specs.Verdicts.{CheckState, Verdict, after_live, checked}
-use Rattle.link_verdicts.specs.Verdicts.Verdict.{passed_with}
-use Rattle.link_verdicts.specs.Emissions.{delayed, emission_by}
+use Rattle.{link_format.specs.Profile.delay, link_verdicts.proofs.Packets.packet-passes}
 use Rattle.link_verdicts.specs.Checking.{FullNote, trailer_tick, note_tick, state_by, note_by}
-use Rattle.link_verdicts.specs.Checking.{checker}
-use Rattle.link_verdicts.proofs.Packets.{packet-passes}
-use Rattle.receiver_laws.specs.Untouched.{AreSpaced, numbered}
-use Rattle.receiver_laws.proofs.Notes.{frames_in}
+use Rattle.link_verdicts.specs.{Checking.checker, Emissions.delayed, Emissions.emission_by}
+use Rattle.link_verdicts.specs.Verdicts.{CheckState, Verdict, after_live, checked}
+use Rattle.{link_verdicts.specs.Verdicts.Verdict.passed_with, receiver_laws.proofs.Notes.frames_in}
 use Rattle.receiver_laws.proofs.Packing.{packet, packets, length-trailing}
+use Rattle.receiver_laws.specs.Untouched.{AreSpaced, numbered}
+use Rattle.seal_judgements.specs.Sealing.{trailing}
+use Rattle.std.proofs.Common.{◌≡◌, ◌∙◌, ℕ, suc, ◌+◌, ◌<◌, ◌≤◌, true, false, List, [], ◌∷◌, ◌++◌}
+use Rattle.std.proofs.Common.{length, map, drop, take, refl, sym, ap, subst, arith, ⊎_elim}
+use Rattle.std.proofs.Math.{Nat.one-le-pow, Seq.drop-append_seam}
+use Rattle.std.proofs.lemmas.{Bool.cases_Bool, List.append-nil, List.take_all}
+use Rattle.yasir_ticks.specs.{Bursts.Burst, Bursts.end_of, BurstsOf.IsContiguous, Ticks.bytes_in}
+use Rattle.yasir_ticks.specs.declared.tick.Tick.{Tick, TheVariants.Silent, TheVariants.Byte}
 
 -- ---- what comes before a pause stays, whatever comes behind it
 

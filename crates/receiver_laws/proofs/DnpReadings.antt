@@ -1,15 +1,12 @@
 -- A DNP3 device behind the receiver reads only what passed.
+use Rattle.device_model.specs.{DnpHunted.dnp_hunted, DnpReads.dnp_reads}
+use Rattle.{device_model.specs.HuntFamily.dnp_family_reads, dnp_link_frame.specs.Rules.dnp_rules}
+use Rattle.dnp_link_frame.specs.RulesLaws.{dnp_lawful, dnp_headed, dnp_framed, dnp_spoiling}
+use Rattle.link_format.specs.Profile.{Profile}
+use Rattle.receiver_laws.proofs.{Anew.anew_reads_what_passed, HunterReadings.hunt_reads_what_passed}
+use Rattle.receiver_laws.specs.Reading.{ReadsWhatPassed}
 use Rattle.std.proofs.Common.{◌≡◌, ◌≤◌, ◌⊎◌, inl, inr, ℕ, zero, suc, List, arith}
 use Rattle.yasir_ticks.specs.declared.tick.Tick.{Tick}
-use Rattle.dnp_link_frame.specs.Rules.{dnp_rules}
-use Rattle.dnp_link_frame.specs.RulesLaws.{dnp_lawful, dnp_headed, dnp_framed, dnp_spoiling}
-use Rattle.device_model.specs.DnpHunted.{dnp_hunted}
-use Rattle.device_model.specs.DnpReads.{dnp_reads}
-use Rattle.device_model.specs.HuntFamily.{dnp_family_reads}
-use Rattle.link_format.specs.Profile.{Profile}
-use Rattle.receiver_laws.specs.Reading.{ReadsWhatPassed}
-use Rattle.receiver_laws.proofs.Anew.{anew_reads_what_passed}
-use Rattle.receiver_laws.proofs.HunterReadings.{hunt_reads_what_passed}
 
 pub dnp_reads_what_passed : (profile : Profile) (floor : ℕ) (link : List Tick)
     → ReadsWhatPassed dnp_rules dnp_reads 0 profile floor link

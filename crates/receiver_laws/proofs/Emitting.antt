@@ -1,42 +1,33 @@
 -- What the transmitter puts on the link is apart, so that each packet that ends within the link
 -- is a burst of it.
-use Rattle.std.proofs.Common.{◌≡◌, ◌∙◌, ℕ, ◌+◌, ◌<◌, ◌≤◌, false, List, [], ◌∷◌, ◌++◌}
-use Rattle.std.proofs.Common.{length, refl, sym, ap, subst, arith, ⊎_elim, append_assoc}
-use Rattle.std.proofs.Common.{length-append, drop}
-use Rattle.std.proofs.lemmas.Bool.{cases_lt, ltb-false}
-use Rattle.std.proofs.lemmas.List.{append-nil, length-map}
-use Rattle.std.proofs.lemmas.List.FromFn.{length-map-range_with_len}
-use Rattle.std.proofs.Math.Seq.{drop-append_seam}
-use Rattle.yasir_ticks.specs.Ticks.{silent, bytes_in}
-use Rattle.yasir_ticks.specs.Bursts.{Burst, bursts, end_of}
-use Rattle.yasir_ticks.specs.BurstsOf.{AreBursts, IsContiguous}
-use Rattle.yasir_ticks.specs.declared.tick.Tick.{Tick}
-use Rattle.yasir_ticks.specs.declared.tick.Tick.TheVariants.{Byte}
-use Rattle.yasir_ticks.proofs.SilenceLaws.{bytes_in-append}
-use Rattle.yasir_ticks.proofs.BurstsOfLaws.{bursts_from-are, bursts_from-only}
-use Rattle.line_rules.specs.Rules.{Rules}
-use Rattle.line_rules.specs.RulesLaws.{IsLawful}
-use Rattle.frame_ending.specs.LiveBytes.{live_bytes, live_ticks, has_extra}
-use Rattle.frame_ending.proofs.LiveTicks.{live_ticks-contiguous, live_end-within, live_end-whole}
-use Rattle.frame_ending.proofs.LiveTicks.{live_ticks-whole}
-use Rattle.frame_ending.proofs.Pauses.{contiguous-ends}
-use Rattle.burst_walk.specs.Laid.{laid, tick_at}
-use Rattle.burst_walk.specs.Walk.{emitted}
 use Rattle.burst_walk.proofs.LaidBursts.{bursts-laid}
 use Rattle.burst_walk.proofs.Spread.{AreSpread, EndBy, bursts-spread, bursts-end}
-use Rattle.link_format.specs.Profile.{Profile, HasTags, pause_len, trailer_len, trailer}
+use Rattle.burst_walk.specs.{Laid.laid, Laid.tick_at, Walk.emitted}
+use Rattle.frame_ending.proofs.LiveTicks.{live_ticks-contiguous, live_end-within, live_end-whole}
+use Rattle.frame_ending.proofs.{LiveTicks.live_ticks-whole, Pauses.contiguous-ends}
+use Rattle.frame_ending.specs.LiveBytes.{live_bytes, live_ticks, has_extra}
+use Rattle.line_rules.specs.{Rules.Rules, RulesLaws.IsLawful}
 use Rattle.link_format.proofs.Profiles.{length-trailer}
+use Rattle.link_format.specs.Profile.{Profile, HasTags, pause_len, trailer_len, trailer}
+use Rattle.link_verdicts.proofs.Spoiled.{contiguous-wider}
+use Rattle.receiver_laws.proofs.Packing.{packet, packet-length, packet-contiguous}
+use Rattle.receiver_laws.proofs.{Parting.same-front, Parting.are-front, Sending.sealed-is}
+use Rattle.receiver_laws.proofs.{Sending.form-from, Sending.spent-from, Settled.laid-longer}
+use Rattle.receiver_laws.proofs.Standing.{AreOn, bursts-on, byte_ticks}
+use Rattle.receiver_laws.specs.Standing.{StandsOn, numbered_frame}
 use Rattle.seal_judgements.specs.Sealing.{SealState, Judgement, judged, state_by, trailing}
 use Rattle.seal_judgements.specs.Sealing.{emission_by, sealer, at_floor, link_line}
 use Rattle.seal_judgements.specs.Sealing.Judgement.{sealed_with, unsealed}
 use Rattle.seal_judgements.specs.declared.note.UnsealedWhy.TheVariants.{Early, Form, Spent}
-use Rattle.link_verdicts.proofs.Spoiled.{contiguous-wider}
-use Rattle.receiver_laws.specs.Standing.{StandsOn, numbered_frame}
-use Rattle.receiver_laws.proofs.Packing.{packet, packet-length, packet-contiguous}
-use Rattle.receiver_laws.proofs.Parting.{same-front, are-front}
-use Rattle.receiver_laws.proofs.Sending.{sealed-is, form-from, spent-from}
-use Rattle.receiver_laws.proofs.Settled.{laid-longer}
-use Rattle.receiver_laws.proofs.Standing.{AreOn, bursts-on, byte_ticks}
+use Rattle.std.proofs.Common.{◌≡◌, ◌∙◌, ℕ, ◌+◌, ◌<◌, ◌≤◌, false, List, [], ◌∷◌, ◌++◌, length, refl}
+use Rattle.std.proofs.Common.{sym, ap, subst, arith, ⊎_elim, append_assoc, length-append, drop}
+use Rattle.std.proofs.{Math.Seq.drop-append_seam, lemmas.Bool.cases_lt, lemmas.Bool.ltb-false}
+use Rattle.std.proofs.lemmas.List.{append-nil, length-map, FromFn.length-map-range_with_len}
+use Rattle.yasir_ticks.proofs.BurstsOfLaws.{bursts_from-are, bursts_from-only}
+use Rattle.yasir_ticks.proofs.SilenceLaws.{bytes_in-append}
+use Rattle.yasir_ticks.specs.{Bursts.Burst, Bursts.bursts, Bursts.end_of, BurstsOf.AreBursts}
+use Rattle.yasir_ticks.specs.{BurstsOf.IsContiguous, Ticks.silent, Ticks.bytes_in}
+use Rattle.yasir_ticks.specs.declared.tick.Tick.{Tick, TheVariants.Byte}
 
 ends-late : (w : List Tick) (a : ℕ) (body v : List Tick) → w ++ Byte a ∷ [] ≡ body ++ v
     → length body ≤ length w → 0 < length (bytes_in v)

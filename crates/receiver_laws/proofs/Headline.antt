@@ -1,28 +1,22 @@
 -- What a device reads is a subsequence of what was sealed, where nothing is forged: over uptimes of
 -- both boxes, and so in one of each.
-use Rattle.std.proofs.Common.{◌≡◌, ◌∙◌, ℕ, Bool, not, List, [], ◌∷◌, ◌++◌, map, refl}
-use Rattle.std.proofs.Common.{sym, ap, subst, ⊎_elim, if◌then◌else◌}
-use Rattle.std.specs.List.{filter}
-use Rattle.std.proofs.lemmas.Bool.{cases_Bool}
-use Rattle.std.proofs.lemmas.List.{map-append, append-nil}
-use Rattle.yasir_ticks.specs.declared.tick.Tick.{Tick}
-use Rattle.line_rules.specs.Rules.{Rules}
-use Rattle.line_rules.specs.RulesLaws.{IsLawful}
-use Rattle.link_format.specs.NumberedFrame.{NumberedFrame}
-use Rattle.link_format.specs.Profile.{Profile}
-use Rattle.device_model.specs.Frames.{FrameRead}
-use Rattle.seal_judgements.specs.Sealing.{sealed}
-use Rattle.link_verdicts.specs.Checking.{passed, received_line}
+use Rattle.{device_model.specs.Frames.FrameRead, line_rules.specs.Rules.Rules}
+use Rattle.{line_rules.specs.RulesLaws.IsLawful, link_format.specs.NumberedFrame.NumberedFrame}
+use Rattle.{link_format.specs.Profile.Profile, link_verdicts.specs.Checking.passed}
+use Rattle.{link_verdicts.specs.Checking.received_line, receiver_laws.proofs.OverUptimes.alone}
+use Rattle.receiver_laws.proofs.OverUptimes.{alone-is, alone-go_on, accounted-over, accounted-for}
+use Rattle.receiver_laws.proofs.Subsequences.{front-is, join-is, map-is, chain-is}
 use Rattle.receiver_laws.specs.Accounted.{pairs_of, IsSubsequence, rightly_passed, forged}
-use Rattle.receiver_laws.specs.Accounted.{IsAccountedFor, is_among}
-use Rattle.receiver_laws.specs.Accounted.IsSubsequence.{none}
+use Rattle.receiver_laws.specs.Accounted.{IsAccountedFor, is_among, IsSubsequence.none}
 use Rattle.receiver_laws.specs.Headline.{bytes_read, bytes_sealed, ReadsWhatWasSealed}
-use Rattle.receiver_laws.specs.Reading.{delivered, ReadsWhatPassed}
 use Rattle.receiver_laws.specs.OverUptimes.{BoxUptime, bytes_over, sealed_over, passed_over}
 use Rattle.receiver_laws.specs.OverUptimes.{BothGoOn, ReadsOverUptimes}
-use Rattle.receiver_laws.proofs.OverUptimes.{alone, alone-is, alone-go_on, accounted-over}
-use Rattle.receiver_laws.proofs.OverUptimes.{accounted-for}
-use Rattle.receiver_laws.proofs.Subsequences.{front-is, join-is, map-is, chain-is}
+use Rattle.receiver_laws.specs.Reading.{delivered, ReadsWhatPassed}
+use Rattle.seal_judgements.specs.Sealing.{sealed}
+use Rattle.std.proofs.Common.{◌≡◌, ◌∙◌, ℕ, Bool, not, List, [], ◌∷◌, ◌++◌, map, refl, sym, ap}
+use Rattle.std.proofs.Common.{subst, ⊎_elim, if◌then◌else◌}
+use Rattle.std.proofs.lemmas.{Bool.cases_Bool, List.map-append, List.append-nil}
+use Rattle.{std.specs.List.filter, yasir_ticks.specs.declared.tick.Tick.Tick}
 
 -- where none is left out, all stay
 pub all-stay : {X : Type 0} (test : X → Bool) (x : List X) → filter (λ a. not (test a)) x ≡ []

@@ -1,50 +1,39 @@
 -- A device behind the receiver that hunts for frames reads only what passed: of what leaves, the
 -- hunt takes each burst as a whole, and of a refused one it reads nothing.
+use Rattle.burst_walk.{proofs.Spread.AreSpread, proofs.Spread.bursts-spread, specs.Walk.emitted}
+use Rattle.device_model.proofs.Heads.{head-good, head-bad, good-long, good-header, header-more}
+use Rattle.device_model.proofs.HuntCases.{good-starts, good-room, good-size}
+use Rattle.device_model.proofs.HuntSteps.{timed-append}
+use Rattle.device_model.proofs.Hunts.{begins-more, begins-front, hunt-none, taken-is}
+use Rattle.device_model.{proofs.ReadLaws.frames_ended, specs.Frames.FrameRead}
+use Rattle.device_model.specs.Hunt.{timed, header_in, begins, hunt, hunt_line}
+use Rattle.{device_model.specs.HuntLaws.IsHunted, frame_ending.proofs.LiveTicks.live_ticks-bytes}
+use Rattle.frame_ending.proofs.{Pauses.contiguous-ends, Rooms.within_room-fit}
+use Rattle.frame_ending.specs.LiveBytes.{live_bytes, live_ticks, spelled}
+use Rattle.line_rules.specs.Rules.{Rules, head_of, left_of, left_by}
+use Rattle.line_rules.specs.RulesLaws.{IsLawful, IsHeaded, IsFramed}
+use Rattle.line_rules.specs.{Spoiling.IsSpoiling, declared.head.Head.TheVariants.Good}
+use Rattle.{line_rules.specs.declared.head.Head.TheVariants.Bad, link_format.specs.Profile.Profile}
+use Rattle.link_verdicts.proofs.{Apart.emissions-spread, Judging.checked-busy}
+use Rattle.link_verdicts.proofs.{Judging.checked-short, Judging.checked-bad, Passing.passed-passing}
+use Rattle.link_verdicts.proofs.Spoiled.{spoiled-ended, spoiled-no_frame, filled-contiguous}
+use Rattle.link_verdicts.specs.Checking.{state_by, checker, at_floor, received_line}
+use Rattle.link_verdicts.specs.Emissions.{spoiled, owed, filled_ticks, emission_by}
+use Rattle.link_verdicts.specs.Verdicts.{CheckState, Verdict, checked}
+use Rattle.link_verdicts.specs.Verdicts.Verdict.{passed_with, refused, dropped}
+use Rattle.link_verdicts.specs.declared.note.DroppedWhy.TheVariants.{Busy, Head as NoHead}
+use Rattle.link_verdicts.specs.declared.note.RefusedWhy.{RefusedWhy}
+use Rattle.receiver_laws.proofs.Hunters.{IsTaken, AreTaken, hunter-laid, timed-silent_ticks}
+use Rattle.receiver_laws.proofs.Readings.{whole, wrong, reads_what_passed}
+use Rattle.receiver_laws.specs.{Hunters.IsHunter, Reading.ReadsWhatPassed}
 use Rattle.std.proofs.Common.{◌≡◌, ◌∙◌, ℕ, suc, ◌+◌, ◌-◌, ◌<◌, ◌≤◌, true, false, List, [], ◌∷◌}
 use Rattle.std.proofs.Common.{◌++◌, length, take, replicate, refl, sym, ap, subst, arith, ⊎_elim}
 use Rattle.std.proofs.Common.{length-append, zero}
 use Rattle.std.proofs.lemmas.Bool.{cases_lt, cases_Bool}
 use Rattle.std.proofs.lemmas.List.{append-nil, take_all, length-replicate}
-use Rattle.yasir_ticks.specs.Ticks.{bytes_in}
-use Rattle.yasir_ticks.specs.Bursts.{Burst, bursts, end_of}
-use Rattle.yasir_ticks.specs.BurstsOf.{IsContiguous}
-use Rattle.yasir_ticks.specs.declared.tick.Tick.{Tick}
-use Rattle.yasir_ticks.specs.declared.tick.Tick.TheVariants.{Byte}
-use Rattle.yasir_ticks.proofs.SilenceLaws.{bytes_in-append}
-use Rattle.line_rules.specs.Rules.{Rules, head_of, left_of, left_by}
-use Rattle.line_rules.specs.RulesLaws.{IsLawful, IsHeaded, IsFramed}
-use Rattle.line_rules.specs.Spoiling.{IsSpoiling}
-use Rattle.line_rules.specs.declared.head.Head.TheVariants.{Good, Bad}
-use Rattle.frame_ending.specs.LiveBytes.{live_bytes, live_ticks, spelled}
-use Rattle.frame_ending.proofs.LiveTicks.{live_ticks-bytes}
-use Rattle.frame_ending.proofs.Pauses.{contiguous-ends}
-use Rattle.frame_ending.proofs.Rooms.{within_room-fit}
-use Rattle.device_model.specs.Frames.{FrameRead}
-use Rattle.device_model.specs.Hunt.{timed, header_in, begins, hunt, hunt_line}
-use Rattle.device_model.specs.HuntLaws.{IsHunted}
-use Rattle.device_model.proofs.ReadLaws.{frames_ended}
-use Rattle.device_model.proofs.Heads.{head-good, head-bad, good-long, good-header, header-more}
-use Rattle.device_model.proofs.Hunts.{begins-more, begins-front, hunt-none, taken-is}
-use Rattle.device_model.proofs.HuntCases.{good-starts, good-room, good-size}
-use Rattle.device_model.proofs.HuntSteps.{timed-append}
-use Rattle.burst_walk.specs.Walk.{emitted}
-use Rattle.burst_walk.proofs.Spread.{AreSpread, bursts-spread}
-use Rattle.link_format.specs.Profile.{Profile}
-use Rattle.link_verdicts.specs.declared.note.RefusedWhy.{RefusedWhy}
-use Rattle.link_verdicts.specs.declared.note.DroppedWhy.TheVariants.{Busy, Head as NoHead}
-use Rattle.link_verdicts.specs.Verdicts.{CheckState, Verdict, checked}
-use Rattle.link_verdicts.specs.Verdicts.Verdict.{passed_with, refused, dropped}
-use Rattle.link_verdicts.specs.Emissions.{spoiled, owed, filled_ticks, emission_by}
-use Rattle.link_verdicts.specs.Checking.{state_by, checker, at_floor, received_line}
-use Rattle.link_verdicts.proofs.Judging.{checked-busy, checked-short, checked-bad}
-use Rattle.link_verdicts.proofs.Spoiled.{spoiled-ended, spoiled-no_frame, filled-contiguous}
-use Rattle.link_verdicts.proofs.Passing.{passed-passing}
-use Rattle.link_verdicts.proofs.Apart.{emissions-spread}
-use Rattle.receiver_laws.specs.Hunters.{IsHunter}
-use Rattle.receiver_laws.specs.Reading.{ReadsWhatPassed}
-use Rattle.receiver_laws.proofs.Hunters.{IsTaken, AreTaken, hunter-laid}
-use Rattle.receiver_laws.proofs.Hunters.{timed-silent_ticks}
-use Rattle.receiver_laws.proofs.Readings.{whole, wrong, reads_what_passed}
+use Rattle.yasir_ticks.{proofs.SilenceLaws.bytes_in-append, specs.Bursts.Burst}
+use Rattle.yasir_ticks.specs.{Bursts.bursts, Bursts.end_of, BurstsOf.IsContiguous, Ticks.bytes_in}
+use Rattle.yasir_ticks.specs.declared.tick.Tick.{Tick, TheVariants.Byte}
 
 -- ---- the hunt itself
 

@@ -1,38 +1,27 @@
 -- A device that hunts reads what wholly leaves the receiver, where all that leaves is such as the
 -- hunt takes together.
+use Rattle.burst_walk.{proofs.LaidBursts.bursts-laid, proofs.Spread.AreSpread, specs.Laid.tick_at}
+use Rattle.{burst_walk.specs.Laid.laid, device_model.proofs.HuntCases.found-whole}
+use Rattle.device_model.proofs.{HuntCases.hunt-cut, Hunts.hunt-whole, Hunts.timed_bytes-length}
+use Rattle.device_model.proofs.ReadLaws.{frames_ended, frames_ended-append, frames_ended-ended}
+use Rattle.device_model.specs.Frames.{FrameRead}
+use Rattle.device_model.specs.Hunt.{Timed, timed, timed_bytes, begins, bytes_taken, found, hunt}
+use Rattle.device_model.specs.{HuntLaws.IsHunted, HuntingDevice.frame_at, RtuReads.frame_in}
+use Rattle.frame_ending.proofs.Pauses.{contiguous-ends}
+use Rattle.line_rules.specs.{Rules.Rules, RulesLaws.IsHeaded, RulesLaws.IsFramed}
+use Rattle.receiver_laws.proofs.Readings.{read-open}
+use Rattle.receiver_laws.proofs.Settled.{laid-longer, last_end, EndBy-last, EndBy-later}
+use Rattle.receiver_laws.specs.Hunters.{IsFront, nothing, up_to, IsHunter}
 use Rattle.std.proofs.Common.{◌≡◌, ◌∙◌, ℕ, zero, suc, ◌+◌, ◌-◌, ◌<◌, ◌≤◌, Bool, true, cond, List}
 use Rattle.std.proofs.Common.{[], ◌∷◌, ◌++◌, length, take, drop, refl, sym, ap, subst, arith}
 use Rattle.std.proofs.Common.{⊎_elim, length-append, append_assoc}
-use Rattle.std.proofs.lemmas.Bool.{cases_lt}
-use Rattle.std.proofs.lemmas.List.FromFn.{length-map-range_with_len}
-use Rattle.std.proofs.lemmas.List.{append-nil, length-replicate, take-append-le}
-use Rattle.std.proofs.lemmas.List.{drop-append-le, take-append-drop, take_at}
-use Rattle.std.proofs.Math.Seq.{take-append-add}
-use Rattle.yasir_ticks.specs.Ticks.{silent, bytes_in}
-use Rattle.yasir_ticks.specs.Bursts.{Burst, end_of}
-use Rattle.yasir_ticks.specs.BurstsOf.{IsContiguous, one, more, AreBursts}
-use Rattle.yasir_ticks.specs.declared.tick.Tick.{Tick}
-use Rattle.yasir_ticks.specs.declared.tick.Tick.TheVariants.{Silent, Byte}
-use Rattle.yasir_ticks.proofs.BurstsOfLaws.{bursts_from-are}
-use Rattle.yasir_ticks.proofs.SilenceLaws.{bytes_in-append}
-use Rattle.line_rules.specs.Rules.{Rules}
-use Rattle.line_rules.specs.RulesLaws.{IsHeaded, IsFramed}
-use Rattle.frame_ending.proofs.Pauses.{contiguous-ends}
-use Rattle.device_model.specs.Frames.{FrameRead}
-use Rattle.device_model.specs.RtuReads.{frame_in}
-use Rattle.device_model.specs.Hunt.{Timed, timed, timed_bytes, begins, bytes_taken, found, hunt}
-use Rattle.device_model.specs.HuntLaws.{IsHunted}
-use Rattle.device_model.specs.HuntingDevice.{frame_at}
-use Rattle.device_model.proofs.ReadLaws.{frames_ended, frames_ended-append}
-use Rattle.device_model.proofs.ReadLaws.{frames_ended-ended}
-use Rattle.device_model.proofs.Hunts.{hunt-whole, timed_bytes-length}
-use Rattle.device_model.proofs.HuntCases.{found-whole, hunt-cut}
-use Rattle.burst_walk.specs.Laid.{tick_at, laid}
-use Rattle.burst_walk.proofs.LaidBursts.{bursts-laid}
-use Rattle.burst_walk.proofs.Spread.{AreSpread}
-use Rattle.receiver_laws.specs.Hunters.{IsFront, nothing, up_to, IsHunter}
-use Rattle.receiver_laws.proofs.Readings.{read-open}
-use Rattle.receiver_laws.proofs.Settled.{laid-longer, last_end, EndBy-last, EndBy-later}
+use Rattle.std.proofs.{Math.Seq.take-append-add, lemmas.Bool.cases_lt}
+use Rattle.std.proofs.lemmas.List.{append-nil, length-replicate, take-append-le, drop-append-le}
+use Rattle.std.proofs.lemmas.List.{take-append-drop, take_at, FromFn.length-map-range_with_len}
+use Rattle.yasir_ticks.proofs.{BurstsOfLaws.bursts_from-are, SilenceLaws.bytes_in-append}
+use Rattle.yasir_ticks.specs.{Bursts.Burst, Bursts.end_of, BurstsOf.IsContiguous, BurstsOf.one}
+use Rattle.yasir_ticks.specs.{BurstsOf.more, BurstsOf.AreBursts, Ticks.silent, Ticks.bytes_in}
+use Rattle.yasir_ticks.specs.declared.tick.Tick.{Tick, TheVariants.Silent, TheVariants.Byte}
 
 -- ---- the bytes of ticks
 

@@ -1,44 +1,34 @@
 -- The receiver's walk over packets beside the transmitter's over the bursts that they are of: each
 -- finds the receiver free, and its number above the receiver's floor.
-use Rattle.std.proofs.Common.{◌≡◌, ◌∙◌, ◌⊎◌, ℕ, ◌+◌, ◌-◌, ◌%◌, ◌<◌, ◌≤◌, List, []}
-use Rattle.std.proofs.Common.{◌∷◌, ◌++◌, length, take, drop, refl, sym, ap, subst, arith}
-use Rattle.std.proofs.Common.{⊎_elim, true, false}
-use Rattle.std.proofs.lemmas.Bool.{eqb-false}
-use Rattle.std.proofs.lemmas.List.{take_all, length-map}
-use Rattle.std.proofs.Math.Nat.{mod-lt, one-le-pow}
-use Rattle.yasir_ticks.specs.Ticks.{bytes_in}
-use Rattle.yasir_ticks.specs.Bursts.{Burst, end_of, AreClosed}
-use Rattle.yasir_ticks.specs.BurstsOf.{IsContiguous}
-use Rattle.yasir_ticks.specs.declared.tick.Tick.TheVariants.{Byte}
-use Rattle.line_rules.specs.Rules.{Rules, left_of, left_by}
-use Rattle.line_rules.specs.RulesLaws.{IsLawful, IsFramed}
-use Rattle.frame_ending.specs.LiveBytes.{live_bytes, has_extra}
-use Rattle.frame_ending.proofs.LiveTicks.{live_end-whole}
+use Rattle.burst_walk.proofs.{Spread.AreSpread, Walks.before-early}
 use Rattle.burst_walk.specs.Walk.{Noted, walked, emitted, notes_before, state_after}
-use Rattle.burst_walk.proofs.Spread.{AreSpread}
-use Rattle.burst_walk.proofs.Walks.{before-early}
-use Rattle.link_format.specs.NumberedFrame.{last_number}
-use Rattle.link_format.specs.Profile.{Profile, HasTags, pause_len, trailer_len, trailer, words}
-use Rattle.link_format.specs.Profile.{word_of}
+use Rattle.frame_ending.{proofs.LiveTicks.live_end-whole, specs.LiveBytes.live_bytes}
+use Rattle.{frame_ending.specs.LiveBytes.has_extra, line_rules.specs.Rules.Rules}
+use Rattle.line_rules.specs.{Rules.left_of, Rules.left_by, RulesLaws.IsLawful, RulesLaws.IsFramed}
 use Rattle.link_format.proofs.Profiles.{length-trailer, word_of-trailer}
-use Rattle.sequence_journal.specs.Numbers.{least_with}
-use Rattle.sequence_journal.proofs.NumberLaws.{least-is}
-use Rattle.seal_judgements.specs.Sealing.{SealState, Judgement, judged, sealer}
-use Rattle.seal_judgements.specs.Sealing.{state_by as seal_by, emission_by as sent_by}
-use Rattle.seal_judgements.specs.Sealing.Judgement.{sealed_with, unsealed}
-use Rattle.seal_judgements.specs.declared.note.UnsealedWhy.TheVariants.{Early}
-use Rattle.link_verdicts.specs.Verdicts.{CheckState, Verdict, trailer_of, checked}
-use Rattle.link_verdicts.specs.Verdicts.Verdict.{passed_with, refused, dropped}
-use Rattle.link_verdicts.specs.Emissions.{owed}
-use Rattle.link_verdicts.specs.Checking.{FullNote, state_by, note_by, note_tick, checker}
-use Rattle.link_verdicts.specs.Checking.{start_after}
+use Rattle.link_format.specs.{NumberedFrame.last_number, Profile.Profile}
+use Rattle.link_format.specs.Profile.{HasTags, pause_len, trailer_len, trailer, words, word_of}
 use Rattle.link_verdicts.proofs.Passing.{passed-passing, number-within}
 use Rattle.link_verdicts.proofs.Settling.{trailer_tick-soon}
+use Rattle.link_verdicts.specs.Checking.{FullNote, state_by, note_by, note_tick, checker}
+use Rattle.link_verdicts.specs.{Checking.start_after, Emissions.owed}
+use Rattle.link_verdicts.specs.Verdicts.{CheckState, Verdict, trailer_of, checked}
+use Rattle.link_verdicts.specs.Verdicts.Verdict.{passed_with, refused, dropped}
 use Rattle.receiver_laws.proofs.Delivering.{packet-bytes, packet-ticks, packet-after}
-use Rattle.receiver_laws.proofs.Notes.{frames_in, unnoted}
-use Rattle.receiver_laws.proofs.Packing.{packet}
+use Rattle.receiver_laws.proofs.{Notes.frames_in, Notes.unnoted, Packing.packet}
 use Rattle.receiver_laws.proofs.Sending.{IsSealed, sealed-is}
 use Rattle.receiver_laws.proofs.Standing.{byte_ticks, bytes_in-byte_ticks}
+use Rattle.seal_judgements.specs.Sealing.{SealState, Judgement, judged, sealer, state_by as seal_by}
+use Rattle.seal_judgements.specs.Sealing.{emission_by as sent_by}
+use Rattle.seal_judgements.specs.Sealing.Judgement.{sealed_with, unsealed}
+use Rattle.seal_judgements.specs.declared.note.UnsealedWhy.TheVariants.{Early}
+use Rattle.sequence_journal.{proofs.NumberLaws.least-is, specs.Numbers.least_with}
+use Rattle.std.proofs.Common.{◌≡◌, ◌∙◌, ◌⊎◌, ℕ, ◌+◌, ◌-◌, ◌%◌, ◌<◌, ◌≤◌, List, [], ◌∷◌, ◌++◌}
+use Rattle.std.proofs.Common.{length, take, drop, refl, sym, ap, subst, arith, ⊎_elim, true, false}
+use Rattle.std.proofs.Math.Nat.{mod-lt, one-le-pow}
+use Rattle.std.proofs.lemmas.{Bool.eqb-false, List.take_all, List.length-map}
+use Rattle.yasir_ticks.specs.{Bursts.Burst, Bursts.end_of, Bursts.AreClosed, BurstsOf.IsContiguous}
+use Rattle.yasir_ticks.specs.{Ticks.bytes_in, declared.tick.Tick.TheVariants.Byte}
 
 -- ---- the receiver's floor so far
 

@@ -1,15 +1,12 @@
 -- What passes of a longer link begins with what passes of the link.
+use Rattle.burst_walk.specs.Longer.{Begins}
+use Rattle.line_rules.specs.{Rules.Rules, RulesLaws.IsLawful, RulesLaws.IsHeaded}
+use Rattle.{link_format.specs.Profile.Profile, link_verdicts.proofs.Causality.checker-extends}
+use Rattle.link_verdicts.specs.Checking.{passed_in, at_floor, check_notes, passed}
+use Rattle.{link_verdicts.specs.Timely.IsTimely, receiver_laws.proofs.Notes.frames_in}
 use Rattle.std.proofs.Common.{◌∙◌, ℕ, List, ◌++◌, ap}
 use Rattle.std.proofs.lemmas.List.Elements.{filter_map-append}
 use Rattle.yasir_ticks.specs.declared.tick.Tick.{Tick}
-use Rattle.line_rules.specs.Rules.{Rules}
-use Rattle.line_rules.specs.RulesLaws.{IsLawful, IsHeaded}
-use Rattle.burst_walk.specs.Longer.{Begins}
-use Rattle.link_format.specs.Profile.{Profile}
-use Rattle.link_verdicts.specs.Timely.{IsTimely}
-use Rattle.link_verdicts.specs.Checking.{passed_in, at_floor, check_notes, passed}
-use Rattle.link_verdicts.proofs.Causality.{checker-extends}
-use Rattle.receiver_laws.proofs.Notes.{frames_in}
 
 pub passed-extends : (profile : Profile) (rules : Rules) → IsLawful rules → IsHeaded rules
     → IsTimely profile rules

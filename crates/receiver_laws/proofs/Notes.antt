@@ -1,11 +1,9 @@
 -- The passed frames among the notes of a walk, burst by burst.
-use Rattle.std.proofs.Common.{◌≡◌, ◌∙◌, ℕ, List, ◌∷◌, ap, ⊎_elim, None}
-use Rattle.std.specs.List.{cons_option, filter_map}
-use Rattle.std.proofs.lemmas.Bool.{cases_lt}
-use Rattle.burst_walk.specs.Walk.{Noted, notes_before}
-use Rattle.burst_walk.proofs.Walks.{before-early, before-late}
-use Rattle.link_format.specs.NumberedFrame.{NumberedFrame}
+use Rattle.burst_walk.{proofs.Walks.before-early, proofs.Walks.before-late, specs.Walk.Noted}
+use Rattle.{burst_walk.specs.Walk.notes_before, link_format.specs.NumberedFrame.NumberedFrame}
 use Rattle.link_verdicts.specs.Checking.{FullNote, passed_in}
+use Rattle.std.proofs.Common.{◌≡◌, ◌∙◌, ℕ, List, ◌∷◌, ap, ⊎_elim, None}
+use Rattle.std.{proofs.lemmas.Bool.cases_lt, specs.List.cons_option, specs.List.filter_map}
 
 -- the frames that have passed among these notes
 abbrev pub frames_in : List (Noted FullNote) → List NumberedFrame

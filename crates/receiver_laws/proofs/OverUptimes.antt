@@ -1,26 +1,20 @@
 -- What passed in all uptimes of a receiver is accounted for by what was sealed in all uptimes of a
 -- transmitter, and so it is of one uptime of each.
-use Rattle.std.proofs.Common.{◌≡◌, ◌∙◌, ℕ, ◌≤◌, List, [], ◌∷◌, ◌++◌, Some, IfSome}
-use Rattle.std.proofs.Common.{refl, sym, subst, arith}
-use Rattle.std.proofs.lemmas.List.{map-append, append-nil}
-use Rattle.yasir_io.specs.Disks.{Slots}
-use Rattle.yasir_ticks.specs.declared.tick.Tick.{Tick}
-use Rattle.line_rules.specs.Rules.{Rules}
-use Rattle.line_rules.specs.RulesLaws.{IsLawful}
-use Rattle.sequence_journal.specs.Slots.{floor_of}
-use Rattle.sequence_journal.specs.Journal.{HasFloorAtLeast}
-use Rattle.sequence_journal.specs.declared.link.LinkId.{LinkId}
-use Rattle.sequence_journal.specs.Uptimes.{RiseFrom, last_from, HasNoFloorBelow}
-use Rattle.sequence_journal.proofs.UptimeLaws.{rise-lower, rise-append, some_weaker}
+use Rattle.line_rules.specs.{Rules.Rules, RulesLaws.IsLawful}
 use Rattle.link_format.specs.NumberedFrame.{NumberedFrame, numbers_of, last_number}
-use Rattle.link_format.specs.Profile.{Profile}
-use Rattle.seal_judgements.specs.Sealing.{sealed}
-use Rattle.link_verdicts.specs.Checking.{passed}
-use Rattle.receiver_laws.specs.Accounted.{IsAccountedFor}
+use Rattle.{link_format.specs.Profile.Profile, link_verdicts.specs.Checking.passed}
+use Rattle.receiver_laws.proofs.Accounting.{sealed-rise, rising-accounted}
+use Rattle.receiver_laws.{proofs.Rising.have_passed, specs.Accounted.IsAccountedFor}
 use Rattle.receiver_laws.specs.OverUptimes.{BoxUptime, frames_over, GoOnFrom, ShareDisk, BothGoOn}
 use Rattle.receiver_laws.specs.OverUptimes.{sealed_over, passed_over}
-use Rattle.receiver_laws.proofs.Accounting.{sealed-rise, rising-accounted}
-use Rattle.receiver_laws.proofs.Rising.{have_passed}
+use Rattle.seal_judgements.specs.Sealing.{sealed}
+use Rattle.sequence_journal.proofs.UptimeLaws.{rise-lower, rise-append, some_weaker}
+use Rattle.sequence_journal.specs.{Journal.HasFloorAtLeast, Slots.floor_of}
+use Rattle.sequence_journal.specs.Uptimes.{RiseFrom, last_from, HasNoFloorBelow}
+use Rattle.sequence_journal.specs.declared.link.LinkId.{LinkId}
+use Rattle.std.proofs.Common.{◌≡◌, ◌∙◌, ℕ, ◌≤◌, List, [], ◌∷◌, ◌++◌, Some, IfSome, refl, sym, subst}
+use Rattle.std.proofs.{Common.arith, lemmas.List.map-append, lemmas.List.append-nil}
+use Rattle.{yasir_io.specs.Disks.Slots, yasir_ticks.specs.declared.tick.Tick.Tick}
 
 -- the last of the numbers is the number of the last frame
 last-is : (floor : ℕ) (frames : List NumberedFrame)

@@ -1,36 +1,24 @@
 -- A whole packet that is on a link is among the frames that pass.
-use Rattle.std.proofs.Common.{◌≡◌, ◌∙◌, ℕ, ◌+◌, ◌<◌, ◌≤◌}
-use Rattle.std.proofs.Common.{List, [], ◌∷◌, ◌++◌, length}
-use Rattle.std.proofs.Common.{refl, sym, ap, subst, arith}
-use Rattle.std.proofs.Common.{nat_lt, length-append}
-use Rattle.std.specs.List.{Contains}
-use Rattle.std.proofs.lemmas.List.{length-map}
-use Rattle.std.proofs.lemmas.List.{length-take}
-use Rattle.std.proofs.lemmas.List.Elements.{Contains-append_right, filter-append, filter_map-append}
-use Rattle.yasir_ticks.specs.Ticks.{silent}
-use Rattle.yasir_ticks.specs.Bursts.{Burst, bursts, end_of}
-use Rattle.yasir_ticks.specs.declared.tick.Tick.{Tick}
-use Rattle.yasir_ticks.specs.declared.tick.Tick.TheVariants.{Byte}
-use Rattle.line_rules.specs.Rules.{Rules}
-use Rattle.line_rules.specs.RulesLaws.{IsFramed}
-use Rattle.frame_ending.specs.LiveBytes.{live_bytes, live_end}
-use Rattle.burst_walk.specs.Walk.{Noted, walked, state_after, notes_before}
 use Rattle.burst_walk.proofs.Spread.{EndBy, bursts-end}
 use Rattle.burst_walk.proofs.Walks.{walked-append, before-early}
-use Rattle.link_format.specs.NumberedFrame.{NumberedFrame}
+use Rattle.burst_walk.specs.Walk.{Noted, walked, state_after, notes_before}
+use Rattle.frame_ending.specs.LiveBytes.{live_bytes, live_end}
+use Rattle.line_rules.specs.{Rules.Rules, RulesLaws.IsFramed}
+use Rattle.link_format.{proofs.Profiles.length-trailer, specs.NumberedFrame.NumberedFrame}
 use Rattle.link_format.specs.Profile.{Profile, HasTags, pause_len, trailer_len, trailer}
-use Rattle.link_format.proofs.Profiles.{length-trailer}
-use Rattle.link_verdicts.specs.Verdicts.{CheckState, after_live}
-use Rattle.link_verdicts.specs.Verdicts.{checked}
-use Rattle.link_verdicts.specs.Verdicts.Verdict.{passed_with}
+use Rattle.link_verdicts.proofs.{Packets.packet-passes, Settling.after-long}
 use Rattle.link_verdicts.specs.Checking.{FullNote, note_tick, note_by, state_by, checker, at_floor}
-use Rattle.link_verdicts.specs.Checking.{passed_in, passed}
-use Rattle.link_verdicts.proofs.Settling.{after-long}
-use Rattle.link_verdicts.specs.Packet.{IsPacket}
-use Rattle.link_verdicts.proofs.Packets.{packet-passes}
+use Rattle.link_verdicts.specs.{Checking.passed_in, Checking.passed, Packet.IsPacket}
+use Rattle.link_verdicts.specs.Verdicts.{CheckState, after_live, checked, Verdict.passed_with}
+use Rattle.receiver_laws.proofs.{Notes.frames_in, Standing.byte_ticks}
 use Rattle.receiver_laws.specs.Standing.{numbered_frame}
-use Rattle.receiver_laws.proofs.Notes.{frames_in}
-use Rattle.receiver_laws.proofs.Standing.{byte_ticks}
+use Rattle.std.proofs.Common.{◌≡◌, ◌∙◌, ℕ, ◌+◌, ◌<◌, ◌≤◌, List, [], ◌∷◌, ◌++◌, length, refl, sym}
+use Rattle.std.proofs.Common.{ap, subst, arith, nat_lt, length-append}
+use Rattle.std.proofs.lemmas.List.{length-map, length-take}
+use Rattle.std.proofs.lemmas.List.Elements.{Contains-append_right, filter-append, filter_map-append}
+use Rattle.std.specs.List.{Contains}
+use Rattle.yasir_ticks.specs.{Bursts.Burst, Bursts.bursts, Bursts.end_of, Ticks.silent}
+use Rattle.yasir_ticks.specs.declared.tick.Tick.{Tick, TheVariants.Byte}
 
 -- a packet is all in the burst
 module _ (profile : Profile) (tags : HasTags profile) (rules : Rules) (s : CheckState) (d : Burst)

@@ -1,32 +1,22 @@
 -- What the transmitter makes of spaced frames: the packets of all of them.
-use Rattle.std.proofs.Common.{◌≡◌, ◌∙◌, ◌==◌, ℕ, suc, ◌+◌, ◌<◌, ◌≤◌, nat_lt, ◌||◌}
-use Rattle.std.proofs.Common.{true, false, not, List, [], ◌∷◌, ◌++◌, length, map}
-use Rattle.std.proofs.Common.{refl, sym, ap, subst, arith, append_assoc, length-append}
-use Rattle.std.proofs.lemmas.Bool.{le-ltb, ne_eqb}
-use Rattle.std.proofs.lemmas.List.{append-nil, length-map}
-use Rattle.yasir_ticks.specs.Ticks.{silent}
-use Rattle.yasir_ticks.specs.Bursts.{Burst, end_of}
-use Rattle.yasir_ticks.specs.BurstsOf.{IsContiguous}
-use Rattle.yasir_ticks.specs.declared.tick.Tick.{Tick}
-use Rattle.yasir_ticks.specs.declared.tick.Tick.TheVariants.{Byte}
-use Rattle.yasir_ticks.proofs.BurstsOfLaws.{contiguous-more}
-use Rattle.line_rules.specs.Rules.{Rules}
-use Rattle.line_rules.specs.RulesLaws.{IsLawful}
-use Rattle.frame_ending.specs.LiveBytes.{live_bytes, live_ticks, has_extra}
-use Rattle.frame_ending.proofs.LiveTicks.{live_ticks-whole}
+use Rattle.burst_walk.proofs.{Spread.AreSpread, Spread.EndBy, Walks.before-early}
 use Rattle.burst_walk.specs.Walk.{Noted, walked, emitted, notes_before}
-use Rattle.burst_walk.proofs.Spread.{AreSpread, EndBy}
-use Rattle.burst_walk.proofs.Walks.{before-early}
-use Rattle.link_format.specs.NumberedFrame.{NumberedFrame}
+use Rattle.frame_ending.proofs.LiveTicks.{live_ticks-whole}
+use Rattle.frame_ending.specs.LiveBytes.{live_bytes, live_ticks, has_extra}
+use Rattle.line_rules.specs.{Rules.Rules, RulesLaws.IsLawful}
+use Rattle.link_format.{proofs.Profiles.length-trailer, specs.NumberedFrame.NumberedFrame}
 use Rattle.link_format.specs.Profile.{Profile, HasTags, pause_len, trailer_len, trailer}
-use Rattle.link_format.proofs.Profiles.{length-trailer}
-use Rattle.seal_judgements.specs.Sealing.{SealState, FullNote, judged, state_by, note_by}
-use Rattle.seal_judgements.specs.Sealing.{forwarded}
-use Rattle.seal_judgements.specs.Sealing.{trailing, emission_by, sealer}
-use Rattle.seal_judgements.specs.Sealing.Judgement.{sealed_with}
-use Rattle.seal_judgements.proofs.Causality.{judge_by, judged-is}
-use Rattle.seal_judgements.proofs.Numbers.{frames_in}
 use Rattle.receiver_laws.specs.Untouched.{AreSpaced, numbered}
+use Rattle.seal_judgements.proofs.{Causality.judge_by, Causality.judged-is, Numbers.frames_in}
+use Rattle.seal_judgements.specs.Sealing.{SealState, FullNote, judged, state_by, note_by, forwarded}
+use Rattle.seal_judgements.specs.Sealing.{trailing, emission_by, sealer, Judgement.sealed_with}
+use Rattle.std.proofs.Common.{◌≡◌, ◌∙◌, ◌==◌, ℕ, suc, ◌+◌, ◌<◌, ◌≤◌, nat_lt, ◌||◌, true, false, not}
+use Rattle.std.proofs.Common.{List, [], ◌∷◌, ◌++◌, length, map, refl, sym, ap, subst, arith}
+use Rattle.std.proofs.Common.{append_assoc, length-append}
+use Rattle.std.proofs.lemmas.{Bool.le-ltb, Bool.ne_eqb, List.append-nil, List.length-map}
+use Rattle.yasir_ticks.proofs.BurstsOfLaws.{contiguous-more}
+use Rattle.yasir_ticks.specs.{Bursts.Burst, Bursts.end_of, BurstsOf.IsContiguous, Ticks.silent}
+use Rattle.yasir_ticks.specs.declared.tick.Tick.{Tick, TheVariants.Byte}
 
 -- the packet of a frame with a number, and those of several with the numbers after a floor
 abbrev pub packet : Profile → Rules → ℕ → Burst → Burst

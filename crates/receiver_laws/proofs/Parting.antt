@@ -1,21 +1,15 @@
 -- Bursts of the parts of a line: of its front, and of what comes after the silent ticks that part
 -- two bursts.
+use Rattle.{burst_walk.proofs.Spread.AreSpread, link_verdicts.proofs.Spoiled.contiguous-some}
 use Rattle.std.proofs.Common.{◌≡◌, ◌∙◌, ℕ, zero, suc, ◌+◌, ◌-◌, ◌<◌, ◌≤◌, List, [], ◌∷◌, ◌++◌}
 use Rattle.std.proofs.Common.{length, take, drop, refl, sym, ap, subst, arith, ⊎_elim, append_assoc}
-use Rattle.std.proofs.Common.{length-append, get_or}
-use Rattle.std.proofs.lemmas.Bool.{cases_lt}
-use Rattle.std.proofs.lemmas.List.{length-replicate}
-use Rattle.std.proofs.Math.Seq.{take-append_seam}
-use Rattle.yasir_ticks.specs.Ticks.{silent}
-use Rattle.yasir_ticks.specs.Bursts.{Burst, with_byte, bursts_from, end_of, AreClosed}
-use Rattle.yasir_ticks.specs.BurstsOf.{StartsFrom, AreBursts}
-use Rattle.yasir_ticks.specs.declared.tick.Tick.{Tick}
-use Rattle.yasir_ticks.specs.declared.tick.Tick.TheVariants.{Silent, Byte}
-use Rattle.yasir_ticks.proofs.BurstLaws.{with_byte-near, with_byte-far}
-use Rattle.yasir_ticks.proofs.BurstLaws.{bursts_from-starts}
+use Rattle.std.proofs.{Common.length-append, Common.get_or, Math.Seq.take-append_seam}
+use Rattle.std.proofs.lemmas.{Bool.cases_lt, List.length-replicate}
+use Rattle.yasir_ticks.proofs.BurstLaws.{with_byte-near, with_byte-far, bursts_from-starts}
 use Rattle.yasir_ticks.proofs.BurstsOfLaws.{bursts_from-silence, bursts_from-are}
-use Rattle.burst_walk.proofs.Spread.{AreSpread}
-use Rattle.link_verdicts.proofs.Spoiled.{contiguous-some}
+use Rattle.yasir_ticks.specs.Bursts.{Burst, with_byte, bursts_from, end_of, AreClosed}
+use Rattle.yasir_ticks.specs.{BurstsOf.StartsFrom, BurstsOf.AreBursts, Ticks.silent}
+use Rattle.yasir_ticks.specs.declared.tick.Tick.{Tick, TheVariants.Silent, TheVariants.Byte}
 
 -- ---- two ways to part a list
 

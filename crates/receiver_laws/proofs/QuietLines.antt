@@ -1,25 +1,18 @@
 -- A line in which silent ticks part two bursts, and which of its bursts stand where.
-use Rattle.std.proofs.Common.{◌≡◌, ◌∙◌, ℕ, zero, suc, ◌+◌, ◌-◌, ◌<◌, ◌≤◌, List, [], ◌∷◌, ◌++◌}
-use Rattle.std.proofs.Common.{length, take, drop, refl, sym, ap, arith, get_or, ⊎_elim}
-use Rattle.std.proofs.Common.{length-append}
-use Rattle.std.proofs.lemmas.Bool.{cases_lt}
-use Rattle.std.specs.List.{All, Contains}
-use Rattle.std.proofs.lemmas.List.{length-take, length-drop, length-replicate, get_or-drop}
-use Rattle.std.proofs.lemmas.List.{take-append-drop}
-use Rattle.std.proofs.lemmas.List.Elements.{All-contains, All-nil, All-cons}
-use Rattle.std.proofs.Math.Seq.{take-append_seam}
-use Rattle.yasir_ticks.specs.Ticks.{silent}
-use Rattle.yasir_ticks.specs.Bursts.{Burst, bursts, bursts_from, end_of, AreClosed}
-use Rattle.yasir_ticks.specs.BurstsOf.{IsContiguous}
-use Rattle.yasir_ticks.specs.declared.tick.Tick.{Tick}
-use Rattle.yasir_ticks.specs.declared.tick.Tick.TheVariants.{Silent}
-use Rattle.yasir_ticks.proofs.BurstLaws.{bursts_from-silent_end}
-use Rattle.yasir_ticks.proofs.BurstsOfLaws.{bursts_from-silence}
 use Rattle.burst_walk.proofs.Spread.{AreSpread, EndBy}
 use Rattle.link_verdicts.proofs.Spoiled.{contiguous-some}
-use Rattle.receiver_laws.specs.Recovery.{first_quiet}
-use Rattle.receiver_laws.proofs.Parting.{bursts-parted, StartBefore}
-use Rattle.receiver_laws.proofs.Parting.{take-append-add}
+use Rattle.receiver_laws.proofs.Parting.{bursts-parted, StartBefore, take-append-add}
+use Rattle.{receiver_laws.specs.Recovery.first_quiet, std.proofs.Common.◌≡◌}
+use Rattle.std.proofs.Common.{◌∙◌, ℕ, zero, suc, ◌+◌, ◌-◌, ◌<◌, ◌≤◌, List, [], ◌∷◌, ◌++◌, length}
+use Rattle.std.proofs.Common.{take, drop, refl, sym, ap, arith, get_or, ⊎_elim, length-append}
+use Rattle.std.proofs.{Math.Seq.take-append_seam, lemmas.Bool.cases_lt, lemmas.List.length-take}
+use Rattle.std.proofs.lemmas.List.{length-drop, length-replicate, get_or-drop, take-append-drop}
+use Rattle.std.proofs.lemmas.List.Elements.{All-contains, All-nil, All-cons}
+use Rattle.std.specs.List.{All, Contains}
+use Rattle.yasir_ticks.proofs.{BurstLaws.bursts_from-silent_end, BurstsOfLaws.bursts_from-silence}
+use Rattle.yasir_ticks.specs.Bursts.{Burst, bursts, bursts_from, end_of, AreClosed}
+use Rattle.yasir_ticks.specs.{BurstsOf.IsContiguous, Ticks.silent}
+use Rattle.yasir_ticks.specs.declared.tick.Tick.{Tick, TheVariants.Silent}
 
 -- ---- silent ticks by their numbers
 

@@ -1,38 +1,29 @@
 -- A device behind the receiver reads only what passed.
-use Rattle.std.proofs.Common.{◌≡◌, ◌∙◌, ℕ, ◌+◌, ◌<◌, ◌≤◌, Bool, true, false, cond, List}
-use Rattle.std.proofs.Common.{[], ◌∷◌, ◌++◌, length, map, refl, sym, ap, subst, arith, ⊎_elim}
-use Rattle.std.proofs.Common.{length-append}
-use Rattle.std.proofs.lemmas.Bool.{cases_lt}
-use Rattle.std.proofs.lemmas.List.{length-replicate}
-use Rattle.yasir_ticks.specs.Ticks.{silent}
-use Rattle.yasir_ticks.specs.Bursts.{Burst, bursts, end_of}
-use Rattle.yasir_ticks.specs.BurstsOf.{IsContiguous}
-use Rattle.yasir_ticks.specs.declared.tick.Tick.{Tick}
-use Rattle.yasir_ticks.specs.declared.tick.Tick.TheVariants.{Silent}
-use Rattle.yasir_ticks.proofs.BurstLaws.{bursts_from-silent_end}
-use Rattle.frame_ending.specs.LiveBytes.{live_bytes, live_ticks, live_end}
-use Rattle.frame_ending.proofs.LiveTicks.{live_ticks-bytes, live_end-within}
-use Rattle.device_model.specs.Frames.{FrameRead}
-use Rattle.device_model.specs.RtuReads.{frame_in}
+use Rattle.burst_walk.proofs.Spread.{AreSpread, EndBy, bursts-spread, bursts-end}
+use Rattle.burst_walk.{proofs.Walks.before-early, specs.Longer.Begins}
+use Rattle.burst_walk.specs.Walk.{Noted, walked, emitted, notes_before}
 use Rattle.device_model.proofs.ReadLaws.{frames_ended, frames_ended-append, frames_ended-open}
 use Rattle.device_model.proofs.ReadLaws.{frames_ended-ended}
-use Rattle.line_rules.specs.Rules.{Rules}
-use Rattle.line_rules.specs.RulesLaws.{IsLawful}
-use Rattle.burst_walk.specs.Walk.{Noted, walked, emitted, notes_before}
-use Rattle.burst_walk.specs.Longer.{Begins}
-use Rattle.burst_walk.proofs.Spread.{AreSpread, EndBy, bursts-spread, bursts-end}
-use Rattle.burst_walk.proofs.Walks.{before-early}
+use Rattle.device_model.specs.{Frames.FrameRead, RtuReads.frame_in}
+use Rattle.frame_ending.proofs.LiveTicks.{live_ticks-bytes, live_end-within}
+use Rattle.frame_ending.specs.LiveBytes.{live_bytes, live_ticks, live_end}
+use Rattle.line_rules.specs.{Rules.Rules, RulesLaws.IsLawful}
 use Rattle.link_format.specs.Profile.{Profile, delay}
-use Rattle.link_verdicts.specs.declared.note.RefusedWhy.{RefusedWhy}
-use Rattle.link_verdicts.specs.declared.note.DroppedWhy.{DroppedWhy}
-use Rattle.link_verdicts.specs.Verdicts.{CheckState, Verdict, checked}
-use Rattle.link_verdicts.specs.Verdicts.Verdict.{passed_with, refused, dropped}
-use Rattle.link_verdicts.specs.Emissions.{spoiled, filled_ticks, delayed, emission_by}
+use Rattle.link_verdicts.proofs.Apart.{emissions-spread}
 use Rattle.link_verdicts.specs.Checking.{FullNote, note_tick, state_by, note_by, checker, at_floor}
 use Rattle.link_verdicts.specs.Checking.{received_line}
-use Rattle.receiver_laws.specs.Reading.{delivered, delivered_of, ReadsWhatPassed}
-use Rattle.link_verdicts.proofs.Apart.{emissions-spread}
+use Rattle.link_verdicts.specs.Emissions.{spoiled, filled_ticks, delayed, emission_by}
+use Rattle.link_verdicts.specs.Verdicts.{CheckState, Verdict, checked}
+use Rattle.link_verdicts.specs.Verdicts.Verdict.{passed_with, refused, dropped}
+use Rattle.link_verdicts.specs.declared.note.{DroppedWhy.DroppedWhy, RefusedWhy.RefusedWhy}
 use Rattle.receiver_laws.proofs.Notes.{frames_in, unnoted}
+use Rattle.receiver_laws.specs.Reading.{delivered, delivered_of, ReadsWhatPassed}
+use Rattle.std.proofs.Common.{◌≡◌, ◌∙◌, ℕ, ◌+◌, ◌<◌, ◌≤◌, Bool, true, false, cond, List, [], ◌∷◌}
+use Rattle.std.proofs.Common.{◌++◌, length, map, refl, sym, ap, subst, arith, ⊎_elim, length-append}
+use Rattle.std.proofs.lemmas.{Bool.cases_lt, List.length-replicate}
+use Rattle.yasir_ticks.{proofs.BurstLaws.bursts_from-silent_end, specs.Bursts.Burst}
+use Rattle.yasir_ticks.specs.{Bursts.bursts, Bursts.end_of, BurstsOf.IsContiguous, Ticks.silent}
+use Rattle.yasir_ticks.specs.declared.tick.Tick.{Tick, TheVariants.Silent}
 
 -- ---- what is read of one emission
 

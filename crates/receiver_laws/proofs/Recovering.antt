@@ -1,60 +1,47 @@
 -- A link that is left alone works again: the packets on it that are due pass.
-use Rattle.std.proofs.Common.{◌≡◌, ◌∙◌, ℕ, ◌+◌, ◌<◌, ◌≤◌, List, [], ◌∷◌, ◌++◌}
-use Rattle.std.proofs.Common.{length, take, drop, refl, sym, ap, subst, arith, ⊎_elim}
-use Rattle.std.proofs.Common.{append_assoc, inl, inr}
-use Rattle.std.specs.List.{All, Contains}
-use Rattle.std.proofs.lemmas.Bool.{eqb-false}
-use Rattle.std.proofs.lemmas.List.{length-take, take_all, length-drop}
-use Rattle.std.proofs.lemmas.List.Elements.{All-contains, All-nil, All-cons, Contains-append_left}
-use Rattle.std.proofs.lemmas.List.Elements.{Contains-append_right}
-use Rattle.yasir_ticks.specs.Ticks.{silent, bytes_in, AreTicks}
-use Rattle.yasir_ticks.specs.Bursts.{Burst, bursts, bursts_from, end_of, AreClosed}
-use Rattle.yasir_ticks.specs.BurstsOf.{IsContiguous, AreBursts}
-use Rattle.yasir_ticks.specs.declared.tick.Tick.{Tick}
-use Rattle.yasir_ticks.specs.declared.tick.Tick.TheVariants.{Silent, Byte}
-use Rattle.yasir_ticks.proofs.BurstLaws.{bursts_from-silent_end}
-use Rattle.yasir_ticks.proofs.BurstsOfLaws.{bursts_from-are, bursts_from-only}
-use Rattle.line_rules.specs.Bytes.{AreBytes}
-use Rattle.line_rules.specs.Rules.{Rules}
-use Rattle.line_rules.specs.RulesLaws.{IsLawful, IsFramed}
-use Rattle.frame_ending.specs.LiveBytes.{before_pause, spelled, live_bytes}
-use Rattle.frame_ending.proofs.LiveTicks.{live_end-within}
-use Rattle.frame_ending.proofs.Rooms.{within_room-fit}
-use Rattle.burst_walk.specs.Walk.{walked, emitted, state_after, notes_before}
 use Rattle.burst_walk.proofs.Spread.{AreSpread, EndBy, bursts-spread, bursts-end}
 use Rattle.burst_walk.proofs.Spread.{bursts_from-spread}
 use Rattle.burst_walk.proofs.Walks.{emitted-append, state_after-append}
-use Rattle.link_format.specs.NumberedFrame.{NumberedFrame, last_number}
-use Rattle.link_format.specs.Profile.{Profile, HasTags, pause_len, trailer_len, trailer}
-use Rattle.link_format.specs.Profile.{delay}
+use Rattle.burst_walk.specs.Walk.{walked, emitted, state_after, notes_before}
+use Rattle.frame_ending.proofs.{LiveTicks.live_end-within, Rooms.within_room-fit}
+use Rattle.frame_ending.specs.LiveBytes.{before_pause, spelled, live_bytes}
+use Rattle.line_rules.specs.{Bytes.AreBytes, Rules.Rules, RulesLaws.IsLawful, RulesLaws.IsFramed}
 use Rattle.link_format.proofs.Profiles.{length-trailer}
+use Rattle.link_format.specs.NumberedFrame.{NumberedFrame, last_number}
+use Rattle.link_format.specs.Profile.{Profile, HasTags, pause_len, trailer_len, trailer, delay}
+use Rattle.link_verdicts.specs.Checking.{checker, at_floor as check_floor_at, passed}
+use Rattle.link_verdicts.specs.{Packet.IsPacket, Verdicts.CheckState}
+use Rattle.receiver_laws.proofs.Delivering.{packet-bytes, packet-after}
+use Rattle.receiver_laws.proofs.Emitting.{link-bursts, stands-within}
+use Rattle.receiver_laws.proofs.InStep.{InStep, stay-in_step, floor-so-far, HaveLeft, free-by}
+use Rattle.receiver_laws.proofs.InStep.{floor-within, IsSealedAbove, AreSealedAbove, first-above}
+use Rattle.receiver_laws.proofs.{Notes.frames_in, Packets.ends-in, Packets.packet-contained}
+use Rattle.receiver_laws.proofs.Packing.{packet, length-trailing}
+use Rattle.receiver_laws.proofs.Parting.{are-before, closed-before, parted-by, same-burst}
+use Rattle.receiver_laws.proofs.QuietLines.{whole-line, front-long, line-bursts, front-bursts}
+use Rattle.receiver_laws.proofs.QuietLines.{some-length, closed-by, start-before, contained-from}
+use Rattle.receiver_laws.proofs.QuietLines.{spread-at, spread-in, spread-front, quiet-part, count}
+use Rattle.receiver_laws.proofs.Sending.{IsSealed, sealed-is, IsOf, sealed-of, Emits, emits-parted}
+use Rattle.receiver_laws.proofs.Standing.{AreOn, bursts-on, ticks-behind, ticks-front, bytes-first}
+use Rattle.receiver_laws.specs.Recovery.{all_sealed, floor_after, BeginsPacket, first_quiet}
+use Rattle.receiver_laws.specs.Recovery.{IsLeftAlone, LackAtMost, IsDue, Recovers}
+use Rattle.receiver_laws.specs.Standing.{StandsOn, numbered_frame}
 use Rattle.seal_judgements.specs.Sealing.{SealState, Judgement, judged, sealer, link_line}
 use Rattle.seal_judgements.specs.Sealing.{at_floor as seal_floor_at, trailing, forwarded}
 use Rattle.seal_judgements.specs.Sealing.{state_by as seal_by, emission_by as sent_by}
 use Rattle.seal_judgements.specs.Sealing.Judgement.{sealed_with, unsealed}
 use Rattle.seal_judgements.specs.declared.note.UnsealedWhy.TheVariants.{Early, Form, Spent}
-use Rattle.link_verdicts.specs.Checking.{checker, at_floor as check_floor_at, passed}
-use Rattle.link_verdicts.specs.Packet.{IsPacket}
-use Rattle.link_verdicts.specs.Verdicts.{CheckState}
-use Rattle.receiver_laws.specs.Recovery.{all_sealed, floor_after, BeginsPacket, first_quiet}
-use Rattle.receiver_laws.specs.Recovery.{IsLeftAlone}
-use Rattle.receiver_laws.specs.Recovery.{LackAtMost, IsDue, Recovers}
-use Rattle.receiver_laws.specs.Standing.{StandsOn, numbered_frame}
-use Rattle.receiver_laws.proofs.Delivering.{packet-bytes, packet-after}
-use Rattle.receiver_laws.proofs.Emitting.{link-bursts, stands-within}
-use Rattle.receiver_laws.proofs.InStep.{InStep, stay-in_step, floor-so-far, HaveLeft, free-by}
-use Rattle.receiver_laws.proofs.InStep.{floor-within, IsSealedAbove, AreSealedAbove, first-above}
-use Rattle.receiver_laws.proofs.Notes.{frames_in}
-use Rattle.receiver_laws.proofs.Packets.{ends-in, packet-contained}
-use Rattle.receiver_laws.proofs.Packing.{packet, length-trailing}
-use Rattle.receiver_laws.proofs.Parting.{are-before, closed-before}
-use Rattle.receiver_laws.proofs.Parting.{parted-by, same-burst}
-use Rattle.receiver_laws.proofs.Sending.{IsSealed, sealed-is, IsOf, sealed-of, Emits}
-use Rattle.receiver_laws.proofs.Sending.{emits-parted}
-use Rattle.receiver_laws.proofs.Standing.{AreOn, bursts-on, ticks-behind, ticks-front, bytes-first}
-use Rattle.receiver_laws.proofs.QuietLines.{whole-line, front-long, line-bursts, front-bursts}
-use Rattle.receiver_laws.proofs.QuietLines.{some-length, closed-by, start-before, contained-from}
-use Rattle.receiver_laws.proofs.QuietLines.{spread-at, spread-in, spread-front, quiet-part, count}
+use Rattle.std.proofs.Common.{◌≡◌, ◌∙◌, ℕ, ◌+◌, ◌<◌, ◌≤◌, List, [], ◌∷◌, ◌++◌, length, take, drop}
+use Rattle.std.proofs.Common.{refl, sym, ap, subst, arith, ⊎_elim, append_assoc, inl, inr}
+use Rattle.std.proofs.lemmas.{Bool.eqb-false, List.length-take, List.take_all, List.length-drop}
+use Rattle.std.proofs.lemmas.List.Elements.{All-contains, All-nil, All-cons, Contains-append_left}
+use Rattle.std.{proofs.lemmas.List.Elements.Contains-append_right, specs.List.All}
+use Rattle.{std.specs.List.Contains, yasir_ticks.proofs.BurstLaws.bursts_from-silent_end}
+use Rattle.yasir_ticks.proofs.BurstsOfLaws.{bursts_from-are, bursts_from-only}
+use Rattle.yasir_ticks.specs.Bursts.{Burst, bursts, bursts_from, end_of, AreClosed}
+use Rattle.yasir_ticks.specs.BurstsOf.{IsContiguous, AreBursts}
+use Rattle.yasir_ticks.specs.Ticks.{silent, bytes_in, AreTicks}
+use Rattle.yasir_ticks.specs.declared.tick.Tick.{Tick, TheVariants.Silent, TheVariants.Byte}
 
 -- ---- bytes of a burst
 

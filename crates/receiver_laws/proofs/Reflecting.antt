@@ -1,64 +1,51 @@
 -- What a receiver of the other direction makes of a reflected link: burst by burst of the device.
-use Rattle.std.proofs.Common.{◌≡◌, ◌∙◌, ℕ, zero, suc, ◌+◌, ◌%◌, ◌<◌, ◌≤◌, true, false, List, []}
-use Rattle.std.proofs.Common.{◌∷◌, ◌++◌, length, take, drop, refl, sym, ap, subst}
-use Rattle.std.proofs.Common.{arith, ⊎_elim, append_assoc, length-append, get_or}
-use Rattle.std.specs.Int.{bytes_high_first}
-use Rattle.std.specs.List.{All, Contains}
-use Rattle.std.proofs.lemmas.Bool.{cases_lt}
-use Rattle.std.proofs.lemmas.List.{append-nil, length-map, take_all}
-use Rattle.std.proofs.lemmas.List.Elements.{All-nil, All-cons, All-same, Contains-append_right}
-use Rattle.std.proofs.lemmas.List.Elements.{filter_map-append}
-use Rattle.std.proofs.Math.Nat.{mod-lt, one-le-pow}
-use Rattle.std.proofs.Math.Seq.{drop-append_seam}
-use Rattle.yasir_ticks.specs.Ticks.{silent, bytes_in}
-use Rattle.yasir_ticks.specs.Bursts.{Burst, bursts, end_of}
-use Rattle.yasir_ticks.specs.BurstsOf.{IsContiguous}
-use Rattle.yasir_ticks.specs.BurstsOf.IsContiguous.{one}
-use Rattle.yasir_ticks.specs.BurstsOf.IsContiguous.{more as goes_on}
-use Rattle.yasir_ticks.specs.declared.tick.Tick.{Tick}
-use Rattle.yasir_ticks.specs.declared.tick.Tick.TheVariants.{Silent, Byte}
-use Rattle.yasir_ticks.proofs.BurstsOfLaws.{bursts_from-only}
-use Rattle.line_rules.specs.Rules.{Rules}
-use Rattle.line_rules.specs.RulesLaws.{IsLawful, IsHeaded, IsFramed}
-use Rattle.frame_ending.specs.LiveBytes.{has_pause, live_bytes, live_ticks, has_extra}
-use Rattle.frame_ending.proofs.LiveTicks.{live_ticks-bytes, live_ticks-contiguous}
-use Rattle.burst_walk.specs.Walk.{Noted, noted, walked, emitted, notes_before, notes_of}
 use Rattle.burst_walk.proofs.Spread.{AreSpread, bursts-spread}
 use Rattle.burst_walk.proofs.Walks.{before-early, before-late}
-use Rattle.hmac_tag.specs.Tag.{tag_text}
-use Rattle.link_format.specs.NumberedFrame.{NumberedFrame}
-use Rattle.link_format.specs.Profile.{Profile, HasTags, pause_len, trailer_len, trailer, words}
-use Rattle.link_format.specs.Profile.{word_of}
+use Rattle.burst_walk.specs.Walk.{Noted, noted, walked, emitted, notes_before, notes_of}
+use Rattle.frame_ending.proofs.LiveTicks.{live_ticks-bytes, live_ticks-contiguous}
+use Rattle.frame_ending.specs.LiveBytes.{has_pause, live_bytes, live_ticks, has_extra}
+use Rattle.{hmac_tag.specs.Tag.tag_text, line_rules.specs.Rules.Rules}
+use Rattle.line_rules.specs.RulesLaws.{IsLawful, IsHeaded, IsFramed}
 use Rattle.link_format.proofs.Profiles.{length-trailer, word_of-trailer}
-use Rattle.sequence_journal.proofs.NumberLaws.{least-is}
-use Rattle.seal_judgements.specs.Sealing.{SealState, Judgement, judged, state_by, forwarded}
-use Rattle.seal_judgements.specs.Sealing.{emission_by, note_by, sealed_in, sealer}
-use Rattle.seal_judgements.specs.Sealing.{at_floor, link_line, sealed}
-use Rattle.seal_judgements.specs.Sealing.{FullNote as SealedNote}
-use Rattle.seal_judgements.specs.Sealing.Judgement.{sealed_with, unsealed}
-use Rattle.seal_judgements.specs.declared.note.UnsealedWhy.TheVariants.{Early, Form, Spent}
-use Rattle.seal_judgements.proofs.Numbers.{frames_in as sealed_frames}
-use Rattle.link_verdicts.specs.Timely.{IsTimely}
-use Rattle.link_verdicts.specs.Verdicts.{CheckState, Verdict, after_live, trailer_of}
-use Rattle.link_verdicts.specs.Verdicts.{tag_in, checked}
-use Rattle.link_verdicts.specs.Verdicts.Verdict.{passed_with, refused, dropped}
-use Rattle.link_verdicts.specs.Checking.{note_tick, note_by as check_note, state_by as check_state}
-use Rattle.link_verdicts.specs.Checking.{FullNote, checker, at_floor as check_floor_of, passed}
+use Rattle.link_format.specs.{NumberedFrame.NumberedFrame, Profile.Profile}
+use Rattle.link_format.specs.Profile.{HasTags, pause_len, trailer_len, trailer, words, word_of}
 use Rattle.link_verdicts.proofs.Causality.{checker-causal}
 use Rattle.link_verdicts.proofs.Passing.{IsPassing, passed-passing, number-within}
-use Rattle.receiver_laws.specs.Accounted.{forged}
-use Rattle.receiver_laws.specs.Fitting.{IsFit}
-use Rattle.receiver_laws.specs.Reflected.{with_tags, TagsMatch, IsReflected}
-use Rattle.receiver_laws.specs.Standing.{StandsOn, numbered_frame}
+use Rattle.link_verdicts.specs.Checking.{note_tick, note_by as check_note, state_by as check_state}
+use Rattle.link_verdicts.specs.Checking.{FullNote, checker, at_floor as check_floor_of, passed}
+use Rattle.link_verdicts.specs.{Timely.IsTimely, Verdicts.CheckState}
+use Rattle.link_verdicts.specs.Verdicts.{Verdict, after_live, trailer_of, tag_in, checked}
+use Rattle.link_verdicts.specs.Verdicts.Verdict.{passed_with, refused, dropped}
 use Rattle.receiver_laws.proofs.CutLinks.{notes-settled}
 use Rattle.receiver_laws.proofs.Delivering.{packet-bytes, packet-ticks, packet-after}
 use Rattle.receiver_laws.proofs.Emitting.{its, longer, longer-are, longer-is, link-length}
-use Rattle.receiver_laws.proofs.Notes.{frames_in, unnoted}
-use Rattle.receiver_laws.proofs.Packing.{packet, packet-length}
-use Rattle.receiver_laws.proofs.Parting.{same-front}
-use Rattle.receiver_laws.proofs.Sending.{sealed-is}
+use Rattle.receiver_laws.proofs.{Notes.frames_in, Notes.unnoted, Packing.packet}
+use Rattle.receiver_laws.proofs.{Packing.packet-length, Parting.same-front, Sending.sealed-is}
 use Rattle.receiver_laws.proofs.Standing.{AreOn, bursts-on, live-parts, byte_ticks}
 use Rattle.receiver_laws.proofs.Standing.{bytes_in-byte_ticks, shape-kept}
+use Rattle.receiver_laws.specs.{Accounted.forged, Fitting.IsFit}
+use Rattle.receiver_laws.specs.Reflected.{with_tags, TagsMatch, IsReflected}
+use Rattle.receiver_laws.specs.Standing.{StandsOn, numbered_frame}
+use Rattle.seal_judgements.proofs.Numbers.{frames_in as sealed_frames}
+use Rattle.seal_judgements.specs.Sealing.{SealState, Judgement, judged, state_by, forwarded}
+use Rattle.seal_judgements.specs.Sealing.{emission_by, note_by, sealed_in, sealer, at_floor}
+use Rattle.seal_judgements.specs.Sealing.{link_line, sealed, FullNote as SealedNote}
+use Rattle.seal_judgements.specs.Sealing.Judgement.{sealed_with, unsealed}
+use Rattle.seal_judgements.specs.declared.note.UnsealedWhy.TheVariants.{Early, Form, Spent}
+use Rattle.sequence_journal.proofs.NumberLaws.{least-is}
+use Rattle.std.proofs.Common.{◌≡◌, ◌∙◌, ℕ, zero, suc, ◌+◌, ◌%◌, ◌<◌, ◌≤◌, true, false, List, []}
+use Rattle.std.proofs.Common.{◌∷◌, ◌++◌, length, take, drop, refl, sym, ap, subst, arith, ⊎_elim}
+use Rattle.std.proofs.Common.{append_assoc, length-append, get_or}
+use Rattle.std.proofs.Math.{Nat.mod-lt, Nat.one-le-pow, Seq.drop-append_seam}
+use Rattle.std.proofs.lemmas.{Bool.cases_lt, List.append-nil}
+use Rattle.std.proofs.lemmas.List.{length-map, take_all, Elements.All-nil, Elements.All-cons}
+use Rattle.std.proofs.lemmas.List.Elements.{All-same, Contains-append_right, filter_map-append}
+use Rattle.std.specs.{Int.bytes_high_first, List.All, List.Contains}
+use Rattle.yasir_ticks.proofs.BurstsOfLaws.{bursts_from-only}
+use Rattle.yasir_ticks.specs.Bursts.{Burst, bursts, end_of}
+use Rattle.yasir_ticks.specs.BurstsOf.{IsContiguous, IsContiguous.one, IsContiguous.more as goes_on}
+use Rattle.yasir_ticks.specs.Ticks.{silent, bytes_in}
+use Rattle.yasir_ticks.specs.declared.tick.Tick.{Tick, TheVariants.Silent, TheVariants.Byte}
 
 -- ---- silence in a burst
 

@@ -1,28 +1,22 @@
 -- The passed frames of a link: their numbers rise, and each stood on the link.
-use Rattle.std.proofs.Common.{◌≡◌, ℕ, ◌<◌, ◌≤◌, true, List, [], ◌∷◌, length, refl, sym}
-use Rattle.std.proofs.Common.{subst, arith, ⊎_elim}
-use Rattle.std.specs.List.{All}
-use Rattle.std.proofs.lemmas.Bool.{cases_lt}
-use Rattle.std.proofs.lemmas.List.Elements.{All-nil, All-cons}
-use Rattle.yasir_ticks.specs.Bursts.{Burst, bursts}
-use Rattle.yasir_ticks.specs.declared.tick.Tick.{Tick}
-use Rattle.yasir_ticks.proofs.BurstsOfLaws.{bursts_from-are}
-use Rattle.line_rules.specs.Rules.{Rules}
-use Rattle.line_rules.specs.RulesLaws.{IsLawful}
-use Rattle.sequence_journal.specs.Uptimes.{RiseFrom}
-use Rattle.sequence_journal.proofs.UptimeLaws.{rise-lower}
-use Rattle.burst_walk.specs.Walk.{Noted, walked, notes_before}
 use Rattle.burst_walk.proofs.Walks.{before-early, before-late}
-use Rattle.link_format.specs.Profile.{Profile}
+use Rattle.burst_walk.specs.Walk.{Noted, walked, notes_before}
+use Rattle.line_rules.specs.{Rules.Rules, RulesLaws.IsLawful}
 use Rattle.link_format.specs.NumberedFrame.{NumberedFrame, numbers_of}
+use Rattle.{link_format.specs.Profile.Profile, link_verdicts.proofs.Passing.passed-passing}
+use Rattle.link_verdicts.{proofs.Passing.number-within, specs.Checking.FullNote}
+use Rattle.link_verdicts.specs.Checking.{note_tick, state_by, note_by, checker, at_floor, passed}
 use Rattle.link_verdicts.specs.Verdicts.{CheckState, Verdict, trailer_of, checked}
 use Rattle.link_verdicts.specs.Verdicts.Verdict.{passed_with, refused, dropped}
-use Rattle.link_verdicts.specs.Checking.{FullNote, note_tick, state_by, note_by, checker, at_floor}
-use Rattle.link_verdicts.specs.Checking.{passed}
-use Rattle.link_verdicts.proofs.Passing.{passed-passing, number-within}
-use Rattle.receiver_laws.specs.Standing.{StandsOn, HavePassed, numbered_frame}
 use Rattle.receiver_laws.proofs.Notes.{frames_in, unnoted}
 use Rattle.receiver_laws.proofs.Standing.{AreOn, bursts-on, stands-on}
+use Rattle.receiver_laws.specs.Standing.{StandsOn, HavePassed, numbered_frame}
+use Rattle.sequence_journal.{proofs.UptimeLaws.rise-lower, specs.Uptimes.RiseFrom}
+use Rattle.std.proofs.Common.{◌≡◌, ℕ, ◌<◌, ◌≤◌, true, List, [], ◌∷◌, length, refl, sym, subst}
+use Rattle.std.proofs.{Common.arith, Common.⊎_elim, lemmas.Bool.cases_lt}
+use Rattle.std.proofs.lemmas.List.Elements.{All-nil, All-cons}
+use Rattle.{std.specs.List.All, yasir_ticks.proofs.BurstsOfLaws.bursts_from-are}
+use Rattle.yasir_ticks.specs.{Bursts.Burst, Bursts.bursts, declared.tick.Tick.Tick}
 
 module _ (profile : Profile) (rules : Rules) where
   abbrev note_of : Burst → Verdict → Noted FullNote

@@ -1,31 +1,23 @@
 -- A Modbus RTU device behind the receiver reads only what passed.
+use Rattle.burst_walk.{proofs.Spread.bursts-spread, specs.Walk.emitted}
+use Rattle.device_model.specs.RtuReads.{is_frame_body, frames_read}
+use Rattle.frame_ending.proofs.LiveTicks.{live_ticks-bytes, live_ticks-contiguous}
+use Rattle.frame_ending.specs.LiveBytes.{live_ticks}
+use Rattle.link_format.specs.Profile.{Profile, delay}
+use Rattle.link_verdicts.proofs.{Apart.emissions-spread, Passing.passed-passing}
+use Rattle.link_verdicts.proofs.Spoiled.{spoiled-contiguous, spoiled-no_frame, filled-contiguous}
+use Rattle.link_verdicts.specs.Checking.{checker, at_floor, received_line}
+use Rattle.link_verdicts.specs.Emissions.{spoiled, filled_ticks}
+use Rattle.link_verdicts.specs.Verdicts.{CheckState, checked, Verdict.passed_with, Verdict.refused}
+use Rattle.link_verdicts.specs.declared.note.RefusedWhy.{RefusedWhy}
+use Rattle.receiver_laws.proofs.{Calm.contiguous-calm, Readings.whole, Readings.wrong}
+use Rattle.receiver_laws.proofs.{Readings.reads_what_passed, Settled.reads_with, Settled.reads-laid}
+use Rattle.receiver_laws.specs.Reading.{ReadsWhatPassed}
+use Rattle.rtu_frame.specs.{Frame.is_frame, Rules.rtu_rules, Rules.rtu_lawful, Rules.rtu_spoiling}
 use Rattle.std.proofs.Common.{◌≡◌, ◌∙◌, ℕ, ◌≤◌, Bool, true, false, not, ◌&&◌, List, [], length, ap}
 use Rattle.std.proofs.Common.{arith}
-use Rattle.yasir_ticks.specs.Ticks.{bytes_in}
 use Rattle.yasir_ticks.specs.Bursts.{Burst, bursts}
-use Rattle.yasir_ticks.specs.BurstsOf.{IsContiguous}
-use Rattle.yasir_ticks.specs.declared.tick.Tick.{Tick}
-use Rattle.rtu_frame.specs.Frame.{is_frame}
-use Rattle.rtu_frame.specs.Rules.{rtu_rules, rtu_lawful, rtu_spoiling}
-use Rattle.frame_ending.specs.LiveBytes.{live_ticks}
-use Rattle.frame_ending.proofs.LiveTicks.{live_ticks-bytes, live_ticks-contiguous}
-use Rattle.device_model.specs.RtuReads.{is_frame_body, frames_read}
-use Rattle.burst_walk.specs.Walk.{emitted}
-use Rattle.burst_walk.proofs.Spread.{bursts-spread}
-use Rattle.link_format.specs.Profile.{Profile, delay}
-use Rattle.link_verdicts.specs.declared.note.RefusedWhy.{RefusedWhy}
-use Rattle.link_verdicts.specs.Verdicts.{CheckState, checked}
-use Rattle.link_verdicts.specs.Verdicts.Verdict.{passed_with, refused}
-use Rattle.link_verdicts.specs.Emissions.{spoiled, filled_ticks}
-use Rattle.link_verdicts.specs.Checking.{checker, at_floor, received_line}
-use Rattle.link_verdicts.proofs.Spoiled.{spoiled-contiguous, spoiled-no_frame}
-use Rattle.link_verdicts.proofs.Spoiled.{filled-contiguous}
-use Rattle.link_verdicts.proofs.Passing.{passed-passing}
-use Rattle.link_verdicts.proofs.Apart.{emissions-spread}
-use Rattle.receiver_laws.specs.Reading.{ReadsWhatPassed}
-use Rattle.receiver_laws.proofs.Calm.{contiguous-calm}
-use Rattle.receiver_laws.proofs.Readings.{whole, wrong, reads_what_passed}
-use Rattle.receiver_laws.proofs.Settled.{reads_with, reads-laid}
+use Rattle.yasir_ticks.specs.{BurstsOf.IsContiguous, Ticks.bytes_in, declared.tick.Tick.Tick}
 
 module _ (profile : Profile) (cut pause : ℕ) (wide : 2 ≤ cut) (near : cut ≤ delay profile)
     (long : 2 ≤ pause) where

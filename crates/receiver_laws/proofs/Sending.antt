@@ -1,26 +1,22 @@
 -- What the transmitter puts on the link, burst by burst: its packets are apart, and which of the
 -- device's bursts are sealed.
-use Rattle.std.proofs.Common.{◌≡◌, ◌∙◌, ◌==◌, ◌⊎◌, inl, inr, ℕ, zero, suc, ◌+◌, ◌≤◌, nat_lt}
-use Rattle.std.proofs.Common.{Bool, true, false, not, ◌||◌, List, [], ◌∷◌, ◌++◌, drop}
-use Rattle.std.proofs.Common.{refl, sym, ap, subst, arith, ⊎_elim, get_or}
-use Rattle.std.specs.List.{Contains}
-use Rattle.std.proofs.lemmas.Bool.{cases_lt, ltb-false, or_parts}
-use Rattle.yasir_ticks.specs.Bursts.{Burst, end_of}
-use Rattle.line_rules.specs.Rules.{Rules}
-use Rattle.frame_ending.specs.LiveBytes.{live_bytes, has_extra}
-use Rattle.burst_walk.specs.Walk.{Noted, walked, emitted, notes_before, state_after}
 use Rattle.burst_walk.proofs.Walks.{before-early, before-late}
-use Rattle.link_format.specs.NumberedFrame.{NumberedFrame}
-use Rattle.link_format.specs.Profile.{Profile}
-use Rattle.seal_judgements.specs.Sealing.{SealState, FullNote, Judgement, judged, state_by}
-use Rattle.seal_judgements.specs.Sealing.{note_by}
+use Rattle.burst_walk.specs.Walk.{Noted, walked, emitted, notes_before, state_after}
+use Rattle.frame_ending.specs.LiveBytes.{live_bytes, has_extra}
+use Rattle.line_rules.specs.Rules.{Rules}
+use Rattle.link_format.specs.{NumberedFrame.NumberedFrame, Profile.Profile}
+use Rattle.receiver_laws.{proofs.Packing.packet, specs.Standing.numbered_frame}
+use Rattle.seal_judgements.proofs.{Causality.judge_by, Causality.judged-is, Numbers.frames_in}
+use Rattle.seal_judgements.specs.Sealing.{SealState, FullNote, Judgement, judged, state_by, note_by}
 use Rattle.seal_judgements.specs.Sealing.{forwarded, emission_by, sealer}
 use Rattle.seal_judgements.specs.Sealing.Judgement.{sealed_with, unsealed}
 use Rattle.seal_judgements.specs.declared.note.UnsealedWhy.TheVariants.{Early, Form, Spent}
-use Rattle.seal_judgements.proofs.Causality.{judge_by, judged-is}
-use Rattle.seal_judgements.proofs.Numbers.{frames_in}
-use Rattle.receiver_laws.specs.Standing.{numbered_frame}
-use Rattle.receiver_laws.proofs.Packing.{packet}
+use Rattle.std.proofs.Common.{◌≡◌, ◌∙◌, ◌==◌, ◌⊎◌, inl, inr, ℕ, zero, suc, ◌+◌, ◌≤◌, nat_lt, Bool}
+use Rattle.std.proofs.Common.{true, false, not, ◌||◌, List, [], ◌∷◌, ◌++◌, drop, refl, sym, ap}
+use Rattle.std.proofs.Common.{subst, arith, ⊎_elim, get_or}
+use Rattle.std.proofs.lemmas.Bool.{cases_lt, ltb-false, or_parts}
+use Rattle.std.specs.List.{Contains}
+use Rattle.yasir_ticks.specs.Bursts.{Burst, end_of}
 
 -- ---- judgements
 

@@ -1,25 +1,19 @@
 -- What is read of a line doesn't change as the line goes on, and so it is what is read of the
 -- emissions that are laid on it.
+use Rattle.burst_walk.proofs.{Emissions.laid-more, LaidBursts.bursts-laid}
+use Rattle.burst_walk.proofs.Spread.{AreSpread, EndBy, bursts_from-end}
+use Rattle.burst_walk.specs.Laid.{tick_at, laid}
+use Rattle.device_model.proofs.ReadLaws.{frames_read-append, frames_read-open}
+use Rattle.device_model.specs.{Frames.FrameRead, RtuReads.frames_read}
 use Rattle.std.proofs.Common.{◌≡◌, ◌∙◌, ℕ, zero, suc, ◌+◌, ◌-◌, ◌<◌, ◌≤◌, List, [], ◌∷◌, ◌++◌}
-use Rattle.std.proofs.Common.{length}
-use Rattle.std.proofs.Common.{refl, sym, ap, arith, append_assoc, length-append, ⊎_elim}
+use Rattle.std.proofs.Common.{length, refl, sym, ap, arith, append_assoc, length-append, ⊎_elim}
 use Rattle.std.proofs.lemmas.Bool.{cases_lt}
-use Rattle.std.proofs.lemmas.List.{append-nil, length-replicate}
-use Rattle.std.proofs.lemmas.List.FromFn.{length-map-range_with_len}
-use Rattle.yasir_ticks.specs.Ticks.{silent}
-use Rattle.yasir_ticks.specs.Bursts.{Burst, bursts_from, end_of}
-use Rattle.yasir_ticks.specs.declared.tick.Tick.{Tick}
-use Rattle.yasir_ticks.specs.declared.tick.Tick.TheVariants.{Silent, Byte}
+use Rattle.std.proofs.lemmas.List.{append-nil, length-replicate, FromFn.length-map-range_with_len}
 use Rattle.yasir_ticks.proofs.BurstLaws.{alone, with_last, extended, extended-nil, extended-near}
 use Rattle.yasir_ticks.proofs.BurstLaws.{extended-far, extended-cons, bursts_from-byte}
 use Rattle.yasir_ticks.proofs.BurstLaws.{bursts_from-silent}
-use Rattle.burst_walk.specs.Laid.{tick_at, laid}
-use Rattle.burst_walk.proofs.Emissions.{laid-more}
-use Rattle.burst_walk.proofs.LaidBursts.{bursts-laid}
-use Rattle.burst_walk.proofs.Spread.{AreSpread, EndBy, bursts_from-end}
-use Rattle.device_model.specs.Frames.{FrameRead}
-use Rattle.device_model.specs.RtuReads.{frames_read}
-use Rattle.device_model.proofs.ReadLaws.{frames_read-append, frames_read-open}
+use Rattle.yasir_ticks.specs.{Bursts.Burst, Bursts.bursts_from, Bursts.end_of, Ticks.silent}
+use Rattle.yasir_ticks.specs.declared.tick.Tick.{Tick, TheVariants.Silent, TheVariants.Byte}
 
 -- What a device reads of a line, for which `cut` silent ticks end a burst, and `pause` silent ticks
 -- together make that it is no frame. The RTU device has 4 and 2.

@@ -1,32 +1,23 @@
 -- A burst that passes is a packet that is on the link.
-use Rattle.std.proofs.Common.{◌≡◌, ◌∙◌, ℕ, zero, suc, ◌+◌, ◌%◌, ◌<◌, ◌≤◌, true, false}
-use Rattle.std.proofs.Common.{List, [], ◌∷◌, ◌++◌, length, map, take, drop, replicate, refl, sym}
-use Rattle.std.proofs.Common.{ap}
-use Rattle.std.proofs.Common.{subst, arith, append_assoc, length-append}
-use Rattle.std.specs.Int.{bytes_high_first}
-use Rattle.std.proofs.lemmas.List.{take-append-drop, length-map, length-take, length-replicate}
-use Rattle.std.proofs.lemmas.List.Elements.{All-nil, All-cons}
-use Rattle.std.proofs.Math.Seq.{take-append_seam}
-use Rattle.byteorder.specs.Endian.{big_number}
-use Rattle.byteorder.specs.Numbers.{big_from-lt, big_from-take}
-use Rattle.yasir_ticks.specs.Ticks.{silent, bytes_in, AreTicks}
-use Rattle.yasir_ticks.specs.Bursts.{Burst, end_of}
-use Rattle.yasir_ticks.specs.BurstsOf.{IsContiguous, AreBursts}
-use Rattle.yasir_ticks.specs.declared.tick.Tick.{Tick}
-use Rattle.yasir_ticks.specs.declared.tick.Tick.TheVariants.{Silent, Byte}
-use Rattle.line_rules.specs.Bytes.{AreBytes}
-use Rattle.line_rules.specs.Rules.{Rules}
-use Rattle.line_rules.specs.RulesLaws.{IsLawful}
-use Rattle.frame_ending.specs.LiveBytes.{up_to_byte, live_bytes, live_ticks}
+use Rattle.byteorder.specs.{Endian.big_number, Numbers.big_from-lt, Numbers.big_from-take}
 use Rattle.frame_ending.proofs.LiveTicks.{live_ticks-bytes, live_ticks-contiguous}
-use Rattle.sequence_journal.specs.Numbers.{least_with}
-use Rattle.sequence_journal.proofs.NumberLaws.{least-is}
+use Rattle.frame_ending.specs.LiveBytes.{up_to_byte, live_bytes, live_ticks}
+use Rattle.line_rules.specs.{Bytes.AreBytes, Rules.Rules, RulesLaws.IsLawful}
 use Rattle.link_format.specs.Profile.{Profile, pause_len, trailer_len, trailer, words, word_of}
-use Rattle.link_verdicts.specs.Shapes.{kept}
+use Rattle.link_verdicts.{proofs.Passing.IsPassing, proofs.Passing.number-within, specs.Shapes.kept}
 use Rattle.link_verdicts.specs.Verdicts.{CheckState, after_live, trailer_of}
-use Rattle.link_verdicts.proofs.Passing.{IsPassing, number-within}
-use Rattle.receiver_laws.specs.Standing.{StandsOn}
 use Rattle.receiver_laws.proofs.Words.{byte-places, word-bytes}
+use Rattle.receiver_laws.specs.Standing.{StandsOn}
+use Rattle.sequence_journal.{proofs.NumberLaws.least-is, specs.Numbers.least_with}
+use Rattle.std.proofs.Common.{◌≡◌, ◌∙◌, ℕ, zero, suc, ◌+◌, ◌%◌, ◌<◌, ◌≤◌, true, false, List, []}
+use Rattle.std.proofs.Common.{◌∷◌, ◌++◌, length, map, take, drop, replicate, refl, sym, ap, subst}
+use Rattle.std.proofs.Common.{arith, append_assoc, length-append}
+use Rattle.std.proofs.{Math.Seq.take-append_seam, lemmas.List.take-append-drop}
+use Rattle.std.proofs.lemmas.List.{length-map, length-take, length-replicate, Elements.All-nil}
+use Rattle.std.{proofs.lemmas.List.Elements.All-cons, specs.Int.bytes_high_first}
+use Rattle.yasir_ticks.specs.{Bursts.Burst, Bursts.end_of, BurstsOf.IsContiguous}
+use Rattle.yasir_ticks.specs.{BurstsOf.AreBursts, Ticks.silent, Ticks.bytes_in, Ticks.AreTicks}
+use Rattle.yasir_ticks.specs.declared.tick.Tick.{Tick, TheVariants.Silent, TheVariants.Byte}
 
 -- ---- ticks and their bytes
 

@@ -1,16 +1,12 @@
 -- Bytes are those of a number where they have its word.
-use Rattle.std.proofs.Common.{◌≡◌, ◌∙◌, ℕ, zero, suc, ◌+◌, ◌*◌, ◌/◌, ◌%◌, ◌^◌, ◌<◌, List, []}
-use Rattle.std.proofs.Common.{◌∷◌, length, refl, sym, ap, arith, slice_index, ⊎_elim}
-use Rattle.std.specs.Int.{byte_at, bytes_high_first}
-use Rattle.std.proofs.lemmas.Bool.{cases_lt}
-use Rattle.std.proofs.lemmas.Nat.{div-mul-add, mod-mul-add}
-use Rattle.std.proofs.lemmas.List.{append-nil, get_or_past}
-use Rattle.std.proofs.lemmas.List.Elements.{All-cons}
-use Rattle.std.proofs.Math.Nat.{mod-lt}
-use Rattle.byteorder.specs.Endian.{big_from, big_number}
-use Rattle.byteorder.specs.Numbers.{big_from-cons, big_from-bytes, big_from-lt}
-use Rattle.byteorder.specs.Numbers.{length-bytes_high_first}
+use Rattle.byteorder.specs.{Endian.big_from, Endian.big_number, Numbers.big_from-cons}
+use Rattle.byteorder.specs.Numbers.{big_from-bytes, big_from-lt, length-bytes_high_first}
 use Rattle.line_rules.specs.Bytes.{AreBytes}
+use Rattle.std.proofs.Common.{◌≡◌, ◌∙◌, ℕ, zero, suc, ◌+◌, ◌*◌, ◌/◌, ◌%◌, ◌^◌, ◌<◌, List, [], ◌∷◌}
+use Rattle.std.proofs.Common.{length, refl, sym, ap, arith, slice_index, ⊎_elim}
+use Rattle.std.proofs.{Math.Nat.mod-lt, lemmas.Bool.cases_lt, lemmas.List.append-nil}
+use Rattle.std.proofs.lemmas.{List.get_or_past, List.Elements.All-cons, Nat.div-mul-add}
+use Rattle.std.{proofs.lemmas.Nat.mod-mul-add, specs.Int.byte_at, specs.Int.bytes_high_first}
 
 -- every place of bytes holds a byte, 0 past their end
 pub byte-places : (x : List ℕ) → AreBytes x → (k : ℕ) → slice_index x k < 256

@@ -1,24 +1,17 @@
 -- What a DNP3 device reads of small lines of the receiver, with a tag that is in for HMAC.
-use Rattle.std.proofs.Common.{◌≡◌, ℕ, List, [], ◌∷◌, ◌++◌, map, take, replicate, refl}
-use Rattle.yasir_ticks.specs.Ticks.{silent}
-use Rattle.yasir_ticks.specs.Bursts.{bursts_from, with_byte}
-use Rattle.yasir_ticks.specs.declared.tick.Tick.{Tick}
-use Rattle.yasir_ticks.specs.declared.tick.Tick.TheVariants.{Byte}
-use Rattle.line_rules.specs.Crc.{crc, byte_step, bit_steps, bit_step}
+use Rattle.burst_walk.specs.Laid.{tick_at}
+use Rattle.device_model.specs.{DnpReads.dnp_reads, Frames.FrameRead, Hunt.hunt}
 use Rattle.dnp_link_frame.specs.Blocks.{room_by, begins_right, is_good_header, end_in_crcs}
 use Rattle.dnp_link_frame.specs.Blocks.{block_start, is_frame, has_right_ending}
-use Rattle.line_rules.specs.Endings.{ends_in_check}
 use Rattle.dnp_link_frame.specs.Rules.{dnp_rules}
 use Rattle.frame_ending.specs.LiveBytes.{before_pause, up_to_byte}
-use Rattle.device_model.specs.Frames.{FrameRead}
-use Rattle.device_model.specs.Hunt.{hunt}
-use Rattle.device_model.specs.DnpReads.{dnp_reads}
-use Rattle.burst_walk.specs.Laid.{tick_at}
-use Rattle.link_format.specs.Profile.{Profile}
-use Rattle.link_verdicts.specs.Shapes.{kept}
+use Rattle.line_rules.specs.Crc.{crc, byte_step, bit_steps, bit_step}
+use Rattle.{line_rules.specs.Endings.ends_in_check, link_format.specs.Profile.Profile}
+use Rattle.link_verdicts.specs.{Checking.received_line, Emissions.spoiled, Shapes.kept}
 use Rattle.link_verdicts.specs.Verdicts.{verdict_of, checked}
-use Rattle.link_verdicts.specs.Emissions.{spoiled}
-use Rattle.link_verdicts.specs.Checking.{received_line}
+use Rattle.std.proofs.Common.{◌≡◌, ℕ, List, [], ◌∷◌, ◌++◌, map, take, replicate, refl}
+use Rattle.yasir_ticks.specs.{Bursts.bursts_from, Bursts.with_byte, Ticks.silent}
+use Rattle.yasir_ticks.specs.declared.tick.Tick.{Tick, TheVariants.Byte}
 
 -- twelve bytes of the number and the frame
 abbrev stand_in : ℕ → List ℕ → List ℕ

@@ -1,29 +1,21 @@
 -- Why a device must be a member of its family: links on which nothing passes, and what devices
 -- with other silences would read behind the receiver.
-use Rattle.std.proofs.Common.{◌≡◌, ℕ, List, [], ◌∷◌, ◌++◌, map, refl}
-use Rattle.yasir_ticks.specs.Ticks.{silent}
-use Rattle.yasir_ticks.specs.Bursts.{bursts_from, with_byte}
-use Rattle.yasir_ticks.specs.declared.tick.Tick.{Tick}
-use Rattle.yasir_ticks.specs.declared.tick.Tick.TheVariants.{Byte}
+use Rattle.burst_walk.specs.Laid.{tick_at}
+use Rattle.device_model.specs.{Hunt.hunt, HuntFamily.dnp_family_reads, RtuFamily.rtu_family_reads}
+use Rattle.{device_model.specs.RtuReads.has_silence, dnp_link_frame.specs.Blocks.room_by}
+use Rattle.dnp_link_frame.specs.Blocks.{begins_right, is_good_header, end_in_crcs, block_start}
+use Rattle.dnp_link_frame.specs.{Blocks.is_frame, Blocks.has_right_ending, Rules.dnp_rules}
+use Rattle.frame_ending.specs.LiveBytes.{before_pause, up_to_byte}
 use Rattle.line_rules.specs.Crc.{crc, byte_step, bit_steps, bit_step}
-use Rattle.line_rules.specs.Endings.{ends_in_check}
-use Rattle.line_rules.specs.Rules.{Rules}
+use Rattle.line_rules.specs.{Endings.ends_in_check, Rules.Rules}
+use Rattle.link_format.specs.Profile.{Profile}
+use Rattle.link_verdicts.specs.{Checking.passed, Checking.received_line, Emissions.spoiled}
+use Rattle.link_verdicts.specs.{Shapes.kept, Verdicts.verdict_of, Verdicts.checked}
 use Rattle.rtu_frame.specs.Frame.{is_frame as is_rtu_frame, has_right_ending as ends_rightly}
 use Rattle.rtu_frame.specs.Rules.{rtu_rules}
-use Rattle.dnp_link_frame.specs.Blocks.{room_by, begins_right, is_good_header, end_in_crcs}
-use Rattle.dnp_link_frame.specs.Blocks.{block_start, is_frame, has_right_ending}
-use Rattle.dnp_link_frame.specs.Rules.{dnp_rules}
-use Rattle.frame_ending.specs.LiveBytes.{before_pause, up_to_byte}
-use Rattle.device_model.specs.Hunt.{hunt}
-use Rattle.device_model.specs.HuntFamily.{dnp_family_reads}
-use Rattle.device_model.specs.RtuFamily.{rtu_family_reads}
-use Rattle.device_model.specs.RtuReads.{has_silence}
-use Rattle.burst_walk.specs.Laid.{tick_at}
-use Rattle.link_format.specs.Profile.{Profile}
-use Rattle.link_verdicts.specs.Shapes.{kept}
-use Rattle.link_verdicts.specs.Verdicts.{verdict_of, checked}
-use Rattle.link_verdicts.specs.Emissions.{spoiled}
-use Rattle.link_verdicts.specs.Checking.{passed, received_line}
+use Rattle.std.proofs.Common.{◌≡◌, ℕ, List, [], ◌∷◌, ◌++◌, map, refl}
+use Rattle.yasir_ticks.specs.{Bursts.bursts_from, Bursts.with_byte, Ticks.silent}
+use Rattle.yasir_ticks.specs.declared.tick.Tick.{Tick, TheVariants.Byte}
 
 -- words and tags as of y18; no tag is on these links
 abbrev profile : Profile

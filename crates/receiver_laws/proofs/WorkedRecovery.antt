@@ -2,39 +2,29 @@
 -- lack 282 bytes, so packets are due 300 ticks after the first of the silent ticks where the link
 -- is left alone. For each thing that the law asks there is a line where it alone is missing, and
 -- the packet doesn't pass.
-use Rattle.std.proofs.Common.{◌≡◌, ◌≤◌, ◌<◌, ℕ, List, [], ◌∷◌, ◌++◌, map, take, drop, replicate}
-use Rattle.std.proofs.Common.{refl, sym, ap, subst, arith, get_or, ◌∙◌}
-use Rattle.std.proofs.lemmas.List.{get_or_past}
-use Rattle.std.specs.List.{All, Contains}
-use Rattle.std.proofs.lemmas.List.Elements.{All-nil, All-cons}
-use Rattle.yasir_ticks.specs.Ticks.{silent}
-use Rattle.yasir_ticks.specs.Bursts.{Burst, bursts, bursts_from, with_byte}
-use Rattle.yasir_ticks.specs.BurstsOf.{one}
-use Rattle.yasir_ticks.specs.declared.tick.Tick.{Tick}
-use Rattle.yasir_ticks.proofs.SilenceLaws.{get_or-silence}
-use Rattle.yasir_ticks.specs.declared.tick.Tick.TheVariants.{Silent, Byte}
-use Rattle.line_rules.specs.Crc.{crc, byte_step, bit_steps, bit_step}
+use Rattle.burst_walk.specs.{Laid.tick_at, Walk.Noted}
+use Rattle.device_model.specs.{DnpReads.dnp_reads, Hunt.hunt}
 use Rattle.dnp_link_frame.specs.Blocks.{room_by, begins_right, is_good_header, end_in_crcs}
 use Rattle.dnp_link_frame.specs.Blocks.{block_start, is_frame, has_right_ending}
-use Rattle.line_rules.specs.Endings.{ends_in_check}
-use Rattle.dnp_link_frame.specs.Rules.{dnp_rules}
-use Rattle.frame_ending.specs.LiveBytes.{before_pause, up_to_byte}
-use Rattle.device_model.specs.Hunt.{hunt}
-use Rattle.device_model.specs.DnpReads.{dnp_reads}
-use Rattle.burst_walk.specs.Laid.{tick_at}
-use Rattle.burst_walk.specs.Walk.{Noted}
-use Rattle.link_format.specs.NumberedFrame.{NumberedFrame}
-use Rattle.link_format.specs.Profile.{Profile}
-use Rattle.seal_judgements.specs.Sealing.{judged, link_line}
-use Rattle.link_verdicts.specs.Shapes.{kept}
-use Rattle.link_verdicts.specs.Verdicts.{verdict_of, checked}
-use Rattle.link_verdicts.specs.Emissions.{spoiled}
+use Rattle.{dnp_link_frame.specs.Rules.dnp_rules, frame_ending.specs.LiveBytes.before_pause}
+use Rattle.{frame_ending.specs.LiveBytes.up_to_byte, line_rules.specs.Crc.crc}
+use Rattle.line_rules.specs.{Crc.byte_step, Crc.bit_steps, Crc.bit_step, Endings.ends_in_check}
+use Rattle.link_format.specs.{NumberedFrame.NumberedFrame, Profile.Profile}
 use Rattle.link_verdicts.specs.Checking.{FullNote, check_notes, received_line}
 use Rattle.link_verdicts.specs.Checking.FullNote.{passed_note, refused_note, dropped_note}
+use Rattle.link_verdicts.specs.{Emissions.spoiled, Shapes.kept, Verdicts.verdict_of}
+use Rattle.link_verdicts.specs.{Verdicts.checked, declared.note.DroppedWhy.TheVariants.Busy}
 use Rattle.link_verdicts.specs.declared.note.RefusedWhy.TheVariants.{Trailer, Form, Number, Tag}
-use Rattle.link_verdicts.specs.declared.note.DroppedWhy.TheVariants.{Busy}
-use Rattle.receiver_laws.specs.Recovery.{all_sealed, floor_after, BeginsPacket, IsLeftAlone, IsDue}
 use Rattle.receiver_laws.proofs.Packing.{contiguous-bytes}
+use Rattle.receiver_laws.specs.Recovery.{all_sealed, floor_after, BeginsPacket, IsLeftAlone, IsDue}
+use Rattle.seal_judgements.specs.Sealing.{judged, link_line}
+use Rattle.std.proofs.Common.{◌≡◌, ◌≤◌, ◌<◌, ℕ, List, [], ◌∷◌, ◌++◌, map, take, drop, replicate}
+use Rattle.std.proofs.Common.{refl, sym, ap, subst, arith, get_or, ◌∙◌}
+use Rattle.std.proofs.lemmas.List.{get_or_past, Elements.All-nil, Elements.All-cons}
+use Rattle.std.specs.List.{All, Contains}
+use Rattle.yasir_ticks.{proofs.SilenceLaws.get_or-silence, specs.Bursts.Burst, specs.Bursts.bursts}
+use Rattle.yasir_ticks.specs.{Bursts.bursts_from, Bursts.with_byte, BurstsOf.one, Ticks.silent}
+use Rattle.yasir_ticks.specs.declared.tick.Tick.{Tick, TheVariants.Silent, TheVariants.Byte}
 
 -- twelve bytes of the number and the frame
 abbrev stand_in : ℕ → List ℕ → List ℕ

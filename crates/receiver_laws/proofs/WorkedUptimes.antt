@@ -1,37 +1,27 @@
 -- Frames of two uptimes of a transmitter, on one link to a receiver, with a tag that is in for
 -- HMAC.
-use Rattle.std.proofs.Common.{◌≡◌, ℕ, ◌<◌, ◌≤◌, List, [], ◌∷◌, ◌++◌, Some, IsSomeAnd, take}
-use Rattle.std.proofs.Common.{◌∙◌, None, refl, sym, ap, subst, arith}
-use Rattle.std.specs.Prelude.{max}
-use Rattle.yasir_ticks.specs.Ticks.{silent}
-use Rattle.yasir_ticks.specs.Bursts.{bursts_from, with_byte}
-use Rattle.yasir_ticks.specs.declared.tick.Tick.{Tick}
-use Rattle.yasir_io.specs.Disks.{Slots}
-use Rattle.yasir_io.specs.Steady.{blank_old}
-use Rattle.line_rules.specs.Crc.{crc, byte_step, bit_steps, bit_step}
-use Rattle.line_rules.specs.Endings.{ends_in_check}
-use Rattle.rtu_frame.specs.Frame.{is_frame, has_right_ending}
-use Rattle.rtu_frame.specs.Rules.{rtu_rules}
-use Rattle.frame_ending.specs.LiveBytes.{before_pause, up_to_byte}
-use Rattle.device_model.specs.RtuReads.{has_silence, rtu_reads}
-use Rattle.burst_walk.specs.Laid.{tick_at}
+use Rattle.{burst_walk.specs.Laid.tick_at, device_model.specs.RtuReads.has_silence}
+use Rattle.{device_model.specs.RtuReads.rtu_reads, frame_ending.specs.LiveBytes.before_pause}
+use Rattle.{frame_ending.specs.LiveBytes.up_to_byte, line_rules.specs.Crc.crc}
+use Rattle.line_rules.specs.{Crc.byte_step, Crc.bit_steps, Crc.bit_step, Endings.ends_in_check}
 use Rattle.link_format.specs.NumberedFrame.{NumberedFrame, numbers_of, last_number}
-use Rattle.sequence_journal.specs.declared.numbers.TheConstants.{LIMIT}
-use Rattle.sequence_journal.specs.declared.link.LinkId.{LinkId}
+use Rattle.link_verdicts.specs.{Checking.passed, Checking.received_line, Emissions.spoiled}
+use Rattle.link_verdicts.specs.{Shapes.kept, Verdicts.verdict_of, Verdicts.checked}
+use Rattle.receiver_laws.proofs.Worked.{READ_TEN_REGISTERS, on_line, profile}
+use Rattle.receiver_laws.specs.{Accounted.forged, OverUptimes.BoxUptime, OverUptimes.sealed_over}
+use Rattle.receiver_laws.specs.OverUptimes.{passed_over, bytes_over, ShareDisk, GoOnFrom}
+use Rattle.rtu_frame.specs.{Frame.is_frame, Frame.has_right_ending, Rules.rtu_rules}
+use Rattle.seal_judgements.specs.Sealing.{judged, link_line, sealed}
+use Rattle.sequence_journal.proofs.{FloorLaws.floor_beside, SlotLemmas.held}
 use Rattle.sequence_journal.specs.Slots.{slot_bytes, old_slot_bytes, old_number_held, greater}
 use Rattle.sequence_journal.specs.Slots.{own_floor, old_floor, floor_of}
 use Rattle.sequence_journal.specs.Uptimes.{IsUptime, IsIdle}
-use Rattle.sequence_journal.proofs.FloorLaws.{floor_beside}
-use Rattle.sequence_journal.proofs.SlotLemmas.{held}
-use Rattle.seal_judgements.specs.Sealing.{judged, link_line, sealed}
-use Rattle.link_verdicts.specs.Shapes.{kept}
-use Rattle.link_verdicts.specs.Verdicts.{verdict_of, checked}
-use Rattle.link_verdicts.specs.Emissions.{spoiled}
-use Rattle.link_verdicts.specs.Checking.{passed, received_line}
-use Rattle.receiver_laws.specs.Accounted.{forged}
-use Rattle.receiver_laws.specs.OverUptimes.{BoxUptime, sealed_over, passed_over, bytes_over}
-use Rattle.receiver_laws.specs.OverUptimes.{ShareDisk, GoOnFrom}
-use Rattle.receiver_laws.proofs.Worked.{READ_TEN_REGISTERS, on_line, profile}
+use Rattle.sequence_journal.specs.declared.{link.LinkId.LinkId, numbers.TheConstants.LIMIT}
+use Rattle.std.proofs.Common.{◌≡◌, ℕ, ◌<◌, ◌≤◌, List, [], ◌∷◌, ◌++◌, Some, IsSomeAnd, take, ◌∙◌}
+use Rattle.std.proofs.Common.{None, refl, sym, ap, subst, arith}
+use Rattle.{std.specs.Prelude.max, yasir_io.specs.Disks.Slots, yasir_io.specs.Steady.blank_old}
+use Rattle.yasir_ticks.specs.Bursts.{bursts_from, with_byte}
+use Rattle.yasir_ticks.specs.{Ticks.silent, declared.tick.Tick.Tick}
 
 -- 36 ticks of a device, enough for its request and the trailer
 abbrev request : List Tick

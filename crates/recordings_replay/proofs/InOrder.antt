@@ -1,11 +1,10 @@
 -- Four texts that are added one after the other, and a text that was printed.
+use Rattle.recordings_replay.proofs.Pushing.{adds-then, breaks-then, breaks-before}
+use Rattle.recordings_replay.specs.Printing.{OnTheWay, AddsText, BreaksOff, PrintsText}
+use Rattle.replay_status.{proofs.Printed.prints_whole, specs.declared.status.Status.Status}
+use Rattle.replay_status.specs.declared.status.Status.TheVariants.{Done, WriteFault}
 use Rattle.std.proofs.Common.{◌≡◌, ◌⊎◌, ℕ, List, ◌++◌, Option}
 use Rattle.std.specs.Io.KnownBytes.{append_known}
-use Rattle.replay_status.specs.declared.status.Status.{Status}
-use Rattle.replay_status.specs.declared.status.Status.TheVariants.{Done, WriteFault}
-use Rattle.replay_status.proofs.Printed.{prints_whole}
-use Rattle.recordings_replay.specs.Printing.{OnTheWay, AddsText, BreaksOff, PrintsText}
-use Rattle.recordings_replay.proofs.Pushing.{adds-then, breaks-then, breaks-before}
 
 module _ (w0 w1 w2 w3 : OnTheWay) (a b c d : List ℕ) where
   abbrev all : List ℕ

@@ -1,23 +1,18 @@
 -- A text that is added to one on its way to a sink, line by line of the frames of a list.
-use Rattle.std.proofs.Common.{◌≡◌, ◌∙◌, ℕ, ◌+◌, ◌<◌, ◌≤◌, Bool, true, false, not, cond, List, []}
-use Rattle.std.proofs.Common.{◌∷◌, ◌++◌, length, take, drop, get_or, codes, Option, refl, sym}
-use Rattle.std.proofs.Common.{ap, subst, arith, append-nil, append_assoc}
-use Rattle.std.specs.List.{flat_map}
-use Rattle.std.proofs.lemmas.List.{take_more, take_all, take-append-drop}
-use Rattle.std.proofs.lemmas.List.Concat.{flat_map-append}
-use Rattle.yasir_io.specs.Output.{Buffered, GotPrefix}
-use Rattle.device_model.specs.Frames.{FrameRead}
-use Rattle.device_replay.specs.Lines.{frame_line, frame_lines}
-use Rattle.link_format.specs.NumberedFrame.{NumberedFrame}
+use Rattle.{device_model.specs.Frames.FrameRead, device_replay.specs.Lines.frame_line}
+use Rattle.{device_replay.specs.Lines.frame_lines, link_format.specs.NumberedFrame.NumberedFrame}
 use Rattle.receiver_laws.specs.Accounted.{forged, is_among}
-use Rattle.replay_lists.specs.FrameBox.{kept_frames}
-use Rattle.replay_lists.specs.FrameList.{Kept, Holds}
-use Rattle.replay_lists.specs.ReplayLists.{kept_reads}
-use Rattle.replay_lists.specs.declared.frame_box.Numbered.{Numbered}
-use Rattle.replay_lists.specs.declared.frame_list.FrameList.{FrameList}
 use Rattle.recordings_replay.specs.Listing.{numbered_line, numbered_lines}
-use Rattle.recordings_replay.specs.Printing.{OnTheWay, AddsText, BreaksOff}
-use Rattle.recordings_replay.specs.Printing.{line_if_forged}
+use Rattle.recordings_replay.specs.Printing.{OnTheWay, AddsText, BreaksOff, line_if_forged}
+use Rattle.replay_lists.specs.{FrameBox.kept_frames, FrameList.Kept, FrameList.Holds}
+use Rattle.replay_lists.specs.ReplayLists.{kept_reads}
+use Rattle.replay_lists.specs.declared.{frame_box.Numbered.Numbered, frame_list.FrameList.FrameList}
+use Rattle.std.proofs.Common.{◌≡◌, ◌∙◌, ℕ, ◌+◌, ◌<◌, ◌≤◌, Bool, true, false, not, cond, List, []}
+use Rattle.std.proofs.Common.{◌∷◌, ◌++◌, length, take, drop, get_or, codes, Option, refl, sym, ap}
+use Rattle.std.proofs.Common.{subst, arith, append-nil, append_assoc}
+use Rattle.std.proofs.lemmas.List.{take_more, take_all, take-append-drop, Concat.flat_map-append}
+use Rattle.std.specs.List.{flat_map}
+use Rattle.yasir_io.specs.Output.{Buffered, GotPrefix}
 
 -- ---- texts on their way
 

@@ -1,10 +1,9 @@
 -- From what is known of recordings to what is printed of them.
-use Rattle.std.proofs.Common.{ℕ, List, Option}
-use Rattle.yasir_ticks.specs.Ticks.{Item}
-use Rattle.replay_status.specs.declared.status.Status.{Status}
-use Rattle.replay_status.specs.declared.status.Status.TheVariants.{Done, WriteFault}
 use Rattle.recordings_replay.specs.Printing.{PrintsText}
 use Rattle.recordings_replay.specs.Recorded.{IsRecordedWith, PrintsItems}
+use Rattle.replay_status.specs.declared.status.Status.{Status, TheVariants.Done}
+use Rattle.{replay_status.specs.declared.status.Status.TheVariants.WriteFault, std.proofs.Common.ℕ}
+use Rattle.{std.proofs.Common.List, std.proofs.Common.Option, yasir_ticks.specs.Ticks.Item}
 
 module _ (marks rest : ℕ) (text_of : List Item → List ℕ)
     (in_before in_now out_before out_now : Option (List ℕ)) (items : List Item)

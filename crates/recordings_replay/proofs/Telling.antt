@@ -1,31 +1,25 @@
 -- What the lists of two recordings say of one another follows from the laws of transmitter,
 -- receiver and device.
-use Rattle.std.proofs.Common.{◌≡◌, ◌∙◌, ℕ, zero, suc, ◌+◌, ◌-◌, ◌<◌, ◌≤◌, ◌&&◌, ◌||◌, Bool}
-use Rattle.std.proofs.Common.{true, false, not, List, [], ◌∷◌, ◌++◌, length, get_or, bytes_eq}
-use Rattle.std.proofs.Common.{refl, sym, ap, subst, arith, append_assoc, eq-eqb, nat_lt}
-use Rattle.std.proofs.Common.{if◌then◌else◌}
-use Rattle.std.proofs.Math.Nat.{one-le-pow}
-use Rattle.std.proofs.lemmas.Slice.Eq.{bytes_eq-Decides}
-use Rattle.yasir_ticks.specs.Bursts.{Burst, bursts, bursts_from, with_byte}
-use Rattle.yasir_ticks.specs.Ticks.{Item, ticks_in, silent}
-use Rattle.yasir_ticks.specs.Ticks.Item.{tick, mark}
-use Rattle.yasir_ticks.specs.declared.tick.Tick.{Tick}
-use Rattle.yasir_ticks.specs.declared.tick.Tick.TheVariants.{Silent, Byte}
-use Rattle.line_rules.specs.Rules.{Rules}
-use Rattle.line_rules.specs.RulesLaws.{IsLawful, IsFramed}
-use Rattle.sequence_journal.specs.Uptimes.{RiseFrom}
 use Rattle.device_model.specs.Frames.{FrameRead}
+use Rattle.line_rules.specs.{Rules.Rules, RulesLaws.IsLawful, RulesLaws.IsFramed}
 use Rattle.link_format.specs.NumberedFrame.{NumberedFrame, numbers_of}
 use Rattle.link_format.specs.Profile.{Profile, HasTags, delay, words}
-use Rattle.seal_judgements.specs.Sealing.{sealed, link_line}
 use Rattle.link_verdicts.specs.Checking.{passed, received_line}
+use Rattle.receiver_laws.proofs.Deliveries.{delivers-all}
 use Rattle.receiver_laws.specs.Accounted.{forged, is_among, is_same_pair}
 use Rattle.receiver_laws.specs.Headline.{ReadsWhatWasSealed}
 use Rattle.receiver_laws.specs.Untouched.{AreSpaced, DeliversAll, IsUntouched}
-use Rattle.receiver_laws.proofs.Deliveries.{delivers-all}
-use Rattle.replay_lists.specs.Recordings.{before_mark}
 use Rattle.recordings_replay.specs.Listing.{Listing}
 use Rattle.recordings_replay.specs.TellsOf.{TellsOf, DeliversLine, HasNoNumberTwice, device_rest}
+use Rattle.{replay_lists.specs.Recordings.before_mark, seal_judgements.specs.Sealing.sealed}
+use Rattle.{seal_judgements.specs.Sealing.link_line, sequence_journal.specs.Uptimes.RiseFrom}
+use Rattle.std.proofs.Common.{◌≡◌, ◌∙◌, ℕ, zero, suc, ◌+◌, ◌-◌, ◌<◌, ◌≤◌, ◌&&◌, ◌||◌, Bool, true}
+use Rattle.std.proofs.Common.{false, not, List, [], ◌∷◌, ◌++◌, length, get_or, bytes_eq, refl, sym}
+use Rattle.std.proofs.Common.{ap, subst, arith, append_assoc, eq-eqb, nat_lt, if◌then◌else◌}
+use Rattle.std.proofs.{Math.Nat.one-le-pow, lemmas.Slice.Eq.bytes_eq-Decides}
+use Rattle.yasir_ticks.specs.Bursts.{Burst, bursts, bursts_from, with_byte}
+use Rattle.yasir_ticks.specs.Ticks.{Item, ticks_in, silent, Item.tick, Item.mark}
+use Rattle.yasir_ticks.specs.declared.tick.Tick.{Tick, TheVariants.Silent, TheVariants.Byte}
 
 -- ---- numbers that rise
 

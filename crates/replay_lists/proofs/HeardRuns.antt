@@ -1,16 +1,13 @@
 -- A device that hears a run of ticks.
-use Rattle.std.proofs.Common.{◌≡◌, ◌∙◌, ℕ, List, [], ◌∷◌, ◌++◌}
-use Rattle.std.proofs.Common.{ap, sym, subst, append-nil, arith, length, map, take, min, ◌-◌, ◌≤◌}
-use Rattle.std.proofs.Common.{◌+◌, drop, append_assoc, length-drop}
-use Rattle.std.proofs.Math.Seq.{take-add}
-use Rattle.std.proofs.lemmas.List.{map-append, length-map, take_all, replicate-append-replicate}
-use Rattle.yasir_ticks.specs.Ticks.{silent}
-use Rattle.yasir_ticks.specs.declared.tick.Tick.{Tick}
-use Rattle.yasir_ticks.specs.declared.tick.Tick.TheVariants.{Silent, Byte}
 use Rattle.burst_walk.specs.Answered.{answered}
 use Rattle.device_model.specs.declared.device.Device.{Ghosts as Device}
-use Rattle.replay_lists.specs.ReplayLists.{Listens}
-use Rattle.replay_lists.specs.declared.frame_list.FrameList.{FrameList}
+use Rattle.replay_lists.specs.{ReplayLists.Listens, declared.frame_list.FrameList.FrameList}
+use Rattle.std.proofs.Common.{◌≡◌, ◌∙◌, ℕ, List, [], ◌∷◌, ◌++◌, ap, sym, subst, append-nil, arith}
+use Rattle.std.proofs.Common.{length, map, take, min, ◌-◌, ◌≤◌, ◌+◌, drop, append_assoc}
+use Rattle.std.proofs.{Common.length-drop, Math.Seq.take-add}
+use Rattle.std.proofs.lemmas.List.{map-append, length-map, take_all, replicate-append-replicate}
+use Rattle.yasir_ticks.specs.Ticks.{silent}
+use Rattle.yasir_ticks.specs.declared.tick.Tick.{Tick, TheVariants.Silent, TheVariants.Byte}
 
 -- nothing was heard yet
 pub hears-nothing : {V : Type 0} (device : Device V) (value : V) (list : FrameList ℕ)

@@ -1,11 +1,9 @@
 -- A frame at its place, and as it was kept there.
-use Rattle.std.proofs.Common.{◌≡◌, ◌∙◌, ℕ, ◌+◌, ◌-◌, ◌<◌, ◌≤◌, ◌&&◌, Bool, true, false, List, length}
-use Rattle.std.proofs.Common.{get_or, bytes_eq, nat_lt, refl, ap, sym, arith}
-use Rattle.std.proofs.lemmas.Bool.{lt-ltb, le-ltb}
-use Rattle.std.proofs.lemmas.List.{get_or-map}
-use Rattle.link_format.specs.NumberedFrame.{NumberedFrame}
-use Rattle.replay_lists.specs.FrameBox.{kept_frames, kept_numbered}
-use Rattle.replay_lists.specs.Places.{place_of, stands_at_its_number}
+use Rattle.{link_format.specs.NumberedFrame.NumberedFrame, replay_lists.specs.FrameBox.kept_frames}
+use Rattle.replay_lists.specs.{FrameBox.kept_numbered, Places.place_of, Places.stands_at_its_number}
+use Rattle.std.proofs.Common.{◌≡◌, ◌∙◌, ℕ, ◌+◌, ◌-◌, ◌<◌, ◌≤◌, ◌&&◌, Bool, true, false, List}
+use Rattle.std.proofs.Common.{length, get_or, bytes_eq, nat_lt, refl, ap, sym, arith}
+use Rattle.std.proofs.lemmas.{Bool.lt-ltb, Bool.le-ltb, List.get_or-map}
 
 pub kept-at : (frames : List NumberedFrame) (d : NumberedFrame) (i : ℕ) → i < length frames
     → (get_or (kept_frames frames) i (kept_numbered d)).frame ≡ (get_or frames i d).frame

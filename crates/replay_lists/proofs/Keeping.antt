@@ -1,19 +1,14 @@
 -- What is kept of a line, and of one tick more.
-use Rattle.std.proofs.Common.{◌≡◌, ◌∙◌, ℕ, List, [], ◌∷◌, ◌++◌, Some, None, refl}
-use Rattle.std.proofs.Common.{ap, sym, subst, append-nil}
-use Rattle.std.proofs.lemmas.List.{map-append}
-use Rattle.yasir_ticks.specs.declared.tick.Tick.{Tick}
+use Rattle.device_model.specs.{Frames.FrameRead, declared.device.Device.Ghosts as Device}
 use Rattle.link_format.specs.Setup.{Setup}
-use Rattle.device_model.specs.Frames.{FrameRead}
-use Rattle.device_model.specs.declared.device.Device.{Ghosts as Device}
+use Rattle.replay_lists.specs.FrameBox.{AnswersFrame, frame_told, kept_numbered, kept_frames}
 use Rattle.replay_lists.specs.FrameList.{Kept, Holds}
-use Rattle.replay_lists.specs.FrameBox.{AnswersFrame, frame_told, kept_numbered}
-use Rattle.replay_lists.specs.FrameBox.{kept_frames}
 use Rattle.replay_lists.specs.ReplayLists.{KeepsFrames, StepsInto, Listens, kept_reads}
-use Rattle.replay_lists.specs.declared.frame_box.FrameBox.{Ghosts as FrameBox}
-use Rattle.replay_lists.specs.declared.frame_box.FrameStep.{FrameStep}
-use Rattle.replay_lists.specs.declared.frame_box.Numbered.{Numbered}
-use Rattle.replay_lists.specs.declared.frame_list.FrameList.{FrameList}
+use Rattle.replay_lists.specs.declared.frame_box.{FrameBox.Ghosts as FrameBox, FrameStep.FrameStep}
+use Rattle.replay_lists.specs.declared.{frame_box.Numbered.Numbered, frame_list.FrameList.FrameList}
+use Rattle.std.proofs.Common.{◌≡◌, ◌∙◌, ℕ, List, [], ◌∷◌, ◌++◌, Some, None, refl, ap, sym, subst}
+use Rattle.std.proofs.{Common.append-nil, lemmas.List.map-append}
+use Rattle.yasir_ticks.specs.declared.tick.Tick.{Tick}
 
 -- ---- a step of a box
 

@@ -1,23 +1,19 @@
 -- How a listing of two recordings ends.
-use Rattle.std.proofs.Common.{◌≡◌, ℕ, ◌+◌, ◌≤◌, true, List, [], ◌++◌, length, Option}
-use Rattle.std.proofs.Common.{◌∙◌, refl, ap, subst, arith}
-use Rattle.yasir_ticks.specs.Ticks.{Item, ticks_in, silent}
-use Rattle.link_format.specs.Setup.{Setup}
 use Rattle.device_model.specs.declared.device.Device.{Ghosts as Device}
-use Rattle.tick_drive.specs.Drive.{Drives}
-use Rattle.tick_drive.specs.Input.{IsWhole, max_ticks}
-use Rattle.tick_drive.specs.Items.{silent_items}
-use Rattle.tick_drive.specs.declared.end.End.{End}
-use Rattle.tick_drive.specs.declared.end.End.TheVariants.{Whole, Refused, TooLong, ReadFault}
-use Rattle.tick_drive.specs.declared.end.End.TheVariants.{Stopped}
-use Rattle.tick_drive.proofs.ItemLaws.{ticks_with, length-ticks_in-silence}
+use Rattle.{link_format.specs.Setup.Setup, replay_lists.proofs.Marks.has_mark-some}
+use Rattle.replay_lists.proofs.Marks.{before_mark-more, behind_mark-more, ticks_in-silence}
+use Rattle.replay_lists.specs.Listed.{MayList, ListsRecordings}
 use Rattle.replay_lists.specs.Recordings.{has_mark, before_mark, behind_mark}
 use Rattle.replay_lists.specs.ReplayLists.{HasListed, listing}
-use Rattle.replay_lists.specs.Listed.{MayList, ListsRecordings}
 use Rattle.replay_lists.specs.declared.frame_box.FrameBox.{Ghosts as FrameBox}
 use Rattle.replay_lists.specs.declared.replay_lists.ReplayLists.{ReplayLists}
-use Rattle.replay_lists.proofs.Marks.{has_mark-some, before_mark-more, behind_mark-more}
-use Rattle.replay_lists.proofs.Marks.{ticks_in-silence}
+use Rattle.std.proofs.Common.{◌≡◌, ℕ, ◌+◌, ◌≤◌, true, List, [], ◌++◌, length, Option, ◌∙◌, refl, ap}
+use Rattle.std.proofs.Common.{subst, arith}
+use Rattle.tick_drive.proofs.ItemLaws.{ticks_with, length-ticks_in-silence}
+use Rattle.tick_drive.specs.{Drive.Drives, Input.IsWhole, Input.max_ticks, Items.silent_items}
+use Rattle.tick_drive.specs.declared.end.End.{End, TheVariants.Whole}
+use Rattle.tick_drive.specs.declared.end.End.TheVariants.{Refused, TooLong, ReadFault, Stopped}
+use Rattle.yasir_ticks.specs.Ticks.{Item, ticks_in, silent}
 
 module _ {S C V : Type 0} (s : FrameBox S) (c : FrameBox C) (v : Device V)
     (old new : ReplayLists S C V) (before now : Option (List ℕ)) (may : MayList s c v old) where

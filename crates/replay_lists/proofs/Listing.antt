@@ -1,20 +1,17 @@
 -- What two recordings keep, by one item more.
-use Rattle.std.proofs.Common.{◌≡◌, ◌∙◌, ℕ, ◌+◌, ◌<◌, true, List, [], ◌∷◌, ◌++◌, length}
-use Rattle.std.proofs.Common.{Ok, Err, refl, ap, sym, append_assoc}
-use Rattle.std.proofs.lemmas.List.{replicate-append-replicate}
-use Rattle.yasir_ticks.specs.Ticks.{Item, silent}
-use Rattle.yasir_ticks.specs.Ticks.Item.{mark}
-use Rattle.yasir_ticks.specs.declared.tick.Tick.{Tick}
-use Rattle.yasir_ticks.specs.declared.tick.Tick.TheVariants.{Silent}
-use Rattle.link_format.specs.Setup.{Setup}
 use Rattle.device_model.specs.declared.device.Device.{Ghosts as Device}
-use Rattle.tick_drive.specs.Consumers.{Gives}
-use Rattle.tick_drive.specs.declared.consumer.Stop.TheVariants.{NoMemory}
-use Rattle.replay_lists.specs.ReplayLists.{KeepsFrames, Checks, HasListed, ListsItems}
-use Rattle.replay_lists.specs.ReplayLists.{IsReady, listing, GoesOnBy}
+use Rattle.link_format.specs.Setup.{Setup}
+use Rattle.replay_lists.proofs.Marks.{has_mark-mark, before_mark-mark, behind_mark-mark}
+use Rattle.replay_lists.specs.ReplayLists.{KeepsFrames, Checks, HasListed, ListsItems, IsReady}
+use Rattle.replay_lists.specs.ReplayLists.{listing, GoesOnBy}
 use Rattle.replay_lists.specs.declared.frame_box.FrameBox.{Ghosts as FrameBox}
 use Rattle.replay_lists.specs.declared.replay_lists.ReplayLists.{ReplayLists}
-use Rattle.replay_lists.proofs.Marks.{has_mark-mark, before_mark-mark, behind_mark-mark}
+use Rattle.std.proofs.Common.{◌≡◌, ◌∙◌, ℕ, ◌+◌, ◌<◌, true, List, [], ◌∷◌, ◌++◌, length, Ok, Err}
+use Rattle.std.proofs.Common.{refl, ap, sym, append_assoc}
+use Rattle.std.proofs.lemmas.List.{replicate-append-replicate}
+use Rattle.tick_drive.specs.{Consumers.Gives, declared.consumer.Stop.TheVariants.NoMemory}
+use Rattle.yasir_ticks.specs.Ticks.{Item, silent, Item.mark}
+use Rattle.yasir_ticks.specs.declared.tick.Tick.{Tick, TheVariants.Silent}
 
 module _ {S C V : Type 0} (s : FrameBox S) (c : FrameBox C) (v : Device V)
     (old new : ReplayLists S C V) where

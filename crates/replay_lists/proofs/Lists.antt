@@ -1,14 +1,10 @@
 -- The frames of a list: one more, and the one at a place.
+use Rattle.replay_lists.specs.FrameList.{Kept, Holds, IsWhole, frames_from, AreEnds, longest_frame}
+use Rattle.replay_lists.specs.declared.frame_list.{Entry.Entry, FrameList.FrameList}
 use Rattle.std.proofs.Common.{◌≡◌, ◌∙◌, ℕ, zero, suc, ◌+◌, ◌-◌, ◌<◌, ◌≤◌, List, [], ◌∷◌, ◌++◌}
 use Rattle.std.proofs.Common.{length, take, drop, refl, ap, sym, subst, arith, length-append}
-use Rattle.std.proofs.Common.{length-drop}
-use Rattle.std.proofs.Common.{slice_index_or}
+use Rattle.std.proofs.{Common.length-drop, Common.slice_index_or, Math.Seq.drop-append_seam}
 use Rattle.std.proofs.lemmas.List.{take-append-le, drop-append-le, take_all, get_or_default}
-use Rattle.std.proofs.Math.Seq.{drop-append_seam}
-use Rattle.replay_lists.specs.FrameList.{Kept, Holds, IsWhole, frames_from, AreEnds}
-use Rattle.replay_lists.specs.FrameList.{longest_frame}
-use Rattle.replay_lists.specs.declared.frame_list.Entry.{Entry}
-use Rattle.replay_lists.specs.declared.frame_list.FrameList.{FrameList}
 
 module _ {K : Type 0} where
   ends-rise : (start end : ℕ) (entries : List (Entry K)) → AreEnds start entries end → start ≤ end

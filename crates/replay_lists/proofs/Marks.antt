@@ -1,11 +1,10 @@
 -- Two recordings, and one item more.
-use Rattle.std.proofs.Common.{◌≡◌, ℕ, zero, suc, true, List, [], ◌∷◌, ◌++◌, refl, ap}
-use Rattle.yasir_ticks.specs.Ticks.{Item, ticks_in, marks_in, silent}
-use Rattle.yasir_ticks.specs.declared.tick.Tick.TheVariants.{Silent}
-use Rattle.tick_drive.specs.Items.{silent_items}
-use Rattle.yasir_ticks.specs.Ticks.Item.{tick, mark}
-use Rattle.tick_drive.proofs.ItemLaws.{ticks_in-append, ticks_in-mark}
 use Rattle.replay_lists.specs.Recordings.{has_mark, before_mark, behind_mark}
+use Rattle.std.proofs.Common.{◌≡◌, ℕ, zero, suc, true, List, [], ◌∷◌, ◌++◌, refl, ap}
+use Rattle.tick_drive.proofs.ItemLaws.{ticks_in-append, ticks_in-mark}
+use Rattle.tick_drive.specs.Items.{silent_items}
+use Rattle.yasir_ticks.specs.Ticks.{Item, ticks_in, marks_in, silent, Item.tick, Item.mark}
+use Rattle.yasir_ticks.specs.declared.tick.Tick.TheVariants.{Silent}
 
 -- ---- a tick
 

@@ -1,18 +1,14 @@
 -- The parts of some items, with the ticks of a run more.
-use Rattle.std.proofs.Common.{◌≡◌, ◌∙◌, ◌≤◌, ℕ, zero, suc, List, [], ◌∷◌, ◌++◌, map, take, refl, ap, sym}
-use Rattle.std.proofs.Common.{append-nil, arith}
-use Rattle.std.proofs.lemmas.List.{take-map}
-use Rattle.yasir_ticks.specs.Ticks.{Item, marks_in, silent}
-use Rattle.yasir_ticks.specs.Ticks.Item.{tick, mark}
-use Rattle.yasir_ticks.specs.TickRun.{run_ticks, run_items}
-use Rattle.yasir_ticks.specs.declared.tick.Tick.{Tick}
-use Rattle.yasir_ticks.specs.declared.tick_run.TickRun.{TickRun}
+use Rattle.std.proofs.Common.{◌≡◌, ◌∙◌, ◌≤◌, ℕ, zero, suc, List, [], ◌∷◌, ◌++◌, map, take, refl, ap}
+use Rattle.std.proofs.{Common.sym, Common.append-nil, Common.arith, lemmas.List.take-map}
+use Rattle.tick_lists.specs.{Parts.part, Places.place_after}
 use Rattle.yasir_ticks.proofs.TickRuns.{items_of_ticks}
-use Rattle.tick_lists.specs.Parts.{part}
-use Rattle.tick_lists.specs.Places.{place_after}
+use Rattle.yasir_ticks.specs.TickRun.{run_ticks, run_items}
+use Rattle.yasir_ticks.specs.Ticks.{Item, marks_in, silent, Item.tick, Item.mark}
+use Rattle.yasir_ticks.specs.declared.{tick.Tick.Tick, tick_run.TickRun.TickRun}
 use Rattle.tick_lists.specs.declared.tick_lists.Place.TheVariants as place
-use Rattle.tick_lists.proofs.Parting.{marks-mark, part-mark, place-none}
 use Rattle.replay_lists.specs.SessionLists.{link_of, rest_after}
+use Rattle.tick_lists.proofs.Parting.{marks-mark, part-mark, place-none}
 
 part-all : (ticks : List Tick) → part 0 (map tick ticks) ≡ ticks
 part-all [] = refl

@@ -1,16 +1,11 @@
 -- The first ticks of a run at a box or a device.
-use Rattle.std.proofs.Common.{◌≡◌, ℕ, ◌+◌, ◌≤◌, List, [], ◌∷◌, ◌++◌, length, take, ap, sym, subst}
-use Rattle.std.proofs.Common.{arith}
-use Rattle.std.proofs.lemmas.List.{length-take-le}
-use Rattle.yasir_ticks.specs.declared.tick.Tick.{Tick}
 use Rattle.link_format.specs.Setup.{Setup}
-use Rattle.replay_lists.specs.FrameBox.{AnswersFrameRun}
-use Rattle.replay_lists.specs.Lines.{GoesOn, TakesOn}
-use Rattle.replay_lists.specs.declared.frame_box.FrameBox.{Ghosts as FrameBox}
-use Rattle.replay_lists.specs.declared.frame_box.Numbered.{Numbered}
-use Rattle.replay_lists.specs.declared.frame_list.FrameList.{FrameList}
-use Rattle.replay_lists.proofs.Runs.{keeps-run}
-use Rattle.replay_lists.proofs.TakenLines.{goes-then}
+use Rattle.replay_lists.proofs.{Runs.keeps-run, TakenLines.goes-then}
+use Rattle.replay_lists.specs.{FrameBox.AnswersFrameRun, Lines.GoesOn, Lines.TakesOn}
+use Rattle.replay_lists.specs.declared.frame_box.{FrameBox.Ghosts as FrameBox, Numbered.Numbered}
+use Rattle.{replay_lists.specs.declared.frame_list.FrameList.FrameList, std.proofs.Common.◌≡◌}
+use Rattle.std.proofs.Common.{ℕ, ◌+◌, ◌≤◌, List, [], ◌∷◌, ◌++◌, length, take, ap, sym, subst, arith}
+use Rattle.{std.proofs.lemmas.List.length-take-le, yasir_ticks.specs.declared.tick.Tick.Tick}
 
 -- a box has taken some ticks at once, in which there is no frame
 pub passes-on : {B : Type 0} (box : FrameBox B) (old new : B) (list : FrameList Numbered)

@@ -1,25 +1,19 @@
 -- What a run of ticks changes: of items, and of what two recordings keep.
-use Rattle.std.proofs.Common.{◌≡◌, ◌∙◌, ℕ, ◌+◌, true, false, List, [], ◌∷◌, ◌++◌, length, map}
-use Rattle.std.proofs.Common.{take, refl, ap, sym, subst, arith}
-use Rattle.std.proofs.lemmas.List.{take-map}
-use Rattle.yasir_ticks.specs.Ticks.{Item, ticks_in}
-use Rattle.yasir_ticks.specs.Ticks.Item.{tick, mark}
-use Rattle.yasir_ticks.specs.TickRun.{run_ticks, run_items}
-use Rattle.yasir_ticks.specs.declared.tick.Tick.{Tick}
-use Rattle.yasir_ticks.specs.declared.tick_run.TickRun.{TickRun}
-use Rattle.yasir_ticks.proofs.TickRuns.{items_of_ticks}
-use Rattle.link_format.specs.Setup.{Setup}
 use Rattle.device_model.specs.declared.device.Device.{Ghosts as Device}
-use Rattle.replay_lists.specs.FrameBox.{AnswersFrameRun, kept_frames}
-use Rattle.replay_lists.specs.FrameList.{Holds}
+use Rattle.{link_format.specs.Setup.Setup, replay_lists.proofs.Listing.checks-same}
+use Rattle.replay_lists.proofs.{Listing.ready-same, Marks.before_mark-more, Marks.behind_mark-more}
+use Rattle.replay_lists.specs.{FrameBox.AnswersFrameRun, FrameBox.kept_frames, FrameList.Holds}
 use Rattle.replay_lists.specs.Recordings.{has_mark, before_mark, behind_mark}
 use Rattle.replay_lists.specs.ReplayLists.{KeepsFrames, Checks, GoesOnBy, IsReady}
-use Rattle.replay_lists.specs.declared.frame_box.FrameBox.{Ghosts as FrameBox}
-use Rattle.replay_lists.specs.declared.frame_box.Numbered.{Numbered}
+use Rattle.replay_lists.specs.declared.frame_box.{FrameBox.Ghosts as FrameBox, Numbered.Numbered}
 use Rattle.replay_lists.specs.declared.frame_list.FrameList.{FrameList}
 use Rattle.replay_lists.specs.declared.replay_lists.ReplayLists.{ReplayLists}
-use Rattle.replay_lists.proofs.Listing.{checks-same, ready-same}
-use Rattle.replay_lists.proofs.Marks.{before_mark-more, behind_mark-more}
+use Rattle.std.proofs.Common.{◌≡◌, ◌∙◌, ℕ, ◌+◌, true, false, List, [], ◌∷◌, ◌++◌, length, map, take}
+use Rattle.std.proofs.Common.{refl, ap, sym, subst, arith}
+use Rattle.{std.proofs.lemmas.List.take-map, yasir_ticks.proofs.TickRuns.items_of_ticks}
+use Rattle.yasir_ticks.specs.TickRun.{run_ticks, run_items}
+use Rattle.yasir_ticks.specs.Ticks.{Item, ticks_in, Item.tick, Item.mark}
+use Rattle.yasir_ticks.specs.declared.{tick.Tick.Tick, tick_run.TickRun.TickRun}
 
 -- ---- no mark among them
 

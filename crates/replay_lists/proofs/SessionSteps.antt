@@ -1,48 +1,34 @@
 -- What three recordings keep, by the first ticks of a run more.
-use Rattle.std.proofs.Common.{◌≡◌, ◌∙◌, ℕ, ◌+◌, ◌≤◌, ◌<◌, List, [], ◌∷◌, ◌++◌, length, take, suc, Option}
-use Rattle.std.proofs.Common.{Ok, Err, refl, ap, sym, subst, append-nil, arith}
-use Rattle.std.proofs.lemmas.List.{length-replicate}
-use Rattle.yasir_ticks.specs.Ticks.{Item, ticks_in, marks_in, silent}
-use Rattle.yasir_ticks.specs.Ticks.Item.{mark}
-use Rattle.yasir_ticks.specs.TickRun.{run_ticks, run_items}
-use Rattle.yasir_ticks.specs.declared.tick_run.TickRun.{TickRun}
-use Rattle.yasir_ticks.specs.declared.tick.Tick.{Tick}
-use Rattle.yasir_ticks.specs.declared.tick.Tick.TheVariants.{Silent}
-use Rattle.yasir_ticks.proofs.TickRuns.{length-run_items}
-use Rattle.device_model.specs.Frames.{FrameRead}
+use Rattle.device_model.specs.{Frames.FrameRead, declared.device.Device.Ghosts as Device}
 use Rattle.link_format.specs.NumberedFrame.{NumberedFrame}
-use Rattle.device_model.specs.declared.device.Device.{Ghosts as Device}
-use Rattle.tick_drive.specs.Consumers.{Gives, GivesFirst}
-use Rattle.tick_drive.specs.Drive.{Drives}
-use Rattle.tick_drive.specs.Input.{IsWhole, max_ticks}
-use Rattle.tick_drive.specs.declared.consumer.Stop.TheVariants.{NoMemory}
-use Rattle.tick_drive.specs.declared.end.End.{End}
-use Rattle.tick_drive.specs.declared.end.End.TheVariants.{Whole, Refused, TooLong, ReadFault}
-use Rattle.tick_drive.specs.declared.end.End.TheVariants.{Stopped}
-use Rattle.tick_drive.proofs.ItemLaws.{ticks_in-front}
-use Rattle.tick_lists.specs.Parts.{part}
-use Rattle.tick_lists.specs.Places.{place_behind, place_after}
+use Rattle.std.proofs.Common.{◌≡◌, ◌∙◌, ℕ, ◌+◌, ◌≤◌, ◌<◌, List, [], ◌∷◌, ◌++◌, length, take, suc}
+use Rattle.std.proofs.Common.{Option, Ok, Err, refl, ap, sym, subst, append-nil, arith}
+use Rattle.{std.proofs.lemmas.List.length-replicate, tick_drive.proofs.ItemLaws.ticks_in-front}
+use Rattle.tick_drive.specs.{Consumers.Gives, Consumers.GivesFirst, Drive.Drives, Input.IsWhole}
+use Rattle.tick_drive.specs.{Input.max_ticks, declared.consumer.Stop.TheVariants.NoMemory}
+use Rattle.tick_drive.specs.declared.end.End.{End, TheVariants.Whole}
+use Rattle.tick_drive.specs.declared.end.End.TheVariants.{Refused, TooLong, ReadFault, Stopped}
+use Rattle.tick_lists.specs.{Parts.part, Places.place_behind, Places.place_after}
 use Rattle.tick_lists.specs.declared.tick_lists.Place.{Place}
+use Rattle.yasir_ticks.{proofs.TickRuns.length-run_items, specs.TickRun.run_ticks}
+use Rattle.yasir_ticks.specs.{TickRun.run_items, Ticks.Item, Ticks.ticks_in, Ticks.marks_in}
+use Rattle.yasir_ticks.specs.{Ticks.silent, Ticks.Item.mark, declared.tick.Tick.Tick}
+use Rattle.yasir_ticks.specs.declared.{tick.Tick.TheVariants.Silent, tick_run.TickRun.TickRun}
 use Rattle.tick_lists.specs.declared.tick_lists.Place.TheVariants as place
-use Rattle.tick_lists.proofs.Parting.{marks-mark, part-mark}
+use Rattle.replay_lists.proofs.{Comparing.found-none, Parted.front-here}
+use Rattle.replay_lists.proofs.Parted.{front-there, front-marks, marks-first, marks-second}
+use Rattle.replay_lists.proofs.Parted.{part-empty, link-there, link-here, link-mark, link-ends}
 use Rattle.replay_lists.specs.Comparison.{Compares, expected_reads}
-use Rattle.replay_lists.specs.FrameBox.{kept_frames}
-use Rattle.replay_lists.specs.FrameList.{Holds}
-use Rattle.replay_lists.specs.Lines.{TakesOn, HearsOn}
+use Rattle.replay_lists.specs.{FrameBox.kept_frames, FrameList.Holds, Lines.TakesOn, Lines.HearsOn}
 use Rattle.replay_lists.specs.ReplayLists.{KeepsFrames}
-use Rattle.replay_lists.specs.SessionLists.{Setups, HasSession, TakesParts, IsOpen, parting}
-use Rattle.replay_lists.specs.SessionLists.{session_taken, expected_of, link_of, rest_after, rest_left}
 use Rattle.replay_lists.specs.SessionListed.{MayListSession, ListsSession, EndsThree}
-use Rattle.replay_lists.specs.declared.comparison.Comparison.{Comparison}
-use Rattle.replay_lists.specs.declared.frame_box.FrameBox.{Ghosts as FrameBox}
-use Rattle.replay_lists.specs.declared.frame_box.Numbered.{Numbered}
+use Rattle.replay_lists.specs.SessionLists.{Setups, HasSession, TakesParts, IsOpen, parting}
+use Rattle.replay_lists.specs.SessionLists.{session_taken, expected_of, link_of, rest_after}
+use Rattle.replay_lists.specs.{SessionLists.rest_left, declared.comparison.Comparison.Comparison}
+use Rattle.replay_lists.specs.declared.frame_box.{FrameBox.Ghosts as FrameBox, Numbered.Numbered}
 use Rattle.replay_lists.specs.declared.frame_list.FrameList.{FrameList}
-use Rattle.replay_lists.specs.declared.session_lists.Timing.{Timing}
-use Rattle.replay_lists.specs.declared.session_lists.SessionLists.{SessionLists}
-use Rattle.replay_lists.proofs.Parted.{front-here, front-there, front-marks, marks-first}
-use Rattle.replay_lists.proofs.Parted.{marks-second, part-empty, link-there, link-here}
-use Rattle.replay_lists.proofs.Parted.{link-mark, link-ends}
-use Rattle.replay_lists.proofs.Comparing.{found-none}
+use Rattle.replay_lists.specs.declared.session_lists.{SessionLists.SessionLists, Timing.Timing}
+use Rattle.tick_lists.proofs.Parting.{marks-mark, part-mark}
 
 module _ {V : Type 0} (v : Device V) (value : V) (comparison : Comparison) where
   -- what is expected, and what was heard, are said otherwise

@@ -1,25 +1,17 @@
 -- Ticks that are taken one behind the other, and what is kept of them.
-use Rattle.std.proofs.Common.{◌≡◌, ◌∙◌, ℕ, ◌+◌, ◌≤◌, ◌<◌, suc, List, [], ◌∷◌, ◌++◌, length, take}
-use Rattle.std.proofs.Common.{get_or, refl, ap, sym, subst, arith, append-nil, append_assoc}
-use Rattle.std.proofs.Common.{length-append}
-use Rattle.std.proofs.lemmas.List.{take_more}
-use Rattle.yasir_ticks.specs.Ticks.{silent}
-use Rattle.yasir_ticks.specs.declared.tick.Tick.{Tick}
-use Rattle.yasir_ticks.specs.declared.tick.Tick.TheVariants.{Silent}
-use Rattle.replay_lists.specs.FrameBox.{kept_frames}
-use Rattle.replay_lists.specs.FrameList.{Holds, list_len}
-use Rattle.link_format.specs.Setup.{Setup}
-use Rattle.link_format.specs.NumberedFrame.{NumberedFrame}
-use Rattle.device_model.specs.Frames.{FrameRead}
-use Rattle.device_model.specs.declared.device.Device.{Ghosts as Device}
-use Rattle.replay_lists.specs.Comparison.{Compares, Found, expected_reads}
-use Rattle.replay_lists.specs.Lines.{GoesOn, TakesOn, HearsOn}
-use Rattle.replay_lists.specs.ReplayLists.{KeepsFrames, StepsInto}
-use Rattle.replay_lists.specs.declared.comparison.Comparison.{Comparison}
-use Rattle.replay_lists.specs.declared.frame_box.FrameBox.{Ghosts as FrameBox}
-use Rattle.replay_lists.specs.declared.frame_box.Numbered.{Numbered}
-use Rattle.replay_lists.specs.declared.frame_list.FrameList.{FrameList}
+use Rattle.device_model.specs.{Frames.FrameRead, declared.device.Device.Ghosts as Device}
+use Rattle.link_format.specs.{NumberedFrame.NumberedFrame, Setup.Setup}
 use Rattle.replay_lists.proofs.HeardRuns.{silent_on}
+use Rattle.replay_lists.specs.Comparison.{Compares, Found, expected_reads}
+use Rattle.replay_lists.specs.{FrameBox.kept_frames, FrameList.Holds, FrameList.list_len}
+use Rattle.replay_lists.specs.{Lines.GoesOn, Lines.TakesOn, Lines.HearsOn, ReplayLists.KeepsFrames}
+use Rattle.replay_lists.specs.{ReplayLists.StepsInto, declared.comparison.Comparison.Comparison}
+use Rattle.replay_lists.specs.declared.frame_box.{FrameBox.Ghosts as FrameBox, Numbered.Numbered}
+use Rattle.{replay_lists.specs.declared.frame_list.FrameList.FrameList, std.proofs.Common.◌≡◌}
+use Rattle.std.proofs.Common.{◌∙◌, ℕ, ◌+◌, ◌≤◌, ◌<◌, suc, List, [], ◌∷◌, ◌++◌, length, take, get_or}
+use Rattle.std.proofs.Common.{refl, ap, sym, subst, arith, append-nil, append_assoc, length-append}
+use Rattle.{std.proofs.lemmas.List.take_more, yasir_ticks.specs.Ticks.silent}
+use Rattle.yasir_ticks.specs.declared.tick.Tick.{Tick, TheVariants.Silent}
 
 module _ {O S L : Type 0} (taken : S → ℕ) (size : L → ℕ)
     (keeps : O → S → L → List Tick → Type 0) where

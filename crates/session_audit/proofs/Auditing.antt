@@ -1,44 +1,30 @@
 -- What a verdict says, and when two lists of reads don't differ.
-use Rattle.std.proofs.Common.{◌≡◌, ◌≢◌, ◌∙◌, ℕ, suc, ◌==◌, ◌&&◌, Bool, true, false, List, [], ◌∷◌}
-use Rattle.std.proofs.Common.{length, map, bytes_eq, Option, Some, None, option_map, refl, sym, ap}
-use Rattle.std.proofs.Common.{subst, ⊎_elim, Result, if◌then◌else◌}
-use Rattle.std.specs.Prelude.{IfOk}
-use Rattle.std.proofs.lemmas.Bool.{cases_Bool, and_parts, and_from, eqb-true, eq-eqb, cond-true}
-use Rattle.std.proofs.lemmas.Bool.{cond-false, cond_both}
-use Rattle.std.proofs.lemmas.Slice.Eq.{bytes_eq-Decides}
-use Rattle.yasir_ticks.specs.Ticks.{AreTicks}
-use Rattle.yasir_ticks.specs.declared.tick.Tick.{Tick}
-use Rattle.line_rules.specs.RulesLaws.{IsLawful}
-use Rattle.rtu_frame.specs.Rules.{rtu_rules}
-use Rattle.dnp_link_frame.specs.Rules.{dnp_rules}
-use Rattle.device_model.specs.DnpReads.{dnp_reads}
-use Rattle.device_model.specs.Frames.{FrameRead}
-use Rattle.device_model.specs.RtuReads.{rtu_reads}
+use Rattle.device_model.specs.{DnpReads.dnp_reads, Frames.FrameRead, RtuReads.rtu_reads}
+use Rattle.{dnp_link_frame.specs.Rules.dnp_rules, line_rules.specs.RulesLaws.IsLawful}
 use Rattle.link_format.specs.NumberedFrame.{NumberedFrame, numbers_of}
-use Rattle.link_format.specs.Profile.{delay}
-use Rattle.link_format.specs.Y18.{y18}
-use Rattle.link_format.specs.Y24.{y24}
-use Rattle.sequence_journal.specs.Uptimes.{RiseFrom}
-use Rattle.sequence_journal.specs.declared.numbers.TheConstants.{LIMIT}
-use Rattle.receiver_laws.specs.Accounted.{forged, is_among, pairs_of, rightly_passed}
-use Rattle.receiver_laws.specs.Accounted.{IsSubsequence, IsAccountedFor}
-use Rattle.receiver_laws.specs.AllLeft.{ReadsAllThatPassed}
-use Rattle.receiver_laws.specs.Headline.{bytes_read, bytes_sealed}
-use Rattle.receiver_laws.specs.Reading.{delivered}
+use Rattle.link_format.specs.{Profile.delay, Y18.y18, Y24.y24}
 use Rattle.receiver_laws.proofs.Accounting.{sealed-rise, rising-accounted}
 use Rattle.receiver_laws.proofs.Headline.{all-stay, bytes-delivered, passed-sealed}
 use Rattle.receiver_laws.proofs.Rising.{have_passed}
+use Rattle.receiver_laws.specs.Accounted.{forged, is_among, pairs_of, rightly_passed, IsSubsequence}
+use Rattle.receiver_laws.specs.{Accounted.IsAccountedFor, AllLeft.ReadsAllThatPassed}
+use Rattle.receiver_laws.specs.{Headline.bytes_read, Headline.bytes_sealed, Reading.delivered}
 use Rattle.replay_lists.specs.Comparison.{is_same_read, first_difference, read_later}
-use Rattle.tick_drive.specs.declared.end.End.{End}
-use Rattle.session_audit.specs.AuditedInput.{AuditsInput}
-use Rattle.session_audit.specs.Clean.{IsClean}
-use Rattle.session_audit.specs.Sessions.{LinkKind, link_profile_of, kind_of, sent_profile, got_profile}
-use Rattle.session_audit.specs.Sessions.{sealed_in, passed_in, read_in, line_received}
-use Rattle.session_audit.specs.Sessions.{verdict_with, verdict_of}
-use Rattle.session_audit.specs.Verdicts.{verdict_by}
-use Rattle.session_audit.specs.declared.session.Session.{Session}
-use Rattle.session_audit.specs.declared.verdict.Verdict.{Verdict}
+use Rattle.rtu_frame.specs.Rules.{rtu_rules}
+use Rattle.sequence_journal.specs.{Uptimes.RiseFrom, declared.numbers.TheConstants.LIMIT}
+use Rattle.session_audit.specs.{AuditedInput.AuditsInput, Clean.IsClean, Sessions.LinkKind}
+use Rattle.session_audit.specs.Sessions.{link_profile_of, kind_of, sent_profile, got_profile}
+use Rattle.session_audit.specs.Sessions.{sealed_in, passed_in, read_in, line_received, verdict_with}
+use Rattle.session_audit.specs.{Sessions.verdict_of, Verdicts.verdict_by}
+use Rattle.session_audit.specs.declared.{session.Session.Session, verdict.Verdict.Verdict}
 use Rattle.session_audit.specs.declared.verdict.Verdict.TheVariants.{Clean, Forged, Differs}
+use Rattle.std.proofs.Common.{◌≡◌, ◌≢◌, ◌∙◌, ℕ, suc, ◌==◌, ◌&&◌, Bool, true, false, List, [], ◌∷◌}
+use Rattle.std.proofs.Common.{length, map, bytes_eq, Option, Some, None, option_map, refl, sym, ap}
+use Rattle.std.proofs.Common.{subst, ⊎_elim, Result, if◌then◌else◌}
+use Rattle.std.proofs.lemmas.Bool.{cases_Bool, and_parts, and_from, eqb-true, eq-eqb, cond-true}
+use Rattle.std.proofs.lemmas.{Bool.cond-false, Bool.cond_both, Slice.Eq.bytes_eq-Decides}
+use Rattle.{std.specs.Prelude.IfOk, tick_drive.specs.declared.end.End.End}
+use Rattle.yasir_ticks.specs.{Ticks.AreTicks, declared.tick.Tick.Tick}
 
 -- ---- lists of reads
 

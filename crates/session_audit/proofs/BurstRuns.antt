@@ -1,25 +1,21 @@
 -- The bytes of a line's last burst, by one tick more, and by a run.
+use Rattle.frame_ending.proofs.BurstSteps.{longer-bytes, longer-end}
+use Rattle.frame_ending.proofs.LastBurst.{grown, last_burst-byte, last_burst-silent, last_burst-nil}
+use Rattle.frame_ending.proofs.LastBurst.{IsWithin, last_burst-within}
+use Rattle.frame_ending.proofs.LiveTicks.{bytes_up_to, live_ticks-bytes}
+use Rattle.frame_ending.specs.{LiveBytes.live_bytes, SoFar.last_burst}
+use Rattle.frame_ending.specs.SoFar.{quiet_in, quiet_so_far, live_bytes_in, live_bytes_so_far}
+use Rattle.line_rules.specs.Rules.{Rules}
+use Rattle.session_audit.specs.BurstBytes.{burst_bytes_in, burst_bytes_so_far, BurstFor}
+use Rattle.session_audit.specs.declared.burst_bytes.BurstBytes.{BurstBytes}
 use Rattle.std.proofs.Common.{◌≡◌, ◌∙◌, ℕ, zero, suc, ◌+◌, ◌-◌, ◌<◌, ◌≤◌, List, [], ◌∷◌, ◌++◌}
-use Rattle.std.proofs.Common.{length}
-use Rattle.std.proofs.Common.{refl, ap, sym, arith, ⊎_elim, Option, Some, None, IfSome, map}
+use Rattle.std.proofs.Common.{length, refl, ap, sym, arith, ⊎_elim, Option, Some, None, IfSome, map}
 use Rattle.std.proofs.Common.{take, min, length-append, append-nil, append_assoc}
 use Rattle.std.proofs.lemmas.Bool.{cases_lt, lt-ltb, le-ltb, cond-true, cond-false}
 use Rattle.std.proofs.lemmas.List.{length-replicate, take_all}
-use Rattle.yasir_ticks.specs.Bursts.{Burst, end_of}
-use Rattle.yasir_ticks.specs.Ticks.{silent, bytes_in}
-use Rattle.yasir_ticks.specs.declared.tick.Tick.{Tick}
-use Rattle.yasir_ticks.specs.declared.tick.Tick.TheVariants.{Silent, Byte}
 use Rattle.yasir_ticks.proofs.BurstLaws.{alone, with_last}
-use Rattle.line_rules.specs.Rules.{Rules}
-use Rattle.frame_ending.specs.LiveBytes.{live_bytes}
-use Rattle.frame_ending.specs.SoFar.{last_burst, quiet_in, quiet_so_far, live_bytes_in}
-use Rattle.frame_ending.specs.SoFar.{live_bytes_so_far}
-use Rattle.frame_ending.proofs.LastBurst.{grown, last_burst-byte, last_burst-silent, last_burst-nil}
-use Rattle.frame_ending.proofs.LastBurst.{IsWithin, last_burst-within}
-use Rattle.frame_ending.proofs.BurstSteps.{longer-bytes, longer-end}
-use Rattle.frame_ending.proofs.LiveTicks.{bytes_up_to, live_ticks-bytes}
-use Rattle.session_audit.specs.BurstBytes.{burst_bytes_in, burst_bytes_so_far, BurstFor}
-use Rattle.session_audit.specs.declared.burst_bytes.BurstBytes.{BurstBytes}
+use Rattle.yasir_ticks.specs.{Bursts.Burst, Bursts.end_of, Ticks.silent, Ticks.bytes_in}
+use Rattle.yasir_ticks.specs.declared.tick.Tick.{Tick, TheVariants.Silent, TheVariants.Byte}
 
 longer-line : (line : List Tick) (t : Tick) → length (line ++ t ∷ []) ≡ length line + 1
 longer-line line t = length-append line (t ∷ [])

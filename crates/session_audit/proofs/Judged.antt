@@ -1,11 +1,10 @@
 -- What the lists of an audit are asked, place by place.
-use Rattle.std.proofs.Common.{◌≡◌, ◌∙◌, ℕ, ◌+◌, ◌<◌, Bool, true, false, not, List, ◌∷◌, length, drop}
-use Rattle.std.proofs.Common.{get_or, sym, ap, if◌then◌else◌}
+use Rattle.{link_format.specs.NumberedFrame.NumberedFrame, receiver_laws.specs.Accounted.forged}
+use Rattle.{receiver_laws.specs.Accounted.is_among, replay_lists.specs.FrameBox.kept_frames}
+use Rattle.replay_lists.specs.{FrameBox.kept_numbered, declared.frame_box.Numbered.Numbered}
+use Rattle.std.proofs.Common.{◌≡◌, ◌∙◌, ℕ, ◌+◌, ◌<◌, Bool, true, false, not, List, ◌∷◌, length}
+use Rattle.std.proofs.Common.{drop, get_or, sym, ap, if◌then◌else◌}
 use Rattle.std.proofs.lemmas.List.{drop_more, get_or-map}
-use Rattle.link_format.specs.NumberedFrame.{NumberedFrame}
-use Rattle.receiver_laws.specs.Accounted.{forged, is_among}
-use Rattle.replay_lists.specs.FrameBox.{kept_frames, kept_numbered}
-use Rattle.replay_lists.specs.declared.frame_box.Numbered.{Numbered}
 
 -- ---- frames as they were kept
 

@@ -1,27 +1,22 @@
 -- The note of a step is that of the line's last burst.
-use Rattle.std.proofs.Common.{◌≡◌, ◌∙◌, ◌==◌, ℕ, ◌+◌, ◌<◌, ◌≤◌, false, List, [], ◌∷◌}
-use Rattle.std.proofs.Common.{◌++◌, length, refl, ap, sym, subst, arith, ⊎_elim, Option, Some, None}
-use Rattle.std.proofs.Common.{length-append, IfSome}
-use Rattle.std.proofs.lemmas.Bool.{cases_Bool, cond-true, cond-false}
-use Rattle.std.proofs.lemmas.List.Elements.{filter_map-append}
-use Rattle.std.proofs.lemmas.List.{map-append, append_cancel_left}
-use Rattle.yasir_ticks.specs.Bursts.{Burst, bursts, end_of}
-use Rattle.yasir_ticks.specs.BurstsOf.{IsContiguous}
-use Rattle.yasir_ticks.specs.BurstsOf.IsContiguous.{one, more}
-use Rattle.yasir_ticks.specs.declared.TheConstants.{T3_5_TICKS}
-use Rattle.yasir_ticks.specs.declared.tick.Tick.{Tick}
-use Rattle.line_rules.specs.Rules.{Rules}
-use Rattle.frame_ending.specs.LiveBytes.{live_bytes}
-use Rattle.frame_ending.specs.SoFar.{last_of, live_bytes_in, live_bytes_so_far}
-use Rattle.burst_walk.specs.Walk.{Walker, Noted, noted, walked, notes_of, notes_at}
-use Rattle.burst_walk.specs.Causal.{IsCausal, AddsOneTick}
-use Rattle.burst_walk.specs.Answers.{AnswersTick, told_notes, note_in}
 use Rattle.burst_walk.proofs.Spread.{AreSpread, EndBy, bursts-spread, bursts-end}
 use Rattle.burst_walk.proofs.Walks.{adds_one_tick}
-use Rattle.link_format.specs.NumberedFrame.{NumberedFrame}
-use Rattle.replay_lists.specs.FrameBox.{frame_told}
-use Rattle.replay_lists.specs.declared.frame_box.Numbered.{Numbered}
+use Rattle.burst_walk.specs.Answers.{AnswersTick, told_notes, note_in}
+use Rattle.burst_walk.specs.Causal.{IsCausal, AddsOneTick}
+use Rattle.burst_walk.specs.Walk.{Walker, Noted, noted, walked, notes_of, notes_at}
+use Rattle.frame_ending.specs.LiveBytes.{live_bytes}
+use Rattle.frame_ending.specs.SoFar.{last_of, live_bytes_in, live_bytes_so_far}
+use Rattle.{line_rules.specs.Rules.Rules, link_format.specs.NumberedFrame.NumberedFrame}
+use Rattle.replay_lists.specs.{FrameBox.frame_told, declared.frame_box.Numbered.Numbered}
 use Rattle.session_audit.specs.FramesOf.{frames_among, numbered, told_by, HasFrames}
+use Rattle.std.proofs.Common.{◌≡◌, ◌∙◌, ◌==◌, ℕ, ◌+◌, ◌<◌, ◌≤◌, false, List, [], ◌∷◌, ◌++◌, length}
+use Rattle.std.proofs.Common.{refl, ap, sym, subst, arith, ⊎_elim, Option, Some, None}
+use Rattle.std.proofs.Common.{length-append, IfSome}
+use Rattle.std.proofs.lemmas.Bool.{cases_Bool, cond-true, cond-false}
+use Rattle.std.proofs.lemmas.List.{map-append, append_cancel_left, Elements.filter_map-append}
+use Rattle.yasir_ticks.specs.Bursts.{Burst, bursts, end_of}
+use Rattle.yasir_ticks.specs.BurstsOf.{IsContiguous, IsContiguous.one, IsContiguous.more}
+use Rattle.yasir_ticks.specs.declared.{TheConstants.T3_5_TICKS, tick.Tick.Tick}
 
 some_tick : (cut : ℕ) (body : List Tick) → IsContiguous cut body → 0 < length body
 some_tick cut body (one b) = omega arith

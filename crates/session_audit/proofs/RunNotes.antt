@@ -1,17 +1,12 @@
 -- A run of ticks without a note is one without a frame.
-use Rattle.std.proofs.Common.{◌≡◌, ◌∙◌, List, [], ◌++◌, length, Option, ap, arith, append-nil}
-use Rattle.std.proofs.Common.{length-append}
-use Rattle.std.proofs.lemmas.List.{length-map, nil_from_length}
-use Rattle.yasir_ticks.specs.declared.tick.Tick.{Tick}
-use Rattle.burst_walk.specs.Walk.{Walker, Noted, notes_of, line_of}
-use Rattle.burst_walk.specs.Causal.{IsCausal}
-use Rattle.burst_walk.specs.Answers.{told_notes}
-use Rattle.burst_walk.specs.Longer.{Begins}
-use Rattle.burst_walk.specs.Runs.{AnswersRun}
 use Rattle.burst_walk.proofs.Longer.{extends, length-line_of}
+use Rattle.burst_walk.specs.{Answers.told_notes, Causal.IsCausal, Longer.Begins, Runs.AnswersRun}
+use Rattle.burst_walk.specs.Walk.{Walker, Noted, notes_of, line_of}
 use Rattle.link_format.specs.NumberedFrame.{NumberedFrame}
-use Rattle.replay_lists.specs.FrameBox.{AnswersFrameRun}
-use Rattle.session_audit.specs.FramesOf.{frames_among}
+use Rattle.{replay_lists.specs.FrameBox.AnswersFrameRun, session_audit.specs.FramesOf.frames_among}
+use Rattle.std.proofs.Common.{◌≡◌, ◌∙◌, List, [], ◌++◌, length, Option, ap, arith, append-nil}
+use Rattle.std.proofs.{Common.length-append, lemmas.List.length-map, lemmas.List.nil_from_length}
+use Rattle.yasir_ticks.specs.declared.tick.Tick.{Tick}
 
 module _ {S N A : Type 0} (w : Walker S N) (causal : IsCausal w) (brief : N → A) (begun : S)
     (line run answer : List Tick) (answers : AnswersRun w brief begun line run answer) where

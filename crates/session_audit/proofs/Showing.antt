@@ -1,11 +1,9 @@
 -- The live bytes are at the front of what is kept of a burst.
-use Rattle.std.proofs.Common.{◌≡◌, ◌∙◌, ℕ, ◌≤◌, List, length, ap, arith, take}
-use Rattle.std.proofs.lemmas.List.{take-take}
-use Rattle.line_rules.specs.declared.line_rules.LineRules.{Ghosts as LineRules}
-use Rattle.yasir_ticks.specs.declared.tick.Tick.{Tick}
 use Rattle.frame_ending.specs.SoFar.{live_bytes_so_far}
-use Rattle.session_audit.specs.BurstBytes.{burst_bytes_so_far}
-use Rattle.session_audit.proofs.BurstRuns.{live-first}
+use Rattle.line_rules.specs.declared.line_rules.LineRules.{Ghosts as LineRules}
+use Rattle.session_audit.{proofs.BurstRuns.live-first, specs.BurstBytes.burst_bytes_so_far}
+use Rattle.std.proofs.Common.{◌≡◌, ◌∙◌, ℕ, ◌≤◌, List, length, ap, arith, take}
+use Rattle.{std.proofs.lemmas.List.take-take, yasir_ticks.specs.declared.tick.Tick.Tick}
 
 pub shown-live : {R : Type 0} (proto : LineRules R) (rules : R) (count : ℕ) (kept : List ℕ)
     (line : List Tick) → proto.MAX ≤ 292

@@ -1,11 +1,9 @@
 -- Boxes that have taken nothing, over new journals on disks that never fail.
+use Rattle.burst_walk.specs.Walk.{Walker, notes_of, line_of}
+use Rattle.sequence_journal.specs.{Journal.journal_floor, declared.journal.Journal.Journal}
 use Rattle.std.proofs.Common.{◌≡◌, ℕ, [], refl, Result, Ok, Err, arith}
 use Rattle.std.specs.Prelude.{OnErr, IfOk, IsOk}
-use Rattle.yasir_io.specs.Causes.{Rose}
-use Rattle.yasir_ticks.specs.Bursts.{bursts_from}
-use Rattle.burst_walk.specs.Walk.{Walker, notes_of, line_of}
-use Rattle.sequence_journal.specs.declared.journal.Journal.{Journal}
-use Rattle.sequence_journal.specs.Journal.{journal_floor}
+use Rattle.{yasir_io.specs.Causes.Rose, yasir_ticks.specs.Bursts.bursts_from}
 
 -- a call on a disk that never fails
 pub never-fails : {T E : Type 0} (before now : ℕ) (result : Result T E) → now ≡ 0

@@ -1,10 +1,8 @@
 -- Verdicts on small lists of frames, computed.
-use Rattle.std.proofs.Common.{◌≡◌, ℕ, List, [], ◌∷◌, Some, None, refl}
-use Rattle.device_model.specs.Frames.{FrameRead}
-use Rattle.link_format.specs.NumberedFrame.{NumberedFrame}
-use Rattle.replay_lists.specs.Comparison.{first_difference}
-use Rattle.session_audit.specs.Verdicts.{verdict_on}
+use Rattle.{device_model.specs.Frames.FrameRead, link_format.specs.NumberedFrame.NumberedFrame}
+use Rattle.{replay_lists.specs.Comparison.first_difference, session_audit.specs.Verdicts.verdict_on}
 use Rattle.session_audit.specs.declared.verdict.Verdict.TheVariants.{Clean, Forged, Differs}
+use Rattle.std.proofs.Common.{◌≡◌, ℕ, List, [], ◌∷◌, Some, None, refl}
 
 abbrev frame : ℕ → ℕ → List ℕ → NumberedFrame
 frame number start bytes = record { number = number; start = start; frame = bytes }

@@ -1,15 +1,14 @@
 -- A right input, and no fault outside, give `Done`, or there is no memory.
-use Rattle.std.proofs.Common.{◌≡◌, ◌⊎◌, ℕ, inl, inr, List, Option, refl}
 use Rattle.line_texts.specs.Sending.{LineAndNotes, SinkTexts}
+use Rattle.replay_status.proofs.Readable.{not_refused, not_too_long}
 use Rattle.replay_status.specs.Causes.{InputCause, SinkCause, NoneRose}
-use Rattle.replay_status.specs.Readable.{IsReadable}
-use Rattle.replay_status.specs.declared.status.Status.{Status}
+use Rattle.replay_status.specs.{Readable.IsReadable, declared.status.Status.Status}
 use Rattle.replay_status.specs.declared.status.Status.TheVariants.{Done, Usage, BadTicks, ReadFault}
 use Rattle.replay_status.specs.declared.status.Status.TheVariants.{WriteFault, JournalFault}
 use Rattle.replay_status.specs.declared.status.Status.TheVariants.{TooLong, HasJournal, BadKey}
 use Rattle.replay_status.specs.declared.status.Status.TheVariants.{BadJournal, WrongLink, NoMemory}
-use Rattle.replay_status.proofs.Readable.{not_refused, not_too_long}
 use Rattle.space_replay.specs.SpacesLine.{SpacesLine, space_rest}
+use Rattle.std.proofs.Common.{◌≡◌, ◌⊎◌, ℕ, inl, inr, List, Option, refl}
 
 module _ (made : LineAndNotes) (before now : Option (List ℕ)) (held_before held_now : SinkTexts)
     (key0 key1 in0 in1 out0 out1 log0 log1 disk0 disk1 : ℕ) (readable : IsReadable before)

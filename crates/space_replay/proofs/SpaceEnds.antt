@@ -1,35 +1,25 @@
 -- How the run of `space` ends: from the end of its input to its status.
-use Rattle.std.proofs.Common.{◌≡◌, ◌∙◌, ℕ, ◌⊎◌, inl, inr, false, List, [], length, Option, subst}
-use Rattle.std.proofs.Common.{sym, ap, refl, append-nil}
-use Rattle.std.proofs.Math.Seq.{take-length}
-use Rattle.yasir_io.specs.TextBuffer.{waiting_bytes}
-use Rattle.yasir_io.specs.declared.sink.Sink.{Ghosts as Sink}
-use Rattle.yasir_ticks.specs.CanonicalText.{canonical_text}
-use Rattle.yasir_ticks.specs.Ticks.{Item, ticks_in}
-use Rattle.yasir_ticks.specs.declared.tick.Tick.{Tick}
 use Rattle.device_model.specs.Frames.{FrameRead}
-use Rattle.tick_drive.specs.Consumers.{is_write_fault}
-use Rattle.tick_drive.specs.Drive.{Drives, answer_of}
-use Rattle.tick_drive.specs.declared.consumer.Stop.{Stop}
-use Rattle.tick_drive.specs.declared.end.End.{End}
-use Rattle.tick_drive.specs.declared.end.End.TheVariants.{Whole, Refused, TooLong, ReadFault}
-use Rattle.tick_drive.specs.declared.end.End.TheVariants.{Stopped}
-use Rattle.line_spacer.specs.Arrivals.{arrivals_behind}
-use Rattle.line_spacer.specs.Spacing.{spaced, none_yet}
-use Rattle.line_texts.specs.Sending.{LineAndNotes, SinkTexts, Waiting, waiting, SendsTexts, HasSent}
-use Rattle.line_texts.specs.Sending.{HasSentFronts}
-use Rattle.line_texts.specs.Texts.{texts_held, waiting_in}
-use Rattle.line_texts.specs.Writer.{HasWritten}
-use Rattle.line_texts.specs.declared.texts.Texts.{Texts}
+use Rattle.line_spacer.specs.{Arrivals.arrivals_behind, Spacing.spaced, Spacing.none_yet}
 use Rattle.line_texts.proofs.Sending.{begins, notes_all}
-use Rattle.replay_status.specs.Endings.{status_of}
-use Rattle.replay_status.specs.declared.status.Status.{Status}
+use Rattle.line_texts.specs.Sending.{LineAndNotes, SinkTexts, Waiting, waiting, SendsTexts, HasSent}
+use Rattle.line_texts.specs.{Sending.HasSentFronts, Texts.texts_held, Texts.waiting_in}
+use Rattle.line_texts.specs.{Writer.HasWritten, declared.texts.Texts.Texts}
+use Rattle.replay_status.specs.{Endings.status_of, declared.status.Status.Status}
 use Rattle.replay_status.specs.declared.status.Status.TheVariants.{Done, WriteFault, NoMemory}
 use Rattle.space_replay.specs.SpacedLines.{SpacesItems, spacing, writing_behind}
 use Rattle.space_replay.specs.SpacedTexts.{most_waiting, arrival_lines, spaced_texts}
 use Rattle.space_replay.specs.SpacesLine.{DrivesSpacer, SpacesLine, TextsAtEnd, space_rest}
-use Rattle.space_replay.specs.declared.spacers.LineSpacer.{Ghosts as LineSpacer}
 use Rattle.space_replay.specs.declared.spaced_lines.SpacedLines.{SpacedLines}
+use Rattle.space_replay.specs.declared.spacers.LineSpacer.{Ghosts as LineSpacer}
+use Rattle.std.proofs.Common.{◌≡◌, ◌∙◌, ℕ, ◌⊎◌, inl, inr, false, List, [], length, Option, subst}
+use Rattle.std.proofs.{Common.sym, Common.ap, Common.refl, Common.append-nil, Math.Seq.take-length}
+use Rattle.tick_drive.specs.{Consumers.is_write_fault, Drive.Drives, Drive.answer_of}
+use Rattle.tick_drive.specs.declared.{consumer.Stop.Stop, end.End.End, end.End.TheVariants.Whole}
+use Rattle.tick_drive.specs.declared.end.End.TheVariants.{Refused, TooLong, ReadFault, Stopped}
+use Rattle.yasir_io.specs.{TextBuffer.waiting_bytes, declared.sink.Sink.Ghosts as Sink}
+use Rattle.yasir_ticks.specs.{CanonicalText.canonical_text, Ticks.Item, Ticks.ticks_in}
+use Rattle.yasir_ticks.specs.declared.tick.Tick.{Tick}
 
 -- of no tick nothing is made
 nothing_spaced : (reads : List Tick → List FrameRead) (gap : ℕ)

@@ -1,31 +1,24 @@
 -- A spacer and its texts have taken a run: what that does to the consumer.
-use Rattle.std.proofs.Common.{◌≡◌, ◌∙◌, ℕ, ◌+◌, ◌-◌, ◌<◌, ◌≤◌, List, [], ◌∷◌, ◌++◌, length, take, map}
-use Rattle.std.proofs.Common.{Ok, Err, refl, sym, ap, subst, arith}
-use Rattle.std.proofs.lemmas.Grind.{flat_map-append}
-use Rattle.yasir_io.specs.declared.Failed.{Failed}
-use Rattle.yasir_io.specs.declared.sink.Sink.{Ghosts as Sink}
-use Rattle.yasir_ticks.specs.Ticks.{Item, ticks_in}
-use Rattle.yasir_ticks.specs.Ticks.Item.{mark}
-use Rattle.yasir_ticks.specs.TickRun.{run_ticks, run_items}
-use Rattle.yasir_ticks.specs.declared.tick.Tick.{Tick}
-use Rattle.yasir_ticks.specs.declared.tick_run.TickRun.{TickRun}
-use Rattle.yasir_ticks.proofs.TickRuns.{length-run_items}
 use Rattle.device_model.specs.Frames.{FrameRead}
-use Rattle.tick_drive.specs.Consumers.{Gives, GivesFirst}
-use Rattle.tick_drive.specs.declared.consumer.Stop.TheVariants.{WriteFault}
-use Rattle.tick_drive.proofs.ItemLaws.{ticks_in-append, ticks_in-mark, ticks_in-front, length-front}
-use Rattle.line_spacer.specs.Arrivals.{arriving}
-use Rattle.line_spacer.specs.Spacing.{lost_of}
-use Rattle.line_spacer.specs.Stands.{AnswersSpaced}
+use Rattle.line_spacer.specs.{Arrivals.arriving, Spacing.lost_of, Stands.AnswersSpaced}
+use Rattle.line_texts.proofs.Sending.{sends_more, sent_in_part}
 use Rattle.line_texts.specs.Sending.{AnswersNoted, SinkTexts, SendsTexts, HasSentFronts}
 use Rattle.line_texts.specs.Texts.{texts_held, waiting_in, Pushes}
-use Rattle.line_texts.proofs.Sending.{sends_more, sent_in_part}
 use Rattle.space_replay.specs.SpacedLines.{SpacesItems, StopsSpacing, KeepsHeld, spacing}
-use Rattle.space_replay.specs.SpacedLines.{writing_behind}
-use Rattle.space_replay.specs.SpacedTexts.{most_waiting, lost_line, lost_lines, arrival_lines}
-use Rattle.space_replay.specs.SpacedTexts.{spaced_texts}
-use Rattle.space_replay.specs.declared.spacers.LineSpacer.{Ghosts as LineSpacer}
+use Rattle.space_replay.specs.{SpacedLines.writing_behind, SpacedTexts.most_waiting}
+use Rattle.space_replay.specs.SpacedTexts.{lost_line, lost_lines, arrival_lines, spaced_texts}
 use Rattle.space_replay.specs.declared.spaced_lines.SpacedLines.{SpacedLines}
+use Rattle.space_replay.specs.declared.spacers.LineSpacer.{Ghosts as LineSpacer}
+use Rattle.std.proofs.Common.{◌≡◌, ◌∙◌, ℕ, ◌+◌, ◌-◌, ◌<◌, ◌≤◌, List, [], ◌∷◌, ◌++◌, length, take}
+use Rattle.std.proofs.Common.{map, Ok, Err, refl, sym, ap, subst, arith}
+use Rattle.std.proofs.lemmas.Grind.{flat_map-append}
+use Rattle.tick_drive.proofs.ItemLaws.{ticks_in-append, ticks_in-mark, ticks_in-front, length-front}
+use Rattle.tick_drive.specs.Consumers.{Gives, GivesFirst}
+use Rattle.tick_drive.specs.declared.consumer.Stop.TheVariants.{WriteFault}
+use Rattle.yasir_io.specs.declared.{Failed.Failed, sink.Sink.Ghosts as Sink}
+use Rattle.yasir_ticks.{proofs.TickRuns.length-run_items, specs.TickRun.run_ticks}
+use Rattle.yasir_ticks.specs.{TickRun.run_items, Ticks.Item, Ticks.ticks_in, Ticks.Item.mark}
+use Rattle.yasir_ticks.specs.declared.{tick.Tick.Tick, tick_run.TickRun.TickRun}
 
 -- the lines of frames that are lost in one step
 lines_of_step : (step : ℕ) (lost : List FrameRead)

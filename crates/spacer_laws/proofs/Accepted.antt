@@ -1,18 +1,15 @@
 -- What is accepted: frames of the protocol, each of which begins as soon as it may.
-use Rattle.std.proofs.Common.{◌≡◌, ℕ, zero, suc, ◌+◌, ◌<◌, ◌≤◌, List, []}
-use Rattle.std.proofs.Common.{◌∷◌, ◌++◌, length, map, take, max, fold, refl, sym, subst, arith}
-use Rattle.std.proofs.Common.{true, ⊎_elim, length-append, append_assoc}
-use Rattle.std.specs.Prelude.{All}
-use Rattle.std.proofs.lemmas.Bool.{cases_lt, le-leb, lt-leb}
-use Rattle.std.proofs.lemmas.List.Elements.{All-append, All-drop, All-map}
-use Rattle.yasir_ticks.specs.Bursts.{Burst, end_of}
-use Rattle.yasir_ticks.specs.declared.tick.Tick.{Tick}
-use Rattle.line_rules.specs.Rules.{Rules}
-use Rattle.device_model.specs.Frames.{FrameRead}
+use Rattle.{device_model.specs.Frames.FrameRead, line_rules.specs.Rules.Rules}
 use Rattle.line_spacer.specs.Arrivals.{Arrival, arriving, gained, arrivals_behind, arrivals}
 use Rattle.line_spacer.specs.Spacing.{Spaced, count_from, free_from, sent_from, take_in}
 use Rattle.line_spacer.specs.Spacing.{accepted_of}
 use Rattle.spacer_laws.specs.SpacesOut.{IsSent, AreApart, ReadsFrames}
+use Rattle.std.proofs.Common.{◌≡◌, ℕ, zero, suc, ◌+◌, ◌<◌, ◌≤◌, List, [], ◌∷◌, ◌++◌, length, map}
+use Rattle.std.proofs.Common.{take, max, fold, refl, sym, subst, arith, true, ⊎_elim, length-append}
+use Rattle.std.proofs.{Common.append_assoc, lemmas.Bool.cases_lt, lemmas.Bool.le-leb}
+use Rattle.std.proofs.lemmas.{Bool.lt-leb, List.Elements.All-append, List.Elements.All-drop}
+use Rattle.std.{proofs.lemmas.List.Elements.All-map, specs.Prelude.All}
+use Rattle.yasir_ticks.specs.{Bursts.Burst, Bursts.end_of, declared.tick.Tick.Tick}
 
 pub all-first : {X : Type 0} (P : X → Type 0) (x : X) (xs : List X) → All P (x ∷ xs) → P x
 all-first P x xs all = all 0 x (omega arith)

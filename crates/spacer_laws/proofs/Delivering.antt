@@ -1,27 +1,21 @@
 -- What is sealed of a spaced line, and passes on an untouched link.
-use Rattle.std.proofs.Common.{◌≡◌, ◌∙◌, ℕ, suc, ◌+◌, ◌-◌, ◌≤◌, List, [], ◌∷◌}
-use Rattle.std.proofs.Common.{length, map, take, refl, sym, ap, subst, arith, false}
-use Rattle.std.proofs.lemmas.Bool.{le-ltb}
-use Rattle.std.proofs.lemmas.List.{length-map, take_all}
-use Rattle.yasir_ticks.specs.Ticks.{bytes_in}
-use Rattle.yasir_ticks.specs.Bursts.{Burst, bursts, end_of}
-use Rattle.yasir_ticks.specs.declared.tick.Tick.{Tick}
-use Rattle.yasir_ticks.specs.declared.tick.Tick.TheVariants.{Byte}
-use Rattle.line_rules.specs.Rules.{Rules}
-use Rattle.line_rules.specs.RulesLaws.{IsLawful, IsFramed}
-use Rattle.frame_ending.specs.LiveBytes.{before_pause, live_bytes, has_extra}
 use Rattle.device_model.specs.Frames.{FrameRead}
+use Rattle.frame_ending.specs.LiveBytes.{before_pause, live_bytes, has_extra}
+use Rattle.line_rules.specs.{Rules.Rules, RulesLaws.IsLawful, RulesLaws.IsFramed}
+use Rattle.line_spacer.specs.Spacing.{accepted_of, spaced_line}
 use Rattle.link_format.specs.Profile.{Profile, HasTags, pause_len, trailer_len, delay}
+use Rattle.receiver_laws.proofs.{Deliveries.delivers-all, Standing.bytes_in-byte_ticks}
 use Rattle.receiver_laws.specs.Headline.{bytes_sealed}
 use Rattle.receiver_laws.specs.Untouched.{AreSpaced, IsUntouched, numbered}
-use Rattle.receiver_laws.proofs.Deliveries.{delivers-all}
-use Rattle.receiver_laws.proofs.Standing.{bytes_in-byte_ticks}
-use Rattle.line_spacer.specs.Spacing.{accepted_of, spaced_line}
+use Rattle.spacer_laws.proofs.{Accepted.accepted-apart, Within.laid-bursts, Within.within-begun}
 use Rattle.spacer_laws.specs.Delivering.{IsSpacedForSealing, DeliversSpaced}
 use Rattle.spacer_laws.specs.Leaving.{HaveLeft}
 use Rattle.spacer_laws.specs.SpacesOut.{IsSent, AreApart, ReadsFrames, within}
-use Rattle.spacer_laws.proofs.Accepted.{accepted-apart}
-use Rattle.spacer_laws.proofs.Within.{laid-bursts, within-begun}
+use Rattle.std.proofs.Common.{◌≡◌, ◌∙◌, ℕ, suc, ◌+◌, ◌-◌, ◌≤◌, List, [], ◌∷◌, length, map, take}
+use Rattle.std.proofs.Common.{refl, sym, ap, subst, arith, false}
+use Rattle.std.proofs.lemmas.{Bool.le-ltb, List.length-map, List.take_all}
+use Rattle.yasir_ticks.specs.{Bursts.Burst, Bursts.bursts, Bursts.end_of, Ticks.bytes_in}
+use Rattle.yasir_ticks.specs.declared.tick.Tick.{Tick, TheVariants.Byte}
 
 unpaused : (x : List ℕ) → before_pause (map (λ b. Byte b) x) ≡ map (λ b. Byte b) x
 unfolding before_pause

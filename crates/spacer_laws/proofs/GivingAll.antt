@@ -1,25 +1,18 @@
 -- A spacer behind the receiver gives all that comes over an untouched link.
-use Rattle.std.proofs.Common.{◌≡◌, ◌∙◌, ℕ, suc, ◌+◌, ◌-◌, ◌*◌, ◌<◌, ◌≤◌, List, []}
-use Rattle.std.proofs.Common.{◌∷◌, ◌++◌, length, map, fold, refl, sym, ap, subst, arith, ⊎_elim}
-use Rattle.std.proofs.Common.{append_assoc}
-use Rattle.std.proofs.lemmas.Bool.{cases_lt}
-use Rattle.std.proofs.lemmas.List.{append-nil, length-map}
-use Rattle.std.proofs.Math.Nat.{mul-le-mul_right}
-use Rattle.yasir_ticks.specs.Ticks.{bytes_in}
-use Rattle.yasir_ticks.specs.Bursts.{Burst, end_of}
-use Rattle.yasir_ticks.specs.declared.tick.Tick.{Tick}
-use Rattle.yasir_ticks.specs.declared.tick.Tick.TheVariants.{Silent, Byte}
-use Rattle.device_model.specs.Frames.{FrameRead}
-use Rattle.burst_walk.proofs.Spread.{EndBy}
-use Rattle.line_spacer.specs.Arrivals.{Arrival, arrivals}
-use Rattle.line_spacer.specs.Spacing.{Spaced, count_from, free_from, sent_from, take_in}
-use Rattle.line_spacer.specs.Spacing.{accepted_of, lost_of}
-use Rattle.line_spacer.proofs.Sending.{free_from-append}
-use Rattle.spacer_laws.specs.GivingAll.{AreGiven}
-use Rattle.spacer_laws.specs.Leaving.{HaveLeft}
+use Rattle.{burst_walk.proofs.Spread.EndBy, device_model.specs.Frames.FrameRead}
+use Rattle.line_spacer.{proofs.Sending.free_from-append, specs.Arrivals.Arrival}
+use Rattle.line_spacer.specs.{Arrivals.arrivals, Spacing.Spaced, Spacing.count_from}
+use Rattle.line_spacer.specs.Spacing.{free_from, sent_from, take_in, accepted_of, lost_of}
 use Rattle.spacer_laws.proofs.Accepted.{begin_of, with_frame, taken-few}
-use Rattle.spacer_laws.proofs.Leaving.{count-one, count-none, count-appended}
 use Rattle.spacer_laws.proofs.LaidArrivals.{arrival_of}
+use Rattle.spacer_laws.proofs.Leaving.{count-one, count-none, count-appended}
+use Rattle.spacer_laws.specs.{GivingAll.AreGiven, Leaving.HaveLeft}
+use Rattle.std.proofs.Common.{◌≡◌, ◌∙◌, ℕ, suc, ◌+◌, ◌-◌, ◌*◌, ◌<◌, ◌≤◌, List, [], ◌∷◌, ◌++◌}
+use Rattle.std.proofs.Common.{length, map, fold, refl, sym, ap, subst, arith, ⊎_elim, append_assoc}
+use Rattle.std.proofs.Math.Nat.{mul-le-mul_right}
+use Rattle.std.proofs.lemmas.{Bool.cases_lt, List.append-nil, List.length-map}
+use Rattle.yasir_ticks.specs.{Bursts.Burst, Bursts.end_of, Ticks.bytes_in}
+use Rattle.yasir_ticks.specs.declared.tick.Tick.{Tick, TheVariants.Silent, TheVariants.Byte}
 
 bytes-few : (x : List Tick) → length (bytes_in x) ≤ length x
 bytes-few [] = omega arith

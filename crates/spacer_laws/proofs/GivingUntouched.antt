@@ -1,38 +1,29 @@
 -- What comes over an untouched link is given by a spacer behind the receiver.
-use Rattle.std.proofs.Common.{◌≡◌, ◌∙◌, ℕ, suc, ◌+◌, ◌-◌, ◌*◌, ◌≤◌, List, [], ◌∷◌, ◌++◌}
-use Rattle.std.proofs.Common.{length, map, refl, sym, ap, subst, arith, ⊎_elim, Bool, true}
-use Rattle.std.proofs.Common.{length-append, ◌&&◌, nat_le, cond, get_or}
-use Rattle.std.specs.Prelude.{All}
-use Rattle.std.specs.List.{filter}
-use Rattle.std.proofs.lemmas.Bool.{cases_Bool, and_parts, le-leb}
-use Rattle.std.proofs.lemmas.List.{length-map, length-replicate}
-use Rattle.std.proofs.lemmas.List.FromFn.{length-map-range_with_len}
-use Rattle.yasir_ticks.specs.Ticks.{silent}
-use Rattle.yasir_ticks.specs.Bursts.{Burst, bursts, end_of}
-use Rattle.yasir_ticks.specs.declared.tick.Tick.{Tick}
-use Rattle.yasir_ticks.specs.declared.tick.Tick.TheVariants.{Silent}
-use Rattle.line_rules.specs.Rules.{Rules}
-use Rattle.line_rules.specs.RulesLaws.{IsLawful, IsFramed}
-use Rattle.burst_walk.specs.Laid.{tick_at, laid, later}
-use Rattle.burst_walk.specs.Walk.{emitted}
 use Rattle.burst_walk.proofs.Spread.{AreSpread, EndBy, bursts-spread, bursts-end}
-use Rattle.device_model.specs.Frames.{FrameRead}
-use Rattle.device_model.specs.RtuReads.{frame_in}
+use Rattle.burst_walk.specs.{Laid.tick_at, Laid.laid, Laid.later, Walk.emitted}
 use Rattle.device_model.proofs.ReadLaws.{frames_ended}
+use Rattle.device_model.specs.{Frames.FrameRead, RtuReads.frame_in}
+use Rattle.line_rules.specs.{Rules.Rules, RulesLaws.IsLawful, RulesLaws.IsFramed}
+use Rattle.line_spacer.specs.{Arrivals.arrivals, Spacing.accepted_of, Spacing.lost_of}
 use Rattle.link_format.specs.Profile.{Profile, HasTags, pause_len, trailer_len, delay}
-use Rattle.seal_judgements.specs.Sealing.{link_line}
 use Rattle.link_verdicts.specs.Checking.{checker, at_floor, passed, received_line}
+use Rattle.receiver_laws.proofs.Deliveries.{delivers-all, untouched-emits}
 use Rattle.receiver_laws.specs.Reading.{delivered}
 use Rattle.receiver_laws.specs.Untouched.{AreSpaced, IsUntouched, numbered, untouched}
-use Rattle.receiver_laws.proofs.Deliveries.{delivers-all, untouched-emits}
-use Rattle.line_spacer.specs.Arrivals.{arrivals}
-use Rattle.line_spacer.specs.Spacing.{accepted_of, lost_of}
-use Rattle.spacer_laws.specs.GivingAll.{AreGiven, HasRoomFor, GivesAll}
+use Rattle.seal_judgements.specs.Sealing.{link_line}
 use Rattle.spacer_laws.proofs.Accepted.{all-first, all-others, all-cons}
 use Rattle.spacer_laws.proofs.GivingAll.{ComeApart, given-from, given-left}
 use Rattle.spacer_laws.proofs.Guarding.{HearsEmissions, emissions-apart}
-use Rattle.spacer_laws.proofs.LaidArrivals.{arrival_of, ended, arrivals-laid}
-use Rattle.spacer_laws.proofs.LaidArrivals.{contiguous-some}
+use Rattle.spacer_laws.proofs.LaidArrivals.{arrival_of, ended, arrivals-laid, contiguous-some}
+use Rattle.spacer_laws.specs.GivingAll.{AreGiven, HasRoomFor, GivesAll}
+use Rattle.std.proofs.Common.{◌≡◌, ◌∙◌, ℕ, suc, ◌+◌, ◌-◌, ◌*◌, ◌≤◌, List, [], ◌∷◌, ◌++◌, length}
+use Rattle.std.proofs.Common.{map, refl, sym, ap, subst, arith, ⊎_elim, Bool, true, length-append}
+use Rattle.std.proofs.Common.{◌&&◌, nat_le, cond, get_or}
+use Rattle.std.proofs.lemmas.Bool.{cases_Bool, and_parts, le-leb}
+use Rattle.std.proofs.lemmas.List.{length-map, length-replicate, FromFn.length-map-range_with_len}
+use Rattle.std.specs.{List.filter, Prelude.All}
+use Rattle.yasir_ticks.specs.{Bursts.Burst, Bursts.bursts, Bursts.end_of, Ticks.silent}
+use Rattle.yasir_ticks.specs.declared.tick.Tick.{Tick, TheVariants.Silent}
 
 -- ---- lists of which nothing is left out
 

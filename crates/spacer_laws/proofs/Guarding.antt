@@ -1,48 +1,33 @@
 -- A spacer behind the receiver gives only frames that have passed.
-use Rattle.std.proofs.Common.{◌≡◌, ◌∙◌, ℕ, ◌+◌, ◌<◌, ◌≤◌, List, []}
-use Rattle.std.proofs.Common.{◌∷◌, ◌++◌, length, map, fold, refl, sym, ap, subst, arith, ⊎_elim}
-use Rattle.std.proofs.Common.{Bool}
-use Rattle.std.proofs.Common.{append_assoc}
-use Rattle.std.proofs.lemmas.Bool.{cases_lt}
-use Rattle.std.proofs.lemmas.List.{append-nil, map-append}
-use Rattle.yasir_ticks.specs.Ticks.{silent}
-use Rattle.yasir_ticks.specs.Bursts.{Burst, bursts, end_of}
-use Rattle.yasir_ticks.specs.BurstsOf.{AreBursts}
-use Rattle.yasir_ticks.specs.declared.tick.Tick.{Tick}
-use Rattle.yasir_ticks.proofs.BurstsOfLaws.{bursts_from-are}
-use Rattle.line_rules.specs.Rules.{Rules}
-use Rattle.line_rules.specs.RulesLaws.{IsLawful, IsFramed}
-use Rattle.burst_walk.specs.Laid.{laid}
-use Rattle.burst_walk.specs.Walk.{emitted}
-use Rattle.burst_walk.proofs.LaidBursts.{bursts-laid}
-use Rattle.burst_walk.proofs.Spread.{AreSpread, bursts-spread}
-use Rattle.device_model.specs.Frames.{FrameRead}
-use Rattle.device_model.proofs.ReadLaws.{frames_ended}
-use Rattle.sequence_journal.specs.Uptimes.{RiseFrom}
+use Rattle.burst_walk.proofs.{LaidBursts.bursts-laid, Spread.AreSpread, Spread.bursts-spread}
+use Rattle.burst_walk.specs.{Laid.laid, Walk.emitted}
+use Rattle.device_model.{proofs.ReadLaws.frames_ended, specs.Frames.FrameRead}
+use Rattle.line_rules.specs.{Rules.Rules, RulesLaws.IsLawful, RulesLaws.IsFramed}
+use Rattle.line_spacer.{proofs.Sending.on_line, specs.Arrivals.Arrival, specs.Arrivals.arrivals}
+use Rattle.line_spacer.specs.Spacing.{Spaced, count_from, take_in, accepted_of, spaced_line}
 use Rattle.link_format.specs.NumberedFrame.{NumberedFrame, numbers_of}
 use Rattle.link_format.specs.Profile.{Profile, delay}
-use Rattle.seal_judgements.specs.Sealing.{sealed}
-use Rattle.link_verdicts.specs.Checking.{checker, at_floor, passed, received_line}
 use Rattle.link_verdicts.proofs.Apart.{emissions-spread}
-use Rattle.receiver_laws.specs.Accounted.{IsSubsequence}
-use Rattle.receiver_laws.specs.Accounted.IsSubsequence.{none, skip, keep}
-use Rattle.receiver_laws.specs.Headline.{bytes_sealed}
-use Rattle.receiver_laws.specs.Reading.{delivered, ReadsWhatPassed}
-use Rattle.receiver_laws.proofs.Headline.{passed-sealed}
-use Rattle.receiver_laws.proofs.OverUptimes.{accounted-for}
+use Rattle.link_verdicts.specs.Checking.{checker, at_floor, passed, received_line}
+use Rattle.receiver_laws.proofs.{Headline.passed-sealed, OverUptimes.accounted-for}
 use Rattle.receiver_laws.proofs.Rising.{have_passed}
 use Rattle.receiver_laws.proofs.Settled.{laid-longer, last_end, EndBy-last, EndBy-later}
 use Rattle.receiver_laws.proofs.Subsequences.{nothing-is, front-is, map-is, chain-is}
-use Rattle.line_spacer.specs.Arrivals.{Arrival, arrivals}
-use Rattle.line_spacer.specs.Spacing.{Spaced, count_from, take_in, accepted_of, spaced_line}
-use Rattle.line_spacer.proofs.Sending.{on_line}
-use Rattle.spacer_laws.specs.Guarding.{Placed, frames_placed, placed_ticks, StandApart}
-use Rattle.spacer_laws.specs.Guarding.{CarriesOnly, GivesOnlySealed}
-use Rattle.spacer_laws.specs.SpacesOut.{AreApart, ReadsFrames}
+use Rattle.receiver_laws.specs.Accounted.{IsSubsequence}
+use Rattle.receiver_laws.specs.Accounted.IsSubsequence.{none, skip, keep}
+use Rattle.receiver_laws.specs.{Headline.bytes_sealed, Reading.delivered, Reading.ReadsWhatPassed}
+use Rattle.{seal_judgements.specs.Sealing.sealed, sequence_journal.specs.Uptimes.RiseFrom}
 use Rattle.spacer_laws.proofs.Accepted.{accepted-apart, taken-few, taken-many, with_frame}
-use Rattle.spacer_laws.proofs.Accepted.{without_frame}
-use Rattle.spacer_laws.proofs.LaidArrivals.{frames-laid}
+use Rattle.spacer_laws.proofs.{Accepted.without_frame, LaidArrivals.frames-laid}
 use Rattle.spacer_laws.proofs.Within.{apart-spread}
+use Rattle.spacer_laws.specs.Guarding.{Placed, frames_placed, placed_ticks, StandApart, CarriesOnly}
+use Rattle.spacer_laws.specs.{Guarding.GivesOnlySealed, SpacesOut.AreApart, SpacesOut.ReadsFrames}
+use Rattle.std.proofs.Common.{◌≡◌, ◌∙◌, ℕ, ◌+◌, ◌<◌, ◌≤◌, List, [], ◌∷◌, ◌++◌, length, map, fold}
+use Rattle.std.proofs.Common.{refl, sym, ap, subst, arith, ⊎_elim, Bool, append_assoc}
+use Rattle.std.proofs.lemmas.{Bool.cases_lt, List.append-nil, List.map-append}
+use Rattle.yasir_ticks.proofs.BurstsOfLaws.{bursts_from-are}
+use Rattle.yasir_ticks.specs.Bursts.{Burst, bursts, end_of}
+use Rattle.yasir_ticks.specs.{BurstsOf.AreBursts, Ticks.silent, declared.tick.Tick.Tick}
 
 -- ---- what is accepted are some of the frames that are read, in their order
 

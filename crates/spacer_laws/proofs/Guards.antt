@@ -1,32 +1,22 @@
 -- The spacers of each protocol, behind the receiver.
-use Rattle.std.proofs.Common.{◌≡◌, ℕ, zero, suc, ◌≤◌, ◌⊎◌, inl, inr, List, arith}
-use Rattle.yasir_ticks.specs.Ticks.{bytes_in}
-use Rattle.yasir_ticks.specs.Bursts.{bursts}
-use Rattle.yasir_ticks.specs.declared.tick.Tick.{Tick}
-use Rattle.line_rules.specs.Rules.{Rules}
-use Rattle.line_rules.specs.RulesLaws.{IsLawful, IsHeaded, IsFramed}
-use Rattle.line_rules.specs.Spoiling.{IsSpoiling}
-use Rattle.rtu_frame.specs.Rules.{rtu_rules, rtu_lawful}
-use Rattle.burst_walk.specs.Walk.{emitted}
-use Rattle.burst_walk.proofs.Spread.{bursts-spread}
-use Rattle.device_model.specs.Frames.{FrameRead}
-use Rattle.device_model.specs.Hunt.{timed, hunt, hunt_anew}
-use Rattle.device_model.specs.HuntFamily.{hunt_family}
-use Rattle.device_model.specs.HuntLaws.{IsHunted}
-use Rattle.device_model.specs.RtuReads.{is_frame_body}
+use Rattle.burst_walk.{proofs.Spread.bursts-spread, specs.Walk.emitted}
+use Rattle.device_model.specs.{Frames.FrameRead, Hunt.timed, Hunt.hunt, Hunt.hunt_anew}
+use Rattle.device_model.specs.{HuntFamily.hunt_family, HuntLaws.IsHunted, RtuReads.is_frame_body}
+use Rattle.line_rules.specs.{Rules.Rules, RulesLaws.IsLawful, RulesLaws.IsHeaded}
+use Rattle.line_rules.specs.{RulesLaws.IsFramed, Spoiling.IsSpoiling}
 use Rattle.link_format.specs.Profile.{Profile, delay}
 use Rattle.link_verdicts.specs.Checking.{checker, at_floor}
-use Rattle.receiver_laws.specs.Hunters.{IsHunter}
-use Rattle.receiver_laws.specs.Reading.{ReadsWhatPassed}
 use Rattle.receiver_laws.proofs.Anew.{anew-hunter, anew_reads_what_passed}
 use Rattle.receiver_laws.proofs.HunterReadings.{plain-hunter, emissions-taken}
-use Rattle.receiver_laws.proofs.HunterReadings.{hunt_reads_what_passed}
-use Rattle.receiver_laws.proofs.Hunters.{hunter-laid}
-use Rattle.receiver_laws.proofs.RtuReadings.{rtu_reads_what_passed}
-use Rattle.receiver_laws.proofs.Settled.{reads_with, reads-laid}
-use Rattle.spacer_laws.specs.SpacesOut.{ReadsFrames}
-use Rattle.spacer_laws.proofs.Guarding.{HearsEmissions, emissions-apart}
-use Rattle.spacer_laws.proofs.ReadFrames.{rtu-frames, family-frames}
+use Rattle.receiver_laws.proofs.{HunterReadings.hunt_reads_what_passed, Hunters.hunter-laid}
+use Rattle.receiver_laws.proofs.{RtuReadings.rtu_reads_what_passed, Settled.reads_with}
+use Rattle.receiver_laws.{proofs.Settled.reads-laid, specs.Hunters.IsHunter}
+use Rattle.{receiver_laws.specs.Reading.ReadsWhatPassed, rtu_frame.specs.Rules.rtu_rules}
+use Rattle.{rtu_frame.specs.Rules.rtu_lawful, spacer_laws.proofs.Guarding.HearsEmissions}
+use Rattle.spacer_laws.proofs.{Guarding.emissions-apart, ReadFrames.rtu-frames}
+use Rattle.spacer_laws.{proofs.ReadFrames.family-frames, specs.SpacesOut.ReadsFrames}
+use Rattle.std.proofs.Common.{◌≡◌, ℕ, zero, suc, ◌≤◌, ◌⊎◌, inl, inr, List, arith}
+use Rattle.yasir_ticks.specs.{Bursts.bursts, Ticks.bytes_in, declared.tick.Tick.Tick}
 
 pub rtu-hears : (cut pause : ℕ) (profile : Profile) → 2 ≤ cut → cut ≤ delay profile → 2 ≤ pause
     → HearsEmissions rtu_rules (reads_with cut pause) cut profile

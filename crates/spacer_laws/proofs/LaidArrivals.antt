@@ -1,22 +1,16 @@
 -- What a device reads of bursts that are laid on a line, and in which steps.
-use Rattle.std.proofs.Common.{◌≡◌, ◌∙◌, ℕ, zero, suc, ◌+◌, ◌-◌, ◌<◌, ◌≤◌, List, []}
-use Rattle.std.proofs.Common.{◌∷◌, ◌++◌, length, map, refl, sym, ap, arith, cond, Bool, ◌&&◌}
-use Rattle.std.proofs.Common.{nat_le, true, false, ⊎_elim}
-use Rattle.std.specs.List.{filter}
-use Rattle.std.proofs.lemmas.Bool.{cases_lt, le-leb, lt-leb}
-use Rattle.std.proofs.lemmas.List.{append-nil, map-append}
-use Rattle.std.proofs.lemmas.List.FromFn.{length-map-range_with_len}
-use Rattle.yasir_ticks.specs.Bursts.{Burst, end_of}
-use Rattle.yasir_ticks.specs.BurstsOf.{IsContiguous, one, more}
-use Rattle.yasir_ticks.specs.declared.tick.Tick.{Tick}
+use Rattle.burst_walk.proofs.{Emissions.laid-more, Spread.AreSpread}
 use Rattle.burst_walk.specs.Laid.{tick_at, laid}
-use Rattle.burst_walk.proofs.Emissions.{laid-more}
-use Rattle.burst_walk.proofs.Spread.{AreSpread}
-use Rattle.device_model.specs.Frames.{FrameRead}
-use Rattle.device_model.specs.RtuReads.{frame_in}
-use Rattle.device_model.proofs.ReadLaws.{frames_ended}
+use Rattle.device_model.{proofs.ReadLaws.frames_ended, specs.Frames.FrameRead}
+use Rattle.{device_model.specs.RtuReads.frame_in, line_spacer.proofs.Arriving.arrivals-one}
 use Rattle.line_spacer.specs.Arrivals.{Arrival, arriving, arrivals_behind, arrivals}
-use Rattle.line_spacer.proofs.Arriving.{arrivals-one}
+use Rattle.std.proofs.Common.{◌≡◌, ◌∙◌, ℕ, zero, suc, ◌+◌, ◌-◌, ◌<◌, ◌≤◌, List, [], ◌∷◌, ◌++◌}
+use Rattle.std.proofs.Common.{length, map, refl, sym, ap, arith, cond, Bool, ◌&&◌, nat_le, true}
+use Rattle.std.proofs.{Common.false, Common.⊎_elim, lemmas.Bool.cases_lt}
+use Rattle.std.proofs.lemmas.{Bool.le-leb, Bool.lt-leb, List.append-nil, List.map-append}
+use Rattle.std.{proofs.lemmas.List.FromFn.length-map-range_with_len, specs.List.filter}
+use Rattle.yasir_ticks.specs.{Bursts.Burst, Bursts.end_of, BurstsOf.IsContiguous, BurstsOf.one}
+use Rattle.yasir_ticks.specs.{BurstsOf.more, declared.tick.Tick.Tick}
 
 pub contiguous-some : (cut : ℕ) (x : List Tick) → IsContiguous cut x → 0 < length x
 contiguous-some cut x (one b) = omega arith

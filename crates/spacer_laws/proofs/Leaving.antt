@@ -1,43 +1,31 @@
 -- All that was accepted has left after as many ticks as this many frames of the longest kind take.
-use Rattle.std.proofs.Common.{◌≡◌, ◌∙◌, ℕ, zero, suc, ◌+◌, ◌-◌, ◌*◌, ◌<◌, ◌≤◌, List, []}
-use Rattle.std.proofs.Common.{◌∷◌, ◌++◌, length, map, take, max, fold, refl, sym, ap, subst, arith}
-use Rattle.std.proofs.Common.{nat_le, true, cond, Bool, ⊎_elim, append_assoc, length-append}
-use Rattle.std.specs.Prelude.{All}
-use Rattle.std.proofs.Common.{drop, get_or}
-use Rattle.std.specs.List.{filter, flat_map}
-use Rattle.std.proofs.lemmas.Bool.{cases_lt, le-leb, lt-leb}
-use Rattle.std.proofs.lemmas.List.{append-nil, length-map, length-replicate, drop_all}
-use Rattle.std.proofs.lemmas.List.{take-append-drop}
-use Rattle.std.proofs.lemmas.List.Elements.{filter-append, All-take}
-use Rattle.std.proofs.Math.Nat.{mul-le-mul_right}
-use Rattle.yasir_ticks.specs.Ticks.{silent, AreTicks}
-use Rattle.yasir_ticks.specs.Bursts.{Burst, bursts_from, end_of}
-use Rattle.yasir_ticks.specs.BurstsOf.{AreBursts}
-use Rattle.yasir_ticks.proofs.BurstLaws.{bursts_from-silent_end}
-use Rattle.yasir_ticks.proofs.BurstsOfLaws.{bursts_from-are}
-use Rattle.line_rules.specs.Bytes.{AreBytes}
-use Rattle.line_rules.specs.Rules.{Rules}
-use Rattle.line_rules.specs.RulesLaws.{IsLawful, IsFramed}
-use Rattle.rtu_frame.specs.Rules.{rtu_framed}
 use Rattle.burst_walk.proofs.Spread.{EndBy, bursts_from-end}
-use Rattle.yasir_ticks.specs.declared.tick.Tick.{Tick}
-use Rattle.yasir_ticks.specs.declared.tick.Tick.TheVariants.{Silent, Byte}
-use Rattle.device_model.specs.Frames.{FrameRead}
-use Rattle.device_model.specs.Hunt.{timed, timed_bytes, hunt}
-use Rattle.device_model.specs.HuntFamily.{hunt_family}
+use Rattle.device_model.proofs.{HuntSteps.timed-silences, ReadLaws.frames_read-append}
+use Rattle.device_model.{proofs.ReadLaws.frames_read-ended, specs.Frames.FrameRead}
+use Rattle.device_model.specs.{Hunt.timed, Hunt.timed_bytes, Hunt.hunt, HuntFamily.hunt_family}
 use Rattle.device_model.specs.RtuReads.{is_frame_body, frame_in, frames_read}
-use Rattle.device_model.proofs.HuntSteps.{timed-silences}
-use Rattle.device_model.proofs.ReadLaws.{frames_read-append, frames_read-ended}
+use Rattle.line_rules.specs.{Bytes.AreBytes, Rules.Rules, RulesLaws.IsLawful, RulesLaws.IsFramed}
+use Rattle.line_spacer.proofs.Arriving.{arrivals-append}
 use Rattle.line_spacer.specs.Arrivals.{Arrival, arriving, gained, arrivals_behind, arrivals}
 use Rattle.line_spacer.specs.Spacing.{Spaced, count_from, free_from, sent_from, take_in, spaced}
 use Rattle.line_spacer.specs.Spacing.{accepted_of}
-use Rattle.line_spacer.proofs.Arriving.{arrivals-append}
-use Rattle.spacer_laws.specs.Leaving.{HaveLeft, AllLeave}
-use Rattle.spacer_laws.proofs.Accepted.{all-first, all-others, begin_of, taken-keeps}
-use Rattle.spacer_laws.proofs.Accepted.{all-cons, arrivals-steps, arrivals-all}
-use Rattle.spacer_laws.proofs.ReadFrames.{rtu-frames, hunt-all, hunts-all}
-use Rattle.receiver_laws.proofs.Settled.{reads_with}
-use Rattle.receiver_laws.proofs.Standing.{ticks-behind, ticks-front}
+use Rattle.receiver_laws.proofs.{Settled.reads_with, Standing.ticks-behind, Standing.ticks-front}
+use Rattle.{rtu_frame.specs.Rules.rtu_framed, spacer_laws.proofs.Accepted.all-first}
+use Rattle.spacer_laws.proofs.Accepted.{all-others, begin_of, taken-keeps, all-cons, arrivals-steps}
+use Rattle.spacer_laws.proofs.{Accepted.arrivals-all, ReadFrames.rtu-frames, ReadFrames.hunt-all}
+use Rattle.spacer_laws.{proofs.ReadFrames.hunts-all, specs.Leaving.HaveLeft, specs.Leaving.AllLeave}
+use Rattle.std.proofs.Common.{◌≡◌, ◌∙◌, ℕ, zero, suc, ◌+◌, ◌-◌, ◌*◌, ◌<◌, ◌≤◌, List, [], ◌∷◌, ◌++◌}
+use Rattle.std.proofs.Common.{length, map, take, max, fold, refl, sym, ap, subst, arith, nat_le}
+use Rattle.std.proofs.Common.{true, cond, Bool, ⊎_elim, append_assoc, length-append, drop, get_or}
+use Rattle.std.proofs.Math.Nat.{mul-le-mul_right}
+use Rattle.std.proofs.lemmas.Bool.{cases_lt, le-leb, lt-leb}
+use Rattle.std.proofs.lemmas.List.{append-nil, length-map, length-replicate, drop_all}
+use Rattle.std.proofs.lemmas.List.{take-append-drop, Elements.filter-append, Elements.All-take}
+use Rattle.std.specs.{List.filter, List.flat_map, Prelude.All}
+use Rattle.yasir_ticks.proofs.{BurstLaws.bursts_from-silent_end, BurstsOfLaws.bursts_from-are}
+use Rattle.yasir_ticks.specs.Bursts.{Burst, bursts_from, end_of}
+use Rattle.yasir_ticks.specs.{BurstsOf.AreBursts, Ticks.silent, Ticks.AreTicks}
+use Rattle.yasir_ticks.specs.declared.tick.Tick.{Tick, TheVariants.Silent, TheVariants.Byte}
 
 -- ---- how many are still to begin
 

@@ -1,27 +1,21 @@
 -- What devices read is frames of the protocol; and of bursts that are such frames they read each.
-use Rattle.std.proofs.Common.{◌≡◌, ◌∙◌, ℕ, zero, suc, ◌+◌, List, []}
-use Rattle.std.proofs.Common.{◌∷◌, length, map, take, refl, sym, ap, subst, arith, cond}
-use Rattle.std.proofs.Common.{nat_le, ◌&&◌, true, false, Bool, ⊎_elim, not}
-use Rattle.std.specs.Prelude.{All}
-use Rattle.std.specs.List.{filter, flat_map}
-use Rattle.std.proofs.lemmas.Bool.{and_parts, cases_Bool}
-use Rattle.std.proofs.lemmas.List.Elements.{All-append}
-use Rattle.yasir_ticks.specs.Ticks.{bytes_in}
-use Rattle.yasir_ticks.specs.Bursts.{Burst, end_of, bursts_from}
-use Rattle.line_rules.specs.Rules.{Rules, head_of}
-use Rattle.line_rules.specs.declared.head.Head.{Head}
-use Rattle.line_rules.specs.declared.head.Head.TheVariants.{Short, Good, Bad}
-use Rattle.rtu_frame.specs.Frame.{is_frame}
-use Rattle.rtu_frame.specs.Rules.{rtu_rules}
-use Rattle.device_model.specs.Frames.{FrameRead}
-use Rattle.device_model.specs.Hunt.{Timed, timed, timed_bytes, begins, found, found_by, frame_of}
-use Rattle.device_model.specs.Hunt.{passed_over, header_in, hunt}
-use Rattle.device_model.specs.HuntFamily.{hunt_family}
 use Rattle.device_model.proofs.ReadLaws.{frames_ended, frames_read-append}
+use Rattle.device_model.specs.{Frames.FrameRead, Hunt.Timed, Hunt.timed, Hunt.timed_bytes}
+use Rattle.device_model.specs.Hunt.{begins, found, found_by, frame_of, passed_over, header_in, hunt}
+use Rattle.device_model.specs.HuntFamily.{hunt_family}
 use Rattle.device_model.specs.RtuReads.{has_silence, is_frame_body, is_read, frame_in, frames_read}
+use Rattle.line_rules.specs.{Rules.Rules, Rules.head_of, declared.head.Head.Head}
+use Rattle.line_rules.specs.declared.head.Head.TheVariants.{Short, Good, Bad}
 use Rattle.receiver_laws.proofs.Settled.{reads_with}
-use Rattle.spacer_laws.specs.SpacesOut.{ReadsFrames, frames_by}
+use Rattle.rtu_frame.specs.{Frame.is_frame, Rules.rtu_rules}
 use Rattle.spacer_laws.proofs.Accepted.{all-first, all-others, all-cons}
+use Rattle.spacer_laws.specs.SpacesOut.{ReadsFrames, frames_by}
+use Rattle.std.proofs.Common.{◌≡◌, ◌∙◌, ℕ, zero, suc, ◌+◌, List, [], ◌∷◌, length, map, take, refl}
+use Rattle.std.proofs.Common.{sym, ap, subst, arith, cond, nat_le, ◌&&◌, true, false, Bool, ⊎_elim}
+use Rattle.std.proofs.Common.{not}
+use Rattle.std.proofs.lemmas.{Bool.and_parts, Bool.cases_Bool, List.Elements.All-append}
+use Rattle.std.specs.{List.filter, List.flat_map, Prelude.All}
+use Rattle.yasir_ticks.specs.{Bursts.Burst, Bursts.end_of, Bursts.bursts_from, Ticks.bytes_in}
 
 abbrev AllFrames : Rules → List FrameRead → Type 0
 AllFrames rules fs = All (λ (f : FrameRead). rules.is_frame f.frame ≡ true) fs

@@ -1,32 +1,22 @@
 -- What is on a spaced line, and what a device reads of it.
-use Rattle.std.proofs.Common.{◌≡◌, ◌∙◌, ℕ, zero, suc, ◌+◌, ◌≤◌, ◌⊎◌, inl, inr, List, []}
-use Rattle.std.proofs.Common.{◌∷◌, length, map, sym, ap, subst, arith, true, not, ◌&&◌}
-use Rattle.yasir_ticks.specs.Ticks.{bytes_in}
-use Rattle.yasir_ticks.specs.Bursts.{Burst, end_of}
-use Rattle.yasir_ticks.specs.declared.tick.Tick.{Tick}
-use Rattle.yasir_ticks.specs.declared.tick.Tick.TheVariants.{Byte}
-use Rattle.line_rules.specs.Rules.{Rules}
-use Rattle.line_rules.specs.RulesLaws.{IsHeaded, IsFramed}
-use Rattle.rtu_frame.specs.Frame.{is_frame}
-use Rattle.rtu_frame.specs.Rules.{rtu_rules, rtu_framed}
 use Rattle.burst_walk.specs.Laid.{laid}
-use Rattle.device_model.specs.Frames.{FrameRead}
-use Rattle.device_model.specs.HuntFamily.{hunt_family}
-use Rattle.device_model.specs.HuntLaws.{IsHunted}
-use Rattle.device_model.specs.Hunt.{timed, hunt, hunt_anew}
-use Rattle.device_model.specs.RtuReads.{is_frame_body}
-use Rattle.line_spacer.specs.Spacing.{accepted_of}
-use Rattle.receiver_laws.specs.Hunters.{IsHunter}
-use Rattle.receiver_laws.proofs.Anew.{anew-hunter}
-use Rattle.receiver_laws.proofs.Calm.{contiguous-calm}
-use Rattle.receiver_laws.proofs.HunterReadings.{plain-hunter, frame-taken}
-use Rattle.receiver_laws.proofs.Hunters.{AreTaken, IsTaken, hunter-laid}
-use Rattle.receiver_laws.proofs.Settled.{reads_with, reads-laid}
-use Rattle.receiver_laws.proofs.Standing.{bytes_in-byte_ticks}
-use Rattle.spacer_laws.specs.SpacesOut.{IsSent, AreApart, ReadsFrames, SpacesOut, frames_by}
+use Rattle.device_model.specs.{Frames.FrameRead, Hunt.timed, Hunt.hunt, Hunt.hunt_anew}
+use Rattle.device_model.specs.{HuntFamily.hunt_family, HuntLaws.IsHunted, RtuReads.is_frame_body}
+use Rattle.line_rules.specs.{Rules.Rules, RulesLaws.IsHeaded, RulesLaws.IsFramed}
+use Rattle.{line_spacer.specs.Spacing.accepted_of, receiver_laws.proofs.Anew.anew-hunter}
+use Rattle.receiver_laws.proofs.{Calm.contiguous-calm, HunterReadings.plain-hunter}
+use Rattle.receiver_laws.proofs.{HunterReadings.frame-taken, Hunters.AreTaken, Hunters.IsTaken}
+use Rattle.receiver_laws.proofs.{Hunters.hunter-laid, Settled.reads_with, Settled.reads-laid}
+use Rattle.receiver_laws.{proofs.Standing.bytes_in-byte_ticks, specs.Hunters.IsHunter}
+use Rattle.rtu_frame.specs.{Frame.is_frame, Rules.rtu_rules, Rules.rtu_framed}
 use Rattle.spacer_laws.proofs.Accepted.{accepted-apart, all-sent}
 use Rattle.spacer_laws.proofs.ReadFrames.{rtu-frames, family-frames, ended-whole}
 use Rattle.spacer_laws.proofs.Within.{laid-bursts, apart-spread, bytes-contiguous}
+use Rattle.spacer_laws.specs.SpacesOut.{IsSent, AreApart, ReadsFrames, SpacesOut, frames_by}
+use Rattle.std.proofs.Common.{◌≡◌, ◌∙◌, ℕ, zero, suc, ◌+◌, ◌≤◌, ◌⊎◌, inl, inr, List, [], ◌∷◌}
+use Rattle.std.proofs.Common.{length, map, sym, ap, subst, arith, true, not, ◌&&◌}
+use Rattle.yasir_ticks.specs.{Bursts.Burst, Bursts.end_of, Ticks.bytes_in}
+use Rattle.yasir_ticks.specs.declared.tick.Tick.{Tick, TheVariants.Byte}
 
 -- By what is heard, which is frames of the protocol, and by a device behind that reads what is laid
 -- of such bursts, once each has ended.

@@ -1,21 +1,17 @@
 -- What is laid of bursts before a tick is what stands of them before it.
-use Rattle.std.proofs.Common.{◌≡◌, ◌∙◌, ℕ, zero, suc, ◌+◌, ◌-◌, ◌<◌, ◌≤◌, List, []}
-use Rattle.std.proofs.Common.{◌∷◌, length, map, take, min, refl, sym, ap, subst, arith, cond}
-use Rattle.std.proofs.Common.{get_or, nat_le, nat_lt, ◌&&◌, false, Bool, ⊎_elim}
+use Rattle.burst_walk.proofs.Emissions.{tick_at-none, laid-same}
+use Rattle.burst_walk.proofs.{LaidBursts.bursts-laid, Spread.AreSpread, Spread.EndBy}
+use Rattle.burst_walk.specs.Laid.{tick_at, laid}
+use Rattle.line_rules.specs.{Rules.Rules, RulesLaws.IsFramed}
+use Rattle.spacer_laws.specs.SpacesOut.{IsSent, AreApart, within}
+use Rattle.std.proofs.Common.{◌≡◌, ◌∙◌, ℕ, zero, suc, ◌+◌, ◌-◌, ◌<◌, ◌≤◌, List, [], ◌∷◌, length}
+use Rattle.std.proofs.Common.{map, take, min, refl, sym, ap, subst, arith, cond, get_or, nat_le}
+use Rattle.std.proofs.Common.{nat_lt, ◌&&◌, false, Bool, ⊎_elim}
 use Rattle.std.proofs.lemmas.Bool.{cases_lt, lt-ltb, le-ltb}
 use Rattle.std.proofs.lemmas.List.{length-take, get_or-take}
 use Rattle.yasir_ticks.specs.Bursts.{Burst, bursts_from, end_of}
-use Rattle.yasir_ticks.specs.BurstsOf.{IsContiguous}
-use Rattle.yasir_ticks.specs.BurstsOf.IsContiguous.{one, more}
-use Rattle.yasir_ticks.specs.declared.tick.Tick.{Tick}
-use Rattle.yasir_ticks.specs.declared.tick.Tick.TheVariants.{Silent, Byte}
-use Rattle.line_rules.specs.Rules.{Rules}
-use Rattle.line_rules.specs.RulesLaws.{IsFramed}
-use Rattle.burst_walk.specs.Laid.{tick_at, laid}
-use Rattle.burst_walk.proofs.Emissions.{tick_at-none, laid-same}
-use Rattle.burst_walk.proofs.LaidBursts.{bursts-laid}
-use Rattle.burst_walk.proofs.Spread.{AreSpread, EndBy}
-use Rattle.spacer_laws.specs.SpacesOut.{IsSent, AreApart, within}
+use Rattle.yasir_ticks.specs.BurstsOf.{IsContiguous, IsContiguous.one, IsContiguous.more}
+use Rattle.yasir_ticks.specs.declared.tick.Tick.{Tick, TheVariants.Silent, TheVariants.Byte}
 
 -- ---- bytes in a row
 

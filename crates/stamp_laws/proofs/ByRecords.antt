@@ -1,15 +1,11 @@
 -- Records that are taken for frames tell the silent ticks of a line.
-use Rattle.std.proofs.Common.{◌≡◌, ◌∙◌, ⊎_elim, sym, ap, List, [], ◌∷◌, Bool, true}
-use Rattle.std.proofs.Common.{false}
-use Rattle.std.proofs.Common.{arith, le-leb, ◌&&◌, not, refl, filter, cond}
-use Rattle.std.proofs.lemmas.Bool.{cases_Bool, le-ltb, lt-leb}
-use Rattle.rtu_frame.specs.Frame.{is_frame}
-use Rattle.line_stamps.specs.Places.{PlacedByte}
 use Rattle.line_stamps.specs.Clock.{AllNext, ArePartedRecords, silent_ticks}
-use Rattle.stamp_laws.specs.Cuts.{any_next, bytes_of}
-use Rattle.stamp_laws.specs.RecordFrames.{begins_record}
-use Rattle.stamp_laws.proofs.CutLines.{AreTold, Told}
-use Rattle.stamp_laws.proofs.CutReads.{is_whole_frame}
+use Rattle.{line_stamps.specs.Places.PlacedByte, rtu_frame.specs.Frame.is_frame}
+use Rattle.stamp_laws.proofs.{CutLines.AreTold, CutLines.Told, CutReads.is_whole_frame}
+use Rattle.stamp_laws.specs.{Cuts.any_next, Cuts.bytes_of, RecordFrames.begins_record}
+use Rattle.std.proofs.Common.{◌≡◌, ◌∙◌, ⊎_elim, sym, ap, List, [], ◌∷◌, Bool, true, false, arith}
+use Rattle.std.proofs.Common.{le-leb, ◌&&◌, not, refl, filter, cond}
+use Rattle.std.proofs.lemmas.Bool.{cases_Bool, le-ltb, lt-leb}
 
 -- inside a record there is no silence
 abbrev pub never : PlacedByte → PlacedByte → Bool

@@ -1,11 +1,10 @@
 -- Times tell the silent ticks of a line.
-use Rattle.std.proofs.Common.{◌≡◌, ◌∙◌, ℕ, ◌*◌, ◌<◌, ◌≤◌, ⊎_elim, sym, List, [], ◌∷◌}
-use Rattle.std.proofs.Common.{nat_lt, nat_le, arith, le-leb}
-use Rattle.std.proofs.lemmas.Bool.{cases_lt, lt-ltb, le-ltb, lt-leb}
-use Rattle.line_stamps.specs.Places.{PlacedByte}
 use Rattle.line_stamps.specs.Clock.{AllNext, KeepsEdges, silence, silent_ticks}
+use Rattle.{line_stamps.specs.Places.PlacedByte, stamp_laws.proofs.CutLines.Told}
 use Rattle.stamp_laws.specs.TimedFrames.{are_parted, are_apart}
-use Rattle.stamp_laws.proofs.CutLines.{Told}
+use Rattle.std.proofs.Common.{◌≡◌, ◌∙◌, ℕ, ◌*◌, ◌<◌, ◌≤◌, ⊎_elim, sym, List, [], ◌∷◌, nat_lt}
+use Rattle.std.proofs.Common.{nat_le, arith, le-leb}
+use Rattle.std.proofs.lemmas.Bool.{cases_lt, lt-ltb, le-ltb, lt-leb}
 
 module _ (one : ℕ) where
   parted-is : (x y : PlacedByte) → KeepsEdges one x y

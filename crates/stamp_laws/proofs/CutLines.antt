@@ -1,18 +1,16 @@
 -- The bursts of a line of ticks are its bytes, cut wherever four silent ticks or more are between
 -- two of them.
-use Rattle.std.proofs.Common.{◌≡◌, ◌∙◌, ℕ, suc, ◌+◌, ◌-◌, ◌<◌, ◌≤◌, ◌⊎◌, ⊎_elim, inl, sym, ap}
-use Rattle.std.proofs.Common.{List, [], ◌∷◌, ◌++◌, Bool, true, false, arith, refl, subst, map, cond}
+use Rattle.line_stamps.specs.Clock.{AllNext, silent_ticks}
+use Rattle.line_stamps.specs.Places.{PlacedByte, ticks_from}
+use Rattle.stamp_laws.specs.Cuts.{join, cut_where, first_tick}
+use Rattle.std.proofs.Common.{◌≡◌, ◌∙◌, ℕ, suc, ◌+◌, ◌-◌, ◌<◌, ◌≤◌, ◌⊎◌, ⊎_elim, inl, sym, ap, List}
+use Rattle.std.proofs.Common.{[], ◌∷◌, ◌++◌, Bool, true, false, arith, refl, subst, map, cond}
 use Rattle.std.proofs.Common.{nat_lt, nat_le, le-leb}
 use Rattle.std.proofs.lemmas.Bool.{cases_lt, cases_Bool, cond-true, cond-false, lt-leb}
-use Rattle.yasir_ticks.specs.Ticks.{silent}
-use Rattle.yasir_ticks.specs.Bursts.{Burst, with_byte, bursts_from}
-use Rattle.yasir_ticks.specs.declared.tick.Tick.{Tick}
-use Rattle.yasir_ticks.specs.declared.tick.Tick.TheVariants.{Byte}
 use Rattle.yasir_ticks.proofs.BurstLaws.{alone, with_byte-near, with_byte-far}
 use Rattle.yasir_ticks.proofs.BurstsOfLaws.{bursts_from-cons, bursts_from-silence}
-use Rattle.line_stamps.specs.Places.{PlacedByte, ticks_from}
-use Rattle.line_stamps.specs.Clock.{AllNext, silent_ticks}
-use Rattle.stamp_laws.specs.Cuts.{join, cut_where, first_tick}
+use Rattle.yasir_ticks.specs.{Bursts.Burst, Bursts.with_byte, Bursts.bursts_from, Ticks.silent}
+use Rattle.yasir_ticks.specs.declared.tick.Tick.{Tick, TheVariants.Byte}
 
 -- the ticks from the first of these bytes to the last one
 abbrev pub body_of : List PlacedByte → List Tick

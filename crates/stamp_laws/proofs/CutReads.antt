@@ -1,29 +1,19 @@
 -- What a device reads of the bursts of a line, by tests that tell its silent ticks.
-use Rattle.std.proofs.Common.{◌≡◌, ◌∙◌, ℕ, zero, suc, ◌+◌, ◌≤◌, inl}
-use Rattle.std.proofs.Common.{sym, ap}
-use Rattle.std.proofs.Common.{List, [], ◌∷◌, ◌++◌, Bool, true, false, arith, refl, subst, map}
-use Rattle.std.proofs.Common.{filter}
-use Rattle.std.proofs.Common.{nat_lt, nat_le, ◌&&◌, ◌||◌, not, cond, length, le-leb, length-append}
-use Rattle.std.proofs.lemmas.Bool.{lt-ltb}
-use Rattle.std.proofs.lemmas.List.{length-replicate}
-use Rattle.rtu_frame.specs.Frame.{is_frame}
-use Rattle.yasir_ticks.specs.Ticks.{silent, bytes_in}
-use Rattle.yasir_ticks.specs.Bursts.{Burst, bursts_from, end_of}
-use Rattle.yasir_ticks.specs.BurstsOf.{AreBursts}
-use Rattle.yasir_ticks.specs.declared.tick.Tick.{Tick}
-use Rattle.yasir_ticks.specs.declared.tick.Tick.TheVariants.{Silent, Byte}
-use Rattle.yasir_ticks.proofs.BurstLaws.{bursts_from-silent_end}
-use Rattle.yasir_ticks.proofs.BurstsOfLaws.{bursts_from-are}
-use Rattle.yasir_ticks.proofs.SilenceLaws.{bytes_in-silent}
 use Rattle.device_model.specs.Frames.{FrameRead}
-use Rattle.device_model.specs.RtuReads.{has_silence, is_frame_body, is_read}
-use Rattle.device_model.specs.RtuReads.{frame_in}
-use Rattle.device_model.specs.RtuReads.{rtu_reads}
-use Rattle.line_stamps.specs.Places.{PlacedByte, ticks_from}
-use Rattle.line_stamps.specs.Clock.{silent_ticks}
+use Rattle.device_model.specs.RtuReads.{has_silence, is_frame_body, is_read, frame_in, rtu_reads}
+use Rattle.line_stamps.specs.{Clock.silent_ticks, Places.PlacedByte, Places.ticks_from}
+use Rattle.{rtu_frame.specs.Frame.is_frame, stamp_laws.proofs.CutLines.body_of}
+use Rattle.stamp_laws.proofs.CutLines.{burst_of, Told, IsPart, AreParts, bursts-are, are-parts}
 use Rattle.stamp_laws.specs.Cuts.{cut_where, any_next, bytes_of, first_tick, frame_of}
-use Rattle.stamp_laws.proofs.CutLines.{body_of, burst_of, Told, IsPart, AreParts, bursts-are}
-use Rattle.stamp_laws.proofs.CutLines.{are-parts}
+use Rattle.std.proofs.Common.{◌≡◌, ◌∙◌, ℕ, zero, suc, ◌+◌, ◌≤◌, inl, sym, ap, List, [], ◌∷◌, ◌++◌}
+use Rattle.std.proofs.Common.{Bool, true, false, arith, refl, subst, map, filter, nat_lt, nat_le}
+use Rattle.std.proofs.Common.{◌&&◌, ◌||◌, not, cond, length, le-leb, length-append}
+use Rattle.std.proofs.lemmas.{Bool.lt-ltb, List.length-replicate}
+use Rattle.yasir_ticks.proofs.{BurstLaws.bursts_from-silent_end, BurstsOfLaws.bursts_from-are}
+use Rattle.yasir_ticks.proofs.SilenceLaws.{bytes_in-silent}
+use Rattle.yasir_ticks.specs.Bursts.{Burst, bursts_from, end_of}
+use Rattle.yasir_ticks.specs.{BurstsOf.AreBursts, Ticks.silent, Ticks.bytes_in}
+use Rattle.yasir_ticks.specs.declared.tick.Tick.{Tick, TheVariants.Silent, TheVariants.Byte}
 
 -- silence before a byte
 pause-before : (g b : ℕ) (l : List Tick)

@@ -1,12 +1,10 @@
 -- A device that takes no notice of silence hunts among the bytes of a capture.
+use Rattle.device_model.specs.Hunt.{Timed, timed}
+use Rattle.line_stamps.specs.{Giving.ByteAt, Giving.bytes_from, Giving.at_tick, Places.PlacedByte}
+use Rattle.stamp_laws.specs.HuntedBytes.{timed_byte}
 use Rattle.std.proofs.Common.{◌≡◌, ◌∙◌, ℕ, zero, suc, List, [], ◌∷◌, ◌++◌, refl, ap, map}
 use Rattle.yasir_ticks.specs.Ticks.{silent}
-use Rattle.yasir_ticks.specs.declared.tick.Tick.{Tick}
-use Rattle.yasir_ticks.specs.declared.tick.Tick.TheVariants.{Silent, Byte}
-use Rattle.device_model.specs.Hunt.{Timed, timed}
-use Rattle.line_stamps.specs.Places.{PlacedByte}
-use Rattle.line_stamps.specs.Giving.{ByteAt, bytes_from, at_tick}
-use Rattle.stamp_laws.specs.HuntedBytes.{timed_byte}
+use Rattle.yasir_ticks.specs.declared.tick.Tick.{Tick, TheVariants.Silent, TheVariants.Byte}
 
 -- a byte in its tick, as it is hunted
 abbrev hunted : ByteAt → Timed

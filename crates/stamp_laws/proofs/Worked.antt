@@ -1,18 +1,14 @@
 -- Worked rows of the definitions: at 1,000 baud and 10 bits a character is 10 ms.
-use Rattle.std.proofs.Common.{◌≡◌, ℕ, ◌*◌, List, [], ◌∷◌, ◌++◌, map, refl, true, false, lit≤}
 use Rattle.line_rules.specs.Crc.{crc, byte_step, bit_steps, bit_step}
 use Rattle.line_rules.specs.Endings.{ends_in_check}
-use Rattle.rtu_frame.specs.Frame.{is_frame, has_right_ending}
-use Rattle.line_stamps.specs.declared.capture.CaptureByte.{CaptureByte}
-use Rattle.line_stamps.specs.declared.capture.Way.TheVariants.{A}
-use Rattle.line_stamps.specs.declared.rate.Rate.{Rate}
-use Rattle.line_stamps.specs.declared.timing.Spacing.{Spacing}
+use Rattle.line_stamps.specs.{Parts.character, Places.PlacedByte, Places.placed}
+use Rattle.line_stamps.specs.declared.capture.{CaptureByte.CaptureByte, Way.TheVariants.A}
+use Rattle.line_stamps.specs.declared.{rate.Rate.Rate, timing.Spacing.Spacing}
 use Rattle.line_stamps.specs.declared.timing.Spacing.TheVariants.{ByTime, ByRecord}
-use Rattle.line_stamps.specs.Parts.{character}
-use Rattle.line_stamps.specs.Places.{PlacedByte, placed}
-use Rattle.stamp_laws.specs.Cuts.{bytes_of}
+use Rattle.rtu_frame.specs.Frame.{is_frame, has_right_ending}
+use Rattle.stamp_laws.specs.{Cuts.bytes_of, RecordFrames.records_that_are_frames}
 use Rattle.stamp_laws.specs.TimedFrames.{frames_by_time}
-use Rattle.stamp_laws.specs.RecordFrames.{records_that_are_frames}
+use Rattle.std.proofs.Common.{◌≡◌, ℕ, ◌*◌, List, [], ◌∷◌, ◌++◌, map, refl, true, false, lit≤}
 
 abbrev slow : Rate
 slow = record {

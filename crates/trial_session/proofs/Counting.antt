@@ -1,22 +1,19 @@
 -- What one more step counts, and a run.
-use Rattle.std.proofs.Common.{◌≡◌, ◌∙◌, ℕ, ◌+◌, Bool, List, [], ◌∷◌, ◌++◌, length}
-use Rattle.std.proofs.Common.{refl, ap, sym, arith, Option, Some, None, cond, length-append}
-use Rattle.std.specs.List.{filter}
-use Rattle.std.proofs.lemmas.List.Elements.{filter-append}
-use Rattle.yasir_ticks.specs.declared.tick.Tick.{Tick}
-use Rattle.burst_walk.specs.Walk.{Walker, Noted, notes_of, line_of}
-use Rattle.burst_walk.specs.Runs.{AnswersRun}
 use Rattle.burst_walk.proofs.Longer.{length-line_of}
 use Rattle.burst_walk.specs.Answers.{AnswersTick, told_notes, note_in}
+use Rattle.burst_walk.specs.{Runs.AnswersRun, Walk.Walker, Walk.Noted, Walk.notes_of, Walk.line_of}
 use Rattle.link_box.specs.Walking.{Walking, full_notes}
+use Rattle.std.proofs.Common.{◌≡◌, ◌∙◌, ℕ, ◌+◌, Bool, List, [], ◌∷◌, ◌++◌, length, refl, ap, sym}
+use Rattle.std.proofs.Common.{arith, Option, Some, None, cond, length-append}
+use Rattle.std.{proofs.lemmas.List.Elements.filter-append, specs.List.filter}
+use Rattle.trial_session.proofs.Starting.{no-note, no-tick}
 use Rattle.trial_session.specs.Boxes.{trial_setup, told_by}
-use Rattle.trial_session.specs.Counting.{Counting, CountsNothing, CountsStep, CountsRun}
-use Rattle.trial_session.specs.Counting.{through_in, refused_in, dropped_in}
+use Rattle.trial_session.specs.Counting.{Counting, CountsNothing, CountsStep, CountsRun, through_in}
+use Rattle.trial_session.specs.{Counting.refused_in, Counting.dropped_in, FateLaws.length-cond}
 use Rattle.trial_session.specs.Fates.{CountsFates, tally, is_through, is_refused, is_dropped}
-use Rattle.trial_session.specs.FateLaws.{length-cond}
 use Rattle.trial_session.specs.declared.fate.Fate.{Fate}
 use Rattle.trial_session.specs.declared.fate.Fate.TheVariants.{Through, Refused, Dropped}
-use Rattle.trial_session.proofs.Starting.{no-note, no-tick}
+use Rattle.yasir_ticks.specs.declared.tick.Tick.{Tick}
 
 -- 1 where there is a note that is told so, else 0
 abbrev pub counted : {A : Type 0} → (A → Bool) → Option A → ℕ

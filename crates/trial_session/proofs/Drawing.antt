@@ -1,9 +1,8 @@
 -- One draw more.
-use Rattle.std.proofs.Common.{◌≡◌, ◌∙◌, ℕ, zero, suc, ◌+◌, ◌%◌, List, [], ◌∷◌, ◌++◌}
-use Rattle.std.proofs.Common.{refl, ap, sym, map, arith, add_comm}
-use Rattle.std.proofs.lemmas.List.{map-append}
+use Rattle.std.proofs.Common.{◌≡◌, ◌∙◌, ℕ, zero, suc, ◌+◌, ◌%◌, List, [], ◌∷◌, ◌++◌, refl, ap, sym}
+use Rattle.std.proofs.Common.{map, arith, add_comm}
+use Rattle.{std.proofs.lemmas.List.map-append, trial_session.specs.Alterations.alteration_of}
 use Rattle.trial_session.specs.Draws.{next_state, drawn, state_after, draws, bytes_drawn, nth_drawn}
-use Rattle.trial_session.specs.Alterations.{alteration_of}
 
 pub state_after-suc : (n x : ℕ) → state_after (suc n) x ≡ next_state (state_after n x)
 unfolding state_after

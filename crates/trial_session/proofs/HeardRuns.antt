@@ -1,17 +1,13 @@
 -- Runs that a device hears.
-use Rattle.std.proofs.Common.{◌≡◌, ◌∙◌, ℕ, ◌+◌, List, [], ◌∷◌, ◌++◌, length, map, ap, sym}
-use Rattle.std.proofs.Common.{subst, refl, arith, length-append, append_assoc, append-nil}
-use Rattle.std.proofs.lemmas.List.{map-append}
-use Rattle.yasir_ticks.specs.declared.tick.Tick.{Tick}
-use Rattle.yasir_ticks.specs.declared.tick.Tick.TheVariants.{Byte}
-use Rattle.device_model.specs.Frames.{FrameRead}
-use Rattle.device_model.specs.declared.device.Device.{Ghosts as Device}
+use Rattle.device_model.specs.{Frames.FrameRead, declared.device.Device.Ghosts as Device}
 use Rattle.link_box.specs.declared.box_trait.LinkBox.{Ghosts as LinkBox}
-use Rattle.trial_session.specs.Counting.{Counting}
+use Rattle.std.proofs.Common.{◌≡◌, ◌∙◌, ℕ, ◌+◌, List, [], ◌∷◌, ◌++◌, length, map, ap, sym, subst}
+use Rattle.std.proofs.Common.{refl, arith, length-append, append_assoc, append-nil}
+use Rattle.{std.proofs.lemmas.List.map-append, trial_session.specs.Counting.Counting}
 use Rattle.trial_session.specs.Sides.{HasTaken, HasPassed, HasHeard, IsHearing, HasReceived}
-use Rattle.trial_session.specs.Sides.{IsReceiving}
-use Rattle.trial_session.specs.declared.listening.Listening.{Listening}
+use Rattle.trial_session.specs.{Sides.IsReceiving, declared.listening.Listening.Listening}
 use Rattle.trial_session.specs.declared.receiving.Receiving.{Receiving}
+use Rattle.yasir_ticks.specs.declared.tick.Tick.{Tick, TheVariants.Byte}
 
 pub none-waits : (waiting : List ℕ) → length waiting ≡ 0 → waiting ≡ []
 none-waits [] none = refl

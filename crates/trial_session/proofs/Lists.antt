@@ -1,10 +1,7 @@
 -- Ticks up to a place, and silence behind it.
 use Rattle.std.proofs.Common.{◌≡◌, ◌∙◌, ℕ, ◌-◌, List, ◌++◌, length, take, ap, sym, arith, min}
-use Rattle.std.proofs.Common.{⊎_elim}
-use Rattle.std.proofs.lemmas.Bool.{cases_lt}
-use Rattle.std.proofs.lemmas.List.{take_all}
-use Rattle.yasir_ticks.specs.Ticks.{silent}
-use Rattle.yasir_ticks.specs.declared.tick.Tick.{Tick}
+use Rattle.std.proofs.{Common.⊎_elim, lemmas.Bool.cases_lt, lemmas.List.take_all}
+use Rattle.yasir_ticks.specs.{Ticks.silent, declared.tick.Tick.Tick}
 
 -- a place behind the last tick is as good as the end
 pub cut-off : (ticks : List Tick) (place from : ℕ) → length ticks ≡ 640 → from ≡ min place 640

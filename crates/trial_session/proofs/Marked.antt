@@ -1,21 +1,16 @@
 -- Bytes with marks that are written, and the ticks that they are.
-use Rattle.std.proofs.Common.{◌≡◌, ◌∙◌, ℕ, zero, suc, ◌+◌, ◌-◌, ◌<◌, ◌≤◌, List, [], ◌∷◌, ◌++◌}
-use Rattle.std.proofs.Common.{length, take, drop, map, replicate, refl, ap, sym, arith}
-use Rattle.std.proofs.Common.{append_assoc}
-use Rattle.std.proofs.Common.{length-append, slice_set}
-use Rattle.std.specs.Prelude.{slice_index_or, bit_xor}
-use Rattle.trial_session.specs.Alterations.{changed}
-use Rattle.std.proofs.lemmas.List.{take_all, take_at, length-take-le, length-drop}
-use Rattle.std.proofs.lemmas.List.{drop-take, length-replicate, length-set, length-take}
-use Rattle.std.proofs.lemmas.List.{get_or-take}
-use Rattle.std.proofs.lemmas.List.{get_or-drop}
-use Rattle.yasir_ticks.specs.Ticks.{silent}
-use Rattle.yasir_ticks.specs.declared.tick.Tick.{Tick}
-use Rattle.yasir_ticks.specs.declared.tick.Tick.TheVariants.{Silent, Byte}
-use Rattle.delay_ring.specs.DelayRing.{marked, marked_ticks}
 use Rattle.delay_ring.proofs.Marks.{ticks-append, ticks-take, ticks-bytes, ticks-silent}
 use Rattle.delay_ring.proofs.Marks.{ticks-length, ticks-at, marked-silent, marked-byte}
-use Rattle.trial_session.proofs.SentRuns.{take-some}
+use Rattle.delay_ring.specs.DelayRing.{marked, marked_ticks}
+use Rattle.std.proofs.Common.{◌≡◌, ◌∙◌, ℕ, zero, suc, ◌+◌, ◌-◌, ◌<◌, ◌≤◌, List, [], ◌∷◌, ◌++◌}
+use Rattle.std.proofs.Common.{length, take, drop, map, replicate, refl, ap, sym, arith}
+use Rattle.std.proofs.Common.{append_assoc, length-append, slice_set}
+use Rattle.std.proofs.lemmas.List.{take_all, take_at, length-take-le, length-drop, drop-take}
+use Rattle.std.proofs.lemmas.List.{length-replicate, length-set, length-take, get_or-take}
+use Rattle.std.{proofs.lemmas.List.get_or-drop, specs.Prelude.slice_index_or, specs.Prelude.bit_xor}
+use Rattle.trial_session.{proofs.SentRuns.take-some, specs.Alterations.changed}
+use Rattle.yasir_ticks.specs.Ticks.{silent}
+use Rattle.yasir_ticks.specs.declared.tick.Tick.{Tick, TheVariants.Silent, TheVariants.Byte}
 
 -- what is written at a place, as far as it reaches
 written : (o k : ℕ) (places x more : List ℕ) → o ≤ length places → length x ≡ k

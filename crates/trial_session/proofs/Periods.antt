@@ -1,23 +1,19 @@
 -- One period more of a session.
-use Rattle.std.proofs.Common.{◌≡◌, ◌∙◌, ℕ, zero, suc, ◌+◌, ◌*◌, ◌%◌, ◌≤◌, List, [], ◌++◌}
-use Rattle.std.proofs.Common.{length, take, drop, refl, ap, sym, subst, arith, length-drop}
-use Rattle.std.proofs.Common.{length-append}
-use Rattle.std.proofs.lemmas.List.{take-append-le, drop-append-le, take_all}
-use Rattle.std.proofs.Math.Seq.{drop-append_seam}
-use Rattle.yasir_ticks.specs.declared.tick.Tick.{Tick}
 use Rattle.device_model.specs.declared.device.Device.{Ghosts as Device}
+use Rattle.link_box.specs.declared.box_trait.LinkBox.{Ghosts as LinkBox}
+use Rattle.std.proofs.Common.{◌≡◌, ◌∙◌, ℕ, zero, suc, ◌+◌, ◌*◌, ◌%◌, ◌≤◌, List, [], ◌++◌, length}
+use Rattle.std.proofs.Common.{take, drop, refl, ap, sym, subst, arith, length-drop, length-append}
+use Rattle.std.proofs.Math.Seq.{drop-append_seam}
+use Rattle.std.proofs.lemmas.List.{take-append-le, drop-append-le, take_all}
 use Rattle.trial_session.specs.Alterations.{alteration_of, altered}
-use Rattle.trial_session.specs.Draws.{draw_state, state_after, nth_drawn}
-use Rattle.trial_session.specs.DrawnFrames.{Drawing}
-use Rattle.trial_session.specs.Runs.{HasRun}
+use Rattle.trial_session.specs.{Counting.Counting, DrawnFrames.Drawing, Draws.draw_state}
+use Rattle.trial_session.specs.{Draws.state_after, Draws.nth_drawn, Runs.HasRun}
 use Rattle.trial_session.specs.Session.{period_len, period_line, state_at, session_line}
 use Rattle.trial_session.specs.Session.{altered_link, alteration_in, after_frame, ticks_of}
 use Rattle.trial_session.specs.Sides.{HasTaken, HasSent, HasReceived}
-use Rattle.trial_session.specs.declared.alteration.Alteration.{Alteration}
-use Rattle.link_box.specs.declared.box_trait.LinkBox.{Ghosts as LinkBox}
-use Rattle.trial_session.specs.Counting.{Counting}
-use Rattle.trial_session.specs.declared.session.Session.{Session}
+use Rattle.trial_session.specs.declared.{alteration.Alteration.Alteration, session.Session.Session}
 use Rattle.trial_session.specs.declared.summary.Summary.{Summary}
+use Rattle.yasir_ticks.specs.declared.tick.Tick.{Tick}
 
 ticks-front : (n : ℕ) (l more : List Tick) → period_len * suc n ≤ length l
     → take period_len (drop (period_len * n) (l ++ more))

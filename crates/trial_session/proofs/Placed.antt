@@ -1,28 +1,20 @@
 -- The frames of a session are the bursts of the device's line, one in each period.
-use Rattle.std.proofs.Common.{◌≡◌, ◌∙◌, ℕ, zero, suc, ◌+◌, ◌-◌, ◌<◌, ◌≤◌, true, false, List, []}
-use Rattle.std.proofs.Common.{◌∷◌, ◌++◌, length, map, take, refl, ap, sym, subst, arith}
-use Rattle.std.proofs.Common.{append_assoc, length-append}
-use Rattle.std.specs.List.{flat_map}
-use Rattle.std.proofs.lemmas.Bool.{le-ltb}
-use Rattle.std.proofs.lemmas.List.{append-nil, length-map, take_all}
-use Rattle.std.proofs.lemmas.Grind.{flat_map-append}
-use Rattle.yasir_ticks.specs.Bursts.{Burst, bursts_from}
-use Rattle.yasir_ticks.specs.BurstsOf.{StartsFrom, IsContiguous}
-use Rattle.yasir_ticks.specs.BurstsOf.IsContiguous.{one}
-use Rattle.yasir_ticks.specs.Ticks.{silent, bytes_in}
-use Rattle.yasir_ticks.specs.declared.tick.Tick.{Tick}
-use Rattle.yasir_ticks.specs.declared.tick.Tick.TheVariants.{Byte}
-use Rattle.yasir_ticks.proofs.BurstLaws.{bursts_from-starts}
-use Rattle.yasir_ticks.proofs.BurstsOfLaws.{bursts_from-contiguous, bursts_from-silence}
-use Rattle.line_rules.specs.Rules.{Rules}
-use Rattle.line_rules.specs.RulesLaws.{IsFramed}
 use Rattle.frame_ending.specs.LiveBytes.{before_pause, live_bytes, has_extra}
+use Rattle.line_rules.specs.{Rules.Rules, RulesLaws.IsFramed}
 use Rattle.link_format.specs.Profile.{Profile, pause_len, trailer_len}
-use Rattle.receiver_laws.specs.Untouched.{AreSpaced}
-use Rattle.receiver_laws.proofs.Packing.{contiguous-bytes}
-use Rattle.receiver_laws.proofs.Standing.{bytes_in-byte_ticks}
-use Rattle.trial_session.specs.DrawnFrames.{Drawing}
+use Rattle.receiver_laws.proofs.{Packing.contiguous-bytes, Standing.bytes_in-byte_ticks}
+use Rattle.{receiver_laws.specs.Untouched.AreSpaced, std.proofs.Common.◌≡◌}
+use Rattle.std.proofs.Common.{◌∙◌, ℕ, zero, suc, ◌+◌, ◌-◌, ◌<◌, ◌≤◌, true, false, List, [], ◌∷◌}
+use Rattle.std.proofs.Common.{◌++◌, length, map, take, refl, ap, sym, subst, arith, append_assoc}
+use Rattle.std.proofs.{Common.length-append, lemmas.Bool.le-ltb, lemmas.Grind.flat_map-append}
+use Rattle.std.proofs.lemmas.List.{append-nil, length-map, take_all}
+use Rattle.{std.specs.List.flat_map, trial_session.specs.DrawnFrames.Drawing}
 use Rattle.trial_session.specs.Session.{period_line, state_at, session_line}
+use Rattle.yasir_ticks.proofs.{BurstLaws.bursts_from-starts, BurstsOfLaws.bursts_from-contiguous}
+use Rattle.yasir_ticks.{proofs.BurstsOfLaws.bursts_from-silence, specs.Bursts.Burst}
+use Rattle.yasir_ticks.specs.{Bursts.bursts_from, BurstsOf.StartsFrom, BurstsOf.IsContiguous}
+use Rattle.yasir_ticks.specs.{BurstsOf.IsContiguous.one, Ticks.silent, Ticks.bytes_in}
+use Rattle.yasir_ticks.specs.declared.tick.Tick.{Tick, TheVariants.Byte}
 
 byte_ticks : List ℕ → List Tick
 byte_ticks f = map (λ b. Byte b) f

@@ -1,30 +1,23 @@
 -- Each frame of a session is sealed, and each that has passed is read.
-use Rattle.std.proofs.Common.{◌≡◌, ◌∙◌, ℕ, zero, suc, ◌+◌, ◌-◌, ◌*◌, ◌^◌, ◌<◌, ◌≤◌, true, List, []}
-use Rattle.std.proofs.Common.{◌∷◌, ◌++◌, length, map, refl, ap, sym, subst, arith, append_assoc}
-use Rattle.std.specs.List.{filter_map}
-use Rattle.std.proofs.lemmas.Grind.{pow_more}
-use Rattle.std.proofs.lemmas.List.{length-map}
-use Rattle.yasir_ticks.specs.Bursts.{Burst, bursts}
-use Rattle.yasir_ticks.specs.Ticks.{silent}
-use Rattle.yasir_ticks.specs.declared.tick.Tick.{Tick}
-use Rattle.yasir_ticks.specs.declared.tick.Tick.TheVariants.{Byte}
-use Rattle.yasir_ticks.proofs.BurstLaws.{bursts_from-silent_end}
-use Rattle.line_rules.specs.Rules.{Rules}
-use Rattle.line_rules.specs.RulesLaws.{IsLawful, IsFramed}
 use Rattle.device_model.specs.Frames.{FrameRead}
+use Rattle.line_rules.specs.{Rules.Rules, RulesLaws.IsLawful, RulesLaws.IsFramed}
 use Rattle.link_format.specs.Profile.{Profile, HasTags, trailer_len}
-use Rattle.seal_judgements.specs.Sealing.{sealer, at_floor, sealed, sealed_in}
 use Rattle.link_verdicts.specs.Checking.{passed, received_line}
+use Rattle.receiver_laws.proofs.Deliveries.{delivers-all}
 use Rattle.receiver_laws.specs.Reading.{ReadsWhatPassed, delivered}
 use Rattle.receiver_laws.specs.Untouched.{AreSpaced, IsUntouched, numbered}
-use Rattle.receiver_laws.proofs.Deliveries.{delivers-all}
-use Rattle.trial_session.specs.DrawnFrames.{Drawing}
-use Rattle.trial_session.specs.Session.{state_at, session_line}
+use Rattle.seal_judgements.specs.Sealing.{sealer, at_floor, sealed, sealed_in}
+use Rattle.std.proofs.Common.{◌≡◌, ◌∙◌, ℕ, zero, suc, ◌+◌, ◌-◌, ◌*◌, ◌^◌, ◌<◌, ◌≤◌, true, List, []}
+use Rattle.std.proofs.Common.{◌∷◌, ◌++◌, length, map, refl, ap, sym, subst, arith, append_assoc}
+use Rattle.std.{proofs.lemmas.Grind.pow_more, proofs.lemmas.List.length-map, specs.List.filter_map}
 use Rattle.trial_session.proofs.Periods.{line-none, line-suc}
 use Rattle.trial_session.proofs.Placed.{placed, length-placed, AreFrames, frames-more}
 use Rattle.trial_session.proofs.Placed.{bursts-placed, spaced, frames_drawn, length-drawn}
-use Rattle.trial_session.proofs.Placed.{line-drawn}
-use Rattle.trial_session.proofs.Starting.{no-note}
+use Rattle.trial_session.proofs.{Placed.line-drawn, Starting.no-note}
+use Rattle.trial_session.specs.{DrawnFrames.Drawing, Session.state_at, Session.session_line}
+use Rattle.yasir_ticks.proofs.BurstLaws.{bursts_from-silent_end}
+use Rattle.yasir_ticks.specs.{Bursts.Burst, Bursts.bursts, Ticks.silent}
+use Rattle.yasir_ticks.specs.declared.tick.Tick.{Tick, TheVariants.Byte}
 
 length-numbered : (rules : Rules) (floor : ℕ) (ds : List Burst)
     → length (numbered rules floor ds) ≡ length ds

@@ -1,20 +1,16 @@
 -- Runs that are sent.
-use Rattle.std.proofs.Common.{◌≡◌, ◌∙◌, ℕ, zero, suc, ◌+◌, ◌-◌, List, [], ◌∷◌, ◌++◌}
-use Rattle.std.proofs.Common.{length, take, drop, map, ap, sym, subst, append_assoc, append-nil}
-use Rattle.std.proofs.Common.{refl, arith, Option}
-use Rattle.std.proofs.lemmas.List.{take_all, take_rest, map-append, replicate-append-replicate}
-use Rattle.yasir_ticks.specs.Ticks.{silent}
-use Rattle.yasir_ticks.specs.declared.tick.Tick.{Tick}
-use Rattle.yasir_ticks.specs.declared.tick.Tick.TheVariants.{Silent, Byte}
 use Rattle.burst_walk.specs.Answered.{answered}
 use Rattle.link_box.specs.declared.box_trait.LinkBox.{Ghosts as LinkBox}
-use Rattle.sequence_journal.specs.Journal.{journal_floor}
-use Rattle.trial_session.specs.Boxes.{trial_setup}
-use Rattle.trial_session.specs.Counting.{Counting, CountsStep, CountsRun}
-use Rattle.trial_session.specs.Counting.{through_in, refused_in, dropped_in}
-use Rattle.trial_session.specs.declared.fate.Fate.{Fate}
+use Rattle.{sequence_journal.specs.Journal.journal_floor, std.proofs.Common.◌≡◌}
+use Rattle.std.proofs.Common.{◌∙◌, ℕ, zero, suc, ◌+◌, ◌-◌, List, [], ◌∷◌, ◌++◌, length, take, drop}
+use Rattle.std.proofs.Common.{map, ap, sym, subst, append_assoc, append-nil, refl, arith, Option}
+use Rattle.std.proofs.lemmas.List.{take_all, take_rest, map-append, replicate-append-replicate}
+use Rattle.trial_session.specs.{Boxes.trial_setup, Counting.Counting}
+use Rattle.trial_session.specs.Counting.{CountsStep, CountsRun, through_in, refused_in, dropped_in}
 use Rattle.trial_session.specs.Sides.{HasTaken, HasSent, HasPassed}
-use Rattle.trial_session.specs.declared.side.Side.{Side}
+use Rattle.trial_session.specs.declared.{fate.Fate.Fate, side.Side.Side}
+use Rattle.yasir_ticks.specs.Ticks.{silent}
+use Rattle.yasir_ticks.specs.declared.tick.Tick.{Tick, TheVariants.Silent, TheVariants.Byte}
 
 -- ---- lists by places
 

@@ -1,16 +1,13 @@
 -- Boxes that have taken nothing, over new journals on disks that never fail.
+use Rattle.burst_walk.specs.Walk.{Walker, notes_of, line_of}
+use Rattle.sequence_journal.specs.Journal.{journal_floor, RefusesInit}
+use Rattle.sequence_journal.specs.{Slots.greatest, declared.journal.InitError.InitError}
+use Rattle.sequence_journal.specs.declared.journal.InitError.TheVariants.{Fault, Stands}
+use Rattle.sequence_journal.specs.declared.{journal.Journal.Journal, link.LinkId.LinkId}
 use Rattle.std.proofs.Common.{◌≡◌, [], Option, Some, None, refl, sym, ◌∙◌, Result, Ok, Err, arith}
 use Rattle.std.specs.Prelude.{OnErr, IfOk, IfErr, IsOk}
-use Rattle.yasir_io.specs.Disks.{Slots}
-use Rattle.yasir_io.specs.Causes.{Rose}
+use Rattle.yasir_io.specs.{Causes.Rose, Disks.Slots}
 use Rattle.yasir_ticks.specs.Bursts.{bursts_from}
-use Rattle.burst_walk.specs.Walk.{Walker, notes_of, line_of}
-use Rattle.sequence_journal.specs.declared.journal.Journal.{Journal}
-use Rattle.sequence_journal.specs.Journal.{journal_floor, RefusesInit}
-use Rattle.sequence_journal.specs.declared.journal.InitError.{InitError}
-use Rattle.sequence_journal.specs.declared.journal.InitError.TheVariants.{Fault, Stands}
-use Rattle.sequence_journal.specs.declared.link.LinkId.{LinkId}
-use Rattle.sequence_journal.specs.Slots.{greatest}
 
 -- a call on a disk that never fails
 pub never-fails : {T E : Type 0} (result : Result T E) → OnErr result (Rose 0 0) → IsOk result

@@ -1,22 +1,17 @@
 -- What the numbers of a session's line say of one another, by protocol.
-use Rattle.std.proofs.Common.{ℕ, ◌+◌, ◌≤◌, arith}
-use Rattle.rtu_frame.specs.Rules.{rtu_rules, rtu_lawful, rtu_framed}
-use Rattle.dnp_link_frame.specs.Rules.{dnp_rules}
-use Rattle.dnp_link_frame.specs.RulesLaws.{dnp_lawful, dnp_framed}
-use Rattle.device_model.specs.DnpReads.{dnp_reads}
-use Rattle.device_model.specs.RtuReads.{rtu_reads}
+use Rattle.device_model.specs.{DnpReads.dnp_reads, RtuReads.rtu_reads}
+use Rattle.dnp_link_frame.specs.{Rules.dnp_rules, RulesLaws.dnp_lawful, RulesLaws.dnp_framed}
 use Rattle.link_format.specs.Profile.{Profile, HasTags, pause_len, trailer_len}
-use Rattle.seal_judgements.specs.Sealing.{link_line}
 use Rattle.receiver_laws.proofs.DnpReadings.{dnp_reads_what_passed}
 use Rattle.receiver_laws.proofs.RtuReadings.{rtu_reads_what_passed}
-use Rattle.trial_session.specs.DrawLaws.{rtu_are_frames, rtu_are_short}
-use Rattle.trial_session.specs.DrawLaws.{dnp_are_frames, dnp_are_short}
-use Rattle.trial_session.specs.DnpDrawn.{dnp_drawing}
-use Rattle.trial_session.specs.RtuDrawn.{rtu_drawing}
-use Rattle.trial_session.specs.Session.{session_line, altered_link}
-use Rattle.trial_session.specs.Summaries.{trial_summary}
-use Rattle.trial_session.specs.Telling.{Tells}
+use Rattle.rtu_frame.specs.Rules.{rtu_rules, rtu_lawful, rtu_framed}
+use Rattle.seal_judgements.specs.Sealing.{link_line}
+use Rattle.std.proofs.Common.{ℕ, ◌+◌, ◌≤◌, arith}
 use Rattle.trial_session.proofs.SealsAll.{all-sealed, reads-all}
+use Rattle.trial_session.specs.{DnpDrawn.dnp_drawing, DrawLaws.rtu_are_frames}
+use Rattle.trial_session.specs.DrawLaws.{rtu_are_short, dnp_are_frames, dnp_are_short}
+use Rattle.trial_session.specs.{RtuDrawn.rtu_drawing, Session.session_line, Session.altered_link}
+use Rattle.trial_session.specs.{Summaries.trial_summary, Telling.Tells}
 
 module _ (profile : Profile) (tags : HasTags profile) (some : 1 ≤ profile.word_len)
     (short : trailer_len profile ≤ 20) (seed count : ℕ) (within : count ≤ profile.limit) where

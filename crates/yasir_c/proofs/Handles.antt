@@ -14,8 +14,7 @@ use denote.Steps.{nothing}
 use denote.Struct.Struct.{within}
 use denote.Struct.Owning.{shape}
 use Rattle.std.specs.Prelude.{Option}
-use Rattle.yasir_c.specs.Owning.{handle_owns}
-use Rattle.yasir_c.specs.declared.held.Held.{Held}
+use Rattle.yasir_c.specs.{Owning.handle_owns, declared.held.Held.Held}
 use Rattle.yasir_c.specs.contracts.handle.Handle as held
 
 abbrev pub word : Ptr → Val

@@ -1,18 +1,14 @@
 -- What a handle holds is taken out of it and put back.
-use Rattle.std.proofs.Common.{◌≡◌, ◌∙◌, sym, ap, refl}
-use Rattle.std.proofs.lemmas.Option.{same_Some}
-use Rattle.std.specs.Prelude.{Option, Some, None}
-use Rattle.yasir_ticks.specs.declared.tick.Tick.{Tick}
-use Rattle.dnp_link_frame.specs.declared.dnp.Dnp.{Dnp}
-use Rattle.device_model.specs.declared.device.Device.{Ghosts as Device}
-use Rattle.device_model.specs.declared.rtu.RtuDevice.{RtuDevice}
-use Rattle.line_spacer.specs.declared.spacer.SpaceStep.{SpaceStep}
-use Rattle.any_spacer.specs.Held.{StepsOrFull}
-use Rattle.any_spacer.specs.declared.forgetful.ForgetfulDevice.{ForgetfulDevice}
+use Rattle.any_spacer.specs.{Held.StepsOrFull, declared.forgetful.ForgetfulDevice.ForgetfulDevice}
 use Rattle.any_spacer.specs.declared.held_spacer.HeldSpacer.{HeldSpacer}
+use Rattle.device_model.specs.declared.{device.Device.Ghosts as Device, rtu.RtuDevice.RtuDevice}
+use Rattle.dnp_link_frame.specs.declared.dnp.Dnp.{Dnp}
+use Rattle.{line_spacer.specs.declared.spacer.SpaceStep.SpaceStep, std.proofs.Common.◌≡◌}
+use Rattle.std.proofs.{Common.◌∙◌, Common.sym, Common.ap, Common.refl, lemmas.Option.same_Some}
+use Rattle.std.specs.Prelude.{Option, Some, None}
 use Rattle.yasir_c.specs.Holding.{SpacesOrFull}
-use Rattle.yasir_c.specs.declared.held.Held.{Held}
-use Rattle.yasir_c.specs.declared.held.Held.TheVariants.{Spacer}
+use Rattle.yasir_c.specs.declared.held.Held.{Held, TheVariants.Spacer}
+use Rattle.yasir_ticks.specs.declared.tick.Tick.{Tick}
 
 -- what is taken out is of the kind that the handle held
 pub taken-is : {X : Type 0} (make : X → Held) (o : Option Held) (held same : Held)

@@ -1,18 +1,12 @@
 -- A box that takes no tick.
-use Rattle.std.proofs.Common.{◌∙◌, ℕ, List, take, refl, sym, ap, subst, arith}
-use Rattle.std.proofs.lemmas.List.{append-nil}
-use Rattle.sha2.specs.declared.Sha256.{Sha256}
-use Rattle.yasir_ticks.specs.declared.tick.Tick.{Tick}
-use Rattle.burst_walk.specs.Answered.{answered}
-use Rattle.rtu_frame.specs.declared.rtu.Rtu.{Rtu}
-use Rattle.dnp_link_frame.specs.declared.dnp.Dnp.{Dnp}
+use Rattle.any_box.specs.{Boxes.kind_of, Boxes.definition_of, Boxes.StandsAt, Held.TakesHeld}
+use Rattle.{any_box.specs.declared.held_box.HeldBox.HeldBox, burst_walk.specs.Answered.answered}
+use Rattle.{dnp_link_frame.specs.declared.dnp.Dnp.Dnp, hmac_tag.specs.declared.keyed_hash.Hmac.Hmac}
+use Rattle.hmac_tag.specs.declared.{sha1_hasher.Sha1Hasher.Sha1Hasher, tag.Mac.Ghosts as Mac}
 use Rattle.line_rules.specs.declared.line_rules.LineRules.{Ghosts as LineRules}
-use Rattle.hmac_tag.specs.declared.tag.Mac.{Ghosts as Mac}
-use Rattle.hmac_tag.specs.declared.keyed_hash.Hmac.{Hmac}
-use Rattle.hmac_tag.specs.declared.sha1_hasher.Sha1Hasher.{Sha1Hasher}
-use Rattle.any_box.specs.Boxes.{kind_of, definition_of, StandsAt}
-use Rattle.any_box.specs.Held.{TakesHeld}
-use Rattle.any_box.specs.declared.held_box.HeldBox.{HeldBox}
+use Rattle.{rtu_frame.specs.declared.rtu.Rtu.Rtu, sha2.specs.declared.Sha256.Sha256}
+use Rattle.std.proofs.Common.{◌∙◌, ℕ, List, take, refl, sym, ap, subst, arith}
+use Rattle.{std.proofs.lemmas.List.append-nil, yasir_ticks.specs.declared.tick.Tick.Tick}
 
 module _ (rtu : LineRules Rtu) (dnp : LineRules Dnp) (short : Mac (Hmac Sha1Hasher 20))
     (long : Mac (Hmac Sha256 32)) where

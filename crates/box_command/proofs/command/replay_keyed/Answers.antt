@@ -1,15 +1,12 @@
-use Rattle.std.proofs.Common.{◌≡◌, ◌∙◌, ap, inl, refl, true, false}
-use Rattle.yasir_io.proofs.FlushLaws.{none_flushed_then}
-use Rattle.sequence_journal.specs.Journal.{journal_floor}
-use Rattle.tick_drive.specs.Consumers.{is_write_fault}
-use Rattle.tick_drive.specs.Drive.{answer_of}
+use Rattle.box_command.proofs.{Behind.drives_behind, Floors.disk_cause_of_end}
+use Rattle.box_command.proofs.Outcomes.{is_run, write_stops, finish_fails, refusal_runs, whole_runs}
+use Rattle.box_command.specs.{BoxLines.state_of, ReplaysBox.around}
 use Rattle.replay_status.proofs.EndCauses.{input_cause, sink_cause_of_end}
 use Rattle.replay_status.proofs.FlushLaws.{flushes_of_whole, flushes_of_end}
-use Rattle.box_command.specs.BoxLines.{state_of}
-use Rattle.box_command.specs.ReplaysBox.{around}
-use Rattle.box_command.proofs.Behind.{drives_behind}
-use Rattle.box_command.proofs.Floors.{disk_cause_of_end}
-use Rattle.box_command.proofs.Outcomes.{is_run, write_stops, finish_fails, refusal_runs, whole_runs}
+use Rattle.sequence_journal.specs.Journal.{journal_floor}
+use Rattle.std.proofs.Common.{◌≡◌, ◌∙◌, ap, inl, refl, true, false}
+use Rattle.tick_drive.specs.{Consumers.is_write_fault, Drive.answer_of}
+use Rattle.yasir_io.proofs.FlushLaws.{none_flushed_then}
 use Rattle.box_command.proofs.command.replay_keyed.Goals as goal
 
 pub returns-then-is_write_stop-clause-runs : goal.returns-then-is_write_stop-clause-runs

@@ -1,7 +1,6 @@
-use Rattle.std.proofs.Common.{◌≡◌, ◌∙◌, ℕ, List, [], ◌∷◌, ◌++◌, subst}
-use Rattle.burst_walk.specs.Answers.{note_in}
+use Rattle.{box_command.specs.TimedLines.timed_lines, burst_walk.specs.Answers.note_in}
 use Rattle.replay_lists.specs.FrameList.{Kept, Holds}
-use Rattle.box_command.specs.TimedLines.{timed_lines}
+use Rattle.std.proofs.Common.{◌≡◌, ◌∙◌, ℕ, List, [], ◌∷◌, ◌++◌, subst}
 use Rattle.box_command.proofs.kept_box.push_note.Goals as goal
 
 pub returns-in-Ok : goal.returns-in-Ok

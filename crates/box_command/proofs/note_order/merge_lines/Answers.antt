@@ -1,6 +1,5 @@
+use Rattle.{box_command.proofs.NotesInOrder.all-merged, replay_lists.proofs.Lists.holds-length}
 use Rattle.std.proofs.Common.{arith}
-use Rattle.replay_lists.proofs.Lists.{holds-length}
-use Rattle.box_command.proofs.NotesInOrder.{all-merged}
 use Rattle.box_command.proofs.note_order.merge_lines.Goals as goal
 
 pub returns : goal.returns

@@ -1,6 +1,5 @@
+use Rattle.{box_command.specs.NoteOrder.Merges, replay_lists.specs.FrameList.list_len}
 use Rattle.std.proofs.Common.{◌+◌, ◌-◌}
-use Rattle.replay_lists.specs.FrameList.{list_len}
-use Rattle.box_command.specs.NoteOrder.{Merges}
 use Rattle.box_command.proofs.note_order.merge_lines.Given as goal
 
 abbrev pub invariant-loop-places : goal.invariant-loop-places

@@ -1,8 +1,7 @@
-use Rattle.std.proofs.Common.{◌+◌, ℕ, [], refl, subst, sym, arith}
-use Rattle.replay_lists.specs.FrameList.{Kept}
-use Rattle.replay_lists.proofs.Lists.{holds-length}
-use Rattle.box_command.specs.NoteOrder.{MergedTo}
 use Rattle.box_command.proofs.NotesInOrder.{one-first, one-second}
+use Rattle.box_command.specs.NoteOrder.{MergedTo}
+use Rattle.replay_lists.{proofs.Lists.holds-length, specs.FrameList.Kept}
+use Rattle.std.proofs.Common.{◌+◌, ℕ, [], refl, subst, sym, arith}
 use Rattle.box_command.proofs.note_order.push_next.Goals as goal
 
 none : Kept ℕ

@@ -1,7 +1,6 @@
-use Rattle.std.proofs.Common.{◌≡◌, ◌+◌, ℕ, refl, subst, arith}
-use Rattle.box_command.specs.KeptBox.{timed_of, AreTextsOf}
-use Rattle.box_command.specs.Recording.{steps_of}
 use Rattle.box_command.proofs.Filled.{holds-both, filled-by}
+use Rattle.box_command.specs.{KeptBox.timed_of, KeptBox.AreTextsOf, Recording.steps_of}
+use Rattle.std.proofs.Common.{◌≡◌, ◌+◌, ℕ, refl, subst, arith}
 use Rattle.box_command.proofs.recording.finish_both.Goals as goal
 
 pub merge_lines-requires-clause-first : goal.merge_lines-requires-clause-first

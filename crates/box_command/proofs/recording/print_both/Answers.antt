@@ -1,6 +1,5 @@
-use Rattle.std.proofs.Common.{◌∙◌, ap}
-use Rattle.std.specs.Io.KnownBytes.{append_known}
 use Rattle.box_command.proofs.Filled.{prints-all}
+use Rattle.std.{proofs.Common.◌∙◌, proofs.Common.ap, specs.Io.KnownBytes.append_known}
 use Rattle.box_command.proofs.recording.print_both.Goals as goal
 
 pub returns-clause-prints : goal.returns-clause-prints

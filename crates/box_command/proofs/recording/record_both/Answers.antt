@@ -1,9 +1,7 @@
-use Rattle.std.proofs.Common.{refl}
-use Rattle.hmac_tag.specs.declared.dir.Dir.{Dir}
-use Rattle.link_format.specs.Setup.{setup_of}
-use Rattle.box_pair.specs.Directions.{opposite_of}
-use Rattle.box_command.specs.BothBoxes.{Setups}
 use Rattle.box_command.proofs.BothKept.{keeps-whole, only-memory}
+use Rattle.{box_command.specs.BothBoxes.Setups, box_pair.specs.Directions.opposite_of}
+use Rattle.{hmac_tag.specs.declared.dir.Dir.Dir, link_format.specs.Setup.setup_of}
+use Rattle.std.proofs.Common.{refl}
 use Rattle.box_command.proofs.recording.record_both.Goals as goal
 
 pub returns-in_default : goal.returns-in_default

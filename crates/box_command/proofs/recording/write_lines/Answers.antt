@@ -1,8 +1,7 @@
+use Rattle.box_command.proofs.Filled.{then-front}
 use Rattle.std.proofs.Common.{◌≡◌, ◌∙◌, ◌++◌, List, ℕ, ap, codes, subst}
 use Rattle.std.specs.Io.KnownBytes.{append_known}
-use Rattle.yasir_io.specs.Output.{GotPrefix}
-use Rattle.yasir_io.proofs.OutputLemmas.{append_known-twice}
-use Rattle.box_command.proofs.Filled.{then-front}
+use Rattle.yasir_io.{proofs.OutputLemmas.append_known-twice, specs.Output.GotPrefix}
 use Rattle.box_command.proofs.recording.write_lines.Goals as goal
 
 pub returns-in-Err-clause-err : goal.returns-in-Err-clause-err

@@ -1,7 +1,6 @@
-use Rattle.std.proofs.Common.{◌≡◌}
-use Rattle.link_box.specs.Links.{link_by}
-use Rattle.sequence_journal.specs.Journal.{journal_link, Fits}
-use Rattle.seal_transmitter.specs.Stands.{direction_of, ticks_taken}
+use Rattle.{link_box.specs.Links.link_by, seal_transmitter.specs.Stands.direction_of}
+use Rattle.{seal_transmitter.specs.Stands.ticks_taken, sequence_journal.specs.Journal.journal_link}
+use Rattle.{sequence_journal.specs.Journal.Fits, std.proofs.Common.◌≡◌}
 use Rattle.box_tests.proofs.sealing.steps.Given as goal
 
 abbrev pub invariant-loop-letter : goal.invariant-loop-letter

@@ -1,5 +1,4 @@
-use Rattle.std.proofs.Common.{length}
-use Rattle.check_receiver.proofs.Comparing.{IsGathered}
+use Rattle.{check_receiver.proofs.Comparing.IsGathered, std.proofs.Common.length}
 use Rattle.check_receiver.proofs.arriving.are_same.Given as goal
 
 abbrev pub invariant-loop-one : goal.invariant-loop-one

@@ -1,6 +1,5 @@
+use Rattle.check_receiver.{proofs.Uptimes.commits-answered, specs.Checkings.numbers_noted}
 use Rattle.sequence_journal.proofs.StepLaws.{is-step, goes-on}
-use Rattle.check_receiver.specs.Checkings.{numbers_noted}
-use Rattle.check_receiver.proofs.Uptimes.{commits-answered}
 use Rattle.check_receiver.proofs.laws.steps_are_of_an_uptime.Goals as goal
 
 pub returns-clause-is_step : goal.returns-clause-is_step

@@ -1,9 +1,8 @@
+use Rattle.check_receiver.proofs.Lending.{ring-whole, alike-front, alike-past}
+use Rattle.delay_ring.specs.DelayRing.{ring_ticks, AreAlike}
 use Rattle.std.proofs.Common.{◌≡◌, ◌∙◌, ◌<◌, sym, subst, arith, length, List, ℕ, take, map}
 use Rattle.std.proofs.lemmas.Bool.{eqb-false}
-use Rattle.yasir_ticks.specs.declared.tick.Tick.{Tick}
-use Rattle.yasir_ticks.specs.declared.tick.Tick.TheVariants.{Byte}
-use Rattle.delay_ring.specs.DelayRing.{ring_ticks, AreAlike}
-use Rattle.check_receiver.proofs.Lending.{ring-whole, alike-front, alike-past}
+use Rattle.yasir_ticks.specs.declared.tick.Tick.{Tick, TheVariants.Byte}
 use Rattle.check_receiver.proofs.runs.alike_along.Goals as goal
 
 pub returns-then-count-clause-alike : goal.returns-then-count-clause-alike

@@ -1,10 +1,9 @@
-use Rattle.std.proofs.Common.{◌≡◌, ◌∙◌, ◌++◌, ap, subst, arith, map, take, List, ℕ}
-use Rattle.std.proofs.lemmas.List.{append-nil}
-use Rattle.yasir_ticks.specs.declared.tick.Tick.{Tick}
-use Rattle.yasir_ticks.specs.declared.tick.Tick.TheVariants.{Byte}
-use Rattle.frame_ending.specs.Stands.{StandsFor as CutStandsFor}
 use Rattle.check_receiver.proofs.Beginnings.{byte-begins}
 use Rattle.check_receiver.proofs.RestRuns.{live-begin_none, extra-begin_none}
+use Rattle.frame_ending.specs.Stands.{StandsFor as CutStandsFor}
+use Rattle.std.proofs.Common.{◌≡◌, ◌∙◌, ◌++◌, ap, subst, arith, map, take, List, ℕ}
+use Rattle.std.proofs.lemmas.List.{append-nil}
+use Rattle.yasir_ticks.specs.declared.tick.Tick.{Tick, TheVariants.Byte}
 use Rattle.check_receiver.proofs.runs.cut_some.Goals as goal
 
 pub returns-then-live-gt0-clause-none : goal.returns-then-live-gt0-clause-none

@@ -1,7 +1,6 @@
-use Rattle.std.proofs.Common.{◌≡◌, ◌∙◌, ◌++◌, sym, ap, subst, arith, length, List, ℕ}
+use Rattle.check_receiver.{proofs.Lending.of-ok, specs.Runs.IsFront}
 use Rattle.delay_ring.specs.DelayRing.{ring_ticks}
-use Rattle.check_receiver.specs.Runs.{IsFront}
-use Rattle.check_receiver.proofs.Lending.{of-ok}
+use Rattle.std.proofs.Common.{◌≡◌, ◌∙◌, ◌++◌, sym, ap, subst, arith, length, List, ℕ}
 use Rattle.check_receiver.proofs.runs.lend.Goals as goal
 
 pub returns : goal.returns

@@ -1,11 +1,8 @@
-use Rattle.std.proofs.Common.{◌≡◌, ◌∙◌, ◌-◌, ◌≤◌, ◌++◌, sym, ap, subst, arith, length, List, ℕ}
-use Rattle.std.proofs.Common.{take, map}
-use Rattle.std.proofs.lemmas.List.{length-take-le}
-use Rattle.yasir_ticks.specs.declared.tick.Tick.{Tick}
-use Rattle.yasir_ticks.specs.declared.tick.Tick.TheVariants.{Byte}
-use Rattle.delay_ring.specs.DelayRing.{ring_ticks}
-use Rattle.check_receiver.specs.Runs.{IsFront}
 use Rattle.check_receiver.proofs.Lending.{of-ok, ring-whole, front-along, whole-along}
+use Rattle.{check_receiver.specs.Runs.IsFront, delay_ring.specs.DelayRing.ring_ticks}
+use Rattle.std.proofs.Common.{◌≡◌, ◌∙◌, ◌-◌, ◌≤◌, ◌++◌, sym, ap, subst, arith, length, List, ℕ}
+use Rattle.std.proofs.{Common.take, Common.map, lemmas.List.length-take-le}
+use Rattle.yasir_ticks.specs.declared.tick.Tick.{Tick, TheVariants.Byte}
 use Rattle.check_receiver.proofs.runs.lend_along.Goals as goal
 
 pub returns-then-front : goal.returns-then-front

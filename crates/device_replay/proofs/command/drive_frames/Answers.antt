@@ -1,9 +1,7 @@
+use Rattle.device_replay.{proofs.ReadEnds.drives_frames, specs.PrintsFrames.DrivesFrames}
 use Rattle.std.proofs.Common.{◌≡◌, ◌∙◌, ap, subst, sym}
-use Rattle.yasir_io.specs.Causes.{HasCause}
-use Rattle.yasir_io.specs.TextBuffer.{waiting_bytes}
 use Rattle.tick_drive.specs.Drive.{answer_of}
-use Rattle.device_replay.specs.PrintsFrames.{DrivesFrames}
-use Rattle.device_replay.proofs.ReadEnds.{drives_frames}
+use Rattle.yasir_io.specs.{Causes.HasCause, TextBuffer.waiting_bytes}
 use Rattle.device_replay.proofs.command.drive_frames.Goals as goal
 
 pub returns-clause-driven : goal.returns-clause-driven

@@ -1,7 +1,6 @@
-use Rattle.std.proofs.Common.{◌++◌, sym, subst}
-use Rattle.yasir_io.specs.Output.{Buffered}
-use Rattle.yasir_io.proofs.OutputLemmas.{more_waits, prefix_of_more}
-use Rattle.device_replay.specs.Lines.{frame_line}
+use Rattle.{device_replay.specs.Lines.frame_line, std.proofs.Common.◌++◌, std.proofs.Common.sym}
+use Rattle.{std.proofs.Common.subst, yasir_io.proofs.OutputLemmas.more_waits}
+use Rattle.yasir_io.{proofs.OutputLemmas.prefix_of_more, specs.Output.Buffered}
 use Rattle.device_replay.proofs.text.push_read_line.Goals as goal
 
 pub returns-in-Ok-clause-ok : goal.returns-in-Ok-clause-ok

@@ -1,5 +1,4 @@
-use Rattle.std.proofs.Common.{◌≡◌}
-use Rattle.device_model.specs.HuntFamily.{family_ticks}
+use Rattle.{device_model.specs.HuntFamily.family_ticks, std.proofs.Common.◌≡◌}
 use Rattle.device_tests.proofs.families.dnp_readings.Given as goal
 
 abbrev pub invariant-loop-at : goal.invariant-loop-at

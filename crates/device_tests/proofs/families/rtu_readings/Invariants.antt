@@ -1,5 +1,4 @@
-use Rattle.std.proofs.Common.{◌≡◌}
-use Rattle.device_model.specs.RtuFamily.{ticks_heard}
+use Rattle.{device_model.specs.RtuFamily.ticks_heard, std.proofs.Common.◌≡◌}
 use Rattle.device_tests.proofs.families.rtu_readings.Given as goal
 
 abbrev pub invariant-loop-at : goal.invariant-loop-at

@@ -1,8 +1,6 @@
+use Rattle.link_box.specs.{Stepping.ServesLink, Walking.other_line}
+use Rattle.{link_format.specs.Setup.Setup, sequence_journal.specs.Journal.journal_floor}
 use Rattle.std.proofs.Common.{◌≡◌, [], length, take}
-use Rattle.link_format.specs.Setup.{Setup}
-use Rattle.link_box.specs.Stepping.{ServesLink}
-use Rattle.link_box.specs.Walking.{other_line}
-use Rattle.sequence_journal.specs.Journal.{journal_floor}
 use Rattle.embed_boxes.proofs.carrying.pass_line.Given as goal
 
 abbrev pub invariant-loop-index : goal.invariant-loop-index

@@ -1,7 +1,6 @@
-use Rattle.std.proofs.Common.{◌∙◌, subst, sym}
-use Rattle.link_format.specs.Setup.{setup_of}
-use Rattle.link_box.proofs.KnownLinks.{known}
+use Rattle.{link_box.proofs.KnownLinks.known, link_format.specs.Setup.setup_of}
 use Rattle.sequence_journal.specs.Links.{IsLink}
+use Rattle.std.proofs.Common.{◌∙◌, subst, sym}
 use Rattle.embed_boxes.proofs.carrying.through.Goals as goal
 
 pub init-requires : goal.init-requires

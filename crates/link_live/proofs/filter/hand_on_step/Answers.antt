@@ -1,6 +1,5 @@
+use Rattle.live_port.specs.{LiveText.IsTextOf, Sent.Hands}
 use Rattle.std.proofs.Common.{◌∙◌, [], ◌∷◌, sym, subst}
-use Rattle.live_port.specs.LiveText.{IsTextOf}
-use Rattle.live_port.specs.Sent.{Hands}
 use Rattle.link_live.proofs.filter.hand_on_step.Goals as goal
 
 pub returns-in_default : goal.returns-in_default

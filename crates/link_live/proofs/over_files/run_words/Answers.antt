@@ -1,6 +1,4 @@
-use Rattle.std.proofs.Common.{subst}
-use Rattle.link_live.specs.Words.{Asks}
-use Rattle.link_live.proofs.Asking.{asks-one}
+use Rattle.{link_live.proofs.Asking.asks-one, link_live.specs.Words.Asks, std.proofs.Common.subst}
 use Rattle.link_live.proofs.over_files.run_words.Goals as goal
 
 pub returns-clause-runs : goal.returns-clause-runs

@@ -1,11 +1,6 @@
-use Rattle.std.proofs.Common.{subst, map}
-use Rattle.std.specs.String.{string_bytes}
-use Rattle.link_live.specs.Able.{MayDo}
-use Rattle.link_live.specs.LiveCommand.{around}
-use Rattle.link_live.specs.Programs.{Runs, KeepsDisk}
-use Rattle.link_live.specs.Words.{Asks}
-use Rattle.link_live.proofs.Able.{asked_done}
-use Rattle.link_live.proofs.Asking.{asks-one}
+use Rattle.link_live.{proofs.Able.asked_done, proofs.Asking.asks-one, specs.Able.MayDo}
+use Rattle.link_live.specs.{LiveCommand.around, Programs.Runs, Programs.KeepsDisk, Words.Asks}
+use Rattle.std.{proofs.Common.subst, proofs.Common.map, specs.String.string_bytes}
 use Rattle.link_live.proofs.program.run.Goals as goal
 
 pub returns-clause-usage : goal.returns-clause-usage

@@ -1,8 +1,6 @@
+use Rattle.link_replay.{proofs.Paths.word_in-path, specs.Words.journal_place}
 use Rattle.std.proofs.Common.{◌∙◌, ap, option_map}
-use Rattle.std.specs.String.{string_bytes}
-use Rattle.yasir_io.specs.SlotFiles.{for_slots}
-use Rattle.link_replay.specs.Words.{journal_place}
-use Rattle.link_replay.proofs.Paths.{word_in-path}
+use Rattle.{std.specs.String.string_bytes, yasir_io.specs.SlotFiles.for_slots}
 use Rattle.link_replay.proofs.over_files.journal_file.Goals as goal
 
 pub returns : goal.returns

@@ -1,7 +1,6 @@
-use Rattle.std.proofs.Common.{◌≡◌, ◌∙◌, sym, subst, inl, drop, map}
-use Rattle.std.specs.String.{string_bytes}
-use Rattle.std.specs.Vec.Iter.{into_iter_items}
 use Rattle.link_replay.specs.Words.{Asks}
+use Rattle.std.proofs.Common.{◌≡◌, ◌∙◌, sym, subst, inl, drop, map}
+use Rattle.std.specs.{String.string_bytes, Vec.Iter.into_iter_items}
 use Rattle.link_replay.proofs.over_files.run_over_files.Goals as goal
 
 pub returns-in-Ok-run_words-clause-ends : goal.returns-in-Ok-run_words-clause-ends

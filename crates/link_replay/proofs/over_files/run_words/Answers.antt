@@ -1,6 +1,5 @@
+use Rattle.link_replay.{proofs.Asking.asks-one, specs.Words.Asks}
 use Rattle.std.proofs.Common.{subst}
-use Rattle.link_replay.specs.Words.{Asks}
-use Rattle.link_replay.proofs.Asking.{asks-one}
 use Rattle.link_replay.proofs.over_files.run_words.Goals as goal
 
 pub returns-clause-runs : goal.returns-clause-runs

@@ -1,6 +1,5 @@
-use Rattle.std.proofs.Common.{Some, map}
-use Rattle.std.specs.String.{string_bytes}
 use Rattle.link_replay.proofs.Asking.{asked-floors}
+use Rattle.std.{proofs.Common.Some, proofs.Common.map, specs.String.string_bytes}
 use Rattle.link_replay.proofs.program.asked_by.Goals as goal
 
 pub returns-in-Ok-clause-floors : goal.returns-in-Ok-clause-floors

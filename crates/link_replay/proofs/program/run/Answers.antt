@@ -1,12 +1,9 @@
-use Rattle.std.proofs.Common.{subst, sym}
-use Rattle.std.specs.Prelude.{map}
-use Rattle.std.specs.String.{string_bytes}
-use Rattle.replay_status.specs.Outside.{outside}
-use Rattle.link_replay.specs.Words.{Asks}
-use Rattle.link_replay.specs.Commands.{Runs, KeepsDisk, HasCauses, MayDo, EndsWell}
 use Rattle.link_replay.proofs.Asking.{asks-one}
-use Rattle.replay_status.proofs.Logging.{logs-from}
 use Rattle.link_replay.proofs.Outcomes.{calm_before, causes_after, asked_done}
+use Rattle.link_replay.specs.Commands.{Runs, KeepsDisk, HasCauses, MayDo, EndsWell}
+use Rattle.{link_replay.specs.Words.Asks, replay_status.proofs.Logging.logs-from}
+use Rattle.{replay_status.specs.Outside.outside, std.proofs.Common.subst, std.proofs.Common.sym}
+use Rattle.std.specs.{Prelude.map, String.string_bytes}
 use Rattle.link_replay.proofs.program.run.Goals as goal
 
 pub returns-clause-usage : goal.returns-clause-usage

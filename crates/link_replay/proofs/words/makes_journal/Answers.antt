@@ -1,5 +1,4 @@
-use Rattle.std.proofs.Common.{rules}
-use Rattle.link_replay.specs.declared.words.Command.TheVariants.{Init}
+use Rattle.{link_replay.specs.declared.words.Command.TheVariants.Init, std.proofs.Common.rules}
 use Rattle.link_replay.proofs.words.makes_journal.Goals as goal
 
 pub returns-in-Err : goal.returns-in-Err

@@ -1,5 +1,4 @@
-use Rattle.std.proofs.Common.{arith}
-use Rattle.link_replay.proofs.Asking.{trial-counts}
+use Rattle.{link_replay.proofs.Asking.trial-counts, std.proofs.Common.arith}
 use Rattle.link_replay.proofs.words.read_trial.Goals as goal
 
 pub returns-then-count-lt1-clause-usage : goal.returns-then-count-lt1-clause-usage

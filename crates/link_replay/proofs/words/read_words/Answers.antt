@@ -1,8 +1,7 @@
+use Rattle.link_replay.specs.{Words.IsCommand, declared.words.Command.Command}
 use Rattle.std.proofs.Common.{◌≡◌, ℕ, ◌<◌, ◌≤◌, List, [], ◌∷◌, length, get_or, map, IfOk, OnErr}
 use Rattle.std.proofs.Common.{subst, sym, arith}
 use Rattle.std.specs.String.{string_bytes}
-use Rattle.link_replay.specs.declared.words.Command.{Command}
-use Rattle.link_replay.specs.Words.{IsCommand}
 use Rattle.link_replay.proofs.words.read_words.Goals as goal
 
 -- a list of five by its items

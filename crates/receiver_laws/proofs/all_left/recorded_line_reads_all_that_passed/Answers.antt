@@ -1,12 +1,9 @@
-use Rattle.std.proofs.Common.{arith}
-use Rattle.dnp_link_frame.specs.Rules.{dnp_rules}
-use Rattle.dnp_link_frame.specs.RulesLaws.{dnp_lawful, dnp_headed}
-use Rattle.rtu_frame.specs.Rules.{rtu_rules, rtu_lawful, rtu_headed}
 use Rattle.device_model.specs.DnpReads.{dnp_reads}
-use Rattle.receiver_laws.proofs.AllLeft.{reads-all}
-use Rattle.receiver_laws.proofs.DnpReadings.{dnp_reads_what_passed}
-use Rattle.receiver_laws.proofs.RtuReadings.{rtu_reads_what_passed}
-use Rattle.receiver_laws.proofs.Settled.{reads_with}
+use Rattle.dnp_link_frame.specs.{Rules.dnp_rules, RulesLaws.dnp_lawful, RulesLaws.dnp_headed}
+use Rattle.receiver_laws.proofs.{AllLeft.reads-all, DnpReadings.dnp_reads_what_passed}
+use Rattle.receiver_laws.proofs.{RtuReadings.rtu_reads_what_passed, Settled.reads_with}
+use Rattle.rtu_frame.specs.Rules.{rtu_rules, rtu_lawful, rtu_headed}
+use Rattle.std.proofs.Common.{arith}
 use Rattle.receiver_laws.proofs.all_left.recorded_line_reads_all_that_passed.Goals as goal
 
 pub returns-clause-rtu : goal.returns-clause-rtu

@@ -1,6 +1,5 @@
 use Rattle.device_model.specs.Hunt.{hunt_line, hunt_anew}
-use Rattle.receiver_laws.proofs.Anew.{anew_reads_what_passed}
-use Rattle.receiver_laws.proofs.Headline.{reads-sealed}
+use Rattle.receiver_laws.proofs.{Anew.anew_reads_what_passed, Headline.reads-sealed}
 use Rattle.receiver_laws.proofs.HunterReadings.{hunt_reads_what_passed, hunter_reads_what_passed}
 use Rattle.receiver_laws.proofs.hunting_laws.hunting_device_reads_what_was_sealed.Goals as goal
 

@@ -1,14 +1,10 @@
-use Rattle.std.proofs.Common.{suc, arith}
-use Rattle.dnp_link_frame.specs.Rules.{dnp_rules}
-use Rattle.dnp_link_frame.specs.RulesLaws.{dnp_lawful}
-use Rattle.device_model.specs.DnpReads.{dnp_reads}
-use Rattle.rtu_frame.specs.Rules.{rtu_rules, rtu_lawful}
-use Rattle.device_model.specs.HuntFamily.{dnp_family_reads}
+use Rattle.device_model.specs.{DnpReads.dnp_reads, HuntFamily.dnp_family_reads}
 use Rattle.device_model.specs.RtuFamily.{rtu_family_reads}
-use Rattle.receiver_laws.proofs.Settled.{reads_with}
-use Rattle.receiver_laws.proofs.Headline.{reads-over}
+use Rattle.dnp_link_frame.specs.{Rules.dnp_rules, RulesLaws.dnp_lawful}
 use Rattle.receiver_laws.proofs.DnpReadings.{dnp_reads_what_passed, dnp_family_reads_what_passed}
-use Rattle.receiver_laws.proofs.RtuReadings.{rtu_reads_what_passed}
+use Rattle.receiver_laws.proofs.{Headline.reads-over, RtuReadings.rtu_reads_what_passed}
+use Rattle.{receiver_laws.proofs.Settled.reads_with, rtu_frame.specs.Rules.rtu_rules}
+use Rattle.{rtu_frame.specs.Rules.rtu_lawful, std.proofs.Common.suc, std.proofs.Common.arith}
 use Rattle.receiver_laws.proofs.uptime_laws.device_reads_what_was_sealed_over_uptimes.Goals as goal
 
 pub returns-clause-rtu : goal.returns-clause-rtu

@@ -1,12 +1,9 @@
-use Rattle.std.proofs.Common.{refl, subst}
-use Rattle.link_format.specs.Setup.{setup_of}
-use Rattle.replay_status.proofs.FlushLaws.{flushes_of_whole}
-use Rattle.replay_status.proofs.EndCauses.{input_cause_of_whole}
-use Rattle.recordings_replay.specs.Listing.{listing_with, listing_text}
-use Rattle.recordings_replay.specs.Printing.{PrintsText}
+use Rattle.{link_format.specs.Setup.setup_of, recordings_replay.proofs.Recording.recorded-prints}
+use Rattle.recordings_replay.specs.{Listing.listing_with, Listing.listing_text, Printing.PrintsText}
 use Rattle.recordings_replay.specs.Recorded.{device_line, lines_of, link_ticks}
 use Rattle.replay_lists.specs.Listed.{link_rest}
-use Rattle.recordings_replay.proofs.Recording.{recorded-prints}
+use Rattle.replay_status.proofs.{EndCauses.input_cause_of_whole, FlushLaws.flushes_of_whole}
+use Rattle.std.proofs.Common.{refl, subst}
 use Rattle.recordings_replay.proofs.command.replay_keyed.Goals as goal
 
 pub returns-clause-prints : goal.returns-clause-prints

@@ -1,11 +1,9 @@
-use Rattle.std.proofs.Common.{◌≡◌, List, take}
-use Rattle.std.specs.List.{flat_map}
 use Rattle.link_format.specs.NumberedFrame.{NumberedFrame, AreNumberedFrom}
-use Rattle.replay_lists.specs.FrameBox.{kept_frames}
-use Rattle.replay_lists.specs.FrameList.{Kept, Holds}
-use Rattle.replay_lists.specs.declared.frame_box.Numbered.{Numbered}
-use Rattle.recordings_replay.specs.Printing.{AddsText, on_the_way}
 use Rattle.recordings_replay.proofs.Pushing.{forged_line}
+use Rattle.recordings_replay.specs.Printing.{AddsText, on_the_way}
+use Rattle.replay_lists.specs.{FrameBox.kept_frames, FrameList.Kept, FrameList.Holds}
+use Rattle.replay_lists.specs.declared.frame_box.Numbered.{Numbered}
+use Rattle.std.{proofs.Common.◌≡◌, proofs.Common.List, proofs.Common.take, specs.List.flat_map}
 use Rattle.recordings_replay.proofs.groups.push_forged.Given as goal
 
 abbrev pub invariant-loop-index : goal.invariant-loop-index

@@ -1,9 +1,8 @@
-use Rattle.std.proofs.Common.{◌∙◌, subst, refl, arith}
-use Rattle.replay_lists.specs.ReplayLists.{kept_reads}
-use Rattle.recordings_replay.specs.Printing.{AddsText, BreaksOff, on_the_way}
 use Rattle.recordings_replay.proofs.Pushing.{kept_read_line, kept-read-lines, item-added}
-use Rattle.recordings_replay.proofs.Pushing.{item-breaks}
-use Rattle.recordings_replay.proofs.Pushing.{all-added}
+use Rattle.recordings_replay.proofs.Pushing.{item-breaks, all-added}
+use Rattle.recordings_replay.specs.Printing.{AddsText, BreaksOff, on_the_way}
+use Rattle.replay_lists.specs.ReplayLists.{kept_reads}
+use Rattle.std.proofs.Common.{◌∙◌, subst, refl, arith}
 use Rattle.recordings_replay.proofs.groups.push_reads.Goals as goal
 
 pub returns-in_default-clause-err : goal.returns-in_default-clause-err

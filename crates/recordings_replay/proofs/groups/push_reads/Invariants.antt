@@ -1,8 +1,7 @@
-use Rattle.std.proofs.Common.{◌≡◌, ℕ, List, take}
-use Rattle.std.specs.List.{flat_map}
-use Rattle.replay_lists.specs.FrameList.{Kept, Holds}
-use Rattle.recordings_replay.specs.Printing.{AddsText, on_the_way}
-use Rattle.recordings_replay.proofs.Pushing.{kept_read_line}
+use Rattle.recordings_replay.{proofs.Pushing.kept_read_line, specs.Printing.AddsText}
+use Rattle.{recordings_replay.specs.Printing.on_the_way, replay_lists.specs.FrameList.Kept}
+use Rattle.{replay_lists.specs.FrameList.Holds, std.proofs.Common.◌≡◌}
+use Rattle.std.{proofs.Common.ℕ, proofs.Common.List, proofs.Common.take, specs.List.flat_map}
 use Rattle.recordings_replay.proofs.groups.push_reads.Given as goal
 
 abbrev pub invariant-loop-index : goal.invariant-loop-index

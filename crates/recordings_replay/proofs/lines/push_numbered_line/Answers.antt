@@ -1,7 +1,6 @@
-use Rattle.std.proofs.Common.{◌++◌, sym, subst}
-use Rattle.yasir_io.specs.Output.{Buffered}
-use Rattle.yasir_io.proofs.OutputLemmas.{more_waits, prefix_of_more}
-use Rattle.recordings_replay.specs.Listing.{numbered_line}
+use Rattle.{recordings_replay.specs.Listing.numbered_line, std.proofs.Common.◌++◌}
+use Rattle.{std.proofs.Common.sym, std.proofs.Common.subst, yasir_io.proofs.OutputLemmas.more_waits}
+use Rattle.yasir_io.{proofs.OutputLemmas.prefix_of_more, specs.Output.Buffered}
 use Rattle.recordings_replay.proofs.lines.push_numbered_line.Goals as goal
 
 pub returns-in-Ok-clause-ok : goal.returns-in-Ok-clause-ok

@@ -1,8 +1,7 @@
-use Rattle.std.proofs.Common.{◌∙◌, [], inl, refl}
+use Rattle.recordings_replay.{proofs.InOrder.prints-by, specs.Listing.listing_text}
 use Rattle.replay_status.proofs.FlushLaws.{flushes_of_whole}
+use Rattle.std.proofs.Common.{◌∙◌, [], inl, refl}
 use Rattle.yasir_io.proofs.OutputLemmas.{printed}
-use Rattle.recordings_replay.specs.Listing.{listing_text}
-use Rattle.recordings_replay.proofs.InOrder.{prints-by}
 use Rattle.recordings_replay.proofs.printing.print_listing.Goals as goal
 
 pub returns-in_default-clause-prints : goal.returns-in_default-clause-prints

@@ -1,9 +1,7 @@
+use Rattle.{device_replay.specs.Lines.frame_lines, recordings_replay.proofs.InOrder.breaks-first}
+use Rattle.recordings_replay.proofs.InOrder.{breaks-second, breaks-third, breaks-fourth, adds-all}
+use Rattle.recordings_replay.specs.{Listing.forged_in, Listing.numbered_lines, Printing.on_the_way}
 use Rattle.std.specs.Prelude.{codes}
-use Rattle.device_replay.specs.Lines.{frame_lines}
-use Rattle.recordings_replay.specs.Listing.{forged_in, numbered_lines}
-use Rattle.recordings_replay.specs.Printing.{on_the_way}
-use Rattle.recordings_replay.proofs.InOrder.{breaks-first, breaks-second, breaks-third}
-use Rattle.recordings_replay.proofs.InOrder.{breaks-fourth, adds-all}
 use Rattle.recordings_replay.proofs.printing.push_listing.Goals as goal
 
 pub returns-in_default-clause-err : goal.returns-in_default-clause-err

@@ -1,8 +1,6 @@
-use Rattle.std.proofs.Common.{arith}
-use Rattle.std.proofs.lemmas.List.{length-take-le}
+use Rattle.{device_model.specs.Frames.frames_lent, replay_lists.proofs.TakenLines.hears-lent}
+use Rattle.std.proofs.{Common.arith, lemmas.List.length-take-le}
 use Rattle.yasir_ticks.specs.TickRun.{run_ticks}
-use Rattle.device_model.specs.Frames.{frames_lent}
-use Rattle.replay_lists.proofs.TakenLines.{hears-lent}
 use Rattle.replay_lists.proofs.fronts.hear_front.Goals as goal
 
 pub take_lent-requires-clause-room : goal.take_lent-requires-clause-room

@@ -1,9 +1,7 @@
-use Rattle.std.proofs.Common.{◌≡◌, ◌++◌, ap, subst, arith, length, length-drop, map, take}
-use Rattle.std.proofs.lemmas.List.{take_all}
-use Rattle.yasir_ticks.specs.declared.tick.Tick.TheVariants.{Byte}
+use Rattle.replay_lists.proofs.HeardRuns.{hears-nothing, slice_rest, bytes_on}
 use Rattle.replay_lists.specs.ReplayLists.{Listens}
-use Rattle.replay_lists.proofs.HeardRuns.{hears-nothing}
-use Rattle.replay_lists.proofs.HeardRuns.{slice_rest, bytes_on}
+use Rattle.std.proofs.Common.{◌≡◌, ◌++◌, ap, subst, arith, length, length-drop, map, take}
+use Rattle.{std.proofs.lemmas.List.take_all, yasir_ticks.specs.declared.tick.Tick.TheVariants.Byte}
 use Rattle.replay_lists.proofs.hearing.hear_bytes.Goals as goal
 
 pub loop-done-init : goal.loop-done-init

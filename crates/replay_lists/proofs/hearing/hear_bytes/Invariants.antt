@@ -1,7 +1,6 @@
-use Rattle.std.proofs.Common.{◌≡◌, ◌+◌, ◌-◌, ◌≤◌, ◌++◌, List, length, map, take}
-use Rattle.yasir_ticks.specs.declared.tick.Tick.{Tick}
-use Rattle.yasir_ticks.specs.declared.tick.Tick.TheVariants.{Byte}
 use Rattle.replay_lists.specs.ReplayLists.{Listens}
+use Rattle.std.proofs.Common.{◌≡◌, ◌+◌, ◌-◌, ◌≤◌, ◌++◌, List, length, map, take}
+use Rattle.yasir_ticks.specs.declared.tick.Tick.{Tick, TheVariants.Byte}
 use Rattle.replay_lists.proofs.hearing.hear_bytes.Given as goal
 
 abbrev pub invariant-loop-done : goal.invariant-loop-done

@@ -1,9 +1,7 @@
+use Rattle.replay_lists.{proofs.HeardRuns.answered-heard, specs.ReplayLists.Listens}
 use Rattle.std.proofs.Common.{◌≤◌, ◌++◌, subst, arith, length, map, take}
-use Rattle.std.proofs.lemmas.List.{length-take-le}
-use Rattle.std.proofs.lemmas.Result.{on_ok_weaker}
+use Rattle.std.proofs.lemmas.{List.length-take-le, Result.on_ok_weaker}
 use Rattle.yasir_ticks.specs.declared.tick.Tick.TheVariants.{Byte}
-use Rattle.replay_lists.specs.ReplayLists.{Listens}
-use Rattle.replay_lists.proofs.HeardRuns.{answered-heard}
 use Rattle.replay_lists.proofs.hearing.hear_run.Goals as goal
 
 pub hear_bytes-requires : goal.hear_bytes-requires

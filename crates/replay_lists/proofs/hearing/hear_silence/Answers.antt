@@ -1,8 +1,6 @@
-use Rattle.std.proofs.Common.{◌≡◌, ◌++◌, subst, arith}
-use Rattle.yasir_ticks.specs.Ticks.{silent}
-use Rattle.replay_lists.specs.ReplayLists.{Listens}
-use Rattle.replay_lists.proofs.HeardRuns.{hears-nothing}
-use Rattle.replay_lists.proofs.HeardRuns.{silent_on}
+use Rattle.replay_lists.proofs.HeardRuns.{hears-nothing, silent_on}
+use Rattle.{replay_lists.specs.ReplayLists.Listens, std.proofs.Common.◌≡◌, std.proofs.Common.◌++◌}
+use Rattle.{std.proofs.Common.subst, std.proofs.Common.arith, yasir_ticks.specs.Ticks.silent}
 use Rattle.replay_lists.proofs.hearing.hear_silence.Goals as goal
 
 pub loop-done-init : goal.loop-done-init

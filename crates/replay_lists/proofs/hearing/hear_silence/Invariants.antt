@@ -1,8 +1,6 @@
+use Rattle.replay_lists.specs.{FrameList.list_len, ReplayLists.Listens}
 use Rattle.std.proofs.Common.{◌≡◌, ◌+◌, ◌-◌, ◌≤◌, ◌++◌, List}
-use Rattle.yasir_ticks.specs.Ticks.{silent}
-use Rattle.yasir_ticks.specs.declared.tick.Tick.{Tick}
-use Rattle.replay_lists.specs.FrameList.{list_len}
-use Rattle.replay_lists.specs.ReplayLists.{Listens}
+use Rattle.yasir_ticks.specs.{Ticks.silent, declared.tick.Tick.Tick}
 use Rattle.replay_lists.proofs.hearing.hear_silence.Given as goal
 
 abbrev pub invariant-loop-done : goal.invariant-loop-done

@@ -1,6 +1,5 @@
-use Rattle.std.proofs.Common.{map, take}
+use Rattle.{replay_lists.proofs.Keeping.listens-more, std.proofs.Common.map, std.proofs.Common.take}
 use Rattle.yasir_ticks.specs.declared.tick.Tick.TheVariants.{Byte}
-use Rattle.replay_lists.proofs.Keeping.{listens-more}
 use Rattle.replay_lists.proofs.hearing.hear_some.Goals as goal
 
 pub returns-in-Ok-clause-ok : goal.returns-in-Ok-clause-ok

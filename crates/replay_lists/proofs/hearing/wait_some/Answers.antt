@@ -1,5 +1,4 @@
-use Rattle.yasir_ticks.specs.Ticks.{silent}
-use Rattle.replay_lists.proofs.Keeping.{listens-more}
+use Rattle.{replay_lists.proofs.Keeping.listens-more, yasir_ticks.specs.Ticks.silent}
 use Rattle.replay_lists.proofs.hearing.wait_some.Goals as goal
 
 pub returns-in-Ok-clause-ok : goal.returns-in-Ok-clause-ok

@@ -1,5 +1,4 @@
-use Rattle.yasir_ticks.specs.Ticks.{silent}
-use Rattle.replay_lists.specs.Lines.{HearsOn}
+use Rattle.{replay_lists.specs.Lines.HearsOn, yasir_ticks.specs.Ticks.silent}
 use Rattle.replay_lists.proofs.lines.hear_rest.Given as goal
 
 abbrev pub invariant-loop : goal.invariant-loop

@@ -1,6 +1,5 @@
-use Rattle.device_model.specs.Frames.{frames_lent}
+use Rattle.{device_model.specs.Frames.frames_lent, replay_lists.proofs.TakenLines.hears-lent}
 use Rattle.std.proofs.Common.{arith}
-use Rattle.replay_lists.proofs.TakenLines.{hears-lent}
 use Rattle.replay_lists.proofs.lines.hear_tick.Goals as goal
 
 pub take_lent-requires-clause-room : goal.take_lent-requires-clause-room

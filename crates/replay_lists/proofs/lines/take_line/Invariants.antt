@@ -1,5 +1,4 @@
-use Rattle.std.proofs.Common.{take}
-use Rattle.replay_lists.specs.Lines.{TakesOn}
+use Rattle.{replay_lists.specs.Lines.TakesOn, std.proofs.Common.take}
 use Rattle.replay_lists.proofs.lines.take_line.Given as goal
 
 abbrev pub invariant-loop-index : goal.invariant-loop-index

@@ -1,9 +1,7 @@
-use Rattle.std.proofs.Common.{◌≡◌, arith, length, subst}
-use Rattle.std.proofs.lemmas.List.{length-replicate}
-use Rattle.yasir_ticks.specs.Ticks.{silent}
-use Rattle.yasir_ticks.specs.declared.tick.Tick.TheVariants.{Silent}
-use Rattle.replay_lists.specs.Lines.{TakesOn}
 use Rattle.replay_lists.proofs.TakenLines.{goes-nowhere, goes-silent, box-tick}
+use Rattle.{replay_lists.specs.Lines.TakesOn, std.proofs.Common.◌≡◌}
+use Rattle.std.proofs.{Common.arith, Common.length, Common.subst, lemmas.List.length-replicate}
+use Rattle.yasir_ticks.specs.{Ticks.silent, declared.tick.Tick.TheVariants.Silent}
 use Rattle.replay_lists.proofs.lines.take_silence.Goals as goal
 
 pub loop-init : goal.loop-init

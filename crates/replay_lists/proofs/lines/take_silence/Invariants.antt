@@ -1,5 +1,4 @@
-use Rattle.yasir_ticks.specs.Ticks.{silent}
-use Rattle.replay_lists.specs.Lines.{TakesOn}
+use Rattle.{replay_lists.specs.Lines.TakesOn, yasir_ticks.specs.Ticks.silent}
 use Rattle.replay_lists.proofs.lines.take_silence.Given as goal
 
 abbrev pub invariant-loop : goal.invariant-loop

@@ -1,5 +1,4 @@
-use Rattle.std.proofs.lemmas.Result.{on_ok_weaker}
-use Rattle.replay_lists.proofs.Keeping.{listens-more}
+use Rattle.{replay_lists.proofs.Keeping.listens-more, std.proofs.lemmas.Result.on_ok_weaker}
 use Rattle.replay_lists.proofs.replay_lists.hear_into.Goals as goal
 
 pub returns-clause-ok : goal.returns-clause-ok

@@ -1,8 +1,7 @@
+use Rattle.{burst_walk.specs.Answered.answered, replay_lists.specs.FrameBox.AnswersFrameRun}
 use Rattle.std.proofs.Common.{◌++◌, sym, subst}
 use Rattle.std.proofs.lemmas.List.{take-map, take-replicate}
 use Rattle.yasir_ticks.specs.declared.tick.Tick.TheVariants.{Silent, Byte}
-use Rattle.burst_walk.specs.Answered.{answered}
-use Rattle.replay_lists.specs.FrameBox.{AnswersFrameRun}
 use Rattle.replay_lists.proofs.replay_lists.pass_run.Goals as goal
 
 pub returns-in-Bytes-clause-stands : goal.returns-in-Bytes-clause-stands

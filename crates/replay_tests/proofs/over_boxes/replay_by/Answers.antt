@@ -1,6 +1,5 @@
+use Rattle.{link_box.proofs.KnownLinks.known, sequence_journal.specs.Links.IsLink}
 use Rattle.std.proofs.Common.{sym, subst}
-use Rattle.sequence_journal.specs.Links.{IsLink}
-use Rattle.link_box.proofs.KnownLinks.{known}
 use Rattle.replay_tests.proofs.over_boxes.replay_by.Goals as goal
 
 pub replay_box-status-requires-clause-link : goal.replay_box-status-requires-clause-link

@@ -1,7 +1,6 @@
-use Rattle.std.proofs.Common.{◌≡◌}
-use Rattle.link_box.specs.Links.{link_by}
-use Rattle.sequence_journal.specs.Journal.{journal_link, Fits}
 use Rattle.check_receiver.specs.Stands.{direction_of, ticks_taken}
+use Rattle.{link_box.specs.Links.link_by, sequence_journal.specs.Journal.journal_link}
+use Rattle.{sequence_journal.specs.Journal.Fits, std.proofs.Common.◌≡◌}
 use Rattle.replay_tests.proofs.receiver_steps.steps.Given as goal
 
 abbrev pub invariant-loop-letter : goal.invariant-loop-letter

@@ -1,5 +1,4 @@
-use Rattle.std.proofs.Common.{arith}
-use Rattle.session_audit.specs.Through.{setups_of}
+use Rattle.{session_audit.specs.Through.setups_of, std.proofs.Common.arith}
 use Rattle.session_audit.proofs.judged_lists.judge_lists.Goals as goal
 
 pub judge-requires-clause-sealed : goal.judge-requires-clause-sealed

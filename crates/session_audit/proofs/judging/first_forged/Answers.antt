@@ -1,11 +1,10 @@
-use Rattle.std.proofs.Common.{◌≡◌, ◌∙◌, ◌<◌, ◌≤◌, Bool, true, false, [], ◌∷◌, length, get_or, drop, sym}
-use Rattle.std.proofs.Common.{ap, arith, refl}
-use Rattle.std.proofs.lemmas.List.{length-map, drop_all}
-use Rattle.receiver_laws.specs.Accounted.{forged, is_among}
 use Rattle.receiver_laws.proofs.InTurn.{among-in-place}
+use Rattle.receiver_laws.specs.Accounted.{forged, is_among}
 use Rattle.replay_lists.specs.FrameBox.{kept_frames, kept_numbered}
-use Rattle.session_audit.specs.Judging.{first_head}
 use Rattle.session_audit.proofs.Judged.{numbered_of, frame-at, forged-here, forged-behind}
+use Rattle.{session_audit.specs.Judging.first_head, std.proofs.Common.◌≡◌, std.proofs.Common.◌∙◌}
+use Rattle.std.proofs.Common.{◌<◌, ◌≤◌, Bool, true, false, [], ◌∷◌, length, get_or, drop, sym, ap}
+use Rattle.std.proofs.{Common.arith, Common.refl, lemmas.List.length-map, lemmas.List.drop_all}
 use Rattle.session_audit.proofs.judging.first_forged.Goals as goal
 
 pub returns-then-not-is_at_its_number : goal.returns-then-not-is_at_its_number

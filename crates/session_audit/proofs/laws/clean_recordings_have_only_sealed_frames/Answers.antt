@@ -1,8 +1,6 @@
-use Rattle.line_rules.specs.RulesLaws.{IsLawful}
-use Rattle.rtu_frame.specs.Rules.{rtu_lawful}
-use Rattle.dnp_link_frame.specs.RulesLaws.{dnp_lawful}
-use Rattle.session_audit.specs.Sessions.{kind_of}
-use Rattle.session_audit.proofs.Auditing.{clean-says, each-kind}
+use Rattle.{dnp_link_frame.specs.RulesLaws.dnp_lawful, line_rules.specs.RulesLaws.IsLawful}
+use Rattle.{rtu_frame.specs.Rules.rtu_lawful, session_audit.proofs.Auditing.clean-says}
+use Rattle.session_audit.{proofs.Auditing.each-kind, specs.Sessions.kind_of}
 use Rattle.session_audit.proofs.laws.clean_recordings_have_only_sealed_frames.Goals as goal
 
 pub returns : goal.returns

@@ -1,10 +1,7 @@
-use Rattle.std.proofs.Common.{true, false}
-use Rattle.std.proofs.lemmas.Bool.{eq-eqb, ne_eqb}
+use Rattle.dnp_link_frame.specs.{Rules.dnp_rules, RulesLaws.dnp_lawful}
 use Rattle.rtu_frame.specs.Rules.{rtu_rules, rtu_lawful}
-use Rattle.dnp_link_frame.specs.Rules.{dnp_rules}
-use Rattle.dnp_link_frame.specs.RulesLaws.{dnp_lawful}
-use Rattle.seal_judgements.proofs.Numbers.{sealed-numbered}
-use Rattle.session_audit.proofs.Auditing.{judged-so}
+use Rattle.{seal_judgements.proofs.Numbers.sealed-numbered, session_audit.proofs.Auditing.judged-so}
+use Rattle.std.proofs.{Common.true, Common.false, lemmas.Bool.eq-eqb, lemmas.Bool.ne_eqb}
 use Rattle.session_audit.proofs.over_recordings.audit.Goals as goal
 
 pub audit_by-requires-clause-in_turn : goal.audit_by-requires-clause-in_turn

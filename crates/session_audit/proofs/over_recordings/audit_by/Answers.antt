@@ -1,5 +1,4 @@
-use Rattle.std.proofs.Common.{arith}
-use Rattle.session_audit.specs.Through.{setups_of}
+use Rattle.{session_audit.specs.Through.setups_of, std.proofs.Common.arith}
 use Rattle.session_audit.proofs.over_recordings.audit_by.Goals as goal
 
 pub list_lines-requires-clause-short : goal.list_lines-requires-clause-short

@@ -1,12 +1,9 @@
-use Rattle.std.proofs.Common.{◌≡◌, ◌∙◌, ap, subst, sym}
-use Rattle.yasir_io.specs.Flushed.{NoneFlushed}
-use Rattle.tick_drive.specs.Consumers.{IsSinkCause, is_write_fault}
-use Rattle.tick_drive.specs.Drive.{answer_of}
-use Rattle.line_texts.specs.Sending.{sink_texts}
-use Rattle.line_texts.specs.Texts.{waiting_in}
-use Rattle.space_replay.specs.SpacedTexts.{spaced_texts}
-use Rattle.space_replay.specs.SpacesLine.{DrivesSpacer}
+use Rattle.line_texts.specs.{Sending.sink_texts, Texts.waiting_in}
 use Rattle.space_replay.proofs.SpaceEnds.{drives_spacer}
+use Rattle.space_replay.specs.{SpacedTexts.spaced_texts, SpacesLine.DrivesSpacer}
+use Rattle.std.proofs.Common.{◌≡◌, ◌∙◌, ap, subst, sym}
+use Rattle.tick_drive.specs.{Consumers.IsSinkCause, Consumers.is_write_fault, Drive.answer_of}
+use Rattle.yasir_io.specs.Flushed.{NoneFlushed}
 use Rattle.space_replay.proofs.command.drive_spacer.Goals as goal
 
 pub returns-clause-driven : goal.returns-clause-driven

@@ -1,13 +1,11 @@
-use Rattle.std.proofs.Common.{◌∙◌, ◌⊎◌, inl, refl, subst}
-use Rattle.yasir_io.specs.Causes.{Rose}
-use Rattle.yasir_io.proofs.FlushLaws.{none_flushed_then}
 use Rattle.replay_status.proofs.EndCauses.{input_cause, input_cause_of_whole, sink_cause_of_end}
 use Rattle.replay_status.proofs.EndCauses.{sink_cause_of_whole}
 use Rattle.replay_status.proofs.FlushLaws.{flushes_of_whole, flushes_of_end}
+use Rattle.space_replay.proofs.SpaceEnds.{nothing_sends, no_stop, finish_fails, refusal_spaces}
+use Rattle.space_replay.proofs.SpaceEnds.{whole_spaces, whole_has_memory, end_has_memory}
 use Rattle.space_replay.specs.SpacedTexts.{spaced_texts}
-use Rattle.space_replay.proofs.SpaceEnds.{nothing_sends, no_stop, finish_fails}
-use Rattle.space_replay.proofs.SpaceEnds.{refusal_spaces, whole_spaces}
-use Rattle.space_replay.proofs.SpaceEnds.{whole_has_memory, end_has_memory}
+use Rattle.std.proofs.Common.{◌∙◌, ◌⊎◌, inl, refl, subst}
+use Rattle.yasir_io.{proofs.FlushLaws.none_flushed_then, specs.Causes.Rose}
 use Rattle.space_replay.proofs.command.space_frames.Goals as goal
 
 pub drive_spacer-end-requires-clause-nothing : goal.drive_spacer-end-requires-clause-nothing

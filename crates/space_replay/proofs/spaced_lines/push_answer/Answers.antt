@@ -1,9 +1,8 @@
-use Rattle.std.proofs.Common.{◌≡◌, ◌∙◌, [], ap, sym, subst, append-nil}
-use Rattle.yasir_ticks.specs.TickRun.{run_ticks}
-use Rattle.burst_walk.specs.Answered.{answered}
-use Rattle.device_model.specs.Frames.{frames_lent}
+use Rattle.{burst_walk.specs.Answered.answered, device_model.specs.Frames.frames_lent}
 use Rattle.line_texts.specs.Texts.{writing, Pushes}
 use Rattle.space_replay.specs.SpacedTexts.{lost_line, lost_lines}
+use Rattle.std.proofs.Common.{◌≡◌, ◌∙◌, [], ap, sym, subst, append-nil}
+use Rattle.yasir_ticks.specs.TickRun.{run_ticks}
 use Rattle.space_replay.proofs.spaced_lines.push_answer.Goals as goal
 
 pub returns-in-None : goal.returns-in-None

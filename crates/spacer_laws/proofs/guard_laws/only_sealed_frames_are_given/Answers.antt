@@ -1,13 +1,10 @@
-use Rattle.std.proofs.Common.{suc, inl, refl, arith}
-use Rattle.dnp_link_frame.specs.Rules.{dnp_rules}
+use Rattle.device_model.specs.{DnpHunted.dnp_hunted, DnpReads.dnp_reads}
+use Rattle.{device_model.specs.HuntFamily.dnp_family_reads, dnp_link_frame.specs.Rules.dnp_rules}
 use Rattle.dnp_link_frame.specs.RulesLaws.{dnp_lawful, dnp_headed, dnp_framed, dnp_spoiling}
-use Rattle.device_model.specs.DnpHunted.{dnp_hunted}
-use Rattle.device_model.specs.DnpReads.{dnp_reads}
-use Rattle.device_model.specs.HuntFamily.{dnp_family_reads}
 use Rattle.receiver_laws.proofs.Settled.{reads_with}
 use Rattle.rtu_frame.specs.Rules.{rtu_rules, rtu_lawful, rtu_framed}
-use Rattle.spacer_laws.proofs.Guarding.{gives-only-sealed}
-use Rattle.spacer_laws.proofs.Guards.{rtu-hears, family-hears}
+use Rattle.spacer_laws.proofs.{Guarding.gives-only-sealed, Guards.rtu-hears, Guards.family-hears}
+use Rattle.std.proofs.Common.{suc, inl, refl, arith}
 use Rattle.spacer_laws.proofs.guard_laws.only_sealed_frames_are_given.Goals as goal
 
 pub returns-clause-rtu : goal.returns-clause-rtu

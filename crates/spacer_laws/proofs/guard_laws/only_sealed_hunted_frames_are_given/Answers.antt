@@ -1,6 +1,5 @@
 use Rattle.device_model.specs.HuntFamily.{hunt_family}
-use Rattle.spacer_laws.proofs.Guarding.{gives-only-sealed}
-use Rattle.spacer_laws.proofs.Guards.{family-hears}
+use Rattle.spacer_laws.proofs.{Guarding.gives-only-sealed, Guards.family-hears}
 use Rattle.spacer_laws.proofs.guard_laws.only_sealed_hunted_frames_are_given.Goals as goal
 
 pub returns : goal.returns

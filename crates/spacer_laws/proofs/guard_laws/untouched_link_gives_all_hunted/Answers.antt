@@ -1,6 +1,5 @@
 use Rattle.device_model.specs.HuntFamily.{hunt_family}
-use Rattle.spacer_laws.proofs.GivingUntouched.{gives-all}
-use Rattle.spacer_laws.proofs.Guards.{family-hears}
+use Rattle.spacer_laws.proofs.{GivingUntouched.gives-all, Guards.family-hears}
 use Rattle.spacer_laws.proofs.guard_laws.untouched_link_gives_all_hunted.Goals as goal
 
 pub returns : goal.returns

@@ -1,7 +1,6 @@
-use Rattle.std.proofs.Common.{suc}
-use Rattle.dnp_link_frame.specs.Rules.{dnp_rules}
-use Rattle.dnp_link_frame.specs.RulesLaws.{dnp_lawful, dnp_framed}
+use Rattle.dnp_link_frame.specs.{Rules.dnp_rules, RulesLaws.dnp_lawful, RulesLaws.dnp_framed}
 use Rattle.spacer_laws.proofs.Leaving.{rtu-leave, hunt-leave}
+use Rattle.std.proofs.Common.{suc}
 use Rattle.spacer_laws.proofs.laws.accepted_frames_leave.Goals as goal
 
 pub returns-clause-rtu : goal.returns-clause-rtu

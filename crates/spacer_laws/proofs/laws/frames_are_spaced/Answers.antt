@@ -1,8 +1,7 @@
-use Rattle.std.proofs.Common.{suc, arith, inl, refl}
-use Rattle.dnp_link_frame.specs.Rules.{dnp_rules}
-use Rattle.dnp_link_frame.specs.RulesLaws.{dnp_headed, dnp_framed}
 use Rattle.device_model.specs.DnpHunted.{dnp_hunted}
+use Rattle.dnp_link_frame.specs.{Rules.dnp_rules, RulesLaws.dnp_headed, RulesLaws.dnp_framed}
 use Rattle.spacer_laws.proofs.Spaced.{rtu-spaces_out, family-spaces_out}
+use Rattle.std.proofs.Common.{suc, arith, inl, refl}
 use Rattle.spacer_laws.proofs.laws.frames_are_spaced.Goals as goal
 
 pub returns-clause-rtu : goal.returns-clause-rtu

@@ -1,9 +1,6 @@
-use Rattle.std.proofs.Common.{None, ap}
-use Rattle.dnp_link_frame.specs.Rules.{dnp_rules}
-use Rattle.device_model.specs.Hunt.{hunt}
-use Rattle.line_stamps.specs.Places.{line_of, placed}
-use Rattle.line_stamps.proofs.Clocks.{in-their-ticks}
-use Rattle.stamp_laws.proofs.HuntedLines.{hunted-line}
+use Rattle.{device_model.specs.Hunt.hunt, dnp_link_frame.specs.Rules.dnp_rules}
+use Rattle.line_stamps.{proofs.Clocks.in-their-ticks, specs.Places.line_of, specs.Places.placed}
+use Rattle.{stamp_laws.proofs.HuntedLines.hunted-line, std.proofs.Common.None, std.proofs.Common.ap}
 use Rattle.stamp_laws.proofs.device_laws.bytes_tell_what_dnp_reads.Goals as goal
 
 pub returns : goal.returns

@@ -1,10 +1,8 @@
-use Rattle.std.proofs.Common.{◌∙◌, ap, map}
-use Rattle.line_stamps.specs.Places.{placed}
-use Rattle.line_stamps.proofs.Clocks.{records-parted}
-use Rattle.stamp_laws.specs.Cuts.{cut_where, frame_of}
-use Rattle.stamp_laws.specs.RecordFrames.{begins_record}
+use Rattle.line_stamps.{proofs.Clocks.records-parted, specs.Places.placed}
 use Rattle.stamp_laws.proofs.ByRecords.{never, told, whole-frames}
 use Rattle.stamp_laws.proofs.CutReads.{reads-of-parts}
+use Rattle.stamp_laws.specs.{Cuts.cut_where, Cuts.frame_of, RecordFrames.begins_record}
+use Rattle.std.proofs.Common.{◌∙◌, ap, map}
 use Rattle.stamp_laws.proofs.device_laws.records_tell_what_is_read.Goals as goal
 
 pub returns : goal.returns

@@ -1,9 +1,6 @@
-use Rattle.line_stamps.specs.Parts.{character}
-use Rattle.line_stamps.specs.Places.{placed}
-use Rattle.line_stamps.proofs.Clocks.{edges-kept}
+use Rattle.line_stamps.{proofs.Clocks.edges-kept, specs.Parts.character, specs.Places.placed}
+use Rattle.stamp_laws.proofs.{ByTimes.told, CutReads.reads-of-parts}
 use Rattle.stamp_laws.specs.TimedFrames.{are_parted, are_apart}
-use Rattle.stamp_laws.proofs.ByTimes.{told}
-use Rattle.stamp_laws.proofs.CutReads.{reads-of-parts}
 use Rattle.stamp_laws.proofs.device_laws.times_tell_what_is_read.Goals as goal
 
 pub returns : goal.returns

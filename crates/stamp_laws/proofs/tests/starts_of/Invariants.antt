@@ -1,5 +1,4 @@
-use Rattle.std.proofs.Common.{◌≡◌}
-use Rattle.device_model.specs.RtuFamily.{ticks_heard}
+use Rattle.{device_model.specs.RtuFamily.ticks_heard, std.proofs.Common.◌≡◌}
 use Rattle.stamp_laws.proofs.tests.starts_of.Given as goal
 
 abbrev pub invariant-loop-tick : goal.invariant-loop-tick

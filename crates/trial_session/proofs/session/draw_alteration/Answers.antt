@@ -1,6 +1,5 @@
-use Rattle.std.proofs.Common.{◌∙◌}
-use Rattle.trial_session.specs.Draws.{draw_state}
-use Rattle.trial_session.proofs.Drawing.{three-is, alteration-is}
+use Rattle.{std.proofs.Common.◌∙◌, trial_session.proofs.Drawing.three-is}
+use Rattle.trial_session.{proofs.Drawing.alteration-is, specs.Draws.draw_state}
 use Rattle.trial_session.proofs.session.draw_alteration.Goals as goal
 
 pub returns-clause-state : goal.returns-clause-state

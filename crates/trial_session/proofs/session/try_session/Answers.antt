@@ -1,6 +1,5 @@
 use Rattle.std.proofs.Common.{◌≡◌, ◌*◌, ◌+◌, suc, subst, sym, arith}
-use Rattle.trial_session.specs.Runs.{HasRun, MayGoOn}
-use Rattle.trial_session.specs.Summaries.{session_summary}
+use Rattle.trial_session.specs.{Runs.HasRun, Runs.MayGoOn, Summaries.session_summary}
 use Rattle.trial_session.proofs.session.try_session.Goals as goal
 
 pub loop-init : goal.loop-init

@@ -1,5 +1,4 @@
-use Rattle.std.proofs.Common.{rules, ◌∙◌, ap}
-use Rattle.std.specs.Prelude.{Some}
+use Rattle.std.{proofs.Common.rules, proofs.Common.◌∙◌, proofs.Common.ap, specs.Prelude.Some}
 use Rattle.yasir_c.proofs.exports.make.Goals as goal
 
 pub returns : goal.returns

@@ -1,9 +1,7 @@
 use Rattle.std.proofs.Common.{◌∙◌, ap, arith}
-use Rattle.std.specs.Prelude.{Some}
+use Rattle.{std.specs.Prelude.Some, yasir_c.proofs.Holding.taken-is, yasir_c.proofs.Holding.held-is}
+use Rattle.yasir_c.{proofs.NoneTaken.takes-none, specs.declared.held.Held.TheVariants.LineBox}
 use Rattle.yasir_ticks.specs.TickRun.{run_ticks}
-use Rattle.yasir_c.specs.declared.held.Held.TheVariants.{LineBox}
-use Rattle.yasir_c.proofs.Holding.{taken-is, held-is}
-use Rattle.yasir_c.proofs.NoneTaken.{takes-none}
 use Rattle.yasir_c.proofs.exports.take_run.Goals as goal
 
 pub returns-then-left-lt-MAX_LEFT-clause-takes : goal.returns-then-left-lt-MAX_LEFT-clause-takes

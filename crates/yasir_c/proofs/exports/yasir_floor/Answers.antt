@@ -1,6 +1,5 @@
-use Rattle.std.proofs.Common.{◌∙◌, sym}
-use Rattle.yasir_c.specs.declared.held.Held.TheVariants.{LineBox}
-use Rattle.yasir_c.proofs.Holding.{taken-is, held-is}
+use Rattle.{std.proofs.Common.◌∙◌, std.proofs.Common.sym, yasir_c.proofs.Holding.taken-is}
+use Rattle.yasir_c.{proofs.Holding.held-is, specs.declared.held.Held.TheVariants.LineBox}
 use Rattle.yasir_c.proofs.exports.yasir_floor.Goals as goal
 
 pub floor-floor-requires : goal.floor-floor-requires

@@ -1,5 +1,4 @@
-use Rattle.std.proofs.Common.{◌∙◌, ap}
-use Rattle.std.specs.Prelude.{Some}
+use Rattle.std.{proofs.Common.◌∙◌, proofs.Common.ap, specs.Prelude.Some}
 use Rattle.yasir_c.proofs.spacer_exports.make_spacer.Goals as goal
 
 pub returns : goal.returns

@@ -1,7 +1,6 @@
 use Rattle.std.proofs.Common.{◌∙◌, refl, sym, ap}
-use Rattle.std.specs.Prelude.{Some}
-use Rattle.yasir_c.specs.declared.held.Held.TheVariants.{Spacer}
-use Rattle.yasir_c.proofs.Holding.{taken-is, held-is, back-is}
+use Rattle.{std.specs.Prelude.Some, yasir_c.proofs.Holding.taken-is, yasir_c.proofs.Holding.held-is}
+use Rattle.yasir_c.{proofs.Holding.back-is, specs.declared.held.Held.TheVariants.Spacer}
 use Rattle.yasir_c.proofs.spacer_exports.space.Goals as goal
 
 pub space-step-requires : goal.space-step-requires

@@ -1,5 +1,4 @@
-use Rattle.std.proofs.Common.{refl}
-use Rattle.any_box.proofs.Arms.{steps-at}
+use Rattle.{any_box.proofs.Arms.steps-at, std.proofs.Common.refl}
 use Rattle.any_box.proofs.any_box.AnyBox.step.Goals as goal
 
 pub returns-in-RtuSealer18-clause-steps : goal.returns-in-RtuSealer18-clause-steps

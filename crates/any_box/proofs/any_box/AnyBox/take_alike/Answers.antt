@@ -1,9 +1,7 @@
-use Rattle.std.proofs.Common.{refl}
-use Rattle.seal_transmitter.specs.Answers.{brief_note as brief_seal}
-use Rattle.link_verdicts.specs.Checking.{brief_note as brief_check}
-use Rattle.any_box.proofs.Arms.{takes-at}
-use Rattle.any_box.proofs.Noted.{more-taken, none-told}
+use Rattle.any_box.proofs.{Arms.takes-at, Noted.more-taken, Noted.none-told}
 use Rattle.any_box.specs.declared.any_note.AnyNote.TheVariants.{OfSealer, OfChecker}
+use Rattle.link_verdicts.specs.Checking.{brief_note as brief_check}
+use Rattle.{seal_transmitter.specs.Answers.brief_note as brief_seal, std.proofs.Common.refl}
 use Rattle.any_box.proofs.any_box.AnyBox.take_alike.Goals as goal
 
 pub returns-in-RtuSealer18-clause-run : goal.returns-in-RtuSealer18-clause-run

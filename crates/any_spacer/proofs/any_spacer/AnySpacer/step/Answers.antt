@@ -1,5 +1,4 @@
-use Rattle.std.proofs.Common.{refl}
-use Rattle.any_spacer.proofs.Arms.{steps-at}
+use Rattle.{any_spacer.proofs.Arms.steps-at, std.proofs.Common.refl}
 use Rattle.any_spacer.proofs.any_spacer.AnySpacer.step.Goals as goal
 
 pub returns-in-Rtu-clause-steps : goal.returns-in-Rtu-clause-steps

@@ -1,9 +1,7 @@
-use Rattle.std.proofs.Common.{length, take, ap, refl, arith}
-use Rattle.yasir_ticks.specs.TickRun.{run_ticks}
-use Rattle.yasir_ticks.proofs.TickRuns.{ticks_in-run}
-use Rattle.box_command.specs.BoxLines.{state_of}
 use Rattle.box_command.proofs.Fronts.{run_given, run_stopped, none_taken}
-use Rattle.line_texts.proofs.PushedRuns.{pushed_as}
+use Rattle.{box_command.specs.BoxLines.state_of, line_texts.proofs.PushedRuns.pushed_as}
+use Rattle.std.proofs.Common.{length, take, ap, refl, arith}
+use Rattle.yasir_ticks.{proofs.TickRuns.ticks_in-run, specs.TickRun.run_ticks}
 use Rattle.box_command.proofs.box_lines.BoxLines.forward.Goals as goal
 
 pub forward-count-requires : goal.forward-count-requires

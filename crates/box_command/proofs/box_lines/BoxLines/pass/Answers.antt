@@ -1,11 +1,8 @@
-use Rattle.std.proofs.Common.{length, take, ap, ◌∙◌, arith}
-use Rattle.std.proofs.lemmas.List.{length-take}
-use Rattle.yasir_ticks.specs.TickRun.{run_ticks}
-use Rattle.yasir_ticks.proofs.TickRuns.{ticks_in-run}
-use Rattle.burst_walk.specs.Answered.{answered}
-use Rattle.line_texts.proofs.PushedRuns.{pushed_as}
-use Rattle.box_command.specs.BoxLines.{state_of}
 use Rattle.box_command.proofs.Fronts.{front_first, run_given, run_stopped, none_taken}
+use Rattle.{box_command.specs.BoxLines.state_of, burst_walk.specs.Answered.answered}
+use Rattle.{line_texts.proofs.PushedRuns.pushed_as, std.proofs.Common.length}
+use Rattle.std.proofs.{Common.take, Common.ap, Common.◌∙◌, Common.arith, lemmas.List.length-take}
+use Rattle.yasir_ticks.{proofs.TickRuns.ticks_in-run, specs.TickRun.run_ticks}
 use Rattle.box_command.proofs.box_lines.BoxLines.pass.Goals as goal
 
 pub pass-count-requires : goal.pass-count-requires

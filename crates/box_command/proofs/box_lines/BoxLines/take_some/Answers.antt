@@ -1,11 +1,8 @@
-use Rattle.std.proofs.Common.{arith}
-use Rattle.yasir_ticks.specs.TickRun.{run_items}
-use Rattle.tick_drive.proofs.Fronts.{some_given}
-use Rattle.tick_drive.proofs.ItemLaws.{run_items-first}
-use Rattle.box_command.specs.BoxLines.{driving, state_of}
-use Rattle.box_command.specs.BoxLinesLaws.{drives-then}
 use Rattle.box_command.proofs.Turns.{may_again, again_stopped, again_given, may_one, then_one}
-use Rattle.box_command.proofs.Turns.{stopped_one}
+use Rattle.box_command.{proofs.Turns.stopped_one, specs.BoxLines.driving, specs.BoxLines.state_of}
+use Rattle.{box_command.specs.BoxLinesLaws.drives-then, std.proofs.Common.arith}
+use Rattle.tick_drive.proofs.{Fronts.some_given, ItemLaws.run_items-first}
+use Rattle.yasir_ticks.specs.TickRun.{run_items}
 use Rattle.box_command.proofs.box_lines.BoxLines.take_some.Goals as goal
 
 pub returns-then-forwarded-gt0 : goal.returns-then-forwarded-gt0

@@ -1,6 +1,5 @@
-use Rattle.tick_drive.proofs.Moving.{gives_mark}
-use Rattle.box_command.specs.DrivenBox.{driven_by, holds-none}
-use Rattle.box_command.proofs.Begun.{drives_at_mark}
+use Rattle.box_command.{proofs.Begun.drives_at_mark, specs.DrivenBox.driven_by}
+use Rattle.{box_command.specs.DrivenBox.holds-none, tick_drive.proofs.Moving.gives_mark}
 use Rattle.box_command.proofs.driven_box.DrivenBoxConsumer.take_mark.Goals as goal
 
 pub returns : goal.returns

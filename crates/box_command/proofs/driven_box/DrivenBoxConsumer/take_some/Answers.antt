@@ -1,5 +1,4 @@
-use Rattle.std.proofs.Common.{refl}
-use Rattle.box_command.proofs.Behind.{some_by}
+use Rattle.{box_command.proofs.Behind.some_by, std.proofs.Common.refl}
 use Rattle.box_command.proofs.driven_box.DrivenBoxConsumer.take_some.Goals as goal
 
 pub returns : goal.returns

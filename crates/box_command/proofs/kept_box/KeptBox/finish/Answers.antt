@@ -1,7 +1,5 @@
-use Rattle.std.proofs.Common.{[], Some}
-use Rattle.line_texts.specs.Sending.{sink_texts}
-use Rattle.box_command.specs.KeptBox.{timed_of, line_alone}
-use Rattle.box_command.proofs.Kept.{text-of}
+use Rattle.box_command.{proofs.Kept.text-of, specs.KeptBox.timed_of, specs.KeptBox.line_alone}
+use Rattle.{line_texts.specs.Sending.sink_texts, std.proofs.Common.[], std.proofs.Common.Some}
 use Rattle.box_command.proofs.kept_box.KeptBox.finish.Goals as goal
 
 pub returns-in-Ok-clause-texts : goal.returns-in-Ok-clause-texts

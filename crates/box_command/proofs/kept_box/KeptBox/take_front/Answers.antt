@@ -1,10 +1,8 @@
-use Rattle.std.proofs.Common.{◌≡◌, ◌∙◌, ◌+◌, length, take, ap, refl, subst, sym, arith}
-use Rattle.std.proofs.lemmas.List.{length-take-le}
-use Rattle.yasir_ticks.specs.TickRun.{run_ticks}
-use Rattle.burst_walk.specs.Answered.{answered}
-use Rattle.link_box.specs.Runs.{TakesRun}
-use Rattle.line_texts.proofs.PushedRuns.{pushed_as}
 use Rattle.box_command.proofs.Kept.{keeps-run, first-front}
+use Rattle.{burst_walk.specs.Answered.answered, line_texts.proofs.PushedRuns.pushed_as}
+use Rattle.link_box.specs.Runs.{TakesRun}
+use Rattle.std.proofs.Common.{◌≡◌, ◌∙◌, ◌+◌, length, take, ap, refl, subst, sym, arith}
+use Rattle.{std.proofs.lemmas.List.length-take-le, yasir_ticks.specs.TickRun.run_ticks}
 use Rattle.box_command.proofs.kept_box.KeptBox.take_front.Goals as goal
 
 pub returns : goal.returns

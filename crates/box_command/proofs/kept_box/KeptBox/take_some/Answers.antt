@@ -1,6 +1,5 @@
-use Rattle.std.proofs.Common.{arith}
+use Rattle.{box_command.proofs.Kept.some-one, std.proofs.Common.arith}
 use Rattle.yasir_ticks.specs.TickRun.{run_ticks}
-use Rattle.box_command.proofs.Kept.{some-one}
 use Rattle.box_command.proofs.kept_box.KeptBox.take_some.Goals as goal
 
 pub returns-in-Ok-step : goal.returns-in-Ok-step

@@ -1,8 +1,6 @@
+use Rattle.{byteorder.specs.Endian.big_number, check_receiver.proofs.Words.full-mod}
+use Rattle.sequence_journal.specs.{Numbers.full_of, declared.numbers.TheConstants.LIMIT}
 use Rattle.std.proofs.Common.{◌∙◌, ◌^◌, ap, arith, length}
-use Rattle.byteorder.specs.Endian.{big_number}
-use Rattle.sequence_journal.specs.declared.numbers.TheConstants.{LIMIT}
-use Rattle.sequence_journal.specs.Numbers.{full_of}
-use Rattle.check_receiver.proofs.Words.{full-mod}
 use Rattle.check_receiver.proofs.arriving.Arriving.number_above.Goals as goal
 
 pub returns-then-bytes : goal.returns-then-bytes

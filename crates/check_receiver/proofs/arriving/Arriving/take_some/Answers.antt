@@ -1,5 +1,4 @@
-use Rattle.std.proofs.Common.{arith}
-use Rattle.check_receiver.proofs.Lending.{of-ok}
+use Rattle.{check_receiver.proofs.Lending.of-ok, std.proofs.Common.arith}
 use Rattle.check_receiver.proofs.arriving.Arriving.take_some.Goals as goal
 
 pub returns : goal.returns

@@ -1,7 +1,6 @@
-use Rattle.std.proofs.Common.{ap, refl}
-use Rattle.yasir_ticks.specs.TickRun.{run_ticks}
-use Rattle.link_box.proofs.Answered.{run-bytes, run-silence}
 use Rattle.check_receiver.proofs.Keeping.{takes-run}
+use Rattle.link_box.proofs.Answered.{run-bytes, run-silence}
+use Rattle.{std.proofs.Common.ap, std.proofs.Common.refl, yasir_ticks.specs.TickRun.run_ticks}
 use Rattle.check_receiver.proofs.boxed.CheckerLinkBox.pass.Goals as goal
 
 pub returns-in-Bytes-clause-run : goal.returns-in-Bytes-clause-run

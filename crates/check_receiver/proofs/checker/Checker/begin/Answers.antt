@@ -1,14 +1,11 @@
-use Rattle.std.proofs.Common.{◌≡◌, ◌∙◌, ℕ, ⊎_elim, sym, ap, subst, arith, Option, [], ◌∷◌, ◌++◌}
-use Rattle.yasir_ticks.specs.declared.tick.Tick.{Tick}
-use Rattle.yasir_ticks.specs.declared.tick.Tick.TheVariants.{Byte}
-use Rattle.frame_ending.specs.declared.cut.Cut.TheVariants.{Start}
-use Rattle.frame_ending.proofs.Running.{start-tick}
-use Rattle.link_verdicts.specs.declared.note.CheckNote.{CheckNote}
+use Rattle.check_receiver.proofs.Starting.{start-is, start-busy, start-bad, start-open}
+use Rattle.check_receiver.proofs.Starting.{start-mac_holds, start-live, start-quiet, start-still}
 use Rattle.check_receiver.specs.Between.{IsNoPass, IsBetween}
 use Rattle.check_receiver.specs.Stands.{HasTaken, direction_of}
-use Rattle.line_rules.specs.Rules.{head_of}
-use Rattle.check_receiver.proofs.Starting.{start-is, start-busy, start-bad, start-open, start-mac_holds}
-use Rattle.check_receiver.proofs.Starting.{start-live, start-quiet, start-still}
+use Rattle.frame_ending.{proofs.Running.start-tick, specs.declared.cut.Cut.TheVariants.Start}
+use Rattle.{line_rules.specs.Rules.head_of, link_verdicts.specs.declared.note.CheckNote.CheckNote}
+use Rattle.std.proofs.Common.{◌≡◌, ◌∙◌, ℕ, ⊎_elim, sym, ap, subst, arith, Option, [], ◌∷◌, ◌++◌}
+use Rattle.yasir_ticks.specs.declared.tick.Tick.{Tick, TheVariants.Byte}
 use Rattle.check_receiver.proofs.checker.Checker.begin.Goals as goal
 
 pub returns-then-start-self-clause-step : goal.returns-then-start-self-clause-step

@@ -1,11 +1,9 @@
-use Rattle.std.proofs.Common.{◌∙◌, ℕ, sym, ap, subst, rules, Option}
-use Rattle.link_verdicts.specs.declared.note.CheckNote.{CheckNote}
-use Rattle.sequence_journal.specs.Journal.{journal_floor}
-use Rattle.check_receiver.specs.Between.{IsNoPass}
-use Rattle.check_receiver.specs.Checkings.{CommitsNoted}
-use Rattle.check_receiver.specs.Stands.{HasTaken}
 use Rattle.check_receiver.proofs.Deciding.{room-kept, decide-refuses, decide-passes, decide-fails}
 use Rattle.check_receiver.proofs.Journals.{journal-kept}
+use Rattle.check_receiver.specs.{Between.IsNoPass, Checkings.CommitsNoted, Stands.HasTaken}
+use Rattle.link_verdicts.specs.declared.note.CheckNote.{CheckNote}
+use Rattle.sequence_journal.specs.Journal.{journal_floor}
+use Rattle.std.proofs.Common.{◌∙◌, ℕ, sym, ap, subst, rules, Option}
 use Rattle.check_receiver.proofs.checker.Checker.decide.Goals as goal
 
 pub refuse-requires : goal.refuse-requires

@@ -1,6 +1,5 @@
+use Rattle.check_receiver.proofs.{Beginnings.good-keeps, Lending.same-taken}
 use Rattle.frame_ending.specs.SoFar.{live_bytes_so_far}
-use Rattle.check_receiver.proofs.Beginnings.{good-keeps}
-use Rattle.check_receiver.proofs.Lending.{same-taken}
 use Rattle.check_receiver.proofs.checker.Checker.follow.Goals as goal
 
 pub returns-then-not-has_good_head-clause-run : goal.returns-then-not-has_good_head-clause-run

@@ -1,17 +1,14 @@
+use Rattle.burst_walk.specs.Answered.{answered}
+use Rattle.check_receiver.proofs.Beginnings.{front-none, keeps-front}
+use Rattle.check_receiver.proofs.Lending.{none-taken, bytes-long, ring-whole, first-along}
+use Rattle.check_receiver.proofs.{RunTicks.take-along, RunsTaken.follow-taken}
+use Rattle.check_receiver.specs.Runs.{HasTakenRun, IsFront, KeepsHeader}
+use Rattle.delay_ring.specs.DelayRing.{ring_ticks}
+use Rattle.frame_ending.specs.{SoFar.live_bytes_so_far, Stands.StandsFor as CutStandsFor}
 use Rattle.std.proofs.Common.{◌≡◌, ◌∙◌, ◌++◌, [], sym, ap, subst, arith, length, List, ℕ, take, map}
 use Rattle.std.proofs.Common.{refl, length-append}
 use Rattle.std.proofs.lemmas.List.{take-take, take-map, length-take-le}
-use Rattle.yasir_ticks.specs.declared.tick.Tick.{Tick}
-use Rattle.yasir_ticks.specs.declared.tick.Tick.TheVariants.{Byte}
-use Rattle.frame_ending.specs.Stands.{StandsFor as CutStandsFor}
-use Rattle.delay_ring.specs.DelayRing.{ring_ticks}
-use Rattle.burst_walk.specs.Answered.{answered}
-use Rattle.frame_ending.specs.SoFar.{live_bytes_so_far}
-use Rattle.check_receiver.specs.Runs.{HasTakenRun, IsFront, KeepsHeader}
-use Rattle.check_receiver.proofs.Beginnings.{front-none, keeps-front}
-use Rattle.check_receiver.proofs.Lending.{none-taken, bytes-long, ring-whole, first-along}
-use Rattle.check_receiver.proofs.RunTicks.{take-along}
-use Rattle.check_receiver.proofs.RunsTaken.{follow-taken}
+use Rattle.yasir_ticks.specs.declared.tick.Tick.{Tick, TheVariants.Byte}
 use Rattle.check_receiver.proofs.checker.Checker.follow_on.Goals as goal
 
 pub returns-then-taken-eq0-clause-run : goal.returns-then-taken-eq0-clause-run

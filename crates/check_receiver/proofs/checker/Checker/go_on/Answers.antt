@@ -1,18 +1,13 @@
-use Rattle.std.proofs.Common.{◌≡◌, ◌∙◌, ⊎_elim, ap, sym, subst, inl, Option, [], ◌∷◌, ◌++◌}
-use Rattle.std.proofs.Common.{ℕ, List, length}
-use Rattle.link_verdicts.specs.declared.note.CheckNote.{CheckNote}
-use Rattle.check_receiver.specs.Between.{IsNoPass, IsBetween}
-use Rattle.check_receiver.specs.Stands.{HasTaken, direction_of}
-use Rattle.check_receiver.proofs.Machine.{waiting-some}
-use Rattle.yasir_ticks.specs.declared.tick.Tick.TheVariants.{Byte}
-use Rattle.yasir_ticks.specs.declared.tick.Tick.{Tick}
-use Rattle.frame_ending.specs.declared.cut.Cut.TheVariants.{Live}
-use Rattle.frame_ending.proofs.Running.{live-tick}
-use Rattle.frame_ending.specs.LiveBytes.{live_bytes}
 use Rattle.burst_walk.specs.Causal.{going_on}
-use Rattle.check_receiver.proofs.Resting.{begins-none, rest-taken}
-use Rattle.check_receiver.proofs.Entering.{live-taken, live-mac_holds}
-use Rattle.check_receiver.proofs.Dropping.{drop-live}
+use Rattle.check_receiver.proofs.{Dropping.drop-live, Entering.live-taken, Entering.live-mac_holds}
+use Rattle.check_receiver.proofs.{Machine.waiting-some, Resting.begins-none, Resting.rest-taken}
+use Rattle.check_receiver.specs.{Between.IsNoPass, Between.IsBetween, Stands.HasTaken}
+use Rattle.{check_receiver.specs.Stands.direction_of, frame_ending.proofs.Running.live-tick}
+use Rattle.frame_ending.specs.{LiveBytes.live_bytes, declared.cut.Cut.TheVariants.Live}
+use Rattle.link_verdicts.specs.declared.note.CheckNote.{CheckNote}
+use Rattle.std.proofs.Common.{◌≡◌, ◌∙◌, ⊎_elim, ap, sym, subst, inl, Option, [], ◌∷◌, ◌++◌, ℕ, List}
+use Rattle.std.proofs.Common.{length}
+use Rattle.yasir_ticks.specs.declared.tick.Tick.{Tick, TheVariants.Byte}
 use Rattle.check_receiver.proofs.checker.Checker.go_on.Goals as goal
 
 pub returns-then-not-self-clause-step : goal.returns-then-not-self-clause-step

@@ -1,19 +1,15 @@
-use Rattle.std.proofs.Common.{◌≡◌, ◌∙◌, ◌+◌, ◌≤◌, ◌<◌, ◌++◌, ℕ, true, [], ◌∷◌, refl, sym, ap, subst}
-use Rattle.std.proofs.Common.{arith}
-use Rattle.yasir_ticks.specs.declared.tick.Tick.{Tick}
-use Rattle.yasir_ticks.specs.declared.tick.Tick.TheVariants.{Silent, Byte}
-use Rattle.line_rules.specs.Rules.{head_of}
-use Rattle.frame_ending.specs.SoFar.{live_bytes_so_far}
-use Rattle.frame_ending.specs.declared.cut.Cut.TheVariants.{Start, Live, Extra}
-use Rattle.frame_ending.proofs.Running.{start-tick, live-tick, extra-tick}
-use Rattle.check_receiver.specs.Between.{IsBetween}
-use Rattle.check_receiver.specs.Noteless.{has_none}
-use Rattle.check_receiver.specs.Runs.{HasTakenRun}
 use Rattle.check_receiver.proofs.Beginnings.{one-taken}
 use Rattle.check_receiver.proofs.Noteless.{start-rests, live-open, extra-over, first-may, live-may}
 use Rattle.check_receiver.proofs.Noteless.{extra-may, silence-may, rests-may, runs-may}
 use Rattle.check_receiver.proofs.Noteless.{good-not_bad, live-longer, live-silent}
 use Rattle.check_receiver.proofs.WholeSteps.{between, silence-is, silence-tick}
+use Rattle.check_receiver.specs.{Between.IsBetween, Noteless.has_none, Runs.HasTakenRun}
+use Rattle.frame_ending.proofs.Running.{start-tick, live-tick, extra-tick}
+use Rattle.frame_ending.specs.SoFar.{live_bytes_so_far}
+use Rattle.frame_ending.specs.declared.cut.Cut.TheVariants.{Start, Live, Extra}
+use Rattle.{line_rules.specs.Rules.head_of, std.proofs.Common.◌≡◌, std.proofs.Common.◌∙◌}
+use Rattle.std.proofs.Common.{◌+◌, ◌≤◌, ◌<◌, ◌++◌, ℕ, true, [], ◌∷◌, refl, sym, ap, subst, arith}
+use Rattle.yasir_ticks.specs.declared.tick.Tick.{Tick, TheVariants.Silent, TheVariants.Byte}
 use Rattle.check_receiver.proofs.checker.Checker.hear.Goals as goal
 
 pub returns-in-Start-clause-run : goal.returns-in-Start-clause-run

@@ -1,15 +1,12 @@
+use Rattle.check_receiver.proofs.Hearing.{hears-between, until-long, break-taken}
+use Rattle.check_receiver.proofs.{Journals.journal-kept, Resting.begins-none, Resting.rest-taken}
+use Rattle.check_receiver.proofs.Taking.{more-taken, whole-taken}
+use Rattle.check_receiver.specs.Between.{IsNoPass}
+use Rattle.frame_ending.{proofs.Running.extra-tick, specs.declared.cut.Cut.TheVariants.Extra}
+use Rattle.link_verdicts.specs.declared.note.{CheckNote.CheckNote, RefusedWhy.TheVariants.Trailer}
+use Rattle.sequence_journal.specs.Journal.{journal_floor}
 use Rattle.std.proofs.Common.{◌≡◌, [], ◌∷◌, ◌++◌, inr, sym, subst, arith, refl, Option}
 use Rattle.std.proofs.lemmas.Result.{IfOk-weaker, on_err_weaker}
-use Rattle.frame_ending.specs.declared.cut.Cut.TheVariants.{Extra}
-use Rattle.frame_ending.proofs.Running.{extra-tick}
-use Rattle.link_verdicts.specs.declared.note.CheckNote.{CheckNote}
-use Rattle.link_verdicts.specs.declared.note.RefusedWhy.TheVariants.{Trailer}
-use Rattle.sequence_journal.specs.Journal.{journal_floor}
-use Rattle.check_receiver.specs.Between.{IsNoPass}
-use Rattle.check_receiver.proofs.Hearing.{hears-between, until-long, break-taken}
-use Rattle.check_receiver.proofs.Journals.{journal-kept}
-use Rattle.check_receiver.proofs.Resting.{begins-none, rest-taken}
-use Rattle.check_receiver.proofs.Taking.{more-taken, whole-taken}
 use Rattle.check_receiver.proofs.checker.Checker.hear_extra.Goals as goal
 
 -- ---- no verdict is open

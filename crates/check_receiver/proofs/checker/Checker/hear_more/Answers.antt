@@ -1,8 +1,6 @@
+use Rattle.check_receiver.proofs.{Resting.begins-none, Resting.rest-taken, Taking.more-taken}
+use Rattle.frame_ending.{proofs.Running.extra-tick, specs.declared.cut.Cut.TheVariants.Extra}
 use Rattle.std.proofs.Common.{inr, arith}
-use Rattle.frame_ending.specs.declared.cut.Cut.TheVariants.{Extra}
-use Rattle.frame_ending.proofs.Running.{extra-tick}
-use Rattle.check_receiver.proofs.Resting.{begins-none, rest-taken}
-use Rattle.check_receiver.proofs.Taking.{more-taken}
 use Rattle.check_receiver.proofs.checker.Checker.hear_more.Goals as goal
 
 pub returns-then-not-self-clause-step : goal.returns-then-not-self-clause-step

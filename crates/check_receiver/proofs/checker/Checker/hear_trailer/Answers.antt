@@ -1,12 +1,9 @@
+use Rattle.{burst_walk.specs.Answered.answered, check_receiver.proofs.Lending.same-taken}
+use Rattle.check_receiver.{proofs.RunsTaken.trailer-taken, specs.Runs.HasTakenRun}
+use Rattle.{check_receiver.specs.Runs.IsFront, delay_ring.specs.DelayRing.ring_ticks}
 use Rattle.std.proofs.Common.{◌≡◌, ◌-◌, ◌++◌, sym, subst, arith, length, List, ℕ, take, drop, map}
 use Rattle.std.proofs.lemmas.List.{take-take, length-take-le}
-use Rattle.yasir_ticks.specs.Ticks.{silent}
-use Rattle.yasir_ticks.specs.declared.tick.Tick.TheVariants.{Byte}
-use Rattle.delay_ring.specs.DelayRing.{ring_ticks}
-use Rattle.burst_walk.specs.Answered.{answered}
-use Rattle.check_receiver.specs.Runs.{HasTakenRun, IsFront}
-use Rattle.check_receiver.proofs.Lending.{same-taken}
-use Rattle.check_receiver.proofs.RunsTaken.{trailer-taken}
+use Rattle.yasir_ticks.specs.{Ticks.silent, declared.tick.Tick.TheVariants.Byte}
 use Rattle.check_receiver.proofs.checker.Checker.hear_trailer.Goals as goal
 
 pub returns-then-until-lt3-clause-run : goal.returns-then-until-lt3-clause-run

@@ -1,15 +1,10 @@
-use Rattle.std.proofs.Common.{◌≡◌, ◌∙◌, ◌-◌, ℕ, refl, sym, ap, subst, arith, []}
-use Rattle.std.proofs.Common.{length, false, None}
-use Rattle.yasir_ticks.specs.Ticks.{silent}
-use Rattle.yasir_ticks.specs.Bursts.{bursts}
-use Rattle.yasir_ticks.specs.declared.tick.Tick.{Tick}
-use Rattle.link_format.specs.Profile.{Profile, profile_of}
-use Rattle.link_format.specs.Setup.{Setup, setup_of}
-use Rattle.sequence_journal.specs.declared.numbers.TheConstants.{LIMIT}
-use Rattle.link_verdicts.specs.Checking.{at_floor}
-use Rattle.link_verdicts.specs.Holding.{HasWalked}
+use Rattle.link_format.specs.{Profile.Profile, Profile.profile_of, Setup.Setup, Setup.setup_of}
 use Rattle.link_verdicts.proofs.Begun.{walked-begun}
-use Rattle.spoiler.proofs.Standing.{stands-unowed}
+use Rattle.link_verdicts.specs.{Checking.at_floor, Holding.HasWalked}
+use Rattle.sequence_journal.specs.declared.numbers.TheConstants.{LIMIT}
+use Rattle.{spoiler.proofs.Standing.stands-unowed, std.proofs.Common.◌≡◌}
+use Rattle.std.proofs.Common.{◌∙◌, ◌-◌, ℕ, refl, sym, ap, subst, arith, [], length, false, None}
+use Rattle.yasir_ticks.specs.{Bursts.bursts, Ticks.silent, declared.tick.Tick.Tick}
 use Rattle.check_receiver.proofs.checker.Checker.new.Goals as goal
 
 pub returns-clause-stands : goal.returns-clause-stands

@@ -1,11 +1,8 @@
+use Rattle.{burst_walk.specs.Answered.answered, check_receiver.proofs.Lending.bytes-long}
+use Rattle.check_receiver.{proofs.RunsTaken.flow-counted, specs.Runs.HasTakenRun}
 use Rattle.std.proofs.Common.{◌≡◌, ◌∙◌, ◌-◌, subst, arith, length, List, ℕ, take, map}
 use Rattle.std.proofs.lemmas.List.{take-take, length-take-le}
-use Rattle.yasir_ticks.specs.declared.tick.Tick.{Tick}
-use Rattle.yasir_ticks.specs.declared.tick.Tick.TheVariants.{Byte}
-use Rattle.burst_walk.specs.Answered.{answered}
-use Rattle.check_receiver.specs.Runs.{HasTakenRun}
-use Rattle.check_receiver.proofs.Lending.{bytes-long}
-use Rattle.check_receiver.proofs.RunsTaken.{flow-counted}
+use Rattle.yasir_ticks.specs.declared.tick.Tick.{Tick, TheVariants.Byte}
 use Rattle.check_receiver.proofs.checker.Checker.pass_over.Goals as goal
 
 pub returns-clause-run : goal.returns-clause-run

@@ -1,12 +1,9 @@
+use Rattle.burst_walk.specs.Answered.{answered}
+use Rattle.check_receiver.proofs.{Lending.same-taken, Lending.not-owed, RestRuns.silence-begin_none}
+use Rattle.check_receiver.{proofs.RunsTaken.idle-taken, specs.Runs.HasTakenRun}
 use Rattle.std.proofs.Common.{◌∙◌, sym, subst, arith, List, ℕ}
 use Rattle.std.proofs.lemmas.List.{length-replicate}
-use Rattle.yasir_ticks.specs.Ticks.{silent}
-use Rattle.yasir_ticks.specs.declared.tick.Tick.TheVariants.{Silent}
-use Rattle.burst_walk.specs.Answered.{answered}
-use Rattle.check_receiver.specs.Runs.{HasTakenRun}
-use Rattle.check_receiver.proofs.Lending.{same-taken, not-owed}
-use Rattle.check_receiver.proofs.RestRuns.{silence-begin_none}
-use Rattle.check_receiver.proofs.RunsTaken.{idle-taken}
+use Rattle.yasir_ticks.specs.{Ticks.silent, declared.tick.Tick.TheVariants.Silent}
 use Rattle.check_receiver.proofs.checker.Checker.pass_silence.Goals as goal
 
 pub returns-then-owes-clause-run : goal.returns-then-owes-clause-run

@@ -1,17 +1,12 @@
-use Rattle.std.proofs.Common.{◌≡◌, ◌∙◌, ◌+◌, ◌<◌, ⊎_elim, sym, ap, subst, arith}
-use Rattle.std.proofs.Common.{length, Option, [], ◌∷◌, ◌++◌}
-use Rattle.yasir_ticks.specs.declared.tick.Tick.TheVariants.{Silent}
-use Rattle.line_rules.specs.Rules.{head_of}
-use Rattle.line_rules.specs.declared.head.Head.TheVariants.{Short}
-use Rattle.frame_ending.specs.LiveBytes.{live_bytes, live_end}
-use Rattle.frame_ending.specs.SoFar.{live_bytes_in}
-use Rattle.link_verdicts.specs.declared.note.CheckNote.{CheckNote}
-use Rattle.check_receiver.specs.Between.{IsNoPass}
-use Rattle.check_receiver.specs.Stands.{direction_of}
+use Rattle.check_receiver.proofs.{Dropping.drop-silent, Heads.head-is-short, Heads.head-isn't-short}
 use Rattle.check_receiver.proofs.Machine.{waiting-some}
-use Rattle.check_receiver.proofs.Heads.{head-is-short, head-isn't-short}
 use Rattle.check_receiver.proofs.Silences.{open-silent, waits-long, waits-last}
-use Rattle.check_receiver.proofs.Dropping.{drop-silent}
+use Rattle.check_receiver.specs.{Between.IsNoPass, Stands.direction_of}
+use Rattle.frame_ending.specs.{LiveBytes.live_bytes, LiveBytes.live_end, SoFar.live_bytes_in}
+use Rattle.line_rules.specs.{Rules.head_of, declared.head.Head.TheVariants.Short}
+use Rattle.{link_verdicts.specs.declared.note.CheckNote.CheckNote, std.proofs.Common.◌≡◌}
+use Rattle.std.proofs.Common.{◌∙◌, ◌+◌, ◌<◌, ⊎_elim, sym, ap, subst, arith, length, Option, [], ◌∷◌}
+use Rattle.{std.proofs.Common.◌++◌, yasir_ticks.specs.declared.tick.Tick.TheVariants.Silent}
 use Rattle.check_receiver.proofs.checker.Checker.pause.Goals as goal
 
 pub returns-in-Short-clause-step : goal.returns-in-Short-clause-step

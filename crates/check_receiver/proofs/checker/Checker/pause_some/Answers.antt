@@ -1,6 +1,5 @@
+use Rattle.check_receiver.proofs.{Lending.same-taken, RunsTaken.pause-taken}
 use Rattle.std.proofs.Common.{◌-◌, arith, ℕ}
-use Rattle.check_receiver.proofs.Lending.{same-taken}
-use Rattle.check_receiver.proofs.RunsTaken.{pause-taken}
 use Rattle.check_receiver.proofs.checker.Checker.pause_some.Goals as goal
 
 pub returns-then-not-has_good_head-clause-run : goal.returns-then-not-has_good_head-clause-run

@@ -1,10 +1,7 @@
-use Rattle.std.proofs.Common.{◌-◌, arith, ℕ}
-use Rattle.std.proofs.lemmas.List.{length-replicate}
-use Rattle.yasir_ticks.specs.Ticks.{silent}
-use Rattle.yasir_ticks.specs.declared.tick.Tick.TheVariants.{Silent}
-use Rattle.check_receiver.proofs.Lending.{same-taken}
-use Rattle.check_receiver.proofs.RestRuns.{silence-begin_none}
+use Rattle.check_receiver.proofs.{Lending.same-taken, RestRuns.silence-begin_none}
 use Rattle.check_receiver.proofs.RunsTaken.{flow-counted}
+use Rattle.std.proofs.{Common.◌-◌, Common.arith, Common.ℕ, lemmas.List.length-replicate}
+use Rattle.yasir_ticks.specs.{Ticks.silent, declared.tick.Tick.TheVariants.Silent}
 use Rattle.check_receiver.proofs.checker.Checker.rest_some.Goals as goal
 
 pub returns-then-still-eq0-clause-run : goal.returns-then-still-eq0-clause-run

@@ -1,9 +1,7 @@
-use Rattle.std.proofs.Common.{arith}
-use Rattle.yasir_ticks.specs.declared.tick.Tick.TheVariants.{Silent, Byte}
-use Rattle.frame_ending.specs.declared.cut.Cut.TheVariants.{Start}
+use Rattle.check_receiver.proofs.{Beginnings.one-taken, Starting.start-live}
 use Rattle.check_receiver.specs.Between.{IsBetween}
-use Rattle.check_receiver.proofs.Beginnings.{one-taken}
-use Rattle.check_receiver.proofs.Starting.{start-live}
+use Rattle.{frame_ending.specs.declared.cut.Cut.TheVariants.Start, std.proofs.Common.arith}
+use Rattle.yasir_ticks.specs.declared.tick.Tick.TheVariants.{Silent, Byte}
 use Rattle.check_receiver.proofs.checker.Checker.start.Goals as goal
 
 pub returns-clause-run : goal.returns-clause-run

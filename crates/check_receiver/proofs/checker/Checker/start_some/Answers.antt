@@ -1,16 +1,13 @@
-use Rattle.std.proofs.Common.{◌≡◌, ◌∙◌, ◌+◌, ◌-◌, ◌<◌, ◌++◌, [], ◌∷◌, sym, ap, subst, arith}
-use Rattle.std.proofs.Common.{length, List, ℕ, take, drop, map, refl, slice_index_or}
-use Rattle.std.proofs.lemmas.Bool.{eqb-false}
-use Rattle.std.proofs.lemmas.List.{length-take-le, length-drop, take_all}
-use Rattle.yasir_ticks.specs.Ticks.{silent}
-use Rattle.yasir_ticks.specs.declared.tick.Tick.{Tick}
-use Rattle.yasir_ticks.specs.declared.tick.Tick.TheVariants.{Silent, Byte}
 use Rattle.burst_walk.specs.Answered.{answered}
-use Rattle.check_receiver.specs.Runs.{HasTakenRun, KeepsHeader}
 use Rattle.check_receiver.proofs.Beginnings.{answer-whole, first-byte, more-taken, not-bad}
 use Rattle.check_receiver.proofs.Beginnings.{run-whole, start-keeps, still-stands}
-use Rattle.check_receiver.proofs.Lending.{bytes-long, same-taken}
-use Rattle.check_receiver.proofs.RunsTaken.{idle-taken}
+use Rattle.check_receiver.proofs.{Lending.bytes-long, Lending.same-taken, RunsTaken.idle-taken}
+use Rattle.check_receiver.specs.Runs.{HasTakenRun, KeepsHeader}
+use Rattle.std.proofs.Common.{◌≡◌, ◌∙◌, ◌+◌, ◌-◌, ◌<◌, ◌++◌, [], ◌∷◌, sym, ap, subst, arith, length}
+use Rattle.std.proofs.Common.{List, ℕ, take, drop, map, refl, slice_index_or}
+use Rattle.std.proofs.lemmas.{Bool.eqb-false, List.length-take-le, List.length-drop, List.take_all}
+use Rattle.yasir_ticks.specs.Ticks.{silent}
+use Rattle.yasir_ticks.specs.declared.tick.Tick.{Tick, TheVariants.Silent, TheVariants.Byte}
 use Rattle.check_receiver.proofs.checker.Checker.start_some.Goals as goal
 
 pub returns-then-passed-gt0-clause-run : goal.returns-then-passed-gt0-clause-run

@@ -1,10 +1,7 @@
-use Rattle.std.proofs.Common.{◌∙◌, ap}
-use Rattle.std.proofs.lemmas.Result.{on_ok_weaker}
-use Rattle.sequence_journal.specs.Commits.{HasFailed}
-use Rattle.sequence_journal.specs.Journal.{journal_floor}
-use Rattle.check_receiver.proofs.Journals.{journal-kept}
-use Rattle.check_receiver.proofs.WholeSteps.{silence-is, taken-then, taken-silence, taken-ok}
-use Rattle.check_receiver.proofs.WholeSteps.{passes-err}
+use Rattle.check_receiver.proofs.{Journals.journal-kept, WholeSteps.silence-is}
+use Rattle.check_receiver.proofs.WholeSteps.{taken-then, taken-silence, taken-ok, passes-err}
+use Rattle.sequence_journal.specs.{Commits.HasFailed, Journal.journal_floor}
+use Rattle.std.proofs.{Common.◌∙◌, Common.ap, lemmas.Result.on_ok_weaker}
 use Rattle.check_receiver.proofs.checker.Checker.step.Goals as goal
 
 pub returns-in-Start-clause-step : goal.returns-in-Start-clause-step

@@ -1,8 +1,7 @@
-use Rattle.std.proofs.Common.{◌∙◌, ℕ, ◌++◌, refl, sym, ap, subst, ◌==◌, Option}
-use Rattle.yasir_ticks.specs.declared.tick.Tick.{Tick}
-use Rattle.yasir_ticks.specs.declared.tick.Tick.TheVariants.{Silent, Byte}
-use Rattle.spoiler.specs.Outlet.{StandsFor as OutletStandsFor, refused_by, filled_bytes}
 use Rattle.link_verdicts.specs.Turns.{HasTurned, tick_or_silence}
+use Rattle.spoiler.specs.Outlet.{StandsFor as OutletStandsFor, refused_by, filled_bytes}
+use Rattle.std.proofs.Common.{◌∙◌, ℕ, ◌++◌, refl, sym, ap, subst, ◌==◌, Option}
+use Rattle.yasir_ticks.specs.declared.tick.Tick.{Tick, TheVariants.Silent, TheVariants.Byte}
 use Rattle.check_receiver.proofs.checker.Checker.turn.Goals as goal
 
 pub returns-in-Byte : goal.returns-in-Byte

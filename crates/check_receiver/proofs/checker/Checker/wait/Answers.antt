@@ -1,9 +1,8 @@
+use Rattle.check_receiver.proofs.{Machine.waiting-some, Resting.rest-taken}
+use Rattle.check_receiver.proofs.Silences.{refuse-silent, open-silent, waits-long, waits-header}
+use Rattle.frame_ending.specs.LiveBytes.{live_end}
 use Rattle.std.proofs.Common.{◌∙◌, ◌+◌, ◌≤◌, ◌<◌, sym, arith, length, [], ◌∷◌, ◌++◌}
 use Rattle.yasir_ticks.specs.declared.tick.Tick.TheVariants.{Silent}
-use Rattle.frame_ending.specs.LiveBytes.{live_end}
-use Rattle.check_receiver.proofs.Machine.{waiting-some}
-use Rattle.check_receiver.proofs.Resting.{rest-taken}
-use Rattle.check_receiver.proofs.Silences.{refuse-silent, open-silent, waits-long, waits-header}
 use Rattle.check_receiver.proofs.checker.Checker.wait.Goals as goal
 
 pub returns-then-not-self-clause-step : goal.returns-then-not-self-clause-step

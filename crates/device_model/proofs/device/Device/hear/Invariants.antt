@@ -1,6 +1,5 @@
-use Rattle.std.proofs.Common.{map, take}
+use Rattle.{device_model.proofs.Runs.IsQuiet, std.proofs.Common.map, std.proofs.Common.take}
 use Rattle.yasir_ticks.specs.declared.tick.Tick.TheVariants.{Byte}
-use Rattle.device_model.proofs.Runs.{IsQuiet}
 use Rattle.device_model.proofs.device.Device.hear.Given as goal
 
 abbrev pub invariant-loop-at : goal.invariant-loop-at

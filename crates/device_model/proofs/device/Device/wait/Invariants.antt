@@ -1,5 +1,4 @@
-use Rattle.yasir_ticks.specs.Ticks.{silent}
-use Rattle.device_model.proofs.Runs.{IsQuiet}
+use Rattle.{device_model.proofs.Runs.IsQuiet, yasir_ticks.specs.Ticks.silent}
 use Rattle.device_model.proofs.device.Device.wait.Given as goal
 
 abbrev pub invariant-loop-at : goal.invariant-loop-at

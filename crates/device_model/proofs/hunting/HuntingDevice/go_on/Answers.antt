@@ -1,5 +1,4 @@
-use Rattle.device_model.specs.Frames.{frames_lent}
-use Rattle.device_model.proofs.HuntRuns.{ends-byte}
+use Rattle.device_model.{proofs.HuntRuns.ends-byte, specs.Frames.frames_lent}
 use Rattle.device_model.proofs.hunting.HuntingDevice.go_on.Goals as goal
 
 pub returns-then-meet : goal.returns-then-meet

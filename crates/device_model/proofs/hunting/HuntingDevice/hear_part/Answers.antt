@@ -1,7 +1,6 @@
-use Rattle.std.proofs.Common.{◌∙◌, length, take, refl, sym, arith}
-use Rattle.std.proofs.lemmas.Bool.{eqb-true}
-use Rattle.std.proofs.lemmas.List.{get_or-take, length-take}
 use Rattle.device_model.proofs.HuntRuns.{passes-run, first-run, none-of}
+use Rattle.std.proofs.Common.{◌∙◌, length, take, refl, sym, arith}
+use Rattle.std.proofs.lemmas.{Bool.eqb-true, List.get_or-take, List.length-take}
 use Rattle.device_model.proofs.hunting.HuntingDevice.hear_part.Goals as goal
 
 pub returns-then-passed-gt0-clause-takes : goal.returns-then-passed-gt0-clause-takes

@@ -1,6 +1,5 @@
+use Rattle.device_model.proofs.{HuntSteps.heard-nothing, Hunts.hunt-none}
 use Rattle.std.proofs.Common.{refl}
-use Rattle.device_model.proofs.Hunts.{hunt-none}
-use Rattle.device_model.proofs.HuntSteps.{heard-nothing}
 use Rattle.device_model.proofs.hunting.HuntingDeviceDevice.fresh.Goals as goal
 
 pub returns-clause-stands : goal.returns-clause-stands

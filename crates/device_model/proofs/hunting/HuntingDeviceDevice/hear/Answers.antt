@@ -1,11 +1,9 @@
-use Rattle.std.proofs.Common.{◌≡◌, ◌≤◌, ◌∙◌, ◌+◌, ◌-◌, ℕ, List, [], ◌++◌, refl, take, drop}
-use Rattle.std.proofs.Common.{length, ap, subst, arith}
-use Rattle.std.proofs.lemmas.List.{take_all, length-drop, length-take}
-use Rattle.device_model.specs.Frames.{frames_lent}
-use Rattle.device_model.specs.Hunt.{hunt_line}
-use Rattle.device_model.specs.HuntingDevice.{TakesRun}
 use Rattle.device_model.proofs.HuntRuns.{no-run, part-joined, part-ended, not-true, not-false}
 use Rattle.device_model.proofs.HuntRuns.{run-stands, run-reads, run-unread-front}
+use Rattle.device_model.specs.{Frames.frames_lent, Hunt.hunt_line, HuntingDevice.TakesRun}
+use Rattle.std.proofs.Common.{◌≡◌, ◌≤◌, ◌∙◌, ◌+◌, ◌-◌, ℕ, List, [], ◌++◌, refl, take, drop, length}
+use Rattle.std.proofs.Common.{ap, subst, arith}
+use Rattle.std.proofs.lemmas.List.{take_all, length-drop, length-take}
 use Rattle.device_model.proofs.hunting.HuntingDeviceDevice.hear.Goals as goal
 
 -- `&bytes[at..]` has all that is left.

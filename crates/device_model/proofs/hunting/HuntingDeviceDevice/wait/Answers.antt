@@ -1,6 +1,5 @@
-use Rattle.std.proofs.Common.{◌∙◌, sym}
-use Rattle.std.proofs.lemmas.List.{append-nil}
 use Rattle.device_model.proofs.HuntSteps.{silences-stand, silences-read}
+use Rattle.std.proofs.{Common.◌∙◌, Common.sym, lemmas.List.append-nil}
 use Rattle.device_model.proofs.hunting.HuntingDeviceDevice.wait.Goals as goal
 
 pub returns-clause-stands : goal.returns-clause-stands

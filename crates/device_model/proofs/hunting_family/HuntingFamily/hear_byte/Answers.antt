@@ -1,5 +1,4 @@
-use Rattle.device_model.specs.Frames.{frames_lent}
-use Rattle.device_model.proofs.HuntFamilyLaws.{hears}
+use Rattle.device_model.{proofs.HuntFamilyLaws.hears, specs.Frames.frames_lent}
 use Rattle.device_model.proofs.hunting_family.HuntingFamily.hear_byte.Goals as goal
 
 pub returns-clause-stands : goal.returns-clause-stands

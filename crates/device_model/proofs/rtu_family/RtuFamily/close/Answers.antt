@@ -1,7 +1,6 @@
-use Rattle.std.proofs.Common.{sym, ap, ◌∙◌}
-use Rattle.rtu_frame.specs.Frame.{is_frame}
-use Rattle.rtu_frame.proofs.FrameLaws.{is_frame_lem}
 use Rattle.device_model.proofs.RtuFamilyLaws.{ended-frame, ended-none}
+use Rattle.rtu_frame.{proofs.FrameLaws.is_frame_lem, specs.Frame.is_frame}
+use Rattle.std.proofs.Common.{sym, ap, ◌∙◌}
 use Rattle.device_model.proofs.rtu_family.RtuFamily.close.Goals as goal
 
 pub returns-then-not-is_frame : goal.returns-then-not-is_frame

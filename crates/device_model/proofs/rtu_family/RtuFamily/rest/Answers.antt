@@ -1,5 +1,4 @@
-use Rattle.std.proofs.Common.{refl}
-use Rattle.device_model.proofs.RtuRuns.{silence-kept}
+use Rattle.{device_model.proofs.RtuRuns.silence-kept, std.proofs.Common.refl}
 use Rattle.device_model.proofs.rtu_family.RtuFamily.rest.Goals as goal
 
 pub returns-clause-stands : goal.returns-clause-stands

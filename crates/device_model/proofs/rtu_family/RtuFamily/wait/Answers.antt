@@ -1,12 +1,9 @@
-use Rattle.std.proofs.Common.{◌≡◌, ◌∙◌, ℕ, ◌-◌, List, [], ◌++◌, sym, ap, subst}
-use Rattle.std.proofs.Common.{arith, inl, inr}
-use Rattle.std.proofs.lemmas.List.{append-nil}
-use Rattle.yasir_ticks.specs.Ticks.{silent}
-use Rattle.yasir_ticks.specs.declared.tick.Tick.{Tick}
-use Rattle.device_model.specs.Frames.{frames_lent}
+use Rattle.device_model.proofs.RtuRuns.{silence-unread, silent-behind, later-unread, counted-on}
+use Rattle.device_model.{proofs.RtuRuns.read-last, specs.Frames.frames_lent}
 use Rattle.device_model.specs.RtuFamily.{RtuFamilyStandsFor, rtu_family_reads}
-use Rattle.device_model.proofs.RtuRuns.{silence-unread, silent-behind, later-unread}
-use Rattle.device_model.proofs.RtuRuns.{counted-on, read-last}
+use Rattle.std.proofs.Common.{◌≡◌, ◌∙◌, ℕ, ◌-◌, List, [], ◌++◌, sym, ap, subst, arith, inl, inr}
+use Rattle.std.proofs.lemmas.List.{append-nil}
+use Rattle.yasir_ticks.specs.{Ticks.silent, declared.tick.Tick.Tick}
 use Rattle.device_model.proofs.rtu_family.RtuFamily.wait.Goals as goal
 
 pub returns-then-left-eq0-clause-answer : goal.returns-then-left-eq0-clause-answer

@@ -1,8 +1,7 @@
-use Rattle.std.proofs.Common.{◌∙◌, ℕ, List, [], ◌∷◌, ap, sym, refl, arith, length}
-use Rattle.yasir_ticks.proofs.TickRuns.{ticks_in-run}
 use Rattle.device_model.specs.Frames.{FrameRead, frames_lent}
-use Rattle.tick_drive.proofs.Causes.{cause_none}
 use Rattle.device_replay.proofs.Printing.{none_read, one_read, one_failed}
+use Rattle.std.proofs.Common.{◌∙◌, ℕ, List, [], ◌∷◌, ap, sym, refl, arith, length}
+use Rattle.{tick_drive.proofs.Causes.cause_none, yasir_ticks.proofs.TickRuns.ticks_in-run}
 use Rattle.device_replay.proofs.frame_lines.FrameLines.print_some.Goals as goal
 
 pub hear_run-taken-requires : goal.hear_run-taken-requires

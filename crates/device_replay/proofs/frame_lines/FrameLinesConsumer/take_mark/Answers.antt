@@ -1,7 +1,5 @@
-use Rattle.tick_drive.proofs.Moving.{gives_mark}
-use Rattle.device_replay.specs.FrameLines.{printing}
-use Rattle.device_replay.specs.FrameLinesLaws.{holds-none}
-use Rattle.device_replay.proofs.Printing.{prints_at_mark}
+use Rattle.device_replay.{proofs.Printing.prints_at_mark, specs.FrameLines.printing}
+use Rattle.{device_replay.specs.FrameLinesLaws.holds-none, tick_drive.proofs.Moving.gives_mark}
 use Rattle.device_replay.proofs.frame_lines.FrameLinesConsumer.take_mark.Goals as goal
 
 pub returns : goal.returns

@@ -1,5 +1,4 @@
-use Rattle.std.proofs.Common.{ap}
-use Rattle.line_spacer.proofs.Arriving.{begins-empty}
+use Rattle.{line_spacer.proofs.Arriving.begins-empty, std.proofs.Common.ap}
 use Rattle.line_spacer.proofs.spacer.Spacer.new.Goals as goal
 
 pub returns-clause-stands : goal.returns-clause-stands

@@ -1,10 +1,8 @@
-use Rattle.std.proofs.Common.{◌≡◌, ◌+◌, ◌-◌, ◌++◌, [], ◌∷◌, length, take, sym, subst, arith}
-use Rattle.std.proofs.lemmas.List.{take_all}
-use Rattle.yasir_ticks.specs.TickRun.{run_ticks}
-use Rattle.burst_walk.specs.Answered.{answered}
-use Rattle.device_model.specs.Frames.{frames_lent}
-use Rattle.line_spacer.specs.Stands.{StandsFor, AnswersSpaced, bytes_left}
+use Rattle.{burst_walk.specs.Answered.answered, device_model.specs.Frames.frames_lent}
 use Rattle.line_spacer.proofs.RunSteps.{answered-one}
+use Rattle.line_spacer.specs.Stands.{StandsFor, AnswersSpaced, bytes_left}
+use Rattle.std.proofs.Common.{◌≡◌, ◌+◌, ◌-◌, ◌++◌, [], ◌∷◌, length, take, sym, subst, arith}
+use Rattle.{std.proofs.lemmas.List.take_all, yasir_ticks.specs.TickRun.run_ticks}
 use Rattle.line_spacer.proofs.spacer.Spacer.take_one.Goals as goal
 
 pub returns-clause-stands : goal.returns-clause-stands

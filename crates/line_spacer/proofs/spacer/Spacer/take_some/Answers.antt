@@ -1,14 +1,11 @@
-use Rattle.std.proofs.Common.{◌≡◌, ◌∙◌, ◌<◌, ◌≤◌, ◌+◌, ◌-◌, ◌++◌, ℕ, List, length, take, drop}
-use Rattle.std.proofs.Common.{sym, ap, subst, arith}
-use Rattle.std.proofs.lemmas.List.{length-take, length-take-le, take-take}
-use Rattle.yasir_ticks.specs.TickRun.{run_ticks}
-use Rattle.yasir_ticks.specs.declared.tick.Tick.{Tick}
-use Rattle.burst_walk.specs.Answered.{answered}
-use Rattle.device_model.specs.Frames.{frames_lent}
-use Rattle.line_spacer.specs.Spacing.{spaced, accepted_of}
-use Rattle.line_spacer.specs.Stands.{StandsFor, AnswersSpaced, left_of, frame_at, frames_waiting}
-use Rattle.line_spacer.specs.Stands.{bytes_left}
+use Rattle.{burst_walk.specs.Answered.answered, device_model.specs.Frames.frames_lent}
 use Rattle.line_spacer.proofs.Runs.{IsQuiet, run-before, run-sent, run-answers}
+use Rattle.line_spacer.specs.{Spacing.spaced, Spacing.accepted_of, Stands.StandsFor}
+use Rattle.line_spacer.specs.Stands.{AnswersSpaced, left_of, frame_at, frames_waiting, bytes_left}
+use Rattle.std.proofs.Common.{◌≡◌, ◌∙◌, ◌<◌, ◌≤◌, ◌+◌, ◌-◌, ◌++◌, ℕ, List, length, take, drop, sym}
+use Rattle.std.proofs.Common.{ap, subst, arith}
+use Rattle.std.proofs.lemmas.List.{length-take, length-take-le, take-take}
+use Rattle.yasir_ticks.specs.{TickRun.run_ticks, declared.tick.Tick.Tick}
 use Rattle.line_spacer.proofs.spacer.Spacer.take_some.Goals as goal
 
 pub returns-clause-long : goal.returns-clause-long

@@ -1,11 +1,8 @@
-use Rattle.std.proofs.Common.{[], sym, subst}
-use Rattle.sequence_journal.specs.Journal.{journal_floor}
-use Rattle.link_format.specs.Setup.{setup_of}
-use Rattle.box_command.specs.LinkBoxed.{boxed_of}
-use Rattle.box_command.specs.BoxLines.{ToldFloor}
-use Rattle.box_command.specs.Sending.{made_by}
 use Rattle.box_command.proofs.Walking.{walk-boxed}
-use Rattle.live_port.proofs.Handing.{handed_none}
+use Rattle.box_command.specs.{BoxLines.ToldFloor, LinkBoxed.boxed_of, Sending.made_by}
+use Rattle.{link_format.specs.Setup.setup_of, live_port.proofs.Handing.handed_none}
+use Rattle.sequence_journal.specs.Journal.{journal_floor}
+use Rattle.std.proofs.Common.{[], sym, subst}
 use Rattle.link_live.proofs.filter.Filter.new.Goals as goal
 
 pub returns-clause-filters : goal.returns-clause-filters

@@ -1,14 +1,10 @@
-use Rattle.std.proofs.Common.{◌≡◌, ◌<◌, ◌≤◌, ℕ, List, length, take, ap, refl, sym, subst, arith}
-use Rattle.std.proofs.lemmas.List.{length-take}
-use Rattle.yasir_ticks.specs.TickRun.{run_ticks}
-use Rattle.yasir_ticks.specs.declared.tick.Tick.{Tick}
-use Rattle.yasir_ticks.proofs.TickRuns.{ticks_in-run}
-use Rattle.burst_walk.specs.Answered.{answered}
+use Rattle.{box_command.proofs.Fronts.front_first, burst_walk.specs.Answered.answered}
 use Rattle.link_box.specs.Runs.{TakesRun}
-use Rattle.box_command.proofs.Fronts.{front_first}
-use Rattle.live_port.specs.LiveText.{IsTextOf}
-use Rattle.link_live.specs.Filtering.{outside}
 use Rattle.link_live.proofs.Taken.{run_given, run_stopped, none_taken}
+use Rattle.{link_live.specs.Filtering.outside, live_port.specs.LiveText.IsTextOf}
+use Rattle.std.proofs.Common.{◌≡◌, ◌<◌, ◌≤◌, ℕ, List, length, take, ap, refl, sym, subst, arith}
+use Rattle.{std.proofs.lemmas.List.length-take, yasir_ticks.proofs.TickRuns.ticks_in-run}
+use Rattle.yasir_ticks.specs.{TickRun.run_ticks, declared.tick.Tick.Tick}
 use Rattle.link_live.proofs.filter.Filter.take_front.Goals as goal
 
 pub take_alike-count-requires : goal.take_alike-count-requires

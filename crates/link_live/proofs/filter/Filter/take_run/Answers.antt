@@ -1,11 +1,9 @@
-use Rattle.std.proofs.Common.{◌∙◌, arith}
-use Rattle.std.proofs.lemmas.List.{nil_from_length}
-use Rattle.yasir_ticks.proofs.TickRuns.{length-run_items}
-use Rattle.yasir_ticks.specs.TickRun.{run_items}
-use Rattle.tick_drive.proofs.Moving.{given_none, given_some, given_stop, given_may, given_all}
-use Rattle.tick_drive.proofs.ItemLaws.{run_items-behind}
 use Rattle.link_live.specs.Filtering.{filtering, outside}
 use Rattle.link_live.specs.FilteringLaws.{filters-none, filters-then}
+use Rattle.std.proofs.{Common.◌∙◌, Common.arith, lemmas.List.nil_from_length}
+use Rattle.tick_drive.proofs.ItemLaws.{run_items-behind}
+use Rattle.tick_drive.proofs.Moving.{given_none, given_some, given_stop, given_may, given_all}
+use Rattle.yasir_ticks.{proofs.TickRuns.length-run_items, specs.TickRun.run_items}
 use Rattle.link_live.proofs.filter.Filter.take_run.Goals as goal
 
 pub loop-left-init : goal.loop-left-init

@@ -1,7 +1,6 @@
-use Rattle.std.proofs.Common.{length}
-use Rattle.yasir_ticks.specs.TickRun.{run_ticks, run_items}
-use Rattle.tick_drive.proofs.Moving.{HasGiven}
 use Rattle.link_live.specs.Filtering.{filtering, outside}
+use Rattle.{std.proofs.Common.length, tick_drive.proofs.Moving.HasGiven}
+use Rattle.yasir_ticks.specs.TickRun.{run_ticks, run_items}
 use Rattle.link_live.proofs.filter.Filter.take_run.Given as goal
 
 abbrev pub invariant-loop-left : goal.invariant-loop-left

@@ -1,10 +1,7 @@
-use Rattle.std.proofs.Common.{arith}
-use Rattle.yasir_ticks.specs.TickRun.{run_items}
-use Rattle.tick_drive.proofs.Fronts.{some_given}
-use Rattle.tick_drive.proofs.ItemLaws.{run_items-first}
-use Rattle.link_live.specs.Filtering.{filtering, outside}
-use Rattle.link_live.specs.FilteringLaws.{filters-then}
 use Rattle.link_live.proofs.OneMore.{may_one, then_one, stopped_one}
+use Rattle.link_live.specs.{Filtering.filtering, Filtering.outside, FilteringLaws.filters-then}
+use Rattle.{std.proofs.Common.arith, tick_drive.proofs.Fronts.some_given}
+use Rattle.{tick_drive.proofs.ItemLaws.run_items-first, yasir_ticks.specs.TickRun.run_items}
 use Rattle.link_live.proofs.filter.Filter.take_some.Goals as goal
 
 pub returns-then-taken-gt0 : goal.returns-then-taken-gt0

@@ -1,6 +1,5 @@
-use Rattle.tick_drive.specs.declared.end.End.TheVariants.{Whole}
-use Rattle.link_live.specs.LiveLine.{live_of}
 use Rattle.link_live.proofs.Finishing.{drives_ended, drives_finished}
+use Rattle.{link_live.specs.LiveLine.live_of, tick_drive.specs.declared.end.End.TheVariants.Whole}
 use Rattle.link_live.proofs.live_box.LiveBox.drive.Goals as goal
 
 pub returns-in-Err : goal.returns-in-Err

@@ -1,10 +1,8 @@
-use Rattle.std.proofs.Common.{◌∙◌, arith}
-use Rattle.yasir_ticks.specs.Ticks.{items_of_run}
-use Rattle.yasir_ticks.specs.TickRun.{run_items}
-use Rattle.yasir_ticks.proofs.TickRuns.{ticks_in-run}
-use Rattle.tick_drive.proofs.ItemLaws.{length-ticks_in-silence}
-use Rattle.link_live.specs.LiveLine.{live_of}
 use Rattle.link_live.proofs.Finishing.{finish_refused, last_ended, rest_stopped, rest_given}
+use Rattle.{link_live.specs.LiveLine.live_of, std.proofs.Common.◌∙◌, std.proofs.Common.arith}
+use Rattle.tick_drive.proofs.ItemLaws.{length-ticks_in-silence}
+use Rattle.yasir_ticks.proofs.TickRuns.{ticks_in-run}
+use Rattle.yasir_ticks.specs.{TickRun.run_items, Ticks.items_of_run}
 use Rattle.link_live.proofs.live_box.LiveBox.finish.Goals as goal
 
 pub returns-in-Err : goal.returns-in-Err

@@ -1,8 +1,7 @@
-use Rattle.std.proofs.Common.{take, ap, sym, arith}
-use Rattle.std.proofs.lemmas.List.{length-take-le}
-use Rattle.link_live.specs.LiveLine.{live_of}
 use Rattle.link_live.proofs.Hearing.{goes_read, goes_failed, hears_none, hears_too_much, hears_more}
 use Rattle.link_live.proofs.Hearing.{hears_ended, hears_all, hears_failed, hear_answer}
+use Rattle.link_live.specs.LiveLine.{live_of}
+use Rattle.std.proofs.{Common.take, Common.ap, Common.sym, Common.arith, lemmas.List.length-take-le}
 use Rattle.link_live.proofs.live_box.LiveBox.hear.Goals as goal
 
 pub loop-bytes-init : goal.loop-bytes-init

@@ -1,7 +1,5 @@
-use Rattle.std.proofs.Common.{◌-◌}
-use Rattle.link_live.specs.LiveLine.{live_of}
-use Rattle.link_live.specs.declared.live_box.TheConstants.{MAX_LIVE_BYTES}
-use Rattle.link_live.proofs.Hearing.{HearsSo}
+use Rattle.link_live.{proofs.Hearing.HearsSo, specs.LiveLine.live_of}
+use Rattle.{link_live.specs.declared.live_box.TheConstants.MAX_LIVE_BYTES, std.proofs.Common.◌-◌}
 use Rattle.link_live.proofs.live_box.LiveBox.hear.Given as goal
 
 abbrev pub invariant-loop-bytes : goal.invariant-loop-bytes

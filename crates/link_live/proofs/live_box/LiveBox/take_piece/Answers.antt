@@ -1,7 +1,6 @@
-use Rattle.std.proofs.Common.{arith}
-use Rattle.std.proofs.lemmas.List.{nil_from_length}
-use Rattle.link_live.specs.LiveLine.{live_of}
 use Rattle.link_live.proofs.Heard.{so_none, so_more, so_ended, so_all}
+use Rattle.link_live.specs.LiveLine.{live_of}
+use Rattle.std.proofs.{Common.arith, lemmas.List.nil_from_length}
 use Rattle.link_live.proofs.live_box.LiveBox.take_piece.Goals as goal
 
 pub loop-rest-init : goal.loop-rest-init

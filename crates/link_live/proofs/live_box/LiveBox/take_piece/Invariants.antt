@@ -1,6 +1,5 @@
+use Rattle.link_live.{proofs.Heard.HasTakenSo, specs.LiveLine.live_of}
 use Rattle.std.proofs.Common.{length}
-use Rattle.link_live.specs.LiveLine.{live_of}
-use Rattle.link_live.proofs.Heard.{HasTakenSo}
 use Rattle.link_live.proofs.live_box.LiveBox.take_piece.Given as goal
 
 abbrev pub invariant-loop-rest : goal.invariant-loop-rest

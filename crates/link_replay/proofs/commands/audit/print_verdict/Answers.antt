@@ -1,10 +1,7 @@
+use Rattle.{link_replay.specs.AuditCommand.verdict_line, recordings_replay.proofs.InOrder.prints-by}
+use Rattle.replay_status.proofs.{EndCauses.sink_cause_of_whole, FlushLaws.flushes_of_whole}
 use Rattle.std.proofs.Common.{◌≡◌, ◌∙◌, refl, subst}
-use Rattle.std.specs.Io.KnownBytes.{append_known}
-use Rattle.yasir_io.specs.Output.{GotPrefix}
-use Rattle.replay_status.proofs.EndCauses.{sink_cause_of_whole}
-use Rattle.replay_status.proofs.FlushLaws.{flushes_of_whole}
-use Rattle.link_replay.specs.AuditCommand.{verdict_line}
-use Rattle.recordings_replay.proofs.InOrder.{prints-by}
+use Rattle.{std.specs.Io.KnownBytes.append_known, yasir_io.specs.Output.GotPrefix}
 use Rattle.link_replay.proofs.commands.audit.print_verdict.Goals as goal
 
 pub returns-clause-prints : goal.returns-clause-prints

@@ -1,7 +1,6 @@
-use Rattle.std.proofs.Common.{refl}
-use Rattle.device_model.specs.DnpReads.{dnp_reads}
-use Rattle.device_model.specs.RtuReads.{rtu_reads}
+use Rattle.device_model.specs.{DnpReads.dnp_reads, RtuReads.rtu_reads}
 use Rattle.link_replay.proofs.Flushing.{reads-input, disk-of-frames}
+use Rattle.std.proofs.Common.{refl}
 use Rattle.link_replay.proofs.commands.read.read_line.Goals as goal
 
 pub returns-in-Rtu-clause-reads : goal.returns-in-Rtu-clause-reads

@@ -1,9 +1,8 @@
-use Rattle.std.proofs.Common.{refl}
-use Rattle.link_replay.proofs.Flushing.{reads-input, disk-of-spacing}
-use Rattle.link_replay.proofs.Spaced.{spaces-by, outside-same}
-use Rattle.link_replay.specs.SpaceCommand.{spaced_by}
+use Rattle.link_replay.proofs.{Flushing.reads-input, Flushing.disk-of-spacing, Spaced.spaces-by}
+use Rattle.link_replay.{proofs.Spaced.outside-same, specs.SpaceCommand.spaced_by}
 use Rattle.link_words.specs.declared.words.Profile.TheVariants.{Y18, Y24}
 use Rattle.link_words.specs.declared.words.Proto.TheVariants.{Rtu, Dnp3}
+use Rattle.std.proofs.Common.{refl}
 use Rattle.link_replay.proofs.commands.space.space.Goals as goal
 
 pub returns-clause-spaces : goal.returns-clause-spaces

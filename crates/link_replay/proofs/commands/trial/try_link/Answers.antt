@@ -1,7 +1,6 @@
-use Rattle.std.proofs.Common.{◌∙◌, refl, subst}
+use Rattle.link_replay.proofs.{Flushing.reads-unread, Flushing.own-unread, Trials.counts-tell}
 use Rattle.replay_status.specs.PrintsText.{PrintsText}
-use Rattle.link_replay.proofs.Flushing.{reads-unread, own-unread}
-use Rattle.link_replay.proofs.Trials.{counts-tell}
+use Rattle.std.proofs.Common.{◌∙◌, refl, subst}
 use Rattle.link_replay.proofs.commands.trial.try_link.Goals as goal
 
 pub returns-clause-tries : goal.returns-clause-tries

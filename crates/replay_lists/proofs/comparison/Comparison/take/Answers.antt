@@ -1,6 +1,5 @@
-use Rattle.std.proofs.Common.{refl}
-use Rattle.replay_lists.specs.Comparison.{expected_reads}
 use Rattle.replay_lists.proofs.Comparing.{found-more, found-next}
+use Rattle.{replay_lists.specs.Comparison.expected_reads, std.proofs.Common.refl}
 use Rattle.replay_lists.proofs.comparison.Comparison.take.Goals as goal
 
 pub returns-in-Some-clause-found : goal.returns-in-Some-clause-found

@@ -1,5 +1,4 @@
-use Rattle.std.proofs.Common.{◌∙◌, ap}
-use Rattle.replay_lists.proofs.Lists.{holds-head}
+use Rattle.{replay_lists.proofs.Lists.holds-head, std.proofs.Common.◌∙◌, std.proofs.Common.ap}
 use Rattle.replay_lists.proofs.frame_list.FrameList.head.Goals as goal
 
 pub returns : goal.returns

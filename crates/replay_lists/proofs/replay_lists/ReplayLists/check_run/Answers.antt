@@ -1,9 +1,7 @@
-use Rattle.std.proofs.Common.{◌≡◌, ◌∙◌, ◌++◌, ap, sym, subst, arith, length, take}
-use Rattle.std.proofs.lemmas.List.{length-take-le}
-use Rattle.yasir_ticks.specs.TickRun.{run_ticks}
 use Rattle.burst_walk.specs.Answered.{answered}
-use Rattle.replay_lists.specs.ReplayLists.{Listens}
-use Rattle.replay_lists.proofs.Runs.{keeps-run}
+use Rattle.replay_lists.{proofs.Runs.keeps-run, specs.ReplayLists.Listens}
+use Rattle.std.proofs.Common.{◌≡◌, ◌∙◌, ◌++◌, ap, sym, subst, arith, length, take}
+use Rattle.{std.proofs.lemmas.List.length-take-le, yasir_ticks.specs.TickRun.run_ticks}
 use Rattle.replay_lists.proofs.replay_lists.ReplayLists.check_run.Goals as goal
 
 pub hear_answered-requires : goal.hear_answered-requires

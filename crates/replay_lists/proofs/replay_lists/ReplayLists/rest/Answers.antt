@@ -1,7 +1,5 @@
-use Rattle.std.proofs.Common.{refl}
-use Rattle.std.proofs.lemmas.Result.{on_ok_weaker}
-use Rattle.yasir_ticks.specs.Ticks.{silent}
-use Rattle.replay_lists.proofs.Listing.{listed-sealed}
+use Rattle.{replay_lists.proofs.Listing.listed-sealed, std.proofs.Common.refl}
+use Rattle.{std.proofs.lemmas.Result.on_ok_weaker, yasir_ticks.specs.Ticks.silent}
 use Rattle.replay_lists.proofs.replay_lists.ReplayLists.rest.Goals as goal
 
 pub returns : goal.returns

@@ -1,8 +1,7 @@
-use Rattle.std.proofs.Common.{◌≡◌, ◌+◌, arith, length, take}
-use Rattle.std.proofs.lemmas.List.{length-take-le}
-use Rattle.yasir_ticks.specs.TickRun.{run_ticks, run_items}
-use Rattle.tick_drive.proofs.ItemLaws.{ticks_in-front}
 use Rattle.replay_lists.proofs.Runs.{seals-on, checks-on, no_mark-front}
+use Rattle.std.proofs.Common.{◌≡◌, ◌+◌, arith, length, take}
+use Rattle.{std.proofs.lemmas.List.length-take-le, tick_drive.proofs.ItemLaws.ticks_in-front}
+use Rattle.yasir_ticks.specs.TickRun.{run_ticks, run_items}
 use Rattle.replay_lists.proofs.replay_lists.ReplayLists.take_front.Goals as goal
 
 pub returns-then-not-self-clause-goes : goal.returns-then-not-self-clause-goes

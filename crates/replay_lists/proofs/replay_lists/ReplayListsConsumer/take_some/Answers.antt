@@ -1,11 +1,9 @@
-use Rattle.std.proofs.Common.{ap, arith, length}
-use Rattle.yasir_ticks.specs.Ticks.{ticks_in}
-use Rattle.yasir_ticks.specs.TickRun.{run_items}
-use Rattle.yasir_ticks.proofs.TickRuns.{ticks_in-run, length-run_items}
-use Rattle.tick_drive.proofs.Fronts.{none_given, still_may, one_given}
-use Rattle.tick_drive.proofs.ItemLaws.{run_items-first}
-use Rattle.replay_lists.specs.ReplayLists.{listing}
 use Rattle.replay_lists.proofs.Listing.{gives-items, gives-no_memory}
+use Rattle.{replay_lists.specs.ReplayLists.listing, std.proofs.Common.ap, std.proofs.Common.arith}
+use Rattle.{std.proofs.Common.length, tick_drive.proofs.Fronts.none_given}
+use Rattle.tick_drive.proofs.{Fronts.still_may, Fronts.one_given, ItemLaws.run_items-first}
+use Rattle.yasir_ticks.proofs.TickRuns.{ticks_in-run, length-run_items}
+use Rattle.yasir_ticks.specs.{TickRun.run_items, Ticks.ticks_in}
 use Rattle.replay_lists.proofs.replay_lists.ReplayListsConsumer.take_some.Goals as goal
 
 pub take_front-requires-clause-room : goal.take_front-requires-clause-room

@@ -1,7 +1,6 @@
-use Rattle.std.proofs.Common.{[], arith, refl}
 use Rattle.link_format.specs.Setup.{setup_of}
-use Rattle.replay_lists.proofs.Lists.{holds-length}
-use Rattle.replay_lists.proofs.TakenLines.{keeps-none, compares-none}
+use Rattle.replay_lists.proofs.{Lists.holds-length, TakenLines.keeps-none, TakenLines.compares-none}
+use Rattle.std.proofs.Common.{[], arith, refl}
 use Rattle.replay_lists.proofs.session_lists.SessionLists.new.Goals as goal
 
 pub returns-clause-has : goal.returns-clause-has

@@ -1,5 +1,4 @@
-use Rattle.std.proofs.Common.{◌∙◌, arith}
-use Rattle.session_audit.proofs.BurstRuns.{heard}
+use Rattle.{session_audit.proofs.BurstRuns.heard, std.proofs.Common.◌∙◌, std.proofs.Common.arith}
 use Rattle.session_audit.proofs.burst_bytes.BurstBytes.hear_bytes.Goals as goal
 
 pub returns : goal.returns

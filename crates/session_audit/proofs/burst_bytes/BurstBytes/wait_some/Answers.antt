@@ -1,5 +1,4 @@
-use Rattle.std.proofs.Common.{arith, refl}
-use Rattle.session_audit.proofs.BurstRuns.{waited}
+use Rattle.{session_audit.proofs.BurstRuns.waited, std.proofs.Common.arith, std.proofs.Common.refl}
 use Rattle.session_audit.proofs.burst_bytes.BurstBytes.wait_some.Goals as goal
 
 pub returns : goal.returns

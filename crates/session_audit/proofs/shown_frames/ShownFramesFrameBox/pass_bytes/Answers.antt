@@ -1,12 +1,8 @@
-use Rattle.std.proofs.Common.{◌++◌, List, subst}
-use Rattle.std.proofs.lemmas.List.{take-map}
-use Rattle.yasir_ticks.specs.declared.tick.Tick.{Tick}
-use Rattle.yasir_ticks.specs.declared.tick.Tick.TheVariants.{Byte}
-use Rattle.burst_walk.specs.Answered.{answered}
+use Rattle.{burst_walk.specs.Answered.answered, replay_lists.specs.FrameBox.AnswersFrameRun}
 use Rattle.sequence_journal.specs.Journal.{journal_floor}
-use Rattle.replay_lists.specs.FrameBox.{AnswersFrameRun}
-use Rattle.session_audit.specs.ShownFrames.{numbering_of}
-use Rattle.session_audit.proofs.RunNotes.{frames-run}
+use Rattle.session_audit.{proofs.RunNotes.frames-run, specs.ShownFrames.numbering_of}
+use Rattle.std.proofs.{Common.◌++◌, Common.List, Common.subst, lemmas.List.take-map}
+use Rattle.yasir_ticks.specs.declared.tick.Tick.{Tick, TheVariants.Byte}
 use Rattle.session_audit.proofs.shown_frames.ShownFramesFrameBox.pass_bytes.Goals as goal
 
 pub returns-clause-stands : goal.returns-clause-stands

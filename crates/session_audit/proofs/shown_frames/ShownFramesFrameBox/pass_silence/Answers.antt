@@ -1,12 +1,9 @@
+use Rattle.{burst_walk.specs.Answered.answered, replay_lists.specs.FrameBox.AnswersFrameRun}
+use Rattle.sequence_journal.specs.Journal.{journal_floor}
+use Rattle.session_audit.{proofs.RunNotes.frames-run, specs.ShownFrames.numbering_of}
 use Rattle.std.proofs.Common.{◌≤◌, ◌++◌, List, arith, subst}
 use Rattle.std.proofs.lemmas.List.{take-replicate, length-replicate}
-use Rattle.yasir_ticks.specs.declared.tick.Tick.{Tick}
-use Rattle.yasir_ticks.specs.declared.tick.Tick.TheVariants.{Silent}
-use Rattle.burst_walk.specs.Answered.{answered}
-use Rattle.sequence_journal.specs.Journal.{journal_floor}
-use Rattle.replay_lists.specs.FrameBox.{AnswersFrameRun}
-use Rattle.session_audit.specs.ShownFrames.{numbering_of}
-use Rattle.session_audit.proofs.RunNotes.{frames-run}
+use Rattle.yasir_ticks.specs.declared.tick.Tick.{Tick, TheVariants.Silent}
 use Rattle.session_audit.proofs.shown_frames.ShownFramesFrameBox.pass_silence.Goals as goal
 
 pub returns-clause-stands : goal.returns-clause-stands

@@ -1,7 +1,5 @@
+use Rattle.session_audit.proofs.{LastNotes.frames-step, Showing.shown-live, Starting.never-fails}
 use Rattle.std.proofs.Common.{◌++◌, ◌∷◌, []}
-use Rattle.session_audit.proofs.LastNotes.{frames-step}
-use Rattle.session_audit.proofs.Showing.{shown-live}
-use Rattle.session_audit.proofs.Starting.{never-fails}
 use Rattle.session_audit.proofs.shown_frames.ShownFramesFrameBox.step.Goals as goal
 
 pub unwrap-step-requires : goal.unwrap-step-requires

@@ -1,13 +1,11 @@
-use Rattle.std.proofs.Common.{◌≡◌, ◌∙◌, ◌+◌, ◌-◌, ◌<◌, ◌≤◌, ◌++◌, length, take, Ok, Err, refl, ap, subst, sym}
-use Rattle.std.proofs.Common.{arith}
-use Rattle.std.proofs.lemmas.List.{take-take, length-take}
-use Rattle.yasir_ticks.specs.TickRun.{run_ticks}
-use Rattle.yasir_ticks.proofs.TickRuns.{ticks_in-run}
-use Rattle.burst_walk.specs.Answered.{answered}
-use Rattle.device_model.specs.Frames.{frames_lent}
+use Rattle.{burst_walk.specs.Answered.answered, device_model.specs.Frames.frames_lent}
 use Rattle.line_spacer.specs.Stands.{AnswersSpaced}
-use Rattle.space_replay.specs.SpacedTexts.{most_waiting, lost_lines}
 use Rattle.space_replay.proofs.Spacing.{spacing_noted, spaced_given, spaced_stopped}
+use Rattle.space_replay.specs.SpacedTexts.{most_waiting, lost_lines}
+use Rattle.std.proofs.Common.{◌≡◌, ◌∙◌, ◌+◌, ◌-◌, ◌<◌, ◌≤◌, ◌++◌, length, take, Ok, Err, refl, ap}
+use Rattle.std.proofs.Common.{subst, sym, arith}
+use Rattle.std.proofs.lemmas.List.{take-take, length-take}
+use Rattle.yasir_ticks.{proofs.TickRuns.ticks_in-run, specs.TickRun.run_ticks}
 use Rattle.space_replay.proofs.spaced_lines.SpacedLines.space_some.Goals as goal
 
 pub take_front-answer-requires-clause-room : goal.take_front-answer-requires-clause-room

@@ -1,7 +1,5 @@
-use Rattle.tick_drive.proofs.Moving.{gives_mark}
-use Rattle.space_replay.specs.SpacedLines.{spacing}
-use Rattle.space_replay.specs.SpacedLinesLaws.{holds-none}
-use Rattle.space_replay.proofs.Spacing.{spaces_at_mark}
+use Rattle.space_replay.{proofs.Spacing.spaces_at_mark, specs.SpacedLines.spacing}
+use Rattle.{space_replay.specs.SpacedLinesLaws.holds-none, tick_drive.proofs.Moving.gives_mark}
 use Rattle.space_replay.proofs.spaced_lines.SpacedLinesConsumer.take_mark.Goals as goal
 
 pub returns : goal.returns

@@ -1,6 +1,5 @@
-use Rattle.std.proofs.Common.{◌∙◌}
-use Rattle.trial_session.specs.Draws.{draw_state}
-use Rattle.trial_session.proofs.FrameDraws.{dnp-frame-is, dnp-state-is}
+use Rattle.{std.proofs.Common.◌∙◌, trial_session.proofs.FrameDraws.dnp-frame-is}
+use Rattle.trial_session.{proofs.FrameDraws.dnp-state-is, specs.Draws.draw_state}
 use Rattle.trial_session.proofs.drawn_frames.DnpDrawnFrames.draw_frame.Goals as goal
 
 pub returns-clause-frame : goal.returns-clause-frame

@@ -1,9 +1,7 @@
+use Rattle.{line_rules.specs.Bytes.low_first, rtu_frame.specs.Crc.crc_rtu}
 use Rattle.std.proofs.Common.{◌≡◌, ◌∙◌, ◌++◌, ap}
-use Rattle.line_rules.specs.Bytes.{low_first}
-use Rattle.rtu_frame.specs.Crc.{crc_rtu}
-use Rattle.trial_session.specs.Draws.{draw_state}
-use Rattle.trial_session.specs.RtuDrawn.{rtu_body}
 use Rattle.trial_session.proofs.FrameDraws.{rtu-body-is, rtu-state-is}
+use Rattle.trial_session.specs.{Draws.draw_state, RtuDrawn.rtu_body}
 use Rattle.trial_session.proofs.drawn_frames.RtuDrawnFrames.draw_frame.Goals as goal
 
 pub returns-clause-frame : goal.returns-clause-frame

@@ -1,8 +1,7 @@
 use Rattle.std.proofs.Common.{◌≡◌, ◌∙◌, length, sym, ap, arith}
-use Rattle.trial_session.specs.Draws.{state_after, bytes_drawn, next_state}
-use Rattle.trial_session.specs.DrawLaws.{length-bytes_drawn}
 use Rattle.trial_session.proofs.Drawing.{state_after-zero, bytes_drawn-zero, state_after-more}
-use Rattle.trial_session.proofs.Drawing.{drawn-more}
+use Rattle.trial_session.{proofs.Drawing.drawn-more, specs.DrawLaws.length-bytes_drawn}
+use Rattle.trial_session.specs.Draws.{state_after, bytes_drawn, next_state}
 use Rattle.trial_session.proofs.draws.Draws.draw_bytes.Goals as goal
 
 pub loop-init : goal.loop-init

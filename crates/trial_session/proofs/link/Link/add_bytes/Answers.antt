@@ -1,7 +1,6 @@
-use Rattle.std.proofs.Common.{◌∙◌, ◌+◌, ◌++◌, ap, arith, length, take, drop, sym}
-use Rattle.std.proofs.lemmas.List.{take-replicate}
 use Rattle.delay_ring.specs.DelayRing.{marked_ticks}
-use Rattle.trial_session.proofs.Marked.{bytes-come}
+use Rattle.std.proofs.Common.{◌∙◌, ◌+◌, ◌++◌, ap, arith, length, take, drop, sym}
+use Rattle.{std.proofs.lemmas.List.take-replicate, trial_session.proofs.Marked.bytes-come}
 use Rattle.trial_session.proofs.link.Link.add_bytes.Goals as goal
 
 pub returns-clause-sent : goal.returns-clause-sent

@@ -1,7 +1,6 @@
-use Rattle.std.proofs.Common.{◌∙◌, ◌+◌, ap, arith, take, sym}
-use Rattle.std.proofs.lemmas.List.{take-replicate}
 use Rattle.delay_ring.specs.DelayRing.{marked_ticks}
-use Rattle.trial_session.proofs.Marked.{silence-comes}
+use Rattle.std.proofs.Common.{◌∙◌, ◌+◌, ap, arith, take, sym}
+use Rattle.{std.proofs.lemmas.List.take-replicate, trial_session.proofs.Marked.silence-comes}
 use Rattle.trial_session.proofs.link.Link.add_silence.Goals as goal
 
 pub returns-clause-sent : goal.returns-clause-sent

@@ -1,8 +1,6 @@
 use Rattle.std.proofs.Common.{◌≡◌, ◌∙◌, ◌-◌, ◌++◌, ap, arith, length, take}
+use Rattle.trial_session.{proofs.Lists.cut-off, proofs.Marked.whole-long, specs.Links.link_sent}
 use Rattle.yasir_ticks.specs.Ticks.{silent}
-use Rattle.trial_session.specs.Links.{link_sent}
-use Rattle.trial_session.proofs.Lists.{cut-off}
-use Rattle.trial_session.proofs.Marked.{whole-long}
 use Rattle.trial_session.proofs.link.Link.alter.Goals as goal
 
 pub returns-in-Lose-clause-sent : goal.returns-in-Lose-clause-sent

@@ -1,9 +1,8 @@
+use Rattle.delay_ring.{proofs.Windows.front-bytes, specs.DelayRing.marked_ticks}
 use Rattle.std.proofs.Common.{◌≡◌, ◌∙◌, ◌-◌, ◌+◌, ap, arith, take, drop, length, sym, map}
 use Rattle.std.proofs.lemmas.List.{length-take-le, length-drop}
-use Rattle.yasir_ticks.specs.declared.tick.Tick.TheVariants.{Byte}
-use Rattle.delay_ring.proofs.Windows.{front-bytes}
-use Rattle.delay_ring.specs.DelayRing.{marked_ticks}
 use Rattle.trial_session.proofs.Marked.{from-place, mark-at}
+use Rattle.yasir_ticks.specs.declared.tick.Tick.TheVariants.{Byte}
 use Rattle.trial_session.proofs.link.Link.bytes_from.Goals as goal
 
 pub returns-clause-bytes : goal.returns-clause-bytes

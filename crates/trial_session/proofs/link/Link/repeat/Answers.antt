@@ -1,6 +1,5 @@
-use Rattle.std.proofs.Common.{◌∙◌, ◌++◌, ap, take}
-use Rattle.delay_ring.specs.DelayRing.{marked_ticks}
-use Rattle.trial_session.proofs.Marked.{repeated}
+use Rattle.{delay_ring.specs.DelayRing.marked_ticks, std.proofs.Common.◌∙◌, std.proofs.Common.◌++◌}
+use Rattle.{std.proofs.Common.ap, std.proofs.Common.take, trial_session.proofs.Marked.repeated}
 use Rattle.trial_session.proofs.link.Link.repeat.Goals as goal
 
 pub returns-clause-sent : goal.returns-clause-sent

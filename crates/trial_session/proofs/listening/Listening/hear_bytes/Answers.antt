@@ -1,9 +1,8 @@
 use Rattle.std.proofs.Common.{◌∙◌, ◌++◌, ap, subst, arith, length, map, refl}
 use Rattle.std.proofs.lemmas.List.{take_all, take_rest, length-drop}
-use Rattle.yasir_ticks.specs.declared.tick.Tick.TheVariants.{Byte}
+use Rattle.trial_session.proofs.{HeardRuns.hears-run, SentRuns.bytes-more}
 use Rattle.trial_session.specs.Sides.{HasHeard}
-use Rattle.trial_session.proofs.SentRuns.{bytes-more}
-use Rattle.trial_session.proofs.HeardRuns.{hears-run}
+use Rattle.yasir_ticks.specs.declared.tick.Tick.TheVariants.{Byte}
 use Rattle.trial_session.proofs.listening.Listening.hear_bytes.Goals as goal
 
 pub loop-at-preserved : goal.loop-at-preserved

@@ -1,8 +1,6 @@
 use Rattle.std.proofs.Common.{◌≡◌, ◌++◌, subst, arith, refl}
-use Rattle.yasir_ticks.specs.Ticks.{silent}
-use Rattle.trial_session.specs.Sides.{HasHeard}
-use Rattle.trial_session.proofs.SentRuns.{silence-more}
-use Rattle.trial_session.proofs.HeardRuns.{hears-run}
+use Rattle.trial_session.proofs.{HeardRuns.hears-run, SentRuns.silence-more}
+use Rattle.{trial_session.specs.Sides.HasHeard, yasir_ticks.specs.Ticks.silent}
 use Rattle.trial_session.proofs.listening.Listening.wait.Goals as goal
 
 pub loop-at-preserved : goal.loop-at-preserved

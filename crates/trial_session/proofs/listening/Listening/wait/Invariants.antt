@@ -1,7 +1,6 @@
 use Rattle.std.proofs.Common.{◌≡◌, ◌+◌, ◌-◌, ◌≤◌, ◌++◌, List}
-use Rattle.yasir_ticks.specs.Ticks.{silent}
-use Rattle.yasir_ticks.specs.declared.tick.Tick.{Tick}
 use Rattle.trial_session.specs.Sides.{HasHeard}
+use Rattle.yasir_ticks.specs.{Ticks.silent, declared.tick.Tick.Tick}
 use Rattle.trial_session.proofs.listening.Listening.wait.Given as goal
 
 abbrev pub invariant-loop-at : goal.invariant-loop-at

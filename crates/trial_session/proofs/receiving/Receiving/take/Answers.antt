@@ -1,13 +1,8 @@
-use Rattle.std.proofs.Common.{◌∙◌, ◌++◌, ap, subst, sym, arith, length, take, drop, append_assoc}
-use Rattle.std.proofs.Common.{append-nil}
-use Rattle.std.proofs.lemmas.List.{take_all}
-use Rattle.yasir_ticks.specs.TickRun.{run_ticks}
-use Rattle.delay_ring.specs.DelayRing.{marked_ticks}
-use Rattle.trial_session.specs.Links.{link_sent}
-use Rattle.trial_session.specs.Sides.{IsReceiving}
-use Rattle.trial_session.proofs.HeardRuns.{receives-none}
-use Rattle.trial_session.proofs.Marked.{sent-few}
-use Rattle.trial_session.proofs.SentRuns.{take-some}
+use Rattle.{delay_ring.specs.DelayRing.marked_ticks, std.proofs.Common.◌∙◌, std.proofs.Common.◌++◌}
+use Rattle.std.proofs.Common.{ap, subst, sym, arith, length, take, drop, append_assoc, append-nil}
+use Rattle.{std.proofs.lemmas.List.take_all, trial_session.proofs.HeardRuns.receives-none}
+use Rattle.trial_session.{proofs.Marked.sent-few, proofs.SentRuns.take-some, specs.Links.link_sent}
+use Rattle.{trial_session.specs.Sides.IsReceiving, yasir_ticks.specs.TickRun.run_ticks}
 use Rattle.trial_session.proofs.receiving.Receiving.take.Goals as goal
 
 pub loop-at-init : goal.loop-at-init

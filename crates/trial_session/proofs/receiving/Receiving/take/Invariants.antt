@@ -1,7 +1,6 @@
 use Rattle.std.proofs.Common.{◌≡◌, ◌+◌, ◌-◌, ◌≤◌, ◌++◌, List, take}
-use Rattle.yasir_ticks.specs.declared.tick.Tick.{Tick}
-use Rattle.trial_session.specs.Links.{link_sent}
-use Rattle.trial_session.specs.Sides.{HasReceived, MayGoOnReceiving, IsReceiving}
+use Rattle.trial_session.specs.{Links.link_sent, Sides.HasReceived, Sides.MayGoOnReceiving}
+use Rattle.{trial_session.specs.Sides.IsReceiving, yasir_ticks.specs.declared.tick.Tick.Tick}
 use Rattle.trial_session.proofs.receiving.Receiving.take.Given as goal
 
 abbrev pub invariant-loop-at : goal.invariant-loop-at

@@ -1,9 +1,7 @@
 use Rattle.std.proofs.Common.{◌∙◌, ◌++◌, ap, subst, arith, length}
 use Rattle.std.proofs.lemmas.List.{take_all, length-drop, length-take-le}
-use Rattle.yasir_ticks.specs.TickRun.{run_ticks}
-use Rattle.trial_session.specs.Sides.{IsReceiving}
-use Rattle.trial_session.proofs.SentRuns.{passes-as, run-more}
-use Rattle.trial_session.proofs.HeardRuns.{receives-run}
+use Rattle.trial_session.proofs.{HeardRuns.receives-run, SentRuns.passes-as, SentRuns.run-more}
+use Rattle.{trial_session.specs.Sides.IsReceiving, yasir_ticks.specs.TickRun.run_ticks}
 use Rattle.trial_session.proofs.receiving.Receiving.take_run.Goals as goal
 
 pub loop-at-preserved : goal.loop-at-preserved

@@ -1,7 +1,6 @@
 use Rattle.std.proofs.Common.{◌≡◌, ◌+◌, ◌-◌, ◌≤◌, ◌++◌, List, length, take}
-use Rattle.yasir_ticks.specs.TickRun.{run_ticks}
-use Rattle.yasir_ticks.specs.declared.tick.Tick.{Tick}
 use Rattle.trial_session.specs.Sides.{MayGoOnReceiving, IsReceiving}
+use Rattle.yasir_ticks.specs.{TickRun.run_ticks, declared.tick.Tick.Tick}
 use Rattle.trial_session.proofs.receiving.Receiving.take_run.Given as goal
 
 abbrev pub invariant-loop-at : goal.invariant-loop-at

@@ -1,7 +1,6 @@
 use Rattle.std.proofs.Common.{◌∙◌, ap, arith, length}
-use Rattle.std.proofs.lemmas.List.{length-replicate}
+use Rattle.{std.proofs.lemmas.List.length-replicate, trial_session.proofs.HeardRuns.receives-none}
 use Rattle.yasir_ticks.specs.declared.tick.Tick.TheVariants.{Silent}
-use Rattle.trial_session.proofs.HeardRuns.{receives-none}
 use Rattle.trial_session.proofs.receiving.Receiving.take_silence.Goals as goal
 
 pub take_run-requires-clause-able : goal.take_run-requires-clause-able

@@ -1,6 +1,5 @@
-use Rattle.std.proofs.Common.{◌∙◌}
+use Rattle.{std.proofs.Common.◌∙◌, trial_session.proofs.Periods.same-summary}
 use Rattle.trial_session.specs.Session.{session_line, altered_link}
-use Rattle.trial_session.proofs.Periods.{same-summary}
 use Rattle.trial_session.proofs.session.Session.close.Goals as goal
 
 pub returns : goal.returns

@@ -1,7 +1,6 @@
 use Rattle.std.proofs.Common.{◌∙◌, sym, ap, subst, length}
-use Rattle.trial_session.specs.Session.{session_line}
-use Rattle.trial_session.specs.Sides.{HasTaken, HasReceived}
 use Rattle.trial_session.proofs.Periods.{line-none, state-none, link-none}
+use Rattle.trial_session.specs.{Session.session_line, Sides.HasTaken, Sides.HasReceived}
 use Rattle.trial_session.proofs.session.Session.new.Goals as goal
 
 pub returns-clause-run : goal.returns-clause-run

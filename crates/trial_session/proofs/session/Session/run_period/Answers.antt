@@ -1,15 +1,10 @@
 use Rattle.std.proofs.Common.{◌≡◌, ◌∙◌, ◌+◌, ◌-◌, ◌%◌, ◌++◌, [], ap, subst, sym, arith, length, map}
 use Rattle.std.proofs.lemmas.List.{length-map, length-replicate}
-use Rattle.yasir_ticks.specs.Ticks.{silent}
+use Rattle.trial_session.proofs.{Marked.whole-long, Periods.run-suc, SentRuns.sends-none}
+use Rattle.trial_session.specs.{Alterations.alteration_of, Draws.draw_state, Draws.nth_drawn}
+use Rattle.trial_session.specs.{Links.link_sent, Session.period_line, Sides.HasSent}
+use Rattle.{trial_session.specs.Sides.HasReceived, yasir_ticks.specs.Ticks.silent}
 use Rattle.yasir_ticks.specs.declared.tick.Tick.TheVariants.{Silent, Byte}
-use Rattle.trial_session.specs.Alterations.{alteration_of}
-use Rattle.trial_session.specs.Draws.{draw_state, nth_drawn}
-use Rattle.trial_session.specs.Links.{link_sent}
-use Rattle.trial_session.specs.Session.{period_line}
-use Rattle.trial_session.specs.Sides.{HasSent, HasReceived}
-use Rattle.trial_session.proofs.Marked.{whole-long}
-use Rattle.trial_session.proofs.Periods.{run-suc}
-use Rattle.trial_session.proofs.SentRuns.{sends-none}
 use Rattle.trial_session.proofs.session.Session.run_period.Goals as goal
 
 pub returns-clause-run : goal.returns-clause-run

@@ -1,9 +1,8 @@
 use Rattle.std.proofs.Common.{◌∙◌, ◌++◌, ap, subst, arith, length, sym}
 use Rattle.std.proofs.lemmas.List.{take_all, length-drop, length-take-le, append-nil}
-use Rattle.yasir_ticks.specs.TickRun.{run_ticks}
-use Rattle.trial_session.specs.Links.{link_sent}
-use Rattle.trial_session.specs.Sides.{HasSent}
 use Rattle.trial_session.proofs.SentRuns.{passes-as, sends-run, run-more}
+use Rattle.trial_session.specs.{Links.link_sent, Sides.HasSent}
+use Rattle.yasir_ticks.specs.TickRun.{run_ticks}
 use Rattle.trial_session.proofs.side.Side.forward.Goals as goal
 
 pub loop-at-init : goal.loop-at-init

@@ -1,8 +1,6 @@
 use Rattle.std.proofs.Common.{◌≡◌, ◌+◌, ◌-◌, ◌≤◌, ◌++◌, List, length, take}
-use Rattle.yasir_ticks.specs.TickRun.{run_ticks}
-use Rattle.yasir_ticks.specs.declared.tick.Tick.{Tick}
-use Rattle.trial_session.specs.Links.{link_sent}
-use Rattle.trial_session.specs.Sides.{MayTake, HasSent}
+use Rattle.trial_session.specs.{Links.link_sent, Sides.MayTake, Sides.HasSent}
+use Rattle.yasir_ticks.specs.{TickRun.run_ticks, declared.tick.Tick.Tick}
 use Rattle.trial_session.proofs.side.Side.forward.Given as goal
 
 abbrev pub invariant-loop-at : goal.invariant-loop-at

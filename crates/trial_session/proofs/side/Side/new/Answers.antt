@@ -1,10 +1,7 @@
-use Rattle.std.proofs.Common.{◌∙◌, [], ap, replicate, subst, sym}
-use Rattle.sequence_journal.specs.Journal.{journal_floor}
-use Rattle.sequence_journal.specs.Links.{IsLink}
-use Rattle.sequence_journal.specs.Slots.{greatest}
 use Rattle.sequence_journal.proofs.LoadLemmas.{blank_holds_none}
-use Rattle.trial_session.proofs.Counting.{counts-nothing}
-use Rattle.trial_session.proofs.Starting.{is-made, floor-of}
+use Rattle.sequence_journal.specs.{Journal.journal_floor, Links.IsLink, Slots.greatest}
+use Rattle.std.proofs.Common.{◌∙◌, [], ap, replicate, subst, sym}
+use Rattle.trial_session.proofs.{Counting.counts-nothing, Starting.is-made, Starting.floor-of}
 use Rattle.trial_session.proofs.side.Side.new.Goals as goal
 
 pub init-requires : goal.init-requires

@@ -1,9 +1,8 @@
-use Rattle.std.proofs.Common.{◌≡◌, ap, arith, refl, take}
-use Rattle.yasir_ticks.specs.TickRun.{run_ticks}
 use Rattle.sequence_journal.specs.Journal.{journal_floor}
-use Rattle.trial_session.specs.Boxes.{trial_setup}
+use Rattle.std.proofs.Common.{◌≡◌, ap, arith, refl, take}
 use Rattle.trial_session.proofs.Counting.{counts-run}
 use Rattle.trial_session.proofs.SentRuns.{passes-run, passes-none, passes-tick}
+use Rattle.{trial_session.specs.Boxes.trial_setup, yasir_ticks.specs.TickRun.run_ticks}
 use Rattle.trial_session.proofs.side.Side.send.Goals as goal
 
 pub returns-then-taken-gt0-clause-sent : goal.returns-then-taken-gt0-clause-sent

@@ -1,9 +1,6 @@
 use Rattle.std.proofs.Common.{[], ◌∷◌, refl, subst, sym}
-use Rattle.trial_session.specs.Boxes.{trial_setup}
-use Rattle.trial_session.specs.Counting.{CountsStep}
-use Rattle.trial_session.specs.Sides.{HasSent}
-use Rattle.trial_session.proofs.Counting.{counts-step}
-use Rattle.trial_session.proofs.SentRuns.{sends-step}
+use Rattle.trial_session.proofs.{Counting.counts-step, SentRuns.sends-step}
+use Rattle.trial_session.specs.{Boxes.trial_setup, Counting.CountsStep, Sides.HasSent}
 use Rattle.trial_session.proofs.side.Side.step.Goals as goal
 
 pub returns-clause-sent : goal.returns-clause-sent

@@ -16,11 +16,10 @@ use denote.Triple.Walked.{walk_of}
 use Rattle.std.proofs.raw_atomic.Walks.{proved, leaves}
 use Rattle.std.specs.Prelude.{Option, None}
 use mathlib.Core.Path.{Path}
-use Rattle.yasir_c.specs.declared.held.Held.{Held}
 use Rattle.yasir_c.proofs.Handles.{word, word_good, handle_in}
-use Rattle.yasir_c.specs.contracts.handle.Handle.empty.{ended, clauses}
-use Rattle.yasir_c.specs.contracts.handle.Handle.empty.Key.{name as #self}
 use Rattle.yasir_c.proofs.handle.Handle.empty.Statement.{statement}
+use Rattle.yasir_c.specs.contracts.handle.Handle.empty.{ended, clauses, Key.name as #self}
+use Rattle.yasir_c.specs.declared.held.Held.{Held}
 use Rattle.yasir_c.proofs.handle.Handle.empty.Code as code
 
 pub empty_spec : {M : Type 1} → statement M

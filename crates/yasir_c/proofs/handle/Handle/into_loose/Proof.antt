@@ -15,9 +15,8 @@ use denote.Signature.{types_at, plain}
 use denote.Steps.{nothing}
 use denote.Triple.Entry.{alive}
 use denote.Triple.Walked.{Stays, stay_dropped, walk_of, Goes-dropped}
-use Rattle.core.proofs.alloc.Calls.{Goes-blank}
-use Rattle.std.proofs.raw_atomic.Walks.{proved_at, leaves}
-use Rattle.std.specs.Prelude.{Option, Some}
+use Rattle.{core.proofs.alloc.Calls.Goes-blank, std.proofs.raw_atomic.Walks.proved_at}
+use Rattle.std.{proofs.raw_atomic.Walks.leaves, specs.Prelude.Option, specs.Prelude.Some}
 use mir.Raw.{raw as bare}
 use base.Logic.{never, fst∗}
 use types.Logic.{sem}
@@ -25,11 +24,8 @@ use types.Kit.{fsplit3, fpick}
 use denote.Steps.{heard}
 use denote.Memory.{lone}
 use denote.RawPtr.{null_ptr, in_a_block}
-use Rattle.core.proofs.alloc.Calls.{handle_tells}
-use Rattle.std.specs.Box.Ownership.{box_owns}
-use Rattle.yasir_c.specs.Owning.{handle_owns}
-use Rattle.yasir_c.specs.declared.held.Held.{Held}
-use Rattle.yasir_c.proofs.Values.{al}
+use Rattle.{core.proofs.alloc.Calls.handle_tells, std.specs.Box.Ownership.box_owns}
+use Rattle.yasir_c.{proofs.Values.al, specs.Owning.handle_owns, specs.declared.held.Held.Held}
 use Rattle.yasir_c.specs.contracts.handle.Handle as handle
 use Rattle.yasir_c.proofs.Handles.{word, word_good, handle_out}
 use Rattle.std.specs.contracts.alloc.Global as heap
@@ -37,9 +33,8 @@ use Rattle.std.proofs.alloc.Global.TheLaws as heap_laws
 use Rattle.std.specs.contracts.impls.GlobalAllocator.TheImpl.{ghosts}
 use Rattle.yasir_c.proofs.Values.{both, loose_good, loose_in}
 use Rattle.yasir_c.specs.contracts.held.Held as state
-use Rattle.yasir_c.specs.contracts.handle.Handle.into_loose.{ended, clauses}
-use Rattle.yasir_c.specs.contracts.handle.Handle.into_loose.Key.{name as #self}
 use Rattle.yasir_c.proofs.handle.Handle.into_loose.Statement.{statement}
+use Rattle.yasir_c.specs.contracts.handle.Handle.into_loose.{ended, clauses, Key.name as #self}
 use Rattle.yasir_c.proofs.handle.Handle.into_loose.Code as code
 
 pub into_loose_spec : {M : Type 1} → statement M

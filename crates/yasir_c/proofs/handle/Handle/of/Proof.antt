@@ -15,20 +15,17 @@ use denote.Signature.{types_at, plain}
 use denote.Steps.{nothing}
 use denote.Triple.Entry.{alive}
 use denote.Triple.Walked.{Stays, stay_dropped, walk_of}
-use Rattle.core.proofs.alloc.Calls.{Goes-blank}
-use Rattle.std.proofs.raw_atomic.Walks.{proved_at, leaves}
-use Rattle.std.specs.Prelude.{Some}
+use Rattle.{core.proofs.alloc.Calls.Goes-blank, std.proofs.raw_atomic.Walks.proved_at}
+use Rattle.std.{proofs.raw_atomic.Walks.leaves, specs.Prelude.Some}
 use Rattle.yasir_c.proofs.Handles.{word, word_good, handle_in}
 use Rattle.std.specs.contracts.alloc.Global as heap
 use Rattle.std.proofs.alloc.Global.TheLaws as heap_laws
+use Rattle.std.specs.{Box.Ownership.box_owns, contracts.impls.GlobalAllocator.TheImpl.ghosts}
 use Rattle.std.specs.declared.alloc.Global.{Global}
-use Rattle.std.specs.Box.Ownership.{box_owns}
-use Rattle.std.specs.contracts.impls.GlobalAllocator.TheImpl.{ghosts}
 use Rattle.yasir_c.proofs.Values.{both, loose_good, loose_out, Loose}
 use Rattle.yasir_c.specs.contracts.held.Held as state
-use Rattle.yasir_c.specs.contracts.handle.Handle.of.{ended, clauses}
-use Rattle.yasir_c.specs.contracts.handle.Handle.of.Key.{name as #self}
 use Rattle.yasir_c.proofs.handle.Handle.of.Statement.{statement}
+use Rattle.yasir_c.specs.contracts.handle.Handle.of.{ended, clauses, Key.name as #self}
 use Rattle.yasir_c.proofs.handle.Handle.of.Code as code
 
 pub of_spec : {M : Type 1} → statement M

@@ -1,7 +1,6 @@
-use Rattle.std.proofs.Common.{◌≡◌, sym, subst}
-use Rattle.yasir_ticks.specs.declared.tick.Tick.{Tick}
-use Rattle.check_receiver.specs.Noteless.{has_none}
 use Rattle.check_receiver.proofs.Noteless.{byte-rests, byte-runs}
+use Rattle.{check_receiver.specs.Noteless.has_none, std.proofs.Common.◌≡◌, std.proofs.Common.sym}
+use Rattle.{std.proofs.Common.subst, yasir_ticks.specs.declared.tick.Tick.Tick}
 use Rattle.check_receiver.proofs.checker.noteless.CheckerNotelessBox.is_noteless.Goals as goal
 
 pub returns-in-Silent : goal.returns-in-Silent

@@ -1,5 +1,4 @@
-use Rattle.std.proofs.Common.{refl}
-use Rattle.check_receiver.proofs.Keeping.{takes-run}
+use Rattle.{check_receiver.proofs.Keeping.takes-run, std.proofs.Common.refl}
 use Rattle.check_receiver.proofs.checker.noteless.CheckerNotelessBox.take_noteless.Goals as goal
 
 pub returns-clause-run : goal.returns-clause-run

@@ -1,12 +1,8 @@
+use Rattle.check_receiver.proofs.{Lending.not-owed, RestRuns.silence-begin_none}
+use Rattle.check_receiver.{proofs.RunsTaken.idle-taken, specs.Runs.HasTakenRun}
 use Rattle.std.proofs.Common.{◌≡◌, ◌∙◌, ℕ, List, subst, sym}
-use Rattle.std.proofs.lemmas.Bool.{and_parts, eqb-true, not-true}
-use Rattle.std.proofs.lemmas.List.{length-replicate}
-use Rattle.yasir_ticks.specs.Ticks.{silent}
-use Rattle.yasir_ticks.specs.declared.tick.Tick.TheVariants.{Silent}
-use Rattle.check_receiver.specs.Runs.{HasTakenRun}
-use Rattle.check_receiver.proofs.Lending.{not-owed}
-use Rattle.check_receiver.proofs.RestRuns.{silence-begin_none}
-use Rattle.check_receiver.proofs.RunsTaken.{idle-taken}
+use Rattle.std.proofs.lemmas.{Bool.and_parts, Bool.eqb-true, Bool.not-true, List.length-replicate}
+use Rattle.yasir_ticks.specs.{Ticks.silent, declared.tick.Tick.TheVariants.Silent}
 use Rattle.check_receiver.proofs.checker.resting.CheckerRestingBox.rest_through.Goals as goal
 
 pub returns-clause-run : goal.returns-clause-run
