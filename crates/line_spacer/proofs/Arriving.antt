@@ -9,9 +9,7 @@ use Rattle.line_spacer.specs.Spacing.{accepted_of}
 use Rattle.line_spacer.specs.Stands.{HasSent, TakesIn, taken_in, AnswersSpaced}
 use Rattle.std.proofs.Common.{◌≡◌, ◌∙◌, ℕ, ◌+◌, ◌<◌, ◌≤◌, List, [], ◌∷◌, ◌++◌, length, map, drop}
 use Rattle.std.proofs.Common.{max, fold, refl, sym, ap, subst, arith, append_assoc, length-append}
-use Rattle.std.proofs.Common.{true, false, ⊎_elim}
-use Rattle.std.proofs.lemmas.Bool.{cases_lt, le-leb, lt-leb, false≢true}
-use Rattle.std.proofs.lemmas.List.{append-nil, map-append, length-map, Sums.fold-append}
+use Rattle.std.proofs.lemmas.{Bool.le-leb, Bool.lt-leb, List.append-nil, List.Sums.fold-append}
 use Rattle.yasir_ticks.specs.{Bursts.Burst, declared.tick.Tick.Tick}
 
 -- ---- the frames of a line
@@ -81,7 +79,7 @@ module _ (reads : List Tick → List FrameRead) where
 -- ---- one frame, taken in
 
 module _ (gap cap step : ℕ) (s : Spaced) (frame : FrameRead) where
-  accepts : count_from (step + 1) s.accepted < cap
+  pub accepts : count_from (step + 1) s.accepted < cap
       → take_in gap cap s (arriving step frame)
       ≡ record {
         accepted = s.accepted
@@ -96,6 +94,21 @@ module _ (gap cap step : ℕ) (s : Spaced) (frame : FrameRead) where
       ≡ record { accepted = s.accepted; lost = s.lost ++ arriving step frame ∷ [] }
   unfolding take_in
   loses many = rw (le-leb cap (count_from (step + 1) s.accepted) many) refl
+
+  pub accepted-takes : count_from (step + 1) s.accepted < cap
+      → TakesIn gap cap step s (frame ∷ []) []
+  accepted-takes few =
+      let d : Burst = sent_from (max (step + 1) (free_from gap 0 s.accepted)) frame.frame in
+      let same = accepts few in
+      record {
+        are_lost = ap (λ x. x.lost) same ∙ sym (append-nil s.lost);
+        stays = λ i within.
+            let early : i < d.start = grind arith in
+            ap (λ x. tick_at x.accepted i) same
+            ∙ (tick_at-front s.accepted (d ∷ []) [] i
+            (tick_at-before d i early ∙ sym (tick_at-none i))
+            ∙ ap (λ x. tick_at x i) (append-nil s.accepted));
+      }
 
   -- the queue has room for it
   module _ (left : List ℕ) (rest : ℕ) (queued : List (List ℕ))
@@ -114,19 +127,7 @@ module _ (gap cap step : ℕ) (s : Spaced) (frame : FrameRead) where
         (frame-waits gap (step + 1) s.accepted left rest queued frame.frame has)
 
     pub kept-takes : length queued < cap → TakesIn gap cap step s (frame ∷ []) []
-    kept-takes few =
-        let d : Burst =
-        sent_from (max (step + 1) (free_from gap 0 s.accepted)) frame.frame in
-        let same = accepts (few-wait few) in
-        record {
-          are_lost = ap (λ x. x.lost) same ∙ sym (append-nil s.lost);
-          stays = λ i within.
-              let early : i < d.start = grind arith in
-              ap (λ x. tick_at x.accepted i) same
-              ∙ (tick_at-front s.accepted (d ∷ []) [] i
-              (tick_at-before d i early ∙ sym (tick_at-none i))
-              ∙ ap (λ x. tick_at x i) (append-nil s.accepted));
-        }
+    kept-takes few = accepted-takes (few-wait few)
 
     many-wait : cap ≤ length queued → cap ≤ count_from (step + 1) s.accepted
     many-wait many =

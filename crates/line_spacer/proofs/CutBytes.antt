@@ -3,13 +3,24 @@ use Rattle.std.proofs.Common.{◌≡◌, ◌∙◌, ℕ, suc, ◌+◌, ◌*◌, 
 use Rattle.std.proofs.Common.{take, drop, refl, sym, ap, subst, arith, length-drop}
 use Rattle.std.proofs.Common.{length-append, ◌-◌, min}
 use Rattle.circular_buffer.specs.Buffer.{keep_last}
-use Rattle.std.proofs.lemmas.List.{take_all, drop_all, take-append-le, drop-append-le}
-use Rattle.line_spacer.specs.FrameQueue.{cut_by, AreCut, AreFrames}
+use Rattle.std.proofs.lemmas.List.{take_all, drop_all, take-append-le, drop-append-le, length-take-le}
+use Rattle.line_spacer.specs.FrameQueue.{cut_by, AreCut, AreFrames, bytes_of}
 
 -- there are as many frames as lengths
 pub count-cut : (lengths bytes : List ℕ) → length (cut_by lengths bytes) ≡ length lengths
 count-cut [] bytes = refl
 count-cut (n ∷ lengths) bytes = ap suc (count-cut lengths (drop n bytes))
+
+-- they have all of the bytes
+pub cut-bytes : (lengths bytes : List ℕ) → AreCut lengths bytes
+    → bytes_of (cut_by lengths bytes) ≡ length bytes
+cut-bytes [] bytes are = sym (ap length are)
+cut-bytes (n ∷ lengths) bytes are =
+    let within : n ≤ length bytes = are.1 in
+    let more = cut-bytes lengths (drop n bytes) are.2 in
+    let front : length (take n bytes) ≡ n = length-take-le n bytes within in
+    let rest = length-drop n bytes in
+    omega arith
 
 few-bytes : (lengths bytes : List ℕ) → AreCut lengths bytes → length bytes ≤ length lengths * 292
 few-bytes [] bytes are = let none = ap length are in omega arith

@@ -2,7 +2,7 @@
 use Rattle.device_model.specs.Frames.{FrameRead}
 use Rattle.line_spacer.{proofs.Arriving.kept-sent, specs.Spacing.Spaced}
 use Rattle.line_spacer.specs.Stands.{HasSent, taken_in, left_of, with_next}
-use Rattle.std.proofs.Common.{◌≡◌, ◌∙◌, ℕ, suc, ◌+◌, ◌-◌, ◌<◌, ◌≤◌, List, [], ◌∷◌, ◌++◌, length}
+use Rattle.std.proofs.Common.{◌≡◌, ◌∙◌, ℕ, ◌+◌, ◌-◌, ◌<◌, ◌≤◌, List, [], ◌∷◌, ◌++◌, length}
 use Rattle.std.proofs.Common.{take, drop, refl, sym, ap, subst, arith, Bool, true, false}
 use Rattle.std.proofs.lemmas.List.{drop_all, length-take-le, nil_from_length}
 

@@ -5,4 +5,6 @@ pub mod DnpRows
 pub mod RtuRows
 pub mod Runs
 pub mod RunSteps
+pub mod Owing
+pub mod Early
 pub mod Keeping

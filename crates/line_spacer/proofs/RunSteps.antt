@@ -3,11 +3,11 @@
 use Rattle.{burst_walk.specs.Answered.answered, line_spacer.proofs.Runs.bytes-leave}
 use Rattle.line_spacer.{proofs.Runs.silence-leaves, proofs.Runs.frame-leaves, specs.Runs.SendsRun}
 use Rattle.line_spacer.specs.Stands.{HasSent, left_of, with_next, rest_behind, tick_of}
-use Rattle.std.proofs.Common.{◌≡◌, ◌∙◌, ℕ, ◌+◌, ◌-◌, ◌<◌, ◌≤◌, List, [], ◌∷◌, ◌++◌, length, take}
+use Rattle.std.proofs.Common.{◌≡◌, ◌∙◌, ℕ, ◌+◌, ◌-◌, ◌<◌, ◌≤◌, List, [], ◌∷◌, length, take}
 use Rattle.std.proofs.Common.{drop, min, max, refl, sym, ap, subst, arith, length-drop, Bool, true}
 use Rattle.std.proofs.{Common.false, Common.⊎_elim, lemmas.Bool.cases_lt}
 use Rattle.std.proofs.lemmas.List.{drop_all, drop-drop, drop-take, length-take-le, take-take}
-use Rattle.std.proofs.lemmas.List.{take_all, length-map, length-replicate, nil_from_length}
+use Rattle.std.proofs.lemmas.List.{take_all, length-map, length-replicate}
 use Rattle.yasir_ticks.specs.Bursts.{Burst}
 use Rattle.yasir_ticks.specs.declared.tick.Tick.TheVariants.{Silent, Byte}
 

@@ -10,10 +10,9 @@ use Rattle.line_spacer.specs.Spacing.{Spaced, take_in, spaced, accepted_of}
 use Rattle.line_spacer.specs.Stands.{HasSent, rest_behind, TakesIn, taken_in, AnswersSpaced}
 use Rattle.std.proofs.Common.{◌≡◌, ◌∙◌, ℕ, zero, suc, ◌+◌, ◌-◌, ◌<◌, ◌≤◌, List, [], ◌∷◌, ◌++◌}
 use Rattle.std.proofs.Common.{length, map, take, drop, fold, max, refl, sym, ap, subst, arith}
-use Rattle.std.proofs.Common.{append_assoc, length-append, length-drop, ⊎_elim}
+use Rattle.std.proofs.Common.{append_assoc, length-append, ⊎_elim}
 use Rattle.std.proofs.lemmas.Bool.{cases_lt}
-use Rattle.std.proofs.lemmas.List.{append-nil, drop_all, length-replicate, length-map, drop-drop}
-use Rattle.std.proofs.lemmas.List.{length-take-le, take-take, take-map, Sums.fold-append}
+use Rattle.std.proofs.lemmas.List.{append-nil, drop_all, length-take-le, Sums.fold-append}
 use Rattle.yasir_ticks.specs.{Bursts.Burst, Ticks.silent}
 use Rattle.yasir_ticks.specs.declared.tick.Tick.{Tick, TheVariants.Silent, TheVariants.Byte}
 
@@ -116,7 +115,7 @@ module _ (reads : List Tick → List FrameRead) where
     abbrev last : ℕ
     last = length line + (length x - 1)
 
-    spaced-run : spaced reads gap cap (line ++ x)
+    pub spaced-run : spaced reads gap cap (line ++ x)
         ≡ taken_in gap room last (spaced reads gap cap line) frames
     spaced-run =
         let start : Spaced = record { accepted = []; lost = [] } in

@@ -6,10 +6,9 @@ use Rattle.line_spacer.specs.Spacing.{count_from, free_from, sent_from}
 use Rattle.line_spacer.specs.Stands.{tick_of, HaveBegun, AreDue, HasSent, Sends, rest_behind}
 use Rattle.std.proofs.Common.{◌≡◌, ◌∙◌, ℕ, suc, ◌+◌, ◌-◌, ◌<◌, ◌≤◌, List, [], ◌∷◌, ◌++◌, length}
 use Rattle.std.proofs.Common.{map, drop, max, refl, sym, ap, subst, arith, append_assoc, get_or}
-use Rattle.std.proofs.Common.{drop-cons, nat_le, nat_lt, ◌&&◌, true, false}
-use Rattle.std.proofs.lemmas.List.{append-nil, map-append, length-map, drop_all}
-use Rattle.std.{proofs.lemmas.List.Elements.filter-append, specs.List.filter}
-use Rattle.yasir_ticks.specs.Bursts.{Burst, end_of}
+use Rattle.std.proofs.Common.{nat_le, nat_lt, ◌&&◌, true, false}
+use Rattle.std.proofs.lemmas.List.{append-nil, map-append, length-map, Elements.filter-append}
+use Rattle.{std.specs.List.filter, yasir_ticks.specs.Bursts.Burst, yasir_ticks.specs.Bursts.end_of}
 use Rattle.yasir_ticks.specs.declared.tick.Tick.{Tick, TheVariants.Silent, TheVariants.Byte}
 
 abbrev pub on_line : List ℕ → List Tick
@@ -284,7 +283,7 @@ module _ (gap m : ℕ) (accepted : List Burst) where
 module _ (gap m : ℕ) (accepted : List Burst) (left : List ℕ) (rest : ℕ)
     (queued : List (List ℕ)) where
   -- where it may begin
-  earliest : (begun waiting : List Burst) → free_from gap 0 begun - m ≡ length left + rest
+  pub earliest : (begun waiting : List Burst) → free_from gap 0 begun - m ≡ length left + rest
       → AreDue gap (m + length left + rest) waiting
       → max m (free_from gap 0 (begun ++ waiting))
       ≡ free_from gap (m + length left + rest) waiting

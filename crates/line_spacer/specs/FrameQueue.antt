@@ -1,5 +1,5 @@
 -- A queue of frames whose bytes stand one behind the other.
-use Rattle.std.specs.Prelude.{◌≡◌, ℕ, ◌*◌, ◌≤◌, List, [], ◌∷◌, length, take, drop}
+use Rattle.std.specs.Prelude.{◌≡◌, ℕ, ◌+◌, ◌*◌, ◌≤◌, List, [], ◌∷◌, length, take, drop}
 
 -- the frames that wait, the first one first, and how many may wait
 pub record FramesWaiting : Type 0 where
@@ -10,6 +10,11 @@ pub record FramesWaiting : Type 0 where
 abbrev pub cut_by : List ℕ → List ℕ → List (List ℕ)
 cut_by [] bytes = []
 cut_by (n ∷ lengths) bytes = take n bytes ∷ cut_by lengths (drop n bytes)
+
+-- how many bytes these frames have
+abbrev pub bytes_of : List (List ℕ) → ℕ
+bytes_of [] = 0
+bytes_of (frame ∷ frames) = length frame + bytes_of frames
 
 -- Pieces of these lengths are all of these bytes, and none is longer than the longest frame.
 abbrev pub AreCut : List ℕ → List ℕ → Type 0

@@ -3,3 +3,4 @@ pub mod FrameQueue
 pub mod Spacing
 pub mod Stands
 pub mod Runs
+pub mod Owing

@@ -43,6 +43,8 @@ impl Model for FrameQueue {
 }
 
 impl FrameQueue {
+    ghost use Rattle.line_spacer.specs.FrameQueue.{bytes_of};
+
     /// No frame yet, and room for this many. It takes its memory here, and none later.
     pub(crate) fn with_capacity(alloc: Global, capacity: usize) -> Result<FrameQueue, NoMemory>
         ensures { IfOk result (λ q. (q.frames ≡ []) × (q.capacity ≡ capacity)) }
@@ -66,6 +68,14 @@ impl FrameQueue {
         ensures few { result < 2 ^ 63 }
     {
         self.lengths.len()
+    }
+
+    /// How many bytes the frames have that wait.
+    #[inline]
+    pub(crate) fn bytes_waiting(&self) -> usize
+        ensures { result ≡ bytes_of self.now.frames }
+    {
+        self.bytes.len()
     }
 
     /// How many frames may wait.

@@ -1,11 +1,14 @@
 //! The spacer: its queue of frames, and its answer to a tick and to a run of ticks.
-ghost use Rattle.std.specs.Prelude.{◌≡◌, ◌≤◌};
+ghost use Rattle.std.specs.Prelude.{◌≡◌, ◌≤◌, ◌<◌, None};
 
 use crate::frame_queue::{FrameQueue, LONGEST, fill_front};
 use device_model::{Device, Met, hear_run};
 use std::alloc::Global;
 use yasir_io::NoMemory;
 use yasir_ticks::{MAX_TICKS, Tick, TickRun};
+
+// How many ticks are answered at once at most.
+const MOST_TICKS: usize = 4_294_967_295;
 
 /// What a spacer returns for a tick.
 #[derive(Clone, Copy)]
@@ -20,11 +23,23 @@ pub struct SpaceStep {
 /// What a spacer returns for some ticks. It lends the bytes that left.
 #[derive(Clone, Copy)]
 pub struct SpaceRun {
-    /// How many of the ticks it has taken.
+    /// How many of the ticks it has taken, or of those that it owed it has answered.
     pub taken: usize,
-    /// The tick of the first byte of the frame that was read in the last tick taken, and is lost
+    /// The tick of the first byte of the frame that was read in the last one of them, and is lost
     /// since too many wait. The spacer lends its bytes.
     pub lost: Option<u64>,
+}
+
+// What is read in the last of these ticks, if it was read in the last of all that are owed.
+#[inline(always)]
+fn read_in_front(ticks: usize, owed: usize, read: Option<u64>) -> Option<u64>
+    ensures part { ticks < owed → result ≡ None }
+    ensures all { owed ≤ ticks → result ≡ read }
+{
+    if ticks < owed {
+        return None;
+    }
+    read
 }
 
 /// A box that hears a line as the device `V` does, and sends each frame that is read on another
@@ -50,11 +65,12 @@ pub struct Spacer<V, const GAP: usize> {
 }
 
 impl<V: Device, const GAP: usize> Spacer<V, GAP> {
-    ghost use Rattle.std.specs.Prelude.{ℕ, ◌+◌, ◌<◌, List, [], ◌∷◌, ◌++◌, length};
-    ghost use Rattle.std.specs.Prelude.{IfOk, ◌-◌, take, Some, true, false};
+    ghost use Rattle.std.specs.Prelude.{ℕ, ◌+◌, ◌^◌, List, [], ◌∷◌, ◌++◌, length};
+    ghost use Rattle.std.specs.Prelude.{IfOk, ◌-◌, take, drop, Some, true, false};
     ghost use Rattle.yasir_ticks.specs.TickRun.{run_ticks};
     ghost use Rattle.burst_walk.specs.Answered.{answered};
     ghost use Rattle.line_spacer.specs.Runs.{IsMade, StaysAlike, SendsRunBy};
+    ghost use Rattle.line_spacer.specs.Owing.{Owes, still_read, busy_ticks};
     ghost use Rattle.yasir_ticks.specs.Bursts.{Burst};
     ghost use Rattle.yasir_ticks.specs.declared.tick.Tick.{Tick};
     ghost use Rattle.device_model.specs.Frames.{frames_lent};
@@ -69,6 +85,7 @@ impl<V: Device, const GAP: usize> Spacer<V, GAP> {
         requires gap { 0 < GAP }
         ensures taken { IfOk result (λ spacer. ticks_taken V.Device spacer ≡ 0) }
         ensures stands { IfOk result (λ spacer. StandsFor V.Device cap spacer []) }
+        ensures owes { IfOk result (λ spacer. Owes V.Device cap spacer [] [] []) }
     {
         let queue = FrameQueue::with_capacity(alloc, cap)?;
         Ok(Spacer {
@@ -309,6 +326,98 @@ impl<V: Device, const GAP: usize> Spacer<V, GAP> {
         self.send_some(taken);
         let lost = self.keep(start);
         SpaceRun { taken, lost }
+    }
+
+    /// Takes the first ticks of this run, at least one of them, up to the first one in which a frame
+    /// is read, and lends its bytes then. It owes what leaves in them: `give_some` answers it.
+    #[inline(always)]
+    pub fn hear_some(&mut self, run: TickRun<'_>) -> Met
+        requires room { ticks_taken V.Device self.old + length (run_ticks run) ≤ MAX_TICKS }
+        requires some { 0 < length (run_ticks run) }
+        ensures some { 0 < result.taken }
+        ensures within { result.taken ≤ length (run_ticks run.entry) }
+        ensures taken { ticks_taken V.Device self.new
+            ≡ ticks_taken V.Device self.old + result.taken }
+        ensures owes { (cap : ℕ) (line owed : List Tick) → Owes V.Device cap self.old line owed []
+            → Owes V.Device cap self.new line (owed ++ take result.taken (run_ticks run.entry))
+            (frames_lent result.start (bytes_lent V.lent self.new)) }
+    {
+        hear_run(&mut self.device, run)
+    }
+
+    // For how many ticks the other line is busy at least.
+    #[inline(always)]
+    fn busy(&self) -> usize
+        ensures { result ≤ busy_ticks self.now }
+    {
+        let gaps = self.queue.len().saturating_mul(GAP);
+        let queued = self.queue.bytes_waiting().saturating_add(gaps);
+        let behind = queued.saturating_add(self.rest);
+        if self.ready {
+            let next = self.size.saturating_add(GAP);
+            return behind.saturating_add(next);
+        }
+        behind.saturating_add(self.size - self.sent)
+    }
+
+    /// Queues the frame that was read in the last of the ticks that are owed, of which there are so
+    /// many, before they are answered: where it is sure to find room, and to wait until they are.
+    /// Returns whether it did.
+    #[inline(never)]
+    pub fn queue_read(&mut self, owed: usize) -> bool
+        requires { 0 < owed }
+        ensures taken { ticks_taken V.Device self.new ≡ ticks_taken V.Device self.old }
+        ensures stays { result ≡ false → self.new ≡ self.old }
+        ensures owes { result ≡ true → (cap start : ℕ) (line ticks : List Tick)
+            → length ticks ≡ owed
+            → Owes V.Device cap self.old line ticks
+            (frames_lent (Some start) (bytes_lent V.lent self.old))
+            → Owes V.Device cap self.new line ticks [] }
+    {
+        if self.waiting() >= self.queue.capacity() {
+            return false;
+        }
+        if self.busy() < owed {
+            return false;
+        }
+        self.queue.push_back(self.device.frame_bytes());
+        true
+    }
+
+    /// Answers the first of the ticks that are owed, of which there are so many: at least one of
+    /// them, and no further than the other line stays alike, all bytes or all silence. `read` is
+    /// the tick of the first byte of the frame that was read in the last one, if one was. Lends the
+    /// bytes that leave, one in each tick, or none where silence leaves.
+    #[inline(always)]
+    pub fn give_some(&mut self, owed: usize, read: Option<u64>) -> SpaceRun
+        requires { 0 < owed }
+        ensures some { 0 < result.taken }
+        ensures within { result.taken ≤ owed }
+        ensures short { result.taken < 2 ^ 32 }
+        ensures taken { ticks_taken V.Device self.new ≡ ticks_taken V.Device self.old }
+        ensures lent { bytes_lent V.lent self.new ≡ bytes_lent V.lent self.old }
+        ensures long { length (answered result.taken (bytes_left self.new)) ≡ result.taken }
+        ensures owes { (cap : ℕ) (line ticks : List Tick) → length ticks ≡ owed
+            → Owes V.Device cap self.old line ticks (frames_lent read (bytes_lent V.lent self.old))
+            → Owes V.Device cap self.new (line ++ take result.taken ticks)
+            (drop result.taken ticks) (still_read (drop result.taken ticks)
+            (frames_lent read (bytes_lent V.lent self.old))) }
+        ensures answer { (cap : ℕ) (line ticks : List Tick) → length ticks ≡ owed
+            → Owes V.Device cap self.old line ticks (frames_lent read (bytes_lent V.lent self.old))
+            → AnswersSpaced V.reads GAP cap line (take result.taken ticks)
+            (answered result.taken (bytes_left self.new)) (length line + (result.taken - 1))
+            (frames_lent result.lost (bytes_lent V.lent self.new)) }
+    {
+        self.make_ready();
+        let most = self.alike().min(MOST_TICKS);
+        let count = most.min(owed);
+        self.send_some(count);
+        let found = read_in_front(count, owed, read);
+        let kept = self.keep(found);
+        SpaceRun {
+            taken: count,
+            lost: kept,
+        }
     }
 
     // The first tick in which bytes left, or none.

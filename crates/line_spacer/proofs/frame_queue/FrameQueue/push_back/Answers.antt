@@ -1,4 +1,4 @@
-use Rattle.std.proofs.Common.{◌≡◌, ◌∙◌, ◌<◌, ◌≤◌, ◌++◌, [], ◌∷◌, length, sym, ap, subst, arith}
+use Rattle.std.proofs.Common.{◌∙◌, ◌<◌, ◌++◌, [], ◌∷◌, length, sym, ap, subst, arith}
 use Rattle.line_spacer.specs.FrameQueue.{cut_by, AreFrames}
 use Rattle.line_spacer.proofs.CutBytes.{count-cut, frames-more, cut-more, filled, kept}
 use Rattle.line_spacer.proofs.frame_queue.FrameQueue.push_back.Goals as goal

@@ -1,4 +1,4 @@
-use Rattle.std.proofs.Common.{◌∙◌, ◌≤◌, length, take, arith}
+use Rattle.std.proofs.Common.{◌∙◌, ◌≤◌, take, arith}
 use Rattle.device_model.specs.Frames.{FrameRead}
 use Rattle.line_spacer.proofs.Keeping.{held-sent, none-left}
 use Rattle.line_spacer.proofs.spacer.Spacer.hold_frame.Goals as goal

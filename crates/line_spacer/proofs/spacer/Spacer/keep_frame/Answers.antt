@@ -1,4 +1,4 @@
-use Rattle.std.proofs.Common.{◌≡◌, ◌≤◌, ◌<◌, length, arith}
+use Rattle.std.proofs.Common.{◌≤◌, ◌<◌, length, arith}
 use Rattle.device_model.specs.Frames.{FrameRead}
 use Rattle.line_spacer.specs.Stands.{left_of, frame_at, frames_waiting}
 use Rattle.line_spacer.proofs.Arriving.{kept-takes, lost-sent, lost-takes}

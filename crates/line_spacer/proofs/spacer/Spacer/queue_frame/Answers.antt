@@ -1,5 +1,5 @@
 use Rattle.{device_model.specs.Frames.FrameRead, line_spacer.proofs.Keeping.queued-sent}
-use Rattle.std.proofs.Common.{◌∙◌, ◌++◌, [], ◌∷◌, length, ap, arith}
+use Rattle.std.proofs.Common.{◌∙◌, ◌++◌, [], ◌∷◌, ap, arith}
 use Rattle.line_spacer.proofs.spacer.Spacer.queue_frame.Goals as goal
 
 pub returns-clause-sent : goal.returns-clause-sent

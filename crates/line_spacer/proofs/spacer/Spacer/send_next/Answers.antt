@@ -1,6 +1,5 @@
-use Rattle.std.proofs.Common.{◌≤◌, length, arith}
-use Rattle.line_spacer.proofs.RunSteps.{next-waits, some-begin, none-begin}
-use Rattle.line_spacer.proofs.RunSteps.{silence-long, some-long, none-long}
+use Rattle.line_spacer.proofs.RunSteps.{next-waits, some-begin, none-begin, silence-long, some-long}
+use Rattle.{line_spacer.proofs.RunSteps.none-long, std.proofs.Common.◌≤◌, std.proofs.Common.arith}
 use Rattle.line_spacer.proofs.spacer.Spacer.send_next.Goals as goal
 
 pub returns-then-self-gt0-clause-sends : goal.returns-then-self-gt0-clause-sends

@@ -1,4 +1,4 @@
-use Rattle.std.proofs.Common.{◌≤◌, ◌+◌, length, arith}
+use Rattle.std.proofs.Common.{◌≤◌, arith}
 use Rattle.line_spacer.proofs.RunSteps.{bytes-go-on, rest-goes-on, bytes-long, silence-long}
 use Rattle.line_spacer.proofs.spacer.Spacer.send_some.Goals as goal
 

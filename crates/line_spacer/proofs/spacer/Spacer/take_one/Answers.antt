@@ -1,7 +1,7 @@
 use Rattle.{burst_walk.specs.Answered.answered, device_model.specs.Frames.frames_lent}
 use Rattle.line_spacer.proofs.RunSteps.{answered-one}
 use Rattle.line_spacer.specs.Stands.{StandsFor, AnswersSpaced, bytes_left}
-use Rattle.std.proofs.Common.{◌≡◌, ◌+◌, ◌-◌, ◌++◌, [], ◌∷◌, length, take, sym, subst, arith}
+use Rattle.std.proofs.Common.{◌≡◌, ◌+◌, ◌-◌, ◌++◌, [], ◌∷◌, length, sym, subst, arith}
 use Rattle.{std.proofs.lemmas.List.take_all, yasir_ticks.specs.TickRun.run_ticks}
 use Rattle.line_spacer.proofs.spacer.Spacer.take_one.Goals as goal
 

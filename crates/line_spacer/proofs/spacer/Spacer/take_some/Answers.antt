@@ -2,7 +2,7 @@ use Rattle.{burst_walk.specs.Answered.answered, device_model.specs.Frames.frames
 use Rattle.line_spacer.proofs.Runs.{IsQuiet, run-before, run-sent, run-answers}
 use Rattle.line_spacer.specs.{Spacing.spaced, Spacing.accepted_of, Stands.StandsFor}
 use Rattle.line_spacer.specs.Stands.{AnswersSpaced, left_of, frame_at, frames_waiting, bytes_left}
-use Rattle.std.proofs.Common.{◌≡◌, ◌∙◌, ◌<◌, ◌≤◌, ◌+◌, ◌-◌, ◌++◌, ℕ, List, length, take, drop, sym}
+use Rattle.std.proofs.Common.{◌≡◌, ◌∙◌, ◌<◌, ◌≤◌, ◌+◌, ◌-◌, ◌++◌, List, length, take, sym}
 use Rattle.std.proofs.Common.{ap, subst, arith}
 use Rattle.std.proofs.lemmas.List.{length-take, length-take-le, take-take}
 use Rattle.yasir_ticks.specs.{TickRun.run_ticks, declared.tick.Tick.Tick}

@@ -1,7 +1,7 @@
 use Rattle.line_spacer.proofs.Keeping.{one-more, no-more}
 use Rattle.line_spacer.{proofs.Sending.waiting-count, specs.Spacing.accepted_of}
 use Rattle.line_spacer.specs.Stands.{left_of, frame_at, frames_waiting}
-use Rattle.std.proofs.Common.{◌≡◌, ◌∙◌, length, sym}
+use Rattle.std.proofs.Common.{◌∙◌, length, sym}
 use Rattle.line_spacer.proofs.spacer.Spacer.waiting.Goals as goal
 
 pub returns-then-self-clause-queued : goal.returns-then-self-clause-queued

@@ -1,0 +1,49 @@
+-- A spacer that has heard more of its line than it has answered.
+use Rattle.std.specs.Prelude.{◌≡◌, ℕ, ◌+◌, ◌-◌, ◌<◌, List, [], ◌∷◌, ◌++◌, length, take}
+use Rattle.yasir_ticks.specs.declared.tick.Tick.{Tick}
+use Rattle.burst_walk.specs.Laid.{tick_at}
+use Rattle.device_model.specs.Frames.{FrameRead}
+use Rattle.device_model.specs.declared.device.Device.{Ghosts as Device}
+use Rattle.line_spacer.specs.Spacing.{Spaced, spaced, accepted_of, lost_of}
+use Rattle.line_spacer.specs.Stands.{SentBy, frame_at, frames_waiting, left_of, taken_in}
+use Rattle.line_spacer.specs.declared.spacer.Spacer.{Spacer}
+
+-- Behind a line these ticks come. Of all of them this was made so far, all but what is made of these
+-- frames, which are read in the last tick. Before that one no frame is lost in these ticks, and what
+-- leaves up to one of them doesn't hang on what is read behind it.
+pub record ArePending (reads : List Tick → List FrameRead) (gap cap : ℕ) (line ticks : List Tick)
+    (made : Spaced) (frames : List FrameRead) : Type 0 where
+  pub none_lost : (n : ℕ) → n < length ticks
+      → lost_of reads gap cap (line ++ take n ticks) ≡ lost_of reads gap cap line
+  pub stays : (n i : ℕ) → n < length ticks → i < length line + n
+      → tick_at (accepted_of reads gap cap (line ++ take n ticks)) i ≡ tick_at made.accepted i
+  pub lost : made.lost ≡ lost_of reads gap cap line
+  pub all : spaced reads gap cap (line ++ ticks)
+      ≡ taken_in gap cap (length line + (length ticks - 1)) made frames
+
+-- how many ticks these frames take, with so many silent ones behind each
+abbrev pub ticks_for : ℕ → List (List ℕ) → ℕ
+ticks_for gap [] = 0
+ticks_for gap (frame ∷ queue) = length frame + gap + ticks_for gap queue
+
+-- the frames that are read in the last of these ticks, if there is any tick
+abbrev pub still_read : List Tick → List FrameRead → List FrameRead
+still_read [] frames = []
+still_read (t ∷ ticks) frames = frames
+
+-- For how many ticks the other line is busy with a frame that has begun, and those that wait.
+abbrev pub busy_ticks : {V : Type 0} {GAP : ℕ} → Spacer V GAP → ℕ
+busy_ticks {V} {GAP} value = length (left_of value.ready value.sent (frame_at value)) + value.rest
+    + ticks_for GAP (frames_waiting value)
+
+module _ {V : Type 0} (device : Device V) where
+  -- The spacer, with room for this many frames to wait, has answered this line. It has heard these
+  -- ticks behind it too, and owes their answers. The frames that were read in them are taken in, but
+  -- for these, which are read in the last one.
+  pub record Owes {GAP : ℕ} (cap : ℕ) (value : Spacer V GAP) (line owed : List Tick)
+      (frames : List FrameRead) : Type 0 where
+    pub heard : device.stands value.device (line ++ owed)
+    pub room : value.queue.capacity ≡ cap
+    pub made : Spaced
+    pub sent : SentBy value (length line) made.accepted
+    pub pending : ArePending device.reads GAP cap line owed made frames
