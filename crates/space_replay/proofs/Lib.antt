@@ -1,3 +1,4 @@
 pub mod Spacing
+pub mod Owed
 pub mod SpaceEnds
 pub mod Readable

@@ -2,24 +2,29 @@
 use Rattle.device_model.specs.Frames.{FrameRead}
 use Rattle.line_spacer.specs.{Arrivals.arrivals_behind, Spacing.spaced, Spacing.none_yet}
 use Rattle.line_texts.proofs.Sending.{begins, notes_all}
-use Rattle.line_texts.specs.Sending.{LineAndNotes, SinkTexts, Waiting, waiting, SendsTexts, HasSent}
+use Rattle.line_texts.specs.Sending.{LineAndNotes, SinkTexts, Waiting, SendsTexts, HasSent}
 use Rattle.line_texts.specs.{Sending.HasSentFronts, Texts.texts_held, Texts.waiting_in}
 use Rattle.line_texts.specs.{Writer.HasWritten, declared.texts.Texts.Texts}
 use Rattle.replay_status.specs.{Endings.status_of, declared.status.Status.Status}
 use Rattle.replay_status.specs.declared.status.Status.TheVariants.{Done, WriteFault, NoMemory}
-use Rattle.space_replay.specs.SpacedLines.{SpacesItems, spacing, writing_behind}
+use Rattle.space_replay.specs.{DrivenLines.DrivesLines, OwedTexts.StopsWriting, OwedTexts.WritesAll}
+use Rattle.space_replay.specs.SpacedLines.{KeepsHeld, SpacesItems, StopsWithin, spacing}
+use Rattle.space_replay.specs.{SpacedLines.writing_behind, SpacedLinesLaws.holds-then}
 use Rattle.space_replay.specs.SpacedTexts.{most_waiting, arrival_lines, spaced_texts}
-use Rattle.space_replay.specs.SpacesLine.{DrivesSpacer, SpacesLine, TextsAtEnd, space_rest}
-use Rattle.space_replay.specs.declared.spaced_lines.SpacedLines.{SpacedLines}
+use Rattle.space_replay.specs.SpacesLine.{DrivesSpacer, SendsAll, SpacesFront, SpacesLine}
+use Rattle.space_replay.specs.{SpacesLine.space_rest, declared.spaced_lines.SpacedLines.SpacedLines}
 use Rattle.space_replay.specs.declared.spacers.LineSpacer.{Ghosts as LineSpacer}
-use Rattle.std.proofs.Common.{◌≡◌, ◌∙◌, ℕ, ◌⊎◌, inl, inr, false, List, [], length, Option, subst}
-use Rattle.std.proofs.{Common.sym, Common.ap, Common.refl, Common.append-nil, Math.Seq.take-length}
-use Rattle.tick_drive.specs.{Consumers.is_write_fault, Drive.Drives, Drive.answer_of}
+use Rattle.std.proofs.Common.{◌≡◌, ◌∙◌, ℕ, suc, ◌+◌, ◌⊎◌, inl, inr, false, List, [], ◌∷◌, ◌++◌}
+use Rattle.std.proofs.Common.{length, take, drop, Option, None, Ok, Err, subst, sym, ap, refl}
+use Rattle.std.proofs.Common.{append-nil, append_assoc, take-append-drop}
+use Rattle.{std.proofs.Math.Seq.take-length, tick_drive.proofs.ItemLaws.ticks_in-append}
+use Rattle.tick_drive.specs.Consumers.{Consuming, Gives, is_write_fault}
+use Rattle.tick_drive.specs.{Drive.Drives, Drive.answer_of, Input.Takes}
 use Rattle.tick_drive.specs.declared.{consumer.Stop.Stop, end.End.End, end.End.TheVariants.Whole}
 use Rattle.tick_drive.specs.declared.end.End.TheVariants.{Refused, TooLong, ReadFault, Stopped}
 use Rattle.yasir_io.specs.{TextBuffer.waiting_bytes, declared.sink.Sink.Ghosts as Sink}
 use Rattle.yasir_ticks.specs.{CanonicalText.canonical_text, Ticks.Item, Ticks.ticks_in}
-use Rattle.yasir_ticks.specs.declared.tick.Tick.{Tick}
+use Rattle.yasir_ticks.specs.{Ticks.Item.mark, Ticks.Item.tick, declared.tick.Tick.Tick}
 
 -- of no tick nothing is made
 nothing_spaced : (reads : List Tick → List FrameRead) (gap : ℕ)
@@ -37,34 +42,129 @@ nothing_sends reads gap texts written ticks notes held =
     (waiting_bytes texts.notes) held refl
     (ap (λ s. arrival_lines s.lost) (nothing_spaced reads gap)) written ticks notes
 
-module _ {B O L : Type 0} (b : LineSpacer B) (o : Sink O) (l : Sink L)
-    (before now : Option (List ℕ)) (old new : SpacedLines B O L)
-    (start : SpacesItems b o l old (texts_held o l (writing_behind old)) []) where
-  abbrev Driven : End → Type 0
-  Driven end = DrivesSpacer (spaced_texts b.reads b.gap) before now
-      (texts_held o l (writing_behind old)) (texts_held o l (writing_behind new))
-      (waiting_in new.texts.now) end
+-- The ticks at the front of some items are those of so many first items.
+front-of : (items : List Item) (line behind : List Tick) → ticks_in items ≡ line ++ behind
+    → (count : ℕ) × (ticks_in (take count items) ≡ line)
+front-of items [] behind are = (0, refl)
+front-of [] (u ∷ line) behind are = cc
+front-of (tick t ∷ items) (u ∷ line) behind are =
+    let first : t ≡ u = cc in
+    let others : ticks_in items ≡ line ++ behind = cc in
+    let more = front-of items line behind others in
+    (suc more.0, ap (λ x. t ∷ x) more.1 ∙ ap (λ x. x ∷ line) first)
+front-of (mark ∷ items) (u ∷ line) behind are =
+    let more = front-of items (u ∷ line) behind are in
+    (suc more.0, more.1)
 
-  pub drives_spacer : (end : End) → Drives (spacing b o l) 0 space_rest before now old new end
-      → Driven end
-  drives_spacer (Stopped stop) driven =
-      let at = driven.gives.stopped.at _ [] start in record {
-        items = driven.items;
-        takes = driven.takes;
-        texts = record { why = at.why; place = driven.gives.stopped.place; sent = at.sent };
+-- an end that is no stop is what was answered last
+gives_ok : {C : Type 0} (meaning : Consuming C) (old new : C) (items : List Item) (end : End)
+    → ((stop : Stop) → end ≡ Stopped stop → ⊥) → Gives meaning old new items (answer_of end)
+    → Gives meaning old new items (Ok tt)
+gives_ok meaning old new items (Stopped stop) other given = absurd (other stop refl)
+gives_ok meaning old new items Whole other given = given
+gives_ok meaning old new items (Refused bad) other given = given
+gives_ok meaning old new items (TooLong what count) other given = given
+gives_ok meaning old new items ReadFault other given = given
+
+answer_ok : (end : End) → ((stop : Stop) → end ≡ Stopped stop → ⊥) → answer_of end ≡ Ok tt
+answer_ok (Stopped stop) other = absurd (other stop refl)
+answer_ok Whole other = refl
+answer_ok (Refused bad) other = refl
+answer_ok (TooLong what count) other = refl
+answer_ok ReadFault other = refl
+
+module _ {B O L : Type 0} (b : LineSpacer B) (o : Sink O) (l : Sink L)
+    (before now : Option (List ℕ)) where
+  abbrev made : LineAndNotes
+  made = spaced_texts b.reads b.gap
+
+  -- a write failed at one of so many first items, or before
+  front_spaces : (new : SpacedLines B O L) (start : SinkTexts) (items : List Item) (end : End)
+      → Takes 0 space_rest before now items end → (count : ℕ)
+      → StopsWithin b o l new start (ticks_in (take count items))
+      → SpacesFront made before now start (texts_held o l (writing_behind new))
+  front_spaces new start items end takes count stops =
+      let behind : List Tick = stops.behind ++ ticks_in (drop count items) in
+      let all : ticks_in items ≡ stops.line ++ behind =
+      ap ticks_in (sym (take-append-drop count items))
+      ∙ (ticks_in-append (take count items) (drop count items)
+      ∙ (ap (λ x. x ++ ticks_in (drop count items)) stops.are
+      ∙ append_assoc stops.line stops.behind (ticks_in (drop count items)))) in
+      let front = front-of items stops.line behind all in record {
+        items = items;
+        end = end;
+        count = front.0;
+        takes = takes;
+        sent = subst (HasSentFronts made start (texts_held o l (writing_behind new)))
+            (sym front.1) stops.sent;
       }
-  drives_spacer Whole driven =
-      let at = driven.gives.moved _ [] start in
-      record { items = driven.items; takes = driven.takes; texts = at.sends }
-  drives_spacer (Refused bad) driven =
-      let at = driven.gives.moved _ [] start in
-      record { items = driven.items; takes = driven.takes; texts = at.sends }
-  drives_spacer (TooLong what count) driven =
-      let at = driven.gives.moved _ [] start in
-      record { items = driven.items; takes = driven.takes; texts = at.sends }
-  drives_spacer ReadFault driven =
-      let at = driven.gives.moved _ [] start in
-      record { items = driven.items; takes = driven.takes; texts = at.sends }
+
+  -- It failed while the input was driven.
+  pub drives_stopped : (old new : SpacedLines B O L) (stop : Stop)
+      → Drives (spacing b o l) 0 space_rest before now old new (Stopped stop)
+      → DrivesLines b o l old new before now (Stopped stop)
+  drives_stopped old new stop driven = record {
+    driven = λ start begun.
+        let at = driven.gives.stopped.at start [] begun in record {
+          why = at.why;
+          front = front_spaces new start driven.items (Stopped stop) driven.takes
+              (driven.gives.stopped.place + 1) at.within;
+        };
+    keeps = driven.gives.went;
+  }
+
+  module _ (old mid new : SpacedLines B O L) (end : End)
+      (other : (stop : Stop) → end ≡ Stopped stop → ⊥)
+      (driven : Drives (spacing b o l) 0 space_rest before now old mid end) where
+    gave : Gives (spacing b o l) old mid driven.items (Ok tt)
+    gave = gives_ok (spacing b o l) old mid driven.items end other driven.gives
+
+    -- the answers that were owed are on their way
+    all_sends : WritesAll b o l mid new None → (start : SinkTexts) → SpacesItems b o l old start []
+        → SendsAll made before now start (texts_held o l (writing_behind new))
+        (waiting_in new.texts.now) end
+    all_sends wrote start begun =
+        let at = gave.moved start [] begun in record {
+          items = driven.items;
+          takes = driven.takes;
+          texts = subst (SendsTexts made (waiting_in new.texts.now) start
+              (texts_held o l (writing_behind new))) (sym at.are)
+              (wrote.moved start at.line at.behind at.many at.texts).sends;
+        }
+
+    sends_at_end : (last : End) → ((stop : Stop) → last ≡ Stopped stop → ⊥)
+        → (start held : SinkTexts) (waits : Waiting) → SendsAll made before now start held waits last
+        → DrivesSpacer made before now start held waits last
+    sends_at_end (Stopped stop) none start held waits sends = absurd (none stop refl)
+    sends_at_end Whole none start held waits sends = sends
+    sends_at_end (Refused bad) none start held waits sends = sends
+    sends_at_end (TooLong what count) none start held waits sends = sends
+    sends_at_end ReadFault none start held waits sends = sends
+
+    pub drives_all : WritesAll b o l mid new None → DrivesLines b o l old new before now end
+    drives_all wrote = record {
+      driven = λ start begun. sends_at_end end other start (texts_held o l (writing_behind new))
+          (waiting_in new.texts.now) (all_sends wrote start begun);
+      keeps = subst (KeepsHeld o l old new) (sym (answer_ok end other))
+          (holds-then b o l old mid new (Ok tt) gave.went wrote.keeps);
+    }
+
+    -- a write of them failed
+    pub drives_failed : (stop : Stop) → StopsWriting b o l mid new mid.owed None stop
+        → DrivesLines b o l old new before now (Stopped stop)
+    drives_failed stop wrote = record {
+      driven = λ start begun.
+          let at = gave.moved start [] begun in
+          let whole : ticks_in (take (length driven.items) driven.items) ≡ at.line ++ at.behind =
+          ap ticks_in (take-length driven.items) ∙ at.are in
+          record {
+            why = wrote.why;
+            front = front_spaces new start driven.items end driven.takes (length driven.items)
+                (subst (StopsWithin b o l new start) (sym whole)
+                (wrote.stopped start at.line at.behind at.many at.texts));
+          };
+      keeps = holds-then b o l old mid new (Err stop) gave.went wrote.keeps;
+    }
 
 -- what was sent whole was sent in part
 fronts_of_all : (made : LineAndNotes) (before now : SinkTexts) (line : List Tick)
@@ -91,14 +191,14 @@ fronts_of_all made before now line sent = record {
 module _ (made : LineAndNotes) (in_before in_now : Option (List ℕ)) (before now last : SinkTexts)
     (waits : Waiting) where
   -- the texts of an end that is no stop are on their way
-  on_its_way : (end : End) → ((stop : Stop) → end ≡ Stopped stop → ⊥) → (items : List Item)
-      → TextsAtEnd made in_before in_now before now waits items end
-      → SendsTexts made waits before now (ticks_in items)
-  on_its_way (Stopped stop) other items texts = absurd (other stop refl)
-  on_its_way Whole other items texts = texts
-  on_its_way (Refused bad) other items texts = texts
-  on_its_way (TooLong what count) other items texts = texts
-  on_its_way ReadFault other items texts = texts
+  on_its_way : (end : End) → ((stop : Stop) → end ≡ Stopped stop → ⊥)
+      → DrivesSpacer made in_before in_now before now waits end
+      → SendsAll made in_before in_now before now waits end
+  on_its_way (Stopped stop) other driven = absurd (other stop refl)
+  on_its_way Whole other driven = driven
+  on_its_way (Refused bad) other driven = driven
+  on_its_way (TooLong what count) other driven = driven
+  on_its_way ReadFault other driven = driven
 
   -- what waited failed
   pub finish_fails : (end : End) → ((stop : Stop) → end ≡ Stopped stop → ⊥)
@@ -106,15 +206,15 @@ module _ (made : LineAndNotes) (in_before in_now : Option (List ℕ)) (before no
       → ((line : List Tick) → SendsTexts made waits before now line
       → HasSentFronts made before last line)
       → SpacesLine made in_before in_now before last WriteFault
-  finish_fails end other driven finish = record {
-    items = driven.items;
-    end = end;
-    count = length driven.items;
-    takes = driven.takes;
-    sent = subst (λ items. HasSentFronts made before last (ticks_in items))
-        (sym (take-length driven.items))
-        (finish _ (on_its_way end other driven.items driven.texts));
-  }
+  finish_fails end other driven finish =
+      let sends = on_its_way end other driven in record {
+        items = sends.items;
+        end = end;
+        count = length sends.items;
+        takes = sends.takes;
+        sent = subst (λ items. HasSentFronts made before last (ticks_in items))
+            (sym (take-length sends.items)) (finish _ sends.texts);
+      }
 
   -- all was written, and the input was no whole one
   pub refusal_spaces : (end : End) → ((stop : Stop) → end ≡ Stopped stop → ⊥) → (end ≡ Whole → ⊥)

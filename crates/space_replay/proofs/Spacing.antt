@@ -1,20 +1,23 @@
 -- A spacer and its texts have taken a run: what that does to the consumer.
-use Rattle.device_model.specs.Frames.{FrameRead}
-use Rattle.line_spacer.specs.{Arrivals.arriving, Spacing.lost_of, Stands.AnswersSpaced}
+use Rattle.{device_model.specs.Frames.FrameRead, line_spacer.specs.Arrivals.arriving}
+use Rattle.line_spacer.specs.{Owing.still_read, Spacing.lost_of, Stands.AnswersSpaced}
 use Rattle.line_texts.proofs.Sending.{sends_more, sent_in_part}
-use Rattle.line_texts.specs.Sending.{AnswersNoted, SinkTexts, SendsTexts, HasSentFronts}
+use Rattle.line_texts.specs.Sending.{AnswersNoted, SinkTexts, SendsTexts}
 use Rattle.line_texts.specs.Texts.{texts_held, waiting_in, Pushes}
-use Rattle.space_replay.specs.SpacedLines.{SpacesItems, StopsSpacing, KeepsHeld, spacing}
-use Rattle.space_replay.specs.{SpacedLines.writing_behind, SpacedTexts.most_waiting}
+use Rattle.space_replay.specs.OwedTexts.{StopsWriting, WritesAll, WritesFirst, frames_of}
+use Rattle.space_replay.specs.SpacedLines.{KeepsHeld, OwesTexts, SpacesItems, StopsSpacing}
+use Rattle.space_replay.specs.SpacedLines.{StopsWithin, spacing, writing_behind}
+use Rattle.space_replay.specs.{SpacedLinesLaws.holds-then, SpacedTexts.most_waiting}
 use Rattle.space_replay.specs.SpacedTexts.{lost_line, lost_lines, arrival_lines, spaced_texts}
 use Rattle.space_replay.specs.declared.spaced_lines.SpacedLines.{SpacedLines}
 use Rattle.space_replay.specs.declared.spacers.LineSpacer.{Ghosts as LineSpacer}
 use Rattle.std.proofs.Common.{◌≡◌, ◌∙◌, ℕ, ◌+◌, ◌-◌, ◌<◌, ◌≤◌, List, [], ◌∷◌, ◌++◌, length, take}
-use Rattle.std.proofs.Common.{map, Ok, Err, refl, sym, ap, subst, arith}
-use Rattle.std.proofs.lemmas.Grind.{flat_map-append}
+use Rattle.std.proofs.Common.{drop, map, Ok, Err, Option, None, refl, sym, ap, subst, arith}
+use Rattle.std.proofs.Common.{append-nil, append_assoc, length-append, take-append-drop}
+use Rattle.std.proofs.lemmas.{Grind.flat_map-append, List.length-take-le}
 use Rattle.tick_drive.proofs.ItemLaws.{ticks_in-append, ticks_in-mark, ticks_in-front, length-front}
 use Rattle.tick_drive.specs.Consumers.{Gives, GivesFirst}
-use Rattle.tick_drive.specs.declared.consumer.Stop.TheVariants.{WriteFault}
+use Rattle.tick_drive.specs.declared.consumer.Stop.{Stop, TheVariants.WriteFault}
 use Rattle.yasir_io.specs.declared.{Failed.Failed, sink.Sink.Ghosts as Sink}
 use Rattle.yasir_ticks.{proofs.TickRuns.length-run_items, specs.TickRun.run_ticks}
 use Rattle.yasir_ticks.specs.{TickRun.run_items, Ticks.Item, Ticks.ticks_in, Ticks.Item.mark}
@@ -45,75 +48,182 @@ pub spaces_at_mark : {B O L : Type 0} (b : LineSpacer B) (o : Sink O) (l : Sink 
     (lines : SpacedLines B O L) (start : SinkTexts) (items : List Item)
     → SpacesItems b o l lines start items → SpacesItems b o l lines start (items ++ mark ∷ [])
 spaces_at_mark b o l lines start items before = record {
-  hears = rw (ticks_in-mark items) before.hears;
-  sends = rw (ticks_in-mark items) before.sends;
+  line = before.line;
+  behind = before.behind;
+  are = ticks_in-mark items ∙ before.are;
+  many = before.many;
+  texts = before.texts;
 }
 
--- The spacer has taken this many first ticks of a run, and answers this.
+-- The spacer has given the answers to the first n of so many ticks that were owed.
 module _ {B O L : Type 0} (b : LineSpacer B) (o : Sink O) (l : Sink L) (old new : SpacedLines B O L)
-    (run : TickRun) (n : ℕ) (answer : List Tick) (note : List ℕ)
-    (some : 0 < n) (within : n ≤ length (run_ticks run))
-    (counts : b.taken new.spacer.now ≡ b.taken old.spacer.now + n)
-    (stands : (line : List Tick) → b.stands old.spacer.now line
-    → b.stands new.spacer.now (line ++ take n (run_ticks run)))
-    (answers : (line : List Tick) → b.stands old.spacer.now line
-    → AnswersNoted (spaced_texts b.reads b.gap) line (take n (run_ticks run)) answer note) where
-  abbrev front : List Item
-  front = take n (run_items run)
-
-  more : (items : List Item)
-      → ticks_in items ++ take n (run_ticks run) ≡ ticks_in (items ++ front)
-  more items = ap (λ x. ticks_in items ++ x) (sym (ticks_in-front run n))
-      ∙ sym (ticks_in-append items front)
-
-  -- its texts have taken the answer
-  pub spaced_given : Pushes o l (writing_behind old) (writing_behind new) answer note (Ok tt)
-      → KeepsHeld o l old new (Ok tt) → GivesFirst (spacing b o l) old new (run_items run) n
-  spaced_given pushed keeps = record {
+    (owed : ℕ) (read : Option ℕ) (n : ℕ) (answer : List Tick) (note : List ℕ)
+    (owes : (line ticks : List Tick) → length ticks ≡ owed
+    → b.owes old.spacer.now line ticks (frames_of b o l old read)
+    → b.owes new.spacer.now (line ++ take n ticks) (drop n ticks)
+    (still_read (drop n ticks) (frames_of b o l old read)))
+    (answers : (line ticks : List Tick) → length ticks ≡ owed
+    → b.owes old.spacer.now line ticks (frames_of b o l old read)
+    → AnswersNoted (spaced_texts b.reads b.gap) line (take n ticks) answer note) where
+  -- its texts have taken them
+  pub some_written : 0 < n → n ≤ owed → b.taken new.spacer.now ≡ b.taken old.spacer.now
+      → b.lent new.spacer.now ≡ b.lent old.spacer.now
+      → Pushes o l (writing_behind old) (writing_behind new) answer note (Ok tt)
+      → KeepsHeld o l old new (Ok tt) → WritesFirst b o l old new owed read n
+  some_written some within counts lends pushed keeps = record {
     some = some;
-    within = omega (arith, within, length-run_items run);
+    within = within;
+    moved = λ start line ticks long before. record {
+      owes = owes line ticks long before.owes;
+      sends = sends_more (spaced_texts b.reads b.gap) line (take n ticks) answer note
+          (answers line ticks long before.owes) (waiting_in old.texts.now)
+          (waiting_in new.texts.now) start (texts_held o l (writing_behind old))
+          (texts_held o l (writing_behind new)) before.sends tt pushed.adds;
+    };
+    counts = counts;
+    lends = lends;
+    keeps = keeps;
+  }
+
+  -- a write failed
+  pub some_stopped : (e : Failed)
+      → Pushes o l (writing_behind old) (writing_behind new) answer note (Err e)
+      → KeepsHeld o l old new (Err WriteFault) → StopsWriting b o l old new owed read WriteFault
+  some_stopped e pushed keeps = record {
+    why = refl;
+    stopped = λ start line ticks long before. record {
+      line = line ++ take n ticks;
+      behind = drop n ticks;
+      are = ap (λ x. line ++ x) (sym (take-append-drop n ticks))
+          ∙ sym (append_assoc line (take n ticks) (drop n ticks));
+      sent = sent_in_part (spaced_texts b.reads b.gap) line (take n ticks) answer note
+          (answers line ticks long before.owes) (waiting_in old.texts.now)
+          (waiting_in new.texts.now) start (texts_held o l (writing_behind old))
+          (texts_held o l (writing_behind new)) before.sends e pushed.adds;
+    };
+    keeps = keeps;
+  }
+
+-- The spacer has heard this many first ticks of a run. In the last of them this is read.
+module _ {B O L : Type 0} (b : LineSpacer B) (o : Sink O) (l : Sink L)
+    (old heard : SpacedLines B O L) (run : TickRun) (n : ℕ) (read : Option ℕ)
+    (some : 0 < n) (within : n ≤ length (run_ticks run))
+    (counts : b.taken heard.spacer.now ≡ b.taken old.spacer.now + n)
+    (more : heard.owed ≡ old.owed + n)
+    (owes : (line owed : List Tick) → length owed ≡ old.owed → b.owes old.spacer.now line owed []
+    → b.owes heard.spacer.now line (owed ++ take n (run_ticks run)) (frames_of b o l heard read))
+    (sends : (start : SinkTexts) (line : List Tick)
+    → SendsTexts (spaced_texts b.reads b.gap) (waiting_in old.texts.now) start
+    (texts_held o l (writing_behind old)) line
+    → SendsTexts (spaced_texts b.reads b.gap) (waiting_in heard.texts.now) start
+    (texts_held o l (writing_behind heard)) line)
+    (keeps : KeepsHeld o l old heard (Ok tt)) where
+  abbrev given : List Tick
+  given = take n (run_ticks run)
+
+  few : n ≤ length (run_items run)
+  few = omega (arith, within, length-run_items run)
+
+  -- they are the ticks of as many items
+  all : (items : List Item) (before : List Tick) → ticks_in items ≡ before
+      → ticks_in (items ++ take n (run_items run)) ≡ before ++ given
+  all items before are = ticks_in-append items (take n (run_items run))
+      ∙ (ap (λ x. x ++ ticks_in (take n (run_items run))) are
+      ∙ ap (λ x. before ++ x) (ticks_in-front run n))
+
+  long : (behind : List Tick) → length behind ≡ old.owed → length (behind ++ given) ≡ heard.owed
+  long behind many =
+      let sum = length-append behind given in
+      let as_many : length given ≡ n = length-take-le n (run_ticks run) within in
+      let sums = more in
+      omega arith
+
+  counted : b.taken heard.spacer.now
+      ≡ b.taken old.spacer.now + length (ticks_in (take n (run_items run)))
+  counted = counts ∙ ap (λ k. b.taken old.spacer.now + k) (sym (length-front run n within))
+
+  owing : (start : SinkTexts) (line behind : List Tick) → length behind ≡ old.owed
+      → OwesTexts b o l old [] start line behind
+      → OwesTexts b o l heard (frames_of b o l heard read) start line (behind ++ given)
+  owing start line behind many before = record {
+    owes = owes line behind many before.owes;
+    sends = sends start line before.sends;
+  }
+
+  -- nothing is read
+  pub none_read : read ≡ None → old.owed ≤ b.taken old.spacer.now
+      → GivesFirst (spacing b o l) old heard (run_items run) n
+  none_read none able = record {
+    some = some;
+    within = few;
     gives = record {
       moved = λ start items before. record {
-        hears = subst (b.stands new.spacer.now) (more items) (stands (ticks_in items) before.hears);
-        sends = subst (SendsTexts (spaced_texts b.reads b.gap) (waiting_in new.texts.now) start
-            (texts_held o l (writing_behind new))) (more items)
-            (sends_more (spaced_texts b.reads b.gap) (ticks_in items) (take n (run_ticks run))
-            answer note (answers (ticks_in items) before.hears) (waiting_in old.texts.now)
-            (waiting_in new.texts.now) start (texts_held o l (writing_behind old))
-            (texts_held o l (writing_behind new)) before.sends tt pushed.adds);
+        line = before.line;
+        behind = before.behind ++ given;
+        are = all items (before.line ++ before.behind) before.are
+            ∙ append_assoc before.line before.behind given;
+        many = long before.behind before.many;
+        texts = subst (λ r. OwesTexts b o l heard (frames_of b o l heard r) start before.line
+            (before.behind ++ given)) none
+            (owing start before.line before.behind before.many before.texts);
       };
       stopped = tt;
-      counted = counts ∙ ap (λ k. b.taken old.spacer.now + k) (sym (length-front run n within));
-      is_able = tt;
+      counted = counted;
+      is_able = let sum = counts in let as_many = more in
+          let few : heard.owed ≤ b.taken heard.spacer.now = omega arith in few;
       went = keeps;
     };
   }
 
+  -- what was owed is written
+  pub read_written : (new : SpacedLines B O L) → WritesAll b o l heard new read
+      → GivesFirst (spacing b o l) old new (run_items run) n
+  read_written new wrote = record {
+    some = some;
+    within = few;
+    gives = record {
+      moved = λ start items before. record {
+        line = before.line ++ (before.behind ++ given);
+        behind = [];
+        are = all items (before.line ++ before.behind) before.are
+            ∙ (append_assoc before.line before.behind given
+            ∙ sym (append-nil (before.line ++ (before.behind ++ given))));
+        many = sym wrote.none;
+        texts = wrote.moved start before.line (before.behind ++ given)
+            (long before.behind before.many)
+            (owing start before.line before.behind before.many before.texts);
+      };
+      stopped = tt;
+      counted = wrote.counts ∙ counted;
+      is_able = let none = wrote.none in
+          let few : new.owed ≤ b.taken new.spacer.now = omega arith in few;
+      went = holds-then b o l old heard new (Ok tt) keeps wrote.keeps;
+    };
+  }
+
   -- a write failed
-  pub spaced_stopped : (e : Failed)
-      → Pushes o l (writing_behind old) (writing_behind new) answer note (Err e)
-      → KeepsHeld o l old new (Err WriteFault)
-      → Gives (spacing b o l) old new (run_items run) (Err WriteFault)
-  spaced_stopped e pushed keeps =
+  pub read_stopped : (new : SpacedLines B O L) (stop : Stop)
+      → StopsWriting b o l heard new heard.owed read stop
+      → Gives (spacing b o l) old new (run_items run) (Err stop)
+  read_stopped new stop wrote =
       let last : n - 1 + 1 ≡ n = omega arith in record {
         moved = tt;
         stopped = record {
           place = n - 1;
-          within = omega (arith, within, some, length-run_items run);
+          within = omega (arith, few, some);
           at = λ start items before. subst
-              (λ k. StopsSpacing b o l new WriteFault start (items ++ take k (run_items run)))
+              (λ k. StopsSpacing b o l new stop start (items ++ take k (run_items run)))
               (sym last) (record {
-                why = refl;
-                sent = subst (HasSentFronts (spaced_texts b.reads b.gap) start
-                    (texts_held o l (writing_behind new))) (more items)
-                    (sent_in_part (spaced_texts b.reads b.gap) (ticks_in items)
-                    (take n (run_ticks run)) answer note (answers (ticks_in items) before.hears)
-                    (waiting_in old.texts.now) (waiting_in new.texts.now) start
-                    (texts_held o l (writing_behind old)) (texts_held o l (writing_behind new))
-                    before.sends e pushed.adds);
+                why = wrote.why;
+                within = subst (StopsWithin b o l new start)
+                    (sym (all items (before.line ++ before.behind) before.are
+                    ∙ append_assoc before.line before.behind given))
+                    (wrote.stopped start before.line (before.behind ++ given)
+                    (long before.behind before.many)
+                    (owing start before.line before.behind before.many before.texts));
               });
         };
         counted = tt;
         is_able = tt;
-        went = keeps;
+        went = holds-then b o l old heard new (Err stop) keeps wrote.keeps;
       }

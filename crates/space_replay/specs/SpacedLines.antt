@@ -1,8 +1,10 @@
 -- What is said of a consumer that drives a spacer by references to it and to what it writes to.
-use Rattle.std.specs.Prelude.{◌≡◌, List, ⊤, Result}
+use Rattle.std.specs.Prelude.{◌≡◌, ◌≤◌, List, [], ◌++◌, length, Result}
 use Rattle.yasir_io.specs.Flushed.{NoneFlushed}
 use Rattle.yasir_io.specs.declared.sink.Sink.{Ghosts as Sink}
 use Rattle.yasir_ticks.specs.Ticks.{Item, ticks_in}
+use Rattle.yasir_ticks.specs.declared.tick.Tick.{Tick}
+use Rattle.device_model.specs.Frames.{FrameRead}
 use Rattle.tick_drive.specs.Consumers.{Consuming, IsSinkCause, is_write_fault}
 use Rattle.tick_drive.specs.declared.consumer.Stop.{Stop}
 use Rattle.tick_drive.specs.declared.consumer.Stop.TheVariants.{WriteFault}
@@ -29,20 +31,39 @@ pub record KeepsHeld {B O L : Type 0} (o : Sink O) (l : Sink L) (old new : Space
   pub flushes : NoneFlushed o l old.out.now new.out.now old.log.now new.log.now
 
 module _ {B O L : Type 0} (b : LineSpacer B) (o : Sink O) (l : Sink L) where
-  -- The spacer has taken these items' ticks, and its texts are on their way to the two sinks, which
-  -- held this at the start.
+  -- The spacer has answered this line, and its texts are on their way to the two sinks, which held
+  -- this at the start. It owes the answers to these ticks behind the line, in the last of which these
+  -- frames are read.
+  pub record OwesTexts (lines : SpacedLines B O L) (frames : List FrameRead) (start : SinkTexts)
+      (line owed : List Tick) : Type 0 where
+    pub owes : b.owes lines.spacer.now line owed frames
+    pub sends : SendsTexts (spaced_texts b.reads b.gap) (waiting_in lines.texts.now) start
+        (texts_held o l (writing_behind lines)) line
+
+  -- The spacer has taken these items' ticks. Of the last of them, of which nothing is read, it owes
+  -- the answers.
   pub record SpacesItems (lines : SpacedLines B O L) (start : SinkTexts) (items : List Item) :
       Type 0 where
-    pub hears : b.stands lines.spacer.now (ticks_in items)
-    pub sends : SendsTexts (spaced_texts b.reads b.gap) (waiting_in lines.texts.now) start
-        (texts_held o l (writing_behind lines)) (ticks_in items)
+    pub line : List Tick
+    pub behind : List Tick
+    pub are : ticks_in items ≡ line ++ behind
+    pub many : length behind ≡ lines.owed
+    pub texts : OwesTexts lines [] start line behind
 
-  -- A write failed at the last of these items: the sinks have got a front of each text.
+  -- A write failed: the sinks have got a front of each text of some first ones of these ticks.
+  pub record StopsWithin (lines : SpacedLines B O L) (start : SinkTexts) (ticks : List Tick) :
+      Type 0 where
+    pub line : List Tick
+    pub behind : List Tick
+    pub are : ticks ≡ line ++ behind
+    pub sent : HasSentFronts (spaced_texts b.reads b.gap) start
+        (texts_held o l (writing_behind lines)) line
+
+  -- A write failed, at the last of these items or before.
   pub record StopsSpacing (lines : SpacedLines B O L) (stop : Stop) (start : SinkTexts)
       (items : List Item) : Type 0 where
     pub why : stop ≡ WriteFault
-    pub sent : HasSentFronts (spaced_texts b.reads b.gap) start
-        (texts_held o l (writing_behind lines)) (ticks_in items)
+    pub within : StopsWithin lines start (ticks_in items)
 
   -- What is said of such a consumer.
   abbrev pub spacing : Consuming (SpacedLines B O L)
@@ -51,6 +72,6 @@ module _ {B O L : Type 0} (b : LineSpacer B) (o : Sink O) (l : Sink L) where
     stands = SpacesItems;
     stopped = StopsSpacing;
     taken = λ lines. b.taken lines.spacer.now;
-    able = λ lines. ⊤;
+    able = λ lines. lines.owed ≤ b.taken lines.spacer.now;
     went = KeepsHeld o l;
   }

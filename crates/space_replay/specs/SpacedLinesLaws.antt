@@ -1,15 +1,16 @@
 -- What calls do to what a driven spacer holds, one after the other.
-use Rattle.std.proofs.Common.{◌∙◌, refl}
+use Rattle.std.proofs.Common.{◌∙◌, refl, Ok}
 use Rattle.yasir_io.specs.declared.sink.Sink.{Ghosts as Sink}
 use Rattle.yasir_io.proofs.FlushLaws.{none_flushed, none_flushed_then}
 use Rattle.tick_drive.specs.Consumers.{IsNoneDone, AreJoined, is_write_fault}
 use Rattle.tick_drive.proofs.Causes.{sinks_none, sinks_then}
-use Rattle.space_replay.specs.SpacedLines.{spacing}
+use Rattle.space_replay.specs.SpacedLines.{KeepsHeld, spacing}
+use Rattle.space_replay.specs.declared.spaced_lines.SpacedLines.{SpacedLines}
 use Rattle.space_replay.specs.declared.spacers.LineSpacer.{Ghosts as LineSpacer}
 
 module _ {B O L : Type 0} (b : LineSpacer B) (o : Sink O) (l : Sink L) where
-  pub holds-none : IsNoneDone (spacing b o l)
-  holds-none lines able = record {
+  pub keeps-none : (lines : SpacedLines B O L) → KeepsHeld o l lines lines (Ok tt)
+  keeps-none lines = record {
     spacer = refl;
     texts = refl;
     out = refl;
@@ -17,6 +18,9 @@ module _ {B O L : Type 0} (b : LineSpacer B) (o : Sink O) (l : Sink L) where
     sinks = sinks_none (o.faults lines.out.now) (l.faults lines.log.now);
     flushes = none_flushed o l lines.out.now lines.log.now;
   }
+
+  pub holds-none : IsNoneDone (spacing b o l)
+  holds-none lines able = keeps-none lines
 
   pub holds-then : AreJoined (spacing b o l)
   holds-then h0 h1 h2 result first second = record {

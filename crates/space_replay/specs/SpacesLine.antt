@@ -1,5 +1,5 @@
 -- What is sent of the frames of an input's line, and when each status comes.
-use Rattle.std.specs.Prelude.{◌≡◌, ℕ, ◌+◌, List, take, Option}
+use Rattle.std.specs.Prelude.{◌≡◌, ℕ, List, take, Option}
 use Rattle.yasir_ticks.specs.Ticks.{Item, ticks_in}
 use Rattle.tick_drive.specs.Input.{Takes}
 use Rattle.tick_drive.specs.declared.consumer.Stop.{Stop}
@@ -45,19 +45,18 @@ module _ (made : LineAndNotes) (in_before in_now : Option (List ℕ)) (before no
   SpacesLine NoMemory = (in_now ≡ in_before) × (now ≡ before)
   SpacesLine status = ⊥
 
-  -- A write failed at one of these items.
-  pub record StopsAtTick (items : List Item) (stop : Stop) : Type 0 where
-    pub why : stop ≡ stops.WriteFault
-    pub place : ℕ
-    pub sent : HasSentFronts made before now (ticks_in (take (place + 1) items))
-
-  -- the texts of these items as the run over the input ended, while some of them still wait
-  abbrev pub TextsAtEnd : Waiting → List Item → End → Type 0
-  TextsAtEnd waits items (Stopped stop) = StopsAtTick items stop
-  TextsAtEnd waits items end = SendsTexts made waits before now (ticks_in items)
-
-  -- As the run over the input ended.
-  pub record DrivesSpacer (waits : Waiting) (end : End) : Type 0 where
+  -- The texts of all ticks that were taken are on their way, some of them still waiting.
+  pub record SendsAll (waits : Waiting) (end : End) : Type 0 where
     pub items : List Item
     pub takes : Takes 0 space_rest in_before in_now items end
-    pub texts : TextsAtEnd waits items end
+    pub texts : SendsTexts made waits before now (ticks_in items)
+
+  -- A write failed, and nothing else.
+  pub record StopsAtWrite (stop : Stop) : Type 0 where
+    pub why : stop ≡ stops.WriteFault
+    pub front : SpacesFront
+
+  -- As the run over the input ended, or a write failed in what was owed at its end.
+  abbrev pub DrivesSpacer : Waiting → End → Type 0
+  DrivesSpacer waits (Stopped stop) = StopsAtWrite stop
+  DrivesSpacer waits end = SendsAll waits end

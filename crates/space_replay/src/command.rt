@@ -1,14 +1,18 @@
 //! The command `space`: a spacer over the whole input.
-ghost use Rattle.std.specs.Prelude.{◌≡◌, []};
+ghost use Rattle.std.specs.Prelude.{◌≡◌, ◌≤◌, []};
 ghost use Rattle.yasir_io.specs.Flushed.{NoneFlushed};
 ghost use Rattle.tick_drive.specs.Consumers.{IsSinkCause, is_write_fault};
-ghost use Rattle.tick_drive.specs.Drive.{answer_of};
+ghost use Rattle.tick_drive.specs.Drive.{IsFresh, answer_of};
 ghost use Rattle.tick_drive.specs.Input.{IsReadCause, is_read_fault};
+ghost use Rattle.tick_drive.specs.declared.consumer.Stop.{Stop};
+ghost use Rattle.tick_drive.specs.declared.end.End.TheVariants.{Stopped};
 ghost use Rattle.line_texts.specs.Sending.{SinkTexts, sink_texts, SendsTexts};
 ghost use Rattle.line_texts.specs.Texts.{waiting_in};
 ghost use Rattle.replay_status.specs.Causes.{InputCause, SinkCause};
 ghost use Rattle.replay_status.specs.Flushes.{FlushesAtEnd};
 ghost use Rattle.replay_status.specs.declared.status.Status.TheVariants.{NoMemory as no_memory};
+ghost use Rattle.space_replay.specs.DrivenLines.{DrivesLines};
+ghost use Rattle.space_replay.specs.SpacedLines.{spacing};
 ghost use Rattle.space_replay.specs.SpacedTexts.{spaced_texts};
 ghost use Rattle.space_replay.specs.SpacesLine.{DrivesSpacer, SpacesLine};
 
@@ -24,6 +28,28 @@ use yasir_io::{Failed, Sink, Source};
 /// with their gaps.
 const REST: u32 = 21_000;
 
+// Drives the input into what drives a spacer, and writes what is owed at its end.
+fn drive_lines<B: LineSpacer, S: Source, O: Sink, L: Sink>(
+    input: &mut S,
+    lines: &mut SpacedLines<'_, B, O, L>,
+) -> End
+    requires { IsFresh (spacing B.LineSpacer O.Sink L.Sink) lines.old }
+    ensures driven { DrivesLines B.LineSpacer O.Sink L.Sink lines.old lines.new
+        (S.left input.old) (S.left input.new) result }
+    ensures falls { S.faults input.old ≤ S.faults input.new }
+    ensures read { ((stop : Stop) → result ≡ Stopped stop → ⊥)
+        → IsReadCause (S.faults input.old) (S.faults input.new) (is_read_fault result) }
+{
+    let end = drive_to_rest(0, REST, input, lines);
+    if let End::Stopped(_) = end {
+        return end;
+    }
+    match lines.write_rest() {
+        Ok(()) => end,
+        Err(stop) => End::Stopped(stop),
+    }
+}
+
 // Drives the input into the spacer. Its texts are on their way to the two sinks.
 fn drive_spacer<B: LineSpacer, S: Source, O: Sink, L: Sink>(
     spacer: &mut B,
@@ -33,19 +59,21 @@ fn drive_spacer<B: LineSpacer, S: Source, O: Sink, L: Sink>(
     log: &mut L,
 ) -> End
     requires fresh { B.taken spacer.old ≡ 0 }
-    requires stands { B.stands spacer.old [] }
+    requires owes { B.owes spacer.old [] [] [] }
     requires nothing { (held : SinkTexts) → SendsTexts (spaced_texts B.reads B.gap)
         (waiting_in texts.old) held held [] }
     ensures driven { DrivesSpacer (spaced_texts B.reads B.gap) (S.left input.old)
         (S.left input.new) (sink_texts (O.held out.old) (L.held log.old))
         (sink_texts (O.held out.new) (L.held log.new)) (waiting_in texts.new) result }
-    ensures read { IsReadCause (S.faults input.old) (S.faults input.new) (is_read_fault result) }
+    ensures falls { S.faults input.old ≤ S.faults input.new }
+    ensures read { ((stop : Stop) → result ≡ Stopped stop → ⊥)
+        → IsReadCause (S.faults input.old) (S.faults input.new) (is_read_fault result) }
     ensures sinks { IsSinkCause (O.faults out.old) (O.faults out.new) (L.faults log.old)
         (L.faults log.new) (is_write_fault (answer_of result)) }
     ensures flushes { NoneFlushed O.Sink L.Sink out.old out.new log.old log.new }
 {
     let mut lines = SpacedLines::new(spacer, texts, out, log);
-    drive_to_rest(0, REST, input, &mut lines)
+    drive_lines(input, &mut lines)
 }
 
 /// Sends the frames of the input's line spaced: the text of the spaced line goes to `out`, and a

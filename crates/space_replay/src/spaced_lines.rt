@@ -1,5 +1,5 @@
 //! The consumer that drives a spacer, and writes the spaced line and the lost frames as text.
-ghost use Rattle.std.specs.Prelude.{◌≡◌, ◌<◌, ◌≤◌, ◌^◌, length};
+ghost use Rattle.std.specs.Prelude.{◌≡◌, ◌<◌, ◌≤◌, ◌^◌, length, None};
 ghost use Rattle.yasir_ticks.specs.TickRun.{run_ticks, run_items};
 ghost use Rattle.yasir_ticks.specs.declared.tick_run.TickRun.TheVariants.{Bytes, Silence};
 ghost use Rattle.burst_walk.specs.Answered.{answered};
@@ -8,8 +8,10 @@ ghost use Rattle.line_texts.specs.Texts.{writing, Pushes};
 ghost use Rattle.tick_drive.specs.Consumers.{MayTake, GivesSome};
 ghost use Rattle.space_replay.specs.SpacedLines.{spacing};
 ghost use Rattle.space_replay.specs.SpacedTexts.{lost_line, lost_lines};
+ghost use Rattle.space_replay.specs.OwedTexts.{WritesSome, WritesOwed};
 
 use crate::spacers::LineSpacer;
+use device_model::Met;
 use device_replay::{LINE_ROOM, write_frame_line};
 use line_spacer::SpaceRun;
 use line_texts::{Texts, answer_run, push_run};
@@ -17,17 +19,17 @@ use tick_drive::{Consumer, Stop};
 use yasir_io::{Failed, Sink, TextRoom};
 use yasir_ticks::TickRun;
 
-// How many ticks a spacer is given at once at most.
-const MAX_RUN: usize = 4_294_967_295;
-
 /// Drives a spacer: the spaced line goes on as canonical tick text, and a line for each frame that
-/// is lost to the log.
+/// is lost to the log. What leaves is written where a frame is read that doesn't just wait
+/// behind others, and at the end.
 #[derive(Drop)]
 pub struct SpacedLines<'a, B, O, L> {
     spacer: &'a mut B,
     texts: &'a mut Texts,
     out: &'a mut O,
     log: &'a mut L,
+    // how many ticks were heard whose answers aren't written yet
+    owed: usize,
 }
 
 // Adds the line of a frame that is lost, and behind it the ticks of the run in which it is read. It
@@ -85,18 +87,64 @@ impl<'a, B, O, L> SpacedLines<'a, B, O, L> {
         ensures texts { result.texts ≡ texts.entry }
         ensures out { result.out ≡ out.entry }
         ensures log { result.log ≡ log.entry }
+        ensures owed { result.owed ≡ 0 }
     {
         SpacedLines {
             spacer,
             texts,
             out,
             log,
+            owed: 0,
         }
     }
 }
 
 impl<'a, B: LineSpacer, O: Sink, L: Sink> SpacedLines<'a, B, O, L> {
-    // Takes a run as far as the spacer answers it at once. Says how many ticks.
+    // Writes the answers to the first of the ticks that are owed, of which there are so many, as
+    // far as the spacer gives them at once. Says to how many.
+    #[inline(always)]
+    fn write_some(&mut self, owed: usize, read: Option<u64>) -> Result<usize, Stop>
+        requires { 0 < owed }
+        ensures { WritesSome B.LineSpacer O.Sink L.Sink self.old self.new owed read result }
+    {
+        let answer = self.spacer.give_front(owed, read);
+        match push_answer(self.texts, self.out, self.log, &*self.spacer, answer) {
+            Ok(()) => Ok(answer.taken),
+            Err(Failed) => Err(Stop::WriteFault),
+        }
+    }
+
+    // Writes the answers to all ticks that are owed, of which there is one at least. `read` is the
+    // tick of the first byte of the frame that was read in the last one, if one was. It is kept
+    // separate, since few runs end a frame.
+    #[inline(never)]
+    fn write_owed(&mut self, read: Option<u64>) -> Result<(), Stop>
+        requires { 0 < self.old.owed }
+        ensures { WritesOwed B.LineSpacer O.Sink L.Sink self.old self.new read result }
+    {
+        let mut left = self.owed;
+        while left > 0 {
+            match self.write_some(left, read) {
+                Ok(taken) => left -= taken,
+                Err(stop) => return Err(stop),
+            }
+        }
+        self.owed = 0;
+        Ok(())
+    }
+
+    /// Writes what is still owed at the end of a line.
+    pub fn write_rest(&mut self) -> Result<(), Stop>
+        ensures { WritesOwed B.LineSpacer O.Sink L.Sink self.old self.new None result }
+    {
+        if self.owed == 0 {
+            return Ok(());
+        }
+        self.write_owed(None)
+    }
+
+    // Takes a run up to a frame that is read. Where the frame doesn't just wait behind others, what
+    // is owed is written then. Says how many ticks.
     #[inline(always)]
     fn space_some(&mut self, run: TickRun<'_>) -> Result<usize, Stop>
         requires some { 0 < length (run_ticks run) }
@@ -104,16 +152,21 @@ impl<'a, B: LineSpacer, O: Sink, L: Sink> SpacedLines<'a, B, O, L> {
         ensures { GivesSome (spacing B.LineSpacer O.Sink L.Sink) self.old self.new
             (run_items run.entry) result }
     {
-        let most = run.len().min(MAX_RUN);
-        let front = run.front(most);
-        let answer = self.spacer.take_front(front);
-        match push_answer(self.texts, self.out, self.log, &*self.spacer, answer) {
-            Ok(()) => Ok(answer.taken),
-            Err(Failed) => Err(Stop::WriteFault),
+        let Met { taken, start } = self.spacer.hear_front(run);
+        self.owed += taken;
+        let Some(_) = start else {
+            return Ok(taken);
+        };
+        if self.spacer.queue_read(self.owed) {
+            return Ok(taken);
+        }
+        match self.write_owed(start) {
+            Ok(()) => Ok(taken),
+            Err(stop) => Err(stop),
         }
     }
 
-    // Gives the spacer the first of these bytes, and writes the ticks that leave.
+    // Gives the spacer the first of these bytes.
     #[inline]
     fn hear_part(&mut self, bytes: &[u8]) -> Result<usize, Stop>
         requires some { 0 < length (run_ticks (Bytes bytes)) }
@@ -125,7 +178,7 @@ impl<'a, B: LineSpacer, O: Sink, L: Sink> SpacedLines<'a, B, O, L> {
         self.space_some(TickRun::Bytes(bytes))
     }
 
-    // Gives the spacer the first of these silent ticks, and writes the ticks that leave.
+    // Gives the spacer the first of these silent ticks.
     #[inline]
     fn wait_part(&mut self, ticks: u32) -> Result<usize, Stop>
         requires some { 0 < length (run_ticks (Silence ticks)) }

@@ -1,14 +1,16 @@
 //! The spacers that a command drives, as one trait without constant parameters.
-ghost use Rattle.std.specs.Prelude.{◌≡◌, ◌+◌, ◌-◌, ◌<◌, ◌≤◌, ℕ, List, [], ◌++◌, length, take, IfOk};
+ghost use Rattle.std.specs.Prelude.{◌≡◌, ◌+◌, ◌-◌, ◌<◌, ◌≤◌, ◌^◌, ℕ, List, [], ◌++◌, length, take};
+ghost use Rattle.std.specs.Prelude.{drop, IfOk, Some, true, false};
 ghost use Rattle.yasir_ticks.specs.TickRun.{run_ticks};
 ghost use Rattle.yasir_ticks.specs.declared.TheConstants.{MAX_TICKS};
 ghost use Rattle.yasir_ticks.specs.declared.tick.Tick.{Tick};
 ghost use Rattle.burst_walk.specs.Answered.{answered};
 ghost use Rattle.device_model.specs.Frames.{FrameRead, frames_lent};
+ghost use Rattle.line_spacer.specs.Owing.{still_read};
 ghost use Rattle.line_spacer.specs.Stands.{AnswersSpaced};
 ghost use Rattle.space_replay.specs.SpacedTexts.{most_waiting};
 
-use device_model::Device;
+use device_model::{Device, Met};
 use line_spacer::{SpaceRun, Spacer};
 use std::alloc::Global;
 use yasir_io::NoMemory;
@@ -29,13 +31,14 @@ pub trait LineSpacer: Drop {
     /// There are some.
     ghost gap_fits: { Type 0 };
 
-    /// It has taken these ticks.
-    ghost stands: { Self → List Tick → Type 0 };
+    /// It has answered a line, and has heard these ticks behind it, too. In the last of these ticks
+    /// these frames are read.
+    ghost owes: { Self → List Tick → List Tick → List FrameRead → Type 0 };
 
     /// How many ticks it has taken.
     ghost taken: { Self → ℕ };
 
-    /// The bytes that it lends of the other line: those that left in the last ticks taken.
+    /// The bytes that it lends of the other line: those that left in the last ticks answered.
     ghost left: { Self → List ℕ };
 
     /// The bytes that it lends: those of a frame that is lost, where the last call says so.
@@ -45,25 +48,53 @@ pub trait LineSpacer: Drop {
     fn new(alloc: Global) -> Result<Self, NoMemory>
         requires { gap_fits }
         ensures taken { IfOk result (λ spacer. taken spacer ≡ 0) }
-        ensures stands { IfOk result (λ spacer. stands spacer []) };
+        ensures owes { IfOk result (λ spacer. owes spacer [] [] []) };
 
-    /// Takes the first ticks of this run, at least one of them, as far as the other line stays all
-    /// bytes or all silence, up to the first one in which a frame is read. Lends the bytes that
-    /// leave, one in each tick, or none where silence leaves.
-    fn take_front(&mut self, run: TickRun<'_>) -> SpaceRun
+    /// Takes the first ticks of this run, at least one of them, up to the first one in which a frame
+    /// is read. It owes their answers.
+    fn hear_front(&mut self, run: TickRun<'_>) -> Met
         requires room { taken self.old + length (run_ticks run) ≤ MAX_TICKS }
         requires some { 0 < length (run_ticks run) }
         ensures some { 0 < result.taken }
         ensures within { result.taken ≤ length (run_ticks run.entry) }
         ensures taken { taken self.new ≡ taken self.old + result.taken }
-        ensures stands { (line : List Tick) → stands self.old line
-            → stands self.new (line ++ take result.taken (run_ticks run.entry)) }
-        ensures answer { (line : List Tick) → stands self.old line
-            → AnswersSpaced reads gap most_waiting line (take result.taken (run_ticks run.entry))
+        ensures owes { (line owed : List Tick) → owes self.old line owed []
+            → owes self.new line (owed ++ take result.taken (run_ticks run.entry))
+            (frames_lent result.start (lent self.new)) };
+
+    /// Takes in the frame that was read in the last of the ticks that are owed, of which there are
+    /// so many, before they are answered, if it is sure to wait until they are. Returns whether it
+    /// did.
+    fn queue_read(&mut self, owed: usize) -> bool
+        requires { 0 < owed }
+        ensures taken { taken self.new ≡ taken self.old }
+        ensures stays { result ≡ false → self.new ≡ self.old }
+        ensures owes { result ≡ true → (start : ℕ) (line ticks : List Tick) → length ticks ≡ owed
+            → owes self.old line ticks (frames_lent (Some start) (lent self.old))
+            → owes self.new line ticks [] };
+
+    /// Answers the first of the ticks that are owed, of which there are so many: at least one of
+    /// them, as far as the other line stays all bytes or all silence. `read` is the tick of the
+    /// first byte of the frame that was read in the last one, if one was. Lends the bytes that
+    /// leave, one in each tick, or none where silence leaves.
+    fn give_front(&mut self, owed: usize, read: Option<u64>) -> SpaceRun
+        requires { 0 < owed }
+        ensures some { 0 < result.taken }
+        ensures within { result.taken ≤ owed }
+        ensures short { result.taken < 2 ^ 32 }
+        ensures taken { taken self.new ≡ taken self.old }
+        ensures lent { lent self.new ≡ lent self.old }
+        ensures owes { (line ticks : List Tick) → length ticks ≡ owed
+            → owes self.old line ticks (frames_lent read (lent self.old))
+            → owes self.new (line ++ take result.taken ticks) (drop result.taken ticks)
+            (still_read (drop result.taken ticks) (frames_lent read (lent self.old))) }
+        ensures answer { (line ticks : List Tick) → length ticks ≡ owed
+            → owes self.old line ticks (frames_lent read (lent self.old))
+            → AnswersSpaced reads gap most_waiting line (take result.taken ticks)
             (answered result.taken (left self.new)) (length line + (result.taken - 1))
             (frames_lent result.lost (lent self.new)) };
 
-    /// The bytes that left in the last ticks taken, one in each; none where silence left.
+    /// The bytes that left in the last ticks answered, one in each; none where silence left.
     fn left_bytes(&self) -> &[u8]
         ensures { result.now ≡ left self.now };
 
@@ -74,7 +105,8 @@ pub trait LineSpacer: Drop {
 }
 
 impl<V: Device + Drop, const GAP: usize> LineSpacer for Spacer<V, GAP> {
-    ghost use Rattle.line_spacer.specs.Stands.{StandsFor, ticks_taken, bytes_left, bytes_lent};
+    ghost use Rattle.line_spacer.specs.Owing.{Owes};
+    ghost use Rattle.line_spacer.specs.Stands.{ticks_taken, bytes_left, bytes_lent};
 
     ghost reads = { V.reads };
 
@@ -82,7 +114,7 @@ impl<V: Device + Drop, const GAP: usize> LineSpacer for Spacer<V, GAP> {
 
     ghost gap_fits = { 0 < GAP };
 
-    ghost stands = { StandsFor V.Device most_waiting };
+    ghost owes = { Owes V.Device most_waiting };
 
     ghost taken = { ticks_taken V.Device };
 
@@ -95,8 +127,18 @@ impl<V: Device + Drop, const GAP: usize> LineSpacer for Spacer<V, GAP> {
     }
 
     #[inline(always)]
-    fn take_front(&mut self, run: TickRun<'_>) -> SpaceRun {
-        self.take_some(run)
+    fn hear_front(&mut self, run: TickRun<'_>) -> Met {
+        self.hear_some(run)
+    }
+
+    #[inline(always)]
+    fn queue_read(&mut self, owed: usize) -> bool {
+        Spacer::queue_read(self, owed)
+    }
+
+    #[inline(always)]
+    fn give_front(&mut self, owed: usize, read: Option<u64>) -> SpaceRun {
+        self.give_some(owed, read)
     }
 
     #[inline(always)]

@@ -24,7 +24,7 @@ returns-in-Err-finish g c =
           c.drive_spacer-end.result c.in_default.not-Stopped driven.driven
           (λ line sends. c.in-Err-finish.ensures.err _ _ line sends);
       untouched = λ none. cc;
-      input = driven.read.never_falls;
+      input = driven.falls;
       sinks = subst (λ n. Rose n out2 ⊎ Rose (g.L.Sink.faults c.args.log.now) log2)
           (driven.sinks.out_same other)
           (subst (λ n. Rose (g.O.Sink.faults c.drive_spacer-end.new.out) out2 ⊎ Rose n log2)
@@ -46,7 +46,7 @@ returns-in-Whole g c =
       untouched = λ none. absurd (whole_has_memory c.flush_both.result c.flush_both.ensures.status
           none);
       input = input_cause_of_whole _ _ c.flush_both.result c.flush_both.ensures.status
-          (c.in-Whole.ensures.read.same refl);
+          ((c.in-Whole.ensures.read (λ stop is. cc)).same refl);
       sinks = sink_cause_of_whole _ _ _ _ _ _ (sent.cause.out_same ∙ driven.sinks.out_same other)
           (sent.cause.log_same ∙ driven.sinks.log_same other) c.flush_both.result
           c.flush_both.ensures.sinks;
@@ -67,7 +67,8 @@ returns g c =
           driven.driven (λ line sends. sent.ok _ _ line sends);
       untouched = λ none. absurd (end_has_memory c.drive_spacer-end.result
           c.in_default.not-Stopped none);
-      input = input_cause _ _ c.drive_spacer-end.result driven.read;
+      input = input_cause _ _ c.drive_spacer-end.result
+          (driven.read c.in_default.not-Stopped);
       sinks = sink_cause_of_end _ _ _ _ c.drive_spacer-end.result other
           c.in_default-end.not-Whole (sent.cause.out_same ∙ driven.sinks.out_same other)
           (sent.cause.log_same ∙ driven.sinks.log_same other);

@@ -1,110 +1,96 @@
-use Rattle.{burst_walk.specs.Answered.answered, device_model.specs.Frames.frames_lent}
-use Rattle.line_spacer.specs.Stands.{AnswersSpaced}
-use Rattle.space_replay.proofs.Spacing.{spacing_noted, spaced_given, spaced_stopped}
-use Rattle.space_replay.specs.SpacedTexts.{most_waiting, lost_lines}
-use Rattle.std.proofs.Common.{◌≡◌, ◌∙◌, ◌+◌, ◌-◌, ◌<◌, ◌≤◌, ◌++◌, length, take, Ok, Err, refl, ap}
-use Rattle.std.proofs.Common.{subst, sym, arith}
-use Rattle.std.proofs.lemmas.List.{take-take, length-take}
+use Rattle.device_model.specs.Frames.{frames_lent}
+use Rattle.space_replay.proofs.Spacing.{none_read, read_written, read_stopped}
+use Rattle.space_replay.specs.SpacedLinesLaws.{keeps-none}
+use Rattle.std.proofs.Common.{◌≡◌, ◌∙◌, ◌+◌, ◌++◌, None, length, take, ap, subst, sym, arith}
+use Rattle.std.proofs.{Common.length-append, Common.refl, lemmas.List.length-take-le}
 use Rattle.yasir_ticks.{proofs.TickRuns.ticks_in-run, specs.TickRun.run_ticks}
 use Rattle.space_replay.proofs.spaced_lines.SpacedLines.space_some.Goals as goal
 
-pub take_front-answer-requires-clause-room : goal.take_front-answer-requires-clause-room
-take_front-answer-requires-clause-room g c = omega (
+pub hear_front-taken-requires-clause-room : goal.hear_front-taken-requires-clause-room
+hear_front-taken-requires-clause-room g c = omega (
   arith,
   c.requires.may.room,
   ap length (ticks_in-run c.args.run),
-  ap length c.front-front.ensures,
-  length-take c.min-most.result (run_ticks c.args.run),
 )
 
-pub push_answer-requires : goal.push_answer-requires
-push_answer-requires g c = grind (
-  arith,
-  c.take_front-answer.ensures.within,
-  ap length c.front-front.ensures,
-  length-take c.min-most.result (run_ticks c.args.run),
-  c.min-most.ensures,
-)
+pub returns-in_default : goal.returns-in_default
+returns-in_default g c =
+    let heard = c.hear_front-taken in
+    none_read g.B.LineSpacer g.O.Sink g.L.Sink c.args.self.now _ c.args.run heard.result.taken
+    heard.result.start heard.ensures.some heard.ensures.within heard.ensures.taken refl
+    (λ line owed many owes. heard.ensures.owes line owed owes) (λ start line sends. sends)
+    (record {
+      spacer = refl;
+      texts = refl;
+      out = refl;
+      log = refl;
+      sinks = (keeps-none g.B.LineSpacer g.O.Sink g.L.Sink c.args.self.now).sinks;
+      flushes = (keeps-none g.B.LineSpacer g.O.Sink g.L.Sink c.args.self.now).flushes;
+    }) c.in_default.is c.requires.may.able
+
+pub returns-then-queue_read : goal.returns-then-queue_read
+returns-then-queue_read g c =
+    let heard = c.hear_front-taken in
+    let spacer = g.B.LineSpacer in
+    let n = heard.result.taken in
+    let given = take n (run_ticks c.args.run) in
+    let few : length given ≡ n = length-take-le n (run_ticks c.args.run) heard.ensures.within in
+    none_read spacer g.O.Sink g.L.Sink c.args.self.now _ c.args.run n
+    None heard.ensures.some heard.ensures.within
+    (c.queue_read.ensures.taken ∙ heard.ensures.taken) refl
+    (λ line owed many owes.
+    let long : length (owed ++ given) ≡ c.args.self.now.owed + n =
+    omega (arith, length-append owed given, few, many) in
+    c.queue_read.ensures.owes c.if-queue_read.true c.in-Some.field-0 line (owed ++ given) long
+    (subst (λ r. spacer.owes heard.new.self line (owed ++ given)
+    (frames_lent r (spacer.lent heard.new.self))) c.in-Some.is (heard.ensures.owes line owed owes)))
+    (λ start line sends. sends) (record {
+      spacer = refl;
+      texts = refl;
+      out = refl;
+      log = refl;
+      sinks = (keeps-none g.B.LineSpacer g.O.Sink g.L.Sink c.args.self.now).sinks;
+      flushes = (keeps-none g.B.LineSpacer g.O.Sink g.L.Sink c.args.self.now).flushes;
+    }) refl c.requires.may.able
 
 pub returns-in-Ok : goal.returns-in-Ok
 returns-in-Ok g c =
-    let heard = c.take_front-answer in
+    let heard = c.hear_front-taken in
+    let spacer = g.B.LineSpacer in
     let n = heard.result.taken in
-    let left = g.B.LineSpacer.left heard.new.self in
-    let lost = frames_lent heard.result.lost (g.B.LineSpacer.lent heard.new.self) in
-    let reads = g.B.LineSpacer.reads in
-    let gap = g.B.LineSpacer.gap in
-    let all = run_ticks c.args.run in
-    let part = run_ticks c.front-front.result in
-    let most = c.min-most.result in
-    let size = ap length c.front-front.ensures in
-    let cut = length-take most all in
-    let few : n ≤ most = omega (arith, heard.ensures.within, size, cut) in
-    let within : n ≤ length all = omega (arith, heard.ensures.within, size, cut) in
-    let first : take n part ≡ take n all =
-    ap (take n) c.front-front.ensures ∙ take-take n most all few in
-    let wrote = c.in-Ok.ensures.writes in
-    spaced_given g.B.LineSpacer g.O.Sink g.L.Sink c.args.self.now _ c.args.run n (answered n left)
-    (lost_lines lost) heard.ensures.some within heard.ensures.taken
-    (λ line before. subst (λ x. g.B.LineSpacer.stands heard.new.self (line ++ x)) first
-    (heard.ensures.stands line before))
-    (λ line before. spacing_noted reads gap line (take n all) (answered n left)
-    (length line + (n - 1)) lost
-    (subst (λ x. AnswersSpaced reads gap most_waiting line x (answered n left)
-    (length line + (n - 1)) lost) first (heard.ensures.answer line before)))
-    c.in-Ok.ensures (record {
+    read_written spacer g.O.Sink g.L.Sink c.args.self.now _ c.args.run n
+    heard.result.start heard.ensures.some heard.ensures.within
+    (c.queue_read.ensures.taken ∙ heard.ensures.taken) refl
+    (λ line owed many owes.
+    subst (λ s. spacer.owes s line (owed ++ take n (run_ticks c.args.run))
+    (frames_lent heard.result.start (spacer.lent s))) (sym (c.queue_read.ensures.stays
+    c.if-queue_read.false)) (heard.ensures.owes line owed owes))
+    (λ start line sends. sends) (record {
       spacer = refl;
       texts = refl;
       out = refl;
       log = refl;
-      sinks = record {
-        out_never_falls = wrote.cause.out_never_falls;
-        log_never_falls = wrote.cause.log_never_falls;
-        failed = λ e. cc;
-        out_same = λ _. wrote.cause.out_same;
-        log_same = λ _. wrote.cause.log_same;
-      };
-      flushes = wrote.flushes;
-    })
+      sinks = (keeps-none g.B.LineSpacer g.O.Sink g.L.Sink c.args.self.now).sinks;
+      flushes = (keeps-none g.B.LineSpacer g.O.Sink g.L.Sink c.args.self.now).flushes;
+    }) _ c.in-Ok.ensures
 
 pub returns-in-Err : goal.returns-in-Err
 returns-in-Err g c =
-    let heard = c.take_front-answer in
+    let heard = c.hear_front-taken in
+    let spacer = g.B.LineSpacer in
     let n = heard.result.taken in
-    let left = g.B.LineSpacer.left heard.new.self in
-    let lost = frames_lent heard.result.lost (g.B.LineSpacer.lent heard.new.self) in
-    let reads = g.B.LineSpacer.reads in
-    let gap = g.B.LineSpacer.gap in
-    let all = run_ticks c.args.run in
-    let part = run_ticks c.front-front.result in
-    let most = c.min-most.result in
-    let size = ap length c.front-front.ensures in
-    let cut = length-take most all in
-    let few : n ≤ most = omega (arith, heard.ensures.within, size, cut) in
-    let within : n ≤ length all = omega (arith, heard.ensures.within, size, cut) in
-    let first : take n part ≡ take n all =
-    ap (take n) c.front-front.ensures ∙ take-take n most all few in
-    let wrote = c.in-Err.ensures.writes in
-    spaced_stopped g.B.LineSpacer g.O.Sink g.L.Sink c.args.self.now _ c.args.run n (answered n left)
-    (lost_lines lost) heard.ensures.some within heard.ensures.taken
-    (λ line before. subst (λ x. g.B.LineSpacer.stands heard.new.self (line ++ x)) first
-    (heard.ensures.stands line before))
-    (λ line before. spacing_noted reads gap line (take n all) (answered n left)
-    (length line + (n - 1)) lost
-    (subst (λ x. AnswersSpaced reads gap most_waiting line x (answered n left)
-    (length line + (n - 1)) lost) first (heard.ensures.answer line before)))
-    c.in-Err.field-0
-    c.in-Err.ensures (record {
+    read_stopped spacer g.O.Sink g.L.Sink c.args.self.now _ c.args.run n
+    heard.result.start heard.ensures.some heard.ensures.within
+    (c.queue_read.ensures.taken ∙ heard.ensures.taken) refl
+    (λ line owed many owes.
+    subst (λ s. spacer.owes s line (owed ++ take n (run_ticks c.args.run))
+    (frames_lent heard.result.start (spacer.lent s))) (sym (c.queue_read.ensures.stays
+    c.if-queue_read.false)) (heard.ensures.owes line owed owes))
+    (λ start line sends. sends) (record {
       spacer = refl;
       texts = refl;
       out = refl;
       log = refl;
-      sinks = record {
-        out_never_falls = wrote.cause.out_never_falls;
-        log_never_falls = wrote.cause.log_never_falls;
-        failed = λ _. wrote.cause.failed;
-        out_same = λ e. cc;
-        log_same = λ e. cc;
-      };
-      flushes = wrote.flushes;
-    })
+      sinks = (keeps-none g.B.LineSpacer g.O.Sink g.L.Sink c.args.self.now).sinks;
+      flushes = (keeps-none g.B.LineSpacer g.O.Sink g.L.Sink c.args.self.now).flushes;
+    }) _ _ c.in-Err.ensures

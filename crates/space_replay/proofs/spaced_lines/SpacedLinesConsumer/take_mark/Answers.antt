@@ -4,5 +4,5 @@ use Rattle.space_replay.proofs.spaced_lines.SpacedLinesConsumer.take_mark.Goals 
 
 pub returns : goal.returns
 returns g c = gives_mark (spacing g.B.LineSpacer g.O.Sink g.L.Sink) _
-    (holds-none g.B.LineSpacer g.O.Sink g.L.Sink) tt
+    (holds-none g.B.LineSpacer g.O.Sink g.L.Sink) c.requires.able
     (λ start items before. spaces_at_mark g.B.LineSpacer g.O.Sink g.L.Sink _ start items before)
