@@ -1,24 +1,21 @@
 -- The hunt by cases, and what is undecided.
 use Rattle.device_model.proofs.Heads.{head-short, head-good, head-bad, good-long, good-header}
-use Rattle.device_model.proofs.Heads.{bad-long, short-short, head-more}
-use Rattle.device_model.proofs.Hunts.{timed_bytes-length, begins-more, begins-front, hunt-none}
-use Rattle.device_model.proofs.Hunts.{hunt-no_start, taken-is, found-is, hunt-few, hunt-taken}
-use Rattle.device_model.{proofs.Hunts.taken_by-more, specs.Frames.FrameRead}
-use Rattle.device_model.specs.Hunt.{Timed, timed_bytes, header_in, taken_by, frame_of, found_by}
-use Rattle.device_model.specs.Hunt.{begins, bytes_taken, found, hunt}
+use Rattle.device_model.proofs.{Heads.short-short, Heads.head-more, Hunts.timed_bytes-length}
+use Rattle.device_model.proofs.Hunts.{begins-more, begins-front, hunt-none, hunt-no_start, taken-is}
+use Rattle.device_model.proofs.Hunts.{found-is, hunt-few, hunt-taken, taken_by-more}
+use Rattle.device_model.specs.{Frames.FrameRead, Hunt.Timed, Hunt.timed_bytes, Hunt.header_in}
+use Rattle.device_model.specs.Hunt.{taken_by, frame_of, found_by, begins, bytes_taken, found, hunt}
 use Rattle.device_model.specs.HuntLaws.{IsHunted, whole_frame, HuntsByCases}
 use Rattle.device_model.specs.HuntingDevice.{IsUndecided, nothing, first_byte, header_begun}
-use Rattle.device_model.specs.HuntingDevice.{next_by, next_of, frame_at}
-use Rattle.device_model.specs.declared.hunting.Next.{Next, TheVariants.Waits, TheVariants.Loses}
-use Rattle.{device_model.specs.declared.hunting.Next.TheVariants.Ends, line_rules.specs.Rules.Rules}
-use Rattle.line_rules.specs.{Rules.head_of, Rules.left_by, Rules.left_of, RulesLaws.IsLawful}
+use Rattle.device_model.specs.HuntingDevice.{frame_at}
+use Rattle.line_rules.specs.{Bytes.AreBytes, Rules.Rules, Rules.head_of, RulesLaws.IsLawful}
 use Rattle.line_rules.specs.{RulesLaws.IsHeaded, RulesLaws.IsFramed, declared.head.Head.Head}
 use Rattle.line_rules.specs.declared.head.Head.TheVariants.{Short, Good, Bad}
-use Rattle.std.proofs.Common.{◌≡◌, ◌∙◌, ℕ, zero, suc, ◌-◌, ◌<◌, ◌≤◌, nat_lt, true, false, ◌&&◌}
-use Rattle.std.proofs.Common.{cond, List, [], ◌∷◌, ◌++◌, length, take, drop, refl, sym, ap, subst}
-use Rattle.std.proofs.Common.{arith, ⊎_elim, length-append}
-use Rattle.std.proofs.lemmas.Bool.{cond-true, cond-false, cases_lt, cases_Bool, le-leb, lt-ltb}
-use Rattle.std.proofs.lemmas.List.{take_all, take-append-drop, length-take-le, take-map}
+use Rattle.std.proofs.Common.{◌≡◌, ◌∙◌, ℕ, zero, suc, ◌<◌, ◌≤◌, true, false, ◌==◌, ◌&&◌, cond, List}
+use Rattle.std.proofs.Common.{[], ◌∷◌, ◌++◌, length, take, drop, refl, sym, ap, subst, arith}
+use Rattle.std.proofs.{Common.⊎_elim, Common.length-append, lemmas.Bool.cond-false}
+use Rattle.std.proofs.lemmas.Bool.{cases_lt, cases_Bool, le-leb, and_parts, eqb-true, false≢true}
+use Rattle.std.proofs.lemmas.List.{append-nil, take_all, take-append-drop, length-take-le, take-map}
 
 module _ (first second : ℕ) (rules : Rules) (headed : IsHeaded rules)
     (hunted : IsHunted first second rules) where
@@ -203,32 +200,87 @@ module _ (first second : ℕ) (rules : Rules) (headed : IsHeaded rules)
       let room = taken-room (head_of rules y) y refl in
       omega arith
 
-  -- one byte more is no more than is taken
-  pub undecided-grown : (x : List ℕ) (b : ℕ) → IsUndecided first second rules x
-      → begins first second (x ++ b ∷ []) ≡ true
-      → length (x ++ b ∷ []) ≤ bytes_taken first second rules (x ++ b ∷ [])
-  undecided-grown x b nothing starts = cc
-  undecided-grown x b first_byte starts =
-      let two : List ℕ = first ∷ b ∷ [] in
-      let within = hunted.start_within in
-      let least = taken-header (head_of rules two) two refl in
-      let taken = taken-is first second rules (head_of rules two) two starts refl in
-      omega arith
-  undecided-grown x b (header_begun y begun few) starts =
-      let more : List ℕ = y ++ b ∷ [] in
-      let sum = length-append y (b ∷ []) in
-      let taken = taken-is first second rules (head_of rules more) more starts refl in
+  -- ---- how many bytes are taken
+
+  -- where less than a header is there, a header
+  pub taken-short : (x : List ℕ) → begins first second x ≡ true → length x < rules.header_len
+      → bytes_taken first second rules x ≡ rules.header_len
+  taken-short x starts short =
+      taken-is first second rules Short x starts (head-short rules x short)
+
+  -- behind a whole header, what it says
+  pub taken-long : (x z : List ℕ) → begins first second x ≡ true → rules.header_len ≤ length x
+      → bytes_taken first second rules (x ++ z) ≡ bytes_taken first second rules x
+  taken-long x z starts long =
+      taken-is first second rules (head_of rules x) (x ++ z) (begins-more first second x z starts)
+      (head-more rules x z long)
+      ∙ (taken_by-more first second rules (head_of rules x) x z long
+      ∙ sym (taken-is first second rules (head_of rules x) x starts refl))
+
+  -- while fewer are there, as many as before
+  pub taken-stays : (x z : List ℕ) → begins first second x ≡ true
+      → length (x ++ z) < bytes_taken first second rules x
+      → bytes_taken first second rules (x ++ z) ≡ bytes_taken first second rules x
+  taken-stays x z starts few =
+      let sum = length-append x z in
       ⊎_elim
       (λ short.
-      let least = taken-header (head_of rules more) more refl in
-      omega arith)
+      let was = taken-short x starts short in
+      taken-short (x ++ z) (begins-more first second x z starts) (omega arith) ∙ sym was)
+      (λ long. taken-long x z starts long)
+      (cases_lt (length x) rules.header_len)
+
+  -- a whole header of which more is taken is good
+  pub begun-good : (x : List ℕ) → begins first second x ≡ true → rules.header_len ≤ length x
+      → length x < bytes_taken first second rules x → head_of rules x ≡ Good
+  begun-good x starts long few =
+      ⊎_elim
+      (λ good. head-good rules x long good)
+      (λ bad.
+      let taken = taken-is first second rules Bad x starts (head-bad rules x long bad) in
+      absurd (omega arith))
+      (cases_Bool (rules.is_good_header (header_in rules x)))
+
+  -- a good header says the size of a frame for which a device has room
+  pub size-readable : IsLawful rules → (h : List ℕ) → AreBytes h → length h ≡ rules.header_len
+      → rules.is_good_header h ≡ true → rules.size h ≤ 292
+  size-readable lawful h bytes long good =
+      let room : rules.room h ≡ rules.size h =
+      ap rules.room (sym (append-nil h)) ∙ hunted.says_room h [] long good in
+      let bound = lawful.bounded h bytes in
+      let readable = hunted.readable in
+      omega arith
+
+  -- The first of bytes of which more are taken are undecided.
+  fronts-are : (x z : List ℕ) → begins first second (x ++ z) ≡ true
+      → length x < bytes_taken first second rules (x ++ z) → IsUndecided first second rules x
+  fronts-are [] z starts few = nothing
+  fronts-are (a ∷ []) [] starts few = absurd (false≢true starts)
+  fronts-are (a ∷ []) (b ∷ z) starts few =
+      let is : (a == first ≡ true) × (b == second ≡ true) = and_parts _ _ starts in
+      subst (λ c. IsUndecided first second rules (c ∷ [])) (sym (eqb-true a first is.0)) first_byte
+  fronts-are (a ∷ b ∷ x) z starts few =
+      let all : List ℕ = a ∷ b ∷ x in
+      let two : 2 ≤ length all = omega arith in
+      let begun : begins first second all ≡ true = begins-front first second all z two starts in
+      let taken = taken-is first second rules (head_of rules all) all begun refl in
+      header_begun all begun
+      (⊎_elim
+      (λ short.
+      let least = taken-header (head_of rules all) all refl in
+      let e : length all < bytes_taken first second rules all = omega arith in e)
       (λ long.
-      let was = taken-is first second rules (head_of rules y) y begun refl in
-      let same = head-more rules y (b ∷ []) long in
-      let still = taken_by-more first second rules (head_of rules y) y (b ∷ []) long in
-      let now = taken-is first second rules (head_of rules y) more starts same in
-      omega arith)
-      (cases_lt (length y) rules.header_len)
+      let same = taken-long all z begun long in
+      let e : length all < bytes_taken first second rules all = omega arith in e)
+      (cases_lt (length all) rules.header_len))
+
+  pub front-undecided : (x : List ℕ) (n : ℕ) → begins first second x ≡ true → n ≤ length x
+      → n < bytes_taken first second rules x → IsUndecided first second rules (take n x)
+  front-undecided x n starts within few =
+      let joined = take-append-drop n x in
+      let count = length-take-le n x within in
+      let same = ap (bytes_taken first second rules) joined in
+      fronts-are (take n x) (drop n x) (ap (begins first second) joined ∙ starts) (omega arith)
 
   -- ---- bytes that are taken together
 
@@ -288,50 +340,3 @@ module _ (first second : ℕ) (rules : Rules) (headed : IsHeaded rules)
       hunt-few first second rules x begun (omega arith))
       (cases_lt (length bytes) rules.header_len))
       (cases_lt (length x) 2)
-
-  -- ---- what becomes of bytes, where a header begins, of which the last has just come
-
-  module _ (framed : IsFramed rules) (x : List ℕ) (starts : begins first second x ≡ true)
-      (within : length x ≤ bytes_taken first second rules x) where
-    -- It waits while fewer are there than are taken; else they are all that are taken, and the
-    -- frame that is found is theirs.
-    abbrev pub Follows : Next → Type 0
-    Follows Waits = length x < bytes_taken first second rules x
-    Follows Loses = (bytes_taken first second rules x ≡ length x)
-        × ((start : ℕ) → found first second rules start x ≡ [])
-    Follows Ends = (bytes_taken first second rules x ≡ length x)
-        × ((start : ℕ) → found first second rules start x ≡ frame_at rules start x)
-
-    follows-good : head_of rules x ≡ Good → (left : ℕ) → left ≡ rules.size x - length x
-        → Follows (cond (nat_lt 0 left) Waits Ends)
-    follows-good is zero none =
-        let long = good-long rules x is in
-        let good = good-header rules x is in
-        let taken = taken-is first second rules Good x starts is in
-        let size = good-size x long good in
-        let n : ℕ = rules.size (header_in rules x) in
-        let all : bytes_taken first second rules x ≡ length x = omega arith in
-        (all, λ start. found-whole framed x starts all start)
-    follows-good is (suc left) some =
-        let taken = taken-is first second rules Good x starts is in
-        let size = good-size x (good-long rules x is) (good-header rules x is) in
-        let few : length x < bytes_taken first second rules x = omega arith in
-        let more : 0 < suc left = omega arith in
-        subst Follows (sym (cond-true _ Waits Ends (lt-ltb 0 (suc left) more))) few
-
-    follows-by : (head : Head) → head_of rules x ≡ head
-        → Follows (next_by head (left_of rules x))
-    follows-by Good is =
-        follows-good is (left_of rules x)
-        (ap (λ h. left_by h (rules.size x - length x)) is)
-    follows-by Short is =
-        let short = short-short rules x is in
-        let taken = taken-is first second rules Short x starts is in
-        omega arith
-    follows-by Bad is =
-        let long = bad-long rules x is in
-        let taken = taken-is first second rules Bad x starts is in
-        (omega arith, λ start. found-is first second rules Bad start x starts is)
-
-    pub follows : (next : Next) → next ≡ next_of rules x → Follows next
-    follows next is = subst Follows (sym is) (follows-by (head_of rules x) refl)

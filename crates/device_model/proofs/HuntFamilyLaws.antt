@@ -1,12 +1,12 @@
 -- The steps of a device that hunts anew after silence.
-use Rattle.device_model.proofs.HuntSteps.{timed-append, timed-byte, timed-silent}
-use Rattle.device_model.proofs.Hunts.{hunt-none}
+use Rattle.device_model.proofs.HuntSteps.{timed-append, timed-byte, timed-silent, nothing-held}
+use Rattle.device_model.proofs.{HuntSteps.nothing-goes, Hunts.hunt-none}
 use Rattle.device_model.proofs.Parting.{longer, grown_by, parted-nothing, parted-begins}
 use Rattle.device_model.proofs.Parting.{parted-goes_on, parted-rests, parted-waits, parted-ends}
 use Rattle.device_model.specs.{Frames.FrameRead, Hunt.Timed, Hunt.timed, Hunt.hunt}
 use Rattle.device_model.specs.HuntFamily.{hunt_bursts, hunt_family, timed_in, IsAnew, IsSince}
-use Rattle.device_model.specs.HuntFamily.{FamilyStandsFor}
-use Rattle.device_model.specs.HuntingDevice.{HasHeard, HuntStandsFor, nothing}
+use Rattle.device_model.specs.{HuntFamily.FamilyStandsFor, HuntLaws.IsHunted}
+use Rattle.device_model.specs.HuntingDevice.{HeardBy, HuntStandsFor, held_by}
 use Rattle.device_model.specs.{Parted.IsParted, declared.hunting_family.HuntingFamily.HuntingFamily}
 use Rattle.line_rules.specs.{Rules.Rules, declared.line_rules.LineRules.Ghosts as LineRules}
 use Rattle.std.proofs.Common.{◌≡◌, ◌∙◌, ℕ, zero, suc, ◌+◌, ◌<◌, ◌≤◌, ◌==◌, nat_lt, cond, true}
@@ -218,15 +218,14 @@ module _ {R : Type 0} (proto : LineRules R) (first second cut : ℕ) where
     count_is : (t : Tick) → new.device.ticks ≡ length (line ++ t ∷ [])
     count_is t = one_more ∙ (ap (λ n. n + 1) heard.count ∙ sym (longer line t))
 
-    abbrev HeardBy : HuntingFamily R → List Timed → Type 0
-    HeardBy value x = HasHeard proto first second value.device.rules value.device.bytes.items
-        value.device.start x
+    abbrev Heard : HuntingFamily R → List Timed → Type 0
+    Heard value x = HeardBy proto first second value.device x
 
     -- a byte
     module _ (b : ℕ) (answer : List FrameRead) (quiet : new.silence.quiet ≡ 0)
-        (takes : (x : List Timed) → HeardBy old x
-        → HeardBy new (x ++ byte_at old.device.ticks b ∷ []))
-        (gives : (x : List Timed) → HeardBy old x
+        (takes : (x : List Timed) → Heard old x
+        → Heard new (x ++ byte_at old.device.ticks b ∷ []))
+        (gives : (x : List Timed) → Heard old x
         → hunt first second its 0 (x ++ byte_at old.device.ticks b ∷ [])
         ≡ hunt first second its 0 x ++ answer) where
       abbrev grown : List Timed
@@ -249,7 +248,7 @@ module _ {R : Type 0} (proto : LineRules R) (first second cut : ℕ) where
             frames = heard.frames;
             since = grown;
             is = subst P (sym quiet) since-grown;
-            heard = subst (HeardBy new) grown-is (takes heard.since heard.heard);
+            heard = subst (Heard new) grown-is (takes heard.since heard.heard);
           }
 
       pub hears : Steps new line (Byte b) answer
@@ -277,7 +276,7 @@ module _ {R : Type 0} (proto : LineRules R) (first second cut : ℕ) where
 
       -- that parts nothing
       module _ (parts : old.silence.quiet + 1 == old.silence.cut ≡ false)
-          (keeps : HeardBy old heard.since → HeardBy new heard.since) where
+          (keeps : Heard old heard.since → Heard new heard.since) where
         since-on : IsSince first second its cut (waited cut old.silence.quiet)
             (line ++ Silent ∷ []) heard.frames heard.since
         since-on =
@@ -304,8 +303,9 @@ module _ {R : Type 0} (proto : LineRules R) (first second cut : ℕ) where
             }
 
       -- or after which the device has lost what it had taken
-      module _ (parts : old.silence.quiet + 1 == old.silence.cut ≡ true)
-          (empty : new.device.bytes.items ≡ []) (fresh : proto.stands new.device.rules []) where
+      module _ (hunted : IsHunted first second its)
+          (parts : old.silence.quiet + 1 == old.silence.cut ≡ true)
+          (empty : held_by new.device ≡ []) (left : new.device.left ≡ 0) where
         abbrev all_frames : List FrameRead
         all_frames = heard.frames ++ hunt first second its 0 heard.since
 
@@ -324,19 +324,6 @@ module _ {R : Type 0} (proto : LineRules R) (first second cut : ℕ) where
             since-parts first second its cut old.silence.quiet line heard.frames heard.since last
             heard.is
 
-        nothing-held : HeardBy new []
-        nothing-held = record {
-          held = [];
-          goes_on = record {
-            goes = λ z. ap (λ y. y ++ hunt first second its 0 z)
-                (sym (hunt-none first second its 0));
-            undecided = nothing;
-          };
-          bytes_are = empty;
-          stands = subst (proto.stands new.device.rules) (sym empty) fresh;
-          starts = tt;
-        }
-
         pub loses : Steps new line Silent []
         loses =
             let P : ℕ → Type 0 = λ q. IsSince first second its cut q (line ++ Silent ∷ [])
@@ -348,7 +335,8 @@ module _ {R : Type 0} (proto : LineRules R) (first second cut : ℕ) where
                 frames = all_frames;
                 since = [];
                 is = subst P (sym parted-quiet) since-anew;
-                heard = nothing-held;
+                heard = nothing-held proto first second hunted new.device []
+                    (nothing-goes proto first second hunted) empty left;
               };
               is = still cut all_frames [] since-anew
                   (sym (append-nil all_frames)

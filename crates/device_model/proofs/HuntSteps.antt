@@ -1,21 +1,21 @@
 -- The steps of a device that hunts, over the values that it has before and after.
-use Rattle.device_model.proofs.HuntCases.{quiet, undecided-room, undecided-grown, follows}
-use Rattle.device_model.proofs.{HuntCases.taken-header, Hunts.timed_bytes-append}
-use Rattle.device_model.proofs.Hunts.{timed_bytes-length, begins-more, begins-two, begins-other}
-use Rattle.device_model.proofs.Hunts.{begins-before, hunt-none, hunt-no_start, hunt-whole, taken-is}
-use Rattle.device_model.specs.Frames.{FrameRead}
-use Rattle.device_model.specs.Hunt.{Timed, timed, timed_bytes, begins, bytes_taken, found, hunt}
-use Rattle.device_model.specs.{HuntLaws.IsHunted, HuntingDevice.IsUndecided, HuntingDevice.nothing}
-use Rattle.device_model.specs.HuntingDevice.{first_byte, header_begun, GoesOn, StartsAt, HasHeard}
-use Rattle.device_model.specs.HuntingDevice.{TakesByte, next_by, next_of, HuntStandsFor, frame_at}
-use Rattle.device_model.specs.declared.hunting.{HuntingDevice.HuntingDevice, Next.Next}
-use Rattle.device_model.specs.declared.hunting.Next.TheVariants.{Waits, Loses, Ends}
-use Rattle.line_rules.specs.Rules.{Rules, head_of, left_of}
-use Rattle.line_rules.specs.declared.{head.Head.Head, line_rules.LineRules.Ghosts as LineRules}
-use Rattle.std.proofs.Common.{◌≡◌, ◌∙◌, ℕ, zero, suc, ◌+◌, ◌<◌, ◌≤◌, true, false, ◌==◌, List, []}
-use Rattle.std.proofs.Common.{◌∷◌, ◌++◌, length, refl, sym, ap, subst, arith, length-append}
-use Rattle.std.proofs.{Common.append_assoc, lemmas.Bool.ne_eqb}
-use Rattle.std.proofs.lemmas.{Bool.eq-eqb, Bool.and_from, List.append-nil, List.length-replicate}
+use Rattle.device_model.proofs.HuntCases.{quiet, undecided-room, taken-short}
+use Rattle.device_model.proofs.Hunts.{timed_bytes-length, begins-two, begins-other, begins-before}
+use Rattle.device_model.{proofs.Hunts.hunt-none, proofs.Hunts.hunt-no_start, specs.Frames.FrameRead}
+use Rattle.device_model.specs.Hunt.{Timed, timed, timed_bytes, header_in, begins, bytes_taken, hunt}
+use Rattle.device_model.specs.HuntLaws.{IsHunted}
+use Rattle.device_model.specs.HuntingDevice.{IsUndecided, nothing, first_byte, header_begun, GoesOn}
+use Rattle.device_model.specs.HuntingDevice.{StartsAt, HasHeard, HeardBy, TakesRun, HuntStandsFor}
+use Rattle.device_model.specs.HuntingDevice.{bytes_lacking, held_by, HasRoom}
+use Rattle.device_model.specs.declared.hunting.HuntingDevice.{HuntingDevice}
+use Rattle.line_rules.specs.Rules.{Rules, fills_room}
+use Rattle.line_rules.specs.declared.line_rules.LineRules.{Ghosts as LineRules}
+use Rattle.std.proofs.Common.{◌≡◌, ◌∙◌, ℕ, zero, suc, ◌+◌, ◌-◌, ◌<◌, ◌≤◌, true, false, ◌==◌, List}
+use Rattle.std.proofs.Common.{[], ◌∷◌, ◌++◌, length, take, refl, sym, ap, subst, arith, ⊎_elim}
+use Rattle.std.proofs.{Common.length-append, Common.append_assoc, Common.drop, Math.Seq.take-add}
+use Rattle.std.proofs.lemmas.Bool.{ne_eqb, eq-eqb, and_from, cond-true, cond-false, cases_lt}
+use Rattle.std.proofs.lemmas.{Bool.false≢true, List.append-nil}
+use Rattle.std.proofs.lemmas.List.{length-replicate, length-drop, take_all, take-append-drop}
 use Rattle.yasir_ticks.specs.Ticks.{silent}
 use Rattle.yasir_ticks.specs.declared.tick.Tick.{Tick, TheVariants.Silent, TheVariants.Byte}
 
@@ -51,6 +51,15 @@ timed-silences line n =
     let at : 0 + length line ≡ length line = omega arith in
     timed-append 0 (length line) line (silent n) at
     ∙ (ap (λ y. timed 0 line ++ y) (silent-timed (length line) n) ∙ append-nil (timed 0 line))
+
+-- a device that lends nothing holds its bytes
+pub items-held : {R : Type 0} → (value : HuntingDevice R) → value.lends ≡ false
+    → held_by value ≡ value.bytes.items
+items-held value lends = cond-false _ _ _ lends
+
+pub empty-held : {R : Type 0} → (value : HuntingDevice R) → value.lends ≡ false
+    → value.bytes.items ≡ [] → held_by value ≡ []
+empty-held value lends empty = items-held value lends ∙ empty
 
 module _ {R : Type 0} (proto : LineRules R) (first second : ℕ)
     (hunted : IsHunted first second proto.rules) where
@@ -92,22 +101,54 @@ module _ {R : Type 0} (proto : LineRules R) (first second : ℕ)
 
   -- ---- room
 
-  pub undecided-open : (rules : R) (x : List ℕ) → proto.stands rules x → Undecided x
-      → proto.is_full rules ≡ false
-  undecided-open rules x stands undecided =
+  -- bytes that are undecided have room for one more
+  pub undecided-open : (x : List ℕ) → Undecided x → fills_room its x ≡ false
+  undecided-open x undecided =
       let room = undecided-room first second its proto.headed hunted proto.lawful x undecided in
-      proto.fullness rules x stands
-      ∙ ne_eqb (length x) (its.room x) (λ all. omega arith)
+      ne_eqb (length x) (its.room x) (λ all. omega arith)
 
-  pub undecided-short : (rules : R) (x : List ℕ) → proto.stands rules x → Undecided x
-      → length x < 292
-  undecided-short rules x stands undecided =
-      let room = undecided-room first second its proto.headed hunted proto.lawful x undecided in
-      let bound = proto.lawful.bounded x (proto.bytes rules x stands) in
-      let readable = hunted.readable in
-      omega arith
+  -- The rules take all of these bytes where there is room for each.
+  pub takes-all : (rules : R) (x y : List ℕ) (n : ℕ)
+      → ((k : ℕ) → k < length y → fills_room its (x ++ take k y) ≡ false)
+      → proto.stands rules (x ++ take n y) → (n < length y → proto.is_full rules ≡ true)
+      → proto.stands rules (x ++ y)
+  takes-all rules x y n room stands full =
+      ⊎_elim
+      (λ short. absurd (false≢true (sym (room n short)
+      ∙ (sym (proto.fullness rules (x ++ take n y) stands) ∙ full short))))
+      (λ all. subst (λ z. proto.stands rules (x ++ z)) (take_all n y all) stands)
+      (cases_lt n (length y))
 
-  -- ---- a byte is kept
+  -- all of them, from the first one on
+  pub takes-whole : (rules : R) (items given : List ℕ) (n : ℕ) → given ≡ items → HasRoom its items
+      → proto.stands rules (take n given) → (n < length given → proto.is_full rules ≡ true)
+      → proto.stands rules items
+  takes-whole rules items given n is room stands full =
+      let count = ap length is in
+      subst (proto.stands rules) is
+      (takes-all rules [] given n
+      (λ k below. ap (λ u. fills_room its (take k u)) is ∙ room k (omega arith)) stands full)
+
+  -- and those behind a header that they have taken
+  pub takes-rest : (rules : R) (items given : List ℕ) (header n : ℕ) → header ≡ its.header_len
+      → header ≤ length items → given ≡ drop header items → HasRoom its items
+      → proto.stands rules (header_in its items ++ take n given)
+      → (n < length given → proto.is_full rules ≡ true) → proto.stands rules items
+  takes-rest rules items given header n size within is room stands full =
+      let m : ℕ = its.header_len in
+      let rest : given ≡ drop m items = is ∙ ap (λ k. drop k items) size in
+      let count = ap length rest in
+      let long = length-drop m items in
+      subst (proto.stands rules)
+      (ap (λ u. take m items ++ u) rest ∙ take-append-drop m items)
+      (takes-all rules (take m items) given n
+      (λ k below.
+      ap (fills_room its)
+      (ap (λ u. take m items ++ take k u) rest ∙ sym (take-add m k items))
+      ∙ room (m + k) (omega arith))
+      stands full)
+
+  -- ---- what is held
 
   pub starts-more : (start : ℕ) (held ts : List Timed) → 0 < length held
       → StartsAt start held → StartsAt start (held ++ ts)
@@ -115,237 +156,97 @@ module _ {R : Type 0} (proto : LineRules R) (first second : ℕ)
   starts-more start (u ∷ held) ts some starts = starts
 
   abbrev Heard : HuntingDevice R → List Timed → Type 0
-  Heard value x = HasHeard proto first second value.rules value.bytes.items value.start x
+  Heard value x = HeardBy proto first second value x
 
-  module _ (old mid : HuntingDevice R) (t : Timed)
-      (bytes : length old.bytes.items < 292
-      → mid.bytes.items ≡ old.bytes.items ++ t.byte ∷ [])
-      (rules : proto.is_full old.rules ≡ false → (x : List ℕ) → proto.stands old.rules x
-      → proto.stands mid.rules (x ++ t.byte ∷ []))
-      (x : List Timed) (heard : Heard old x) where
-    was : Undecided old.bytes.items
-    was = subst Undecided (sym heard.bytes_are) heard.goes_on.undecided
+  -- a device that holds the same has heard the same
+  pub same-heard : (old new : HuntingDevice R) (x : List Timed) → new.rules ≡ old.rules
+      → held_by new ≡ held_by old → new.left ≡ old.left → new.start ≡ old.start
+      → Heard old x → Heard new x
+  same-heard old new x rules bytes left start heard =
+      subst (λ r. HasHeard proto first second r (held_by new) new.left new.start x) (sym rules)
+      (subst (λ b. HasHeard proto first second old.rules b new.left new.start x) (sym bytes)
+      (subst (λ n. HasHeard proto first second old.rules (held_by old) n new.start x) (sym left)
+      (subst (λ s. HasHeard proto first second old.rules (held_by old) old.left s x) (sym start)
+      heard)))
 
-    pub kept-items : mid.bytes.items ≡ old.bytes.items ++ t.byte ∷ []
-    kept-items = bytes (undecided-short old.rules old.bytes.items heard.stands was)
+  -- nothing is held, whatever the rules have taken
+  pub nothing-held : (value : HuntingDevice R) (x : List Timed) → GoesOn first second its x []
+      → held_by value ≡ [] → value.left ≡ 0 → Heard value x
+  nothing-held value x goes empty left =
+      let none = ap length empty in
+      let within = hunted.start_within in
+      record {
+        held = [];
+        goes_on = goes;
+        bytes_are = empty;
+        lacks = left ∙ sym (ap (bytes_lacking first second its) empty);
+        stands = λ long. absurd (omega arith);
+        starts = tt;
+      }
 
-    pub kept-bytes : mid.bytes.items ≡ timed_bytes (heard.held ++ t ∷ [])
-    kept-bytes =
-        kept-items
-        ∙ (ap (λ y. y ++ t.byte ∷ []) heard.bytes_are
-        ∙ sym (timed_bytes-append heard.held (t ∷ [])))
+  -- ---- where no header has begun
 
-    pub kept-stands : proto.stands mid.rules mid.bytes.items
-    kept-stands = subst (proto.stands mid.rules) (sym kept-items)
-        (rules (undecided-open old.rules old.bytes.items heard.stands was) old.bytes.items
-        heard.stands)
+  unbegun-few : (y : List ℕ) → Undecided y → bytes_lacking first second its y ≡ 0 → length y < 2
+  unbegun-few y nothing none = omega arith
+  unbegun-few y first_byte none = omega arith
+  unbegun-few y (header_begun z starts few) none =
+      let is : bytes_lacking first second its z ≡ bytes_taken first second its z - length z =
+      cond-true _ _ _ starts in
+      absurd (omega arith)
 
-    abbrev more : List Timed
-    more = heard.held ++ t ∷ []
+  pub held-few : (old : HuntingDevice R) (x : List Timed) → Heard old x → old.left ≡ 0
+      → length (held_by old) < 2
+  held-few old x heard left =
+      unbegun-few (held_by old) (subst Undecided (sym heard.bytes_are) heard.goes_on.undecided)
+      (sym heard.lacks ∙ left)
 
-    kept-starts : mid.start ≡ old.start → 0 < length old.bytes.items → StartsAt mid.start more
-    kept-starts start some =
-        let count = timed_bytes-length heard.held in
-        let same = ap length heard.bytes_are in
-        let before : 0 < length heard.held = omega arith in
-        subst (λ s. StartsAt s more) (sym start)
-        (starts-more old.start heard.held (t ∷ []) before heard.starts)
+  one-held : (y : List ℕ) → Undecided y → length y ≡ 1 → y ≡ first ∷ []
+  one-held y nothing one = cc
+  one-held y first_byte one = refl
+  one-held y (header_begun z starts few) one =
+      let two = begins-two first second z starts in absurd (omega arith)
 
-    -- it is held with the others
-    module _ (start : mid.start ≡ old.start) (some : 0 < length old.bytes.items)
-        (undecided : Undecided (timed_bytes more)) where
-      steps-on : (z : List Timed) → hunts (heard.held ++ t ∷ z) ≡ [] ++ hunts (more ++ z)
-      steps-on z = ap hunts (sym (append_assoc heard.held (t ∷ []) z))
+  pub held-first : (old : HuntingDevice R) (x : List Timed) → Heard old x
+      → length (held_by old) ≡ 1 → held_by old ≡ first ∷ []
+  held-first old x heard one =
+      one-held (held_by old) (subst Undecided (sym heard.bytes_are) heard.goes_on.undecided) one
 
-      pub keeps-hears : Heard mid (x ++ t ∷ [])
-      keeps-hears =
-          record {
-            held = more;
-            goes_on = goes-after x heard.held more (t ∷ []) [] heard.goes_on undecided steps-on;
-            bytes_are = kept-bytes;
-            stands = kept-stands;
-            starts = kept-starts start some;
-          }
+  pub two-begins : begins first second (first ∷ second ∷ []) ≡ true
+  two-begins =
+      and_from (first == first) (second == second) (eq-eqb first first refl)
+      (eq-eqb second second refl)
 
-      pub keeps-reads : hunts (x ++ t ∷ []) ≡ hunts x ++ []
-      keeps-reads = reads-after x heard.held more (t ∷ []) [] heard.goes_on undecided steps-on
+  pub two-taken : bytes_taken first second its (first ∷ second ∷ []) ≡ its.header_len
+  two-taken =
+      let within = hunted.start_within in
+      taken-short first second its proto.headed hunted (first ∷ second ∷ []) two-begins
+      (omega arith)
 
-    -- ---- a byte where a header begins
+  pub two-undecided : Undecided (first ∷ second ∷ [])
+  two-undecided =
+      let taken = two-taken in
+      let within = hunted.start_within in
+      header_begun (first ∷ second ∷ []) two-begins (omega arith)
 
-    module _ (two : 2 ≤ length old.bytes.items) (start : mid.start ≡ old.start) where
-      begun-by : (y : List ℕ) → Undecided y → 2 ≤ length y → begins first second y ≡ true
-      begun-by y nothing long = absurd (omega arith)
-      begun-by y first_byte long = absurd (omega arith)
-      begun-by y (header_begun z starts few) long = starts
-
-      held-begins : begins first second (timed_bytes more) ≡ true
-      held-begins =
-          ap (begins first second) (sym kept-bytes ∙ kept-items)
-          ∙ begins-more first second old.bytes.items (t.byte ∷ [])
-          (begun-by old.bytes.items was two)
-
-      held-within : length (timed_bytes more) ≤ bytes_taken first second its (timed_bytes more)
-      held-within =
-          let P : List ℕ → Type 0 = λ y. length y ≤ bytes_taken first second its y in
-          let begun : begins first second (old.bytes.items ++ t.byte ∷ []) ≡ true =
-          begins-more first second old.bytes.items (t.byte ∷ [])
-          (begun-by old.bytes.items was two) in
-          subst P (sym kept-items ∙ kept-bytes)
-          (undecided-grown first second its proto.headed hunted old.bytes.items t.byte was begun)
-
-      some-held : 0 < length old.bytes.items
-      some-held = omega arith
-
-      module _ (head : Head) (left : ℕ)
-          (heads : (y : List ℕ) → proto.stands mid.rules y → head ≡ head_of its y)
-          (lefts : (y : List ℕ) → proto.stands mid.rules y → left ≡ left_of its y)
-          (next : Next) (is : next ≡ next_by head left) where
-        told : next ≡ next_of its (timed_bytes more)
-        told =
-            let y : List ℕ = mid.bytes.items in
-            is
-            ∙ (ap (λ h. next_by h left) (heads y kept-stands)
-            ∙ (ap (λ n. next_by (head_of its y) n) (lefts y kept-stands)
-            ∙ ap (next_of its) kept-bytes))
-
-        waits-undecided : next ≡ Waits → Undecided (timed_bytes more)
-        waits-undecided waits =
-            header_begun (timed_bytes more) held-begins
-            (follows first second its proto.headed hunted proto.framed (timed_bytes more)
-            held-begins held-within Waits (sym waits ∙ told))
-
-        pub waits-hears : next ≡ Waits → Heard mid (x ++ t ∷ [])
-        waits-hears waits = keeps-hears start some-held (waits-undecided waits)
-
-        pub waits-reads : next ≡ Waits → hunts (x ++ t ∷ []) ≡ hunts x ++ []
-        waits-reads waits = keeps-reads start some-held (waits-undecided waits)
-
-        -- all that are held are taken, and these frames are found
-        module _ (frames : List FrameRead)
-            (whole : bytes_taken first second its (timed_bytes more) ≡ length (timed_bytes more))
-            (gives : found first second its mid.start (timed_bytes more) ≡ frames) where
-          whole-steps : (held : List Timed) (z : List Timed)
-              → begins first second (timed_bytes held) ≡ true
-              → bytes_taken first second its (timed_bytes held) ≡ length (timed_bytes held)
-              → StartsAt mid.start held
-              → found first second its mid.start (timed_bytes held) ≡ frames
-              → hunts (held ++ z) ≡ frames ++ hunts z
-          whole-steps [] z starts all at finds = cc
-          whole-steps (u ∷ held) z starts all at finds =
-              let count = timed_bytes-length (u ∷ held) in
-              hunt-whole first second its u held z starts (all ∙ count)
-              ∙ ap (λ f. f ++ hunts z)
-              (ap (λ n. found first second its n (timed_bytes (u ∷ held))) (sym at) ∙ finds)
-
-          steps-off : (z : List Timed) → hunts (heard.held ++ t ∷ z) ≡ frames ++ hunts ([] ++ z)
-          steps-off z =
-              ap hunts (sym (append_assoc heard.held (t ∷ []) z))
-              ∙ whole-steps more z held-begins whole
-              (kept-starts start some-held) gives
-
-          drops-hears : (rest : HuntingDevice R) → rest.bytes.items ≡ []
-              → proto.stands rest.rules [] → Heard rest (x ++ t ∷ [])
-          drops-hears rest empty fresh = record {
-            held = [];
-            goes_on = goes-after x heard.held [] (t ∷ []) frames heard.goes_on nothing steps-off;
-            bytes_are = empty;
-            stands = subst (proto.stands rest.rules) (sym empty) fresh;
-            starts = tt;
-          }
-
-          drops-reads : hunts (x ++ t ∷ []) ≡ hunts x ++ frames
-          drops-reads =
-              reads-after x heard.held [] (t ∷ []) frames heard.goes_on nothing steps-off
-
-        module _ (loses : next ≡ Loses) where
-          lost : (bytes_taken first second its (timed_bytes more) ≡ length (timed_bytes more))
-              × ((s : ℕ) → found first second its s (timed_bytes more) ≡ [])
-          lost = follows first second its proto.headed hunted proto.framed (timed_bytes more)
-              held-begins held-within Loses (sym loses ∙ told)
-
-          pub loses-hears : (rest : HuntingDevice R) → rest.bytes.items ≡ []
-              → proto.stands rest.rules [] → Heard rest (x ++ t ∷ [])
-          loses-hears rest empty fresh = drops-hears [] lost.0 (lost.1 mid.start) rest empty fresh
-
-          pub loses-reads : hunts (x ++ t ∷ []) ≡ hunts x ++ []
-          loses-reads = drops-reads [] lost.0 (lost.1 mid.start)
-
-        module _ (ends : next ≡ Ends) where
-          ended : (bytes_taken first second its (timed_bytes more) ≡ length (timed_bytes more))
-              × ((s : ℕ) → found first second its s (timed_bytes more)
-              ≡ frame_at its s (timed_bytes more))
-          ended = follows first second its proto.headed hunted proto.framed (timed_bytes more)
-              held-begins held-within Ends (sym ends ∙ told)
-
-          pub ends-hears : (rest : HuntingDevice R) → rest.bytes.items ≡ []
-              → proto.stands rest.rules [] → Heard rest (x ++ t ∷ [])
-          ends-hears rest empty fresh =
-              drops-hears (frame_at its mid.start (timed_bytes more)) ended.0 (ended.1 mid.start)
-              rest empty fresh
-
-          pub ends-reads : (answer : List FrameRead)
-              → (proto.stands mid.rules mid.bytes.items
-              → answer ≡ frame_at its mid.start mid.bytes.items)
-              → hunts (x ++ t ∷ []) ≡ hunts x ++ answer
-          ends-reads answer gives =
-              drops-reads (frame_at its mid.start (timed_bytes more)) ended.0 (ended.1 mid.start)
-              ∙ ap (λ f. hunts x ++ f)
-              (ap (frame_at its mid.start) (sym kept-bytes) ∙ sym (gives kept-stands))
-
-    -- ---- a byte where none begins yet
-
-    one-held : (y : List ℕ) → Undecided y → length y ≡ 1 → y ≡ first ∷ []
-    one-held y nothing one = cc
-    one-held y first_byte one = refl
-    one-held y (header_begun z starts few) one =
-        let two = begins-two first second z starts in absurd (omega arith)
-
-    two-undecided : Undecided (first ∷ second ∷ [])
-    two-undecided =
-        let two : List ℕ = first ∷ second ∷ [] in
-        let starts : begins first second two ≡ true =
-        and_from (first == first) (second == second) (eq-eqb first first refl)
-        (eq-eqb second second refl) in
-        let taken = taken-is first second its (head_of its two) two starts refl in
-        let least = taken-header first second its proto.headed hunted (head_of its two) two refl in
-        let within = hunted.start_within in
-        header_begun two starts (omega arith)
-
-    -- the second byte after the first
-    module _ (start : mid.start ≡ old.start) (one : length old.bytes.items ≡ 1)
-        (second_comes : t.byte ≡ second) where
-      second-undecided : Undecided (timed_bytes more)
-      second-undecided =
-          let both : timed_bytes more ≡ first ∷ second ∷ [] =
-          sym kept-bytes ∙ (kept-items
-          ∙ (ap (λ y. y ++ t.byte ∷ []) (one-held old.bytes.items was one)
-          ∙ ap (λ b. first ∷ b ∷ []) second_comes)) in
-          subst Undecided (sym both) two-undecided
-
-      one-some : 0 < length old.bytes.items
-      one-some = omega arith
-
-      pub second-hears : Heard mid (x ++ t ∷ [])
-      second-hears = keeps-hears start one-some second-undecided
-
-      pub second-reads : hunts (x ++ t ∷ []) ≡ hunts x ++ []
-      second-reads = keeps-reads start one-some second-undecided
+  pub two-lack : bytes_lacking first second its (first ∷ second ∷ []) ≡ its.header_len - 2
+  two-lack = cond-true _ _ _ two-begins ∙ ap (λ n. n - 2) two-taken
 
   -- ---- what is held goes, and the byte may be a first one
 
   module _ (old : HuntingDevice R) (t : Timed) (x : List Timed) (heard : Heard old x)
-      (few : length old.bytes.items < 2)
-      (other : length old.bytes.items ≡ 1 → t.byte ≡ second → ⊥) where
-    forgets : (held : List Timed) → old.bytes.items ≡ timed_bytes held → (z : List Timed)
+      (unbegun : old.left ≡ 0)
+      (other : length (held_by old) ≡ 1 → t.byte ≡ second → ⊥) where
+    forgets : (held : List Timed) → held_by old ≡ timed_bytes held → (z : List Timed)
         → hunts (held ++ t ∷ z) ≡ hunts (t ∷ z)
     forgets [] is z = refl
     forgets (s ∷ []) is z =
-        let one : length old.bytes.items ≡ 1 = ap length is in
+        let one : length (held_by old) ≡ 1 = ap length is in
         hunt-no_start first second its s (t ∷ z)
         (begins-before first second s.byte t.byte (timed_bytes z) (λ same. other one same))
     forgets (s ∷ u ∷ held) is z =
         let count = ap length is in
         let long = timed_bytes-length (s ∷ u ∷ held) in
+        let few = held-few old x heard unbegun in
         absurd (omega arith)
 
     -- it isn't
@@ -356,15 +257,11 @@ module _ {R : Type 0} (proto : LineRules R) (first second : ℕ)
           ∙ hunt-no_start first second its t z
           (begins-other first second t.byte (timed_bytes z) not_first)
 
-      pub passes-hears : (rest : HuntingDevice R) → rest.bytes.items ≡ []
-          → proto.stands rest.rules [] → Heard rest (x ++ t ∷ [])
-      passes-hears rest empty fresh = record {
-        held = [];
-        goes_on = goes-after x heard.held [] (t ∷ []) [] heard.goes_on nothing steps-out;
-        bytes_are = empty;
-        stands = subst (proto.stands rest.rules) (sym empty) fresh;
-        starts = tt;
-      }
+      pub passes-hears : (rest : HuntingDevice R) → held_by rest ≡ [] → rest.left ≡ 0
+          → Heard rest (x ++ t ∷ [])
+      passes-hears rest empty left =
+          nothing-held rest (x ++ t ∷ [])
+          (goes-after x heard.held [] (t ∷ []) [] heard.goes_on nothing steps-out) empty left
 
       pub passes-reads : hunts (x ++ t ∷ []) ≡ hunts x ++ []
       passes-reads = reads-after x heard.held [] (t ∷ []) [] heard.goes_on nothing steps-out
@@ -377,25 +274,18 @@ module _ {R : Type 0} (proto : LineRules R) (first second : ℕ)
       steps-in : (z : List Timed) → hunts (heard.held ++ t ∷ z) ≡ [] ++ hunts (t ∷ [] ++ z)
       steps-in z = forgets heard.held heard.bytes_are z
 
-      -- nothing was held before the byte is kept
-      pub begins-hears : (before rest : HuntingDevice R) → before.bytes.items ≡ []
-          → proto.stands before.rules []
-          → (length before.bytes.items < 292
-          → rest.bytes.items ≡ before.bytes.items ++ t.byte ∷ [])
-          → (proto.is_full before.rules ≡ false → (y : List ℕ) → proto.stands before.rules y
-          → proto.stands rest.rules (y ++ t.byte ∷ []))
+      pub begins-hears : (rest : HuntingDevice R) → held_by rest ≡ t.byte ∷ [] → rest.left ≡ 0
           → rest.start ≡ t.tick → Heard rest (x ++ t ∷ [])
-      begins-hears before rest empty fresh bytes rules at =
-          let none = ap length empty in
-          let is : rest.bytes.items ≡ t.byte ∷ [] =
-          bytes (omega arith) ∙ ap (λ y. y ++ t.byte ∷ []) empty in
+      begins-hears rest is left at =
+          let one = ap length is in
+          let within = hunted.start_within in
           record {
             held = t ∷ [];
             goes_on = goes-after x heard.held (t ∷ [])
                 (t ∷ []) [] heard.goes_on one-undecided steps-in;
             bytes_are = is;
-            stands = subst (proto.stands rest.rules) (sym is)
-                (rules (undecided-open before.rules [] fresh nothing) [] fresh);
+            lacks = left ∙ sym (ap (bytes_lacking first second its) is);
+            stands = λ long. absurd (omega arith);
             starts = at;
           }
 
@@ -405,21 +295,17 @@ module _ {R : Type 0} (proto : LineRules R) (first second : ℕ)
 
   -- ---- a line
 
-  pub heard-nothing : (value : HuntingDevice R) → value.bytes.items ≡ []
-      → proto.stands value.rules [] → value.ticks ≡ 0
-      → HuntStandsFor proto first second value []
-  heard-nothing value empty fresh count = record {
+  pub nothing-goes : GoesOn first second its [] []
+  nothing-goes = record {
+    goes = λ z. ap (λ y. y ++ hunts z) (sym (hunt-none first second its 0));
+    undecided = nothing;
+  }
+
+  pub heard-nothing : (value : HuntingDevice R) → held_by value ≡ [] → value.left ≡ 0
+      → value.ticks ≡ 0 → HuntStandsFor proto first second value []
+  heard-nothing value empty left count = record {
     count = count;
-    heard = record {
-      held = [];
-      goes_on = record {
-        goes = λ z. ap (λ y. y ++ hunts z) (sym (hunt-none first second its 0));
-        undecided = nothing;
-      };
-      bytes_are = empty;
-      stands = subst (proto.stands value.rules) (sym empty) fresh;
-      starts = tt;
-    };
+    heard = nothing-held value [] nothing-goes empty left;
   }
 
   abbrev Stands : HuntingDevice R → List Tick → Type 0
@@ -464,8 +350,7 @@ module _ {R : Type 0} (proto : LineRules R) (first second : ℕ)
 
   module _ (old new : HuntingDevice R) (t : Tick) (b : ℕ) (is : t ≡ Byte b)
       (frames : List FrameRead)
-      (takes : TakesByte proto first second (counted old) new
-      (record { tick = old.ticks; byte = b }) frames)
+      (takes : TakesRun proto first second (counted old) new old.ticks (b ∷ []) frames)
       (line : List Tick) (heard : Stands old line) where
     pub byte-stands : Stands new (line ++ t ∷ [])
     byte-stands =

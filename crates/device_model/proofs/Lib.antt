@@ -7,6 +7,7 @@ pub mod Hunts
 pub mod HuntCases
 pub mod HuntSteps
 pub mod HuntRuns
+pub mod HuntFrames
 mod HuntRows
 mod DnpRows
 pub mod Parting

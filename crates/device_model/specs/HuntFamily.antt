@@ -10,7 +10,7 @@ use Rattle.dnp_link_frame.specs.Rules.{dnp_rules}
 use Rattle.device_model.specs.declared.hunting_family.HuntingFamily.{HuntingFamily}
 use Rattle.device_model.specs.Frames.{FrameRead}
 use Rattle.device_model.specs.Hunt.{Timed, timed, hunt, hunt_line, hunt_anew}
-use Rattle.device_model.specs.HuntingDevice.{HasHeard}
+use Rattle.device_model.specs.HuntingDevice.{HeardBy}
 use Rattle.device_model.specs.Parted.{IsParted}
 
 module _ (first second : ℕ) (rules : Rules) where
@@ -58,13 +58,12 @@ module _ {R : Type 0} (proto : LineRules R) (first second : ℕ) where
     pub frames : List FrameRead
     pub since : List Timed
     pub is : IsSince first second proto.rules cut value.silence.quiet line frames since
-    pub heard : HasHeard proto first second value.device.rules value.device.bytes.items
-        value.device.start since
+    pub heard : HeardBy proto first second value.device since
 
 -- how many ticks it has heard
 abbrev pub family_ticks : {R : Type 0} → HuntingFamily R → ℕ
 family_ticks value = value.device.ticks
 
--- the bytes of the frame that was read last
+-- the bytes that it holds or lends
 abbrev pub family_lent : {R : Type 0} → HuntingFamily R → List ℕ
-family_lent value = value.device.frame.items
+family_lent value = value.device.bytes.items

@@ -4,27 +4,18 @@ ghost use Rattle.std.specs.Prelude.{◌≡◌, ℕ, ◌<◌, ◌≤◌, length, 
 use crate::device::{Device, Met};
 use crate::hunted::Hunted;
 use arrayvec::ArrayVec;
-use line_rules::Head;
 use memchr::memchr;
 use yasir_ticks::Tick;
 
-// What becomes of the bytes that a device holds.
-#[derive(Clone, Copy)]
-enum Next {
-    // They aren't decided yet.
-    Waits,
-    // Their header isn't good.
-    Loses,
-    // They are as many as their header says.
-    Ends,
-}
+// How many bytes mark that a header begins.
+const MARK_LEN: u8 = 2;
 
 // What one step takes of some bytes.
 #[derive(Clone, Copy)]
 struct Part {
     taken: usize,
-    // as many bytes are held then as their header says
-    ends: bool,
+    // a frame is read with the last of them
+    reads: bool,
 }
 
 /// A device that hunts for frames by the rules `R`: it takes no notice of silence, looks for the
@@ -33,13 +24,15 @@ struct Part {
 #[derive(Drop)]
 pub struct HuntingDevice<R> {
     pub(crate) ticks: u64,
-    // the bytes of which nothing is decided yet, what they are by the rules, and the tick of the
-    // first of them
+    // the bytes of which nothing is decided yet, and the tick of the first of them; or those of the
+    // frame that was read last, which are lent until the next byte
     bytes: ArrayVec<u8, 292>,
-    rules: R,
     start: u64,
-    // the bytes of the frame that was read last
-    frame: ArrayVec<u8, 292>,
+    lends: bool,
+    // how many bytes are lacking of a header that has begun, or of the frame behind it; else 0
+    left: u16,
+    // the header by the rules, once it is whole: what follows they take when all of it is there
+    rules: R,
 }
 
 // How many of these bytes come before the first one that is `byte`.
@@ -59,236 +52,249 @@ fn bytes_before(byte: u8, bytes: &[u8]) -> usize
 }
 
 impl<R: Hunted> HuntingDevice<R> {
-    ghost use Rattle.std.specs.Prelude.{◌+◌, false, List, [], ◌∷◌, ◌++◌};
+    ghost use Rattle.std.specs.Prelude.{◌+◌, ◌-◌, false, List, [], ◌∷◌, ◌++◌, take};
+    ghost use Rattle.line_rules.specs.Rules.{left_of};
     ghost use Rattle.device_model.specs.Frames.{frames_lent};
-    ghost use Rattle.device_model.specs.Hunt.{Timed};
-    ghost use Rattle.std.specs.Prelude.{true, take};
-    ghost use Rattle.device_model.specs.HuntingDevice.{TakesByte, TakesRun, MeetsEnd, next_by};
-    ghost use Rattle.device_model.specs.HuntingDevice.{frame_at};
+    ghost use Rattle.device_model.specs.Hunt.{Timed, header_in};
+    ghost use Rattle.device_model.specs.HuntingDevice.{HeardBy, TakesRun, frames_told};
+    ghost use Rattle.device_model.specs.HuntingDevice.{HasRoom, LetsGo, GoesBehind};
 
-    // What the header says, and how many bytes the frame still lacks.
+    // How many bytes a header has behind the two that mark it.
     #[inline]
-    fn next(head: Head, left: u16) -> Next
-        ensures { result ≡ next_by head left }
+    fn behind_mark() -> u16
+        ensures { result ≡ R.HEADER_LEN - 2 }
     {
-        match head {
-            Head::Short => Next::Waits,
-            Head::Bad => Next::Loses,
-            Head::Good => if left > 0 { Next::Waits } else { Next::Ends },
-        }
+        u16::from(R::HEADER_LEN.saturating_sub(MARK_LEN))
     }
 
-    // Holds a further byte, for which there is room in each frame.
+    // Holds further bytes, for which there is room in each frame.
     #[inline]
-    fn keep(&mut self, byte: u8)
+    fn keep(&mut self, bytes: &[u8])
         ensures ticks { self.new.ticks ≡ self.old.ticks }
         ensures start { self.new.start ≡ self.old.start }
-        ensures bytes { length self.old.bytes.items < 292
-            → self.new.bytes.items ≡ self.old.bytes.items ++ byte ∷ [] }
-        ensures rules { R.is_full self.old.rules ≡ false
-            → (x : List ℕ) → R.stands self.old.rules x
-            → R.stands self.new.rules (x ++ byte ∷ []) }
-    {
-        if !self.bytes.is_full() {
-            self.bytes.push(byte);
-        }
-        if !self.rules.full() {
-            self.rules.take(byte);
-        }
-    }
-
-    // Holds further bytes, for which there is room in each frame, and says how many the rules took.
-    #[inline]
-    fn keep_some(&mut self, bytes: &[u8]) -> usize
-        ensures ticks { self.new.ticks ≡ self.old.ticks }
-        ensures start { self.new.start ≡ self.old.start }
+        ensures lends { self.new.lends ≡ self.old.lends }
+        ensures left { self.new.left ≡ self.old.left }
+        ensures rules { self.new.rules ≡ self.old.rules }
         ensures bytes { length self.old.bytes.items + length bytes.now ≤ 292
             → self.new.bytes.items ≡ self.old.bytes.items ++ bytes.now }
-        ensures within { result ≤ length bytes.now }
-        ensures rules { (x : List ℕ) → R.stands self.old.rules x
-            → R.stands self.new.rules (x ++ take result bytes.now) }
-        ensures full { result < length bytes.now → R.is_full self.new.rules ≡ true }
     {
         let _ = self.bytes.try_extend_from_slice(bytes);
-        self.rules.take_some(bytes)
     }
 
-    // Holds no bytes any more.
+    // Holds no bytes any more, and lends none.
     #[inline]
     pub(crate) fn lose(&mut self)
         ensures ticks { self.new.ticks ≡ self.old.ticks }
         ensures start { self.new.start ≡ self.old.start }
+        ensures rules { self.new.rules ≡ self.old.rules }
         ensures bytes { self.new.bytes.items ≡ [] }
-        ensures rules { R.stands self.new.rules [] }
-        ensures frame { self.new.frame ≡ self.old.frame }
+        ensures lends { self.new.lends ≡ false }
+        ensures left { self.new.left ≡ 0 }
     {
         self.bytes.clear();
-        self.rules.restart();
+        self.lends = false;
+        self.left = 0;
     }
 
-    // The end of the bytes that are held: where their first one stands, if they are a frame. Those
-    // of a frame are put aside, to be lent, since the hunt goes on without them.
+    // Lends a frame no longer.
     #[inline]
-    fn end(&mut self) -> Option<u64>
+    fn let_go(&mut self)
+        requires { self.old.left ≡ 0 }
         ensures ticks { self.new.ticks ≡ self.old.ticks }
-        ensures bytes { self.new.bytes.items ≡ [] }
-        ensures rules { R.stands self.new.rules [] }
-        ensures frame { R.stands self.old.rules self.old.bytes.items
-            → frames_lent result self.new.frame.items
-            ≡ frame_at R.rules self.old.start self.old.bytes.items }
+        ensures hears { (x : List Timed) → HeardBy R.LineRules R.FIRST R.SECOND self.old x
+            → HeardBy R.LineRules R.FIRST R.SECOND self.new x }
+        ensures lends { self.new.lends ≡ false }
+        ensures left { self.new.left ≡ 0 }
     {
+        if self.lends {
+            self.lose();
+        }
+    }
+
+    // All that was lacking is there: the rules take what follows the header. Whether the bytes are
+    // a frame, which is lent then; else they go.
+    #[inline]
+    fn end(&mut self) -> bool
+        ensures ticks { self.new.ticks ≡ self.old.ticks }
+        ensures goes { self.old.left ≡ 0 → R.rules.header_len ≤ length self.old.bytes.items
+            → R.stands self.old.rules (header_in R.rules self.old.bytes.items)
+            → HasRoom R.rules self.old.bytes.items
+            → LetsGo R.rules self.old.start self.old.bytes.items self.new result }
+    {
+        let header = usize::from(R::HEADER_LEN).min(self.bytes.len());
+        self.rules.take_some(&self.bytes.as_slice()[header..]);
         if !self.rules.good() {
             self.lose();
-            return None;
+            return false;
         }
-        self.frame.clear();
-        self.frame
-            .try_extend_from_slice(self.bytes.as_slice())
-            .unwrap();
-        self.lose();
-        Some(self.start)
+        self.lends = true;
+        true
+    }
+
+    // A header is whole: the rules take it, and say how many bytes follow. Whether none does and it
+    // is a frame by itself.
+    #[inline]
+    fn meet_header(&mut self) -> bool
+        ensures ticks { self.new.ticks ≡ self.old.ticks }
+        ensures behind { HasRoom R.rules self.old.bytes.items
+            → 0 < left_of R.rules self.old.bytes.items
+            → GoesBehind R.LineRules self.old self.new result }
+        ensures goes { HasRoom R.rules self.old.bytes.items
+            → length self.old.bytes.items ≡ R.rules.header_len
+            → left_of R.rules self.old.bytes.items ≡ 0
+            → LetsGo R.rules self.old.start self.old.bytes.items self.new result }
+    {
+        self.rules.restart();
+        self.rules.take_some(self.bytes.as_slice());
+        self.left = self.rules.left();
+        if self.left > 0 {
+            return false;
+        }
+        self.end()
+    }
+
+    // The first of these bytes where a header has begun: as many as are lacking of it, or of the
+    // frame behind it.
+    #[inline]
+    fn go_on(&mut self, rest: &[u8]) -> Part
+        requires { 0 < self.old.left }
+        ensures some { 0 < length rest.now → 0 < result.taken }
+        ensures within { result.taken ≤ length rest.now }
+        ensures takes { (at : ℕ) → TakesRun R.LineRules R.FIRST R.SECOND self.old self.new at
+            (take result.taken rest.now)
+            (frames_told result.reads self.new.start self.new.bytes.items) }
+    {
+        let taken = rest.len().min(usize::from(self.left));
+        self.keep(&rest[..taken]);
+        self.left -= taken as u16;
+        if self.left > 0 {
+            return Part {
+                taken,
+                reads: false,
+            };
+        }
+        if self.bytes.len() == usize::from(R::HEADER_LEN) {
+            let reads = self.meet_header();
+            return Part { taken, reads };
+        }
+        let reads = self.end();
+        Part { taken, reads }
+    }
+
+    // A header begins with the first two of these bytes.
+    #[inline]
+    fn begin_header(&mut self, at: u64, rest: &[u8]) -> Part
+        requires none { self.old.bytes.items ≡ [] }
+        requires lends { self.old.lends ≡ false }
+        requires two { 2 ≤ length rest.now }
+        requires first { slice_index rest.now 0 ≡ R.FIRST }
+        requires second { slice_index rest.now 1 ≡ R.SECOND }
+        ensures some { 0 < result.taken }
+        ensures within { result.taken ≤ length rest.now }
+        ensures takes { TakesRun R.LineRules R.FIRST R.SECOND self.old self.new at
+            (take result.taken rest.now)
+            (frames_told result.reads self.new.start self.new.bytes.items) }
+    {
+        let mark = usize::from(MARK_LEN);
+        self.start = at;
+        self.keep(&rest[..mark]);
+        self.left = Self::behind_mark();
+        let part = self.go_on(&rest[mark..]);
+        Part {
+            taken: mark + part.taken,
+            reads: part.reads,
+        }
     }
 
     // A byte that may be a header's first one; what is held before it goes.
     #[inline]
     fn begin(&mut self, at: u64, byte: u8)
-        requires few { length self.old.bytes.items < 2 }
+        requires lends { self.old.lends ≡ false }
+        requires left { self.old.left ≡ 0 }
         requires other { length self.old.bytes.items ≡ 1 → byte ≡ R.SECOND → ⊥ }
-        ensures { TakesByte R.LineRules R.FIRST R.SECOND self.old self.new
-            (record { tick = at; byte = byte }) [] }
+        ensures { TakesRun R.LineRules R.FIRST R.SECOND self.old self.new at (byte ∷ []) [] }
     {
         self.lose();
         if byte == R::FIRST {
             self.start = at;
-            self.keep(byte);
+            self.keep(&[byte]);
         }
     }
 
-    // A byte where no header begins yet.
+    // A byte where no header has begun yet.
     #[inline]
     fn look(&mut self, at: u64, byte: u8)
-        requires { length self.old.bytes.items < 2 }
-        ensures { TakesByte R.LineRules R.FIRST R.SECOND self.old self.new
-            (record { tick = at; byte = byte }) [] }
+        requires lends { self.old.lends ≡ false }
+        requires left { self.old.left ≡ 0 }
+        ensures { TakesRun R.LineRules R.FIRST R.SECOND self.old self.new at (byte ∷ []) [] }
     {
         if self.bytes.len() == 1 && byte == R::SECOND {
-            self.keep(byte);
+            self.keep(&[byte]);
+            self.left = Self::behind_mark();
         } else {
             self.begin(at, byte);
         }
     }
 
-    // A further byte where a header begins; whether then as many bytes are held as the header says.
+    // The first of these bytes where no header has begun yet: those where none begins, or what one
+    // that begins takes, or a single byte.
     #[inline]
-    fn meet(&mut self, byte: u8) -> bool
-        requires { 2 ≤ length self.old.bytes.items }
-        ensures takes { result ≡ false → (at : ℕ)
-            → TakesByte R.LineRules R.FIRST R.SECOND self.old self.new
-            (record { tick = at; byte = byte }) [] }
-        ensures ends { result ≡ true → MeetsEnd R.LineRules self.old self.new byte }
-    {
-        self.keep(byte);
-        match Self::next(self.rules.head(), self.rules.left()) {
-            Next::Waits => false,
-            Next::Loses => {
-                self.lose();
-                false
-            }
-            Next::Ends => true,
-        }
-    }
-
-    // A further byte where a header begins.
-    #[inline]
-    fn go_on(&mut self, byte: u8) -> Option<u64>
-        requires { 2 ≤ length self.old.bytes.items }
-        ensures { (at : ℕ) → TakesByte R.LineRules R.FIRST R.SECOND self.old self.new
-            (record { tick = at; byte = byte })
-            (frames_lent result self.new.frame.items) }
-    {
-        if self.meet(byte) {
-            return self.end();
-        }
-        None
-    }
-
-    // The first of these bytes where a header begins, as far as one step takes them: those of the
-    // header before its last, or of the frame before its last, or that one.
-    #[inline]
-    fn hear_begun(&mut self, rest: &[u8]) -> Part
+    fn seek(&mut self, at: u64, rest: &[u8]) -> Part
         requires some { 0 < length rest.now }
-        requires two { 2 ≤ length self.old.bytes.items }
+        requires lends { self.old.lends ≡ false }
+        requires left { self.old.left ≡ 0 }
         ensures some { 0 < result.taken }
         ensures within { result.taken ≤ length rest.now }
-        ensures takes { result.ends ≡ false → (at : ℕ)
-            → TakesRun R.LineRules R.FIRST R.SECOND self.old self.new at
-            (take result.taken rest.now) [] }
-        ensures one { result.ends ≡ true → result.taken ≡ 1 }
-        ensures ends { result.ends ≡ true
-            → MeetsEnd R.LineRules self.old self.new (slice_index rest.now 0) }
-    {
-        let header = usize::from(R::HEADER_LEN);
-        if self.bytes.len() + 1 < header {
-            let taken = rest.len().min(header - 1 - self.bytes.len());
-            self.keep_some(&rest[..taken]);
-            return Part { taken, ends: false };
-        }
-        let left = usize::from(self.rules.left());
-        if left > 1 {
-            let taken = rest.len().min(left - 1);
-            self.keep_some(&rest[..taken]);
-            return Part { taken, ends: false };
-        }
-        Part {
-            taken: 1,
-            ends: self.meet(rest[0]),
-        }
-    }
-
-    // The first of these bytes, as far as one step takes them: those where no header begins, one
-    // that may begin a header, or what a header that has begun takes.
-    #[inline]
-    fn hear_part(&mut self, at: u64, rest: &[u8]) -> Part
-        requires { 0 < length rest.now }
-        ensures some { 0 < result.taken }
-        ensures within { result.taken ≤ length rest.now }
-        ensures takes { result.ends ≡ false
-            → TakesRun R.LineRules R.FIRST R.SECOND self.old self.new at
-            (take result.taken rest.now) [] }
-        ensures one { result.ends ≡ true → result.taken ≡ 1 }
-        ensures ends { result.ends ≡ true
-            → MeetsEnd R.LineRules self.old self.new (slice_index rest.now 0) }
+        ensures takes { TakesRun R.LineRules R.FIRST R.SECOND self.old self.new at
+            (take result.taken rest.now)
+            (frames_told result.reads self.new.start self.new.bytes.items) }
     {
         if self.bytes.is_empty() {
             let passed = bytes_before(R::FIRST, rest);
             if passed > 0 {
                 return Part {
                     taken: passed,
-                    ends: false,
+                    reads: false,
                 };
             }
+            if rest.len() > 1 && rest[1] == R::SECOND {
+                return self.begin_header(at, rest);
+            }
         }
-        if self.bytes.len() < 2 {
-            self.look(at, rest[0]);
-            return Part {
-                taken: 1,
-                ends: false,
-            };
+        self.look(at, rest[0]);
+        Part {
+            taken: 1,
+            reads: false,
         }
-        self.hear_begun(rest)
+    }
+
+    // The first of these bytes, as far as one step takes them.
+    #[inline]
+    fn hear_part(&mut self, at: u64, rest: &[u8]) -> Part
+        requires { 0 < length rest.now }
+        ensures some { 0 < result.taken }
+        ensures within { result.taken ≤ length rest.now }
+        ensures takes { TakesRun R.LineRules R.FIRST R.SECOND self.old self.new at
+            (take result.taken rest.now)
+            (frames_told result.reads self.new.start self.new.bytes.items) }
+    {
+        if self.left > 0 {
+            return self.go_on(rest);
+        }
+        self.let_go();
+        self.seek(at, rest)
     }
 
     // The next byte of the line.
     #[inline]
     pub(crate) fn hear_byte(&mut self, at: u64, byte: u8) -> Option<u64>
-        ensures { TakesByte R.LineRules R.FIRST R.SECOND self.old self.new
-            (record { tick = at; byte = byte })
-            (frames_lent result self.new.frame.items) }
+        ensures { TakesRun R.LineRules R.FIRST R.SECOND self.old self.new at (byte ∷ [])
+            (frames_lent result self.new.bytes.items) }
     {
-        if self.bytes.len() >= 2 {
-            return self.go_on(byte);
+        let part = self.hear_part(at, &[byte]);
+        if part.reads {
+            return Some(self.start);
         }
-        self.look(at, byte);
         None
     }
 }
@@ -309,15 +315,16 @@ impl<R: Hunted> Device for HuntingDevice<R> {
         HuntingDevice {
             ticks: 0,
             bytes: ArrayVec::new(),
-            rules: R::fresh(),
             start: 0,
-            frame: ArrayVec::new(),
+            lends: false,
+            left: 0,
+            rules: R::fresh(),
         }
     }
 
     #[inline]
     fn frame_bytes(&self) -> &[u8] {
-        self.frame.as_slice()
+        self.bytes.as_slice()
     }
 
     #[inline]
@@ -337,14 +344,11 @@ impl<R: Hunted> Device for HuntingDevice<R> {
         while taken < bytes.len() {
             let part = self.hear_part(from + taken as u64, &bytes[taken..]);
             taken += part.taken;
-            if !part.ends {
-                continue;
-            }
-            if let Some(start) = self.end() {
+            if part.reads {
                 self.ticks = from + taken as u64;
                 return Met {
                     taken,
-                    start: Some(start),
+                    start: Some(self.start),
                 };
             }
         }

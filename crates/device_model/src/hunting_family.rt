@@ -73,7 +73,7 @@ impl<R: Hunted> HuntingFamily<R> {
         self.device.lose();
     }
 
-    /// The bytes of the frame that was read last.
+    /// The bytes of the frame that was read in the last tick taken.
     #[inline]
     pub fn frame_bytes(&self) -> &[u8]
         ensures bytes { result.now ≡ family_lent self.now }

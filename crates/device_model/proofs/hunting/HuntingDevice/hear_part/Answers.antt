@@ -1,25 +1,11 @@
-use Rattle.device_model.proofs.HuntRuns.{passes-run, first-run, none-of}
-use Rattle.std.proofs.Common.{◌∙◌, length, take, refl, sym, arith}
-use Rattle.std.proofs.lemmas.{Bool.eqb-true, List.get_or-take, List.length-take}
+use Rattle.device_model.proofs.HuntRuns.{after-letting}
 use Rattle.device_model.proofs.hunting.HuntingDevice.hear_part.Goals as goal
 
-pub returns-then-passed-gt0-clause-takes : goal.returns-then-passed-gt0-clause-takes
-returns-then-passed-gt0-clause-takes g c = λ on.
-    passes-run g.R.LineRules g.R.Hunted.FIRST g.R.Hunted.SECOND g.met.R.Hunted.hunted
-    c.args.self.now c.args.at (take c.bytes_before-passed.result c.args.rest.now)
-    (none-of c.args.self.now.bytes.items
-    (eqb-true (length c.args.self.now.bytes.items) 0 (sym c.if-is_empty.ensures)))
-    (λ k below is.
-    let count = length-take c.bytes_before-passed.result c.args.rest.now in
-    c.bytes_before-passed.ensures.other k (omega arith)
-    (sym (get_or-take c.bytes_before-passed.result c.args.rest.now k 0 (omega arith))
-    ∙ (is ∙ sym c.FIRST.ensures)))
-
-pub returns-then-len-lt2-clause-takes : goal.returns-then-len-lt2-clause-takes
-returns-then-len-lt2-clause-takes g c = λ on.
-    first-run g.R.LineRules g.R.Hunted.FIRST g.R.Hunted.SECOND g.met.R.Hunted.hunted
-    c.args.self.now c.look.new.self c.args.at c.args.rest.now 1 _ c.requires refl
-    c.look.ensures
+pub returns-then-self-gt0-clause-takes : goal.returns-then-self-gt0-clause-takes
+returns-then-self-gt0-clause-takes g c = c.go_on.ensures.takes c.args.at
 
 pub returns-clause-takes : goal.returns-clause-takes
-returns-clause-takes g c = λ on. c.hear_begun.ensures.takes on c.args.at
+returns-clause-takes g c =
+    after-letting g.R.LineRules g.R.Hunted.FIRST g.R.Hunted.SECOND g.met.R.Hunted.hunted
+    c.args.self.now c.let_go.new.self c.seek.new.self c.args.at _ _ c.let_go.ensures.ticks
+    c.let_go.ensures.hears c.seek.ensures.takes

@@ -1,5 +1,5 @@
 use Rattle.std.proofs.Common.{◌∙◌, ◌+◌, sym, refl}
-use Rattle.device_model.proofs.HuntFamilyLaws.{waits, loses}
+use Rattle.device_model.proofs.{HuntFamilyLaws.waits, HuntFamilyLaws.loses, HuntSteps.empty-held}
 use Rattle.device_model.proofs.hunting_family.HuntingFamily.wait_tick.Goals as goal
 
 pub returns-then-not-wait-clause-stands : goal.returns-then-not-wait-clause-stands
@@ -21,12 +21,16 @@ pub returns-clause-stands : goal.returns-clause-stands
 returns-clause-stands g c = λ cut line heard.
     (loses g.R.LineRules g.R.Hunted.FIRST g.R.Hunted.SECOND cut c.args.self.now
     (record { device = c.lose.new.self; silence = c.wait.new.self }) line heard c.wait.ensures.cut
-    c.lose.ensures.ticks c.wait.ensures.quiet (sym c.wait.ensures.parts ∙ c.if-not-wait.false)
-    c.lose.ensures.bytes c.lose.ensures.rules).stands
+    c.lose.ensures.ticks c.wait.ensures.quiet g.met.R.Hunted.hunted
+    (sym c.wait.ensures.parts ∙ c.if-not-wait.false)
+    (empty-held c.lose.new.self c.lose.ensures.lends c.lose.ensures.bytes)
+    c.lose.ensures.left).stands
 
 pub returns-clause-answer : goal.returns-clause-answer
 returns-clause-answer g c = λ cut line heard.
     (loses g.R.LineRules g.R.Hunted.FIRST g.R.Hunted.SECOND cut c.args.self.now
     (record { device = c.lose.new.self; silence = c.wait.new.self }) line heard c.wait.ensures.cut
-    c.lose.ensures.ticks c.wait.ensures.quiet (sym c.wait.ensures.parts ∙ c.if-not-wait.false)
-    c.lose.ensures.bytes c.lose.ensures.rules).is
+    c.lose.ensures.ticks c.wait.ensures.quiet g.met.R.Hunted.hunted
+    (sym c.wait.ensures.parts ∙ c.if-not-wait.false)
+    (empty-held c.lose.new.self c.lose.ensures.lends c.lose.ensures.bytes)
+    c.lose.ensures.left).is
