@@ -147,10 +147,10 @@ impl<R: Hunted> HuntingDevice<R> {
         self.rules.restart();
         self.rules.take_some(self.bytes.as_slice());
         self.left = self.rules.left();
-        if self.left > 0 {
-            return false;
+        if self.left == 0 {
+            return self.end();
         }
-        self.end()
+        false
     }
 
     // The first of these bytes where a header has begun: as many as are lacking of it, or of the

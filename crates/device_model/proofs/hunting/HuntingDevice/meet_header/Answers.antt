@@ -2,8 +2,8 @@ use Rattle.{device_model.proofs.HuntSteps.takes-whole, std.proofs.Common.[]}
 use Rattle.std.proofs.{Common.refl, Common.sym, Common.subst, Common.arith, lemmas.List.take_all}
 use Rattle.device_model.proofs.hunting.HuntingDevice.meet_header.Goals as goal
 
-pub returns-then-self-gt0-clause-behind : goal.returns-then-self-gt0-clause-behind
-returns-then-self-gt0-clause-behind g c = λ room more.
+pub returns-clause-behind : goal.returns-clause-behind
+returns-clause-behind g c = λ room more.
     let all = takes-whole g.R.LineRules g.R.Hunted.FIRST g.R.Hunted.SECOND g.met.R.Hunted.hunted
     c.take_some.new.self c.args.self.now.bytes.items c.as_slice.result.now
     c.take_some.result c.as_slice.ensures.value room
@@ -17,26 +17,26 @@ returns-then-self-gt0-clause-behind g c = λ room more.
       none = refl;
     }
 
-pub returns-then-self-gt0-clause-goes : goal.returns-then-self-gt0-clause-goes
-returns-then-self-gt0-clause-goes g c = λ room whole none.
-    let all = takes-whole g.R.LineRules g.R.Hunted.FIRST g.R.Hunted.SECOND g.met.R.Hunted.hunted
-    c.take_some.new.self c.args.self.now.bytes.items c.as_slice.result.now
-    c.take_some.result c.as_slice.ensures.value room
-    (c.take_some.ensures.stands [] c.restart.ensures.stands) c.take_some.ensures.all in
-    let left = c.left-self.ensures c.args.self.now.bytes.items all in
-    absurd (omega arith)
-
-pub returns-clause-behind : goal.returns-clause-behind
-returns-clause-behind g c = λ room more.
-    let all = takes-whole g.R.LineRules g.R.Hunted.FIRST g.R.Hunted.SECOND g.met.R.Hunted.hunted
-    c.take_some.new.self c.args.self.now.bytes.items c.as_slice.result.now
-    c.take_some.result c.as_slice.ensures.value room
-    (c.take_some.ensures.stands [] c.restart.ensures.stands) c.take_some.ensures.all in
-    let left = c.left-self.ensures c.args.self.now.bytes.items all in
-    absurd (omega arith)
-
 pub returns-clause-goes : goal.returns-clause-goes
 returns-clause-goes g c = λ room whole none.
+    let all = takes-whole g.R.LineRules g.R.Hunted.FIRST g.R.Hunted.SECOND g.met.R.Hunted.hunted
+    c.take_some.new.self c.args.self.now.bytes.items c.as_slice.result.now
+    c.take_some.result c.as_slice.ensures.value room
+    (c.take_some.ensures.stands [] c.restart.ensures.stands) c.take_some.ensures.all in
+    let left = c.left-self.ensures c.args.self.now.bytes.items all in
+    absurd (omega arith)
+
+pub returns-then-self-eq0-clause-behind : goal.returns-then-self-eq0-clause-behind
+returns-then-self-eq0-clause-behind g c = λ room more.
+    let all = takes-whole g.R.LineRules g.R.Hunted.FIRST g.R.Hunted.SECOND g.met.R.Hunted.hunted
+    c.take_some.new.self c.args.self.now.bytes.items c.as_slice.result.now
+    c.take_some.result c.as_slice.ensures.value room
+    (c.take_some.ensures.stands [] c.restart.ensures.stands) c.take_some.ensures.all in
+    let left = c.left-self.ensures c.args.self.now.bytes.items all in
+    absurd (omega arith)
+
+pub returns-then-self-eq0-clause-goes : goal.returns-then-self-eq0-clause-goes
+returns-then-self-eq0-clause-goes g c = λ room whole none.
     let items = c.args.self.now.bytes.items in
     let all = takes-whole g.R.LineRules g.R.Hunted.FIRST g.R.Hunted.SECOND g.met.R.Hunted.hunted
     c.take_some.new.self items c.as_slice.result.now
