@@ -171,6 +171,7 @@ still-stands proto macs old last setup line cut k bytes stands none cuts =
       direction_is = stands.direction_is;
       cuts = subst C (ap (λ j. line ++ map (λ b. Byte b) (take j bytes)) none ∙ append-nil line)
           cuts;
+      left_in = stands.left_in;
       walks = stands.walks;
     }
 

@@ -5,6 +5,7 @@ use Rattle.check_receiver.proofs.Hearing.{refuse-taken, pass-taken, passes-with}
 use Rattle.check_receiver.specs.{Between.IsWhole, Between.verdict_told, Checkings.PassesWith}
 use Rattle.check_receiver.specs.{Stands.MacHolds, Stands.HasTaken, Turning.Turned}
 use Rattle.check_receiver.specs.{Turning.TurnedRefused, declared.checker.Checker.Checker}
+use Rattle.check_receiver.specs.declared.phase.Phase.TheVariants.{Leaving}
 use Rattle.frame_ending.specs.LiveBytes.{live_bytes}
 use Rattle.frame_ending.specs.SoFar.{last_burst, live_bytes_so_far, start_so_far}
 use Rattle.frame_ending.specs.Stands.{StandsFor as CutStandsFor, ticks_taken as ticks_cut}
@@ -16,7 +17,7 @@ use Rattle.link_verdicts.specs.declared.note.CheckNote.{CheckNote, TheVariants.P
 use Rattle.link_verdicts.specs.declared.note.{CheckNote.TheVariants.Refused, RefusedWhy.RefusedWhy}
 use Rattle.sequence_journal.specs.declared.numbers.TheConstants.{LIMIT}
 use Rattle.std.proofs.Common.{◌≡◌, ◌∙◌, ℕ, ◌+◌, ◌≤◌, List, [], ◌∷◌, ◌++◌, length, sym, ap, subst}
-use Rattle.std.proofs.Common.{Some, Result, Ok, Err, true, false}
+use Rattle.std.proofs.Common.{Some, Result, Ok, Err, true}
 use Rattle.yasir_ticks.specs.{Bursts.Burst, declared.TheConstants.MAX_TICKS}
 use Rattle.yasir_ticks.specs.declared.tick.Tick.{Tick, TheVariants.Silent}
 
@@ -109,8 +110,7 @@ module _ {R M : Type 0} (proto : LineRules R) (macs : Mac M) {B D : ℕ} (old : 
   pub decide-passes : (number : ℕ) → Judges proto macs old last (Ok number)
       → (new : Checker R M B D) (step : BoxStep CheckNote)
       → Turned proto (record told {
-        waits = false;
-        passed = true;
+        phase = Leaving true;
         earliest_start = new.earliest_start;
       }) new Silent step.tick
       → new.earliest_start ≡ ticks_cut told.cut + told.until
@@ -121,8 +121,7 @@ module _ {R M : Type 0} (proto : LineRules R) (macs : Mac M) {B D : ℕ} (old : 
   decide-passes number judges new step turned earliest noted =
       let link : List Tick = line ++ t ∷ [] in
       let T : Checker R M B D → Type 0 = λ v. Turned proto (record v {
-        waits = false;
-        passed = true;
+        phase = Leaving true;
         earliest_start = new.earliest_start;
       }) new Silent step.tick in
       let E : Checker R M B D → Type 0 = λ v. new.earliest_start ≡ ticks_cut v.cut + v.until in

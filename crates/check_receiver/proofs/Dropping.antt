@@ -2,7 +2,7 @@
 use Rattle.burst_walk.specs.Causal.{MayGoOn, going_on}
 use Rattle.burst_walk.specs.{HasCome.HasCome, declared.box_step.BoxStep.BoxStep}
 use Rattle.check_receiver.proofs.Heads.{head-is-bad, head-isn't-short}
-use Rattle.check_receiver.proofs.Machine.{flow, ring-waits, assembled}
+use Rattle.check_receiver.proofs.Machine.{flow, still-unowed, ring-waits, assembled}
 use Rattle.check_receiver.proofs.OpenBursts.{timely, open-walks}
 use Rattle.check_receiver.specs.{Between.IsBetween, Stands.HasTaken, Turning.TurnedClear}
 use Rattle.check_receiver.specs.{Turning.dropped, declared.checker.Checker.Checker}
@@ -68,22 +68,25 @@ module _ {R M : Type 0} (proto : LineRules R) (macs : Mac M) {B D : ℕ} (setup 
       let flows = flow proto macs gone new Silent step.tick clear.turned left [] stands ring_is
       (λ some. absurd (omega arith)) (λ some. absurd (omega arith))
       (λ refused some. absurd (omega arith)) in
-      let Rest : ℕ → Type 0 = λ o. Rests proto.rules base.passed m base.earliest_start left [] o
+      let Rest : ℕ → Type 0 = λ o. Rests proto.rules false m base.earliest_start left [] o
       emissions in
       let rests : Rest (owed_by base.outlet) = subst Rest (sym none)
       (come-rests profile proto.rules setup.floor m (bursts (line ++ t ∷ [])) state emissions
-      (Some d) come base.passed left free) in
+      (Some d) come false left free) in
       let goes = rest-drops proto profile (timely proto macs B setup wide) setup.floor line t state
-      emissions base.passed left [] (owed_by base.outlet) base.outlet new.outlet step.tick flows
-      rests
-      d NoHead is come now in
+      emissions false left [] (owed_by base.outlet) base.outlet new.outlet step.tick flows rests d
+      NoHead is come now in
       let whose = ap (λ x. last_of x) come.is ∙ last_of-more come.settled d in
       assembled proto macs setup line t gone new Silent step clear.turned word_is wide delay_is
       direction_is cuts last flows.after [] None (Some (Dropped d.start NoHead)) goes
       (noted ∙ ap (λ o. Some (Dropped (start_in o) NoHead)) whose) flows.stands
       (ring-waits proto macs gone new step.tick clear.turned [] ring_is (omega arith)
       (omega arith))
-      (omega arith) refl refl mac_stands tt (λ refused some. absurd (omega arith))
+      (omega arith) refl refl mac_stands tt (λ refused some. absurd (omega arith)) (
+        refl,
+        still-unowed proto macs gone new Silent step.tick clear.turned left [] stands ring_is refl
+            none,
+      )
 
 -- ---- a header that is too short
 

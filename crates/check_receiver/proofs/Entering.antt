@@ -1,9 +1,9 @@
 -- A live byte enters the ring.
 use Rattle.burst_walk.specs.{Causal.going_on, declared.box_step.BoxStep.BoxStep}
 use Rattle.check_receiver.proofs.{Machine.assembled, OpenBursts.open-walks, OpenBursts.moved}
-use Rattle.check_receiver.specs.{Between.IsBetween, Stands.MacHolds, Stands.HasTaken}
-use Rattle.check_receiver.specs.Turning.{Turned, with_until}
-use Rattle.check_receiver.specs.declared.checker.Checker.{Checker}
+use Rattle.check_receiver.{proofs.Settled.open-stays, specs.Between.IsBetween, specs.Phases.is_open}
+use Rattle.check_receiver.specs.{Phases.passes_in, Stands.MacHolds, Stands.HasTaken, Turning.Turned}
+use Rattle.check_receiver.specs.{Turning.with_until, declared.checker.Checker.Checker}
 use Rattle.delay_ring.specs.DelayRing.{ring_ticks}
 use Rattle.frame_ending.specs.{LiveBytes.live_bytes, SoFar.live_bytes_in, SoFar.live_bytes_so_far}
 use Rattle.frame_ending.specs.declared.cut.Cut.TheVariants.{Live}
@@ -15,7 +15,7 @@ use Rattle.link_verdicts.proofs.Opened.{opens-of, long-of, more-of, unowed-of, j
 use Rattle.link_verdicts.proofs.Opened.{live-goes, live-gap, live-adds, live-before, live-after}
 use Rattle.link_verdicts.proofs.{Opening.length-silent, Rings.ring-byte}
 use Rattle.{link_verdicts.specs.declared.note.CheckNote.CheckNote, spoiler.specs.Outlet.owed_by}
-use Rattle.std.proofs.Common.{◌≡◌, ◌∙◌, ℕ, ◌+◌, ◌-◌, ◌≤◌, ◌==◌, true, false, List, [], ◌∷◌, ◌++◌}
+use Rattle.std.proofs.Common.{◌≡◌, ◌∙◌, ℕ, ◌-◌, ◌≤◌, ◌==◌, true, false, List, [], ◌∷◌, ◌++◌}
 use Rattle.std.proofs.Common.{length, length-append, take, drop, refl, sym, ap, subst, arith}
 use Rattle.std.proofs.Common.{⊎_elim, Option, Some, None, IfSome}
 use Rattle.std.proofs.lemmas.{Bool.cases_Bool, Bool.ne_eqb, List.append-nil, List.length-drop}
@@ -34,7 +34,7 @@ module _ {R M : Type 0} (proto : LineRules R) (macs : Mac M) {B D : ℕ} (old : 
     (d : Burst) (is : between.walks.waiting ≡ Some d)
     (mac_stands : (text : List ℕ) × macs.stands mac setup.key text)
     (mac_holds : MacHolds proto macs setup mac old.arriving (going_on d (length line) b)) where
-  pub live-taken : old.waits ≡ true → HasTaken proto macs new last setup line (Byte b) step
+  pub live-taken : is_open old.phase ≡ true → HasTaken proto macs new last setup line (Byte b) step
   live-taken waits =
       let rules : Rules = proto.rules in
       let m : ℕ = length line in
@@ -81,9 +81,10 @@ module _ {R M : Type 0} (proto : LineRules R) (macs : Mac M) {B D : ℕ} (old : 
       assembled proto macs setup line (Byte b) base new (Byte b) step turned between.word_is
       between.wide between.delay_is between.direction_is between.cuts last
       (left ++ bytes_in (take 1 live)) entered (Some e) None
-      (goes-as (Byte b) step.tick old.passed (owed_by new.outlet) old.earliest_start goes refl
-      turn.answer_is it.walked.opens.1 turn.unowed refl)
+      (goes-as (Byte b) step.tick (passes_in old.phase) (owed_by new.outlet) old.earliest_start goes
+      refl turn.answer_is it.walked.opens.1 turn.unowed refl)
       noted turn.stands ring (omega arith) (omega arith) waits mac_stands mac_holds tt
+      (open-stays old.phase n (owed_by new.outlet) waits)
 
 module _ {R M : Type 0} (proto : LineRules R) (macs : Mac M) {B D : ℕ} (old : Checker R M B D)
     (last : ℕ) (setup : Setup) (line : List Tick) (b : ℕ)

@@ -3,6 +3,8 @@ use Rattle.burst_walk.proofs.Coming.{notes-step, note-now}
 use Rattle.burst_walk.specs.{Causal.going_on, Walk.Noted, declared.box_step.BoxStep.BoxStep}
 use Rattle.check_receiver.proofs.Machine.{waiting-some, ring-waits, assembled}
 use Rattle.check_receiver.proofs.OpenBursts.{open-walks, Moved, moved}
+use Rattle.check_receiver.{proofs.Settled.open-stays, specs.Phases.is_open, specs.Phases.passes_in}
+use Rattle.check_receiver.specs.declared.phase.Phase.TheVariants.{Leaving}
 use Rattle.check_receiver.specs.{Arrivals.bytes_come, Between.IsBetween, Between.IsWhole}
 use Rattle.check_receiver.specs.Checkings.{PassesWith}
 use Rattle.check_receiver.specs.Stands.{MacHolds, Walks, HasTaken}
@@ -58,8 +60,8 @@ pub record Hears {R M : Type 0} (proto : LineRules R) (macs : Mac M) {B D : ℕ}
   pub one_less : old.until ≡ before - 1
   pub mac : M
   pub arriving : Arriving B
-  pub walks : Walks proto macs B D last old.earliest_start true old.passed mac arriving old.ring
-      before old.outlet setup line
+  pub walks : Walks proto macs B D last old.earliest_start true (passes_in old.phase) mac arriving
+      old.ring before old.outlet setup line
   pub mac_stands : (text : List ℕ) × macs.stands old.mac setup.key text
   pub burst : Burst
   pub waits_is : walks.waiting ≡ Some burst
@@ -67,13 +69,13 @@ pub record Hears {R M : Type 0} (proto : LineRules R) (macs : Mac M) {B D : ℕ}
 module _ {R M : Type 0} (proto : LineRules R) (macs : Mac M) {B D : ℕ} (old : Checker R M B D)
     (last : ℕ) (setup : Setup) (line : List Tick) (t : Tick) where
   abbrev pub hears-between : (b : ℕ)
-      → (between : IsBetween proto macs old last setup line t (Extra b)) → old.waits ≡ true
+      → (between : IsBetween proto macs old last setup line t (Extra b)) → is_open old.phase ≡ true
       → (arriving : Arriving B) (mac : M)
       → ((text : List ℕ) × macs.stands mac setup.key text)
       → Hears proto macs (record old { arriving = arriving; mac = mac }) last setup line t b
   hears-between b between waits arriving mac mac_stands =
-      let W : Bool → Type 0 = λ w. Walks proto macs B D last old.earliest_start w old.passed old.mac
-      old.arriving old.ring between.before old.outlet setup line in
+      let W : Bool → Type 0 = λ w. Walks proto macs B D last old.earliest_start w
+      (passes_in old.phase) old.mac old.arriving old.ring between.before old.outlet setup line in
       let walks : W true = subst W waits between.walks in
       let d = waiting-some walks.waiting (sym walks.waits_is) in
       record {
@@ -141,7 +143,8 @@ module _ {R M : Type 0} (proto : LineRules R) (macs : Mac M) {B D : ℕ} (old : 
   abbrev live : List Tick
   live = hears.walks.live
 
-  it : IsOpen proto profile setup.floor state line old.passed left live (owed_by old.outlet) d
+  it : IsOpen proto profile setup.floor state line (passes_in old.phase) left live
+      (owed_by old.outlet) d
   it = open-walks hears.walks hears.wide d hears.waits_is
 
   is-byte : t ≡ Byte b
@@ -240,7 +243,7 @@ module _ {R M : Type 0} (proto : LineRules R) (macs : Mac M) {B D : ℕ} (old : 
 
   -- of the trailer's bytes it isn't the last one
   pub trailer-taken : (new : Checker R M B D) (step : BoxStep CheckNote)
-      → Turned proto old new Silent step.tick → step.note ≡ None → old.waits ≡ true
+      → Turned proto old new Silent step.tick → step.note ≡ None → is_open old.phase ≡ true
       → live_end rules d + pause_len ≤ m → m + 2 < live_end rules d + D
       → MacHolds proto macs setup old.mac old.arriving e
       → HasTaken proto macs new last setup line t step
@@ -253,13 +256,14 @@ module _ {R M : Type 0} (proto : LineRules R) (macs : Mac M) {B D : ℕ} (old : 
       let few = hears.walks.few in
       assembled proto macs setup line t old new Silent step turned hears.word_is hears.wide
       hears.delay_is hears.direction_is hears.cuts last after (drop 1 live) (Some e) None
-      (goes-as t step.tick old.passed (owed_by new.outlet) old.earliest_start
+      (goes-as t step.tick (passes_in old.phase) (owed_by new.outlet) old.earliest_start
       (extra-goes it b is-extra behind (omega arith)) is-byte turn'.answer_is it.walked.opens.1
       turn'.unowed refl)
       noted turn'.stands
       (ring-waits proto macs old new step.tick turned live hears.walks.ring_is (omega arith)
       hears.walks.few)
       (omega arith) (omega arith) waits hears.mac_stands mac_holds' tt
+      (open-stays old.phase old.until (owed_by new.outlet) waits)
 
   -- ---- it refuses the burst
 
@@ -293,8 +297,8 @@ module _ {R M : Type 0} (proto : LineRules R) (macs : Mac M) {B D : ℕ} (old : 
         assembled proto macs setup line t base new Silent step turned hears.word_is hears.wide
         hears.delay_is hears.direction_is hears.cuts last after (drop 1 live) None
         (Some (Refused e.start why))
-        (goes-as t step.tick old.passed (owed_by new.outlet) new.earliest_start goes is-byte
-        turn'.answer_is it.walked.opens.1 turn'.unowed same)
+        (goes-as t step.tick false (owed_by new.outlet) new.earliest_start goes is-byte
+        turn'.answer_is refl turn'.unowed same)
         (noted ∙ ap (λ o. Some (Refused (start_in o) why)) next-last) turn'.stands
         (ring-waits proto macs base new step.tick turned live hears.walks.ring_is (omega arith)
         hears.walks.few)
@@ -304,7 +308,7 @@ module _ {R M : Type 0} (proto : LineRules R) (macs : Mac M) {B D : ℕ} (old : 
         (subst (λ x. Refuses proto refuses.outlet x)
         (ap (λ o. live_bytes_in rules o) next-last
         ∙ (extra-bytes it b is-extra ∙ sym (bytes-next it ∙ bytes-of it)))
-        (refuses.knows (line ++ t ∷ []) hears.cuts)))
+        (refuses.knows (line ++ t ∷ []) hears.cuts))) tt
 
     -- inside the pause,
     pub break-taken : why ≡ Trailer → m < live_end rules d + pause_len
@@ -386,8 +390,7 @@ module _ {R M : Type 0} (proto : LineRules R) (macs : Mac M) {B D : ℕ} (old : 
       -- and the receiver passes it
       pub pass-taken : (new : Checker R M B D) (step : BoxStep CheckNote)
           → Turned proto (record old {
-            waits = false;
-            passed = true;
+            phase = Leaving true;
             earliest_start = new.earliest_start;
           }) new Silent step.tick
           → new.earliest_start ≡ ticks_cut old.cut + old.until
@@ -396,8 +399,7 @@ module _ {R M : Type 0} (proto : LineRules R) (macs : Mac M) {B D : ℕ} (old : 
           → HasTaken proto macs new number setup line t step
       pass-taken new step turned earliest noted =
           let base : Checker R M B D = record old {
-            waits = false;
-            passed = true;
+            phase = Leaving true;
             earliest_start = new.earliest_start;
           } in
           let turn' = turn base new step.tick turned refl refl refl in
@@ -422,4 +424,4 @@ module _ {R M : Type 0} (proto : LineRules R) (macs : Mac M) {B D : ℕ} (old : 
           turn'.stands
           (ring-waits proto macs base new step.tick turned live hears.walks.ring_is (omega arith)
           hears.walks.few)
-          (omega arith) (omega arith) refl hears.mac_stands tt (λ stays some. absurd cc)
+          (omega arith) (omega arith) refl hears.mac_stands tt (λ stays some. absurd cc) tt

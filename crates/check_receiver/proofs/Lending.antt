@@ -145,6 +145,7 @@ none-taken proto macs {B} old last setup line stands cut cuts =
         delay_is = stands.delay_is;
         direction_is = stands.direction_is;
         cuts = subst C (append-nil line) cuts;
+        left_in = stands.left_in;
         walks = stands.walks;
       });
       answers = run-none (checker (profile_of proto macs B LIMIT setup) proto.rules) brief_note

@@ -1,5 +1,6 @@
 pub mod Comparing
 pub mod Words
+pub mod Settled
 pub mod Machine
 pub mod OpenBursts
 pub mod Heads

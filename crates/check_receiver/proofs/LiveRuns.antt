@@ -11,7 +11,7 @@ use Rattle.link_verdicts.proofs.Opened.{IsOpen, opens-of, long-of, more-of, live
 use Rattle.link_verdicts.proofs.Opened.{live-adds, live-gap, live-before}
 use Rattle.link_verdicts.proofs.{Opening.length-silent, Rings.ring-first, Rings.ring-byte}
 use Rattle.link_verdicts.specs.{Holding.trailer_so_far, Verdicts.CheckState}
-use Rattle.std.proofs.Common.{◌≡◌, ◌∙◌, ◌⊎◌, ℕ, suc, ◌+◌, ◌-◌, ◌<◌, ◌≤◌, true, false, List, [], ◌∷◌}
+use Rattle.std.proofs.Common.{◌≡◌, ◌∙◌, ◌⊎◌, ℕ, suc, ◌-◌, ◌<◌, ◌≤◌, true, false, List, [], ◌∷◌}
 use Rattle.std.proofs.Common.{◌++◌, ⊎_elim, inl, length, length-append, take, drop, get_or, map}
 use Rattle.std.proofs.Common.{sym, ap, subst, arith, append_assoc, Some}
 use Rattle.std.proofs.lemmas.List.{append-nil, length-drop, take-append-le}

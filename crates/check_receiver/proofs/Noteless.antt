@@ -1,9 +1,9 @@
 -- Ticks that surely have no note: what is known of the burst that each belongs to.
 use Rattle.check_receiver.proofs.Beginnings.{good-keeps}
-use Rattle.check_receiver.proofs.Heads.{head-is-good, head-is-bad, head-isn't-short}
+use Rattle.check_receiver.proofs.Heads.{head-is-bad, head-isn't-short}
 use Rattle.check_receiver.specs.Noteless.{is_short, is_good, is_no_bad, silence_has_none}
 use Rattle.check_receiver.specs.Noteless.{first_has_none, extra_has_none, further_has_none}
-use Rattle.check_receiver.specs.{Noteless.has_none, declared.checker.Checker.Checker}
+use Rattle.check_receiver.specs.{Noteless.has_none, Phases.is_open, declared.checker.Checker.Checker}
 use Rattle.frame_ending.proofs.Cutting.{cut-begin, cut-pass, cut-go_on}
 use Rattle.frame_ending.proofs.LastBurst.{grown, last_burst-byte, last_burst-silent}
 use Rattle.frame_ending.proofs.Running.{byte-lives}
@@ -17,8 +17,8 @@ use Rattle.line_rules.specs.Rules.{Rules, head_of, fills_room}
 use Rattle.line_rules.specs.{RulesLaws.IsLawful, declared.head.Head.Head}
 use Rattle.line_rules.specs.declared.head.Head.TheVariants.{Short, Good, Bad}
 use Rattle.line_rules.specs.declared.line_rules.LineRules.{Ghosts as LineRules}
-use Rattle.std.proofs.Common.{◌≡◌, ◌∙◌, ⊎_elim, ℕ, suc, ◌+◌, ◌-◌, ◌<◌, ◌≤◌, ◌==◌, ◌||◌, Bool, true}
-use Rattle.std.proofs.Common.{false, not, nat_lt, nat_le, if◌then◌else◌, List, [], ◌∷◌, ◌++◌}
+use Rattle.std.proofs.Common.{◌≡◌, ◌∙◌, ⊎_elim, ℕ, ◌+◌, ◌-◌, ◌<◌, ◌≤◌, ◌==◌, ◌||◌, Bool, true}
+use Rattle.std.proofs.Common.{false, not, nat_lt, if◌then◌else◌, List, [], ◌∷◌, ◌++◌}
 use Rattle.std.proofs.Common.{length, refl, sym, ap, subst, arith, take, Option, Some, None}
 use Rattle.std.proofs.lemmas.Bool.{cases_Bool, cases_lt, cond-true, cond-false, eq-eqb, lt-ltb}
 use Rattle.std.proofs.lemmas.Bool.{le-ltb, le-leb, lt-leb, ltb-true, or_parts}
@@ -177,12 +177,13 @@ module _ {R M : Type 0} (proto : LineRules R) {B D : ℕ} (value : Checker R M B
 
   -- of silence while a verdict is open: no byte of the trailer is due, and if the live bytes end
   -- here their header is whole
-  pub silence-may : silence_has_none proto value line ≡ true → value.waits ≡ true
+  pub silence-may : silence_has_none proto value line ≡ true → is_open value.phase ≡ true
       → (D ≤ fewer + 3) × (fewer + 2 ≡ D → heads ≡ Short → ⊥)
   silence-may is waits =
       let last : Bool = if fewer + 2 == D then not (is_short heads) else true in
       let some : Bool = if nat_lt (fewer + 3) D then false else last in
-      let first : some ≡ true = sym (cond-false (not value.waits) true some (ap not waits)) ∙ is in
+      let first : some ≡ true =
+      sym (cond-false (not (is_open value.phase)) true some (ap not waits)) ∙ is in
       ⊎_elim
       (λ few. let never : some ≡ false = cond-true _ _ _ (lt-ltb _ _ few) in absurd cc)
       (λ many.
@@ -211,10 +212,11 @@ module _ {R M : Type 0} (proto : LineRules R) {B D : ℕ} (value : Checker R M B
       ))
       (cases_lt (length line) value.earliest_start)
 
-  module _ (is : further_has_none proto value line ≡ true) (waits : value.waits ≡ true) where
+  module _ (is : further_has_none proto value line ≡ true)
+      (waits : is_open value.phase ≡ true) where
     open-may : (if is_over_so_far proto.rules line then extra_has_none proto value line
         else is_good heads) ≡ true
-    open-may = sym (cond-false (not value.waits) true _ (ap not waits)) ∙ is
+    open-may = sym (cond-false (not (is_open value.phase)) true _ (ap not waits)) ∙ is
 
     -- of a further live byte while a verdict is open: the header is good
     pub live-may : is_over_so_far proto.rules line ≡ false → heads ≡ Good

@@ -1,5 +1,6 @@
 -- The burst whose verdict is open, as the machine holds it.
-use Rattle.check_receiver.{proofs.Machine.some-left, specs.Stands.Walks, specs.Turning.Turned}
+use Rattle.check_receiver.{proofs.Machine.some-left, specs.Phases.passes_in, specs.Stands.Walks}
+use Rattle.check_receiver.specs.{Turning.Turned}
 use Rattle.check_receiver.specs.declared.{arriving.Arriving.Arriving, checker.Checker.Checker}
 use Rattle.delay_ring.specs.{DelayRing.ring_ticks, declared.delay_ring.DelayRing.DelayRing}
 use Rattle.hmac_tag.specs.declared.tag.Mac.{Ghosts as Mac}
@@ -10,7 +11,7 @@ use Rattle.link_verdicts.specs.{Holding.HasWalked, Leaving.leaves, Timely.IsTime
 use Rattle.sequence_journal.specs.declared.numbers.TheConstants.{LIMIT}
 use Rattle.spoiler.specs.Outlet.{StandsFor as OutletStandsFor, owed_by, refused_by}
 use Rattle.spoiler.specs.declared.outlet.Outlet.{Outlet}
-use Rattle.std.proofs.Common.{◌≡◌, ◌∙◌, ℕ, ◌+◌, ◌-◌, ◌<◌, ◌≤◌, ◌==◌, Bool, false, List, ◌∷◌, ◌++◌}
+use Rattle.std.proofs.Common.{◌≡◌, ◌∙◌, ℕ, ◌-◌, ◌<◌, ◌≤◌, ◌==◌, Bool, false, List, ◌++◌}
 use Rattle.std.proofs.Common.{length, take, get_or, sym, ap, subst, arith, ⊎_elim, Option, Some}
 use Rattle.yasir_ticks.specs.{Bursts.Burst, Bursts.bursts, Ticks.silent, Ticks.bytes_in}
 use Rattle.yasir_ticks.specs.declared.tick.Tick.{Tick, TheVariants.Silent, TheVariants.Byte}
@@ -69,12 +70,12 @@ pub moved : {R M : Type 0} (proto : LineRules R) {B D : ℕ} (base new : Checker
     → Moved proto left live base.outlet new.outlet answer
 moved proto {B} {D} base new entering answer turned left live stands ring_is none other more =
     let first = ap (λ l. get_or l 0 Silent) ring_is ∙ ring-first live (D - length live) in
-    let P : Bool → Type 0 = λ l. HasTurned proto base.outlet new.outlet l base.passed left answer
-    (get_or (ring_ticks base.ring) 0 Silent) in
+    let P : Bool → Type 0 = λ l. HasTurned proto base.outlet new.outlet l (passes_in base.phase)
+    left answer (get_or (ring_ticks base.ring) 0 Silent) in
     let still : P false = subst P other (turned.out left stands) in
     let Q : Tick → Type 0 = λ u. HasTurned proto base.outlet new.outlet false false left answer u in
     let turn : Q (get_or live 0 Silent) = subst Q first (turned-any proto base.outlet new.outlet
-    base.passed false left answer (get_or (ring_ticks base.ring) 0 Silent) still) in
+    (passes_in base.phase) false left answer (get_or (ring_ticks base.ring) 0 Silent) still) in
     let flow = flows proto false left live base.outlet new.outlet false answer (λ there. none)
     (λ there. sym (some-left live more)) (λ there at_last refused. absurd cc) turn in
     record {

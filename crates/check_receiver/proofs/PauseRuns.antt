@@ -4,7 +4,7 @@ use Rattle.frame_ending.specs.LiveBytes.{live_bytes, live_end}
 use Rattle.line_rules.specs.{Rules.Rules, declared.line_rules.LineRules.Ghosts as LineRules}
 use Rattle.{link_format.specs.Profile.Profile, link_verdicts.proofs.Opened.IsOpen}
 use Rattle.link_verdicts.{proofs.Opened.silent-goes, specs.Verdicts.CheckState}
-use Rattle.std.proofs.Common.{◌≡◌, ◌∙◌, ℕ, zero, suc, ◌+◌, ◌-◌, ◌<◌, ◌≤◌, false, List, [], ◌∷◌}
+use Rattle.std.proofs.Common.{◌≡◌, ◌∙◌, ℕ, zero, suc, ◌+◌, ◌<◌, ◌≤◌, false, List, [], ◌∷◌}
 use Rattle.std.proofs.Common.{◌++◌, length, length-append, take, drop, sym, ap, subst, arith}
 use Rattle.std.proofs.{Common.append_assoc, Common.Some, lemmas.List.append-nil}
 use Rattle.yasir_ticks.{proofs.SilenceLaws.bytes_in-append, specs.Bursts.Burst}

@@ -1,7 +1,9 @@
 -- A tick that begins no burst, where no verdict is open.
 use Rattle.burst_walk.proofs.Coming.{RunsOn, closed-or-runs_on, come-runs_on, come-silent}
 use Rattle.burst_walk.specs.{HasCome.HasCome, declared.box_step.BoxStep.BoxStep}
-use Rattle.check_receiver.proofs.Machine.{waiting-none, until-last, flow, ring-waits, assembled}
+use Rattle.check_receiver.proofs.Machine.{waiting-none, until-last, flow, still-unowed, ring-waits}
+use Rattle.check_receiver.proofs.{Machine.assembled, Settled.left-stays}
+use Rattle.check_receiver.specs.Phases.{is_open, passes_in}
 use Rattle.check_receiver.{proofs.OpenBursts.timely, specs.Between.IsBetween, specs.Runs.BeginsNone}
 use Rattle.check_receiver.specs.{Stands.HasTaken, Turning.Turned, declared.checker.Checker.Checker}
 use Rattle.frame_ending.proofs.Running.{divided-running, byte-lives, byte-over}
@@ -64,17 +66,19 @@ pub rest-taken : {R M : Type 0} (proto : LineRules R) (macs : Mac M) {B D : ℕ}
     (old : Checker R M B D) (last : ℕ) (setup : Setup) (line : List Tick) (t : Tick) (cut : Cut)
     (between : IsBetween proto macs old last setup line t cut) (new : Checker R M B D)
     (step : BoxStep CheckNote) → Turned proto old new Silent step.tick → step.note ≡ None
-    → BeginsNone proto.rules line t → old.waits ≡ false
+    → BeginsNone proto.rules line t → is_open old.phase ≡ false
     → HasTaken proto macs new last setup line t step
 rest-taken proto macs {B} {D} old last setup line t cut between new step turned noted begins
     closed =
     let profile : Profile = profile_of proto macs B LIMIT setup in
     let state : CheckState = record { floor = last; earliest_start = old.earliest_start } in
     let W : Option Burst → Type 0 = λ o. HasWalked profile proto.rules setup.floor (length line)
-    (bursts line) state old.passed between.walks.left between.walks.live (owed_by old.outlet) o in
+    (bursts line) state (passes_in old.phase) between.walks.left between.walks.live
+    (owed_by old.outlet) o in
     let none = waiting-none between.walks.waiting (sym between.walks.waits_is ∙ closed) in
     let walked : W None = subst W none between.walks.walked in
-    let K : Option Burst → Type 0 = λ o. IfNone o (old.passed ≡ false → 0 < length between.walks.live
+    let K : Option Burst → Type 0 = λ o. IfNone o (passes_in old.phase ≡ false
+    → 0 < length between.walks.live
     → Refuses proto old.outlet (between.walks.left ++ bytes_in between.walks.live)) in
     let knows : K None = subst K none between.walks.knows in
     let time = timely proto macs B setup between.wide in
@@ -90,7 +94,7 @@ rest-taken proto macs {B} {D} old last setup line t cut between new step turned 
     assembled proto macs setup line t old new Silent step turned between.word_is between.wide
     between.delay_is between.direction_is between.cuts last flows.after
     (drop 1 between.walks.live) None None
-    (rest-goes proto profile time setup.floor line t state walked.emissions old.passed
+    (rest-goes proto profile time setup.floor line t state walked.emissions (passes_in old.phase)
     between.walks.left between.walks.live (owed_by old.outlet) old.outlet new.outlet step.tick flows
     walked.rests
     (comes proto profile time setup.floor state line t walked.emissions walked.come begins))
@@ -98,5 +102,10 @@ rest-taken proto macs {B} {D} old last setup line t cut between new step turned 
     (ring-waits proto macs old new step.tick turned between.walks.live between.walks.ring_is
     (omega arith) between.walks.few)
     (omega arith) (omega arith) closed between.walks.mac_stands tt
-    (knows-more proto (length line) old.earliest_start walked.emissions old.passed between.walks.left
-    between.walks.live (owed_by old.outlet) old.outlet new.outlet step.tick flows knows)
+    (knows-more proto (length line) old.earliest_start walked.emissions (passes_in old.phase)
+    between.walks.left between.walks.live (owed_by old.outlet) old.outlet new.outlet step.tick flows
+    knows)
+    (left-stays old.phase between.before old.until (owed_by old.outlet) (owed_by new.outlet)
+    between.left_in one (λ gone unowed. still-unowed proto macs old new Silent step.tick turned
+    between.walks.left between.walks.live between.walks.outlet_is between.walks.ring_is
+    (omega arith) unowed))

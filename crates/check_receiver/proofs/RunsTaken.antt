@@ -6,6 +6,9 @@ use Rattle.check_receiver.proofs.{PauseRuns.pause-run, RestRuns.idle-run, RestRu
 use Rattle.check_receiver.proofs.{RunTicks.RunsTo, RunTicks.front-answered, TrailerRuns.trailer-run}
 use Rattle.check_receiver.specs.{Arrivals.bytes_come, Runs.HasTakenRun, Runs.BeginNone}
 use Rattle.check_receiver.specs.{Runs.IsFront, Runs.KeepsHeader, Stands.MacHolds, Stands.StandsAt}
+use Rattle.check_receiver.proofs.Settled.{more-left, open-left}
+use Rattle.check_receiver.specs.Phases.{is_open, passes_in, LeftIn}
+use Rattle.check_receiver.specs.declared.phase.Phase.{Phase, TheVariants.Idle}
 use Rattle.check_receiver.specs.declared.{arriving.Arriving.Arriving, checker.Checker.Checker}
 use Rattle.delay_ring.specs.DelayRing.{ring_ticks, AreAlike}
 use Rattle.delay_ring.specs.declared.delay_ring.DelayRing.{DelayRing}
@@ -79,13 +82,14 @@ module _ {R M : Type 0} (proto : LineRules R) (macs : Mac M) {B D : ℕ} (old : 
   -- The receiver has taken a run, by what has changed in it.
   made : (run answer : List Tick) (mac : M) (arriving : Arriving B) (ring : DelayRing D)
       (until : ℕ) (waiting : Option Burst) (y : List ℕ) (l : List Tick)
-      → CutStandsFor proto cut (line ++ run) → Runs run old.passed y l 0 waiting answer
+      → CutStandsFor proto cut (line ++ run) → Runs run (passes_in old.phase) y l 0 waiting answer
       → owed_by old.outlet ≡ 0
-      → IfNone waiting (old.passed ≡ false → 0 < length l
+      → IfNone waiting (passes_in old.phase ≡ false → 0 < length l
       → Refuses proto old.outlet (y ++ bytes_in l))
       → ring_ticks ring ≡ l ++ silent (D - length l) → length l ≤ D → until ≡ length l
-      → old.waits ≡ is_some waiting → ((text : List ℕ) × macs.stands mac setup.key text)
+      → is_open old.phase ≡ is_some waiting → ((text : List ℕ) × macs.stands mac setup.key text)
       → IfSome waiting (λ d. MacHolds proto macs setup mac arriving d)
+      → LeftIn old.phase until (owed_by old.outlet)
       → HasTakenRun proto macs
       (record old {
         cut = cut;
@@ -95,9 +99,9 @@ module _ {R M : Type 0} (proto : LineRules R) (macs : Mac M) {B D : ℕ} (old : 
         until = until;
       }) last setup line run answer
   made run answer mac arriving ring until waiting y l cuts runs unowed knows ring_is few until_is
-      waits_is mac_stands mac_holds =
+      waits_is mac_stands mac_holds left_in =
       let W : ℕ → Type 0 = λ n. HasWalked profile rules setup.floor (length (line ++ run))
-      (bursts (line ++ run)) state old.passed y l n waiting in
+      (bursts (line ++ run)) state (passes_in old.phase) y l n waiting in
       record {
         stands = record {
           word_is = stands.word_is;
@@ -105,6 +109,7 @@ module _ {R M : Type 0} (proto : LineRules R) (macs : Mac M) {B D : ℕ} (old : 
           delay_is = stands.delay_is;
           direction_is = stands.direction_is;
           cuts = cuts;
+          left_in = left_in;
           walks = record {
             waiting = waiting;
             left = y;
@@ -125,28 +130,28 @@ module _ {R M : Type 0} (proto : LineRules R) (macs : Mac M) {B D : ℕ} (old : 
 
   -- ---- a verdict is open
 
-  opened : old.waits ≡ true → (d : Burst) × (stands.walks.waiting ≡ Some d)
+  opened : is_open old.phase ≡ true → (d : Burst) × (stands.walks.waiting ≡ Some d)
   opened waits = waiting-some stands.walks.waiting (sym stands.walks.waits_is ∙ waits)
 
-  open-burst : (waits : old.waits ≡ true)
-      → IsOpen proto profile setup.floor state line old.passed left live (owed_by old.outlet)
-      (opened waits).0
+  open-burst : (waits : is_open old.phase ≡ true)
+      → IsOpen proto profile setup.floor state line (passes_in old.phase) left live
+      (owed_by old.outlet) (opened waits).0
   open-burst waits = open-walks stands.walks stands.wide (opened waits).0 (opened waits).1
 
-  open-bare : (waits : old.waits ≡ true)
+  open-bare : (waits : is_open old.phase ≡ true)
       → IsOpen proto profile setup.floor state line false left live 0 (opened waits).0
   open-bare waits =
       let it = open-burst waits in
       record { timely = it.timely; some = it.some; walked = bare-of it }
 
-  mac_holds-opened : (waits : old.waits ≡ true)
+  mac_holds-opened : (waits : is_open old.phase ≡ true)
       → MacHolds proto macs setup old.mac old.arriving (opened waits).0
   mac_holds-opened waits =
       let C : Option Burst → Type 0 = λ o. IfSome o
       (λ e. MacHolds proto macs setup old.mac old.arriving e) in
       subst C (opened waits).1 stands.walks.mac_holds
 
-  head-opened : (waits : old.waits ≡ true)
+  head-opened : (waits : is_open old.phase ≡ true)
       → head_of rules (live_bytes_so_far rules line) ≡ Good
       → rules.header_len ≤ length (live_bytes rules (opened waits).0)
   head-opened waits good =
@@ -165,9 +170,9 @@ module _ {R M : Type 0} (proto : LineRules R) (macs : Mac M) {B D : ℕ} (old : 
 
   abbrev Walked : List Tick → ℕ → Option Burst → Type 0
   Walked ticks owing waiting = HasWalked profile rules setup.floor (length line) (bursts line) state
-      old.passed left ticks owing waiting
+      (passes_in old.phase) left ticks owing waiting
 
-  walked-rests : old.waits ≡ false → owed_by old.outlet ≡ 0 → Walked live 0 None
+  walked-rests : is_open old.phase ≡ false → owed_by old.outlet ≡ 0 → Walked live 0 None
   walked-rests rests unowed =
       let waiting = waiting-none stands.walks.waiting (sym stands.walks.waits_is ∙ rests) in
       subst (λ k. Walked live k None) unowed
@@ -177,29 +182,35 @@ module _ {R M : Type 0} (proto : LineRules R) (macs : Mac M) {B D : ℕ} (old : 
   time = timely proto macs B setup stands.wide
 
   -- nothing is to leave
-  pub idle-taken : (run : List Tick) → old.waits ≡ false → owed_by old.outlet ≡ 0
-      → old.until ≡ 0 → CutStandsFor proto cut (line ++ run) → BeginNone rules line run
+  pub idle-taken : (run : List Tick) → old.phase ≡ Idle → CutStandsFor proto cut (line ++ run)
+      → BeginNone rules line run
       → HasTakenRun proto macs (record old { cut = cut }) last setup line run
       (silent (length run))
-  idle-taken run rests unowed none cuts begin =
+  idle-taken run idle cuts begin =
+      let L : Phase → Type 0 = λ p. LeftIn p old.until (owed_by old.outlet) in
+      let gone : L Idle = subst L idle stands.left_in in
+      let rests : is_open old.phase ≡ false = ap (λ p. is_open p) idle in
+      let none : old.until ≡ 0 = gone.0 in
+      let unowed : owed_by old.outlet ≡ 0 = gone.1 in
       let empty : live ≡ [] = no-ticks live (sym stands.walks.until_is ∙ none) in
       let walked : Walked [] 0 None =
       subst (λ l. Walked l 0 None) empty (walked-rests rests unowed) in
       made run (silent (length run)) old.mac old.arriving old.ring old.until None left []
       cuts
-      (idle-run proto profile time setup.floor state old.passed run line left walked begin)
+      (idle-run proto profile time setup.floor state (passes_in old.phase) run line left walked
+      begin)
       unowed (λ refused some. absurd (omega arith))
       (stands.walks.ring_is ∙ ap (λ l. l ++ silent (D - length l)) empty)
-      (omega arith) none rests stands.walks.mac_stands tt
+      (omega arith) none rests stands.walks.mac_stands tt stands.left_in
 
   -- ---- live ticks leave
 
   -- where no verdict is open, the outlet knows all bytes of a refused burst while they leave
-  knows-still : (k : ℕ) → old.waits ≡ false → k ≤ length live → old.passed ≡ false
+  knows-still : (k : ℕ) → is_open old.phase ≡ false → k ≤ length live → passes_in old.phase ≡ false
       → 0 < length (drop k live)
       → Refuses proto old.outlet ((left ++ bytes_in (take k live)) ++ bytes_in (drop k live))
   knows-still k rests few refused some =
-      let K : Option Burst → Type 0 = λ o. IfNone o (old.passed ≡ false → 0 < length live
+      let K : Option Burst → Type 0 = λ o. IfNone o (passes_in old.phase ≡ false → 0 < length live
       → Refuses proto old.outlet (left ++ bytes_in live)) in
       let waiting = waiting-none stands.walks.waiting (sym stands.walks.waits_is ∙ rests) in
       let knows : K None = subst K waiting stands.walks.knows in
@@ -219,11 +230,12 @@ module _ {R M : Type 0} (proto : LineRules R) (macs : Mac M) {B D : ℕ} (old : 
         → IsFront (ring_ticks old.ring) k x
         → ring_ticks ring ≡ drop k (ring_ticks old.ring ++ silent k) → until ≡ old.until - k
         → owed_by old.outlet ≡ 0
-        → IfNone waiting (old.passed ≡ false → 0 < length (drop k live)
+        → IfNone waiting (passes_in old.phase ≡ false → 0 < length (drop k live)
         → Refuses proto old.outlet ((left ++ bytes_in (take k live)) ++ bytes_in (drop k live)))
         → Runs run passes (left ++ bytes_in (take k live)) (drop k live) 0 waiting (take k live)
-        → old.passed ≡ passes → old.waits ≡ is_some waiting
+        → passes_in old.phase ≡ passes → is_open old.phase ≡ is_some waiting
         → IfSome waiting (λ d. MacHolds proto macs setup old.mac arriving d)
+        → LeftIn old.phase until (owed_by old.outlet)
         → HasTakenRun proto macs
         (record old {
           cut = cut;
@@ -232,7 +244,7 @@ module _ {R M : Type 0} (proto : LineRules R) (macs : Mac M) {B D : ℕ} (old : 
           until = until;
         }) last setup line run (answered k x)
     entered run k arriving waiting passes few less cuts is ring_is until_is unowed knows runs
-        passes_is waits mac_holds =
+        passes_is waits mac_holds left_in =
         let count = stands.walks.until_is in
         let most = stands.walks.few in
         let size = ring-whole old.ring in
@@ -256,30 +268,34 @@ module _ {R M : Type 0} (proto : LineRules R) (macs : Mac M) {B D : ℕ} (old : 
         knows
         (ring_is
         ∙ (ap (λ l. drop k (l ++ silent k)) stands.walks.ring_is ∙ ring-rest live D k less most))
-        (omega arith) (omega arith) waits stands.walks.mac_stands mac_holds)
+        (omega arith) (omega arith) waits stands.walks.mac_stands mac_holds left_in)
 
     -- ---- no verdict is open, and live ticks are still to leave
 
-    pub flow-counted : (run : List Tick) (k : ℕ) → length run ≡ k → old.waits ≡ false
-        → owed_by old.outlet ≡ 0 → k < old.until → k ≤ c → CutStandsFor proto cut (line ++ run)
+    pub flow-counted : (run : List Tick) (k : ℕ) → length run ≡ k → is_open old.phase ≡ false
+        → k < old.until → k ≤ c → CutStandsFor proto cut (line ++ run)
         → BeginNone rules line run → IsFront (ring_ticks old.ring) k x
         → ring_ticks ring ≡ drop k (ring_ticks old.ring ++ silent k) → until ≡ old.until - k
         → HasTakenRun proto macs
         (record old { cut = cut; ring = ring; until = until }) last setup line run (answered k x)
-    flow-counted run k long rests owes less few cuts begin is ring_is until_is =
-        let walked = walked-rests rests owes in
+    flow-counted run k long rests less few cuts begin is ring_is until_is =
         let count = stands.walks.until_is in
-        let T : ℕ → Type 0 = λ j. Runs run old.passed (left ++ bytes_in (take j live)) (drop j live)
-        0 None (take j live) in
-        entered run k old.arriving None old.passed few (omega arith) cuts is ring_is until_is owes
+        let owes = stands.walks.walked.unowed (omega arith) in
+        let walked = walked-rests rests owes in
+        let T : ℕ → Type 0 = λ j. Runs run (passes_in old.phase) (left ++ bytes_in (take j live))
+        (drop j live) 0 None (take j live) in
+        entered run k old.arriving None (passes_in old.phase) few (omega arith) cuts is ring_is
+        until_is owes
         (knows-still k rests (omega arith))
-        (subst T long (flow-run proto profile time setup.floor state old.passed run line left live
-        walked begin (omega arith)))
+        (subst T long (flow-run proto profile time setup.floor state (passes_in old.phase) run line
+        left live walked begin (omega arith)))
         refl rests tt
+        (more-left old.phase old.until until (owed_by old.outlet) stands.left_in (omega arith)
+        (omega arith))
 
     -- ---- silence comes in the pause behind the live bytes of the burst that is open
 
-    pub pause-taken : (n : ℕ) → old.waits ≡ true
+    pub pause-taken : (n : ℕ) → is_open old.phase ≡ true
         → head_of rules (live_bytes_so_far rules line) ≡ Good → n ≤ c → D + n ≤ old.until + 3
         → CutStandsFor proto cut (line ++ silent n) → IsFront (ring_ticks old.ring) n x
         → ring_ticks ring ≡ drop n (ring_ticks old.ring ++ silent n) → until ≡ old.until - n
@@ -297,10 +313,11 @@ module _ {R M : Type 0} (proto : LineRules R) (macs : Mac M) {B D : ℕ} (old : 
         (pause-run proto profile setup.floor state (opened waits).0 (head-opened waits good) n line
         left live (open-bare waits) (omega arith) (omega arith))
         it.walked.opens.1 waits (mac_holds-opened waits)
+        (open-left old.phase until (owed_by old.outlet) waits)
 
     -- ---- bytes of the trailer come of the burst whose verdict is open
 
-    pub trailer-taken : (bytes : List ℕ) (arriving : Arriving B) → old.waits ≡ true
+    pub trailer-taken : (bytes : List ℕ) (arriving : Arriving B) → is_open old.phase ≡ true
         → length bytes ≤ c → old.until + 3 ≤ D → length bytes + 2 ≤ old.until
         → CutStandsFor proto cut (line ++ map (λ b. Byte b) bytes)
         → cuts_after rules line (map (λ b. Byte b) bytes) ≡ map (λ b. Extra b) bytes
@@ -340,13 +357,14 @@ module _ {R M : Type 0} (proto : LineRules R) (macs : Mac M) {B D : ℕ} (old : 
           mac_is = subst C (sym after.bytes) before.mac_is;
           come = takes room ∙ (ap (λ y. y ++ bytes) before.come ∙ sym after.trailer);
         })
+        (open-left old.phase until (owed_by old.outlet) waits)
 
   -- ---- live bytes come of the burst whose verdict is open
 
   module _ (ring : DelayRing D) (c : ℕ) (x : List ℕ) (until : ℕ) (E : List Tick)
       (within : c ≤ length (ring_ticks old.ring ++ E))
       (alike : AreAlike (take c (ring_ticks old.ring ++ E))) where
-    module _ (bytes : List ℕ) (mac : M) (waits : old.waits ≡ true) (any : 0 < length bytes)
+    module _ (bytes : List ℕ) (mac : M) (waits : is_open old.phase ≡ true) (any : 0 < length bytes)
         (few : length bytes ≤ c)
         (along : take (length bytes) (ring_ticks old.ring ++ map (λ b. Byte b) bytes)
         ≡ take (length bytes) (ring_ticks old.ring ++ E))
@@ -369,7 +387,8 @@ module _ {R M : Type 0} (proto : LineRules R) (macs : Mac M) {B D : ℕ} (old : 
       abbrev d : Burst
       d = (opened waits).0
 
-      it : IsOpen proto profile setup.floor state line old.passed left live (owed_by old.outlet) d
+      it : IsOpen proto profile setup.floor state line (passes_in old.phase) left live
+          (owed_by old.outlet) d
       it = open-burst waits
 
       headed : KeepsHeader rules (live_bytes rules d) bytes
@@ -436,4 +455,4 @@ module _ {R M : Type 0} (proto : LineRules R) (macs : Mac M) {B D : ℕ} (old : 
           ∙ ap (λ n. after.ticks ++ silent (n - length after.ticks)) (sym delay-is)))
           (let within' = after.few in omega arith) (omega arith) waits
           (rules.label ∷ setup.direction ∷ live_bytes rules after.burst, mac_holds-after.mac_is)
-          mac_holds-after)
+          mac_holds-after (open-left old.phase until (owed_by old.outlet) waits))

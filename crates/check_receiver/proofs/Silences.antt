@@ -2,6 +2,7 @@
 use Rattle.burst_walk.specs.declared.box_step.BoxStep.{BoxStep}
 use Rattle.check_receiver.proofs.{Machine.ring-waits, Machine.assembled, OpenBursts.open-walks}
 use Rattle.check_receiver.{proofs.OpenBursts.moved, specs.Between.IsBetween, specs.Stands.MacHolds}
+use Rattle.check_receiver.{proofs.Settled.open-stays, specs.Phases.is_open, specs.Phases.passes_in}
 use Rattle.check_receiver.specs.{Stands.HasTaken, Turning.Turned, Turning.TurnedRefused}
 use Rattle.check_receiver.specs.{Turning.refused, declared.checker.Checker.Checker}
 use Rattle.frame_ending.proofs.{Dividing.longer-line, LastBurst.last_burst-silent}
@@ -17,7 +18,7 @@ use Rattle.link_verdicts.specs.declared.note.CheckNote.{CheckNote, TheVariants.R
 use Rattle.link_verdicts.specs.declared.note.RefusedWhy.TheVariants.{Trailer}
 use Rattle.sequence_journal.specs.declared.numbers.TheConstants.{LIMIT}
 use Rattle.spoiler.{proofs.Standing.stands-unowed, specs.Outlet.Refuses, specs.Outlet.owed_by}
-use Rattle.std.proofs.Common.{◌≡◌, ◌∙◌, ℕ, ◌+◌, ◌-◌, ◌<◌, ◌≤◌, true, false, List, [], ◌∷◌, ◌++◌}
+use Rattle.std.proofs.Common.{◌≡◌, ◌∙◌, ℕ, ◌+◌, ◌<◌, ◌≤◌, true, false, List, [], ◌∷◌, ◌++◌}
 use Rattle.std.proofs.Common.{length, drop, ap, sym, subst, arith, refl, Option, Some, None, IfSome}
 use Rattle.{std.proofs.lemmas.List.length-drop, yasir_ticks.specs.Bursts.Burst}
 use Rattle.yasir_ticks.specs.declared.tick.Tick.{Tick, TheVariants.Silent}
@@ -45,7 +46,7 @@ module _ {R M : Type 0} (proto : LineRules R) (macs : Mac M) {B D : ℕ} (old : 
       → length line < live_end proto.rules d + 3
       → (live_end proto.rules d + 1 ≤ length line
       → proto.rules.header_len ≤ length (live_bytes proto.rules d))
-      → old.waits ≡ true → HasTaken proto macs new last setup line Silent step
+      → is_open old.phase ≡ true → HasTaken proto macs new last setup line Silent step
   open-silent d is few header waits =
       let left : List ℕ = between.walks.left in
       let live : List Tick = between.walks.live in
@@ -64,12 +65,13 @@ module _ {R M : Type 0} (proto : LineRules R) (macs : Mac M) {B D : ℕ} (old : 
       assembled proto macs setup line Silent old new Silent step turned between.word_is between.wide
       between.delay_is between.direction_is between.cuts last (left ++ bytes_in (take 1 live))
       (drop 1 live) (Some d) None
-      (goes-as Silent step.tick old.passed (owed_by new.outlet) old.earliest_start
+      (goes-as Silent step.tick (passes_in old.phase) (owed_by new.outlet) old.earliest_start
       (silent-goes it few header) refl turn.answer_is it.walked.opens.1 turn.unowed refl)
       noted turn.stands
       (ring-waits proto macs old new step.tick turned live between.walks.ring_is (omega arith) most)
       (omega arith) (omega arith) waits between.walks.mac_stands
       (subst Coded is between.walks.mac_holds) tt
+      (open-stays old.phase old.until (owed_by new.outlet) waits)
 
 module _ {R M : Type 0} (proto : LineRules R) (macs : Mac M) {B D : ℕ} (old : Checker R M B D)
     (last : ℕ) (setup : Setup) (line : List Tick) (cut : Cut)
@@ -135,8 +137,8 @@ module _ {R M : Type 0} (proto : LineRules R) (macs : Mac M) {B D : ℕ} (old : 
       assembled proto macs setup line Silent base new Silent step turned between.word_is
       between.wide between.delay_is between.direction_is between.cuts last
       left' (drop 1 live) None (Some (Refused d.start Trailer))
-      (goes-as Silent step.tick old.passed (owed_by new.outlet) new.earliest_start
-      (silent-breaks it behind) refl turn.answer_is it.walked.opens.1 turn.unowed same)
+      (goes-as Silent step.tick false (owed_by new.outlet) new.earliest_start
+      (silent-breaks it behind) refl turn.answer_is refl turn.unowed same)
       (noted ∙ ap (λ o. Some (Refused (start_in o) Trailer)) whose) turn.stands
       (ring-waits proto macs base new step.tick turned live between.walks.ring_is (omega arith)
       between.walks.few)
@@ -144,4 +146,4 @@ module _ {R M : Type 0} (proto : LineRules R) (macs : Mac M) {B D : ℕ} (old : 
       (λ stays some. subst (λ v. proto.stands v (left' ++ bytes_in (drop 1 live))) (sym turn.keeps)
       (subst (λ x. Refuses proto refuses.outlet x)
       (ap (λ o. live_bytes_in proto.rules o) whose ∙ sym (bytes-next it ∙ bytes-of it))
-      (refuses.knows (line ++ Silent ∷ []) between.cuts)))
+      (refuses.knows (line ++ Silent ∷ []) between.cuts))) tt

@@ -3,11 +3,13 @@ use Rattle.burst_walk.proofs.Coming.{closed-or-runs_on, come-alone, waiting-may}
 use Rattle.burst_walk.specs.{HasCome.HasCome, declared.box_step.BoxStep.BoxStep}
 use Rattle.check_receiver.proofs.{Beginnings.ring-still, Dropping.drops}
 use Rattle.check_receiver.proofs.Heads.{head-is-bad, head-isn't-short}
-use Rattle.check_receiver.proofs.Machine.{until-last, flow, ring-waits, assembled}
-use Rattle.check_receiver.{proofs.OpenBursts.timely, specs.Arrivals.bytes_come}
-use Rattle.check_receiver.specs.{Between.IsBetween, Stands.MacHolds, Stands.HasTaken}
+use Rattle.check_receiver.proofs.Machine.{until-last, flow, still-unowed, ring-waits, assembled}
+use Rattle.check_receiver.proofs.{OpenBursts.timely, Settled.left-stays}
+use Rattle.check_receiver.specs.{Arrivals.bytes_come, Between.IsBetween, Phases.passes_in}
+use Rattle.check_receiver.specs.Stands.{MacHolds, HasTaken}
 use Rattle.check_receiver.specs.Turning.{Turned, TurnedClear, with_until}
 use Rattle.check_receiver.specs.declared.{arriving.Arriving.Arriving, checker.Checker.Checker}
+use Rattle.check_receiver.specs.declared.phase.Phase.TheVariants.{Open}
 use Rattle.delay_ring.specs.DelayRing.{ring_ticks}
 use Rattle.frame_ending.proofs.{Pauses.up_to_byte-le, Running.byte-starts, Running.start-bytes}
 use Rattle.frame_ending.specs.{Cuts.cut_of, LiveBytes.live_bytes, LiveBytes.live_end}
@@ -33,7 +35,7 @@ use Rattle.sequence_journal.specs.declared.numbers.TheConstants.{LIMIT}
 use Rattle.spoiler.proofs.Standing.{stands-unowed}
 use Rattle.spoiler.specs.Outlet.{StandsFor as OutletStandsFor, Refuses, owed_by, filled}
 use Rattle.spoiler.specs.{Outlet.filled_bytes, declared.outlet.Outlet.Outlet}
-use Rattle.std.proofs.Common.{◌≡◌, ◌∙◌, ℕ, ◌+◌, ◌-◌, ◌<◌, ◌≤◌, ◌==◌, true, false, List, [], ◌∷◌}
+use Rattle.std.proofs.Common.{◌≡◌, ◌∙◌, ℕ, ◌+◌, ◌-◌, ◌<◌, ◌≤◌, ◌==◌, false, List, [], ◌∷◌}
 use Rattle.std.proofs.Common.{◌++◌, length, take, drop, get_or, refl, sym, ap, subst, arith, ⊎_elim}
 use Rattle.std.proofs.Common.{Option, Some, None, IfNone, is_some}
 use Rattle.std.proofs.lemmas.{Bool.cases_Bool, List.append-nil, List.length-drop}
@@ -78,7 +80,7 @@ module _ {R M : Type 0} (proto : LineRules R) (macs : Mac M) {B D : ℕ} (old : 
   e = alone m b
 
   abbrev Walked : Option Burst → Type 0
-  Walked o = HasWalked profile rules setup.floor m (bursts line) state old.passed
+  Walked o = HasWalked profile rules setup.floor m (bursts line) state (passes_in old.phase)
       between.walks.left between.walks.live (owed_by old.outlet) o
 
   time : IsTimely profile rules
@@ -100,10 +102,10 @@ module _ {R M : Type 0} (proto : LineRules R) (macs : Mac M) {B D : ℕ} (old : 
   resting : Walked None
   resting = subst Walked none-waits between.walks.walked
 
-  known : old.passed ≡ false → 0 < length between.walks.live
+  known : passes_in old.phase ≡ false → 0 < length between.walks.live
       → Refuses proto old.outlet (between.walks.left ++ bytes_in between.walks.live)
   known =
-      let K : Option Burst → Type 0 = λ o. IfNone o (old.passed ≡ false
+      let K : Option Burst → Type 0 = λ o. IfNone o (passes_in old.phase ≡ false
       → 0 < length between.walks.live
       → Refuses proto old.outlet (between.walks.left ++ bytes_in between.walks.live)) in
       subst K none-waits between.walks.knows
@@ -141,16 +143,20 @@ module _ {R M : Type 0} (proto : LineRules R) (macs : Mac M) {B D : ℕ} (old : 
         assembled proto macs setup line (Byte b) old new Silent step turned between.word_is
         between.wide between.delay_is between.direction_is between.cuts last flows.after
         (drop 1 live) None (Some (Dropped e.start Busy))
-        (rest-drops proto profile time setup.floor line (Byte b) state resting.emissions old.passed
-        left live (owed_by old.outlet) old.outlet new.outlet step.tick flows resting.rests e Busy
+        (rest-drops proto profile time setup.floor line (Byte b) state resting.emissions
+        (passes_in old.phase) left live (owed_by old.outlet) old.outlet new.outlet step.tick flows
+        resting.rests e Busy
         (checked-busy profile rules state e early) begins refl)
         (noted ∙ ap (λ o. Some (Dropped (start_in o) Busy)) last-is) flows.stands
         (ring-waits proto macs old new step.tick turned live between.walks.ring_is (omega arith)
         between.walks.few)
         (omega arith) (omega arith)
         (between.walks.waits_is ∙ ap (λ o. is_some o) none-waits) between.walks.mac_stands tt
-        (knows-more proto m old.earliest_start resting.emissions old.passed left live
+        (knows-more proto m old.earliest_start resting.emissions (passes_in old.phase) left live
         (owed_by old.outlet) old.outlet new.outlet step.tick flows known)
+        (left-stays old.phase between.before old.until (owed_by old.outlet) (owed_by new.outlet)
+        between.left_in fewer (λ gone unowed. still-unowed proto macs old new Silent step.tick
+        turned left live between.walks.outlet_is between.walks.ring_is (omega arith) unowed))
 
   -- ---- nothing is left to leave
 
@@ -169,8 +175,7 @@ module _ {R M : Type 0} (proto : LineRules R) (macs : Mac M) {B D : ℕ} (old : 
     -- another burst begins
     abbrev base : Checker R M B D
     base = record old {
-      waits = true;
-      passed = false;
+      phase = Open;
       mac = mac;
       arriving = arriving;
       outlet = outlet;
@@ -204,9 +209,9 @@ module _ {R M : Type 0} (proto : LineRules R) (macs : Mac M) {B D : ℕ} (old : 
       empty : ring_ticks old.ring ≡ silent D
       empty =
           let live : List Tick = between.walks.live in
-          let none : live ≡ [] = live-none rules old.passed between.walks.left live
-          (owed_by old.outlet) (rests-none rules old.passed m old.earliest_start between.walks.left
-          live (owed_by old.outlet) resting.emissions resting.rests free) in
+          let none : live ≡ [] = live-none rules (passes_in old.phase) between.walks.left live
+          (owed_by old.outlet) (rests-none rules (passes_in old.phase) m old.earliest_start
+          between.walks.left live (owed_by old.outlet) resting.emissions resting.rests free) in
           let whole : D - length {A = Tick} [] ≡ D = omega arith in
           between.walks.ring_is
           ∙ (ap (λ l. l ++ silent (D - length l)) none ∙ ap (λ k. silent k) whole)
@@ -285,7 +290,7 @@ module _ {R M : Type 0} (proto : LineRules R) (macs : Mac M) {B D : ℕ} (old : 
           between.word_is between.wide between.delay_is between.direction_is between.cuts last []
           entered (Some e) None goes noted quiet.1 ring (omega arith) (omega arith) refl
           (rules.label ∷ setup.direction ∷ live_bytes rules e, mac_holds.mac_is) mac_holds
-          tt
+          tt tt
 
   -- its MAC and its trailer
   pub start-mac_holds : (mac : M) (arriving : Arriving B) → bytes_come arriving ≡ []

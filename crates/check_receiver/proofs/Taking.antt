@@ -3,7 +3,7 @@ use Rattle.burst_walk.specs.{Causal.going_on, declared.box_step.BoxStep.BoxStep}
 use Rattle.check_receiver.proofs.Hearing.{Hears, hears-between, next-last, until-long, until-some}
 use Rattle.check_receiver.proofs.Hearing.{mac_holds, next-mac_holds, trailer-long, trailer-taken}
 use Rattle.check_receiver.specs.{Arrivals.bytes_come, Between.IsBetween, Between.IsWhole}
-use Rattle.check_receiver.specs.{Stands.MacHolds, Stands.HasTaken, Turning.Turned}
+use Rattle.check_receiver.specs.{Phases.is_open, Stands.MacHolds, Stands.HasTaken, Turning.Turned}
 use Rattle.check_receiver.specs.declared.{arriving.Arriving.Arriving, checker.Checker.Checker}
 use Rattle.frame_ending.specs.{LiveBytes.live_end, declared.cut.Cut.TheVariants.Extra}
 use Rattle.hmac_tag.specs.declared.tag.Mac.{Ghosts as Mac}
@@ -16,7 +16,8 @@ use Rattle.yasir_ticks.specs.declared.tick.Tick.{Tick, TheVariants.Silent}
 
 module _ {R M : Type 0} (proto : LineRules R) (macs : Mac M) {B D : ℕ} (old : Checker R M B D)
     (last : ℕ) (setup : Setup) (line : List Tick) (t : Tick) (b : ℕ)
-    (between : IsBetween proto macs old last setup line t (Extra b)) (waits : old.waits ≡ true)
+    (between : IsBetween proto macs old last setup line t (Extra b))
+    (waits : is_open old.phase ≡ true)
     (behind : old.until + pause_len < D) (arriving : Arriving B)
     (takes : length (bytes_come old.arriving) < 20
     → bytes_come arriving ≡ bytes_come old.arriving ++ b ∷ []) where

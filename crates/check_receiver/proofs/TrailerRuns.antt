@@ -8,7 +8,7 @@ use Rattle.line_rules.specs.{Rules.Rules, declared.line_rules.LineRules.Ghosts a
 use Rattle.link_format.specs.Profile.{Profile, delay}
 use Rattle.link_verdicts.proofs.Opened.{IsOpen, extra-goes, extra-end, extra-bytes, extra-adds}
 use Rattle.link_verdicts.specs.{Holding.trailer_so_far, Verdicts.CheckState}
-use Rattle.std.proofs.Common.{◌≡◌, ◌∙◌, ℕ, ◌+◌, ◌-◌, ◌<◌, ◌≤◌, false, List, [], ◌∷◌, ◌++◌, map}
+use Rattle.std.proofs.Common.{◌≡◌, ◌∙◌, ℕ, ◌+◌, ◌<◌, ◌≤◌, false, List, [], ◌∷◌, ◌++◌, map}
 use Rattle.std.proofs.Common.{length, length-append, take, drop, get_or, refl, sym, ap, subst}
 use Rattle.std.proofs.Common.{arith, append_assoc, Some}
 use Rattle.{std.proofs.lemmas.List.append-nil, yasir_ticks.proofs.SilenceLaws.bytes_in-append}

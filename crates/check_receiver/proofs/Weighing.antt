@@ -12,7 +12,7 @@ use Rattle.link_verdicts.specs.Verdicts.Verdict.{passed_with, refused}
 use Rattle.link_verdicts.specs.declared.note.RefusedWhy.TheVariants.{Tag, Number}
 use Rattle.sequence_journal.specs.{Numbers.full_of, declared.numbers.TheConstants.LIMIT}
 use Rattle.std.proofs.Common.{◌≡◌, ◌∙◌, ℕ, ◌+◌, ◌^◌, ◌<◌, ◌≤◌, Bool, true, false, List, ◌∷◌, ◌++◌}
-use Rattle.std.proofs.Common.{length, drop, sym, ap, subst, arith, Option, Some, None, bytes_eq}
+use Rattle.std.proofs.Common.{length, drop, sym, ap, arith, Option, Some, None, bytes_eq}
 use Rattle.std.proofs.lemmas.Bool.{cond-true, cond-false}
 use Rattle.std.specs.Int.{w64, to_be_bytes}
 use Rattle.yasir_ticks.specs.{Bursts.Burst, declared.tick.Tick.Tick}

@@ -66,6 +66,7 @@ module _ {R M : Type 0} (proto : LineRules R) (macs : Mac M) {B D : ℕ} (old : 
     is_cut = sym (answers line stands.cuts) ∙ is;
     before = old.until;
     one_less = one_less;
+    left_in = stands.left_in;
     walks = stands.walks;
   }
 

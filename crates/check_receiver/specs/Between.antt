@@ -21,6 +21,8 @@ use Rattle.link_verdicts.specs.declared.note.RefusedWhy.{RefusedWhy}
 use Rattle.link_verdicts.specs.Verdicts.{Verdict}
 use Rattle.link_verdicts.specs.Verdicts.Verdict.{passed_with, refused}
 use Rattle.check_receiver.specs.Stands.{MacHolds, Walks}
+use Rattle.check_receiver.specs.Phases.{LeftIn, is_open, passes_in}
+use Rattle.spoiler.specs.Outlet.{owed_by}
 use Rattle.check_receiver.specs.declared.arriving.Arriving.{Arriving}
 use Rattle.check_receiver.specs.declared.checker.Checker.{Checker}
 
@@ -35,8 +37,9 @@ module _ {R M : Type 0} (proto : LineRules R) (macs : Mac M) {B D : ℕ} (value 
     pub is_cut : cut_of proto.rules line t ≡ cut
     pub before : ℕ
     pub one_less : value.until ≡ before - 1
-    pub walks : Walks proto macs B D last value.earliest_start value.waits value.passed value.mac
-        value.arriving value.ring before value.outlet setup line
+    pub left_in : LeftIn value.phase before (owed_by value.outlet)
+    pub walks : Walks proto macs B D last value.earliest_start (is_open value.phase)
+        (passes_in value.phase) value.mac value.arriving value.ring before value.outlet setup line
 
   -- A byte has come that isn't live: the last one of a trailer of the burst whose verdict is open.
   pub record IsWhole (t : Tick) : Type 0 where
@@ -52,8 +55,8 @@ module _ {R M : Type 0} (proto : LineRules R) (macs : Mac M) {B D : ℕ} (value 
     pub before : ℕ
     pub one_less : value.until ≡ before - 1
     pub last_place : value.until ≡ 1
-    pub walks : Walks proto macs B D last value.earliest_start true value.passed mac arriving
-        value.ring before value.outlet setup line
+    pub walks : Walks proto macs B D last value.earliest_start true (passes_in value.phase) mac
+        arriving value.ring before value.outlet setup line
     pub key_text : List ℕ
     pub mac_is : macs.stands value.mac setup.key key_text
     pub mac_holds : (d : Burst) → last_burst (line ++ t ∷ []) ≡ Some d

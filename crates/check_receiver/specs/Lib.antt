@@ -1,5 +1,6 @@
 pub mod Checkings
 pub mod Arrivals
+pub mod Phases
 pub mod Stands
 pub mod Turning
 pub mod Between

@@ -1,5 +1,5 @@
 -- Ticks of which a receiver is sure that they have no note.
-use Rattle.std.specs.Prelude.{ℕ, ◌+◌, ◌-◌, ◌==◌, ◌&&◌, nat_le, nat_lt, not, Bool, true, false, List}
+use Rattle.std.specs.Prelude.{ℕ, ◌+◌, ◌-◌, ◌==◌, nat_le, nat_lt, not, Bool, true, false, List}
 use Rattle.std.specs.Prelude.{[], ◌∷◌, length, if◌then◌else◌}
 use Rattle.yasir_ticks.specs.declared.TheConstants.{T3_5_TICKS}
 use Rattle.yasir_ticks.specs.declared.tick.Tick.{Tick}
@@ -9,6 +9,7 @@ use Rattle.line_rules.specs.declared.head.Head.{Head}
 use Rattle.line_rules.specs.declared.head.Head.TheVariants.{Short, Good, Bad}
 use Rattle.line_rules.specs.declared.line_rules.LineRules.{Ghosts as LineRules}
 use Rattle.frame_ending.specs.SoFar.{live_bytes_so_far, is_over_so_far, quiet_so_far}
+use Rattle.check_receiver.specs.Phases.{is_open}
 use Rattle.check_receiver.specs.declared.checker.Checker.{Checker}
 
 -- whether a header isn't whole, is good, is no bad one
@@ -42,7 +43,7 @@ module _ {R M : Type 0} (proto : LineRules R) {B D : ℕ} (value : Checker R M B
   -- header must be whole.
   abbrev pub silence_has_none : Bool
   silence_has_none =
-      if not value.waits then true
+      if not (is_open value.phase) then true
       else if nat_lt (still + 3) D then false
       else if still + 2 == D then not (is_short head)
       else true
@@ -61,7 +62,7 @@ module _ {R M : Type 0} (proto : LineRules R) {B D : ℕ} (value : Checker R M B
   -- one that makes a header whole the receiver isn't sure.
   abbrev pub further_has_none : Bool
   further_has_none =
-      if not value.waits then true
+      if not (is_open value.phase) then true
       else if is_over_so_far proto.rules line then extra_has_none
       else is_good head
 

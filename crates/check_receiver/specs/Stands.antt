@@ -21,6 +21,7 @@ use Rattle.sequence_journal.specs.declared.numbers.TheConstants.{LIMIT}
 use Rattle.sequence_journal.specs.Journal.{journal_floor}
 use Rattle.link_verdicts.specs.Checking.{passed}
 use Rattle.check_receiver.specs.Arrivals.{bytes_come}
+use Rattle.check_receiver.specs.Phases.{LeftIn, is_open, passes_in}
 use Rattle.check_receiver.specs.Checkings.{AnswersTick}
 use Rattle.link_verdicts.specs.Holding.{HasWalked, trailer_so_far}
 use Rattle.check_receiver.specs.declared.arriving.Arriving.{Arriving}
@@ -68,8 +69,9 @@ module _ {R M : Type 0} (proto : LineRules R) (macs : Mac M) where
     pub delay_is : D ≡ 4 + B + macs.TAG
     pub direction_is : direction_number value.direction ≡ setup.direction
     pub cuts : CutStandsFor proto value.cut line
-    pub walks : Walks B D last value.earliest_start value.waits value.passed value.mac
-        value.arriving value.ring value.until value.outlet setup line
+    pub left_in : LeftIn value.phase value.until (owed_by value.outlet)
+    pub walks : Walks B D last value.earliest_start (is_open value.phase) (passes_in value.phase)
+        value.mac value.arriving value.ring value.until value.outlet setup line
 
   -- set up so, it has taken these ticks, and its journal is this one
   abbrev pub StandsFor : {B D : ℕ} → Checker R M B D → Journal → Setup → List Tick → Type 0

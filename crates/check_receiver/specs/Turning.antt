@@ -1,5 +1,6 @@
 -- What the turn of the ring does: a tick enters it, and what leaves goes through the outlet.
-use Rattle.std.specs.Prelude.{◌≡◌, ℕ, ◌==◌, false, List, [], ◌∷◌, ◌++◌, slice_index_or, drop}
+use Rattle.std.specs.Prelude.{◌≡◌, ℕ, ◌==◌, nat_lt, false, List, [], ◌∷◌, ◌++◌, slice_index_or}
+use Rattle.std.specs.Prelude.{drop}
 use Rattle.yasir_ticks.specs.declared.tick.Tick.{Tick}
 use Rattle.yasir_ticks.specs.declared.tick.Tick.TheVariants.{Silent}
 use Rattle.line_rules.specs.declared.line_rules.LineRules.{Ghosts as LineRules}
@@ -11,20 +12,24 @@ use Rattle.frame_ending.specs.Stands.{StandsFor as CutStandsFor}
 use Rattle.spoiler.specs.Outlet.{StandsFor as OutletStandsFor, Refuses, owed_by}
 use Rattle.spoiler.specs.declared.outlet.Outlet.{Outlet}
 use Rattle.link_verdicts.specs.Turns.{HasTurned}
+use Rattle.check_receiver.specs.Phases.{passes_in, settled}
 use Rattle.check_receiver.specs.declared.checker.Checker.{Checker}
+use Rattle.check_receiver.specs.declared.phase.Phase.TheVariants.{Idle, Leaving}
 
--- A tick has entered the ring, and this one has left; all else is as it was.
+-- A tick has entered the ring, and this one has left. Where the rest of a burst has left then, the
+-- receiver is idle; all else is as it was.
 pub record Turned {R M : Type 0} {B D : ℕ} (proto : LineRules R) (old new : Checker R M B D)
     (entering answer : Tick) : Type 0 where
-  pub rest : new ≡ record old { ring = new.ring; outlet = new.outlet }
+  pub rest : new ≡ record old { ring = new.ring; outlet = new.outlet; phase = new.phase }
   pub ring : ring_ticks new.ring ≡ drop 1 (ring_ticks old.ring) ++ entering ∷ []
   pub out : (x : List ℕ) → OutletStandsFor proto old.outlet x
-      → HasTurned proto old.outlet new.outlet (old.until == 0) old.passed x answer
+      → HasTurned proto old.outlet new.outlet (old.until == 0) (passes_in old.phase) x answer
       (slice_index_or (ring_ticks old.ring) 0 Silent)
+  pub phase : new.phase ≡ settled old.phase old.until (nat_lt 0 (owed_by new.outlet))
 
--- with this ring, and no burst whose verdict is open
+-- with this ring, and idle
 abbrev pub dropped : {R M : Type 0} {B D : ℕ} → Checker R M B D → DelayRing D → Checker R M B D
-dropped old ring = record old { waits = false; until = 0; ring = ring }
+dropped old ring = record old { phase = Idle; until = 0; ring = ring }
 
 -- all ticks of the ring are gone, and then a silent one has entered
 pub record TurnedClear {R M : Type 0} {B D : ℕ} (proto : LineRules R) (old new : Checker R M B D)
@@ -37,10 +42,11 @@ pub record TurnedClear {R M : Type 0} {B D : ℕ} (proto : LineRules R) (old new
 abbrev pub with_until : {R M : Type 0} {B D : ℕ} → ℕ → Checker R M B D → Checker R M B D
 with_until n old = record old { until = n }
 
--- with this outlet, no verdict is open, and the next burst may start from this tick on
+-- with this outlet, the rest of a burst that doesn't pass leaves, and the next burst may start from
+-- this tick on
 abbrev pub refused : {R M : Type 0} {B D : ℕ} → Checker R M B D → Outlet R → ℕ → Checker R M B D
 refused old outlet earliest = record old {
-  waits = false;
+  phase = Leaving false;
   earliest_start = earliest;
   outlet = outlet;
 }

@@ -1,5 +1,6 @@
 //! The receiver: its parts, and its calls for a tick and for a run of ticks.
 use crate::arriving::Arriving;
+use crate::phase::Phase;
 use burst_walk::{BoxStep, RunBytes};
 use delay_ring::DelayRing;
 use frame_ending::{BurstCut, Cut};
@@ -35,19 +36,17 @@ pub struct Checker<R, M, const B: usize, const D: usize> {
     direction: Dir,
     // the first tick at which a burst that starts isn't dropped for want of time
     earliest_start: u64,
-    // there is a burst whose verdict is open, and this has come of its trailer
-    waits: bool,
+    phase: Phase,
+    // what has come of the trailer of the burst whose verdict is open
     arriving: Arriving<B>,
     // the live ticks that are still to leave, and how many steps from now the last of them leaves
     ring: DelayRing<D>,
     until: u8,
     outlet: Outlet<R>,
-    // the last verdict was that the burst passes
-    passed: bool,
 }
 
 impl<R: LineRules, M: Mac, const B: usize, const D: usize> Checker<R, M, B, D> {
-    ghost use Rattle.std.specs.Prelude.{◌≡◌, ℕ, ◌+◌, ◌-◌, ◌<◌, ◌≤◌, List, [], length};
+    ghost use Rattle.std.specs.Prelude.{◌≡◌, ℕ, ◌+◌, ◌-◌, ◌<◌, ◌≤◌, ◌==◌, List, [], ◌∷◌, ◌++◌};
     ghost use Rattle.std.specs.Prelude.{Some, None, OnOk, OnErr, IfOk, true, false};
     ghost use Rattle.yasir_ticks.specs.declared.tick.Tick.{Tick};
     ghost use Rattle.yasir_ticks.specs.declared.tick.Tick.TheVariants.{Silent, Byte};
@@ -68,7 +67,11 @@ impl<R: LineRules, M: Mac, const B: usize, const D: usize> Checker<R, M, B, D> {
     ghost use Rattle.frame_ending.specs.LiveBytes.{live_bytes};
     ghost use Rattle.line_rules.specs.declared.head.Head.TheVariants.{Bad};
     ghost use Rattle.check_receiver.specs.Turning.{Turned};
-    ghost use Rattle.std.specs.Prelude.{map, take};
+    ghost use Rattle.std.specs.Prelude.{length, map, take, drop, slice_index_or};
+    ghost use Rattle.delay_ring.specs.DelayRing.{ring_ticks};
+    ghost use Rattle.spoiler.specs.Outlet.{StandsFor as OutletStandsFor};
+    ghost use Rattle.link_verdicts.specs.Turns.{HasTurned};
+    ghost use Rattle.check_receiver.specs.Phases.{passes_in};
     ghost use Rattle.yasir_ticks.specs.Ticks.{silent};
     ghost use Rattle.line_rules.specs.declared.head.Head.TheVariants.{Good};
     ghost use Rattle.burst_walk.specs.Answered.{answered};
@@ -91,12 +94,11 @@ impl<R: LineRules, M: Mac, const B: usize, const D: usize> Checker<R, M, B, D> {
             mac: M::with_key(key),
             direction: dir,
             earliest_start: 0,
-            waits: false,
+            phase: Phase::Idle,
             arriving: Arriving::none(),
             ring: DelayRing::new(),
             until: 0,
             outlet: Outlet::new(),
-            passed: false,
         }
     }
 
@@ -158,19 +160,16 @@ impl<R: LineRules, M: Mac, const B: usize, const D: usize> Checker<R, M, B, D> {
         ensures direction { direction_of self.new ≡ direction_of self.old }
     {
         left.clear();
-        if self.waits {
-            if self.cut.live_over() {
-                return self.hear_trailer(bytes, left);
+        match self.phase {
+            Phase::Idle => self.start_some(bytes, left),
+            Phase::Open => {
+                if self.cut.live_over() {
+                    return self.hear_trailer(bytes, left);
+                }
+                self.follow(bytes, left)
             }
-            return self.follow(bytes, left);
+            Phase::Leaving { .. } => self.pass_over(bytes, left),
         }
-        if self.outlet.owes() {
-            return 0;
-        }
-        if self.until == 0 {
-            return self.start_some(bytes, left);
-        }
-        self.pass_over(bytes, left)
     }
 
     /// Takes the first of this many silent ticks, as far as no note falls into their steps and what
@@ -188,17 +187,14 @@ impl<R: LineRules, M: Mac, const B: usize, const D: usize> Checker<R, M, B, D> {
         ensures direction { direction_of self.new ≡ direction_of self.old }
     {
         left.clear();
-        if self.waits {
-            return self.pause_some(ticks, left);
+        match self.phase {
+            Phase::Idle => {
+                self.cut.wait_some(ticks);
+                ticks
+            }
+            Phase::Open => self.pause_some(ticks, left),
+            Phase::Leaving { .. } => self.rest_some(ticks, left),
         }
-        if self.outlet.owes() {
-            return 0;
-        }
-        if self.until > 0 {
-            return self.rest_some(ticks, left);
-        }
-        self.cut.wait_some(ticks);
-        ticks
     }
 
     // Whether the burst has a whole and good header.
@@ -213,13 +209,31 @@ impl<R: LineRules, M: Mac, const B: usize, const D: usize> Checker<R, M, B, D> {
         }
     }
 
-    // What leaves in this step, where the tick `t` enters the ring.
+    // What leaves in this step, where the tick `t` enters the ring. The receiver is idle once the
+    // rest of a burst has left.
     #[inline]
     fn turn(&mut self, t: Tick) -> Tick
         ensures { Turned R.LineRules self.old self.new t result }
     {
+        let left = self.let_out(t);
+        self.phase = self.phase.settled(self.until, self.outlet.owes());
+        left
+    }
+
+    // What leaves, through the outlet.
+    #[inline]
+    fn let_out(&mut self, t: Tick) -> Tick
+        ensures rest { self.new
+            ≡ record self.old { ring = self.new.ring; outlet = self.new.outlet } }
+        ensures ring { ring_ticks self.new.ring ≡ drop 1 (ring_ticks self.old.ring) ++ t ∷ [] }
+        ensures out { (x : List ℕ) → OutletStandsFor R.LineRules self.old.outlet x
+            → HasTurned R.LineRules self.old.outlet self.new.outlet (self.old.until == 0)
+            (passes_in self.old.phase) x result
+            (slice_index_or (ring_ticks self.old.ring) 0 Silent) }
+    {
+        let passed = self.phase.passes();
         match self.ring.turn(t) {
-            Tick::Byte(byte) => Tick::Byte(self.outlet.emit(byte, self.until == 0, self.passed)),
+            Tick::Byte(byte) => Tick::Byte(self.outlet.emit(byte, self.until == 0, passed)),
             Tick::Silent => match self.outlet.fill() {
                 Some(byte) => Tick::Byte(byte),
                 None => Tick::Silent,

@@ -13,6 +13,7 @@ mod arriving;
 mod boxed;
 mod checker;
 mod laws;
+mod phase;
 mod runs;
 
 pub use burst_walk::{BoxStep, RunBytes};

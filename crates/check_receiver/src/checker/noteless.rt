@@ -66,7 +66,7 @@ impl<R: LineRules, M: Mac, const B: usize, const D: usize> Checker<R, M, B, D> {
         ensures { (line : List Tick) → CutStandsFor R.LineRules self.now.cut line
             → result ≡ silence_has_none R.LineRules self.now line }
     {
-        if !self.waits {
+        if !self.phase.is_open() {
             return true;
         }
         let still = usize::from(self.until.saturating_sub(1));
@@ -134,7 +134,7 @@ impl<R: LineRules, M: Mac, const B: usize, const D: usize> Checker<R, M, B, D> {
         ensures { (line : List Tick) → CutStandsFor R.LineRules self.now.cut line
             → result ≡ further_has_none R.LineRules self.now line }
     {
-        if !self.waits {
+        if !self.phase.is_open() {
             return true;
         }
         if self.cut.live_over() {

@@ -1,4 +1,4 @@
-//! The receiver at rest: no verdict is open, and nothing is left to leave.
+//! The receiver at rest: it is idle, and so nothing is left to leave.
 ghost use Rattle.std.specs.Prelude.{◌≡◌};
 ghost use Rattle.check_receiver.specs.Resting.{is_at_rest};
 
@@ -12,13 +12,7 @@ impl<R: LineRules, M: Mac, const B: usize, const D: usize> RestingBox for Checke
 
     #[inline]
     fn is_resting(&self) -> bool {
-        if self.waits {
-            return false;
-        }
-        if self.outlet.owes() {
-            return false;
-        }
-        self.until == 0
+        self.phase.is_idle()
     }
 
     #[inline]

@@ -1,5 +1,4 @@
-//! Runs of ticks that the receiver takes at once, by what it is in: a burst whose verdict is open,
-//! live ticks that are still to leave, or neither.
+//! Runs of ticks that the receiver takes at once, by its phase.
 use super::{Checker, PAUSE};
 use crate::runs::{alike_along, begin_well, cut_some, lend, lend_along};
 use burst_walk::RunBytes;
@@ -10,6 +9,8 @@ use yasir_ticks::{MAX_TICKS, Tick};
 impl<R: LineRules, M: Mac, const B: usize, const D: usize> Checker<R, M, B, D> {
     ghost use Rattle.std.specs.Prelude.{◌≡◌, ℕ, ◌+◌, ◌-◌, ◌<◌, ◌≤◌, List, [], ◌∷◌, ◌++◌, length};
     ghost use Rattle.std.specs.Prelude.{true, false};
+    ghost use Rattle.check_receiver.specs.Phases.{is_open};
+    ghost use Rattle.check_receiver.specs.declared.phase.Phase.TheVariants.{Idle, Open};
     ghost use Rattle.yasir_ticks.specs.declared.tick.Tick.{Tick};
     ghost use Rattle.yasir_ticks.specs.declared.tick.Tick.TheVariants.{Silent, Byte};
     ghost use Rattle.frame_ending.specs.declared.cut.Cut.TheVariants.{Start, Live};
@@ -24,7 +25,6 @@ impl<R: LineRules, M: Mac, const B: usize, const D: usize> Checker<R, M, B, D> {
     ghost use Rattle.std.specs.Prelude.{slice_index_or};
     ghost use Rattle.std.specs.Prelude.{map, take};
     ghost use Rattle.yasir_ticks.specs.Ticks.{silent};
-    ghost use Rattle.spoiler.specs.Outlet.{owed_by};
     ghost use Rattle.burst_walk.specs.Answered.{answered};
     ghost use Rattle.check_receiver.specs.Stands.{StandsAt, direction_of};
     ghost use Rattle.check_receiver.specs.Runs.{HasTakenRun};
@@ -32,7 +32,7 @@ impl<R: LineRules, M: Mac, const B: usize, const D: usize> Checker<R, M, B, D> {
     // Live bytes of the burst whose verdict is open.
     pub(super) fn follow(&mut self, bytes: &[u8], left: &mut RunBytes) -> usize
         requires room { ticks_taken self.old + length bytes.now ≤ MAX_TICKS }
-        requires waits { self.old.waits ≡ true }
+        requires phase { self.old.phase ≡ Open }
         requires empty { left.old.items ≡ [] }
         ensures within { result ≤ length bytes.now }
         ensures taken { ticks_taken self.new ≡ ticks_taken self.old + result }
@@ -57,7 +57,7 @@ impl<R: LineRules, M: Mac, const B: usize, const D: usize> Checker<R, M, B, D> {
         ensures taken { ticks_taken self.new ≡ ticks_taken self.old + result }
         ensures run { (last : ℕ) (setup : Setup) (line : List Tick)
             → StandsAt R.LineRules M.Mac self.old last setup line
-            → self.old.waits ≡ true
+            → self.old.phase ≡ Open
             → KeepsHeader R.rules (live_bytes_so_far R.rules line) bytes.now
             → HasTakenRun R.LineRules M.Mac self.new last setup line
             (map Byte (take result bytes.now)) (answered result left.new.items) }
@@ -83,7 +83,7 @@ impl<R: LineRules, M: Mac, const B: usize, const D: usize> Checker<R, M, B, D> {
     // Bytes of the trailer of the burst whose verdict is open, but for the last one.
     pub(super) fn hear_trailer(&mut self, bytes: &[u8], left: &mut RunBytes) -> usize
         requires room { ticks_taken self.old + length bytes.now ≤ MAX_TICKS }
-        requires waits { self.old.waits ≡ true }
+        requires phase { self.old.phase ≡ Open }
         requires empty { left.old.items ≡ [] }
         ensures within { result ≤ length bytes.now }
         ensures taken { ticks_taken self.new ≡ ticks_taken self.old + result }
@@ -116,7 +116,7 @@ impl<R: LineRules, M: Mac, const B: usize, const D: usize> Checker<R, M, B, D> {
     // Silence in the pause behind the live bytes of the burst whose verdict is open.
     pub(super) fn pause_some(&mut self, ticks: u32, left: &mut RunBytes) -> u32
         requires room { ticks_taken self.old + ticks ≤ MAX_TICKS }
-        requires waits { self.old.waits ≡ true }
+        requires phase { self.old.phase ≡ Open }
         requires empty { left.old.items ≡ [] }
         ensures within { result ≤ ticks }
         ensures taken { ticks_taken self.new ≡ ticks_taken self.old + result }
@@ -142,12 +142,10 @@ impl<R: LineRules, M: Mac, const B: usize, const D: usize> Checker<R, M, B, D> {
         count as u32
     }
 
-    // Bytes of a burst that is noted, while live ticks still leave, but for the last of them.
+    // Bytes while the rest of a burst that is noted leaves, but for the last of its live ticks.
     pub(super) fn pass_over(&mut self, bytes: &[u8], left: &mut RunBytes) -> usize
         requires room { ticks_taken self.old + length bytes.now ≤ MAX_TICKS }
-        requires rests { self.old.waits ≡ false }
-        requires unowed { owed_by self.old.outlet ≡ 0 }
-        requires some { 0 < self.old.until }
+        requires phase { is_open self.old.phase ≡ false }
         requires empty { left.old.items ≡ [] }
         ensures within { result ≤ length bytes.now }
         ensures taken { ticks_taken self.new ≡ ticks_taken self.old + result }
@@ -157,6 +155,10 @@ impl<R: LineRules, M: Mac, const B: usize, const D: usize> Checker<R, M, B, D> {
             (map Byte (take result bytes.now)) (answered result left.new.items) }
         ensures direction { direction_of self.new ≡ direction_of self.old }
     {
+        // the last live tick leaves, or a fill
+        if self.until < 2 {
+            return 0;
+        }
         let most = bytes.len().min(usize::from(self.until) - 1).min(D);
         let count = self.ring.front_alike(most);
         let taken = cut_some(&mut self.cut, &bytes[..count]);
@@ -166,13 +168,11 @@ impl<R: LineRules, M: Mac, const B: usize, const D: usize> Checker<R, M, B, D> {
         taken
     }
 
-    // Bytes where nothing is left to leave: those of a burst that is noted, or the first ones of
-    // another burst, if they begin with a good header and the burst isn't early.
+    // Bytes while the receiver is idle: those of a burst that is noted, or the first ones of
+    // another, if they begin with a good header and the burst isn't early.
     pub(super) fn start_some(&mut self, bytes: &[u8], left: &mut RunBytes) -> usize
         requires room { ticks_taken self.old + length bytes.now ≤ MAX_TICKS }
-        requires rests { self.old.waits ≡ false }
-        requires unowed { owed_by self.old.outlet ≡ 0 }
-        requires none { self.old.until ≡ 0 }
+        requires phase { self.old.phase ≡ Idle }
         requires empty { left.old.items ≡ [] }
         ensures within { result ≤ length bytes.now }
         ensures taken { ticks_taken self.new ≡ ticks_taken self.old + result }
@@ -213,7 +213,7 @@ impl<R: LineRules, M: Mac, const B: usize, const D: usize> Checker<R, M, B, D> {
             → (head_of R.rules (first ∷ []) ≡ Bad → ⊥)
             → HasTakenRun R.LineRules M.Mac self.new last setup line
             (Byte first ∷ []) (Silent ∷ [])
-            × (self.new.waits ≡ true)
+            × (self.new.phase ≡ Open)
             × (slice_index_or (ring_ticks self.new.ring) 0 Silent ≡ Silent)
             × (live_bytes_so_far R.rules (line ++ Byte first ∷ []) ≡ first ∷ []) }
         ensures direction { direction_of self.new ≡ direction_of self.old }
@@ -222,12 +222,10 @@ impl<R: LineRules, M: Mac, const B: usize, const D: usize> Checker<R, M, B, D> {
         let _ = self.begin(first);
     }
 
-    // Silence while live ticks of a burst that is noted still leave, but for the last of them.
+    // Silence while the rest of a burst that is noted leaves, but for the last of its live ticks.
     pub(super) fn rest_some(&mut self, ticks: u32, left: &mut RunBytes) -> u32
         requires room { ticks_taken self.old + ticks ≤ MAX_TICKS }
-        requires rests { self.old.waits ≡ false }
-        requires unowed { owed_by self.old.outlet ≡ 0 }
-        requires some { 0 < self.old.until }
+        requires phase { is_open self.old.phase ≡ false }
         requires empty { left.old.items ≡ [] }
         ensures within { result ≤ ticks }
         ensures taken { ticks_taken self.new ≡ ticks_taken self.old + result }
@@ -237,10 +235,11 @@ impl<R: LineRules, M: Mac, const B: usize, const D: usize> Checker<R, M, B, D> {
             (silent result) (answered result left.new.items) }
         ensures direction { direction_of self.new ≡ direction_of self.old }
     {
-        let still = usize::from(self.until) - 1;
-        if still == 0 {
+        // the last live tick leaves, or a fill
+        if self.until < 2 {
             return 0;
         }
+        let still = usize::from(self.until) - 1;
         let most = (ticks as usize).min(still).min(D);
         let count = self.ring.front_alike(most);
         lend(&self.ring, count, left);

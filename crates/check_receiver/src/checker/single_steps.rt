@@ -1,5 +1,6 @@
 //! What a single tick does, once it is cut: bytes of a burst, bytes that aren't live, and silence.
 use super::{Checker, PAUSE};
+use crate::phase::Phase;
 use burst_walk::BoxStep;
 use frame_ending::Cut;
 use hmac_tag::Mac;
@@ -32,6 +33,8 @@ impl<R: LineRules, M: Mac, const B: usize, const D: usize> Checker<R, M, B, D> {
     ghost use Rattle.frame_ending.specs.Stands.{StandsFor as CutStandsFor};
     ghost use Rattle.std.specs.Prelude.{slice_index_or};
     ghost use Rattle.check_receiver.specs.Turning.{Turned, with_until};
+    ghost use Rattle.check_receiver.specs.Phases.{is_open};
+    ghost use Rattle.check_receiver.specs.declared.phase.Phase.TheVariants.{Open};
     ghost use Rattle.check_receiver.specs.Between.{IsBetween, IsSilence, IsNoPass};
     ghost use Rattle.yasir_ticks.specs.Ticks.{silent};
     ghost use Rattle.line_rules.specs.declared.head.Head.TheVariants.{Good};
@@ -48,15 +51,14 @@ impl<R: LineRules, M: Mac, const B: usize, const D: usize> Checker<R, M, B, D> {
             → IsBetween R.LineRules M.Mac self.old last setup line (Byte byte) (Start byte)
             → self.old.earliest_start ≤ length line
             → (head_of R.rules (byte ∷ []) ≡ Bad → ⊥)
-            → (result.note ≡ None) × (result.tick ≡ Silent) × (self.new.waits ≡ true)
+            → (result.note ≡ None) × (result.tick ≡ Silent) × (self.new.phase ≡ Open)
             × (slice_index_or (ring_ticks self.new.ring) 0 Silent ≡ Silent) }
         ensures direction { direction_of self.new ≡ direction_of self.old }
     {
         if self.cut.start() < self.earliest_start {
             return self.drop_busy();
         }
-        self.waits = true;
-        self.passed = false;
+        self.phase = Phase::Open;
         self.arriving.begin();
         self.outlet.begin();
         self.mac.begin();
@@ -73,14 +75,15 @@ impl<R: LineRules, M: Mac, const B: usize, const D: usize> Checker<R, M, B, D> {
         ensures cut { self.new.cut ≡ self.old.cut }
         ensures note { IsNoPass result.note }
         ensures goes_on { (line : List Tick) → CutStandsFor R.LineRules self.old.cut line
-            → (self.old.waits ≡ true → head_of R.rules (live_bytes_so_far R.rules line) ≡ Bad → ⊥)
+            → (is_open self.old.phase ≡ true
+            → head_of R.rules (live_bytes_so_far R.rules line) ≡ Bad → ⊥)
             → result.note ≡ None }
         ensures step { (last : ℕ) (setup : Setup) (line : List Tick) (t : Tick)
             → IsBetween R.LineRules M.Mac self.old last setup line t (Live byte)
             → HasTaken R.LineRules M.Mac self.new last setup line t result }
         ensures direction { direction_of self.new ≡ direction_of self.old }
     {
-        if !self.waits {
+        if !self.phase.is_open() {
             return self.pass_by(None);
         }
         self.mac.update(&[byte]);
@@ -112,8 +115,8 @@ impl<R: LineRules, M: Mac, const B: usize, const D: usize> Checker<R, M, B, D> {
         ensures cut { self.new.cut ≡ self.old.cut }
         ensures note { IsNoPass result.note }
         ensures goes_on { (line : List Tick) → CutStandsFor R.LineRules self.old.cut line
-            → (self.old.waits ≡ true → D ≤ self.old.until + 3)
-            → (self.old.waits ≡ true → self.old.until + 2 ≡ D
+            → (is_open self.old.phase ≡ true → D ≤ self.old.until + 3)
+            → (is_open self.old.phase ≡ true → self.old.until + 2 ≡ D
             → head_of R.rules (live_bytes_so_far R.rules line) ≡ Short → ⊥)
             → result.note ≡ None }
         ensures step { (last : ℕ) (setup : Setup) (line : List Tick) (cut : Cut)
@@ -122,7 +125,7 @@ impl<R: LineRules, M: Mac, const B: usize, const D: usize> Checker<R, M, B, D> {
             → HasTaken R.LineRules M.Mac self.new last setup line Silent result }
         ensures direction { direction_of self.new ≡ direction_of self.old }
     {
-        if !self.waits {
+        if !self.phase.is_open() {
             return self.pass_by(None);
         }
         if usize::from(self.until) + PAUSE < D {
@@ -145,7 +148,7 @@ impl<R: LineRules, M: Mac, const B: usize, const D: usize> Checker<R, M, B, D> {
             → (head_of R.rules (live_bytes_so_far R.rules line) ≡ Short → ⊥)
             → result.note ≡ None }
         ensures step { (last : ℕ) (setup : Setup) (line : List Tick) (cut : Cut)
-            → IsSilence cut → self.old.waits ≡ true → self.old.until + 2 ≡ D
+            → IsSilence cut → is_open self.old.phase ≡ true → self.old.until + 2 ≡ D
             → IsBetween R.LineRules M.Mac self.old last setup line Silent cut
             → HasTaken R.LineRules M.Mac self.new last setup line Silent result }
         ensures direction { direction_of self.new ≡ direction_of self.old }
@@ -163,13 +166,13 @@ impl<R: LineRules, M: Mac, const B: usize, const D: usize> Checker<R, M, B, D> {
         ensures cut { self.new.cut ≡ self.old.cut }
         ensures note { result.note ≡ None }
         ensures step { (last : ℕ) (setup : Setup) (line : List Tick) (t : Tick)
-            → (self.old.waits ≡ true → self.old.until + 3 < D)
-            → (self.old.waits ≡ true → 1 < self.old.until)
+            → (is_open self.old.phase ≡ true → self.old.until + 3 < D)
+            → (is_open self.old.phase ≡ true → 1 < self.old.until)
             → IsBetween R.LineRules M.Mac self.old last setup line t (Extra extra)
             → HasTaken R.LineRules M.Mac self.new last setup line t result }
         ensures direction { direction_of self.new ≡ direction_of self.old }
     {
-        if !self.waits {
+        if !self.phase.is_open() {
             return self.pass_by(None);
         }
         self.arriving.take(extra);
@@ -201,7 +204,7 @@ impl<R: LineRules, M: Mac, const B: usize, const D: usize> Checker<R, M, B, D> {
         ensures journal { KeepsJournal S.SlotDisk journal.old journal.new disk.old disk.new result }
         ensures direction { direction_of self.new ≡ direction_of self.old }
     {
-        if !self.waits {
+        if !self.phase.is_open() {
             return Ok(self.pass_by(None));
         }
         if usize::from(self.until) + PAUSE >= D {

@@ -1,5 +1,6 @@
 //! The verdict on a burst, and the steps that note it.
 use super::Checker;
+use crate::phase::Phase;
 use burst_walk::BoxStep;
 use hmac_tag::Mac;
 use line_rules::{Head, LineRules};
@@ -10,7 +11,7 @@ use yasir_ticks::{MAX_TICKS, Tick};
 
 impl<R: LineRules, M: Mac, const B: usize, const D: usize> Checker<R, M, B, D> {
     ghost use Rattle.std.specs.Prelude.{◌≡◌, ℕ, ◌+◌, ◌-◌, ◌<◌, ◌≤◌, List, ◌++◌, length};
-    ghost use Rattle.std.specs.Prelude.{Some, OnOk, OnErr, IfOk, true, false};
+    ghost use Rattle.std.specs.Prelude.{Some, OnOk, OnErr, IfOk, true};
     ghost use Rattle.yasir_ticks.specs.declared.tick.Tick.{Tick};
     ghost use Rattle.yasir_ticks.specs.declared.tick.Tick.TheVariants.{Silent};
     ghost use Rattle.frame_ending.specs.SoFar.{live_bytes_so_far};
@@ -34,6 +35,7 @@ impl<R: LineRules, M: Mac, const B: usize, const D: usize> Checker<R, M, B, D> {
     ghost use Rattle.link_verdicts.specs.declared.note.DroppedWhy.TheVariants.{Head as NoHead};
     ghost use Rattle.link_verdicts.specs.Verdicts.{whole_verdict};
     ghost use Rattle.check_receiver.specs.Arrivals.{bytes_come};
+    ghost use Rattle.check_receiver.specs.declared.phase.Phase.TheVariants.{Leaving};
     ghost use Rattle.check_receiver.specs.Stands.{MacHolds};
     ghost use Rattle.std.specs.Prelude.{drop, bytes_eq};
     ghost use Rattle.std.specs.Int.{w64, to_be_bytes};
@@ -128,8 +130,7 @@ impl<R: LineRules, M: Mac, const B: usize, const D: usize> Checker<R, M, B, D> {
     fn pass(&mut self, number: u64) -> BoxStep<CheckNote>
         requires room { ticks_cut self.old.cut ≤ MAX_TICKS }
         ensures turned { Turned R.LineRules (record self.old {
-          waits = false;
-          passed = true;
+          phase = Leaving true;
           earliest_start = self.new.earliest_start;
         })
             self.new Silent result.tick }
@@ -139,8 +140,7 @@ impl<R: LineRules, M: Mac, const B: usize, const D: usize> Checker<R, M, B, D> {
             → result.note ≡ Some (Passed number (start_so_far line)
             (length (live_bytes_so_far R.rules line))) }
     {
-        self.waits = false;
-        self.passed = true;
+        self.phase = Phase::Leaving { passed: true };
         self.earliest_start = self.cut.ticks() + u64::from(self.until);
         let start = self.cut.start();
         let len = self.cut.rules().len();
@@ -158,7 +158,7 @@ impl<R: LineRules, M: Mac, const B: usize, const D: usize> Checker<R, M, B, D> {
         ensures told { (line : List Tick) → CutStandsFor R.LineRules self.old.cut line
             → result.note ≡ Some (Refused (start_so_far line) why) }
     {
-        self.waits = false;
+        self.phase = Phase::Leaving { passed: false };
         self.earliest_start = self.cut.ticks()
             + u64::from(self.until)
             + u64::from(self.cut.rules().left());
@@ -174,7 +174,7 @@ impl<R: LineRules, M: Mac, const B: usize, const D: usize> Checker<R, M, B, D> {
         ensures told { (line : List Tick) → CutStandsFor R.LineRules self.old.cut line
             → result.note ≡ Some (Dropped (start_so_far line) NoHead) }
     {
-        self.waits = false;
+        self.phase = Phase::Idle;
         self.until = 0;
         self.ring.clear();
         let start = self.cut.start();

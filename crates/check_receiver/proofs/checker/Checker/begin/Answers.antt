@@ -36,8 +36,8 @@ returns-in-Bad-clause-step g c = λ last setup line t between.
     let free = c.if-start-self.false in
     let text = at.walks.mac_stands in
     start-bad g.R.LineRules g.M.Mac c.args.self.now last setup line c.args.byte at
-    c.update.new.self c.begin.new.self c.begin-2.new.self c.begin-2.ensures.owed (omega arith) c.drop_headless.new.self c.drop_headless.result
-    c.drop_headless.ensures.turned
+    c.update.new.self c.begin.new.self c.begin-2.new.self c.begin-2.ensures.owed (omega arith)
+    c.drop_headless.new.self c.drop_headless.result c.drop_headless.ensures.turned
     (c.drop_headless.ensures.told (line ++ Byte c.args.byte ∷ []) at.cuts)
     (sym (c.head.ensures (line ++ Byte c.args.byte ∷ []) at.cuts) ∙ c.in-Bad.is) (
       c.LABEL.result ∷ c.number.result ∷ c.args.byte ∷ [],
@@ -72,8 +72,9 @@ returns-in-Short g c = record {
       let D : ℕ → Type 0 = λ n. g.M.Mac.stands c.update.new.self setup.key
       (g.R.LineRules.rules.label ∷ n ∷ c.args.byte ∷ []) in
       start-open g.R.LineRules g.M.Mac c.args.self.now last setup line c.args.byte at
-      c.update.new.self c.begin.new.self c.begin-2.new.self c.begin-2.ensures.owed (omega arith) c.enter.new.self c.enter.result c.enter.new.self.until
-      c.enter.ensures.turned c.enter.ensures.until c.enter.ensures.note
+      c.update.new.self c.begin.new.self c.begin-2.new.self c.begin-2.ensures.owed (omega arith)
+      c.enter.new.self c.enter.result c.enter.new.self.until c.enter.ensures.turned
+      c.enter.ensures.until c.enter.ensures.note
       (λ bad. let head = c.head.ensures (line ++ Byte c.args.byte ∷ []) at.cuts in
       ⊎_elim (λ short. absurd cc) (λ good. absurd cc) c.in-Short.is)
       (start-mac_holds g.R.LineRules g.M.Mac c.args.self.now last setup line c.args.byte at
@@ -86,12 +87,14 @@ returns-in-Short g c = record {
       let free = c.if-start-self.false in (
         c.enter.ensures.note,
         start-quiet g.R.LineRules g.M.Mac c.args.self.now last setup line c.args.byte at
-            c.update.new.self c.begin.new.self c.begin-2.new.self c.begin-2.ensures.owed (omega arith) c.enter.new.self c.enter.result
-            c.enter.new.self.until c.enter.ensures.turned,
-        ap (λ v. v.waits) c.enter.ensures.turned.rest,
+            c.update.new.self c.begin.new.self c.begin-2.new.self c.begin-2.ensures.owed
+            (omega arith) c.enter.new.self c.enter.result c.enter.new.self.until
+            c.enter.ensures.turned,
+        c.enter.ensures.turned.phase,
         start-still g.R.LineRules g.M.Mac c.args.self.now last setup line c.args.byte at
-            c.update.new.self c.begin.new.self c.begin-2.new.self c.begin-2.ensures.owed (omega arith) c.enter.new.self c.enter.result
-            c.enter.new.self.until c.enter.ensures.turned,
+            c.update.new.self c.begin.new.self c.begin-2.new.self c.begin-2.ensures.owed
+            (omega arith) c.enter.new.self c.enter.result c.enter.new.self.until
+            c.enter.ensures.turned,
       );
 }
 

@@ -9,6 +9,6 @@ returns-then-not-has_good_head-clause-run g c = λ last setup line stands.
 
 pub returns-clause-run : goal.returns-clause-run
 returns-clause-run g c = λ last setup line stands.
-    c.follow_on.ensures.run last setup line stands c.requires.waits
+    c.follow_on.ensures.run last setup line stands c.requires.phase
     (good-keeps g.R.LineRules.rules (live_bytes_so_far g.R.LineRules.rules line) c.args.bytes.now
     (c.has_good_head.ensures c.if-not-has_good_head.false line stands.cuts))

@@ -2,7 +2,7 @@ use Rattle.burst_walk.specs.Answered.{answered}
 use Rattle.check_receiver.proofs.Beginnings.{front-none, keeps-front}
 use Rattle.check_receiver.proofs.Lending.{none-taken, bytes-long, ring-whole, first-along}
 use Rattle.check_receiver.proofs.{RunTicks.take-along, RunsTaken.follow-taken}
-use Rattle.check_receiver.specs.Runs.{HasTakenRun, IsFront, KeepsHeader}
+use Rattle.check_receiver.specs.{Phases.is_open, Runs.HasTakenRun, Runs.IsFront, Runs.KeepsHeader}
 use Rattle.delay_ring.specs.DelayRing.{ring_ticks}
 use Rattle.frame_ending.specs.{SoFar.live_bytes_so_far, Stands.StandsFor as CutStandsFor}
 use Rattle.std.proofs.Common.{◌≡◌, ◌∙◌, ◌++◌, [], sym, ap, subst, arith, length, List, ℕ, take, map}
@@ -67,7 +67,7 @@ returns-clause-run g c = λ last setup line stands waits keeps.
     (follow-taken g.R.LineRules g.M.Mac old last setup line stands c.go_on_some-taken.new.self
     c.pass_bytes.new.self count items g.row.D E (omega arith)
     c.alike_along-count.ensures.alike
-    entering c.update.new.self waits (omega arith) (omega arith) along
+    entering c.update.new.self (ap (λ p. is_open p) waits) (omega arith) (omega arith) along
     keeps-entering
     (c.go_on_some-taken.ensures.stands line stands.cuts)
     (c.go_on_some-taken.ensures.live line stands.cuts)

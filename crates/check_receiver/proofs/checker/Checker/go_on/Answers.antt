@@ -4,19 +4,19 @@ use Rattle.check_receiver.proofs.{Machine.waiting-some, Resting.begins-none, Res
 use Rattle.check_receiver.specs.{Between.IsNoPass, Between.IsBetween, Stands.HasTaken}
 use Rattle.{check_receiver.specs.Stands.direction_of, frame_ending.proofs.Running.live-tick}
 use Rattle.frame_ending.specs.{LiveBytes.live_bytes, declared.cut.Cut.TheVariants.Live}
-use Rattle.link_verdicts.specs.declared.note.CheckNote.{CheckNote}
-use Rattle.std.proofs.Common.{◌≡◌, ◌∙◌, ⊎_elim, ap, sym, subst, inl, Option, [], ◌∷◌, ◌++◌, ℕ, List}
-use Rattle.std.proofs.Common.{length}
+use Rattle.{link_verdicts.specs.declared.note.CheckNote.CheckNote, std.proofs.Common.◌∙◌}
+use Rattle.std.proofs.Common.{⊎_elim, ap, sym, subst, inl, Option, [], ◌∷◌, ◌++◌, ℕ, List, length}
 use Rattle.yasir_ticks.specs.declared.tick.Tick.{Tick, TheVariants.Byte}
 use Rattle.check_receiver.proofs.checker.Checker.go_on.Goals as goal
 
-pub returns-then-not-self-clause-step : goal.returns-then-not-self-clause-step
-returns-then-not-self-clause-step g c = λ last setup line t between.
+pub returns-then-not-is_open-clause-step : goal.returns-then-not-is_open-clause-step
+returns-then-not-is_open-clause-step g c = λ last setup line t between.
+    let closed = sym c.is_open.ensures ∙ c.if-not-is_open.true in
     let is = live-tick g.R.LineRules.rules line t c.args.byte between.is_cut in
     rest-taken g.R.LineRules g.M.Mac c.args.self.now last setup line t (Live c.args.byte) between
     c.pass_by.new.self c.pass_by.result c.pass_by.ensures.turned c.pass_by.ensures.note
     (begins-none g.R.LineRules.rules line t c.args.byte is (inl between.is_cut))
-    c.if-not-self.true
+    closed
 
 pub returns-in-Short : goal.returns-in-Short
 returns-in-Short g c = record {
@@ -32,7 +32,8 @@ returns-in-Short g c = record {
       (Live c.args.byte)
       → HasTaken g.R.LineRules g.M.Mac c.enter.new.self last setup line u c.enter.result in
       let taken : P (Byte c.args.byte) = λ at.
-      let d = waiting-some at.walks.waiting (sym at.walks.waits_is ∙ c.if-not-self.false) in
+      let opens = sym c.is_open.ensures ∙ c.if-not-is_open.false in
+      let d = waiting-some at.walks.waiting (sym at.walks.waits_is ∙ opens) in
       let text : List ℕ = g.R.LineRules.rules.label ∷ setup.direction
       ∷ live_bytes g.R.LineRules.rules (going_on d.0 (length line) c.args.byte) in
       let mac_holds = live-mac_holds g.R.LineRules g.M.Mac c.args.self.now last setup line c.args.byte at
@@ -42,7 +43,7 @@ returns-in-Short g c = record {
       c.enter.ensures.turned c.enter.ensures.until c.enter.ensures.note
       (λ bad. let head = c.head.ensures (line ++ Byte c.args.byte ∷ []) at.cuts in
       ⊎_elim (λ short. absurd cc) (λ good. absurd cc) c.in-Short.is)
-      d.0 d.1 (text, mac_holds.mac_is) mac_holds c.if-not-self.false in
+      d.0 d.1 (text, mac_holds.mac_is) mac_holds opens in
       subst P (sym is) taken between;
 }
 
@@ -54,7 +55,8 @@ returns-in-Bad-clause-step g c = λ last setup line t between.
     → HasTaken g.R.LineRules g.M.Mac c.drop_headless.new.self last setup line u
     c.drop_headless.result in
     let taken : P (Byte c.args.byte) = λ at.
-    let d = waiting-some at.walks.waiting (sym at.walks.waits_is ∙ c.if-not-self.false) in
+    let opens = sym c.is_open.ensures ∙ c.if-not-is_open.false in
+    let d = waiting-some at.walks.waiting (sym at.walks.waits_is ∙ opens) in
     let text = at.walks.mac_stands in
     drop-live g.R.LineRules g.M.Mac c.args.self.now last setup line c.args.byte at c.update.new.self
     c.drop_headless.new.self c.drop_headless.result c.drop_headless.ensures.turned
@@ -63,9 +65,10 @@ returns-in-Bad-clause-step g c = λ last setup line t between.
     (text.0 ++ c.args.byte ∷ [], c.update.ensures setup.key text.0 text.1) d.0 d.1 in
     subst P (sym is) taken between
 
-pub returns-then-not-self-clause-goes_on : goal.returns-then-not-self-clause-goes_on
-returns-then-not-self-clause-goes_on g c = λ line cuts good. c.pass_by.ensures.note
+pub returns-then-not-is_open-clause-goes_on : goal.returns-then-not-is_open-clause-goes_on
+returns-then-not-is_open-clause-goes_on g c = λ line cuts good. c.pass_by.ensures.note
 
 pub returns-in-Bad-clause-goes_on : goal.returns-in-Bad-clause-goes_on
 returns-in-Bad-clause-goes_on g c = λ line cuts good.
-    absurd (good c.if-not-self.false (sym (c.head.ensures line cuts) ∙ c.in-Bad.is))
+    let opens = sym c.is_open.ensures ∙ c.if-not-is_open.false in
+    absurd (good opens (sym (c.head.ensures line cuts) ∙ c.in-Bad.is))

@@ -8,7 +8,7 @@ use Rattle.frame_ending.proofs.Running.{start-tick, live-tick, extra-tick}
 use Rattle.frame_ending.specs.SoFar.{live_bytes_so_far}
 use Rattle.frame_ending.specs.declared.cut.Cut.TheVariants.{Start, Live, Extra}
 use Rattle.{line_rules.specs.Rules.head_of, std.proofs.Common.◌≡◌, std.proofs.Common.◌∙◌}
-use Rattle.std.proofs.Common.{◌+◌, ◌≤◌, ◌<◌, ◌++◌, ℕ, true, [], ◌∷◌, refl, sym, ap, subst, arith}
+use Rattle.std.proofs.Common.{◌++◌, ℕ, true, [], ◌∷◌, refl, sym, ap, subst, arith}
 use Rattle.yasir_ticks.specs.declared.tick.Tick.{Tick, TheVariants.Silent, TheVariants.Byte}
 use Rattle.check_receiver.proofs.checker.Checker.hear.Goals as goal
 

@@ -1,7 +1,8 @@
 use Rattle.{burst_walk.specs.Answered.answered, check_receiver.proofs.Lending.same-taken}
 use Rattle.check_receiver.{proofs.RunsTaken.trailer-taken, specs.Runs.HasTakenRun}
 use Rattle.{check_receiver.specs.Runs.IsFront, delay_ring.specs.DelayRing.ring_ticks}
-use Rattle.std.proofs.Common.{◌≡◌, ◌-◌, ◌++◌, sym, subst, arith, length, List, ℕ, take, drop, map}
+use Rattle.check_receiver.specs.Phases.{is_open}
+use Rattle.std.proofs.Common.{◌≡◌, ◌-◌, ◌++◌, sym, ap, subst, arith, length, List, ℕ, take, drop, map}
 use Rattle.std.proofs.lemmas.List.{take-take, length-take-le}
 use Rattle.yasir_ticks.specs.{Ticks.silent, declared.tick.Tick.TheVariants.Byte}
 use Rattle.check_receiver.proofs.checker.Checker.hear_trailer.Goals as goal
@@ -51,7 +52,8 @@ returns-clause-run g c = λ last setup line stands.
     (trailer-taken g.R.LineRules g.M.Mac old last setup line stands c.pass_over_some-taken.new.self
     c.pass_silence.new.self count items (old.until - taken) (omega arith)
     c.front_alike-count.ensures.alike heard
-    c.take_some.new.self c.requires.waits (omega arith) (omega arith) (omega arith)
+    c.take_some.new.self (ap (λ p. is_open p) c.requires.phase) (omega arith) (omega arith)
+    (omega arith)
     (c.pass_over_some-taken.ensures.stands line stands.cuts)
     (c.pass_over_some-taken.ensures.extra line stands.cuts)
     c.take_some.ensures

@@ -20,6 +20,7 @@ returns-clause-stands g c = λ floor.
       delay_is = c.requires.delay;
       direction_is = refl;
       cuts = c.new.ensures.stands;
+      left_in = (refl, c.new-3.ensures);
       walks = record {
         waiting = None;
         left = [];

@@ -1,9 +1,15 @@
 use Rattle.{burst_walk.specs.Answered.answered, check_receiver.proofs.Lending.bytes-long}
+use Rattle.check_receiver.proofs.Lending.{same-taken}
 use Rattle.check_receiver.{proofs.RunsTaken.flow-counted, specs.Runs.HasTakenRun}
 use Rattle.std.proofs.Common.{◌≡◌, ◌∙◌, ◌-◌, subst, arith, length, List, ℕ, take, map}
 use Rattle.std.proofs.lemmas.List.{take-take, length-take-le}
 use Rattle.yasir_ticks.specs.declared.tick.Tick.{Tick, TheVariants.Byte}
 use Rattle.check_receiver.proofs.checker.Checker.pass_over.Goals as goal
+
+pub returns-then-self-lt2-clause-run : goal.returns-then-self-lt2-clause-run
+returns-then-self-lt2-clause-run g c = λ last setup line stands.
+    same-taken g.R.LineRules g.M.Mac c.args.self.now last setup line stands c.args.left.now.items
+    c.requires.empty
 
 pub returns-clause-run : goal.returns-clause-run
 returns-clause-run g c = λ last setup line stands.
@@ -17,7 +23,7 @@ returns-clause-run g c = λ last setup line stands.
     let first = c.min.ensures in
     let widened = c.from.ensures in
     let few = c.cut_some-taken.ensures.within in
-    let some = c.requires.some in
+    let some = c.if-self-lt2.false in
     let long : length part ≡ count = length-take-le count c.args.bytes.now (omega arith) in
     let size : length run ≡ taken = bytes-long (take taken part)
     ∙ length-take-le taken part (omega arith) in
@@ -33,7 +39,7 @@ returns-clause-run g c = λ last setup line stands.
     (flow-counted g.R.LineRules g.M.Mac old last setup line stands c.cut_some-taken.new.cut
     c.pass_silence.new.self count items (old.until - taken) (omega arith)
     c.front_alike-count.ensures.alike run taken size
-    c.requires.rests c.requires.unowed (omega arith) (omega arith)
+    c.requires.phase (omega arith) (omega arith)
     (c.cut_some-taken.ensures.stands line stands.cuts)
     (c.cut_some-taken.ensures.none line stands.cuts) c.lend.ensures c.pass_silence.ensures
     (omega arith))

@@ -1,5 +1,6 @@
 use Rattle.check_receiver.proofs.{Lending.same-taken, RunsTaken.pause-taken}
-use Rattle.std.proofs.Common.{◌-◌, arith, ℕ}
+use Rattle.check_receiver.specs.Phases.{is_open}
+use Rattle.std.proofs.Common.{◌-◌, ap, arith, ℕ}
 use Rattle.check_receiver.proofs.checker.Checker.pause_some.Goals as goal
 
 pub returns-then-not-has_good_head-clause-run : goal.returns-then-not-has_good_head-clause-run
@@ -25,6 +26,7 @@ returns-clause-run g c = λ last setup line stands.
     pause-taken g.R.LineRules g.M.Mac old last setup line stands c.wait_some.new.self
     c.pass_silence.new.self n c.lend.new.left.items (old.until - n)
     (omega arith) c.front_alike-count.ensures.alike n
-    c.requires.waits (c.has_good_head.ensures c.if-not-has_good_head.false line stands.cuts)
+    (ap (λ p. is_open p) c.requires.phase)
+    (c.has_good_head.ensures c.if-not-has_good_head.false line stands.cuts)
     (omega arith) (omega arith) (c.wait_some.ensures.stands line stands.cuts) c.lend.ensures
     c.pass_silence.ensures (omega arith)

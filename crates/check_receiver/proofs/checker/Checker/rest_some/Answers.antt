@@ -4,8 +4,8 @@ use Rattle.std.proofs.{Common.◌-◌, Common.arith, Common.ℕ, lemmas.List.len
 use Rattle.yasir_ticks.specs.{Ticks.silent, declared.tick.Tick.TheVariants.Silent}
 use Rattle.check_receiver.proofs.checker.Checker.rest_some.Goals as goal
 
-pub returns-then-still-eq0-clause-run : goal.returns-then-still-eq0-clause-run
-returns-then-still-eq0-clause-run g c = λ last setup line stands.
+pub returns-then-self-lt2-clause-run : goal.returns-then-self-lt2-clause-run
+returns-then-self-lt2-clause-run g c = λ last setup line stands.
     same-taken g.R.LineRules g.M.Mac c.args.self.now last setup line stands c.args.left.now.items
     c.requires.empty
 
@@ -17,11 +17,11 @@ returns-clause-run g c = λ last setup line stands.
     let most = c.min-most.ensures in
     let first = c.min.ensures in
     let widened = c.from-still.ensures in
-    let some = c.requires.some in
+    let some = c.if-self-lt2.false in
     flow-counted g.R.LineRules g.M.Mac old last setup line stands c.wait_some.new.self
     c.pass_silence.new.self n c.lend.new.left.items (old.until - n)
     (omega arith) c.front_alike-count.ensures.alike
-    (silent n) n (length-replicate n Silent) c.requires.rests c.requires.unowed (omega arith)
+    (silent n) n (length-replicate n Silent) c.requires.phase (omega arith)
     (omega arith) (c.wait_some.ensures.stands line stands.cuts)
     (silence-begin_none g.R.LineRules.rules n line) c.lend.ensures c.pass_silence.ensures
     (omega arith)

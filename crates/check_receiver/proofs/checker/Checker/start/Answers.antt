@@ -18,6 +18,7 @@ returns-clause-run g c = λ last setup line stands starts none early good.
       is_cut = starts;
       before = c.args.self.now.until;
       one_less = omega arith;
+      left_in = stands.left_in;
       walks = stands.walks;
     } in
     let open' = c.begin.ensures.opens last setup line between early good in (

@@ -2,7 +2,9 @@ use Rattle.burst_walk.specs.Answered.{answered}
 use Rattle.check_receiver.proofs.Beginnings.{answer-whole, first-byte, more-taken, not-bad}
 use Rattle.check_receiver.proofs.Beginnings.{run-whole, start-keeps, still-stands}
 use Rattle.check_receiver.proofs.{Lending.bytes-long, Lending.same-taken, RunsTaken.idle-taken}
-use Rattle.check_receiver.specs.Runs.{HasTakenRun, KeepsHeader}
+use Rattle.check_receiver.specs.{Phases.LeftIn, Runs.HasTakenRun, Runs.KeepsHeader}
+use Rattle.check_receiver.specs.declared.phase.Phase.{Phase, TheVariants.Idle}
+use Rattle.spoiler.specs.Outlet.{owed_by}
 use Rattle.std.proofs.Common.{◌≡◌, ◌∙◌, ◌+◌, ◌-◌, ◌<◌, ◌++◌, [], ◌∷◌, sym, ap, subst, arith, length}
 use Rattle.std.proofs.Common.{List, ℕ, take, drop, map, refl, slice_index_or}
 use Rattle.std.proofs.lemmas.{Bool.eqb-false, List.length-take-le, List.length-drop, List.take_all}
@@ -24,7 +26,7 @@ returns-then-passed-gt0-clause-run g c = λ last setup line stands.
     (answered c.cut_some-passed.result y) in
     subst A (sym c.requires.empty) (subst Len size
     (idle-taken g.R.LineRules g.M.Mac c.args.self.now last setup line stands
-    c.cut_some-passed.new.cut run c.requires.rests c.requires.unowed c.requires.none
+    c.cut_some-passed.new.cut run c.requires.phase
     (c.cut_some-passed.ensures.stands line stands.cuts)
     (c.cut_some-passed.ensures.none line stands.cuts)))
 
@@ -75,8 +77,10 @@ returns-clause-run g c = λ last setup line stands.
     let keeps = start-keeps rules first tail bytes well.0 whole well.1 well.2 in
     let count = c.ticks.ensures.count line here.cuts in
     let early = c.if-ticks-self.false in
+    let L : Phase → Type 0 = λ p. LeftIn p c.args.self.now.until (owed_by c.args.self.now.outlet) in
+    let idle : L Idle = subst L c.requires.phase stands.left_in in
     let begun = c.start.ensures.run last setup line here
-    (c.cut_some-passed.ensures.starts none some line first stands.cuts) c.requires.none
+    (c.cut_some-passed.ensures.starts none some line first stands.cuts) idle.0
     (omega arith) (not-bad rules first tail keeps) in
     let K : List ℕ → Type 0 = λ x. KeepsHeader rules x tail in
     let rest = c.follow_on.ensures.run last setup (line ++ Byte first ∷ []) begun.0.stands begun.1

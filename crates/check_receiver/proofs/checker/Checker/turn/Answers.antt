@@ -1,57 +1,25 @@
-use Rattle.link_verdicts.specs.Turns.{HasTurned, tick_or_silence}
-use Rattle.spoiler.specs.Outlet.{StandsFor as OutletStandsFor, refused_by, filled_bytes}
-use Rattle.std.proofs.Common.{◌∙◌, ℕ, ◌++◌, refl, sym, ap, subst, ◌==◌, Option}
-use Rattle.yasir_ticks.specs.declared.tick.Tick.{Tick, TheVariants.Silent, TheVariants.Byte}
+use Rattle.check_receiver.specs.Phases.{settled}
+use Rattle.check_receiver.specs.declared.{checker.Checker.Checker, phase.Phase.Phase}
+use Rattle.std.proofs.Common.{◌≡◌, ◌∙◌, ℕ, ap}
 use Rattle.check_receiver.proofs.checker.Checker.turn.Goals as goal
 
-pub returns-in-Byte : goal.returns-in-Byte
-returns-in-Byte g c = record {
-  rest = refl;
-  ring = c.turn.ensures.ticks;
-  out = λ x stands.
-      let P : Tick → Type 0 = λ u. HasTurned g.R.LineRules c.args.self.now.outlet
-      c.emit.new.self (c.args.self.now.until == 0) c.args.self.now.passed x
-      (Byte c.emit.result) u in
-      subst P (sym c.in-Byte.is ∙ c.turn.ensures.answer)
-      (λ knows. (
-        ap (λ b. Byte b) (c.emit.ensures.answer x knows),
-        c.emit.ensures.stands x knows,
-        c.emit.ensures.owed x knows,
-        c.emit.ensures.refused,
-      ));
-}
+-- the phase is set behind all else
+set-phase : {R M : Type 0} {B D : ℕ} (old left : Checker R M B D) (p : Phase)
+    → left ≡ record old { ring = left.ring; outlet = left.outlet }
+    → record left { phase = p } ≡ record old { ring = left.ring; outlet = left.outlet; phase = p }
+set-phase {R} {M} {B} {D} old left p rest =
+    let F : Checker R M B D → Checker R M B D = λ v. record v { phase = p } in
+    ap F rest
 
-pub returns-in-Some : goal.returns-in-Some
-returns-in-Some g c = record {
-  rest = refl;
-  ring = c.turn.ensures.ticks;
-  out = λ x stands.
-      let P : Tick → Type 0 = λ u. HasTurned g.R.LineRules c.args.self.now.outlet
-      c.fill.new.self (c.args.self.now.until == 0) c.args.self.now.passed x
-      (Byte c.in-Some.byte) u in
-      let Q : Option ℕ → Type 0 = λ o. OutletStandsFor g.R.LineRules c.fill.new.self
-      (x ++ filled_bytes o) in
-      subst P (sym c.in-Silent.is ∙ c.turn.ensures.answer) (
-        ap tick_or_silence (sym c.in-Some.is ∙ c.fill.ensures.answer x stands),
-        subst Q (c.fill.ensures.answer x stands) (c.fill.ensures.stands x stands),
-        c.fill.ensures.owed x stands,
-        λ none. ap refused_by (c.fill.ensures.unowed none),
-      );
-}
-
-pub returns-in-None : goal.returns-in-None
-returns-in-None g c = record {
-  rest = refl;
-  ring = c.turn.ensures.ticks;
-  out = λ x stands.
-      let P : Tick → Type 0 = λ u. HasTurned g.R.LineRules c.args.self.now.outlet
-      c.fill.new.self (c.args.self.now.until == 0) c.args.self.now.passed x Silent u in
-      let Q : Option ℕ → Type 0 = λ o. OutletStandsFor g.R.LineRules c.fill.new.self
-      (x ++ filled_bytes o) in
-      subst P (sym c.in-Silent.is ∙ c.turn.ensures.answer) (
-        ap tick_or_silence (sym c.in-None.is ∙ c.fill.ensures.answer x stands),
-        subst Q (c.fill.ensures.answer x stands) (c.fill.ensures.stands x stands),
-        c.fill.ensures.owed x stands,
-        λ none. ap refused_by (c.fill.ensures.unowed none),
-      );
-}
+pub returns : goal.returns
+returns g c =
+    let old = c.args.self.now in
+    let rest = c.let_out-left.ensures.rest in
+    record {
+      rest = set-phase old c.let_out-left.new.self c.settled-self.result rest;
+      ring = c.let_out-left.ensures.ring;
+      out = c.let_out-left.ensures.out;
+      phase = c.settled-self.ensures
+          ∙ (ap (λ v. settled v.phase v.until c.owes.result) rest
+          ∙ ap (λ owes. settled old.phase old.until owes) c.owes.ensures);
+    }

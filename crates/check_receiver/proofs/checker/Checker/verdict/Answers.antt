@@ -1,4 +1,4 @@
-use Rattle.std.proofs.Common.{ℕ, ◌≤◌, refl, arith, Some, None}
+use Rattle.std.proofs.Common.{ℕ, refl, arith, Some, None}
 use Rattle.frame_ending.specs.SoFar.{live_bytes_so_far}
 use Rattle.sequence_journal.specs.Journal.{journal_floor}
 use Rattle.check_receiver.proofs.Weighing.{last-frame, number-in, wrong-number, wrong-tag, right-tag}

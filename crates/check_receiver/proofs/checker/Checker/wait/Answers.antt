@@ -5,16 +5,18 @@ use Rattle.std.proofs.Common.{◌∙◌, ◌+◌, ◌≤◌, ◌<◌, sym, arith
 use Rattle.yasir_ticks.specs.declared.tick.Tick.TheVariants.{Silent}
 use Rattle.check_receiver.proofs.checker.Checker.wait.Goals as goal
 
-pub returns-then-not-self-clause-step : goal.returns-then-not-self-clause-step
-returns-then-not-self-clause-step g c = λ last setup line cut silence between.
+pub returns-then-not-is_open-clause-step : goal.returns-then-not-is_open-clause-step
+returns-then-not-is_open-clause-step g c = λ last setup line cut silence between.
+    let closed = sym c.is_open.ensures ∙ c.if-not-is_open.true in
     rest-taken g.R.LineRules g.M.Mac c.args.self.now last setup line Silent cut between
     c.pass_by.new.self c.pass_by.result c.pass_by.ensures.turned c.pass_by.ensures.note tt
-    c.if-not-self.true
+    closed
 
 pub returns-then-from-clause-step : goal.returns-then-from-clause-step
 returns-then-from-clause-step g c = λ last setup line cut silence between.
+    let opens = sym c.is_open.ensures ∙ c.if-not-is_open.false in
     let waits = waiting-some between.walks.waiting
-    (sym between.walks.waits_is ∙ c.if-not-self.false) in
+    (sym between.walks.waits_is ∙ opens) in
     let long = waits-long g.R.LineRules g.M.Mac c.args.self.now last setup line cut between waits.0
     waits.1 in
     let until = c.from.ensures in
@@ -29,14 +31,16 @@ returns-then-from-clause-step g c = λ last setup line cut silence between.
 
 pub returns-then-from-2-clause-step : goal.returns-then-from-2-clause-step
 returns-then-from-2-clause-step g c = λ last setup line cut silence between.
+    let opens = sym c.is_open.ensures ∙ c.if-not-is_open.false in
     let same = c.from-2.ensures in
     let second = c.if-from-2.true in
-    c.pause.ensures.step last setup line cut silence c.if-not-self.false (omega arith) between
+    c.pause.ensures.step last setup line cut silence opens (omega arith) between
 
 pub returns-clause-step : goal.returns-clause-step
 returns-clause-step g c = λ last setup line cut silence between.
+    let opens = sym c.is_open.ensures ∙ c.if-not-is_open.false in
     let d = waiting-some between.walks.waiting
-    (sym between.walks.waits_is ∙ c.if-not-self.false) in
+    (sym between.walks.waits_is ∙ opens) in
     let long = waits-long g.R.LineRules g.M.Mac c.args.self.now last setup line cut between d.0
     d.1 in
     let one = between.one_less in
@@ -51,23 +55,25 @@ returns-clause-step g c = λ last setup line cut silence between.
     d.0 d.1 few
     (λ from. waits-header g.R.LineRules g.M.Mac c.args.self.now last setup line cut between d.0 d.1
     (omega arith))
-    c.if-not-self.false
+    opens
 
-pub returns-then-not-self-clause-goes_on : goal.returns-then-not-self-clause-goes_on
-returns-then-not-self-clause-goes_on g c = λ line cuts early whole. c.pass_by.ensures.note
+pub returns-then-not-is_open-clause-goes_on : goal.returns-then-not-is_open-clause-goes_on
+returns-then-not-is_open-clause-goes_on g c = λ line cuts early whole. c.pass_by.ensures.note
 
 pub returns-then-from-clause-goes_on : goal.returns-then-from-clause-goes_on
 returns-then-from-clause-goes_on g c = λ line cuts early whole.
+    let opens = sym c.is_open.ensures ∙ c.if-not-is_open.false in
     let until = c.from.ensures in
     let few = c.if-from.true in
-    let many = early c.if-not-self.false in
+    let many = early opens in
     absurd (omega arith)
 
 pub returns-then-from-2-clause-goes_on : goal.returns-then-from-2-clause-goes_on
 returns-then-from-2-clause-goes_on g c = λ line cuts early whole.
+    let opens = sym c.is_open.ensures ∙ c.if-not-is_open.false in
     let same = c.from-2.ensures in
     let second = c.if-from-2.true in
-    c.pause.ensures.goes_on line cuts (whole c.if-not-self.false (omega arith))
+    c.pause.ensures.goes_on line cuts (whole opens (omega arith))
 
 pub returns-clause-goes_on : goal.returns-clause-goes_on
 returns-clause-goes_on g c = λ line cuts early whole. c.pass_by-2.ensures.note

@@ -1,0 +1,73 @@
+//! What a receiver is in.
+ghost use Rattle.std.specs.Prelude.{◌≡◌};
+ghost use Rattle.check_receiver.specs.Phases.{is_idle, is_open, passes_in, settled};
+
+/// What a receiver is in. The first byte of a burst that isn't too soon opens it, and the burst's
+/// note ends that. The receiver then is idle at once where nothing of the burst leaves, and else as
+/// soon as its rest has left.
+#[derive(Clone, Copy)]
+pub enum Phase {
+    /// No verdict is open, and nothing is left to leave.
+    Idle,
+    /// The verdict on a burst is open.
+    Open,
+    /// The verdict on a burst is known, whether it passes or is refused, and its rest still leaves:
+    /// live ticks, and behind those of a refused one a fill.
+    Leaving { passed: bool },
+}
+
+impl Phase {
+    /// Whether no verdict is open, and nothing is left to leave.
+    #[inline]
+    pub fn is_idle(self) -> bool
+        ensures { result ≡ is_idle self }
+    {
+        match self {
+            Phase::Idle => true,
+            Phase::Open | Phase::Leaving { .. } => false,
+        }
+    }
+
+    /// Whether a verdict is open.
+    #[inline]
+    pub fn is_open(self) -> bool
+        ensures { result ≡ is_open self }
+    {
+        match self {
+            Phase::Open => true,
+            Phase::Idle | Phase::Leaving { .. } => false,
+        }
+    }
+
+    /// Whether what leaves is the rest of a burst that passes.
+    #[inline]
+    pub fn passes(self) -> bool
+        ensures { result ≡ passes_in self }
+    {
+        match self {
+            Phase::Leaving { passed } => passed,
+            Phase::Idle | Phase::Open => false,
+        }
+    }
+
+    /// What it is in where the last live tick leaves so many steps from now, and a fill is owed or
+    /// none: once the rest of a burst has left, it is idle.
+    #[inline]
+    pub fn settled(self, until: u8, owes: bool) -> Phase
+        ensures { result ≡ settled self until owes }
+    {
+        match self {
+            Phase::Idle => Phase::Idle,
+            Phase::Open => Phase::Open,
+            Phase::Leaving { passed } => {
+                if until > 0 {
+                    return Phase::Leaving { passed };
+                }
+                if owes {
+                    return Phase::Leaving { passed };
+                }
+                Phase::Idle
+            }
+        }
+    }
+}
