@@ -29,10 +29,10 @@ use Rattle.any_box.specs.declared.any_note.AnyNote.TheVariants.{OfSealer, OfChec
 use Rattle.any_box.specs.declared.kind.Kind.{Kind}
 use Rattle.any_box.specs.declared.kind.Part.{Part}
 use Rattle.any_box.specs.declared.kind.Part.TheVariants.{Sealer, Checker}
-use Rattle.any_box.specs.declared.kind.Proto.{Proto}
-use Rattle.any_box.specs.declared.kind.Proto.TheVariants as Of
-use Rattle.any_box.specs.declared.kind.Profile.{Profile}
-use Rattle.any_box.specs.declared.kind.Profile.TheVariants.{Y18, Y24}
+use Rattle.link_words.specs.declared.words.Proto.{Proto}
+use Rattle.link_words.specs.declared.words.Proto.TheVariants as Of
+use Rattle.link_words.specs.declared.words.Profile.{Profile}
+use Rattle.link_words.specs.declared.words.Profile.TheVariants.{Y18, Y24}
 
 -- which of the eight a box is
 abbrev pub kind_of : AnyBox → Kind

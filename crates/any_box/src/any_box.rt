@@ -10,13 +10,14 @@ ghost use Rattle.any_box.specs.Commits.{CommitsOneOrNone};
 
 use crate::any_note::AnyNote;
 use crate::committing::{CommittingBox, step_any};
-use crate::kind::{Kind, Part, Profile, Proto};
+use crate::kind::{Kind, Part};
 use burst_walk::{BoxStep, RunBytes};
 use check_receiver::Checker;
 use dnp_link_frame::Dnp;
 use hmac_tag::{Dir, HmacSha1, HmacSha256, Mac};
 use line_rules::LineRules;
 use link_box::{LinkBox, take_alike};
+use link_words::{Profile, Proto};
 use rtu_frame::Rtu;
 use seal_transmitter::Sealer;
 use sequence_journal::Journal;

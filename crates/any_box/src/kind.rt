@@ -2,6 +2,7 @@
 ghost use Rattle.std.specs.Prelude.{◌≡◌};
 
 use hmac_tag::Dir;
+use link_words::{Profile, Proto, link_of};
 use sequence_journal::LinkId;
 
 /// Which end of a link a box is.
@@ -11,24 +12,6 @@ pub enum Part {
     Sealer,
     /// The receiver, which checks them.
     Checker,
-}
-
-/// The protocol of a line.
-#[derive(Clone, Copy, Debug, PartialEq, Eq)]
-pub enum Proto {
-    /// Modbus RTU.
-    Rtu,
-    /// DNP3 link frames.
-    Dnp3,
-}
-
-/// How a link carries a number and a tag.
-#[derive(Clone, Copy, Debug, PartialEq, Eq)]
-pub enum Profile {
-    /// A word of 2 bytes and a tag of 12 bytes; the receiver delays by 18 ticks.
-    Y18,
-    /// A word of 4 bytes and a tag of 16 bytes; the receiver delays by 24 ticks.
-    Y24,
 }
 
 /// Which of the eight boxes one is.
@@ -48,19 +31,6 @@ impl Kind {
         ensures link { result ≡ link_for self dir }
         ensures known { IsLink result }
     {
-        LinkId {
-            label: match self.proto {
-                Proto::Rtu => 1,
-                Proto::Dnp3 => 2,
-            },
-            dir: match dir {
-                Dir::Ab => 0,
-                Dir::Ba => 1,
-            },
-            profile: match self.profile {
-                Profile::Y18 => 18,
-                Profile::Y24 => 24,
-            },
-        }
+        link_of(self.proto, self.profile, dir)
     }
 }

@@ -24,6 +24,7 @@ mod owed;
 pub use any_box::AnyBox;
 pub use any_note::AnyNote;
 pub use held_box::{Full, HeldBox, HeldStep};
-pub use kind::{Kind, Part, Profile, Proto};
+pub use kind::{Kind, Part};
 pub use laws::writes_keep_the_floor;
+pub use link_words::{Profile, Proto};
 pub use owed::Commit;
