@@ -10,6 +10,7 @@ use Rattle.sequence_journal.specs.Commits.{HasCommitted}
 use Rattle.sequence_journal.specs.Journal.{journal_link, journal_floor, kept_slot, told_with}
 use Rattle.sequence_journal.specs.{Slots.slot_bytes, declared.journal.Journal.Journal}
 use Rattle.std.proofs.Common.{◌≡◌, ◌∙◌, ℕ, ◌<◌, sym, ap, subst, inl, inr}
+use Rattle.std.proofs.lemmas.Option.{same_Some}
 use Rattle.std.specs.Prelude.{Option, Some, None}
 use Rattle.yasir_io.specs.Disks.{Slots, with_slot, other_slot}
 use Rattle.yasir_io.specs.{Steady.steady_slots, declared.disk.SlotDisk.Ghosts as SlotDisk}
@@ -25,10 +26,6 @@ steady_disk = record {
   faults = λ _. 0;
 }
 
-abbrev told-or : Slots → Option Slots → Slots
-told-or slots None = slots
-told-or slots (Some told) = told
-
 module _ (d : SlotDisk SteadySlots)
     (told-is : (disk : SteadySlots) → d.told disk ≡ Some (steady_slots disk))
     (old new : Journal) (disk_old disk_new : SteadySlots) where
@@ -39,7 +36,7 @@ module _ (d : SlotDisk SteadySlots)
       let slot = other_slot (kept_slot old) in
       let set : steady_slots disk_new ≡ with_slot (steady_slots disk_old) slot
       (slot_bytes number (journal_link old)) =
-      ap (told-or (steady_slots disk_new)) (sym (told-is disk_new) ∙ h.set
+      same_Some _ _ (sym (told-is disk_new) ∙ h.set
       ∙ ap (λ told. told_with told slot (slot_bytes number (journal_link old)))
       (told-is disk_old)) in
       record {

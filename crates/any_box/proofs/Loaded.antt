@@ -1,6 +1,7 @@
 -- What a journal is that was loaded from slots that a caller gives: the old ones hold no number.
 use Rattle.sequence_journal.specs.declared.journal.{Journal.Journal, LoadError.LoadError}
 use Rattle.std.proofs.Common.{◌≡◌, ◌∙◌, ℕ, ◌+◌, refl, sym, ap, arith}
+use Rattle.std.proofs.lemmas.Option.{same_Some}
 use Rattle.std.specs.Prelude.{Option, Some, None, List, replicate}
 use Rattle.yasir_io.specs.{Disks.Slots, declared.disk.TheConstants.OLD_SLOT_LEN}
 use Rattle.sequence_journal.specs.declared.journal.LoadError.TheVariants as Load
@@ -34,10 +35,6 @@ no-floor link a b floor own is =
     let e : floor + 1 ≡ 0 = ap more-or (sym is ∙ none) in
     absurd (omega (arith, e))
 
-abbrev told-or : Slots → Option Slots → Slots
-told-or slots None = slots
-told-or slots (Some told) = told
-
 leaves-same : (link : LinkId) (a b : List ℕ) (floor : ℕ) (new : Slots)
     (old_images new_images : Slots → Type 0) (own : Option ℕ)
     → own_floor link (slots_given a b) ≡ own
@@ -45,7 +42,7 @@ leaves-same : (link : LinkId) (a b : List ℕ) (floor : ℕ) (new : Slots)
     → LeavesLoaded own link floor (Some (slots_given a b)) (Some new) old_images new_images
     → new ≡ slots_given a b
 leaves-same link a b floor new old_images new_images (Some n) is has leaves =
-    ap (told-or new) leaves.0
+    same_Some new (slots_given a b) leaves.0
 leaves-same link a b floor new old_images new_images None is has leaves =
     absurd (no-floor link a b floor is has)
 

@@ -1,10 +1,11 @@
 -- Notes of a box as those of any box.
-use Rattle.any_box.specs.{Noting.StepsAs, declared.any_note.AnyNote.AnyNote}
+use Rattle.any_box.specs.Noting.{defined_by, StepsOn, TakesOn}
+use Rattle.any_box.specs.declared.any_note.AnyNote.{AnyNote}
 use Rattle.burst_walk.specs.{Answers.told_notes, Answers.note_in, Walk.Noted}
-use Rattle.link_box.specs.{Stepping.Steps, Walking.Walking, Walking.full_notes}
+use Rattle.link_box.specs.{Runs.TakesRun, Stepping.Steps, Walking.Walking, Walking.full_notes}
 use Rattle.link_format.specs.Setup.{Setup}
-use Rattle.std.proofs.Common.{◌≡◌, ◌∙◌, ℕ, ◌+◌, ◌≤◌, List, [], ◌∷◌, ◌++◌, length, map, take, refl}
-use Rattle.std.proofs.{Common.sym, Common.ap, lemmas.List.map-append, lemmas.List.length-take-le}
+use Rattle.std.proofs.Common.{◌≡◌, ◌∙◌, ℕ, List, [], ◌∷◌, ◌++◌, length, map, refl, sym, ap}
+use Rattle.std.proofs.lemmas.List.{map-append}
 use Rattle.std.specs.Prelude.{Option, Some, None, option_map}
 use Rattle.yasir_ticks.specs.declared.tick.Tick.{Tick}
 
@@ -39,12 +40,12 @@ module _ {F A : Type 0} (brief : F → A) (noted : A → AnyNote) where
   none-told old new is = told-lifted new ∙ ap (map lifted) is ∙ sym (told-lifted old)
 
 module _ {X A : Type 0} (walking : Walking A) (standing : X → ℕ → Setup → List Tick → Type 0)
-    (noted : A → AnyNote) where
-  pub steps-as : (old : X) (before : ℕ) (new : X) (after : ℕ) (t tick : Tick) (note : Option A)
-      (told : Option AnyNote) → told ≡ option_map noted note
+    (noted : A → AnyNote) (old new : X) where
+  pub steps-on : (before after : ℕ) (t tick : Tick) (note : Option A) (told : Option AnyNote)
+      → told ≡ option_map noted note
       → Steps walking standing old before new after t tick note
-      → StepsAs walking standing noted old before new after t tick told
-  steps-as old before new after t tick note told is steps = λ setup line stands.
+      → StepsOn (defined_by walking noted) (standing old) (standing new) before after t tick told
+  steps-on before after t tick note told is steps = λ setup line stands.
       let done = steps setup line stands in
       record {
         stands = done.stands;
@@ -57,7 +58,13 @@ module _ {X A : Type 0} (walking : Walking A) (standing : X → ℕ → Setup �
             ++ note_in (length line) n) (sym is);
       }
 
--- this many ticks were taken, the first of these
-pub more-taken : (a b n : ℕ) (ticks : List Tick) → a ≡ b + n → n ≤ length ticks
-    → a ≡ b + length (take n ticks)
-more-taken a b n ticks taken within = taken ∙ ap (λ k. b + k) (sym (length-take-le n ticks within))
+  pub takes-on : (run answer : List Tick) → TakesRun walking standing old new run answer
+      → TakesOn (defined_by walking noted) (standing old) (standing new) run answer
+  takes-on run answer takes = λ last setup line stands.
+      let done = takes last setup line stands in
+      record {
+        stands = done.stands;
+        ticks_are = done.answers.ticks;
+        no_note = none-told walking.brief noted (full_notes walking setup line)
+            (full_notes walking setup (line ++ run)) done.answers.notes;
+      }

@@ -1,9 +1,7 @@
 -- What the eight boxes are by the definitions, and what they have taken of a line.
-use Rattle.std.specs.Prelude.{◌≡◌, ℕ, ◌+◌, List, [], ◌∷◌, ◌++◌, length, Option}
+use Rattle.std.specs.Prelude.{◌≡◌, ℕ, ◌+◌, List, length, Option}
 use Rattle.sha2.specs.declared.Sha256.{Sha256}
 use Rattle.yasir_ticks.specs.declared.tick.Tick.{Tick}
-use Rattle.burst_walk.specs.Answers.{told_notes, note_in}
-use Rattle.burst_walk.specs.Walk.{Noted}
 use Rattle.rtu_frame.specs.declared.rtu.Rtu.{Rtu}
 use Rattle.dnp_link_frame.specs.declared.dnp.Dnp.{Dnp}
 use Rattle.line_rules.specs.declared.line_rules.LineRules.{Ghosts as LineRules}
@@ -11,7 +9,6 @@ use Rattle.hmac_tag.specs.declared.tag.Mac.{Ghosts as Mac}
 use Rattle.hmac_tag.specs.declared.keyed_hash.Hmac.{Hmac}
 use Rattle.hmac_tag.specs.declared.sha1_hasher.Sha1Hasher.{Sha1Hasher}
 use Rattle.link_format.specs.Setup.{Setup}
-use Rattle.link_box.specs.Walking.{Walking, full_notes, other_line, number_after}
 use Rattle.seal_transmitter.specs.Boxed.{seal_walking}
 use Rattle.seal_transmitter.specs.Stands.{StandsAt as SealsAt, ticks_taken as seal_ticks}
 use Rattle.seal_transmitter.specs.Stands.{direction_of as seal_direction}
@@ -26,6 +23,7 @@ use Rattle.any_box.specs.declared.any_box.AnyBox.TheVariants.{RtuChecker18, DnpC
 use Rattle.any_box.specs.declared.any_box.AnyBox.TheVariants.{RtuChecker24, DnpChecker24}
 use Rattle.any_box.specs.declared.any_note.AnyNote.{AnyNote}
 use Rattle.any_box.specs.declared.any_note.AnyNote.TheVariants.{OfSealer, OfChecker}
+use Rattle.any_box.specs.Noting.{Definition, defined_by, StepsOn, TakesOn}
 use Rattle.any_box.specs.declared.kind.Kind.{Kind}
 use Rattle.any_box.specs.declared.kind.Part.{Part}
 use Rattle.any_box.specs.declared.kind.Part.TheVariants.{Sealer, Checker}
@@ -67,22 +65,6 @@ own_link (DnpChecker18 value) = record { label = 2; dir = check_direction value;
 own_link (RtuChecker24 value) = record { label = 1; dir = check_direction value; profile = 24 }
 own_link (DnpChecker24 value) = record { label = 2; dir = check_direction value; profile = 24 }
 
--- What a box makes of a line by the definitions, as it is set up: the other line, the notes, and
--- the last number that it uses.
-pub record Definition : Type 0 where
-  pub other : Setup → List Tick → List Tick
-  pub notes : Setup → List Tick → List (Noted AnyNote)
-  pub number : Setup → List Tick → ℕ
-
--- that of a box by its walk, with its notes as those of any box
-abbrev pub defined_by : {A : Type 0} → Walking A → (A → AnyNote) → Definition
-defined_by walking noted = record {
-  other = λ setup line. other_line walking setup line;
-  notes = λ setup line. told_notes (λ full. noted (walking.brief full))
-      (full_notes walking setup line);
-  number = λ setup line. number_after walking setup line;
-}
-
 -- The rules of the two protocols, and the MACs of the two profiles.
 module _ (rtu : LineRules Rtu) (dnp : LineRules Dnp) (short : Mac (Hmac Sha1Hasher 20))
     (long : Mac (Hmac Sha256 32)) where
@@ -111,17 +93,6 @@ module _ (rtu : LineRules Rtu) (dnp : LineRules Dnp) (short : Mac (Hmac Sha1Hash
   StandsAt (RtuChecker24 value) = ChecksAt rtu long value
   StandsAt (DnpChecker24 value) = ChecksAt dnp long value
 
-  -- After this line a box has taken one tick more: the last number that it used is that of the
-  -- definition, and it answers the tick of the other line and the note that the definition adds.
-  pub record HasStepped (value : AnyBox) (last : ℕ) (setup : Setup) (line : List Tick)
-      (t tick : Tick) (note : Option AnyNote) : Type 0 where
-    pub stands : StandsAt value last setup (line ++ t ∷ [])
-    pub number : last ≡ (definition_of (kind_of value)).number setup (line ++ t ∷ [])
-    pub tick_is : (definition_of (kind_of value)).other setup (line ++ t ∷ [])
-        ≡ (definition_of (kind_of value)).other setup line ++ tick ∷ []
-    pub note_is : (definition_of (kind_of value)).notes setup (line ++ t ∷ [])
-        ≡ (definition_of (kind_of value)).notes setup line ++ note_in (length line) note
-
   -- Whatever line it had taken, a box has taken this tick more, and it is the same one of the
   -- eight.
   pub record Steps (old : AnyBox) (before : ℕ) (new : AnyBox) (after : ℕ) (t tick : Tick)
@@ -129,23 +100,12 @@ module _ (rtu : LineRules Rtu) (dnp : LineRules Dnp) (short : Mac (Hmac Sha1Hash
     pub kind_is : kind_of new ≡ kind_of old
     pub link_is : own_link new ≡ own_link old
     pub counted : ticks_in new ≡ ticks_in old + 1
-    pub steps : (setup : Setup) (line : List Tick) → StandsAt old before setup line
-        → HasStepped new after setup line t tick note
+    pub steps : StepsOn (definition_of (kind_of new)) (StandsAt old) (StandsAt new) before after t
+        tick note
 
-  -- After this line a box has taken this run too, and used no number. The ticks of the other line
-  -- are these, and no note falls into them.
-  pub record HasTakenRun (value : AnyBox) (last : ℕ) (setup : Setup) (line run answer : List Tick) :
-      Type 0 where
-    pub stands : StandsAt value last setup (line ++ run)
-    pub ticks_are : (definition_of (kind_of value)).other setup (line ++ run)
-        ≡ (definition_of (kind_of value)).other setup line ++ answer
-    pub no_note : (definition_of (kind_of value)).notes setup (line ++ run)
-        ≡ (definition_of (kind_of value)).notes setup line
-
-  -- It does so whatever line it had taken.
+  -- Whatever line it had taken, a box has taken this run more, and it is the same one of the eight.
   pub record TakesRun (old new : AnyBox) (run answer : List Tick) : Type 0 where
     pub kind_is : kind_of new ≡ kind_of old
     pub link_is : own_link new ≡ own_link old
     pub counted : ticks_in new ≡ ticks_in old + length run
-    pub takes : (last : ℕ) (setup : Setup) (line : List Tick) → StandsAt old last setup line
-        → HasTakenRun new last setup line run answer
+    pub takes : TakesOn (definition_of (kind_of new)) (StandsAt old) (StandsAt new) run answer

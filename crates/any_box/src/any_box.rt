@@ -9,14 +9,14 @@ ghost use Rattle.sequence_journal.specs.Journal.{journal_link, journal_floor, Fi
 ghost use Rattle.any_box.specs.Commits.{CommitsOneOrNone};
 
 use crate::any_note::AnyNote;
-use crate::committing::{CommittingBox, step_any};
+use crate::committing::{CommittingBox, step_any, take_any};
 use crate::kind::{Kind, Part};
 use burst_walk::{BoxStep, RunBytes};
 use check_receiver::Checker;
 use dnp_link_frame::Dnp;
 use hmac_tag::{Dir, HmacSha1, HmacSha256, Mac};
 use line_rules::LineRules;
-use link_box::{LinkBox, take_alike};
+use link_box::LinkBox;
 use link_words::{Profile, Proto};
 use rtu_frame::Rtu;
 use seal_transmitter::Sealer;
@@ -35,6 +35,22 @@ pub enum AnyBox {
     DnpChecker18(Checker<Dnp, HmacSha1, 2, 18>),
     RtuChecker24(Checker<Rtu, HmacSha256, 4, 24>),
     DnpChecker24(Checker<Dnp, HmacSha256, 4, 24>),
+}
+
+// Does the same with the box that is held, whichever of the eight it is.
+macro_rules! with_box {
+    ($held:expr, $line_box:ident => $call:expr) => {
+        match $held {
+            AnyBox::RtuSealer18($line_box) => $call,
+            AnyBox::DnpSealer18($line_box) => $call,
+            AnyBox::RtuSealer24($line_box) => $call,
+            AnyBox::DnpSealer24($line_box) => $call,
+            AnyBox::RtuChecker18($line_box) => $call,
+            AnyBox::DnpChecker18($line_box) => $call,
+            AnyBox::RtuChecker24($line_box) => $call,
+            AnyBox::DnpChecker24($line_box) => $call,
+        }
+    };
 }
 
 impl AnyBox {
@@ -89,16 +105,7 @@ impl AnyBox {
         ensures fits { Fits journal.new (Some (steady_slots disk.new)) }
         ensures commits { CommitsOneOrNone journal.old journal.new disk.old disk.new }
     {
-        match self {
-            AnyBox::RtuSealer18(value) => step_any(value, t, journal, disk),
-            AnyBox::DnpSealer18(value) => step_any(value, t, journal, disk),
-            AnyBox::RtuSealer24(value) => step_any(value, t, journal, disk),
-            AnyBox::DnpSealer24(value) => step_any(value, t, journal, disk),
-            AnyBox::RtuChecker18(value) => step_any(value, t, journal, disk),
-            AnyBox::DnpChecker18(value) => step_any(value, t, journal, disk),
-            AnyBox::RtuChecker24(value) => step_any(value, t, journal, disk),
-            AnyBox::DnpChecker24(value) => step_any(value, t, journal, disk),
-        }
+        with_box!(self, line_box => step_any(line_box, t, journal, disk))
     }
 
     /// Takes the first of these ticks, as far as the box answers all of them with silence or all of
@@ -112,15 +119,6 @@ impl AnyBox {
             ⟦<HmacSha1 as Mac>⟧ ⟦<HmacSha256 as Mac>⟧
             self.old self.new (take result (run_ticks run.entry)) (answered result left.new.items) }
     {
-        match self {
-            AnyBox::RtuSealer18(value) => take_alike(value, run, left),
-            AnyBox::DnpSealer18(value) => take_alike(value, run, left),
-            AnyBox::RtuSealer24(value) => take_alike(value, run, left),
-            AnyBox::DnpSealer24(value) => take_alike(value, run, left),
-            AnyBox::RtuChecker18(value) => take_alike(value, run, left),
-            AnyBox::DnpChecker18(value) => take_alike(value, run, left),
-            AnyBox::RtuChecker24(value) => take_alike(value, run, left),
-            AnyBox::DnpChecker24(value) => take_alike(value, run, left),
-        }
+        with_box!(self, line_box => take_any(line_box, run, left))
     }
 }

@@ -1,23 +1,25 @@
 //! Boxes over a journal in memory, which tell what each step commits.
-ghost use Rattle.std.specs.Prelude.{◌≡◌, ◌+◌, Some, option_map};
+ghost use Rattle.std.specs.Prelude.{◌≡◌, ◌+◌, ◌≤◌, length, take, Some, option_map};
 ghost use Rattle.yasir_io.specs.Steady.{steady_slots};
+ghost use Rattle.yasir_ticks.specs.TickRun.{run_ticks};
+ghost use Rattle.burst_walk.specs.Answered.{answered};
 ghost use Rattle.sequence_journal.specs.Journal.{journal_link, journal_floor, Fits};
 ghost use Rattle.link_box.specs.Stepping.{MayStep, Steps};
 ghost use Rattle.any_box.specs.Commits.{CommitsOneOrNone};
-ghost use Rattle.any_box.specs.Noting.{StepsAs};
+ghost use Rattle.any_box.specs.Noting.{defined_by, StepsOn, TakesOn};
 ghost use Rattle.any_box.specs.declared.any_note.AnyNote.{AnyNote};
 ghost use Rattle.any_box.specs.declared.any_note.AnyNote.TheVariants.{OfSealer, OfChecker};
 
 use crate::any_note::AnyNote;
-use burst_walk::BoxStep;
+use burst_walk::{BoxStep, RunBytes};
 use check_receiver::{CheckNote, Checker};
 use hmac_tag::Mac;
 use line_rules::LineRules;
-use link_box::LinkBox;
+use link_box::{LinkBox, take_alike};
 use seal_transmitter::{SealNote, Sealer};
 use sequence_journal::Journal;
 use yasir_io::SteadySlots;
-use yasir_ticks::Tick;
+use yasir_ticks::{MAX_TICKS, Tick, TickRun};
 
 /// A box whose steps commit to slots in memory.
 pub(crate) trait CommittingBox: LinkBox {
@@ -103,8 +105,8 @@ pub(crate) fn step_any<X: CommittingBox>(
         (Some (steady_slots disk.old)) }
     ensures taken { X.taken line_box.new ≡ X.taken line_box.old + 1 }
     ensures link_of { X.link_of line_box.new ≡ X.link_of line_box.old }
-    ensures steps { StepsAs X.walking X.stands X.noted
-        line_box.old (journal_floor journal.old) line_box.new (journal_floor journal.new)
+    ensures steps { StepsOn (defined_by X.walking X.noted) (X.stands line_box.old)
+        (X.stands line_box.new) (journal_floor journal.old) (journal_floor journal.new)
         t result.tick result.note }
     ensures link { journal_link journal.new ≡ journal_link journal.old }
     ensures fits { Fits journal.new (Some (steady_slots disk.new)) }
@@ -116,4 +118,24 @@ pub(crate) fn step_any<X: CommittingBox>(
         tick: step.tick,
         note,
     }
+}
+
+/// Takes the first of these ticks by such a box, as far as it answers them alike and without a note,
+/// and answers how many.
+#[inline]
+pub(crate) fn take_any<X: CommittingBox>(
+    line_box: &mut X,
+    run: TickRun<'_>,
+    left: &mut RunBytes,
+) -> usize
+    requires { X.taken line_box.old + length (run_ticks run) ≤ MAX_TICKS }
+    ensures within { result ≤ length (run_ticks run.entry) }
+    ensures taken { X.taken line_box.new
+        ≡ X.taken line_box.old + length (take result (run_ticks run.entry)) }
+    ensures link_of { X.link_of line_box.new ≡ X.link_of line_box.old }
+    ensures takes { TakesOn (defined_by X.walking X.noted) (X.stands line_box.old)
+        (X.stands line_box.new)
+        (take result (run_ticks run.entry)) (answered result left.new.items) }
+{
+    take_alike(line_box, run, left)
 }
