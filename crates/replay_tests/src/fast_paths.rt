@@ -20,7 +20,7 @@ use replay_status::{Ends, Status};
 use rtu_frame::Rtu;
 use seal_transmitter::Sealer;
 use sequence_journal::{Journal, slot_of};
-use session_audit::ShownFrames;
+use session_audit::{SealedFrames, ShownFrames};
 use std::alloc::Global;
 use std::process::Abort;
 use std::test::Fail;
@@ -393,7 +393,7 @@ fn bursts_that_do_not_pass_take_few_turns(rt: HostRuntime) -> Result<(), Fail> {
     Ok(())
 }
 
-type ShownSealer<R> = ShownFrames<Sealer<R, HmacSha1, 2>, R, SteadySlots>;
+type ShownSealer<R> = SealedFrames<R, HmacSha1, 2, SteadySlots>;
 
 type ShownChecker<R> = ShownFrames<Checker<R, HmacSha1, 2, 18>, R, SteadySlots>;
 

@@ -5,4 +5,5 @@ pub mod RunNotes
 pub mod Showing
 pub mod Auditing
 pub mod Judged
+pub mod SealedAlike
 mod Worked

@@ -9,3 +9,4 @@ pub mod Clean
 pub mod Judging
 pub mod AuditedInput
 pub mod Through
+pub mod NoTags

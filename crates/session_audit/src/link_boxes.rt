@@ -16,11 +16,7 @@ macro_rules! audit_through {
         $alloc:expr, $session:expr, $audit:ident, [$($more:ty),*], $given:expr
     ) => {
         $audit::<
-            $crate::ShownFrames<
-                seal_transmitter::Sealer<$rules, $mac, $word>,
-                $rules,
-                yasir_io::SteadySlots,
-            >,
+            $crate::SealedFrames<$rules, $mac, $word, yasir_io::SteadySlots>,
             $crate::ShownFrames<
                 check_receiver::Checker<$rules, $mac, $word, $delay>,
                 $rules,

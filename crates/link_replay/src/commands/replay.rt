@@ -10,8 +10,7 @@ use hmac_tag::Dir;
 use link_words::{Profile, Proto, with_link};
 use recordings_replay::replay_recordings;
 use replay_status::{Ends, Status};
-use seal_transmitter::Sealer;
-use session_audit::ShownFrames;
+use session_audit::{SealedFrames, ShownFrames};
 use std::alloc::Global;
 use yasir_io::{Sink, SlotDisk, Source, SteadySlots};
 
@@ -20,13 +19,14 @@ use yasir_io::{Sink, SlotDisk, Source, SteadySlots};
 const REST: u32 = 6;
 
 // Both boxes over the two recordings, with the bytes of their frames, and the device behind them.
+// The transmitter makes no tags, since nobody asks for its link.
 macro_rules! replay_by {
     (
         [$rules:ty, $device:ty, $mac:ty, $word:literal, $delay:literal, $gap:literal],
         $alloc:expr, $dir:expr, $ends:expr
     ) => {
         replay_recordings::<
-            ShownFrames<Sealer<$rules, $mac, $word>, $rules, SteadySlots>,
+            SealedFrames<$rules, $mac, $word, SteadySlots>,
             ShownFrames<Checker<$rules, $mac, $word, $delay>, $rules, SteadySlots>,
             $device,
             K,

@@ -1,0 +1,67 @@
+//! The frames that a transmitter seals, where nobody asks for its tags.
+ghost use Rattle.std.specs.Prelude.{◌≤◌};
+ghost use Rattle.hmac_tag.specs.Tag.{direction_number};
+ghost use Rattle.link_box.specs.Links.{AreLinks, link_by};
+ghost use Rattle.link_format.specs.Profile.{IsWordLen};
+ghost use Rattle.session_audit.specs.NoTags.{sealed_numbering, untagged};
+
+use crate::shown_frames::ShownFrames;
+use crate::steady_disk::SteadyDisk;
+use crate::untagged::Untagged;
+use hmac_tag::{Dir, Mac};
+use line_rules::LineRules;
+use replay_lists::{FrameBox, FrameStep, RunBytes};
+use seal_transmitter::Sealer;
+use yasir_ticks::Tick;
+
+/// The frames that a transmitter seals, by the rules `R`, with words of `B` bytes and tags by `M`.
+/// None of these tags is made: no frame, number or place depends on one.
+#[derive(Drop)]
+pub struct SealedFrames<R, M, const B: usize, K> {
+    shown: ShownFrames<Sealer<R, Untagged<M>, B>, R, K>,
+}
+
+impl<R: LineRules, M: Mac, const B: usize, K: SteadyDisk> FrameBox for SealedFrames<R, M, B, K> {
+    ghost stands = { λ value.
+        ⟦<ShownFrames<Sealer<R, Untagged<M>, B>, R, K> as FrameBox>⟧.stands value.shown };
+
+    ghost taken = { λ value.
+        ⟦<ShownFrames<Sealer<R, Untagged<M>, B>, R, K> as FrameBox>⟧.taken value.shown };
+
+    ghost able = { λ value.
+        ⟦<ShownFrames<Sealer<R, Untagged<M>, B>, R, K> as FrameBox>⟧.able value.shown };
+
+    ghost numbering = { sealed_numbering R.LineRules M.Mac (untagged M.Mac) B };
+
+    ghost widths_fit = { IsWordLen B × (R.MAX ≤ 292)
+        × AreLinks (λ dir. link_by R.LineRules M.Mac B (direction_number dir)) };
+
+    ghost shown = { λ value.
+        ⟦<ShownFrames<Sealer<R, Untagged<M>, B>, R, K> as FrameBox>⟧.shown value.shown };
+
+    fn new(key: &[u8], dir: Dir, floor: u64) -> Self {
+        SealedFrames {
+            shown: ShownFrames::new(key, dir, floor),
+        }
+    }
+
+    #[inline]
+    fn step(&mut self, t: Tick) -> FrameStep {
+        self.shown.step(t)
+    }
+
+    #[inline]
+    fn pass_bytes(&mut self, bytes: &[u8], left: &mut RunBytes) -> usize {
+        self.shown.pass_bytes(bytes, left)
+    }
+
+    #[inline]
+    fn pass_silence(&mut self, ticks: u32, left: &mut RunBytes) -> u32 {
+        self.shown.pass_silence(ticks, left)
+    }
+
+    #[inline]
+    fn bytes(&self) -> &[u8] {
+        self.shown.bytes()
+    }
+}
