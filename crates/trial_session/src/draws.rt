@@ -1,8 +1,23 @@
 //! The numbers that a session is drawn from.
+ghost use Rattle.std.specs.Prelude.{◌≡◌, ◌≤◌, length};
+
 use arrayvec::ArrayVec;
 
 /// The bytes of a frame of either protocol.
 pub type FrameBytes = ArrayVec<u8, 292>;
+
+// As many bytes as a frame has at most.
+const BLANK: [u8; 292] = [0; 292];
+
+// This many zeros.
+fn zeros(n: usize) -> FrameBytes
+    requires { n ≤ 292 }
+    ensures { length result.items ≡ n }
+{
+    let mut bytes = FrameBytes::new();
+    let _ = bytes.try_extend_from_slice(&BLANK[..n]);
+    bytes
+}
 
 /// Numbers that are drawn one after the other from a first one: a linear congruential generator
 /// (Knuth, MMIX), of whose state each draw gives the high half.
@@ -12,7 +27,6 @@ pub struct Draws {
 }
 
 impl Draws {
-    ghost use Rattle.std.specs.Prelude.{◌≡◌, ◌≤◌, length};
     ghost use Rattle.trial_session.specs.Draws.{next_state, drawn, state_after, bytes_drawn};
     ghost use Rattle.trial_session.specs.Draws.{draw_state};
 
@@ -38,6 +52,17 @@ impl Draws {
         (self.state >> 32) as u32
     }
 
+    // Puts the low byte of a draw into each of these places.
+    fn fill(&mut self, places: &mut [u8])
+        ensures state { draw_state self.new
+            ≡ state_after (length places.old) (draw_state self.old) }
+        ensures bytes { places.new ≡ bytes_drawn (length places.old) (draw_state self.old) }
+    {
+        for place in places.iter_mut() {
+            *place = (self.draw() % 256) as u8;
+        }
+    }
+
     /// This many bytes, at most 292, each the low byte of a draw.
     pub fn draw_bytes(&mut self, n: usize) -> FrameBytes
         requires { n ≤ 292 }
@@ -45,10 +70,8 @@ impl Draws {
         ensures bytes { result.items ≡ bytes_drawn n (draw_state self.old) }
         ensures long { length result.items ≡ n }
     {
-        let mut bytes = FrameBytes::new();
-        for _ in 0..n {
-            bytes.push((self.draw() % 256) as u8);
-        }
+        let mut bytes = zeros(n);
+        self.fill(bytes.as_mut_slice());
         bytes
     }
 }

@@ -97,6 +97,19 @@ impl Link {
         }
     }
 
+    /// Sends a run.
+    #[inline]
+    pub fn add_run(&mut self, run: TickRun<'_>)
+        requires { self.old.len + length (run_ticks run) ≤ 640 }
+        ensures len { self.new.len ≡ self.old.len + length (run_ticks run.entry) }
+        ensures sent { link_sent self.new ≡ link_sent self.old ++ run_ticks run.entry }
+    {
+        match run {
+            TickRun::Bytes(bytes) => self.add_bytes(bytes),
+            TickRun::Silence(ticks) => self.add_silence(ticks as usize),
+        }
+    }
+
     // Turns the bits of this value in a byte, or makes a byte of silence.
     fn change(&mut self, place: usize, value: u8)
         requires whole { self.old.len ≡ 640 }

@@ -157,6 +157,34 @@ impl<X: CountingBox> Side<X> {
         1
     }
 
+    // Takes the first of these ticks, one at least, and sends what the other line has. What the box
+    // forwards goes on as it is. Returns how many it took.
+    #[inline]
+    fn send_on(&mut self, run: TickRun<'_>, left: &mut RunBytes, link: &mut Link) -> usize
+        requires some { 0 < length (run_ticks run) }
+        requires able { MayTake X.LinkBox self.old }
+        requires room { X.taken self.old.line_box + length (run_ticks run) ≤ MAX_TICKS }
+        requires link { link.old.len + length (run_ticks run) ≤ 640 }
+        ensures able { MayTake X.LinkBox self.new }
+        ensures some { 0 < result }
+        ensures within { result ≤ length (run_ticks run.entry) }
+        ensures level { X.taken self.new.line_box ≡ X.taken self.old.line_box + result }
+        ensures len { link.new.len ≡ link.old.len + result }
+        ensures sent { (line more : List Tick)
+            → HasSent X.LinkBox X.counting self.old line more (link_sent link.old)
+            → HasSent X.LinkBox X.counting self.new line
+            (more ++ take result (run_ticks run.entry)) (link_sent link.new) }
+    {
+        let forwarded = self.line_box.forward(run);
+        if forwarded > 0 {
+            link.add_run(run.front(forwarded));
+            return forwarded;
+        }
+        let sent = self.send(run, left);
+        link.add(sent, left.as_slice());
+        sent
+    }
+
     /// Takes these ticks, and sends what the other line has.
     pub fn forward(&mut self, run: TickRun<'_>, link: &mut Link)
         requires able { MayTake X.LinkBox self.old }
@@ -174,8 +202,7 @@ impl<X: CountingBox> Side<X> {
         let mut left = RunBytes::new();
         let mut at = 0;
         while at < run.len() {
-            let taken = self.send(run.behind(at), &mut left);
-            link.add(taken, left.as_slice());
+            let taken = self.send_on(run.behind(at), &mut left, link);
             at += taken;
         }
     }

@@ -1,0 +1,75 @@
+use Rattle.sequence_journal.specs.Journal.{journal_floor}
+use Rattle.std.proofs.Common.{◌≡◌, ◌∙◌, ◌++◌, List, ap, arith, length, refl, take}
+use Rattle.std.proofs.lemmas.List.{length-take-le}
+use Rattle.trial_session.proofs.Counting.{counts-run}
+use Rattle.trial_session.proofs.SentRuns.{passes-as, passes-none, passes-run, sends-run}
+use Rattle.trial_session.specs.{Boxes.trial_setup, Links.link_sent, Sides.HasTaken}
+use Rattle.yasir_ticks.specs.{TickRun.run_ticks, declared.tick.Tick.Tick}
+use Rattle.trial_session.proofs.side.Side.send_on.Goals as goal
+
+pub add_run-requires : goal.add_run-requires
+add_run-requires g c =
+    let n = c.forward-forwarded.result in
+    let within = c.forward-forwarded.ensures.within in
+    omega (
+      arith,
+      c.requires.link,
+      within,
+      ap length c.front.ensures,
+      length-take-le n (run_ticks c.args.run) within,
+    )
+
+pub returns-then-forwarded-gt0-clause-len : goal.returns-then-forwarded-gt0-clause-len
+returns-then-forwarded-gt0-clause-len g c =
+    let n = c.forward-forwarded.result in
+    omega (
+      arith,
+      c.add_run.ensures.len,
+      ap length c.front.ensures,
+      length-take-le n (run_ticks c.args.run) c.forward-forwarded.ensures.within,
+    )
+
+pub returns-then-forwarded-gt0-clause-sent : goal.returns-then-forwarded-gt0-clause-sent
+returns-then-forwarded-gt0-clause-sent g c = λ line more sent.
+    let counting = g.X.CountingBox.counting in
+    sends-run g.X.LinkBox counting c.args.self.now _ line more _ _ (link_sent c.args.link.now)
+    (link_sent c.add_run.new.self) sent
+    (λ l t.
+    let ran = c.forward-forwarded.ensures.run (journal_floor c.args.self.now.journal) trial_setup
+    l t.stands in
+    passes-run g.X.LinkBox counting c.args.self.now _ l _ _ _ refl ran.stands refl refl refl t
+    (counts-run g.X.LinkBox.walking g.X.CountingBox.fate_of counting
+    g.met.X.CountingBox.counts l _ _ ran.answers))
+    (c.add_run.ensures.sent ∙ ap (λ l. link_sent c.args.link.now ++ l) c.front.ensures)
+
+pub send-sent-requires-clause-room : goal.send-sent-requires-clause-room
+send-sent-requires-clause-room g c =
+    omega (arith, c.requires.room, c.forward-forwarded.ensures.taken, c.if-forwarded-gt0.false)
+
+pub returns-clause-level : goal.returns-clause-level
+returns-clause-level g c = omega (
+  arith,
+  c.send-sent.ensures.level,
+  c.forward-forwarded.ensures.taken,
+  c.if-forwarded-gt0.false,
+)
+
+pub returns-clause-sent : goal.returns-clause-sent
+returns-clause-sent g c = λ line more sent.
+    let counting = g.X.CountingBox.counting in
+    let none : c.forward-forwarded.result ≡ 0 = omega (arith, c.if-forwarded-gt0.false) in
+    let n = c.send-sent.result in
+    let pass = λ (l : List Tick) (t : HasTaken g.X.LinkBox counting c.args.self.now l).
+    let ran = c.forward-forwarded.ensures.run (journal_floor c.args.self.now.journal) trial_setup
+    l t.stands in
+    passes-as g.X.LinkBox counting c.send-sent.new.self l _ n _ _ c.as_slice.ensures.value
+    (c.send-sent.ensures.sent l
+    (passes-none g.X.LinkBox counting _ l _ _
+    (ap (λ k. take k (run_ticks c.args.run)) none)
+    (passes-run g.X.LinkBox counting c.args.self.now _ l _ _ _ refl ran.stands refl refl refl t
+    (counts-run g.X.LinkBox.walking g.X.CountingBox.fate_of counting
+    g.met.X.CountingBox.counts l _ _ ran.answers)))) in
+    sends-run g.X.LinkBox counting c.args.self.now c.send-sent.new.self line more _ _
+    (link_sent c.args.link.now) (link_sent c.add.new.self) sent pass
+    (c.add.ensures.sent ((pass (line ++ more) sent.taken).long
+    ∙ length-take-le n (run_ticks c.args.run) c.send-sent.ensures.within))
