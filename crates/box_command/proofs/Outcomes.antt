@@ -28,7 +28,7 @@ use Rattle.box_command.proofs.Walking.{walk-boxed}
 use Rattle.box_command.specs.BoxLines.{BoxOrigin, Outputs, ToldFloor, DrivesBox, StopsAtNumber}
 use Rattle.box_command.specs.BoxLines.{StopsAtWrite, State, driving, state_of}
 use Rattle.box_command.specs.{BoxLinesLaws.floor_from_less, Boxes.Boxed, Boxes.IsBoxed}
-use Rattle.box_command.specs.{Boxes.FailsBox, LinkBoxed.boxed_of}
+use Rattle.box_command.specs.LinkBoxed.{boxed_of}
 use Rattle.box_command.specs.ReplaysBox.{Around, around, KeepsFloor, KeepsFloorFromLoad}
 use Rattle.box_command.specs.ReplaysBox.{LeavesUptime, KeepsFloorThroughout, boxed_with, texts_of}
 use Rattle.box_command.specs.ReplaysBox.{EndsBox, FailsAtNumber, WritesFronts, RunsBox}
