@@ -4,7 +4,6 @@ pub mod LiveRuns
 pub mod Finishing
 pub mod Heard
 pub mod Hearing
-pub mod OneMore
 pub mod RunTicks
 pub mod Taken
 pub mod TextEndsLaws
