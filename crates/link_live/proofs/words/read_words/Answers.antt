@@ -1,48 +1,23 @@
 use Rattle.link_live.specs.{Words.IsCommand, declared.words.Command.Command}
-use Rattle.std.proofs.Common.{◌≡◌, ℕ, ◌<◌, ◌≤◌, List, [], ◌∷◌, length, get_or, map, IfOk, OnErr}
-use Rattle.std.proofs.Common.{subst, sym, arith}
-use Rattle.std.specs.String.{string_bytes}
+use Rattle.{link_words.proofs.Listed.five, std.specs.String.string_bytes}
+use Rattle.std.proofs.Common.{◌≡◌, [], ◌∷◌, map, IfOk, OnErr, subst, sym}
 use Rattle.link_live.proofs.words.read_words.Goals as goal
 
--- a list of five by its items
-five : {X : Type 0} (f : X → List ℕ) (xs : List X) (a b c d e : X) (p q r s t : List ℕ)
-    → 5 ≤ length xs → length xs < 6
-    → a ≡ get_or xs 0 a → b ≡ get_or xs 1 b → c ≡ get_or xs 2 c → d ≡ get_or xs 3 d
-    → e ≡ get_or xs 4 e
-    → p ≡ f a → q ≡ f b → r ≡ f c → s ≡ f d → t ≡ f e → map f xs ≡ p ∷ q ∷ r ∷ s ∷ t ∷ []
-five f [] a b c d e p q r s t least below a-is b-is c-is d-is e-is p-is q-is r-is s-is t-is =
-    absurd (omega arith)
-five f (u ∷ []) a b c d e p q r s t least below a-is b-is c-is d-is e-is p-is q-is r-is s-is t-is =
-    absurd (omega arith)
-five f (u ∷ v ∷ []) a b c d e p q r s t least below a-is b-is c-is d-is e-is p-is q-is r-is s-is
-    t-is = absurd (omega arith)
-five f (u ∷ v ∷ w ∷ []) a b c d e p q r s t least below a-is b-is c-is d-is e-is p-is q-is r-is s-is
-    t-is = absurd (omega arith)
-five f (u ∷ v ∷ w ∷ x ∷ []) a b c d e p q r s t least below a-is b-is c-is d-is e-is p-is q-is r-is
-    s-is t-is = absurd (omega arith)
-five f (u ∷ v ∷ w ∷ x ∷ y ∷ []) a b c d e p q r s t least below a-is b-is c-is d-is e-is p-is q-is
-    r-is s-is t-is = cc
-five f (u ∷ v ∷ w ∷ x ∷ y ∷ z ∷ xs) a b c d e p q r s t least below a-is b-is c-is d-is e-is p-is
-    q-is r-is s-is t-is = absurd (omega arith)
+-- the words of a list of five
+words : (c : goal.After-read_five) → map string_bytes c.args.words.now
+    ≡ c.as_str.result.now ∷ c.as_str-in-len5.result.now ∷ c.as_str-in-len5-2.result.now
+    ∷ c.as_str-in-len5-3.result.now ∷ c.as_str-in-len5-4.result.now ∷ []
+words c = five string_bytes c.args.words.now c.in-len5.len_at_least c.in-len5.len_below
+    c.first-item.is c.second-item.is c.third-item.is c.key-item.is c.path-item.is
+    c.as_str.ensures.value c.as_str-in-len5.ensures.value c.as_str-in-len5-2.ensures.value
+    c.as_str-in-len5-3.ensures.value c.as_str-in-len5-4.ensures.value
 
 pub returns-in-len5-clause-ok : goal.returns-in-len5-clause-ok
 returns-in-len5-clause-ok c =
-    let words = five string_bytes c.args.words.now c.first-item.result c.second-item.result
-    c.third-item.result c.key-item.result c.path-item.result _ _ _ _ _ c.in-len5.len_at_least
-    c.in-len5.len_below c.first-item.is c.second-item.is c.third-item.is c.key-item.is
-    c.path-item.is c.as_str.ensures.value c.as_str-in-len5.ensures.value
-    c.as_str-in-len5-2.ensures.value c.as_str-in-len5-3.ensures.value
-    c.as_str-in-len5-4.ensures.value in
-    subst (λ l. IfOk c.read_five.result (λ command. IsCommand l command)) (sym words)
+    subst (λ l. IfOk c.read_five.result (λ command. IsCommand l command)) (sym (words c))
     c.read_five.ensures.ok
 
 pub returns-in-len5-clause-usage : goal.returns-in-len5-clause-usage
 returns-in-len5-clause-usage c =
-    let words = five string_bytes c.args.words.now c.first-item.result c.second-item.result
-    c.third-item.result c.key-item.result c.path-item.result _ _ _ _ _ c.in-len5.len_at_least
-    c.in-len5.len_below c.first-item.is c.second-item.is c.third-item.is c.key-item.is
-    c.path-item.is c.as_str.ensures.value c.as_str-in-len5.ensures.value
-    c.as_str-in-len5-2.ensures.value c.as_str-in-len5-3.ensures.value
-    c.as_str-in-len5-4.ensures.value in
     subst (λ l. OnErr c.read_five.result ((command : Command) → IsCommand l command → ⊥))
-    (sym words) c.read_five.ensures.usage
+    (sym (words c)) c.read_five.ensures.usage
