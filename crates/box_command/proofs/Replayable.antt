@@ -1,5 +1,6 @@
 -- A right key, a number in a slot and a right input are refused by nothing but a fault outside.
 use Rattle.box_command.specs.Boxes.{Boxed}
+use Rattle.box_command.specs.Given.{HasKey, HoldsJournal}
 use Rattle.box_command.specs.ReplaysBox.{ReplaysBox, BoxDiskCause, IsReplayable}
 use Rattle.{hex.proofs.HexLemmas.decode_of-ok, hmac_tag.specs.declared.dir.Dir.Dir}
 use Rattle.key_text.specs.KeyText.{IsKeyText, IsKeyMet, IsNoKey}
@@ -34,33 +35,6 @@ key_text_short text key is =
     ap length is.all ∙ length-append is.digits is.ending in
     omega (arith, is.short, twice, few, all)
 
-pub no_key_refused : (text key met : List ℕ) (now : Option (List ℕ)) (place : ℕ) → IsKeyText text
-    key
-    → IsKeyMet (Some text) now met
-    → IsNoKey met place → ⊥
-no_key_refused text key met now place right is none = elim is.whole [
-  | inl ended ↦ none.none (
-    key,
-    subst (λ t. IsKeyText t key) (all_of_told text met now is.met ended)
-        right,
-  )
-  | inr long ↦
-      let rest = met_of_told text met now is.met in
-      let all : length text ≡ length met + length rest.0 =
-      ap length rest.1 ∙ length-append met rest.0 in
-      let short : length text ≤ 130 = key_text_short text key right in
-      absurd (omega (arith, long, all, short))
-]
-
-pub no_journal_refused : (link : LinkId) (slots : Slots) (floor : ℕ) (a b : List ℕ) → IsLink link
-    → floor_of link slots ≡ Some floor → FindsNone (Some slots) a b → ⊥
-no_journal_refused link slots floor a b right has finds =
-    let no_own : own_floor link finds.read ≡ None = no_own_floor link finds.read right finds.none in
-    let no_floor : floor_of link finds.read ≡ None =
-    rw (no_own, finds.none, finds.none_old) refl in
-    let both : Some floor ≡ None = sym has ∙ ap (floor_of link) finds.are_read ∙ no_floor in
-    cc
-
 other_link_has_no_floor : (own any old : Option ℕ) (a b : Option ℕ) (place : Slot)
     → wrong_by own (place_of_greater a b) ≡ Some place → any ≡ greater a b
     → floor_by own any old ≡ None
@@ -70,15 +44,52 @@ other_link_has_no_floor None any old None (Some b) place wrong is = rw is refl
 other_link_has_no_floor None any old (Some a) None place wrong is = rw is refl
 other_link_has_no_floor None any old (Some a) (Some b) place wrong is = rw is refl
 
-pub wrong_link_refused : (link : LinkId) (slots : Slots) (floor : ℕ) (slot : List ℕ)
-    → floor_of link slots ≡ Some floor → FindsOther link (Some slots) slot → ⊥
-wrong_link_refused link slots floor slot has finds =
-    let no_floor : floor_of link finds.read ≡ None =
-    other_link_has_no_floor (own_floor link finds.read) (any_floor finds.read)
-    (old_floor finds.read) (any_number_held finds.read.a) (any_number_held finds.read.b)
-    finds.place finds.wrong refl in
-    let both : Some floor ≡ None = sym has ∙ ap (floor_of link) finds.are_read ∙ no_floor in
-    cc
+-- a right key isn't refused
+pub no_key_refused : {told : Option (List ℕ)} (given : HasKey told) (met : List ℕ)
+    (now : Option (List ℕ)) (place : ℕ) → IsKeyMet told now met → IsNoKey met place → ⊥
+no_key_refused given met now place read none =
+    let is : IsKeyMet (Some given.text) now met =
+    subst (λ left. IsKeyMet left now met) given.is read in
+    elim is.whole [
+      | inl ended ↦ none.none (
+        given.key,
+        subst (λ t. IsKeyText t given.key) (all_of_told given.text met now is.met ended)
+            given.right,
+      )
+      | inr long ↦
+          let rest = met_of_told given.text met now is.met in
+          let all : length given.text ≡ length met + length rest.0 =
+          ap length rest.1 ∙ length-append met rest.0 in
+          let short : length given.text ≤ 130 =
+          key_text_short given.text given.key given.right in
+          absurd (omega (arith, long, all, short))
+    ]
+
+-- nor are slots that hold a journal of the link
+module _ {link : LinkId} {told : Option Slots} (given : HoldsJournal link told) where
+  pub no_journal_refused : (a b : List ℕ) → IsLink link → FindsNone told a b → ⊥
+  no_journal_refused a b right found =
+      let finds : FindsNone (Some given.slots) a b =
+      subst (λ t. FindsNone t a b) given.is found in
+      let no_own : own_floor link finds.read ≡ None =
+      no_own_floor link finds.read right finds.none in
+      let no_floor : floor_of link finds.read ≡ None =
+      rw (no_own, finds.none, finds.none_old) refl in
+      let both : Some given.floor ≡ None =
+      sym given.has_floor ∙ ap (floor_of link) finds.are_read ∙ no_floor in
+      cc
+
+  pub wrong_link_refused : (slot : List ℕ) → FindsOther link told slot → ⊥
+  wrong_link_refused slot found =
+      let finds : FindsOther link (Some given.slots) slot =
+      subst (λ t. FindsOther link t slot) given.is found in
+      let no_floor : floor_of link finds.read ≡ None =
+      other_link_has_no_floor (own_floor link finds.read) (any_floor finds.read)
+      (old_floor finds.read) (any_number_held finds.read.a) (any_number_held finds.read.b)
+      finds.place finds.wrong refl in
+      let both : Some given.floor ≡ None =
+      sym given.has_floor ∙ ap (floor_of link) finds.are_read ∙ no_floor in
+      cc
 
 module _ {K S O L D : Type 0} (k : Source K) (s : Source S) (o : Sink O) (l : Sink L)
     (d : SlotDisk D) (boxed : Setup → Boxed) (link : LinkId) (is_link : IsLink link)
@@ -115,12 +126,8 @@ module _ {K S O L D : Type 0} (k : Source K) (s : Source S) (o : Sink O) (l : Si
   ]
   replayable_done JournalFault h reads disk sinks = absurd (calm.disk disk)
   replayable_done (BadKey place) h reads disk sinks =
-      absurd (no_key_refused right.text right.key h.text (k.left after.key) place
-      right.key_right (subst (λ left. IsKeyMet left (k.left after.key) h.text) right.key_told h.met)
-      h.refused)
+      absurd (no_key_refused right.key h.text (k.left after.key) place h.met h.refused)
   replayable_done (BadJournal a b) h reads disk sinks =
-      absurd (no_journal_refused link right.slots right.floor a b is_link right.has_floor
-      (subst (λ told. FindsNone told a b) right.slots_told h.runs.0))
+      absurd (no_journal_refused right.journal a b is_link h.runs.0)
   replayable_done (WrongLink slot) h reads disk sinks =
-      absurd (wrong_link_refused link right.slots right.floor slot right.has_floor
-      (subst (λ told. FindsOther link told slot) right.slots_told h.runs.0))
+      absurd (wrong_link_refused right.journal slot h.runs.0)

@@ -12,6 +12,7 @@ pub mod LinkBoxes
 pub mod BoxLines
 pub mod BoxLinesLaws
 pub mod DrivenBox
+pub mod Given
 pub mod ReplaysBox
 pub mod Uptimes
 pub mod TimedLines

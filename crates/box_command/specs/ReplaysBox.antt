@@ -32,6 +32,7 @@ use Rattle.replay_status.specs.declared.status.Status.TheVariants.{WriteFault, J
 use Rattle.replay_status.specs.declared.status.Status.TheVariants.{TooLong, BadKey, BadJournal}
 use Rattle.replay_status.specs.declared.status.Status.TheVariants.{WrongLink}
 use Rattle.box_command.specs.Boxes.{Boxed, FailsBox}
+use Rattle.box_command.specs.Given.{HasKey, HoldsJournal}
 use Rattle.line_texts.specs.Sending.{SinkTexts, sink_texts}
 use Rattle.box_command.specs.Sending.{HasSent, HasSentFronts}
 use Rattle.box_command.specs.BoxLines.{ToldFloor}
@@ -219,16 +220,10 @@ BoxDiskCause before now WriteFault = before ≤ now
 BoxDiskCause before now JournalFault = Rose before now
 BoxDiskCause before now status = now ≡ before
 
--- All that the command is given is right: a key text, slots that have a floor for the link, and an
+-- All that the command is given is right: a key text, slots that hold a journal of the link, and an
 -- input within the limits.
 pub record IsReplayable (link : LinkId) (key_before : Option (List ℕ)) (told : Option Slots)
     (in_before : Option (List ℕ)) : Type 0 where
-  pub text : List ℕ
-  pub key : List ℕ
-  pub slots : Slots
-  pub floor : ℕ
-  pub key_told : key_before ≡ Some text
-  pub key_right : IsKeyText text key
-  pub slots_told : told ≡ Some slots
-  pub has_floor : floor_of link slots ≡ Some floor
+  pub key : HasKey key_before
+  pub journal : HoldsJournal link told
   pub input : IsReadable in_before

@@ -1,9 +1,7 @@
 -- A right key, a number in a slot and a right text are refused by nothing but a fault outside.
-use Rattle.{hmac_tag.specs.declared.dir.Dir.Dir, key_text.specs.KeyText.IsKeyMet}
-use Rattle.link_format.specs.Setup.{Setup}
+use Rattle.{hmac_tag.specs.declared.dir.Dir.Dir, link_format.specs.Setup.Setup}
 use Rattle.replay_status.specs.{Statuses.fault_line, declared.status.Status.Status}
-use Rattle.sequence_journal.specs.{Links.IsLink, Loading.FindsNone, Loading.FindsOther}
-use Rattle.sequence_journal.specs.declared.link.LinkId.{LinkId}
+use Rattle.sequence_journal.specs.{Links.IsLink, declared.link.LinkId.LinkId}
 use Rattle.std.proofs.Common.{◌≡◌, ◌∙◌, ℕ, ◌+◌, List, [], ◌∷◌, ◌++◌, length, Option, Some, None}
 use Rattle.std.proofs.Common.{inl, inr, refl, sym, ap, subst, arith, append_assoc, length-append}
 use Rattle.std.specs.Io.KnownBytes.{prepend_known, IsAtEnd}
@@ -144,16 +142,12 @@ module _ {K P D : Type 0} (k : Source K) (p : Port P) (d : SlotDisk D) where
     lives_done status.WriteFault lives disk no_write = absurd (no_write refl)
     lives_done status.JournalFault lives disk no_write = absurd (disk_calm disk)
     lives_done (status.BadKey place) lives disk no_write =
-        absurd (no_key_refused right.text right.key lives.text (k.left key_after) place
-        right.key_right
-        (subst (λ left. IsKeyMet left (k.left key_after) lives.text) right.key_told lives.met)
+        absurd (no_key_refused right.key lives.text (k.left key_after) place lives.met
         lives.refused)
     lives_done (status.BadJournal a b) lives disk no_write =
-        absurd (no_journal_refused link right.slots right.floor a b is_link right.has_floor
-        (subst (λ told. FindsNone told a b) right.slots_told lives.runs.0))
+        absurd (no_journal_refused right.journal a b is_link lives.runs.0)
     lives_done (status.WrongLink slot) lives disk no_write =
-        absurd (wrong_link_refused link right.slots right.floor slot right.has_floor
-        (subst (λ told. FindsOther link told slot) right.slots_told lives.runs.0))
+        absurd (wrong_link_refused right.journal slot lives.runs.0)
 
   module _ (key_before key_after : K) (before after : Around P D) (noted : P) (end : Status)
       (calm : IsCalm k p d key_before key_after before after)

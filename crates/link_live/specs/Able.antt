@@ -7,8 +7,7 @@ use Rattle.yasir_io.specs.declared.disk.SlotDisk.{Ghosts as SlotDisk}
 use Rattle.yasir_ticks.specs.Ticks.{Item, ticks_in}
 use Rattle.yasir_ticks.specs.TickText.{IsTickText, ended_items}
 use Rattle.sequence_journal.specs.declared.link.LinkId.{LinkId}
-use Rattle.sequence_journal.specs.Slots.{floor_of}
-use Rattle.key_text.specs.KeyText.{IsKeyText}
+use Rattle.box_command.specs.Given.{HasKey, HoldsJournal}
 use Rattle.live_port.specs.declared.port.Output.{Output}
 use Rattle.live_port.specs.declared.port.Port.{Ghosts as Port}
 use Rattle.link_live.specs.declared.live_box.TheConstants.{MAX_LIVE_TICKS, MAX_LIVE_BYTES}
@@ -29,18 +28,12 @@ pub record IsLiveText (input : Option (List ℕ)) : Type 0 where
   pub few_unended : (front part later : List ℕ) → text ≡ front ++ (part ++ later)
       → ended_items (front ++ part) ≡ ended_items front → length part ≤ 2147483648
 
--- All that a box is given is right: a key text, slots that have a floor for the link, and the text
+-- All that a box is given is right: a key text, slots that hold a journal of the link, and the text
 -- of a live line.
 pub record IsLivable (link : LinkId) (key_before : Option (List ℕ)) (told : Option Slots)
     (input : Option (List ℕ)) : Type 0 where
-  pub text : List ℕ
-  pub key : List ℕ
-  pub slots : Slots
-  pub floor : ℕ
-  pub key_told : key_before ≡ Some text
-  pub key_right : IsKeyText text key
-  pub slots_told : told ≡ Some slots
-  pub has_floor : floor_of link slots ≡ Some floor
+  pub key : HasKey key_before
+  pub journal : HoldsJournal link told
   pub line : IsLiveText input
 
 module _ {K P D : Type 0} (k : Source K) (p : Port P) (d : SlotDisk D) where

@@ -1,7 +1,7 @@
 -- A run that reads a key, and then a text with its marks: where both are right and nothing outside
 -- fails, it gives `Done` or `NoMemory`.
-use Rattle.{key_text.specs.KeyText.IsKeyMet, recordings_replay.specs.Keyed.ReadsKeyFirst}
-use Rattle.std.proofs.Common.{◌≡◌, ◌⊎◌, ℕ, List, inl, inr, refl, subst}
+use Rattle.recordings_replay.specs.Keyed.{ReadsKeyFirst}
+use Rattle.std.proofs.Common.{◌≡◌, ◌⊎◌, ℕ, List, inl, inr, refl}
 use Rattle.std.specs.Prelude.{⊤}
 use Rattle.tick_drive.specs.{Input.Takes, declared.end.End.TheVariants.Refused}
 use Rattle.yasir_io.specs.declared.{disk.SlotDisk.Ghosts as SlotDisk, sink.Sink.Ghosts as Sink}
@@ -56,8 +56,6 @@ module _ {K S O L D : Type 0} (k : Source K) (s : Source S) (o : Sink O) (l : Si
         elim reads.0 [ inl key ↦ absurd (calm.key key) | inr input ↦ absurd (calm.input input) ]
     keyed_done WriteFault ended h reads sinks =
         elim sinks [ inl out ↦ absurd (calm.out out) | inr log ↦ absurd (calm.log log) ]
-    keyed_done (BadKey place) ended h reads sinks = absurd (no_key_refused right.text right.key
-        h.text (k.left after.key) place right.key_right
-        (subst (λ told. IsKeyMet told (k.left after.key) h.text) right.key_told h.met)
-        h.refused)
+    keyed_done (BadKey place) ended h reads sinks =
+        absurd (no_key_refused right.key h.text (k.left after.key) place h.met h.refused)
     keyed_done status ended h reads sinks = absurd (ended h.key h.does)

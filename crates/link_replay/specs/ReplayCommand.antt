@@ -6,7 +6,7 @@
 -- that the transmitter sealed, each number at most once, unless the run names a tag that matched an
 -- unsealed number and frame; an untouched link with frames spaced as stated delivers all, each byte
 -- exactly 18 ticks late (24 by the profile of four bytes of number).
-use Rattle.std.specs.Prelude.{◌≡◌, ℕ, List, Option, Some}
+use Rattle.std.specs.Prelude.{◌≡◌, ℕ, List, Option}
 use Rattle.std.specs.Io.KnownBytes.{append_known}
 use Rattle.yasir_io.specs.declared.source.Source.{Ghosts as Source}
 use Rattle.yasir_io.specs.declared.sink.Sink.{Ghosts as Sink}
@@ -18,7 +18,6 @@ use Rattle.link_format.specs.Setup.{setup_of}
 use Rattle.sequence_journal.specs.declared.numbers.TheConstants.{LIMIT}
 use Rattle.seal_judgements.specs.Sealing.{sealed}
 use Rattle.link_verdicts.specs.Checking.{passed, received_line}
-use Rattle.key_text.specs.KeyText.{IsKeyText}
 use Rattle.replay_lists.specs.Recordings.{before_mark}
 use Rattle.replay_status.specs.Outside.{Outside}
 use Rattle.replay_status.specs.Readable.{IsReadableWith}
@@ -29,6 +28,7 @@ use Rattle.recordings_replay.specs.Keyed.{ReadsKeyFirst, LeavesAll}
 use Rattle.recordings_replay.specs.Recorded.{IsRecorded, PrintsRecorded, device_line, link_ticks}
 use Rattle.recordings_replay.specs.TellsOf.{TellsOf}
 use Rattle.link_replay.specs.ReadCommand.{device_reads}
+use Rattle.box_command.specs.Given.{HasKey}
 use Rattle.box_command.specs.LinkBoxes.{seal_rest}
 use Rattle.link_words.specs.declared.words.Profile.{Profile}
 use Rattle.link_words.specs.declared.words.Proto.{Proto}
@@ -92,8 +92,5 @@ module _ {K S O L D : Type 0} (k : Source K) (s : Source S) (o : Sink O) (l : Si
 -- All that a command of recordings is given is right: a key text, and a text with this many marks
 -- within the limits.
 pub record IsListable (marks : ℕ) (key_before in_before : Option (List ℕ)) : Type 0 where
-  pub text : List ℕ
-  pub key : List ℕ
-  pub key_told : key_before ≡ Some text
-  pub key_right : IsKeyText text key
+  pub key : HasKey key_before
   pub input : IsReadableWith marks in_before
