@@ -117,7 +117,7 @@ module _ {K S O L D : Type 0} (k : Source K) (s : Source S) (o : Sink O) (l : Si
       readable_done (device_reads proto) _ _ _ _ _ _ _ _ _ _ _ _ _ _ may calm status
       does.frames causes.own.0 causes.streams.sinks
   asked_done (Some Vectors) before after status may calm does causes =
-      text_done _ _ _ _ _ _ _ _ _ _ calm _ _ _ status does.tables causes.streams.sinks
+      text_done _ _ _ _ _ _ _ _ _ _ calm _ _ _ status does.printed causes.streams.sinks
   asked_done (Some Help) before after status may calm does causes =
       text_done _ _ _ _ _ _ _ _ _ _ calm _ _ _ status does.printed causes.streams.sinks
   asked_done (Some Version) before after status may calm does causes =
@@ -131,7 +131,7 @@ module _ {K S O L D : Type 0} (k : Source K) (s : Source S) (o : Sink O) (l : Si
       (link-right proto profile dir) dir check_rest before after may calm status
       does causes.streams.reads causes.own causes.streams.sinks
   asked_done (Some (Trial proto profile seed count)) before after status may calm does causes =
-      text_done _ _ _ _ _ _ _ _ _ _ calm _ _ _ status does.line causes.streams.sinks
+      text_done _ _ _ _ _ _ _ _ _ _ calm _ _ _ status does.line.printed causes.streams.sinks
   asked_done (Some (Space proto profile)) before after status may calm does causes =
       spaced_done (spaced_by proto profile) _ _ _ _ _ _ _ _ _ _ _ _ _ _ may calm status
       (whole-spaces proto profile _ _ _ _ status does.line) causes.own.0 causes.streams.sinks

@@ -4,6 +4,7 @@ pub mod ReadCommand
 pub mod SpaceCommand
 pub mod AuditCommand
 pub mod DuplexCommand
+pub mod Printing
 pub mod VectorsCommand
 pub mod SealCommand
 pub mod CheckCommand

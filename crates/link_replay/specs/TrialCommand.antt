@@ -1,10 +1,9 @@
 -- The command `trial`: the line of a session that is made from a number.
-use Rattle.std.specs.Prelude.{◌≡◌, ℕ}
+use Rattle.std.specs.Prelude.{ℕ}
 use Rattle.yasir_io.specs.declared.sink.Sink.{Ghosts as Sink}
 use Rattle.link_format.specs.Profile.{Profile as LinkProfile}
 use Rattle.sequence_journal.specs.declared.numbers.TheConstants.{LIMIT}
 use Rattle.replay_status.specs.Outside.{Outside}
-use Rattle.replay_status.specs.PrintsText.{PrintsText}
 use Rattle.replay_status.specs.declared.status.Status.{Status}
 use Rattle.trial_session.specs.Boxes.{trial_setup}
 use Rattle.trial_session.specs.DnpDrawn.{dnp_drawing}
@@ -15,6 +14,7 @@ use Rattle.trial_session.specs.Telling.{Tells}
 use Rattle.trial_session.specs.TrialLine.{trial_line}
 use Rattle.trial_session.specs.declared.summary.Summary.{Summary}
 use Rattle.link_words.specs.Links.{rules_of, link_profile_of}
+use Rattle.link_replay.specs.Printing.{Prints}
 use Rattle.link_replay.specs.ReadCommand.{device_reads}
 use Rattle.link_words.specs.Words.{link_word}
 use Rattle.link_words.specs.declared.words.Profile.{Profile}
@@ -37,14 +37,10 @@ trial_counts proto profile seed count = trial_summary (drawing_of proto)
     (trial_link_profile proto profile) (rules_of proto) (device_reads proto) seed count
 
 -- What `trial` does: it prints one line, in which all frames are sealed, and as many are read as
--- passed. Nothing is read, and the disk is as it was.
+-- passed.
 pub record Tries {K S O L D : Type 0} (o : Sink O) (l : Sink L) (proto : Proto) (profile : Profile)
     (seed count : ℕ) (before after : Outside K S O L D) (status : Status) : Type 0 where
-  pub line : PrintsText
+  pub line : Prints o l
       (trial_line (link_word proto profile) seed count (trial_counts proto profile seed count))
-      (o.held before.out) (o.held after.out) status
+      before after status
   pub tells : Tells (trial_counts proto profile seed count) count
-  pub log : l.held after.log ≡ l.held before.log
-  pub key : after.key ≡ before.key
-  pub input : after.input ≡ before.input
-  pub disk : after.disk ≡ before.disk

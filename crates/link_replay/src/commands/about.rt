@@ -5,7 +5,8 @@ ghost use Rattle.link_replay.specs.declared.words.Command.TheVariants.{Help, Ver
 ghost use Rattle.link_replay.specs.AboutCommands.{Helps, TellsVersion};
 ghost use Rattle.link_replay.specs.Commands.{HasCauses};
 
-use replay_status::{Ends, Status, print_text};
+use crate::commands::printing::print_alone;
+use replay_status::{Ends, Status};
 use yasir_io::{Sink, SlotDisk, Source};
 
 /// The line that `version` prints: the name of the program and its version.
@@ -58,8 +59,7 @@ pub fn print_help<K: Source, S: Source, O: Sink, L: Sink, D: SlotDisk>(
     ensures causes { HasCauses K.Source S.Source O.Sink L.Sink D.SlotDisk (Some Help)
         (outside_before ends.entry) (outside_after ends.exit) result }
 {
-    let Ends { out, log, .. } = ends;
-    print_text(&HELP_PAGE, out, log)
+    print_alone(&HELP_PAGE, ends)
 }
 
 /// Prints the program's name and version.
@@ -71,6 +71,5 @@ pub fn print_version<K: Source, S: Source, O: Sink, L: Sink, D: SlotDisk>(
     ensures causes { HasCauses K.Source S.Source O.Sink L.Sink D.SlotDisk (Some Version)
         (outside_before ends.entry) (outside_after ends.exit) result }
 {
-    let Ends { out, log, .. } = ends;
-    print_text(&VERSION_LINE, out, log)
+    print_alone(&VERSION_LINE, ends)
 }

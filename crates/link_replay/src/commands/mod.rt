@@ -5,6 +5,7 @@ pub mod audit;
 pub mod check;
 pub mod duplex;
 pub mod init;
+mod printing;
 pub mod read;
 pub mod replay;
 pub mod seal;

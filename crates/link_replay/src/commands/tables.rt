@@ -5,7 +5,8 @@ ghost use Rattle.link_replay.specs.declared.words.Command.TheVariants.{Vectors};
 ghost use Rattle.link_replay.specs.Commands.{HasCauses};
 ghost use Rattle.link_replay.specs.VectorsCommand.{table_line, table_lines, Tabulates};
 
-use replay_status::{Ends, Line, Status, print_text, push_decimal};
+use crate::commands::printing::print_alone;
+use replay_status::{Ends, Line, Status, push_decimal};
 use vectors::{Miss, crc_table, frames_table, hmac_table, user_table};
 use yasir_io::{Sink, SlotDisk, Source};
 
@@ -56,6 +57,5 @@ pub fn print_tables<K: Source, S: Source, O: Sink, L: Sink, D: SlotDisk>(
     ensures causes { HasCauses K.Source S.Source O.Sink L.Sink D.SlotDisk (Some Vectors)
         (outside_before ends.entry) (outside_after ends.exit) result }
 {
-    let Ends { out, log, .. } = ends;
-    print_text(table_lines().as_slice(), out, log)
+    print_alone(table_lines().as_slice(), ends)
 }

@@ -7,9 +7,10 @@ ghost use Rattle.link_replay.specs.Commands.{HasCauses};
 ghost use Rattle.link_replay.specs.TrialCommand.{trial_counts, Tries};
 ghost use Rattle.link_words.specs.Words.{link_word};
 
+use crate::commands::printing::print_alone;
 use check_receiver::Checker;
 use link_words::{Profile, Proto, link_word, with_link};
-use replay_status::{Ends, Line, Status, print_text};
+use replay_status::{Ends, Line, Status};
 use seal_transmitter::Sealer;
 use trial_session::session_line;
 use yasir_io::{Sink, SlotDisk, Source};
@@ -50,7 +51,6 @@ pub fn try_link<K: Source, S: Source, O: Sink, L: Sink, D: SlotDisk>(
         (Some (Trial proto profile seed count)) (outside_before ends.entry)
         (outside_after ends.exit) result }
 {
-    let Ends { out, log, .. } = ends;
     let line = line_of_session(proto, profile, seed, count);
-    print_text(line.as_slice(), out, log)
+    print_alone(line.as_slice(), ends)
 }

@@ -1,28 +1,5 @@
-use Rattle.std.proofs.Common.{◌∙◌, refl, subst}
-use Rattle.replay_status.specs.PrintsText.{PrintsText}
-use Rattle.link_replay.proofs.Flushing.{reads-unread, own-unread}
 use Rattle.link_replay.proofs.commands.tables.print_tables.Goals as goal
 
 pub returns-clause-tabulates : goal.returns-clause-tabulates
-returns-clause-tabulates g c = record {
-  tables = subst (λ text. PrintsText text (g.O.Sink.held c.args.ends.out.now)
-      (g.O.Sink.held c.print_text.new.out) c.print_text.result)
-      (c.as_slice.ensures.value ∙ c.table_lines.ensures) c.print_text.ensures.out;
-  log = c.print_text.ensures.log;
-  key = refl;
-  input = refl;
-  disk = refl;
-}
-
-pub returns-clause-causes : goal.returns-clause-causes
-returns-clause-causes g c = record {
-  streams = record {
-    reads = reads-unread (g.K.Source.faults c.args.ends.key.now)
-        (g.S.Source.faults c.args.ends.input.now) c.print_text.result c.print_text.ensures.status;
-    sinks = c.print_text.ensures.sinks;
-    flushes = c.print_text.ensures.flushes;
-  };
-  own = own-unread (g.S.Source.faults c.args.ends.input.now)
-      (g.D.SlotDisk.faults c.args.ends.disk.now) (g.D.SlotDisk.faults c.args.ends.disk.now)
-      c.print_text.result c.print_text.ensures.status refl;
-}
+returns-clause-tabulates g c =
+    rw (c.as_slice.ensures.value, c.table_lines.ensures) at c.print_alone.ensures.prints

@@ -1,0 +1,25 @@
+//! Printing a text, which is all that some commands do.
+ghost use Rattle.replay_status.specs.Causes.{InputCause, DiskCause};
+ghost use Rattle.replay_status.specs.Ends.{outside_before, outside_after};
+ghost use Rattle.replay_status.specs.StreamCauses.{HasStreamCauses};
+ghost use Rattle.link_replay.specs.Printing.{Prints};
+
+use replay_status::{Ends, Status, print_text};
+use yasir_io::{Sink, SlotDisk, Source};
+
+/// Prints a text to the output, and flushes both sinks after it. Nothing is read.
+pub(crate) fn print_alone<K: Source, S: Source, O: Sink, L: Sink, D: SlotDisk>(
+    text: &[u8],
+    ends: Ends<K, S, O, L, D>,
+) -> Status
+    ensures prints { Prints O.Sink L.Sink text.now (outside_before ends.entry)
+        (outside_after ends.exit) result }
+    ensures streams { HasStreamCauses K.Source S.Source O.Sink L.Sink (outside_before ends.entry)
+        (outside_after ends.exit) result }
+    ensures own { InputCause (S.faults ends.entry.input.now)
+        (S.faults (outside_after ends.exit).input) result
+        × DiskCause (D.faults ends.entry.disk.now) (D.faults (outside_after ends.exit).disk) result }
+{
+    let Ends { out, log, .. } = ends;
+    print_text(text, out, log)
+}
