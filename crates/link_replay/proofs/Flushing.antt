@@ -2,15 +2,19 @@
 -- and the causes of its status where neither key nor disk was reached.
 use Rattle.{device_model.specs.Frames.FrameRead, device_replay.specs.PrintsFrames.PrintsFrames}
 use Rattle.line_texts.specs.Sending.{LineAndNotes, SinkTexts}
+use Rattle.link_replay.specs.Commands.{HasCauses, HasOwnCauses}
 use Rattle.link_replay.specs.InitCommand.{LeavesSinks, MakesJournal, IsNewJournal}
-use Rattle.replay_status.specs.Causes.{InputCause, ReadsCause, DiskCause}
+use Rattle.link_replay.specs.declared.words.Command.{Command}
+use Rattle.replay_status.specs.Causes.{InputCause, ReadsCause, DiskCause, SinkCause}
+use Rattle.replay_status.specs.{Flushes.FlushesAtEnd, Outside.outside}
 use Rattle.replay_status.specs.declared.status.Status.{Status}
 use Rattle.replay_status.specs.declared.status.Status.TheVariants.{Done, ReadFault, WriteFault}
 use Rattle.replay_status.specs.declared.status.Status.TheVariants.{JournalFault}
 use Rattle.sequence_journal.specs.declared.link.LinkId.{LinkId}
 use Rattle.space_replay.specs.SpacesLine.{SpacesLine}
-use Rattle.std.proofs.Common.{◌≡◌, ◌⊎◌, ℕ, List, Option, inl, inr, refl, subst, sym, arith}
-use Rattle.yasir_io.specs.{Disks.Slots, declared.sink.Sink.Ghosts as Sink}
+use Rattle.std.proofs.Common.{◌≡◌, ◌⊎◌, ℕ, List, Option, Some, inl, inr, refl, subst, sym, arith}
+use Rattle.yasir_io.specs.{Disks.Slots, declared.disk.SlotDisk.Ghosts as SlotDisk}
+use Rattle.yasir_io.specs.declared.{sink.Sink.Ghosts as Sink, source.Source.Ghosts as Source}
 use Rattle.yasir_ticks.specs.declared.tick.Tick.{Tick}
 
 module _ {O L : Type 0} (o : Sink O) (l : Sink L) (out_before out_now : O)
@@ -57,11 +61,31 @@ own-unread input before now status ends same =
     (input-unread input status ends, disk-same before now status ends same)
 
 -- a command that reads its input, and not its key
-pub reads-input : (key before now : ℕ) (status : Status) → InputCause before now status
+reads-input : (key before now : ℕ) (status : Status) → InputCause before now status
     → ReadsCause key key before now status
 reads-input key before now ReadFault h = (inr h.0, omega arith, h.1)
 reads-input key before now WriteFault h = (refl, h)
 reads-input key before now status h = (refl, h)
+
+-- the causes of a command that reads its input, and neither its key nor its disk
+module _ {K S O L D : Type 0} (k : Source K) (s : Source S) (o : Sink O) (l : Sink L)
+    (d : SlotDisk D) (asked : Command) (key : K) (in0 in1 : S) (out0 out1 : O) (log0 log1 : L)
+    (disk : D) where
+  pub input-causes : (status : Status) → InputCause (s.faults in0) (s.faults in1) status
+      → SinkCause (o.faults out0) (o.faults out1) (l.faults log0) (l.faults log1) status
+      → FlushesAtEnd o l out0 out1 log0 log1 status
+      → HasOwnCauses k s o l d (Some asked) (outside key in0 out0 log0 disk)
+      (outside key in1 out1 log1 disk) status
+      → HasCauses k s o l d (Some asked) (outside key in0 out0 log0 disk)
+      (outside key in1 out1 log1 disk) status
+  input-causes status input sinks flushes own = record {
+    streams = record {
+      reads = reads-input (k.faults key) (s.faults in0) (s.faults in1) status input;
+      sinks = sinks;
+      flushes = flushes;
+    };
+    own = own;
+  }
 
 -- a command that prints frames has no cause of the disk
 pub disk-of-frames : (reads : List Tick → List FrameRead)

@@ -1,12 +1,15 @@
 -- What a whole run of `space` leaves: all accepted frames have left.
 use Rattle.dnp_link_frame.specs.{Rules.dnp_rules, RulesLaws.dnp_lawful, RulesLaws.dnp_framed}
-use Rattle.{line_spacer.specs.Spacing.accepted_of, line_texts.specs.Sending.SinkTexts}
+use Rattle.line_spacer.specs.Spacing.{accepted_of}
+use Rattle.line_texts.specs.Sending.{SinkTexts, sink_texts}
 use Rattle.link_replay.specs.{ReadCommand.device_reads, SpaceCommand.spaced_by}
-use Rattle.{link_replay.specs.SpaceCommand.SpacesBy, link_words.specs.Links.gap_of}
+use Rattle.link_replay.specs.SpaceCommand.{SpacesBy, Spaces}
+use Rattle.link_words.specs.Links.{gap_of}
 use Rattle.link_words.specs.declared.words.Profile.{Profile, TheVariants.Y18, TheVariants.Y24}
 use Rattle.link_words.specs.declared.words.Proto.{Proto, TheVariants.Rtu, TheVariants.Dnp3}
 use Rattle.replay_status.specs.Outside.{outside}
 use Rattle.replay_status.specs.declared.status.Status.{Status, TheVariants.Done}
+use Rattle.replay_status.specs.declared.status.Status.TheVariants.{NoMemory}
 use Rattle.space_replay.specs.{SpacedTexts.most_waiting, SpacesLine.SpacesLine}
 use Rattle.{space_replay.specs.SpacesLine.space_rest, spacer_laws.proofs.Leaving.rtu-leave}
 use Rattle.spacer_laws.{proofs.Leaving.hunt-leave, specs.Leaving.HaveLeft, specs.Leaving.AllLeave}
@@ -14,6 +17,7 @@ use Rattle.std.proofs.Common.{◌≡◌, ◌∙◌, ◌≤◌, ◌+◌, ◌*◌,
 use Rattle.std.proofs.Common.{subst, arith, refl}
 use Rattle.tick_drive.proofs.ItemLaws.{ticks_in-append}
 use Rattle.tick_drive.specs.{Input.Takes, Items.silent_items, declared.end.End.TheVariants.Whole}
+use Rattle.yasir_io.specs.declared.{sink.Sink.Ghosts as Sink, source.Source.Ghosts as Source}
 use Rattle.yasir_ticks.proofs.{TextTicks.text-ticks, TickRuns.ticks_in-run}
 use Rattle.yasir_ticks.specs.Ticks.{Item, ticks_in, silent, AreTicks}
 use Rattle.yasir_ticks.specs.declared.{tick.Tick.Tick, tick_run.TickRun.TheVariants.Silence}
@@ -43,7 +47,7 @@ whole-left proto profile before now items whole =
 
 module _ (proto : Proto) (profile : Profile) (in_before in_now : Option (List ℕ))
     (before now : SinkTexts) where
-  pub spaces-by : (status : Status)
+  spaces-by : (status : Status)
       → SpacesLine (spaced_by proto profile) in_before in_now before now status
       → SpacesBy proto profile in_before in_now before now status
   spaces-by Done h = record {
@@ -59,8 +63,18 @@ module _ (proto : Proto) (profile : Profile) (in_before in_now : Option (List �
   whole-spaces Done h = record { items = h.items; takes = h.takes; sent = h.sent }
   whole-spaces status h = h
 
--- what is as it was
-pub outside-same : {K S O L D : Type 0} (key : K) (s0 s1 : S) (o0 o1 : O) (l0 l1 : L) (disk : D)
-    → (s1 ≡ s0) × ((o1 ≡ o0) × (l1 ≡ l0))
-    → outside key s1 o1 l1 disk ≡ outside key s0 o0 l0 disk
-outside-same key s0 s1 o0 o1 l0 l1 disk same = rw (same.0, same.1.0, same.1.1) refl
+-- what `space` does, by what its spacer does
+module _ {K S O L D : Type 0} (s : Source S) (o : Sink O) (l : Sink L) (proto : Proto)
+    (profile : Profile) (key : K) (disk : D) (in0 in1 : S) (out0 out1 : O) (log0 log1 : L) where
+  pub spaces-of : (status : Status)
+      → SpacesLine (spaced_by proto profile) (s.left in0) (s.left in1)
+      (sink_texts (o.held out0) (l.held log0)) (sink_texts (o.held out1) (l.held log1)) status
+      → (status ≡ NoMemory → (in1 ≡ in0) × ((out1 ≡ out0) × (log1 ≡ log0)))
+      → Spaces s o l proto profile (outside key in0 out0 log0 disk) (outside key in1 out1 log1 disk)
+      status
+  spaces-of status line same = record {
+    line = spaces-by proto profile _ _ _ _ status line;
+    untouched = λ none. let is = same none in rw (is.0, is.1.0, is.1.1) refl;
+    key = refl;
+    disk = refl;
+  }
