@@ -13,4 +13,6 @@ mod families;
 #[cfg(test)]
 mod lending;
 #[cfg(test)]
+mod owed_answers;
+#[cfg(test)]
 mod spacers;

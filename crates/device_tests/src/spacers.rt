@@ -94,7 +94,7 @@ impl Device for Deaf {
 }
 
 // A spacer that hears as some device, so that one loop serves all of them.
-trait Spaces {
+pub trait Spaces {
     ghost taken: { Self → ℕ };
 
     fn take(&mut self, t: Tick) -> SpaceStep
@@ -108,7 +108,26 @@ trait Spaces {
         ensures within { result.taken ≤ length (run_ticks run.entry) }
         ensures taken { taken self.new ≡ taken self.old + result.taken };
 
+    fn hear_some(&mut self, run: TickRun<'_>) -> Met
+        requires room { taken self.old + length (run_ticks run) ≤ MAX_TICKS }
+        requires some { 0 < length (run_ticks run) }
+        ensures some { 0 < result.taken }
+        ensures within { result.taken ≤ length (run_ticks run.entry) }
+        ensures taken { taken self.new ≡ taken self.old + result.taken };
+
+    fn queue_read(&mut self, owed: usize) -> bool
+        requires { 0 < owed }
+        ensures { taken self.new ≡ taken self.old };
+
+    fn give_some(&mut self, owed: usize, read: Option<u64>) -> SpaceRun
+        requires { 0 < owed }
+        ensures some { 0 < result.taken }
+        ensures within { result.taken ≤ owed }
+        ensures taken { taken self.new ≡ taken self.old };
+
     fn left_bytes(&self) -> &[u8];
+
+    fn waiting(&self) -> usize;
 }
 
 impl<V: Device, const GAP: usize> Spaces for Spacer<V, GAP> {
@@ -124,14 +143,30 @@ impl<V: Device, const GAP: usize> Spaces for Spacer<V, GAP> {
         Spacer::take_some(self, run)
     }
 
+    fn hear_some(&mut self, run: TickRun<'_>) -> Met {
+        Spacer::hear_some(self, run)
+    }
+
+    fn queue_read(&mut self, owed: usize) -> bool {
+        Spacer::queue_read(self, owed)
+    }
+
+    fn give_some(&mut self, owed: usize, read: Option<u64>) -> SpaceRun {
+        Spacer::give_some(self, owed, read)
+    }
+
     fn left_bytes(&self) -> &[u8] {
         Spacer::left_bytes(self)
+    }
+
+    fn waiting(&self) -> usize {
+        Spacer::waiting(self)
     }
 }
 
 // A part of a line.
 #[derive(Drop)]
-enum Part {
+pub enum Part {
     Bytes(&'static [u8]),
     Silence(usize),
 }
@@ -154,7 +189,7 @@ fn add_part(line: &mut Vec<Tick>, part: &Part) -> Result<(), AllocError> {
     Ok(())
 }
 
-fn line_of(alloc: Global, parts: &[Part]) -> Result<Vec<Tick>, AllocError> {
+pub fn line_of(alloc: Global, parts: &[Part]) -> Result<Vec<Tick>, AllocError> {
     let mut line = Vec::new(alloc);
     for part in parts {
         add_part(&mut line, part)?;
@@ -163,9 +198,13 @@ fn line_of(alloc: Global, parts: &[Part]) -> Result<Vec<Tick>, AllocError> {
 }
 
 // The other line, and of each frame that is lost the step and the tick of its first byte.
-type Answers = (Vec<Tick>, Vec<(usize, u64)>);
+pub type Answers = (Vec<Tick>, Vec<(usize, u64)>);
 
-fn answers<B: Spaces>(alloc: Global, spacer: &mut B, line: &[Tick]) -> Result<Answers, AllocError>
+pub fn answers<B: Spaces>(
+    alloc: Global,
+    spacer: &mut B,
+    line: &[Tick],
+) -> Result<Answers, AllocError>
     requires fresh { B.taken spacer.old ≡ 0 }
     requires short { length line.now < 1000 }
 {
@@ -182,17 +221,17 @@ fn answers<B: Spaces>(alloc: Global, spacer: &mut B, line: &[Tick]) -> Result<An
 }
 
 // The reset of a DNP3 link.
-const RESET_LINK: &[u8] = b"\x05\x64\x05\xC0\x01\x00\x00\x04\xE9\x21";
+pub const RESET_LINK: &[u8] = b"\x05\x64\x05\xC0\x01\x00\x00\x04\xE9\x21";
 
 const READ_TEN: &[u8] = b"\x01\x03\x00\x00\x00\x0A\xC5\xCD";
 
 const READ_ONE: &[u8] = b"\x01\x03\x00\x00\x00\x01\x84\x0A";
 
 // What comes in, what leaves, and what is lost.
-struct Row {
-    line: &'static [Part],
-    leaves: &'static [Part],
-    lost: &'static [(usize, u64)],
+pub struct Row {
+    pub line: &'static [Part],
+    pub leaves: &'static [Part],
+    pub lost: &'static [(usize, u64)],
 }
 
 fn space<B: Spaces>(rt: &impl Abort, alloc: Global, spacer: &mut B, row: &Row) -> Result<(), Fail>
@@ -209,7 +248,7 @@ fn space<B: Spaces>(rt: &impl Abort, alloc: Global, spacer: &mut B, row: &Row) -
 }
 
 // Two resets without a gap: each is sent behind its last byte, the second 21 silent ticks later.
-const TWO_RESETS: Row = Row {
+pub const TWO_RESETS: Row = Row {
     line: &[Bytes(RESET_LINK), Bytes(RESET_LINK), Silence(40)],
     leaves: &[
         Silence(10),
@@ -222,7 +261,7 @@ const TWO_RESETS: Row = Row {
 };
 
 // Two queries that four silent ticks part: each is sent behind the tick that ends it.
-const TWO_QUERIES: Row = Row {
+pub const TWO_QUERIES: Row = Row {
     line: &[Bytes(READ_TEN), Silence(4), Bytes(READ_ONE), Silence(40)],
     leaves: &[
         Silence(12),
@@ -300,7 +339,7 @@ fn frames_wait(rt: HostRuntime) -> Result<(), Fail> {
 }
 
 // What leaves in a run is added to the other line.
-fn add_run(line: &mut Vec<Tick>, run: &SpaceRun, left: &[u8]) -> Result<(), AllocError> {
+pub fn add_run(line: &mut Vec<Tick>, run: &SpaceRun, left: &[u8]) -> Result<(), AllocError> {
     if left.is_empty() {
         return add_part(line, &Silence(run.taken));
     }
