@@ -11,7 +11,9 @@ use link_words::Proto;
 use replay_status::{Ends, Status};
 use yasir_io::{Sink, SlotDisk, Source};
 
-/// Prints the frames that the device of a protocol reads from a recorded line.
+/// Prints the frames that the device of a protocol reads from a recorded line. Its loops are kept out
+/// of line: inlined beside those of the other commands they take up to 3 % more instructions.
+#[inline(never)]
 pub fn read_line<K: Source, S: Source, O: Sink, L: Sink, D: SlotDisk>(
     proto: Proto,
     ends: Ends<K, S, O, L, D>,
