@@ -162,7 +162,7 @@ fn filled_frames_are_wrong(rt: HostRuntime) {
     assert!(rt; rules.full() && !rules.good());
 }
 
-// The same, where there is room for it.
+// What leaves for this last byte after these bytes, where there is room for it.
 fn spoiled_after<R: LineRules>(bytes: &[u8], last: u8) -> Option<u8> {
     let mut rules = R::fresh();
     rules.take_some(bytes);

@@ -365,7 +365,7 @@ fn numbers_go_on_from_the_floors(rt: HostRuntime) -> Result<(), Fail> {
     finds(&rt, rt.alloc(), session_of(Link::Rtu, 5, 6), all, read)
 }
 
-// The same by the other profile and protocol.
+// A clean session by the other profile, and by the other protocol.
 #[test]
 fn each_protocol_and_profile_is_judged(rt: HostRuntime) -> Result<(), Fail> {
     let clean = Verdict::Clean {

@@ -178,7 +178,7 @@ fn a_packet_passes_once(rt: HostRuntime) -> Result<(), Fail> {
             assert_eq!(rt; step.note, Some(AnyNote::OfChecker(passed)));
             assert_eq!(rt; step.commit, Some(packet.owed()));
         }
-        // The same packet once more. Its word is now that of a greater number, whose tag is
+        // When that packet comes once more, its word is that of a greater number, whose tag is
         // another.
         let (_, again) = step_all(rt.alloc(), &mut checker, link.as_slice())?;
         let refused = CheckNote::Refused {

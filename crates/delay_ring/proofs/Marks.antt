@@ -111,7 +111,8 @@ window n o k ticks entering behind within size =
         ap (λ k. drop (suc o) (take k (t ∷ ticks) ++ entering)) next
         ∙ drop-front o n ticks entering (omega arith)
 
--- The same of bytes and marks that are written behind those that stand.
+-- Where bytes and marks are written behind those that are kept, the ticks that they stand for enter
+-- behind the ticks that are kept.
 pub entered : (n o k : ℕ) (bytes marks x m : List ℕ) → length bytes ≡ length marks
     → o + n + k ≤ length bytes → length x ≡ k → length m ≡ k
     → take n (drop (o + k) (marked_ticks (take (o + n) bytes ++ (x ++ drop (o + n + k) bytes))

@@ -164,7 +164,7 @@ module _ (taking : Taking) (k : Kept) (read : ReadEnd) (end : CaptureEnd) (befor
     log = all_got before.log now.log _ log;
   })
 
--- The same, of what the calls say.
+-- How a run ends once both lines have ended, from the clauses of the calls that end them.
 module _ (taking : Taking) (k : Kept) (read : ReadEnd) (end : CaptureEnd) (before now : Held)
     (t : Timing) (timing : t ≡ timing_for taking k) (a b : LineEnd) (out_now : Option (List ℕ))
     (lines : WrittenLines t taking.ways k before.out out_now a b)

@@ -122,7 +122,7 @@ module _ {O L : Type 0} (o : Sink O) (l : Sink L) where
     pub places : PlacesByte (timing_of placer) cs c more
     pub pushes : PushesLine old new more result
 
-  -- The same, and the placer has taken the byte.
+  -- A byte was placed, its ticks were added, and the placer has taken it.
   pub record TakesOne (placer placed : Placer) (cs : List CaptureByte) (c : CaptureByte)
       (old new : Writing O L) : Type 0 where
     pub one : PlacesOne placer cs c old new (Ok tt)

@@ -56,7 +56,8 @@ module _ {S O L : Type 0} (s : Source S) (o : Sink O) (l : Sink L) where
     pub out : ¬ Rose (o.faults before.out) (o.faults after.out)
     pub log : ¬ Rose (l.faults before.log) (l.faults after.log)
 
-  -- The same, and then the fault line in the log, where the outcome has one.
+  -- What the words ask for was done, and then the fault line was added to the log, where the outcome
+  -- has one.
   pub record Runs (words : List (List ℕ)) (before after : Outside S O L) (outcome : Outcome)
       : Type 0 where
     -- the log as the command left it

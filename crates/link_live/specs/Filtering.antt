@@ -100,7 +100,8 @@ module _ {P : Type 0} (p : Port P) where
     pub failed : is_cause ≡ true
         → (to : Output) × Rose (p.write_faults old to) (p.write_faults new to)
 
-  -- The same of calls that read nothing.
+  -- Calls that read nothing leave the input as it is, and the count of an output rose where it is the
+  -- cause of the answer.
   pub record PortCause (old new : P) (is_cause : Bool) : Type 0 where
     pub left_same : p.left new ≡ p.left old
     pub read_same : p.read_faults new ≡ p.read_faults old

@@ -61,7 +61,7 @@ pub record Headline (proto : Proto) (profile : Profile) (dir : Dir) (key : List 
   pub printed : out_now ≡ append_known out_before (listing_text
       (replay_listing proto profile dir key (device_line (seal_rest profile) items)
       (link_ticks items)))
-  -- And this is what these lines say of one another.
+  -- what these lines say of one another
   pub tells : TellsOf (replay_profile proto profile dir key) (rules_of proto) (before_mark items)
       (link_ticks items)
       (replay_listing proto profile dir key (device_line (seal_rest profile) items)

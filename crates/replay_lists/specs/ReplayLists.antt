@@ -21,7 +21,8 @@ pub record KeepsFrames {B : Type 0} (box : FrameBox B) (value : B) (list : Frame
   pub steps : box.stands value setup line
   pub holds : Holds list (kept_frames ((box.numbering setup).frames line))
 
--- And so with one tick more, to which it has answered this one.
+-- The box has taken one tick more than this line, the list holds its frames, and it has answered
+-- with this tick.
 pub record StepsInto {B : Type 0} (box : FrameBox B) (value : B) (list : FrameList Numbered)
     (setup : Setup) (line : List Tick) (t tick : Tick) : Type 0 where
   pub keeps : KeepsFrames box value list setup (line ++ t ∷ [])

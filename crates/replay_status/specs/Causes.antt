@@ -15,8 +15,8 @@ InputCause before now ReadFault = Rose before now × (before ≤ now)
 InputCause before now WriteFault = before ≤ now
 InputCause before now status = now ≡ before
 
--- The same of a command that reads a key and then its input: one of the two counts rose where a
--- read failed, and the key was read whole before the command wrote.
+-- Of a command that reads a key and then its input, one of the two counts rose where a read failed,
+-- and the key was read whole before the command wrote.
 abbrev pub ReadsCause : ℕ → ℕ → ℕ → ℕ → Status → Type 0
 ReadsCause key_before key_now input_before input_now ReadFault =
     (Rose key_before key_now ⊎ Rose input_before input_now) × (key_before ≤ key_now)

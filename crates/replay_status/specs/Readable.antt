@@ -13,6 +13,6 @@ pub record IsReadableWith (marks : ℕ) (input : Option (List ℕ)) : Type 0 whe
   pub few_ticks : length (ticks_in items) ≤ max_ticks
   pub few_bytes : length text ≤ max_bytes
 
--- The same without a mark.
+-- the input tells a right text without a mark, within the limits
 abbrev pub IsReadable : Option (List ℕ) → Type 0
 IsReadable input = IsReadableWith 0 input

@@ -104,7 +104,7 @@ module _ {C : Type 0} (meaning : Consuming C) where
     pub within : count ≤ length items
     pub gives : Gives old new (take count items) (Ok tt)
 
-  -- The same, where it may take none of them.
+  -- It answers how many of these items it took, maybe none, or that it stopped at one of them.
   abbrev pub GivesFront : C → C → List Item → Result ℕ Stop → Type 0
   GivesFront old new items (Ok count) = GivesUpTo old new items count
   GivesFront old new items (Err stop) = Gives old new items (Err stop)

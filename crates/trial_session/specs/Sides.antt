@@ -35,7 +35,7 @@ module _ {X N : Type 0} (line_box : LinkBox X N) (counting : Counting) where
     pub taken : HasTaken side (line ++ more)
     pub answered : counting.other_line (line ++ more) ≡ counting.other_line line ++ answers
 
-  -- The same of a run, whose answer has as many ticks.
+  -- After this line the box has taken a run more, and has answered it by as many ticks.
   pub record HasPassed (side : Side X) (line run answer : List Tick) : Type 0 where
     pub sent : HasSent side line run answer
     pub long : length answer ≡ length run

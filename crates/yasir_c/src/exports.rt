@@ -229,7 +229,8 @@ pub extern "C" fn yasir_take_bytes(
     take_run(alloc, handle, TickRun::Bytes(bytes), left, left_count)
 }
 
-/// The same of this many silent ticks.
+/// Takes the first of this many silent ticks, as far as the box answers them alike, without a note
+/// and with nothing to write.
 #[unsafe(no_mangle)]
 pub extern "C" fn yasir_take_silence(
     alloc: Global,

@@ -48,7 +48,8 @@ impl<R: LineRules, M: Mac, const B: usize, const D: usize> Checker<R, M, B, D> {
         self.follow_on(bytes, left)
     }
 
-    // The same where the header stays a good one as far as it is whole.
+    // Live bytes of the burst whose verdict is open, where its header stays a good one as far as it is
+    // whole.
     #[inline]
     fn follow_on(&mut self, bytes: &[u8], left: &mut RunBytes) -> usize
         requires room { ticks_taken self.old + length bytes.now ≤ MAX_TICKS }
