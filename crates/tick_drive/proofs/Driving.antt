@@ -130,6 +130,14 @@ module _ {C : Type 0} (meaning : Consuming C) (joins : AreJoined meaning) where
     room = omega (arith, room);
   }
 
+  -- nothing was met
+  pub progress_same : (marks : ℕ) (before now : Option (List ℕ)) (old new : Intake)
+      (start state : C) (ticks : ℕ) → new ≡ old
+      → Progress meaning marks before now old start state ticks
+      → Progress meaning marks before now new start state ticks
+  progress_same marks before now old new start state ticks e p =
+      subst (λ i. Progress meaning marks before now i start state ticks) (sym e) p
+
   -- bytes that end no line with ticks
   pub progress_quiet : (marks : ℕ) (before now later : Option (List ℕ)) (intake next : Intake)
       (start state : C) (ticks : ℕ)

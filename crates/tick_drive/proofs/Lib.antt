@@ -1,4 +1,5 @@
 pub mod Known
+pub mod Meeting
 pub mod ItemLaws
 pub mod Moving
 pub mod Driving

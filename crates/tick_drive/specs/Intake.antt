@@ -1,5 +1,5 @@
 -- The bytes of an input on their way to the reader.
-use Rattle.std.specs.Prelude.{◌≡◌, ◌≢◌, ℕ, ◌≤◌, List, [], ◌∷◌, ◌++◌, length, Option, Some, None}
+use Rattle.std.specs.Prelude.{◌≡◌, ◌≢◌, ℕ, ◌+◌, ◌≤◌, List, [], ◌∷◌, ◌++◌, length, Option, Some, None}
 use Rattle.std.specs.Prelude.{Result, Ok, Err, false}
 use Rattle.std.specs.Io.KnownBytes.{prepend_known}
 use Rattle.yasir_io.specs.Pieces.{to_come, has_ended}
@@ -28,7 +28,7 @@ pub record HasMet (intake : Intake) (marks : ℕ) (before now : Option (List ℕ
   pub begins : BeginsTickText marks text
   pub source : before ≡ prepend_known text (to_come intake.pieces now)
   pub open_end : has_ended intake.pieces ≡ false
-  pub count : intake.bytes ≡ length text
+  pub count : intake.room + length text ≡ max_bytes
   pub within : length text ≤ max_bytes
 
 -- the bytes of the line that was met last, where it was one of bytes

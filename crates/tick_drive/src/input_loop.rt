@@ -125,6 +125,24 @@ fn hand_over<C: Consumer>(
     }
 }
 
+// Hands one line to the consumer that isn't of the usual form.
+#[inline(never)]
+fn hand_other<C: Consumer>(
+    ticks: u32,
+    content: Content,
+    bytes: &[u8],
+    consumer: &mut C,
+) -> Result<u32, End>
+    requires within { ticks ≤ max_ticks }
+    requires short { length bytes.now ≤ 32 }
+    requires room { C.meaning.taken consumer.old + max_ticks ≤ MAX_TICKS + ticks }
+    requires able { C.meaning.able consumer.old }
+    ensures { HandAnswer C.meaning consumer.old consumer.new ticks
+        (items_of_content content bytes.now) result }
+{
+    hand_over(ticks, content, bytes, consumer)
+}
+
 // Hands the run of a last line to the consumer.
 fn hand_last<C: Consumer>(ticks: u32, run: &Run, consumer: &mut C) -> Result<u32, End>
     requires within { ticks ≤ max_ticks }
@@ -133,10 +151,10 @@ fn hand_last<C: Consumer>(ticks: u32, run: &Run, consumer: &mut C) -> Result<u32
     ensures { HandAnswer C.meaning consumer.old consumer.new ticks (items_of_run run.now) result }
 {
     match run {
-        Run::Nothing => hand_over(ticks, Content::NoTick, &[], consumer),
-        Run::Bytes(bytes) => hand_over(ticks, Content::KeptBytes, bytes, consumer),
-        Run::Silence(n) => hand_over(ticks, Content::SilentTicks(*n), &[], consumer),
-        Run::Mark => hand_over(ticks, Content::OneMark, &[], consumer),
+        Run::Nothing => hand_other(ticks, Content::NoTick, &[], consumer),
+        Run::Bytes(bytes) => hand_other(ticks, Content::KeptBytes, bytes, consumer),
+        Run::Silence(n) => hand_other(ticks, Content::SilentTicks(*n), &[], consumer),
+        Run::Mark => hand_other(ticks, Content::OneMark, &[], consumer),
     }
 }
 
@@ -152,6 +170,13 @@ pub fn drive_with_room<S: Source, C: Consumer>(marks: u8, input: &mut S, consume
     let mut intake = Intake::new(marks);
     let mut ticks = 0;
     loop {
+        if let Some(content) = intake.usual_line() {
+            match hand_over(ticks, content, intake.line_bytes(), consumer) {
+                Ok(sum) => ticks = sum,
+                Err(end) => return end,
+            }
+            continue;
+        }
         let content = match intake.step(input) {
             Ok(Some(content)) => content,
             Ok(None) => break,
@@ -161,7 +186,7 @@ pub fn drive_with_room<S: Source, C: Consumer>(marks: u8, input: &mut S, consume
             continue;
         }
         let bytes = intake.line_bytes();
-        match hand_over(ticks, content, bytes, consumer) {
+        match hand_other(ticks, content, bytes, consumer) {
             Ok(sum) => ticks = sum,
             Err(end) => return end,
         }

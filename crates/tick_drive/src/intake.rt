@@ -6,10 +6,13 @@ ghost use Rattle.yasir_ticks.specs.Reader.{reader_line};
 
 use crate::{End, TooMuch};
 use yasir_io::{Failed, Pieces, Source};
-use yasir_ticks::{Content, FedLine, Run, TickReader};
+use yasir_ticks::{Content, FedLine, Run, TickReader, UsualLine};
 
 #[cfg(test)]
 mod turn_tests;
+
+// How many bytes a line of bytes has at most, with its first byte and its LF.
+const USUAL: usize = 66;
 
 /// How many bytes of an input are read at most.
 pub const MAX_INPUT_BYTES: u32 = 268_435_456;
@@ -19,13 +22,17 @@ pub const MAX_INPUT_BYTES: u32 = 268_435_456;
 pub struct Intake {
     pieces: Pieces,
     reader: TickReader,
-    bytes: u32,
-    ghost lines: { reader_line reader ≤ bytes + 1 },
-    ghost within: { bytes ≤ 268435456 },
+    // how many bytes may still be met
+    room: u32,
+    ghost lines: { reader_line reader + room ≤ 268435457 },
+    ghost within: { room ≤ 268435456 },
 }
 
 impl Intake {
-    ghost use Rattle.tick_drive.specs.Intake.{HasMet, HasFed, StepAnswer, FinishAnswer, lent};
+    ghost use Rattle.tick_drive.specs.Intake.{HasMet, HasFed, MeetsLine, StepAnswer, FinishAnswer};
+    ghost use Rattle.tick_drive.specs.Intake.{lent};
+    ghost use Rattle.yasir_ticks.specs.Reader.{items_of_content};
+    ghost use Rattle.std.specs.Prelude.{None};
     ghost use Rattle.yasir_io.specs.Pieces.{kept_bytes};
     ghost use Rattle.tick_drive.specs.Input.{is_read_answer, IsReadCause};
 
@@ -36,7 +43,7 @@ impl Intake {
         Intake {
             pieces: Pieces::new(),
             reader: TickReader::new(marks),
-            bytes: 0,
+            room: MAX_INPUT_BYTES,
         }
     }
 
@@ -49,15 +56,35 @@ impl Intake {
         self.reader.line_bytes()
     }
 
+    /// Meets a line of bytes or of silent ticks of the usual form, where all of it is kept and what is
+    /// kept is longer than such a line can be. Returns what it stands for.
+    #[inline(always)]
+    pub fn usual_line(&mut self) -> Option<Content>
+        ensures answer { IfSome result (λ content. (marks : ℕ) (before now : Option (List ℕ))
+            (text : List ℕ) → HasMet self.old marks before now text
+            → MeetsLine self.new marks before now text (items_of_content content (lent self.new))) }
+        ensures counted { IfSome result (λ content. self.new.room < self.old.room) }
+        ensures none { result ≡ None → self.new ≡ self.old }
+    {
+        let kept = self.pieces.kept();
+        if kept.len() < USUAL || self.room < USUAL as u32 {
+            return None;
+        }
+        let UsualLine { taken, content } = self.reader.take_usual(&kept[..USUAL])?;
+        self.room -= taken as u32;
+        self.pieces.skip(taken);
+        Some(content)
+    }
+
     /// Meets bytes up to the end of a line, or to the last one that was read, and returns what the
     /// line stands for, or `NoTick`; none at the input's end.
-    #[inline(always)]
+    #[inline(never)]
     pub fn step<S: Source>(&mut self, source: &mut S) -> Result<Option<Content>, End>
         ensures answer { (marks : ℕ) (before : Option (List ℕ)) (text : List ℕ)
             → HasMet self.old marks before (S.left source.old) text
             → StepAnswer self.new marks before (S.left source.new) text result }
         ensures counted { IfOk result (λ next. IfSome next
-            (λ content. self.old.bytes < self.new.bytes)) }
+            (λ content. self.new.room < self.old.room)) }
         ensures cause { IsReadCause (S.faults source.old) (S.faults source.new)
             (is_read_answer result) }
     {
@@ -76,19 +103,19 @@ impl Intake {
             → HasMet self.old marks before now text
             → StepAnswer self.new marks before now text result }
         ensures counted { IfOk result (λ next. IfSome next
-            (λ content. self.old.bytes < self.new.bytes)) }
+            (λ content. self.new.room < self.old.room)) }
         ensures no_read { is_read_answer result ≡ false }
     {
-        if self.bytes == MAX_INPUT_BYTES {
+        if self.room == 0 {
             return Err(End::TooLong {
                 what: TooMuch::Bytes,
                 count: u64::from(MAX_INPUT_BYTES) + 1,
             });
         }
         let kept = self.pieces.kept();
-        let within = kept.len().min((MAX_INPUT_BYTES - self.bytes) as usize);
+        let within = kept.len().min(self.room as usize);
         let FedLine { taken, line } = self.reader.feed_line(&kept[..within]);
-        self.bytes += taken as u32;
+        self.room -= taken as u32;
         self.pieces.skip(taken);
         match line {
             Ok(content) => Ok(Some(content)),
@@ -104,7 +131,7 @@ impl Intake {
         let Intake {
             pieces: _,
             reader,
-            bytes: _,
+            room: _,
         } = self;
         match reader.finish() {
             Ok(run) => Ok(run),

@@ -8,5 +8,6 @@ pub mod CanonicalText
 pub mod Place
 pub mod Reader
 pub mod ReaderStep
+pub mod LineRoom
 pub mod Slices
 pub mod HexDigits

@@ -11,7 +11,7 @@ mod tests;
 use arrayvec::ArrayVec;
 pub(crate) use digit::hex_value;
 pub use digit_lanes::digits_of;
-pub(crate) use pairs::{Decoded, decode_front};
+pub(crate) use pairs::{Decoded, decode_front, decode_full};
 
 // How many bytes are written together.
 const TOGETHER: usize = 32;

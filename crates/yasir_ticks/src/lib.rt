@@ -14,6 +14,7 @@
 mod fault;
 mod hex_digits;
 mod laws;
+mod line_room;
 mod place;
 mod reader;
 mod run;
@@ -32,7 +33,7 @@ pub use reader::TickReader;
 pub use run::{LineBytes, Run};
 pub use tick::Tick;
 pub use tick_run::TickRun;
-pub use whole_lines::FedLine;
+pub use whole_lines::{FedLine, UsualLine};
 
 /// How many ticks may be taken at most by whatever counts its ticks: 2^62.
 pub const MAX_TICKS: u64 = 4_611_686_018_427_387_904;

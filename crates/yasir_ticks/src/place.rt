@@ -1,7 +1,8 @@
 //! Where the reader of tick text is in a line, and what the line so far stands for.
 ghost use Rattle.std.specs.Prelude.{◌≡◌, [], true};
 
-use crate::{LineBytes, Run, TickFault};
+use crate::line_room::LineRoom;
+use crate::{Run, TickFault};
 
 /// What a line stands for that ends where its reader is.
 #[derive(Clone, Copy, Debug, PartialEq, Eq)]
@@ -21,15 +22,15 @@ impl Content {
     ghost use Rattle.yasir_ticks.specs.Place.{has_ticks};
     ghost use Rattle.yasir_ticks.specs.Reader.{items_of_content};
 
-    /// The run of a line of this content. The bytes of a `+` line are taken from these.
-    pub fn run(self, bytes: &mut LineBytes) -> Run
-        requires { has_ticks self bytes.old.items ≡ true }
-        ensures items { items_of_run result ≡ items_of_content self bytes.old.items }
+    /// The run of a line of this content, the bytes of a `+` line being these.
+    pub(crate) fn run(self, bytes: &LineRoom) -> Run
+        requires { has_ticks self bytes.now.items ≡ true }
+        ensures items { items_of_run result ≡ items_of_content self bytes.now.items }
         ensures nothing { items_of_run result ≡ [] → result ≡ Run.Nothing }
     {
         match self {
             Content::NoTick => Run::Nothing,
-            Content::KeptBytes => Run::Bytes(bytes.take()),
+            Content::KeptBytes => Run::Bytes(bytes.line()),
             Content::SilentTicks(n) => Run::Silence(n),
             Content::OneMark => Run::Mark,
         }

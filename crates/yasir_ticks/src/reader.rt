@@ -6,8 +6,9 @@ ghost use Rattle.yasir_ticks.specs.Characters.{line_feed, carriage_return, perce
 ghost use Rattle.yasir_ticks.specs.Place.{has_ticks, is_sound, is_foreign};
 
 use crate::hex_digits::hex_value;
+use crate::line_room::LineRoom;
 use crate::place::{Content, Place};
-use crate::{BadTicks, LineBytes, Run, TickFault};
+use crate::{BadTicks, Run, TickFault};
 
 /// The most bytes of a comment after its `#`.
 pub(crate) const MAX_COMMENT: u8 = 120;
@@ -25,7 +26,7 @@ pub struct TickReader {
     // how many marks may still begin
     pub(crate) left: u8,
     pub(crate) place: Place,
-    pub(crate) bytes: LineBytes,
+    pub(crate) bytes: LineRoom,
     ghost room: { is_sound place bytes.items ≡ true },
 }
 
@@ -50,7 +51,7 @@ impl TickReader {
             line: 1,
             left: marks,
             place: Place::Start,
-            bytes: LineBytes::new(),
+            bytes: LineRoom::new(),
         }
     }
 
@@ -301,7 +302,7 @@ impl TickReader {
     {
         match self.advance(b) {
             Ok(None) => Ok(Run::Nothing),
-            Ok(Some(content)) => Ok(content.run(&mut self.bytes)),
+            Ok(Some(content)) => Ok(content.run(&self.bytes)),
             Err(why) => Err(BadTicks {
                 line: self.line,
                 why,
@@ -365,7 +366,7 @@ impl TickReader {
             }),
             Ok(content) => {
                 self.place = Place::Start;
-                Ok(content.run(&mut self.bytes))
+                Ok(content.run(&self.bytes))
             }
             Err(why) => Err(BadTicks {
                 line: self.line,

@@ -4,10 +4,11 @@ ghost use Rattle.std.specs.Prelude.{IfSome, None};
 ghost use Rattle.yasir_ticks.specs.Characters.{line_feed, plus_sign, minus_sign, number_sign};
 ghost use Rattle.yasir_ticks.specs.Slices.{TakesWhole, IsSpelled, IsFewPairs, FeedsByte, FeedsLine};
 
-use crate::hex_digits::{Decoded, decode_front, hex_value};
+use crate::hex_digits::{Decoded, decode_front, decode_full, hex_value};
+use crate::line_room::LineRoom;
 use crate::place::{Content, Place};
 use crate::reader::MAX_COMMENT;
-use crate::{BadTicks, LineBytes, TickReader};
+use crate::{BadTicks, TickReader};
 use memchr::memchr;
 
 /// What a reader took of a slice, and what the line came to that it ended.
@@ -18,6 +19,15 @@ pub struct FedLine {
     /// What the line stands for that the last of them ended, the bytes of a `+` line being those
     /// that the reader lends; `NoTick` where none ended. Or the refusal of the byte behind them.
     pub line: Result<Content, BadTicks>,
+}
+
+/// A line that a reader took at once.
+#[derive(Clone, Copy, Debug, PartialEq, Eq)]
+pub struct UsualLine {
+    /// How many bytes it has, with its LF.
+    pub taken: usize,
+    /// What it stands for, the bytes of a `+` line being those that the reader lends.
+    pub content: Content,
 }
 
 // What comes after the first byte of a line, up to its LF.
@@ -62,10 +72,10 @@ fn spelled_number(bytes: &[u8]) -> Option<Spelled>
 // The bytes of the one to three pairs of digits that a slice begins with, where an LF comes after
 // them.
 #[inline(always)]
-fn few_pairs(bytes: &[u8]) -> Option<LineBytes>
+fn few_pairs(bytes: &[u8]) -> Option<LineRoom>
     ensures { IfSome result (λ line. IsFewPairs bytes.now line.items) }
 {
-    let mut line = LineBytes::new();
+    let mut line = LineRoom::new();
     let mut at = 0;
     while at < 6 && at + 2 < bytes.len() {
         let high = hex_value(bytes[at])?;
@@ -90,7 +100,7 @@ impl TickReader {
         ensures bytes { result.now ≡ lent_bytes self.now }
         ensures few { length result.now ≤ 32 }
     {
-        &self.bytes
+        self.bytes.as_slice()
     }
 
     // The bytes of a line behind its `+`, where they are at most three.
@@ -131,8 +141,7 @@ impl TickReader {
         if pairs == 0 || bytes[len] != b'\n' {
             return None;
         }
-        self.bytes = LineBytes::from(decoded);
-        self.bytes.truncate(pairs);
+        self.bytes.put(decoded, pairs);
         self.line += 1;
         Some(Whole {
             len,
@@ -152,7 +161,7 @@ impl TickReader {
     {
         let high = hex_value(bytes[0])?;
         let low = hex_value(bytes[1])?;
-        self.bytes = LineBytes::new();
+        self.bytes.clear();
         self.bytes.push(high * 16 + low);
         self.line += 1;
         Some(Whole {
@@ -161,8 +170,43 @@ impl TickReader {
         })
     }
 
-    // The bytes of a line behind its `+`. Few are looked up one by one, which costs less than all
-    // lanes of the vectors.
+    // The bytes of a line behind its `+`, where they are as many as a line has at most.
+    #[inline(always)]
+    fn take_full_line(&mut self, bytes: &[u8]) -> Option<Whole>
+        requires place { self.old.place ≡ Start }
+        requires line { reader_line self.old < 2 ^ 32 - 1 }
+        requires long { 64 < length bytes.now }
+        requires ends { slice_index bytes.now 64 ≡ line_feed }
+        ensures whole { IfSome result (TakesWhole self.old plus_sign bytes.now self.new) }
+        ensures none { result ≡ None → self.new ≡ self.old }
+    {
+        let decoded = decode_full(bytes)?;
+        self.bytes.put(decoded, 32);
+        self.line += 1;
+        Some(Whole {
+            len: 64,
+            content: Content::KeptBytes,
+        })
+    }
+
+    // The bytes of a line behind its `+`, where it is no line of one byte. Few are looked up one by
+    // one, which costs less than all lanes of the vectors.
+    #[inline(always)]
+    fn take_part_line(&mut self, bytes: &[u8]) -> Option<Whole>
+        requires place { self.old.place ≡ Start }
+        requires line { reader_line self.old < 2 ^ 32 - 1 }
+        requires long { 64 < length bytes.now }
+        ensures whole { IfSome result (TakesWhole self.old plus_sign bytes.now self.new) }
+        ensures none { result ≡ None → self.new ≡ self.old }
+    {
+        if bytes[4] == b'\n' || bytes[6] == b'\n' {
+            return self.take_short_line(bytes);
+        }
+        self.take_long_line(bytes)
+    }
+
+    // The bytes of a line behind its `+`, where its LF stands in the first 65 bytes. A line of one
+    // byte and one of as many as it may have are looked for first: they are the most.
     #[inline(always)]
     fn take_bytes_line(&mut self, bytes: &[u8]) -> Option<Whole>
         requires place { self.old.place ≡ Start }
@@ -170,16 +214,18 @@ impl TickReader {
         ensures whole { IfSome result (TakesWhole self.old plus_sign bytes.now self.new) }
         ensures none { result ≡ None → self.new ≡ self.old }
     {
-        if bytes.len() < 7 {
-            return self.take_short_line(bytes);
+        if bytes.len() < 65 {
+            return None;
         }
         if bytes[2] == b'\n' {
             return self.take_pair_line(bytes);
         }
-        if bytes[4] == b'\n' || bytes[6] == b'\n' {
-            return self.take_short_line(bytes);
+        if bytes[64] == b'\n' {
+            if let Some(whole) = self.take_full_line(bytes) {
+                return Some(whole);
+            }
         }
-        self.take_long_line(bytes)
+        self.take_part_line(bytes)
     }
 
     // The number of a line behind its `-`.
@@ -247,6 +293,47 @@ impl TickReader {
             Some(whole) => Some(FedLine {
                 taken: whole.len + 2,
                 line: Ok(whole.content),
+            }),
+            None => None,
+        }
+    }
+
+    // A line of bytes or of silent ticks behind its first byte, where it has one of the usual forms.
+    #[inline(always)]
+    fn take_ticks(&mut self, sign: u8, bytes: &[u8]) -> Option<Whole>
+        requires place { self.old.place ≡ Start }
+        requires line { reader_line self.old < 2 ^ 32 - 1 }
+        ensures whole { IfSome result (TakesWhole self.old sign bytes.now self.new) }
+        ensures none { result ≡ None → self.new ≡ self.old }
+    {
+        match sign {
+            b'+' => self.take_bytes_line(bytes),
+            b'-' => self.take_silence_line(bytes),
+            _ => None,
+        }
+    }
+
+    /// Takes the line at the front, where it is one of bytes or of silent ticks and stands with its
+    /// LF in the first 66 bytes: a line of bytes is no longer. It is as if its bytes were fed one
+    /// by one; the bytes of a `+` line are lent by `line_bytes`.
+    #[inline(always)]
+    pub fn take_usual(&mut self, bytes: &[u8]) -> Option<UsualLine>
+        requires { reader_line self.old + length bytes.now < 2 ^ 32 }
+        ensures within { IfSome result (λ line. line.taken ≤ length bytes.now) }
+        ensures fed { IfSome result
+            (λ line. FeedsLine self.old bytes.now line.taken (Ok line.content) self.new) }
+        ensures none { result ≡ None → self.new ≡ self.old }
+    {
+        let Place::Start = self.place else {
+            return None;
+        };
+        if bytes.len() < 66 {
+            return None;
+        }
+        match self.take_ticks(bytes[0], &bytes[1..]) {
+            Some(Whole { len, content }) => Some(UsualLine {
+                taken: len + 2,
+                content,
             }),
             None => None,
         }

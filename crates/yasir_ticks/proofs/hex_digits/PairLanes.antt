@@ -220,14 +220,14 @@ pub record IsPair (first second byte : ℕ) : Type 0 where
   pub second_is : hex_digit_value second ≡ Some low
   pub byte_is : byte ≡ high * 16 + low
 
-found : (o : Option ℕ) (v : ℕ) → min 16 v ≡ unwrap_or o 16 → v < 16 → o ≡ Some v
+pub found : (o : Option ℕ) (v : ℕ) → min 16 v ≡ unwrap_or o 16 → v < 16 → o ≡ Some v
 found (Some w) v e h = let same : w ≡ v = omega arith in ap Some same
 found None v e h = absurd (omega arith)
 
 pair_fits : (high low : ℕ) → high < 16 → low < 16 → lane_pair high low ≡ high * 16 + low
 pair_fits high low h l = omega arith
 
-both_low : (a b : ℕ) → lane_raised (lane_greater a b) < 128 → (a < 16) × (b < 16)
+pub both_low : (a b : ℕ) → lane_raised (lane_greater a b) < 128 → (a < 16) × (b < 16)
 both_low a b h = grind arith
 
 -- where the greater of the values is low, both are digits

@@ -1,6 +1,6 @@
 //! Pairs of hex digits, 32 of them at a time, in vectors.
 ghost use Rattle.std.specs.Prelude.{◌≡◌, ◌↔◌, ℕ, ◌+◌, ◌*◌, ◌<◌, ◌≤◌, ◌++◌, length, take, Ok};
-ghost use Rattle.std.specs.Prelude.{slice_index};
+ghost use Rattle.std.specs.Prelude.{slice_index, true, IfSome};
 ghost use Rattle.std.specs.Int.{bit_at};
 ghost use Rattle.hex.specs.Hex.{decode_of};
 ghost use Rattle.memchr.specs.Lanes.{HasLanes};
@@ -128,4 +128,53 @@ pub(crate) fn decode_front(text: &[u8]) -> Decoded
         pairs: low_lanes(raised(greater(high, low))),
         bytes: joined(high, low).to_array(),
     }
+}
+
+// Whether each lane of both is below 16.
+#[inline(always)]
+fn all_digits(a: u8x32, b: u8x32) -> bool
+    ensures { result ≡ true → (k : ℕ) → (slice_index a k < 16) × (slice_index b k < 16) }
+{
+    high_lanes(raised(greater(a, b))) == 0
+}
+
+// The bytes of the pairs of values that stand side by side: a word of two values times 4097 has
+// both of them in its higher byte.
+#[inline(always)]
+fn paired(values: u8x32) -> u8x16
+    requires { (k : ℕ) → slice_index values k < 16 }
+    ensures long { length result ≡ 16 }
+    ensures each { (k : ℕ) → k < 16 → slice_index result k
+        ≡ slice_index values (2 * k) * 16 + slice_index values (2 * k + 1) }
+{
+    ((u16x16::from_le_bytes(values) * u16x16::splat(4097)) >> u16x16::splat(8)).cast::<u8>()
+}
+
+// Sixteen lanes, and then sixteen more.
+#[inline(always)]
+fn together(front: u8x16, back: u8x16) -> u8x32
+    ensures { result ≡ front ++ back }
+{
+    front.shuffle(
+        back,
+        [
+            0, 1, 2, 3, 4, 5, 6, 7, 8, 9, 10, 11, 12, 13, 14, 15, 16, 17, 18, 19, 20, 21, 22, 23,
+            24, 25, 26, 27, 28, 29, 30, 31,
+        ],
+    )
+}
+
+/// The bytes that the 64 hex digits spell with which a text begins. None where a byte of these is
+/// no digit.
+#[inline(always)]
+pub(crate) fn decode_full(text: &[u8]) -> Option<[u8; 32]>
+    requires { 64 ≤ length text.now }
+    ensures { IfSome result (λ bytes. decode_of (take 64 text.now) ≡ Ok bytes) }
+{
+    let a = values(load(text, 0));
+    let b = values(load(text, 32));
+    if !all_digits(a, b) {
+        return None;
+    }
+    Some(together(paired(a), paired(b)).to_array())
 }

@@ -2,7 +2,7 @@ use Rattle.std.proofs.Common.{◌∙◌, refl}
 use Rattle.tick_drive.proofs.Moving.{gives_none}
 use Rattle.tick_drive.proofs.Driving.{progress_start, progress_quiet, progress_line, step_ends}
 use Rattle.tick_drive.proofs.Driving.{line_lent, finish_ends, line_ends, last_ends, last_line_ends}
-use Rattle.tick_drive.proofs.Driving.{read_same}
+use Rattle.tick_drive.proofs.Driving.{read_same, progress_same}
 use Rattle.tick_drive.proofs.input_loop.drive_with_room.Goals as goal
 
 pub loop-content-init : goal.loop-content-init
@@ -14,9 +14,32 @@ loop-content-init g c = (
   refl,
 )
 
+pub loop-content-preserved-in-Some : goal.loop-content-preserved-in-Some
+loop-content-preserved-in-Some g c =
+    let progress = c.loop-content.invariant.0 in
+    let met = c.in-Some.ensures.answer _ _ _ progress.text progress.met in
+    let line = line_lent _ _ _ _ _ _ _ c.line_bytes.ensures.bytes met in (
+      progress_line g.C.Consumer.meaning g.met.C.Consumer.went_then
+          _ _ _ _ _ _ _ _ _ _ _ _ progress line c.in-Ok.ensures,
+      c.loop-content.invariant.1,
+    )
+
+pub returns-in-Err : goal.returns-in-Err
+returns-in-Err g c =
+    let progress = c.loop-content.invariant.0 in
+    let met = c.in-Some.ensures.answer _ _ _ progress.text progress.met in
+    let line = line_lent _ _ _ _ _ _ _ c.line_bytes.ensures.bytes met in
+    let ends = line_ends g.C.Consumer.meaning g.met.C.Consumer.went_then
+    _ _ _ _ _ _ _ _ _ _ _ _ progress line c.in-Err.ensures in
+    record {
+      driven = ends.0;
+      read = read_same _ _ _ c.loop-content.invariant.1 ends.1;
+    }
+
 pub loop-content-preserved-in-NoTick : goal.loop-content-preserved-in-NoTick
 loop-content-preserved-in-NoTick g c =
-    let progress = c.loop-content.invariant.0 in
+    let progress = progress_same g.C.Consumer.meaning g.met.C.Consumer.went_then _ _ _ _ _ _ _ _
+    (c.usual_line.ensures.none c.in_default.is) c.loop-content.invariant.0 in
     let answer = (rw c.in-Ok-Some.field-0-is at c.in-Ok-Some.ensures.answer) _ _ progress.text
     progress.met in (
       progress_quiet g.C.Consumer.meaning g.met.C.Consumer.went_then _ _ _ _ _ _ _ _ _ progress
@@ -26,39 +49,43 @@ loop-content-preserved-in-NoTick g c =
 
 pub loop-content-preserved : goal.loop-content-preserved
 loop-content-preserved g c =
-    let progress = c.loop-content.invariant.0 in
+    let progress = progress_same g.C.Consumer.meaning g.met.C.Consumer.went_then _ _ _ _ _ _ _ _
+    (c.usual_line.ensures.none c.in_default.is) c.loop-content.invariant.0 in
     let answer = (rw c.in-Ok-Some.field-0-is at c.in-Ok-Some.ensures.answer) _ _ progress.text
     progress.met in
     let line = line_lent _ _ _ _ _ _ _ c.line_bytes-bytes.ensures.bytes answer in (
       progress_line g.C.Consumer.meaning g.met.C.Consumer.went_then
-          _ _ _ _ _ _ _ _ _ _ _ _ progress line c.in-Ok.ensures,
+          _ _ _ _ _ _ _ _ _ _ _ _ progress line c.in-Ok-hand_other.ensures,
       c.in-Ok-Some.ensures.cause.same refl ∙ c.loop-content.invariant.1,
     )
 
-pub returns-in-Err-hand_over : goal.returns-in-Err-hand_over
-returns-in-Err-hand_over g c =
-    let progress = c.loop-content.invariant.0 in
+pub returns-in-Err-hand_other : goal.returns-in-Err-hand_other
+returns-in-Err-hand_other g c =
+    let progress = progress_same g.C.Consumer.meaning g.met.C.Consumer.went_then _ _ _ _ _ _ _ _
+    (c.usual_line.ensures.none c.in_default.is) c.loop-content.invariant.0 in
     let answer = (rw c.in-Ok-Some.field-0-is at c.in-Ok-Some.ensures.answer) _ _ progress.text
     progress.met in
     let line = line_lent _ _ _ _ _ _ _ c.line_bytes-bytes.ensures.bytes answer in
     let ends = line_ends g.C.Consumer.meaning g.met.C.Consumer.went_then
     _ _ _ _ _ _ _ _ _ _ _ _ progress line
-    c.in-Err-hand_over.ensures in
+    c.in-Err-hand_other.ensures in
     record {
       driven = ends.0;
       read = read_same _ _ _ (c.in-Ok-Some.ensures.cause.same refl
           ∙ c.loop-content.invariant.1) ends.1;
     }
 
-pub returns-in-Err-clause-driven : goal.returns-in-Err-clause-driven
-returns-in-Err-clause-driven g c =
-    let progress = c.loop-content.invariant.0 in
+pub returns-in-Err-step-clause-driven : goal.returns-in-Err-step-clause-driven
+returns-in-Err-step-clause-driven g c =
+    let progress = progress_same g.C.Consumer.meaning g.met.C.Consumer.went_then _ _ _ _ _ _ _ _
+    (c.usual_line.ensures.none c.in_default.is) c.loop-content.invariant.0 in
     step_ends g.C.Consumer.meaning g.met.C.Consumer.went_then _ _ _ _ _ c.step.new.self
-    _ _ _ _ progress (c.in-Err.ensures.answer _ _ progress.text progress.met)
+    _ _ _ _ progress (c.in-Err-step.ensures.answer _ _ progress.text progress.met)
 
 pub returns-in-Err-finish : goal.returns-in-Err-finish
 returns-in-Err-finish g c =
-    let progress = c.loop-content.invariant.0 in
+    let progress = progress_same g.C.Consumer.meaning g.met.C.Consumer.went_then _ _ _ _ _ _ _ _
+    (c.usual_line.ensures.none c.in_default.is) c.loop-content.invariant.0 in
     let met = (rw c.in-Ok-None.field-0-is at c.in-Ok-None.ensures.answer) _ _ progress.text
     progress.met in
     let ends = finish_ends g.C.Consumer.meaning g.met.C.Consumer.went_then
@@ -71,7 +98,8 @@ returns-in-Err-finish g c =
 
 pub returns-in-Ok-hand_last-clause-driven : goal.returns-in-Ok-hand_last-clause-driven
 returns-in-Ok-hand_last-clause-driven g c =
-    let progress = c.loop-content.invariant.0 in
+    let progress = progress_same g.C.Consumer.meaning g.met.C.Consumer.went_then _ _ _ _ _ _ _ _
+    (c.usual_line.ensures.none c.in_default.is) c.loop-content.invariant.0 in
     let met = (rw c.in-Ok-None.field-0-is at c.in-Ok-None.ensures.answer) _ _ progress.text
     progress.met in
     last_ends g.C.Consumer.meaning g.met.C.Consumer.went_then _ _ _ _ _ _ _ _ _ _ _ _ progress
@@ -79,7 +107,8 @@ returns-in-Ok-hand_last-clause-driven g c =
 
 pub returns-in-Err-hand_last : goal.returns-in-Err-hand_last
 returns-in-Err-hand_last g c =
-    let progress = c.loop-content.invariant.0 in
+    let progress = progress_same g.C.Consumer.meaning g.met.C.Consumer.went_then _ _ _ _ _ _ _ _
+    (c.usual_line.ensures.none c.in_default.is) c.loop-content.invariant.0 in
     let met = (rw c.in-Ok-None.field-0-is at c.in-Ok-None.ensures.answer) _ _ progress.text
     progress.met in
     let ends = last_line_ends g.C.Consumer.meaning g.met.C.Consumer.went_then

@@ -1,4 +1,4 @@
-use Rattle.std.proofs.Common.{◌≡◌, ◌-◌}
+use Rattle.std.proofs.Common.{◌≡◌}
 use Rattle.tick_drive.proofs.Driving.{Progress}
 use Rattle.tick_drive.proofs.input_loop.drive_with_room.Given as goal
 
@@ -10,4 +10,4 @@ invariant-loop-content g l =
     × (g.S.Source.faults l.input ≡ g.S.Source.faults l.fn.input)
 
 abbrev pub decreases-loop-content : goal.decreases-loop-content
-decreases-loop-content g l = 268435456 - l.intake.bytes
+decreases-loop-content g l = l.intake.room

@@ -6,66 +6,44 @@ use Rattle.yasir_io.specs.Pieces.{kept_bytes}
 use Rattle.yasir_ticks.specs.TickText.{ended_items}
 use Rattle.yasir_ticks.specs.Reader.{items_of_content, lent_bytes}
 use Rattle.tick_drive.specs.Intake.{HasMet}
-use Rattle.tick_drive.proofs.Known.{text_last, met_slice, met_slice_more, met_first}
+use Rattle.tick_drive.proofs.Known.{met_slice_more, met_first}
+use Rattle.tick_drive.proofs.Meeting.{meets_line}
 use Rattle.tick_drive.proofs.intake.Intake.feed_kept.Goals as goal
 
-pub returns-then-self-eq-MAX_INPUT_BYTES-clause-answer :
-    goal.returns-then-self-eq-MAX_INPUT_BYTES-clause-answer
-returns-then-self-eq-MAX_INPUT_BYTES-clause-answer c = λ marks before now text met. record {
+pub returns-then-self-eq0-clause-answer : goal.returns-then-self-eq0-clause-answer
+returns-then-self-eq0-clause-answer c = λ marks before now text met. record {
   byte = get_or (kept_bytes c.args.self.now.pieces) 0 0;
   came = met_first _ now text _ c.requires met.source;
-  full = sym met.count ∙ c.if-self-eq-MAX_INPUT_BYTES.true;
+  full = omega (arith, met.count, c.if-self-eq0.true);
   sum = omega (
     arith,
     met.count,
-    c.if-self-eq-MAX_INPUT_BYTES.true,
+    c.if-self-eq0.true,
     length-append text (get_or (kept_bytes c.args.self.now.pieces) 0 0 ∷ []),
   );
 }
 
 pub returns-in-Ok-clause-answer : goal.returns-in-Ok-clause-answer
 returns-in-Ok-clause-answer c = λ marks before now text met.
-    let kept = c.kept-kept.result.now in
-    let slice = take c.min-within.result kept in
-    let n = c.feed_line-taken.result.taken in
     let fed = c.feed_line-taken.ensures in
     let line = rw c.in-Ok.is at fed.fed in
-    let some : 0 < n = line.progress
-    (omega (arith, length-take c.min-within.result kept, ap length c.kept-kept.ensures)) in
-    let whole = text_last text slice n fed.within some in
-    let source = subst (λ l. before ≡ prepend_known text (prepend_known l now))
-    (sym c.kept-kept.ensures) met.source in
-    let rest = c.skip.ensures.kept ∙ ap (λ l. drop n l) (sym c.kept-kept.ensures) in
-    record {
-      front = take (n - 1) slice;
-      byte = get_or slice (n - 1) 0;
-      met = subst (HasMet _ marks before now) (sym whole) (record {
-        stands = line.stands marks text met.stands;
-        begins = line.begins marks text met.stands;
-        source = met_slice before now text kept _ c.min-within.result n fed.within rest source;
-        open_end = c.skip.ensures.ended ∙ met.open_end;
-        count = omega (
-          arith,
-          met.count,
-          length-append text (take n slice),
-          length-take n slice,
-          fed.within,
-        );
-        within = omega (
-          arith,
-          met.count,
-          met.within,
-          length-append text (take n slice),
-          length-take n slice,
-          length-take c.min-within.result kept,
-          fed.within,
-          c.min-within.ensures,
-        );
-      });
-      ended = ap ended_items whole ∙ line.items marks text met.stands;
-      quiet = λ some. (line.last marks text met.stands (λ none. some (ap (λ content.
-          items_of_content content (lent_bytes c.feed_line-taken.new.self)) none))).1;
-    }
+    meets_line _ _ marks before now text c.kept-kept.result.now c.min-within.result
+    c.feed_line-taken.result.taken _ met line c.kept-kept.ensures c.skip.ensures.kept
+    c.skip.ensures.ended (omega (arith, c.requires, ap length c.kept-kept.ensures))
+    (omega (
+      arith,
+      c.requires,
+      c.min-within.ensures,
+      c.if-self-eq0.false,
+      ap length c.kept-kept.ensures,
+    ))
+    (omega (arith, c.min-within.ensures))
+    (omega (
+      arith,
+      fed.within,
+      c.min-within.ensures,
+      length-take c.min-within.result c.kept-kept.result.now,
+    ))
 
 pub returns-in-Err-clause-answer : goal.returns-in-Err-clause-answer
 returns-in-Err-clause-answer c = λ marks before now text met.

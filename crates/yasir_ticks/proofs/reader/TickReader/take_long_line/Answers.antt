@@ -1,4 +1,4 @@
-use Rattle.std.proofs.Common.{◌∙◌, Ok, take, refl, ap, sym, arith}
+use Rattle.std.proofs.Common.{refl, arith}
 use Rattle.std.proofs.lemmas.List.{length-take}
 use Rattle.yasir_ticks.proofs.WholeLines.{takes_pairs}
 use Rattle.yasir_ticks.proofs.reader.TickReader.take_long_line.Goals as goal
@@ -6,14 +6,12 @@ use Rattle.yasir_ticks.proofs.reader.TickReader.take_long_line.Goals as goal
 pub returns-clause-whole : goal.returns-clause-whole
 returns-clause-whole c =
     let pairs = c.decode_front-pairs.result.pairs in
-    let kept = c.from-self.ensures in
-    let cut = length-take pairs c.from-self.result.items in
+    let cut = length-take pairs c.decode_front-pairs.result.bytes in
     record {
       within = omega (arith, c.decode_front-pairs.ensures.within, c.if-bytes-lt65.false);
       ends = c.if-bytes-len-ne10.false;
-      takes = takes_pairs _ _ _ _ c.requires.place c.requires.place refl refl
-          c.truncate.ensures.items
-          (c.decode_front-pairs.ensures.decoded ∙ ap (λ l. Ok (take pairs l)) (sym kept.0))
-          (omega (arith, cut, kept.1, c.if-pairs-eq0.false, c.decode_front-pairs.ensures.within))
+      takes = takes_pairs _ _ _ _ c.requires.place c.requires.place refl refl c.put.ensures
+          c.decode_front-pairs.ensures.decoded
+          (omega (arith, cut, c.if-pairs-eq0.false, c.decode_front-pairs.ensures.within))
           (omega (arith, cut, c.decode_front-pairs.ensures.within));
     }
