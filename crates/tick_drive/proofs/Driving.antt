@@ -19,7 +19,9 @@ use Rattle.tick_drive.specs.Items.{silent_items}
 use Rattle.tick_drive.specs.Input.{IsMetOf, EndsLine, IsWhole, IsReadCause, max_ticks}
 use Rattle.tick_drive.specs.Input.{is_read_fault}
 use Rattle.tick_drive.specs.Intake.{HasMet, MeetsLine, MeetsEnd, StepAnswer, FinishAnswer, lent}
-use Rattle.tick_drive.specs.Drive.{Drives, HandsOver, HandAnswer}
+use Rattle.tick_drive.specs.Drive.{Drives, HandsOver, HandAnswer, halted_end}
+use Rattle.tick_drive.specs.declared.input_loop.Halt.{Halt}
+use Rattle.tick_drive.specs.declared.input_loop.Halt.TheVariants.{TooMany, ByConsumer}
 use Rattle.tick_drive.proofs.ItemLaws.{ticks_with}
 use Rattle.tick_drive.proofs.Moving.{gives_then, gives_front, gives_items}
 use Rattle.tick_drive.specs.declared.consumer.Stop.{Stop}
@@ -259,13 +261,14 @@ module _ {C : Type 0} (meaning : Consuming C) (joins : AreJoined meaning) where
 
   -- a line that was held back, or at one of whose ticks the consumer stopped, ends the run
   pub line_ends : (marks : ℕ) (before now later : Option (List ℕ)) (intake next : Intake)
-      (start mid new : C) (ticks : ℕ) (line : List Item) (end : End)
+      (start mid new : C) (ticks : ℕ) (line : List Item) (halt : Halt)
       (p : Progress meaning marks before now intake start mid ticks)
       → MeetsLine next marks before later p.text line
-      → HandAnswer meaning mid new ticks line (Err end)
-      → Drives meaning marks 0 before later start new end × (is_read_fault end ≡ false)
+      → HandAnswer meaning mid new ticks line (Err halt)
+      → Drives meaning marks 0 before later start new (halted_end halt)
+      × (is_read_fault (halted_end halt) ≡ false)
   line_ends marks before now later intake next start mid new ticks line
-      (TooLong Ticks count) p met h =
+      (TooMany count) p met h =
       let some : line ≢ [] = λ none. let nothing : length (ticks_in line) ≡ 0 =
       ap (λ items. length (ticks_in items)) none in
       omega (arith, nothing, h.sum, h.above, p.few) in (
@@ -285,7 +288,7 @@ module _ {C : Type 0} (meaning : Consuming C) (joins : AreJoined meaning) where
         },
         refl,
       )
-  line_ends marks before now later intake next start mid new ticks line (Stopped stop) p met h =
+  line_ends marks before now later intake next start mid new ticks line (ByConsumer stop) p met h =
       let some : line ≢ [] = λ none. let nothing : length line ≡ 0 = ap length none in
       omega (arith, nothing, h.gives.stopped.within) in
       let quiet = met.quiet some in (
@@ -304,14 +307,6 @@ module _ {C : Type 0} (meaning : Consuming C) (joins : AreJoined meaning) where
         },
         refl,
       )
-  line_ends marks before now later intake next start mid new ticks line
-      (TooLong Bytes count) p met h = absurd h
-  line_ends marks before now later intake next start mid new ticks line
-      (Refused bad) p met h = absurd h
-  line_ends marks before now later intake next start mid new ticks line ReadFault p met h =
-      absurd h
-  line_ends marks before now later intake next start mid new ticks line Whole p met h =
-      absurd h
 
   -- the last line was handed over
   pub last_ends : (marks : ℕ) (before now later : Option (List ℕ)) (intake next : Intake)
@@ -337,13 +332,14 @@ module _ {C : Type 0} (meaning : Consuming C) (joins : AreJoined meaning) where
 
   -- the last line was held back, or the consumer stopped at one of its ticks
   pub last_line_ends : (marks : ℕ) (before now later : Option (List ℕ)) (intake next : Intake)
-      (start mid new : C) (ticks : ℕ) (line : List Item) (end : End)
+      (start mid new : C) (ticks : ℕ) (line : List Item) (halt : Halt)
       (p : Progress meaning marks before now intake start mid ticks)
       → MeetsEnd next marks before later p.text
       → IsTickText marks p.text (ended_items p.text ++ line)
-      → HandAnswer meaning mid new ticks line (Err end)
-      → Drives meaning marks 0 before later start new end × (is_read_fault end ≡ false)
-  last_line_ends marks before now later intake next start mid new ticks line (TooLong Ticks count) p
+      → HandAnswer meaning mid new ticks line (Err halt)
+      → Drives meaning marks 0 before later start new (halted_end halt)
+      × (is_read_fault (halted_end halt) ≡ false)
+  last_line_ends marks before now later intake next start mid new ticks line (TooMany count) p
       met right h = (
         record {
           items = ended_items p.text;
@@ -361,7 +357,7 @@ module _ {C : Type 0} (meaning : Consuming C) (joins : AreJoined meaning) where
         },
         refl,
       )
-  last_line_ends marks before now later intake next start mid new ticks line (Stopped stop) p met
+  last_line_ends marks before now later intake next start mid new ticks line (ByConsumer stop) p met
       right h = (
         record {
           items = ended_items p.text ++ line;
@@ -379,14 +375,6 @@ module _ {C : Type 0} (meaning : Consuming C) (joins : AreJoined meaning) where
         },
         refl,
       )
-  last_line_ends marks before now later intake next start mid new ticks line (TooLong Bytes count) p
-      met right h = absurd h
-  last_line_ends marks before now later intake next start mid new ticks line (Refused bad) p met
-      right h = absurd h
-  last_line_ends marks before now later intake next start mid new ticks line ReadFault p met right
-      h = absurd h
-  last_line_ends marks before now later intake next start mid new ticks line Whole p met right h =
-      absurd h
 
   -- the silence behind a whole input was taken
   pub rest_taken : (marks rest : ℕ) (before now : Option (List ℕ)) (old mid new : C)

@@ -8,11 +8,18 @@ use Rattle.tick_drive.specs.declared.consumer.Stop.{Stop}
 use Rattle.tick_drive.specs.declared.end.End.{End}
 use Rattle.tick_drive.specs.declared.end.End.TheVariants.{Stopped, TooLong}
 use Rattle.tick_drive.specs.declared.end.TooMuch.TheVariants.{Ticks}
+use Rattle.tick_drive.specs.declared.input_loop.Halt.{Halt}
+use Rattle.tick_drive.specs.declared.input_loop.Halt.TheVariants.{TooMany, ByConsumer}
 
 -- what the consumer answered last as the run ended so
 abbrev pub answer_of : End → Result (Unit {0}) Stop
 answer_of (Stopped stop) = Err stop
 answer_of end = Ok tt
+
+-- how a drive ends where a line was handed over no further
+abbrev pub halted_end : Halt → End
+halted_end (TooMany count) = TooLong Ticks count
+halted_end (ByConsumer stop) = Stopped stop
 
 module _ {C : Type 0} (meaning : Consuming C) where
   -- A consumer that has taken nothing yet may be used.
@@ -51,8 +58,7 @@ module _ {C : Type 0} (meaning : Consuming C) where
     pub few : ticks + length (ticks_in items) ≤ max_ticks
 
   -- what the answer says where one line's items were to be handed over after this many ticks
-  abbrev pub HandAnswer : C → C → ℕ → List Item → Result ℕ End → Type 0
+  abbrev pub HandAnswer : C → C → ℕ → List Item → Result ℕ Halt → Type 0
   HandAnswer old new ticks items (Ok sum) = HandsOver old new ticks items sum
-  HandAnswer old new ticks items (Err (TooLong Ticks count)) = HoldsBack old new ticks items count
-  HandAnswer old new ticks items (Err (Stopped stop)) = StopsAt old new ticks items stop
-  HandAnswer old new ticks items (Err end) = ⊥
+  HandAnswer old new ticks items (Err (TooMany count)) = HoldsBack old new ticks items count
+  HandAnswer old new ticks items (Err (ByConsumer stop)) = StopsAt old new ticks items stop

@@ -8,6 +8,7 @@ ghost use Rattle.yasir_ticks.specs.declared.TheConstants.{MAX_TICKS};
 ghost use Rattle.tick_drive.specs.Input.{IsReadCause, is_read_fault, max_ticks};
 ghost use Rattle.tick_drive.specs.Consumers.{MayTake, Gives};
 ghost use Rattle.tick_drive.specs.Drive.{Drives, IsFresh, HasRoom, HandAnswer};
+ghost use Rattle.tick_drive.specs.Drive.{halted_end};
 
 use crate::intake::Intake;
 use crate::{Consumer, End, Stop, TooMuch};
@@ -16,6 +17,30 @@ use yasir_ticks::{Content, Run, TickRun};
 
 /// How many ticks of an input are taken at most.
 pub const MAX_INPUT_TICKS: u32 = 16_777_216;
+
+// Why a line is handed over no further. It is small, so that an answer stays in registers.
+#[derive(Clone, Copy)]
+enum Halt {
+    // its ticks with those before are so many, which are more than may be taken
+    TooMany(u64),
+    // the consumer stopped
+    ByConsumer(Stop),
+}
+
+impl Halt {
+    // How the drive over the input ends then.
+    fn end(self) -> End
+        ensures { result ≡ halted_end self }
+    {
+        match self {
+            Halt::TooMany(count) => End::TooLong {
+                what: TooMuch::Ticks,
+                count,
+            },
+            Halt::ByConsumer(stop) => End::Stopped(stop),
+        }
+    }
+}
 
 // How many ticks a line of this content has, the bytes of a `+` line being these.
 #[inline(always)]
@@ -80,7 +105,7 @@ fn hand_content<C: Consumer>(
     content: Content,
     bytes: &[u8],
     consumer: &mut C,
-) -> Result<u32, End>
+) -> Result<u32, Halt>
     requires within { ticks ≤ max_ticks }
     requires short { length bytes.now ≤ 32 }
     requires room { C.meaning.taken consumer.old + max_ticks ≤ MAX_TICKS + ticks }
@@ -90,14 +115,11 @@ fn hand_content<C: Consumer>(
 {
     let sum = u64::from(ticks) + u64::from(ticks_of(content, bytes));
     if sum > u64::from(MAX_INPUT_TICKS) {
-        return Err(End::TooLong {
-            what: TooMuch::Ticks,
-            count: sum,
-        });
+        return Err(Halt::TooMany(sum));
     }
     match give(content, bytes, consumer) {
         Ok(()) => Ok(sum as u32),
-        Err(stop) => Err(End::Stopped(stop)),
+        Err(stop) => Err(Halt::ByConsumer(stop)),
     }
 }
 
@@ -109,7 +131,7 @@ fn hand_over<C: Consumer>(
     content: Content,
     bytes: &[u8],
     consumer: &mut C,
-) -> Result<u32, End>
+) -> Result<u32, Halt>
     requires within { ticks ≤ max_ticks }
     requires short { length bytes.now ≤ 32 }
     requires room { C.meaning.taken consumer.old + max_ticks ≤ MAX_TICKS + ticks }
@@ -132,7 +154,7 @@ fn hand_other<C: Consumer>(
     content: Content,
     bytes: &[u8],
     consumer: &mut C,
-) -> Result<u32, End>
+) -> Result<u32, Halt>
     requires within { ticks ≤ max_ticks }
     requires short { length bytes.now ≤ 32 }
     requires room { C.meaning.taken consumer.old + max_ticks ≤ MAX_TICKS + ticks }
@@ -144,7 +166,7 @@ fn hand_other<C: Consumer>(
 }
 
 // Hands the run of a last line to the consumer.
-fn hand_last<C: Consumer>(ticks: u32, run: &Run, consumer: &mut C) -> Result<u32, End>
+fn hand_last<C: Consumer>(ticks: u32, run: &Run, consumer: &mut C) -> Result<u32, Halt>
     requires within { ticks ≤ max_ticks }
     requires room { C.meaning.taken consumer.old + max_ticks ≤ MAX_TICKS + ticks }
     requires able { C.meaning.able consumer.old }
@@ -173,7 +195,7 @@ pub fn drive_with_room<S: Source, C: Consumer>(marks: u8, input: &mut S, consume
         if let Some(content) = intake.usual_line() {
             match hand_over(ticks, content, intake.line_bytes(), consumer) {
                 Ok(sum) => ticks = sum,
-                Err(end) => return end,
+                Err(halt) => return halt.end(),
             }
             continue;
         }
@@ -188,7 +210,7 @@ pub fn drive_with_room<S: Source, C: Consumer>(marks: u8, input: &mut S, consume
         let bytes = intake.line_bytes();
         match hand_other(ticks, content, bytes, consumer) {
             Ok(sum) => ticks = sum,
-            Err(end) => return end,
+            Err(halt) => return halt.end(),
         }
     }
     let last = match intake.finish() {
@@ -197,7 +219,7 @@ pub fn drive_with_room<S: Source, C: Consumer>(marks: u8, input: &mut S, consume
     };
     match hand_last(ticks, &last, consumer) {
         Ok(_) => End::Whole,
-        Err(end) => end,
+        Err(halt) => halt.end(),
     }
 }
 

@@ -9,7 +9,7 @@ use Rattle.std.specs.List.{range_with_len}
 use Rattle.std.specs.Simd.Lanes.{chunk, number_l, digits_l, pick_l, Each1}
 use Rattle.hex.specs.Hex.{decode_of, hex_digit_value}
 use Rattle.yasir_ticks.specs.HexDigits.{lane_value}
-use Rattle.yasir_ticks.proofs.hex_digits.PairLanes.{IsPair, found, pairs_decoded, both_low}
+use Rattle.yasir_ticks.proofs.hex_digits.PairLanes.{IsPair, found, pairs_decoded}
 
 -- two bytes as one word
 pub word_of_pair : (v : List ℕ) (i : ℕ) → i + 1 < length v

@@ -31,10 +31,10 @@ returns-in-Err g c =
     let line = line_lent _ _ _ _ _ _ _ c.line_bytes.ensures.bytes met in
     let ends = line_ends g.C.Consumer.meaning g.met.C.Consumer.went_then
     _ _ _ _ _ _ _ _ _ _ _ _ progress line c.in-Err.ensures in
-    record {
+    rw c.end.ensures (record {
       driven = ends.0;
       read = read_same _ _ _ c.loop-content.invariant.1 ends.1;
-    }
+    })
 
 pub loop-content-preserved-in-NoTick : goal.loop-content-preserved-in-NoTick
 loop-content-preserved-in-NoTick g c =
@@ -69,11 +69,11 @@ returns-in-Err-hand_other g c =
     let ends = line_ends g.C.Consumer.meaning g.met.C.Consumer.went_then
     _ _ _ _ _ _ _ _ _ _ _ _ progress line
     c.in-Err-hand_other.ensures in
-    record {
+    rw c.end-in-Err-hand_other.ensures (record {
       driven = ends.0;
       read = read_same _ _ _ (c.in-Ok-Some.ensures.cause.same refl
           ∙ c.loop-content.invariant.1) ends.1;
-    }
+    })
 
 pub returns-in-Err-step-clause-driven : goal.returns-in-Err-step-clause-driven
 returns-in-Err-step-clause-driven g c =
@@ -114,8 +114,8 @@ returns-in-Err-hand_last g c =
     let ends = last_line_ends g.C.Consumer.meaning g.met.C.Consumer.went_then
     _ _ _ _ _ _ _ _ _ _ _ _ progress met (c.in-Ok-finish.ensures _ progress.text met.fed)
     c.in-Err-hand_last.ensures in
-    record {
+    rw c.end-in-Err-hand_last.ensures (record {
       driven = ends.0;
       read = read_same _ _ _ (c.in-Ok-None.ensures.cause.same refl
           ∙ c.loop-content.invariant.1) ends.1;
-    }
+    })

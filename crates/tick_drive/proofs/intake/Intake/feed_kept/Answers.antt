@@ -1,11 +1,8 @@
-use Rattle.std.proofs.Common.{◌<◌, ◌-◌, ◌≡◌, ◌∙◌, ◌∷◌, ◌++◌, [], length, length-append, take, drop}
+use Rattle.std.proofs.Common.{◌≡◌, ◌∷◌, ◌++◌, [], length, length-append, take}
 use Rattle.std.proofs.Common.{get_or, ap, sym, subst, arith}
 use Rattle.std.proofs.lemmas.List.{length-take}
 use Rattle.std.specs.Io.KnownBytes.{prepend_known}
 use Rattle.yasir_io.specs.Pieces.{kept_bytes}
-use Rattle.yasir_ticks.specs.TickText.{ended_items}
-use Rattle.yasir_ticks.specs.Reader.{items_of_content, lent_bytes}
-use Rattle.tick_drive.specs.Intake.{HasMet}
 use Rattle.tick_drive.proofs.Known.{met_slice_more, met_first}
 use Rattle.tick_drive.proofs.Meeting.{meets_line}
 use Rattle.tick_drive.proofs.intake.Intake.feed_kept.Goals as goal
