@@ -1,9 +1,12 @@
--- Eight bytes taken at once: what each of them makes, on its own, of the register that the bytes
--- behind it leave.
-use Rattle.std.proofs.Common.{◌≡◌, ℕ, suc, ◌+◌, ◌*◌, ◌/◌, ◌%◌, ◌^◌, ◌<◌, List, [], ◌∷◌}
-use Rattle.std.proofs.Common.{length, get_or, arith, sym, ◌∙◌, ap}
+-- Bytes taken at once: what each of them makes, on its own, of the register that the bytes behind
+-- it leave.
+use Rattle.std.proofs.Common.{◌≡◌, ℕ, suc, ◌+◌, ◌-◌, ◌*◌, ◌/◌, ◌%◌, ◌^◌, ◌<◌, ◌≤◌, List, [], ◌∷◌}
+use Rattle.std.proofs.Common.{length, get_or, drop, arith, sym, ◌∙◌, ap, add-one}
 use Rattle.std.specs.Prelude.{bit_xor}
 use Rattle.std.specs.Int.Bits.{xor_zero_l, xor_zero_r, xor_assoc}
+use Rattle.std.proofs.Math.ListN.{drop_of_length-le}
+use Rattle.std.proofs.Math.Seq.{drop-cons}
+use Rattle.std.proofs.lemmas.List.{length-drop}
 use Rattle.std.proofs.lemmas.Nat.{xor_comm}
 use Rattle.line_rules.specs.Crc.{bit_steps, byte_step, crc}
 use Rattle.line_rules.proofs.CrcLaws.{byte_step_lem, crc-nil, crc-cons, bit_steps-zero}
@@ -77,32 +80,57 @@ module _ (p : ℕ) where
       (bit_xor z (crc p 0 x)))
       (sym (bit_steps-xor p (8 * suc (length x)) (r / 256) c))))))
 
-  -- eight bytes, each by its table
-  pub crc-eight : (r : ℕ) (x : List ℕ) (t0 t1 t2 t3 t4 t5 t6 t7 : ℕ) → r < 2 ^ 16
-      → length x ≡ 8 → get_or x 0 0 < 256
-      → t0 ≡ bit_steps p 64 (bit_xor (r % 256) (get_or x 0 0))
-      → t1 ≡ bit_steps p 56 (bit_xor (r / 256) (get_or x 1 0))
-      → t2 ≡ bit_steps p 48 (get_or x 2 0)
-      → t3 ≡ bit_steps p 40 (get_or x 3 0)
-      → t4 ≡ bit_steps p 32 (get_or x 4 0)
-      → t5 ≡ bit_steps p 24 (get_or x 5 0)
-      → t6 ≡ bit_steps p 16 (get_or x 6 0)
-      → t7 ≡ bit_steps p 8 (get_or x 7 0)
-      → bit_xor t0 (bit_xor t1 (bit_xor t2 (bit_xor t3 (bit_xor t4 (bit_xor t5
-      (bit_xor t6 t7)))))) ≡ crc p r x
-  crc-eight r (a ∷ b ∷ c ∷ d ∷ e ∷ f ∷ g ∷ h ∷ []) t0 t1 t2 t3 t4 t5 t6 t7 small eight byte
-      e0 e1 e2 e3 e4 e5 e6 e7 =
-      let first = crc-first r a b (c ∷ d ∷ e ∷ f ∷ g ∷ h ∷ []) small byte in
-      let third = crc-apart c (d ∷ e ∷ f ∷ g ∷ h ∷ []) in
-      let fourth = crc-apart d (e ∷ f ∷ g ∷ h ∷ []) in
-      let fifth = crc-apart e (f ∷ g ∷ h ∷ []) in
-      let sixth = crc-apart f (g ∷ h ∷ []) in
-      let seventh = crc-apart g (h ∷ []) in
-      let eighth = crc-apart h [] in
-      let none = crc-nil p 0 in
-      let last : t7 ≡ crc p 0 (h ∷ []) =
-      e7 ∙ (sym (xor_zero_r (bit_steps p 8 h)) ∙ (ap (bit_xor (bit_steps p 8 h)) (sym none)
-      ∙ sym eighth)) in
-      cc
-  crc-eight r x t0 t1 t2 t3 t4 t5 t6 t7 small eight byte e0 e1 e2 e3 e4 e5 e6 e7 =
-      absurd (omega arith)
+  -- one byte more, on its own, by its table
+  pub crc-slice : (x : List ℕ) (i behind shifted all : ℕ) → i < length x
+      → shifted ≡ bit_steps p (8 * suc (length x - 1 - i)) (get_or x i 0)
+      → bit_xor behind (crc p 0 (drop i x)) ≡ all
+      → bit_xor (bit_xor behind shifted) (crc p 0 (drop (i + 1) x)) ≡ all
+  crc-slice x i behind shifted all within by_table so_far =
+      let left : length (drop (suc i) x) ≡ length x - 1 - i =
+      omega (arith, length-drop (suc i) x) in
+      let apart : crc p 0 (drop i x) ≡ bit_xor shifted (crc p 0 (drop (suc i) x)) =
+      rw (drop-cons x i 0) (crc-apart (get_or x i 0) (drop (suc i) x)
+      ∙ ap (λ z. bit_xor z (crc p 0 (drop (suc i) x)))
+      (ap (λ k. bit_steps p (8 * suc k) (get_or x i 0)) left ∙ sym by_table)) in
+      rw add-one (xor_assoc behind shifted (crc p 0 (drop (suc i) x))
+      ∙ (ap (bit_xor behind) (sym apart) ∙ so_far))
+
+  -- at first, and where no byte is left
+  pub crc-slices-none : (x : List ℕ) → bit_xor 0 (crc p 0 x) ≡ crc p 0 x
+  crc-slices-none x = xor_zero_l (crc p 0 x)
+
+  pub crc-slices-all : (x : List ℕ) (i behind all : ℕ) → length x ≤ i
+      → bit_xor behind (crc p 0 (drop i x)) ≡ all → behind ≡ all
+  crc-slices-all x i behind all end so_far =
+      sym (xor_zero_r behind)
+      ∙ (ap (bit_xor behind) (sym (crc-nil p 0)
+      ∙ ap (crc p 0) (sym (drop_of_length-le x end))) ∙ so_far)
+
+  turned : (b s f : ℕ) → bit_xor b (bit_xor s f) ≡ bit_xor f (bit_xor s b)
+  turned b s f =
+      xor_comm b (bit_xor s f)
+      ∙ (ap (λ z. bit_xor z b) (xor_comm s f) ∙ xor_assoc f s b)
+
+  -- all bytes, each by its table, of which the first two meet the register
+  pub crc-at_once : (r : ℕ) (x : List ℕ) (behind second first : ℕ) → r < 2 ^ 16
+      → 2 ≤ length x → get_or x 0 0 < 256
+      → behind ≡ crc p 0 (drop 2 x)
+      → second ≡ bit_steps p (8 * suc (length x - 1 - 1)) (bit_xor (r / 256) (get_or x 1 0))
+      → first ≡ bit_steps p (8 * suc (length x - 1)) (bit_xor (r % 256) (get_or x 0 0))
+      → bit_xor behind (bit_xor second first) ≡ crc p r x
+  crc-at_once r [] behind second first small two byte e0 e1 e2 = absurd (omega arith)
+  crc-at_once r (a ∷ []) behind second first small two byte e0 e1 e2 = absurd (omega arith)
+  crc-at_once r (a ∷ b ∷ x) behind second first small two byte e0 e1 e2 =
+      let one : length (a ∷ b ∷ x) - 1 - 1 ≡ length x = omega arith in
+      let two' : length (a ∷ b ∷ x) - 1 ≡ suc (length x) = omega arith in
+      let s : second ≡ bit_steps p (8 * suc (length x)) (bit_xor (r / 256) b) =
+      e1 ∙ ap (λ k. bit_steps p (8 * suc k) (bit_xor (r / 256) b)) one in
+      let f : first ≡ bit_steps p (8 * suc (suc (length x))) (bit_xor (r % 256) a) =
+      e2 ∙ ap (λ k. bit_steps p (8 * suc k) (bit_xor (r % 256) a)) two' in
+      turned behind second first
+      ∙ (ap (λ z. bit_xor z (bit_xor second behind)) f
+      ∙ (ap (λ z. bit_xor (bit_steps p (8 * suc (suc (length x))) (bit_xor (r % 256) a))
+      (bit_xor z behind)) s
+      ∙ (ap (λ z. bit_xor (bit_steps p (8 * suc (suc (length x))) (bit_xor (r % 256) a))
+      (bit_xor (bit_steps p (8 * suc (length x)) (bit_xor (r / 256) b)) z)) e0
+      ∙ sym (crc-first r a b x small byte))))

@@ -27,13 +27,23 @@ impl<const POLY: u16> CrcTable<POLY> {
                 Self::after_bytes(6),
                 Self::after_bytes(7),
                 Self::after_bytes(8),
+                Self::after_bytes(9),
+                Self::after_bytes(10),
+                Self::after_bytes(11),
+                Self::after_bytes(12),
+                Self::after_bytes(13),
+                Self::after_bytes(14),
+                Self::after_bytes(15),
+                Self::after_bytes(16),
+                Self::after_bytes(17),
+                Self::after_bytes(18),
             ],
         }
     }
 
     // What the shifts of this many bytes make of each byte.
     fn after_bytes(count: u8) -> [u16; 256]
-        requires { count ≤ 8 }
+        requires { count ≤ 18 }
         ensures { (byte : ℕ) → byte < 256
             → slice_index result byte ≡ bit_steps POLY (8 * count) byte }
     {

@@ -20,7 +20,7 @@ mod line_rules;
 
 pub use crc_bits::crc_by_bits;
 pub use crc_table::CrcTable;
-pub use crc_tables::{CrcTables, crc_by_tables, step_by_table};
+pub use crc_tables::{CrcTables, crc_at_once, crc_by_tables, step_by_table};
 pub use four_bytes::FourBytes;
 pub use head::Head;
 pub use line_rules::LineRules;

@@ -5,7 +5,7 @@ use Rattle.line_rules.specs.CrcTables.{AreCrcTables}
 use Rattle.line_rules.proofs.CrcTableChecks.{tables_agree, tables_right}
 use Rattle.rtu_frame.specs.declared.table.TheConstants.{TABLES}
 
-computed : tables_agree 0xA001 8 TABLES ≡ true
+computed : tables_agree 0xA001 TABLES ≡ true
 unfolding bit_steps bit_step
 computed = refl
 

@@ -1,22 +1,19 @@
-use Rattle.std.proofs.Common.{◌∙◌, arith}
-use Rattle.line_rules.proofs.CrcLaws.{crc-more, crc-all, crc-one, crc-later}
+use Rattle.std.proofs.Common.{◌≡◌, [], arith, sym, ◌∙◌, ap}
+use Rattle.std.proofs.lemmas.List.{nil_from_length}
+use Rattle.line_rules.specs.Crc.{crc}
+use Rattle.line_rules.proofs.CrcLaws.{crc-nil, crc-later}
 use Rattle.line_rules.proofs.crc_tables.crc_by_tables.Goals as goal
 
-pub loop-eight-preserved : goal.loop-eight-preserved
-loop-eight-preserved g c =
-    crc-later g.row.POLY c.loop-eight.register c.after_eight-register.result _ 8
-    c.loop-eight.rest.now _ _
-    c.in-Some.ensures.cases.0 c.in-Some.ensures.cases.1 c.after_eight-register.ensures
-    c.loop-eight.invariant
+pub loop-together-preserved : goal.loop-together-preserved
+loop-together-preserved g c =
+    crc-later g.row.POLY c.loop-together.register c.crc_at_once-register.result _ 18
+    c.loop-together.rest.now _ _
+    c.in-Some.ensures.cases.0 c.in-Some.ensures.cases.1 c.crc_at_once-register.ensures
+    c.loop-together.invariant
 
-pub loop-byte-preserved : goal.loop-byte-preserved
-loop-byte-preserved g c =
-    crc-more g.row.POLY c.loop-byte.register _ _ c.loop-byte.byte-index c.loop-eight.rest.now
-    (omega arith)
-    (c.step_by_table-register.ensures ∙ crc-one g.row.POLY c.loop-byte.register _)
-    c.loop-byte.invariant
-
-pub returns : goal.returns
-returns g c =
-    crc-all g.row.POLY c.loop-byte.register _ c.loop-byte.byte-index c.loop-eight.rest.now
-    (omega arith) c.loop-byte.invariant
+pub returns-in_default-len : goal.returns-in_default-len
+returns-in_default-len g c =
+    let none : c.loop-together.rest.now ≡ [] =
+    nil_from_length c.loop-together.rest.now (omega (arith, c.in_default.ensures.cases)) in
+    sym (crc-nil g.row.POLY c.loop-together.register)
+    ∙ (ap (crc g.row.POLY c.loop-together.register) (sym none) ∙ c.loop-together.invariant)
