@@ -7,7 +7,7 @@ use Rattle.std.specs.Prelude.{if◌then◌else◌}
 use Rattle.std.proofs.Math.Bool.{and-true}
 use Rattle.std.proofs.lemmas.List.{length-take, length-drop, nil_from_length, take-append-drop}
 use Rattle.std.proofs.lemmas.List.{take_all}
-use Rattle.std.proofs.lemmas.List.Elements.{All-head, All-tail}
+use Rattle.std.proofs.lemmas.List.Elements.{All-head, All-tail, All-drop}
 use Rattle.std.proofs.lemmas.Bool.{cond-true, cond-false, ne_eqb, le-leb, and_left}
 use Rattle.std.proofs.lemmas.Bool.{lt-leb, and_right, cond_both, and_from}
 use Rattle.std.proofs.lemmas.Bool.{eq-eqb}
@@ -395,20 +395,22 @@ pub record IsBefore (old : Dnp) (run : List ℕ) (value : Dnp) (rest : List ℕ)
   pub behind : 10 ≤ value.len
   pub begins : 0 < length rest → value.block_left ≡ 0
   pub room : value.len + length rest ≤ value.room
+  pub bytes : AreBytes rest
   pub ends : (next : Dnp) → Appends value next rest → Appends old next run
 
 -- behind the block that has begun
 pub is_before-first : (old value : Dnp) (run : List ℕ) (n : ℕ) → 10 ≤ old.len
     → old.len + length run ≤ old.room → n ≡ min (length run) old.block_left
     → value.block_left + length (take n run) ≡ old.block_left
-    → Appends old value (take n run) → IsBefore old run value (drop n run)
-is_before-first old value run n behind room first lacks begun =
+    → Appends old value (take n run) → AreBytes run → IsBefore old run value (drop n run)
+is_before-first old value run n behind room first lacks begun bytes =
     let count = begun.count in
     let same = begun.same_room in
     record {
       behind = omega arith;
       begins = λ some. omega (arith, length-take n run, length-drop n run);
       room = omega (arith, length-take n run, length-drop n run);
+      bytes = All-drop (λ b. b < 256) n run bytes;
       ends = λ next more. subst (Appends old next) (take-append-drop n run)
           (appends-more old value next (take n run) (drop n run) begun more);
     }
@@ -428,6 +430,7 @@ is_before-next old value next run rest block more whole front behind_it lacks be
       begins = λ some. omega arith;
       room = let had = before.room in let e = ap length parts in
           omega (arith, length-append block more);
+      bytes = subst AreBytes (sym behind_it) (All-drop (λ b. b < 256) 18 rest before.bytes);
       ends = λ last more_of. before.ends last
           (subst (Appends value last) (sym parts)
           (appends-more value next last block more begun more_of));

@@ -5,7 +5,7 @@ use crate::steps::{
     BLOCK_LEN, blocks_at_beginning, ends_right, head_by, header_after, is_header, is_whole,
     len_byte_after,
 };
-use crate::table::{after_byte, after_bytes};
+use crate::table::{after_byte, after_bytes, of_bytes};
 use line_rules::{Head, LineRules};
 
 // HEADER_LEN and BLOCK_LEN as the lengths of arrays.
@@ -49,7 +49,7 @@ impl Dnp {
         self.len = HEADER_LEN;
         self.len_byte = header[2];
         self.room = room_by(self.len_byte);
-        self.register = after_bytes(FIRST_REGISTER, header);
+        self.register = of_bytes(header);
         self.header_right = is_header(header[0], header[1], header[2], self.register);
     }
 
@@ -73,6 +73,9 @@ impl Dnp {
         ensures appends { Appends self.old self.new run.now }
         ensures block { self.new.block_left + length run.now ≡ self.old.block_left }
     {
+        if run.is_empty() {
+            return;
+        }
         self.register = after_bytes(self.register, run);
         self.len += run.len() as u16;
         self.block_left -= run.len() as u16;
@@ -105,10 +108,16 @@ impl Dnp {
         let first = run.len().min(usize::from(self.block_left));
         self.go_on(&run[..first]);
         let mut rest = &run[first..];
+        let (mut len, mut register, mut right) = (self.len, self.register, self.blocks_right);
         while let Some((block, more)) = rest.split_first_chunk::<WHOLE_BLOCK>() {
-            self.begin_block(block);
+            right = blocks_at_beginning(len, right, register);
+            register = of_bytes(block);
+            len += BLOCK_LEN;
             rest = more;
         }
+        self.len = len;
+        self.register = register;
+        self.blocks_right = right;
         if !rest.is_empty() {
             self.begin_block(rest);
         }

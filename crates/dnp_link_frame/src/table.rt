@@ -1,10 +1,10 @@
 //! The CRC by tables: up to eighteen bytes at a time, and a byte alone.
-ghost use Rattle.std.specs.Prelude.{◌≡◌};
+ghost use Rattle.std.specs.Prelude.{◌≡◌, ◌≤◌, length};
 ghost use Rattle.dnp_link_frame.specs.Crc.{crc_dnp};
 ghost use Rattle.line_rules.specs.Crc.{byte_step, crc};
 
 use crate::crc::{FIRST_REGISTER, POLYNOMIAL};
-use line_rules::{CrcTables, crc_by_tables, step_by_table};
+use line_rules::{CrcTables, crc_at_once, crc_by_tables, step_by_table};
 
 /// The register that these bytes leave of `register`.
 #[inline]
@@ -12,6 +12,16 @@ pub(crate) fn after_bytes(register: u16, bytes: &[u8]) -> u16
     ensures { result ≡ crc POLYNOMIAL register bytes.now }
 {
     crc_by_tables::<POLYNOMIAL>(&TABLES, register, bytes)
+}
+
+/// The register that two to eighteen bytes leave of the first one.
+#[inline]
+pub(crate) fn of_bytes(bytes: &[u8]) -> u16
+    requires some { 2 ≤ length bytes.now }
+    requires few { length bytes.now ≤ 18 }
+    ensures { result ≡ crc POLYNOMIAL FIRST_REGISTER bytes.now }
+{
+    crc_at_once::<POLYNOMIAL>(&TABLES, FIRST_REGISTER, bytes)
 }
 
 /// What `dnp_crc` is of these bytes, by the tables.

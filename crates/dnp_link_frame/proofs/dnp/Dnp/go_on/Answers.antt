@@ -1,7 +1,17 @@
-use Rattle.std.proofs.Common.{◌<◌, refl, arith}
+use Rattle.std.proofs.Common.{◌≡◌, ◌<◌, [], refl, arith, sym, ◌∙◌, subst}
+use Rattle.std.proofs.lemmas.Bool.{eqb-true}
+use Rattle.std.proofs.lemmas.List.{nil_from_length}
 use Rattle.std.proofs.lemmas.List.Elements.{All-from_get_or}
-use Rattle.dnp_link_frame.proofs.DnpRuns.{dnp_go_on}
+use Rattle.dnp_link_frame.specs.Dnp.{Appends}
+use Rattle.dnp_link_frame.proofs.DnpRuns.{dnp_go_on, appends-none}
 use Rattle.dnp_link_frame.proofs.dnp.Dnp.go_on.Goals as goal
+
+pub returns-then-is_empty-clause-appends : goal.returns-then-is_empty-clause-appends
+returns-then-is_empty-clause-appends c =
+    let none : c.args.run.now ≡ [] =
+    nil_from_length c.args.run.now
+    (eqb-true _ _ (sym c.is_empty.ensures ∙ c.if-is_empty.true)) in
+    subst (Appends c.args.self.now c.args.self.now) (sym none) (appends-none c.args.self.now)
 
 pub returns-clause-appends : goal.returns-clause-appends
 returns-clause-appends c =

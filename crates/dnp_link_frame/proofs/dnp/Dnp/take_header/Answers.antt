@@ -7,4 +7,4 @@ pub returns : goal.returns
 returns c = dnp_take_header c.args.self.now _ c.args.header.now c.requires (omega arith)
     (All-from_get_or (λ b. b < 256) c.args.header.now 0
     (λ i within. c.fits-header i))
-    refl refl c.after_bytes-self.ensures c.is_header-self.ensures refl c.room_by-self.ensures refl
+    refl refl c.of_bytes-self.ensures c.is_header-self.ensures refl c.room_by-self.ensures refl
