@@ -108,6 +108,7 @@ where
     // Opens the file for this run alone, unless it is open. A run that was killed may have left
     // writes that no sync has confirmed: they are synced before anything is read, since this run
     // goes on from what it reads.
+    #[inline(always)]
     fn open_alone(&mut self) -> io::Result<()>
         ensures opened { OnOk result (IsSome self.new.file) }
         ensures closed { OnErr result (self.new.file ≡ self.old.file) }
