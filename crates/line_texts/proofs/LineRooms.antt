@@ -18,17 +18,15 @@ encode-take t (b ∷ x) (suc n) =
     ∙ ap (λ l. get_or t (b / 16) 0 ∷ get_or t (b % 16) 0 ∷ l) (encode-take t x n)
 
 -- the same between a sign and a line feed
-pub byte_line_held : (n : ℕ) (before bytes line digits a b c : List ℕ) → line ≡ []
-    → digits ≡ line ++ encode_lower bytes
+pub byte_line_held : (n : ℕ) (before bytes digits a b c : List ℕ) → digits ≡ encode_lower bytes
     → a ≡ before ++ plus_sign ∷ [] → b ≡ a ++ take (2 * n) digits → c ≡ b ++ line_feed ∷ []
     → c ≡ before ++ byte_line (take n bytes)
-byte_line_held n before bytes line digits a b c none is first second third =
+byte_line_held n before bytes digits a b c is first second third =
     third ∙ ap (λ l. l ++ line_feed ∷ []) (second ∙ ap (λ l. l ++ take (2 * n) digits) first
     ∙ append_assoc before (plus_sign ∷ []) (take (2 * n) digits))
     ∙ append_assoc before (plus_sign ∷ take (2 * n) digits) (line_feed ∷ [])
     ∙ ap (λ l. before ++ plus_sign ∷ (l ++ line_feed ∷ []))
-    (ap (take (2 * n)) (is ∙ ap (λ l. l ++ encode_lower bytes) none)
-    ∙ encode-take lower_digits bytes n)
+    (ap (take (2 * n)) is ∙ encode-take lower_digits bytes n)
 
 pub two_digits : (n : ℕ) → 10 ≤ n → n < 100 → decimal n ≡ (48 + n / 10) ∷ (48 + n % 10) ∷ []
 two_digits n some few = decimal_step n some (omega arith)

@@ -2,11 +2,10 @@
 ghost use Rattle.std.specs.Prelude.{◌≡◌, ◌+◌, ◌*◌, ◌≤◌, [], ◌++◌, length, take, true};
 ghost use Rattle.yasir_ticks.specs.CanonicalText.{byte_line, silence_line};
 
-use arrayvec::ArrayVec;
 use itoa::Buffer;
 use std::marker::Model;
 use yasir_io::{Failed, Sink, write_all};
-use yasir_ticks::push_digits;
+use yasir_ticks::digits_of;
 
 /// The most bytes of text that wait.
 const ROOM: usize = 65_536;
@@ -94,9 +93,7 @@ impl LineRoom {
         requires room { length self.old.items + 66 ≤ 65536 }
         ensures { self.new.items ≡ self.old.items ++ byte_line (take count bytes.now) }
     {
-        let mut digits = ArrayVec::<u8, 64>::new();
-        push_digits(&mut digits, bytes);
-        let digits = digits.into_inner().unwrap();
+        let digits = digits_of(bytes);
         self.extend_front(b"+", 1);
         self.extend_front(&digits, 2 * count);
         self.extend_front(b"\n", 1);
