@@ -4,7 +4,7 @@ use Rattle.std.proofs.Common.{length, take, drop, replicate, refl, sym, ap, ap�
 use Rattle.std.proofs.Common.{length-append, length-drop}
 use Rattle.std.proofs.lemmas.List.{append_assoc, append-nil, take-append-drop, length-take-le}
 use Rattle.std.proofs.lemmas.List.{drop_all, drop-drop, drop-replicate}
-use Rattle.std.proofs.lemmas.List.{set_at, take-replicate, length-replicate}
+use Rattle.std.proofs.lemmas.List.{set_at, take-replicate, length-replicate, length-set}
 use Rattle.std.proofs.lemmas.List.{replicate-append-replicate, take-take, drop-take}
 use lib.Seq.{take-append-add}
 use Rattle.std.proofs.lemmas.Slice.{take-put_mid, drop-put_mid}
@@ -171,6 +171,33 @@ last_block block bits ys j len size same =
     let none : post_of 56 j block ≡ [] =
     drop_all j (drop 56 block) (omega (arith, length-drop 56 block)) in
     rw (none, append-nil, same) refl
+
+-- a digest behind whole blocks, in a block of its own with the padding behind it
+pub nested : (s : Sha1Hasher) (m d ys bits zs : List ℕ) (total : ℕ) → HasTaken s m
+    → length s.block ≡ 64 → s.total % 64 ≡ 0 → length d ≡ 20 → ys ≡ d
+    → total ≡ (s.total + 20) % 2 ^ 64 → length bits ≡ 8
+    → bits ≡ to_be_bytes w64 (total * 8 % 2 ^ 64) → zs ≡ bits
+    → compress s.h (put_mid 56 8 (set (ys ++ replicate 44 0) 20 0x80) zs)
+    ≡ hash_after (padded_message (m ++ d)) (length (padded_message (m ++ d)) / 64)
+nested s m d ys bits zs total held len empty twenty is count eight bytes same =
+    let laid : List ℕ = ys ++ replicate 44 0 in
+    let long : length ys ≡ 20 = ap length is ∙ twenty in
+    let size : length laid ≡ 64 =
+    omega (arith, length-append ys (replicate 44 0), length-replicate {A = ℕ} 44 0) in
+    let n : Sha1Hasher = record {
+      h = s.h;
+      block = laid;
+      total = total;
+    } in
+    let longer : HasTaken n (m ++ d) =
+    taken_anew s n m d ys 20 held len empty (omega arith) (sym twenty) is
+    (count ∙ ap (λ k. (s.total + k) % 2 ^ 64) (sym twenty)) refl refl in
+    let used : 20 ≡ n.total % 64 = omega arith in
+    let short = ended_short n (m ++ d) bits 20 longer size used (omega arith) eight in
+    let padded : ended_with (m ++ d) bits ≡ padded_message (m ++ d) =
+    ended_padded (m ++ d) bits total longer.total bytes in
+    let whole = last_block (set laid 20 0x80) bits zs 8 (length-set laid 20 0x80 ∙ size) refl same in
+    ap (compress s.h) whole ∙ sym short ∙ ap (λ p. hash_after p (length p / 64)) padded
 
 -- a piece more of what comes
 pub piece_on : (m part : List ℕ) (start end : ℕ) → start ≤ end → end ≤ length part

@@ -9,7 +9,6 @@ ghost use Rattle.hmac_tag.specs.Tag.{hmac_cut};
 use crate::{Digest, Mac, Sha1Hasher, TagBytes};
 use arrayvec::ArrayVec;
 use sha2::Sha256;
-use std::mem;
 
 const BLOCK_LEN: usize = 64;
 
@@ -86,7 +85,7 @@ impl<D: Digest<N>, const N: usize> Hmac<D, N> {
         let block = key_block::<D, N>(key);
         let mut inner = hasher_of::<D, N>(&xored(INNER_PAD, block));
         inner.update(text);
-        hasher_of::<D, N>(&xored(OUTER_PAD, block)).nest(inner)
+        hasher_of::<D, N>(&xored(OUTER_PAD, block)).nest(&inner)
     }
 }
 
@@ -129,6 +128,7 @@ impl<D: Digest<N>, const N: usize> Mac for Hmac<D, N> {
         }
     }
 
+    #[inline]
     fn begin(&mut self) {
         self.running = self.inner.fork();
     }
@@ -140,7 +140,8 @@ impl<D: Digest<N>, const N: usize> Mac for Hmac<D, N> {
 
     #[tactic(auto, unfolding(crate::specs::Hmac::hmac))]
     fn finish(&mut self) -> TagBytes {
-        let inner = mem::replace(&mut self.running, self.inner.fork());
-        cut(&self.outer.nest(inner), D::TAG)
+        let whole = self.outer.nest(&self.running);
+        self.begin();
+        cut(&whole, D::TAG)
     }
 }
