@@ -39,6 +39,7 @@ fn dropped_word(why: DroppedWhy) -> &'static [u8]
 impl<R: LineRules, M: Mac, const B: usize, const D: usize> LineBox for Checker<R, M, B, D> {
     ghost line_of = { check_line };
 
+    #[inline(always)]
     fn note_line(note: &CheckNote) -> NoteLine {
         match *note {
             CheckNote::Passed { number, start, len } => {

@@ -11,6 +11,7 @@ pub type NoteLine = ArrayVec<u8, 80>;
 /// `WORD N at S len L` of a frame with a number, its start and its length. The longest has a word
 /// of 7 bytes with the space behind it, three numbers of up to 20 digits, 9 bytes between them and
 /// an LF.
+#[inline(always)]
 pub(crate) fn numbered_line(word: &[u8], number: u64, start: u64, len: u16) -> NoteLine
     requires { length word.now ≤ 7 }
     ensures { result.items ≡ numbered_line word.now number start len }

@@ -27,6 +27,7 @@ fn unsealed_word(why: UnsealedWhy) -> &'static [u8]
 impl<R: LineRules, M: Mac, const B: usize> LineBox for Sealer<R, M, B> {
     ghost line_of = { seal_line };
 
+    #[inline(always)]
     fn note_line(note: &SealNote) -> NoteLine {
         match *note {
             SealNote::Sealed { number, start, len } => {

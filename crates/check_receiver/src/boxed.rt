@@ -55,6 +55,7 @@ impl<R: LineRules, M: Mac, const B: usize, const D: usize> LinkBox for Checker<R
         }
     }
 
+    #[inline(always)]
     fn pass(&mut self, run: TickRun<'_>, left: &mut RunBytes) -> usize {
         match run {
             TickRun::Bytes(bytes) => self.pass_bytes(bytes, left),

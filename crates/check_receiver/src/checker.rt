@@ -148,7 +148,7 @@ impl<R: LineRules, M: Mac, const B: usize, const D: usize> Checker<R, M, B, D> {
     /// Takes the first of these bytes, one a tick, as far as no note falls into their steps and
     /// what leaves is alike, all bytes or all silence. Returns how many; `left` gets the bytes that
     /// leave, one for each, or none where silence leaves. With 0 the caller goes on by `step`.
-    #[inline]
+    #[inline(never)]
     pub fn pass_bytes(&mut self, bytes: &[u8], left: &mut RunBytes) -> usize
         requires { ticks_taken self.old + length bytes.now ≤ MAX_TICKS }
         ensures within { result ≤ length bytes.now }
@@ -175,7 +175,7 @@ impl<R: LineRules, M: Mac, const B: usize, const D: usize> Checker<R, M, B, D> {
     /// Takes the first of this many silent ticks, as far as no note falls into their steps and what
     /// leaves is alike, all bytes or all silence. Returns how many; `left` gets the bytes that
     /// leave, one for each, or none where silence leaves. With 0 the caller goes on by `step`.
-    #[inline]
+    #[inline(never)]
     pub fn pass_silence(&mut self, ticks: u32, left: &mut RunBytes) -> u32
         requires { ticks_taken self.old + ticks ≤ MAX_TICKS }
         ensures within { result ≤ ticks }

@@ -55,7 +55,7 @@ impl<R: LineRules, M: Mac, const B: usize> LinkBox for Sealer<R, M, B> {
         }
     }
 
-    #[inline]
+    #[inline(always)]
     fn forward(&mut self, run: TickRun<'_>) -> usize {
         match run {
             TickRun::Bytes(bytes) => Sealer::forward(self, bytes),
@@ -63,6 +63,7 @@ impl<R: LineRules, M: Mac, const B: usize> LinkBox for Sealer<R, M, B> {
         }
     }
 
+    #[inline(always)]
     fn pass(&mut self, run: TickRun<'_>, left: &mut RunBytes) -> usize {
         match run {
             TickRun::Bytes(bytes) => self.pass_bytes(bytes, left),

@@ -180,7 +180,7 @@ impl<R: LineRules, M: Mac, const B: usize> Sealer<R, M, B> {
     /// Forwards the first of these bytes, one a tick, as far as each is a live byte of a burst that
     /// isn't early, and says how many. The ticks of the link are these bytes. With 0 the caller
     /// goes on by another call. At most `MAX_TICKS` ticks are taken then.
-    #[inline]
+    #[inline(never)]
     pub fn forward(&mut self, bytes: &[u8]) -> usize
         requires { ticks_taken self.old + length bytes.now ≤ MAX_TICKS }
         ensures within { result ≤ length bytes.now }
