@@ -112,23 +112,23 @@ window n o k ticks entering behind within size =
         ∙ drop-front o n ticks entering (omega arith)
 
 -- Where bytes and marks are written behind those that are kept, the ticks that they stand for enter
--- behind the ticks that are kept.
-pub entered : (n o k : ℕ) (bytes marks x m : List ℕ) → length bytes ≡ length marks
-    → o + n + k ≤ length bytes → length x ≡ k → length m ≡ k
-    → take n (drop (o + k) (marked_ticks (take (o + n) bytes ++ (x ++ drop (o + n + k) bytes))
-    (take (o + n) marks ++ (m ++ drop (o + n + k) marks))))
+-- behind the ticks that are kept, whatever follows them.
+pub entered : (n o k : ℕ) (bytes marks x m rest last : List ℕ) → length bytes ≡ length marks
+    → o + n ≤ length bytes → length x ≡ k → length m ≡ k
+    → take n (drop (o + k) (marked_ticks (take (o + n) bytes ++ (x ++ rest))
+    (take (o + n) marks ++ (m ++ last))))
     ≡ drop k (take n (drop o (marked_ticks bytes marks)) ++ marked_ticks x m)
-entered n o k bytes marks x m same within long_x long_m =
+entered n o k bytes marks x m rest last same within long_x long_m =
     let size = ticks-length bytes marks same in
     let here = length-take-le (o + n) bytes (omega arith) in
     let there = length-take-le (o + n) marks (omega arith) in
     let inner = ticks-length x m (omega arith) in
-    let split = ticks-append (take (o + n) bytes) (x ++ drop (o + n + k) bytes) (take (o + n) marks)
-    (m ++ drop (o + n + k) marks) (omega arith) in
-    let next = ticks-append x (drop (o + n + k) bytes) m (drop (o + n + k) marks) (omega arith) in
+    let split = ticks-append (take (o + n) bytes) (x ++ rest) (take (o + n) marks) (m ++ last)
+    (omega arith) in
+    let next = ticks-append x rest m last (omega arith) in
     ap (λ l. take n (drop (o + k) l))
-    (split ∙ (ap (λ l. l ++ marked_ticks (x ++ drop (o + n + k) bytes)
-    (m ++ drop (o + n + k) marks)) (sym (ticks-take (o + n) bytes marks))
+    (split ∙ (ap (λ l. l ++ marked_ticks (x ++ rest) (m ++ last))
+    (sym (ticks-take (o + n) bytes marks))
     ∙ ap (λ l. take (o + n) (marked_ticks bytes marks) ++ l) next))
-    ∙ window n o k (marked_ticks bytes marks) (marked_ticks x m)
-    (marked_ticks (drop (o + n + k) bytes) (drop (o + n + k) marks)) (omega arith) (omega arith)
+    ∙ window n o k (marked_ticks bytes marks) (marked_ticks x m) (marked_ticks rest last)
+    (omega arith) (omega arith)

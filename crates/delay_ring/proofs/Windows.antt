@@ -121,19 +121,19 @@ module _ (n o : ℕ) (bytes marks : List ℕ) (same : length bytes ≡ length ma
 
   -- ---- what comes behind them
 
-  pub bytes-come : (x : List ℕ) → o + n + length x ≤ length bytes
-      → from n (o + length x) (take (o + n) bytes ++ (x ++ drop (o + n + length x) bytes))
-      (take (o + n) marks ++ (replicate (length x) 1 ++ drop (o + n + length x) marks))
+  pub bytes-come : (x rest last : List ℕ)
+      → from n (o + length x) (take (o + n) bytes ++ (x ++ rest))
+      (take (o + n) marks ++ (replicate (length x) 1 ++ last))
       ≡ drop (length x) (from n o bytes marks ++ map (λ b. Byte b) x)
-  bytes-come x room =
-      entered n o (length x) bytes marks x (replicate (length x) 1) same room refl
+  bytes-come x rest last =
+      entered n o (length x) bytes marks x (replicate (length x) 1) rest last same within refl
       (length-replicate (length x) 1)
       ∙ ap (λ l. drop (length x) (from n o bytes marks ++ l)) (ticks-bytes x)
 
-  pub silence-comes : (k : ℕ) → o + n + k ≤ length bytes
-      → from n (o + k) bytes (take (o + n) marks ++ (replicate k 0 ++ drop (o + n + k) marks))
+  pub silence-comes : (k : ℕ) (last : List ℕ) → o + n + k ≤ length bytes
+      → from n (o + k) bytes (take (o + n) marks ++ (replicate k 0 ++ last))
       ≡ drop k (from n o bytes marks ++ silent k)
-  silence-comes k room =
+  silence-comes k last room =
       let x : List ℕ = take k (drop (o + n) bytes) in
       let less = length-drop (o + n) bytes in
       let long : length x ≡ k = length-take-le k (drop (o + n) bytes) (omega arith) in
@@ -143,9 +143,10 @@ module _ (n o : ℕ) (bytes marks : List ℕ) (same : length bytes ≡ length ma
       sym (take-append-drop (o + n) bytes)
       ∙ ap (λ l. take (o + n) bytes ++ l)
       (sym (take-append-drop k (drop (o + n) bytes)) ∙ ap (λ l. x ++ l) rest) in
-      let marks' : List ℕ = take (o + n) marks ++ (replicate k 0 ++ drop (o + n + k) marks) in
+      let marks' : List ℕ = take (o + n) marks ++ (replicate k 0 ++ last) in
       ap (λ b. from n (o + k) b marks') split
-      ∙ (entered n o k bytes marks x (replicate k 0) same room long (length-replicate k 0)
+      ∙ (entered n o k bytes marks x (replicate k 0) (drop (o + n + k) bytes) last same within long
+      (length-replicate k 0)
       ∙ ap (λ l. drop k (from n o bytes marks ++ l))
       (ap (λ j. marked_ticks x (replicate j 0)) (sym long) ∙ (ticks-silent x ∙ ap silent long)))
 
@@ -169,5 +170,6 @@ module _ (n o : ℕ) (bytes marks : List ℕ) (same : length bytes ≡ length ma
       ap (λ b. from n (o + 1) b (slice_set marks (o + n) mark)) byte_set
       ∙ (ap (λ m. from n (o + 1) (take (o + n) bytes ++ (byte ∷ [] ++ drop (o + n + 1) bytes)) m)
       mark_set
-      ∙ (entered n o 1 bytes marks (byte ∷ []) (mark ∷ []) same room refl refl
+      ∙ (entered n o 1 bytes marks (byte ∷ []) (mark ∷ []) (drop (o + n + 1) bytes)
+      (drop (o + n + 1) marks) same within refl refl
       ∙ drop-append-le 1 (from n o bytes marks) (marked byte mark ∷ []) (omega arith)))

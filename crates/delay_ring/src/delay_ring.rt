@@ -14,7 +14,8 @@ pub const MAX_RUN: usize = 64;
 /// front when no place is left.
 const PLACES: usize = 256;
 
-// The marks of a run: of bytes, and of silent ticks.
+// The marks of the longest run: of bytes, and of silent ticks. They are written as one, which takes
+// no call: what stands behind a shorter run's last mark is written over before it is read.
 const BYTES: [u8; MAX_RUN] = [1; MAX_RUN];
 
 const SILENCE: [u8; MAX_RUN] = [0; MAX_RUN];
@@ -131,12 +132,11 @@ impl<const D: usize> DelayRing<D> {
         ensures { ring_ticks self.new
             ≡ drop (length bytes.now) (ring_ticks self.old ++ map Byte bytes.now) }
     {
-        let count = bytes.len();
-        self.make_room(count);
+        self.make_room(MAX_RUN);
         let place = self.oldest + D;
         overwrite(&mut self.bytes, place, bytes);
-        overwrite(&mut self.marks, place, &BYTES[..count]);
-        self.oldest += count;
+        overwrite(&mut self.marks, place, &BYTES);
+        self.oldest += bytes.len();
     }
 
     /// Takes this many silent ticks, `MAX_RUN` at most.
@@ -145,9 +145,9 @@ impl<const D: usize> DelayRing<D> {
         requires { ticks ≤ 64 }
         ensures { ring_ticks self.new ≡ drop ticks (ring_ticks self.old ++ silent ticks) }
     {
-        self.make_room(ticks);
+        self.make_room(MAX_RUN);
         let place = self.oldest + D;
-        overwrite(&mut self.marks, place, &SILENCE[..ticks]);
+        overwrite(&mut self.marks, place, &SILENCE);
         self.oldest += ticks;
     }
 
