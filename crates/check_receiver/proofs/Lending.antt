@@ -14,10 +14,10 @@ use Rattle.link_verdicts.specs.Checking.{checker, at_floor, brief_note}
 use Rattle.sequence_journal.specs.declared.numbers.TheConstants.{LIMIT}
 use Rattle.std.proofs.Common.{◌≡◌, ◌∙◌, ℕ, zero, suc, ◌+◌, ◌<◌, ◌≤◌, false, List, [], ◌∷◌, ◌++◌}
 use Rattle.std.proofs.Common.{length, take, map, refl, sym, ap, subst, arith, nat_lt, ⊎_elim, ◌-◌}
-use Rattle.std.proofs.Common.{length-append, drop, get_or, min, inr}
+use Rattle.std.proofs.Common.{length-append, drop, get_or, min, inl, inr}
 use Rattle.std.proofs.{Math.Seq.take-append-add, lemmas.Bool.cases_lt, lemmas.Bool.lt-ltb}
 use Rattle.std.proofs.lemmas.List.{append-nil, take_all, take-append-le, take-map, map-append}
-use Rattle.std.proofs.lemmas.List.{length-take-le, length-drop}
+use Rattle.std.proofs.lemmas.List.{length-take-le, length-drop, take-take, take-replicate}
 use Rattle.std.specs.Prelude.{Result, Ok, Err, IsOk, OnOk}
 use Rattle.yasir_ticks.specs.Ticks.{silent}
 use Rattle.yasir_ticks.specs.declared.tick.Tick.{Tick, TheVariants.Silent, TheVariants.Byte}
@@ -43,6 +43,30 @@ byte-first (suc n) (b ∷ x) (q ∷ Q) some bytes any is =
     let byte : Byte b ≡ q = ap (λ l. get_or l 0 Silent) bytes in
     let both : Byte b ≡ Silent = byte ∙ first in
     absurd cc
+
+-- fewer of them are alike, too
+pub less-alike : (j k : ℕ) (Q : List Tick) → j ≤ k → k ≤ length Q → AreAlike (take k Q)
+    → AreAlike (take j Q)
+less-alike j k Q less within alike =
+    let size : length (take k Q) ≡ k = length-take-le k Q within in
+    let long : length (take j Q) ≡ j = length-take-le j Q (omega arith) in
+    let part : take j (take k Q) ≡ take j Q = take-take j k Q less in
+    ⊎_elim
+    (λ silence. inl (sym part ∙ (ap (λ l. take j l) (silence ∙ ap silent size)
+    ∙ (take-replicate j k Silent less ∙ ap silent (sym long)))))
+    (λ all. inr (
+      take j all.0,
+      sym part ∙ (ap (λ l. take j l) all.1
+          ∙ take-map (λ b. Byte b) j all.0),
+    ))
+    alike
+
+-- and of ticks of a ring and what is behind it, those of the ring
+pub ring-alike : (Q E : List Tick) (j k : ℕ) → j ≤ k → j ≤ length Q → k ≤ length (Q ++ E)
+    → AreAlike (take k (Q ++ E)) → AreAlike (take j Q)
+ring-alike Q E j k less few within alike =
+    let A : List Tick → Type 0 = λ l. AreAlike l in
+    subst A (take-append-le j Q E few) (less-alike j k (Q ++ E) less within alike)
 
 -- Ticks of which this many at the front are alike, of a ring and of bytes behind it: within the
 -- ring, as they are there,

@@ -75,10 +75,11 @@ pub fn begin_well<R: LineRules>(bytes: &[u8]) -> bool
 #[inline]
 pub fn lend<const D: usize>(ring: &DelayRing<D>, count: usize, left: &mut RunBytes)
     requires within { count ≤ D }
+    requires alike { AreAlike (take count (ring_ticks ring.now)) }
     requires empty { left.old.items ≡ [] }
     ensures { IsFront (ring_ticks ring.now) count left.new.items }
 {
-    let _ = left.try_extend_from_slice(ring.front_bytes(count));
+    let _ = left.try_extend_from_slice(ring.alike_bytes(count));
 }
 
 // How many bytes a run has at most.
@@ -103,9 +104,9 @@ pub fn alike_along<const D: usize>(ring: &DelayRing<D>, bytes: &[u8]) -> usize
     most
 }
 
-// Lends the bytes that leave while this many of these bytes come, none of them a burst's last one:
-// those that leave the ring, up to the first silent tick, and behind those of a whole ring the bytes
-// themselves.
+// Lends the bytes that leave while this many of these bytes come, none of them a burst's last one.
+// All ticks that leave are alike: where they are bytes, it lends those that leave the ring, and
+// behind those of a whole ring the bytes themselves.
 #[inline]
 pub fn lend_along<const D: usize>(
     ring: &DelayRing<D>,
@@ -115,10 +116,11 @@ pub fn lend_along<const D: usize>(
 )
     requires within { count ≤ length bytes.now }
     requires most { count ≤ 64 }
+    requires alike { AreAlike (take count (ring_ticks ring.now ++ map Byte bytes.now)) }
     requires empty { left.old.items ≡ [] }
     ensures { IsFront (ring_ticks ring.now ++ map Byte bytes.now) count left.new.items }
 {
-    let front = ring.front_bytes(count.min(D));
+    let front = ring.alike_bytes(count.min(D));
     let _ = left.try_extend_from_slice(front);
     if front.len() < D {
         return;

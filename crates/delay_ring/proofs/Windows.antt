@@ -1,16 +1,17 @@
 -- The ticks of a ring, which stand from a place on.
 use Rattle.std.proofs.Common.{◌≡◌, ◌∙◌, ℕ, zero, suc, ◌+◌, ◌<◌, ◌≤◌, List, [], ◌∷◌, ◌++◌}
 use Rattle.std.proofs.Common.{length, take, drop, map, replicate, get_or, refl, sym, ap, arith}
-use Rattle.std.proofs.Common.{slice_set}
+use Rattle.std.proofs.Common.{slice_set, ⊎_elim}
 use Rattle.std.proofs.lemmas.List.{drop-append-le, take_at, drop_at, set_split, length-drop}
 use Rattle.std.proofs.lemmas.List.{length-take-le, take-append-drop, take-replicate, get_or-take}
 use Rattle.std.proofs.lemmas.List.{get_or-drop, drop-drop, length-replicate}
 use Rattle.yasir_ticks.specs.Ticks.{silent}
 use Rattle.yasir_ticks.specs.declared.tick.Tick.{Tick}
 use Rattle.yasir_ticks.specs.declared.tick.Tick.TheVariants.{Silent, Byte}
-use Rattle.delay_ring.specs.DelayRing.{marked, marked_ticks}
+use Rattle.delay_ring.specs.DelayRing.{marked, marked_ticks, AreAlike}
 use Rattle.delay_ring.proofs.Marks.{ticks-append, ticks-length, ticks-take, ticks-drop, ticks-at}
 use Rattle.delay_ring.proofs.Marks.{ticks-silent, ticks-bytes, all-bytes, all-silent, entered}
+use Rattle.delay_ring.proofs.Marks.{marked-silent, marked-byte}
 
 -- the ticks that stand from a place on
 abbrev from : ℕ → ℕ → List ℕ → List ℕ → List Tick
@@ -31,6 +32,20 @@ pub ring-begun : (n room : ℕ) → n ≤ room
     → from n 0 (replicate room 0) (replicate room 0) ≡ silent n
 ring-begun n room fits =
     ap (λ l. take n l) (nothing-marked room) ∙ take-replicate n room Silent fits
+
+-- a byte isn't silent
+byte-at : (x : List ℕ) (j : ℕ) → j < length x → get_or (map (λ b. Byte b) x) j Silent ≡ Silent → ⊥
+byte-at [] j few is = absurd (omega arith)
+byte-at (b ∷ x) zero few is = absurd cc
+byte-at (b ∷ x) (suc j) few is = byte-at x j (omega arith) is
+
+long-map : (x : List ℕ) → length (map {B = Tick} (λ b. Byte b) x) ≡ length x
+long-map [] = refl
+long-map (b ∷ x) = ap suc (long-map x)
+
+silent-first : (k : ℕ) → 0 < k → get_or (silent k) 0 Silent ≡ Silent
+silent-first zero some = absurd (omega arith)
+silent-first (suc k) some = refl
 
 module _ (n o : ℕ) (bytes marks : List ℕ) (same : length bytes ≡ length marks)
     (within : o + n ≤ length bytes) where
@@ -75,6 +90,39 @@ module _ (n o : ℕ) (bytes marks : List ℕ) (same : length bytes ≡ length ma
       sym (parts k few
       ∙ all-bytes (take k (drop o bytes)) (take k (drop o marks)) (here ∙ sym long)
       (λ j less none. some j (omega arith) (sym (part-at k j (omega arith)) ∙ none)))
+
+  -- the same where they are alike, and the first mark is of a byte
+  pub alike-bytes : (k : ℕ) → k ≤ n → AreAlike (take k (from n o bytes marks))
+      → (get_or marks o 0 ≡ 0 → ⊥)
+      → map (λ b. Byte b) (take k (drop o bytes)) ≡ take k (from n o bytes marks)
+  alike-bytes k few alike some =
+      let Q : List Tick = from n o bytes marks in
+      let all = ticks-length bytes marks same in
+      let rest = length-drop o (marked_ticks bytes marks) in
+      let whole : length Q ≡ n = length-take-le n (drop o (marked_ticks bytes marks)) (omega arith) in
+      let long : length (take k Q) ≡ k = length-take-le k Q (omega arith) in
+      front-bytes k few (λ j less none.
+      let here : get_or (take k Q) j Silent ≡ Silent =
+      get_or-take k Q j Silent less ∙ (ring-at j (omega arith)
+      ∙ marked-silent (get_or bytes (o + j) 0) (get_or marks (o + j) 0) none) in
+      ⊎_elim
+      (λ silence.
+      let size : length (take k Q) ≡ k = long in
+      let first : get_or (take k Q) 0 Silent ≡ Silent =
+      ap (λ l. get_or l 0 Silent) silence ∙ silent-first (length (take k Q)) (omega arith) in
+      let at : o + 0 ≡ o = omega arith in
+      let mark : get_or marks (o + 0) 0 ≡ 0 → ⊥ = λ is. some (ap (λ i. get_or marks i 0) (sym at) ∙ is)
+      in
+      let byte : get_or (take k Q) 0 Silent ≡ Byte (get_or bytes (o + 0) 0) =
+      get_or-take k Q 0 Silent (omega arith) ∙ (ring-at 0 (omega arith)
+      ∙ marked-byte (get_or bytes (o + 0) 0) (get_or marks (o + 0) 0) mark) in
+      let both : Silent ≡ Byte (get_or bytes (o + 0) 0) = sym first ∙ byte in
+      absurd cc)
+      (λ bytes_all.
+      let size : length bytes_all.0 ≡ k =
+      sym (long-map bytes_all.0) ∙ (sym (ap length bytes_all.1) ∙ long) in
+      byte-at bytes_all.0 j (omega arith) (sym (ap (λ l. get_or l j Silent) bytes_all.1) ∙ here))
+      alike)
 
   -- the first ones, where all their marks are of silence
   pub front-silent : (k : ℕ) → k ≤ n

@@ -206,6 +206,24 @@ impl<const D: usize> DelayRing<D> {
         &self.bytes[self.oldest..self.oldest + count]
     }
 
+    /// The bytes among the `count` ticks that leave next, which are alike: all of them, or none where
+    /// they are silent. So the first of them is looked at alone.
+    #[inline]
+    pub fn alike_bytes(&self, count: usize) -> &[u8]
+        requires within { count ≤ D }
+        requires alike { AreAlike (take count (ring_ticks self.now)) }
+        ensures within { length result.now ≤ count }
+        ensures bytes { map Byte result.now ≡ take (length result.now) (ring_ticks self.now) }
+        ensures all { length result.now < count
+            → slice_index_or (ring_ticks self.now) (length result.now) Silent ≡ Silent }
+    {
+        let oldest = self.oldest;
+        if self.marks[oldest] == 0 {
+            return &self.bytes[oldest..oldest];
+        }
+        &self.bytes[oldest..oldest + count]
+    }
+
     /// How many of the `most` ticks that leave next are silent, up to the first byte.
     #[inline]
     pub fn front_silence(&self, most: usize) -> usize

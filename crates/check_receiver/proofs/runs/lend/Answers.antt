@@ -5,8 +5,8 @@ use Rattle.check_receiver.proofs.runs.lend.Goals as goal
 
 pub returns : goal.returns
 returns g c =
-    let front : List ℕ = c.front_bytes.result.now in
-    let within = c.front_bytes.ensures.within in
+    let front : List ℕ = c.alike_bytes.result.now in
+    let within = c.alike_bytes.ensures.within in
     let most = c.requires.within in
     let small = c.args.ring.now.fits in
     let empty = c.requires.empty in
@@ -18,6 +18,6 @@ returns g c =
     let P : List ℕ → Type 0 = λ y. IsFront (ring_ticks c.args.ring.now) c.args.count y in
     subst P (sym items) (record {
       within = within;
-      bytes = c.front_bytes.ensures.bytes;
-      all = c.front_bytes.ensures.all;
+      bytes = c.alike_bytes.ensures.bytes;
+      all = c.alike_bytes.ensures.all;
     })

@@ -1,16 +1,30 @@
-use Rattle.check_receiver.proofs.Lending.{of-ok, ring-whole, front-along, whole-along}
+use Rattle.check_receiver.proofs.Lending.{of-ok, ring-whole, front-along, whole-along, ring-alike}
+use Rattle.check_receiver.proofs.Lending.{bytes-long}
 use Rattle.{check_receiver.specs.Runs.IsFront, delay_ring.specs.DelayRing.ring_ticks}
 use Rattle.std.proofs.Common.{◌≡◌, ◌∙◌, ◌-◌, ◌≤◌, ◌++◌, sym, ap, subst, arith, length, List, ℕ}
-use Rattle.std.proofs.{Common.take, Common.map, lemmas.List.length-take-le}
+use Rattle.std.proofs.{Common.take, Common.map, Common.length-append, lemmas.List.length-take-le}
 use Rattle.yasir_ticks.specs.declared.tick.Tick.{Tick, TheVariants.Byte}
 use Rattle.check_receiver.proofs.runs.lend_along.Goals as goal
+
+pub alike_bytes-front-requires : goal.alike_bytes-front-requires
+alike_bytes-front-requires g c =
+    let Q : List Tick = ring_ticks c.args.ring.now in
+    let E : List Tick = map (λ b. Byte b) c.args.bytes.now in
+    let whole = ring-whole c.args.ring.now in
+    let all = bytes-long c.args.bytes.now in
+    let sum = length-append Q E in
+    let capped = c.min.ensures in
+    let few = c.requires.within in
+    let within : c.min.result ≤ g.row.D = omega arith in
+    (omega arith, (within, ring-alike Q E c.min.result c.args.count (omega arith) (omega arith)
+    (omega arith) c.requires.alike))
 
 pub returns-then-front : goal.returns-then-front
 returns-then-front g c =
     let Q : List Tick = ring_ticks c.args.ring.now in
     let E : List Tick = map (λ b. Byte b) c.args.bytes.now in
-    let front : List ℕ = c.front_bytes-front.result.now in
-    let within = c.front_bytes-front.ensures.within in
+    let front : List ℕ = c.alike_bytes-front.result.now in
+    let within = c.alike_bytes-front.ensures.within in
     let capped = c.min.ensures in
     let most = c.requires.most in
     let empty = c.requires.empty in
@@ -22,15 +36,15 @@ returns-then-front g c =
     let P : List ℕ → Type 0 = λ y. IsFront (Q ++ E) c.args.count y in
     subst P (sym items)
     (front-along Q E g.row.D c.args.count c.min.result front (ring-whole c.args.ring.now)
-    c.min.ensures c.if-front.true within c.front_bytes-front.ensures.bytes
-    c.front_bytes-front.ensures.all)
+    c.min.ensures c.if-front.true within c.alike_bytes-front.ensures.bytes
+    c.alike_bytes-front.ensures.all)
 
 pub returns : goal.returns
 returns g c =
     let Q : List Tick = ring_ticks c.args.ring.now in
     let bytes : List ℕ = c.args.bytes.now in
-    let front : List ℕ = c.front_bytes-front.result.now in
-    let within = c.front_bytes-front.ensures.within in
+    let front : List ℕ = c.alike_bytes-front.result.now in
+    let within = c.alike_bytes-front.ensures.within in
     let capped = c.min.ensures in
     let many = c.if-front.false in
     let most = c.requires.most in
@@ -55,4 +69,4 @@ returns g c =
     let P : List ℕ → Type 0 = λ y. IsFront (Q ++ map (λ b. Byte b) bytes) c.args.count y in
     subst P (sym items)
     (whole-along Q g.row.D c.args.count front bytes (ring-whole c.args.ring.now) size more few
-    c.front_bytes-front.ensures.bytes)
+    c.alike_bytes-front.ensures.bytes)

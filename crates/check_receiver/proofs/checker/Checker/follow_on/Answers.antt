@@ -1,6 +1,7 @@
 use Rattle.burst_walk.specs.Answered.{answered}
 use Rattle.check_receiver.proofs.Beginnings.{front-none, keeps-front}
 use Rattle.check_receiver.proofs.Lending.{none-taken, bytes-long, ring-whole, first-along}
+use Rattle.check_receiver.proofs.Lending.{less-alike}
 use Rattle.check_receiver.proofs.{RunTicks.take-along, RunsTaken.follow-taken}
 use Rattle.check_receiver.specs.{Phases.is_open, Runs.HasTakenRun, Runs.IsFront, Runs.KeepsHeader}
 use Rattle.delay_ring.specs.DelayRing.{ring_ticks}
@@ -22,6 +23,21 @@ returns-then-taken-eq0-clause-run g c = λ last setup line stands waits keeps.
     subst A (sym c.requires.empty)
     (none-taken g.R.LineRules g.M.Mac c.args.self.now last setup line stands cut
     (subst C c.if-taken-eq0.true (c.go_on_some-taken.ensures.stands line stands.cuts)))
+
+pub lend_along-requires : goal.lend_along-requires
+lend_along-requires g c =
+    let Q : List Tick = ring_ticks c.args.self.now.ring in
+    let E : List Tick = map (λ b. Byte b) c.args.bytes.now in
+    let count : ℕ = c.alike_along-count.result in
+    let within = c.alike_along-count.ensures.within in
+    let few = c.go_on_some-taken.ensures.within in
+    let long : length (take count c.args.bytes.now) ≡ count =
+    length-take-le count c.args.bytes.now (omega arith) in
+    let all = bytes-long c.args.bytes.now in
+    let sum = length-append Q E in
+    let most = c.alike_along-count.ensures.most in
+    (omega arith, (omega arith, (omega arith, (less-alike c.go_on_some-taken.result count (Q ++ E)
+    (omega arith) (omega arith) c.alike_along-count.ensures.alike, c.requires.empty))))
 
 pub returns-clause-run : goal.returns-clause-run
 returns-clause-run g c = λ last setup line stands waits keeps.

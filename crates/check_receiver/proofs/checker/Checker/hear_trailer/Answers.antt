@@ -1,4 +1,5 @@
 use Rattle.{burst_walk.specs.Answered.answered, check_receiver.proofs.Lending.same-taken}
+use Rattle.check_receiver.proofs.Lending.{less-alike, ring-whole}
 use Rattle.check_receiver.{proofs.RunsTaken.trailer-taken, specs.Runs.HasTakenRun}
 use Rattle.{check_receiver.specs.Runs.IsFront, delay_ring.specs.DelayRing.ring_ticks}
 use Rattle.check_receiver.specs.Phases.{is_open}
@@ -16,6 +17,20 @@ pub returns-then-until-clause-run : goal.returns-then-until-clause-run
 returns-then-until-clause-run g c = λ last setup line stands.
     same-taken g.R.LineRules g.M.Mac c.args.self.now last setup line stands c.args.left.now.items
     c.requires.empty
+
+pub lend-requires : goal.lend-requires
+lend-requires g c =
+    let count : ℕ = c.front_alike-count.result in
+    let within = c.front_alike-count.ensures.within in
+    let most = c.min-most.ensures in
+    let first = c.min.ensures in
+    let few = c.pass_over_some-taken.ensures.within in
+    let long : length (take count c.args.bytes.now) ≡ count =
+    length-take-le count c.args.bytes.now (omega arith) in
+    let whole = ring-whole c.args.self.now.ring in
+    (omega arith, (omega arith, (less-alike c.pass_over_some-taken.result count
+    (ring_ticks c.args.self.now.ring) (omega arith) (omega arith)
+    c.front_alike-count.ensures.alike, c.requires.empty)))
 
 pub returns-clause-run : goal.returns-clause-run
 returns-clause-run g c = λ last setup line stands.
