@@ -12,9 +12,8 @@ use Rattle.std.proofs.Common.{◌++◌, length, length-append, map, take, drop, 
 use Rattle.std.proofs.Common.{refl, sym, ap, subst, append_assoc, append-nil, arith}
 use Rattle.std.proofs.Math.Seq.{take-append_seam, take-append-add}
 use Rattle.std.proofs.lemmas.List.{take-append-drop, take-append-le}
-use Rattle.std.specs.Prelude.{IfSome}
-use Rattle.tick_drive.specs.{Consumers.is_write_fault, Consumers.Moves, Drive.Drives}
-use Rattle.tick_drive.specs.{Drive.answer_of, Input.Takes}
+use Rattle.{std.specs.Prelude.IfSome, tick_drive.specs.Consumers.is_write_fault}
+use Rattle.tick_drive.specs.{Consumers.Moves, Drive.Drives, Drive.answer_of, Input.Takes}
 use Rattle.yasir_io.specs.Disks.{Slots, OneImage, LeavesOnly}
 use Rattle.yasir_io.specs.declared.{disk.SlotDisk.Ghosts as SlotDisk, sink.Sink.Ghosts as Sink}
 use Rattle.yasir_io.specs.declared.source.Source.{Ghosts as Source}
@@ -24,11 +23,10 @@ use Rattle.yasir_ticks.specs.{TickText.IsTickText, TickText.ended_items, Ticks.I
 use Rattle.yasir_ticks.specs.{Ticks.AreTicks, Ticks.Item.tick, declared.tick.Tick.Tick}
 use Rattle.tick_drive.specs.declared.consumer.Stop.TheVariants as stops
 use Rattle.box_command.proofs.Floors.{told_before, keeps_floor, keeps_from_load, keeps_throughout}
-use Rattle.box_command.proofs.Walking.{walk-boxed}
-use Rattle.box_command.specs.BoxLines.{BoxOrigin, Outputs, ToldFloor, DrivesBox, StopsAtNumber}
-use Rattle.box_command.specs.BoxLines.{StopsAtWrite, State, driving, state_of}
-use Rattle.box_command.specs.{BoxLinesLaws.floor_from_less, Boxes.Boxed, Boxes.IsBoxed}
-use Rattle.box_command.specs.LinkBoxed.{boxed_of}
+use Rattle.box_command.{proofs.Walking.walk-boxed, specs.BoxLines.BoxOrigin, specs.BoxLines.Outputs}
+use Rattle.box_command.specs.BoxLines.{ToldFloor, DrivesBox, StopsAtNumber, StopsAtWrite, State}
+use Rattle.box_command.specs.{BoxLines.driving, BoxLines.state_of, BoxLinesLaws.floor_from_less}
+use Rattle.box_command.specs.{Boxes.Boxed, Boxes.IsBoxed, LinkBoxed.boxed_of}
 use Rattle.box_command.specs.ReplaysBox.{Around, around, KeepsFloor, KeepsFloorFromLoad}
 use Rattle.box_command.specs.ReplaysBox.{LeavesUptime, KeepsFloorThroughout, boxed_with, texts_of}
 use Rattle.box_command.specs.ReplaysBox.{EndsBox, FailsAtNumber, WritesFronts, RunsBox}

@@ -1,6 +1,5 @@
 -- A right key, a number in a slot and a right input are refused by nothing but a fault outside.
-use Rattle.box_command.specs.Boxes.{Boxed}
-use Rattle.box_command.specs.Given.{HasKey, HoldsJournal}
+use Rattle.box_command.specs.{Boxes.Boxed, Given.HasKey, Given.HoldsJournal}
 use Rattle.box_command.specs.ReplaysBox.{ReplaysBox, BoxDiskCause, IsReplayable}
 use Rattle.{hex.proofs.HexLemmas.decode_of-ok, hmac_tag.specs.declared.dir.Dir.Dir}
 use Rattle.key_text.specs.KeyText.{IsKeyText, IsKeyMet, IsNoKey}

@@ -1,22 +1,17 @@
 -- What the steps and runs of both directions are in one of them.
-use Rattle.std.proofs.Common.{◌≡◌, ◌∙◌, ℕ, zero, suc, ◌+◌, List, [], ◌∷◌, ◌++◌, length, replicate}
-use Rattle.std.proofs.Common.{Option, None, refl, sym, ap, subst, arith, append_assoc}
-use Rattle.std.proofs.Common.{length-append}
-use Rattle.std.specs.List.{flat_map}
-use Rattle.std.proofs.lemmas.List.{append-nil, length-replicate}
-use Rattle.yasir_ticks.specs.declared.tick.Tick.{Tick}
-use Rattle.yasir_io.specs.declared.disk.SlotDisk.{Ghosts as SlotDisk}
-use Rattle.burst_walk.specs.Answers.{told_notes, note_in}
-use Rattle.burst_walk.specs.Walk.{Noted}
-use Rattle.link_format.specs.Setup.{Setup}
-use Rattle.sequence_journal.specs.Journal.{journal_floor}
-use Rattle.link_box.specs.declared.box_trait.LinkBox.{Ghosts as LinkBox}
-use Rattle.link_box.specs.Walking.{full_notes, other_line}
 use Rattle.box_pair.specs.Pairs.{OneWay, BothWays, HasTaken}
 use Rattle.box_pair.specs.Turns.{Turn, Turns, TakesTurn, HasPassedAlone, notes_from, MakesLine}
-use Rattle.box_pair.specs.Turns.{ticks_from_device, ticks_from_link, ticks_to_link}
-use Rattle.box_pair.specs.Turns.{ticks_to_device, notes_sealed, notes_checked}
-use Rattle.box_pair.specs.Turns.Turn.{stepped, passed}
+use Rattle.box_pair.specs.Turns.{ticks_from_device, ticks_from_link, ticks_to_link, ticks_to_device}
+use Rattle.box_pair.specs.Turns.{notes_sealed, notes_checked, Turn.stepped, Turn.passed}
+use Rattle.burst_walk.specs.{Answers.told_notes, Answers.note_in, Walk.Noted}
+use Rattle.link_box.specs.Walking.{full_notes, other_line}
+use Rattle.link_box.specs.declared.box_trait.LinkBox.{Ghosts as LinkBox}
+use Rattle.{link_format.specs.Setup.Setup, sequence_journal.specs.Journal.journal_floor}
+use Rattle.std.proofs.Common.{◌≡◌, ◌∙◌, ℕ, zero, suc, ◌+◌, List, [], ◌∷◌, ◌++◌, length, replicate}
+use Rattle.std.proofs.Common.{Option, None, refl, sym, ap, subst, arith, append_assoc}
+use Rattle.std.proofs.{Common.length-append, lemmas.List.append-nil, lemmas.List.length-replicate}
+use Rattle.{std.specs.List.flat_map, yasir_io.specs.declared.disk.SlotDisk.Ghosts as SlotDisk}
+use Rattle.yasir_ticks.specs.declared.tick.Tick.{Tick}
 
 -- notes that follow others
 notes-joined : {A : Type 0} (m : ℕ) (ns ms : List (Option A))

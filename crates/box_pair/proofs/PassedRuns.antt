@@ -1,15 +1,10 @@
 -- Runs that the boxes of a pair take at once.
-use Rattle.std.proofs.Common.{◌≡◌, ◌∙◌, ℕ, ◌+◌, ◌≤◌, List, [], length, take, sym, ap}
-use Rattle.std.proofs.Common.{subst, arith}
-use Rattle.std.proofs.lemmas.List.{length-replicate, length-take, length-take-le}
-use Rattle.std.proofs.lemmas.List.{take-replicate, take-take}
-use Rattle.yasir_ticks.specs.Ticks.{silent}
-use Rattle.yasir_ticks.specs.declared.tick.Tick.{Tick}
-use Rattle.yasir_ticks.specs.declared.tick.Tick.TheVariants.{Silent}
-use Rattle.burst_walk.specs.Answered.{answered}
-use Rattle.link_box.specs.declared.box_trait.LinkBox.{Ghosts as LinkBox}
-use Rattle.link_box.specs.Runs.{TakesRun}
-use Rattle.box_pair.specs.Pairs.{HasPassed}
+use Rattle.{box_pair.specs.Pairs.HasPassed, burst_walk.specs.Answered.answered}
+use Rattle.link_box.specs.{Runs.TakesRun, declared.box_trait.LinkBox.Ghosts as LinkBox}
+use Rattle.std.proofs.Common.{◌≡◌, ◌∙◌, ℕ, ◌+◌, ◌≤◌, List, [], length, take, sym, ap, subst, arith}
+use Rattle.std.proofs.lemmas.List.{length-replicate, length-take, length-take-le, take-replicate}
+use Rattle.{std.proofs.lemmas.List.take-take, yasir_ticks.specs.Ticks.silent}
+use Rattle.yasir_ticks.specs.declared.tick.Tick.{Tick, TheVariants.Silent}
 
 module _ {S A : Type 0} (boxed : LinkBox S A) (old new : S) where
   -- the same run by other names

@@ -1,27 +1,22 @@
 -- One more tick of a line: how far a causal walk then has come, and what the step answers.
+use Rattle.burst_walk.proofs.Spread.{AreSpread, EndBy, bursts-spread, bursts-end, last_contiguous}
+use Rattle.burst_walk.proofs.{Spread.last_ends, Walks.walked-append, Walks.emitted-append}
+use Rattle.burst_walk.proofs.Walks.{state_after-append, before-early, before-late, adds_one_tick}
+use Rattle.burst_walk.specs.Answers.{AnswersTick, told_notes, note_in}
+use Rattle.burst_walk.specs.Causal.{IsCausal, MayGoOn, AddsOneTick, going_on}
+use Rattle.burst_walk.specs.HasCome.{waiting_part, AreNoted, HasCome}
+use Rattle.burst_walk.specs.{Laid.tick_at, Walk.Walker, Walk.Noted, Walk.noted, Walk.walked}
+use Rattle.burst_walk.specs.Walk.{emitted, state_after, notes_before, notes_at, notes_of, line_of}
 use Rattle.std.proofs.Common.{◌≡◌, ◌∙◌, ◌==◌, ◌⊎◌, inl, inr, ℕ, ◌+◌, ◌<◌, ◌≤◌, nat_lt, true, false}
 use Rattle.std.proofs.Common.{List, [], ◌∷◌, ◌++◌, length, refl, sym, ap, subst, arith, ⊎_elim}
 use Rattle.std.proofs.Common.{Option, Some, None, IfSome}
 use Rattle.std.proofs.lemmas.Bool.{cases_lt, cond-true, cond-false}
-use Rattle.std.proofs.lemmas.List.{append-nil, map-append}
-use Rattle.std.proofs.lemmas.List.Elements.{filter-append}
-use Rattle.yasir_ticks.specs.Bursts.{Burst, bursts, end_of, AreClosed}
-use Rattle.yasir_ticks.specs.BurstsOf.{IsContiguous, one}
-use Rattle.yasir_ticks.specs.declared.TheConstants.{T3_5_TICKS}
-use Rattle.yasir_ticks.specs.declared.tick.Tick.{Tick}
-use Rattle.yasir_ticks.specs.declared.tick.Tick.TheVariants.{Silent, Byte}
+use Rattle.std.proofs.lemmas.List.{append-nil, map-append, Elements.filter-append}
 use Rattle.yasir_ticks.proofs.BurstLaws.{alone, extended, extended-closed, extended-joins}
 use Rattle.yasir_ticks.proofs.BurstLaws.{bursts_from-byte, bursts_from-silent}
-use Rattle.burst_walk.specs.Laid.{tick_at}
-use Rattle.burst_walk.specs.Walk.{Walker, Noted, noted, walked, emitted, state_after, notes_before}
-use Rattle.burst_walk.specs.Walk.{notes_at, notes_of, line_of}
-use Rattle.burst_walk.specs.Causal.{IsCausal, MayGoOn, AddsOneTick, going_on}
-use Rattle.burst_walk.specs.HasCome.{waiting_part, AreNoted, HasCome}
-use Rattle.burst_walk.specs.Answers.{AnswersTick, told_notes, note_in}
-use Rattle.burst_walk.proofs.Spread.{AreSpread, EndBy, bursts-spread, bursts-end}
-use Rattle.burst_walk.proofs.Spread.{last_contiguous, last_ends}
-use Rattle.burst_walk.proofs.Walks.{walked-append, emitted-append, state_after-append, before-early}
-use Rattle.burst_walk.proofs.Walks.{before-late, adds_one_tick}
+use Rattle.yasir_ticks.specs.Bursts.{Burst, bursts, end_of, AreClosed}
+use Rattle.yasir_ticks.specs.{BurstsOf.IsContiguous, BurstsOf.one, declared.TheConstants.T3_5_TICKS}
+use Rattle.yasir_ticks.specs.declared.tick.Tick.{Tick, TheVariants.Silent, TheVariants.Byte}
 
 is_other : (a b : ℕ) → (a ≡ b → ⊥) → (a == b) ≡ false
 is_other a b h = grind arith

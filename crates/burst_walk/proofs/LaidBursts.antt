@@ -1,21 +1,15 @@
 -- Bursts that are laid on a line are the bursts of that line, and laid later they come after
 -- silence.
-use Rattle.std.proofs.Common.{◌≡◌, ◌∙◌, ◌&&◌, ◌⊎◌, inl, inr, ℕ, zero, suc, ◌+◌, ◌-◌, ◌<◌, ◌≤◌}
-use Rattle.std.proofs.Common.{nat_lt}
-use Rattle.std.proofs.Common.{nat_le, true, false, List, [], ◌∷◌, ◌++◌, length, map, refl, sym, ap}
-use Rattle.std.proofs.Common.{arith}
-use Rattle.std.proofs.Common.{get_or}
-use Rattle.std.specs.List.{range_with_len}
-use Rattle.std.proofs.lemmas.List.FromFn.{length-map-range_with_len}
-use Rattle.yasir_ticks.specs.Ticks.{silent}
-use Rattle.yasir_ticks.specs.Bursts.{Burst, bursts_from, end_of}
-use Rattle.yasir_ticks.specs.BurstsOf.{StartsFrom, AreBursts}
-use Rattle.yasir_ticks.specs.declared.tick.Tick.{Tick}
-use Rattle.yasir_ticks.specs.declared.tick.Tick.TheVariants.{Silent}
-use Rattle.yasir_ticks.proofs.BurstsOfLaws.{bursts_from-only}
+use Rattle.burst_walk.proofs.{Emissions.tick_at-none, Spread.AreSpread, Spread.EndBy}
 use Rattle.burst_walk.specs.Laid.{tick_at, laid, later}
-use Rattle.burst_walk.proofs.Emissions.{tick_at-none}
-use Rattle.burst_walk.proofs.Spread.{AreSpread, EndBy}
+use Rattle.std.proofs.Common.{◌≡◌, ◌∙◌, ◌&&◌, ◌⊎◌, inl, inr, ℕ, zero, suc, ◌+◌, ◌-◌, ◌<◌, ◌≤◌}
+use Rattle.std.proofs.Common.{nat_lt, nat_le, true, false, List, [], ◌∷◌, ◌++◌, length, map, refl}
+use Rattle.std.proofs.Common.{sym, ap, arith, get_or}
+use Rattle.std.{proofs.lemmas.List.FromFn.length-map-range_with_len, specs.List.range_with_len}
+use Rattle.yasir_ticks.proofs.BurstsOfLaws.{bursts_from-only}
+use Rattle.yasir_ticks.specs.Bursts.{Burst, bursts_from, end_of}
+use Rattle.yasir_ticks.specs.{BurstsOf.StartsFrom, BurstsOf.AreBursts, Ticks.silent}
+use Rattle.yasir_ticks.specs.declared.tick.Tick.{Tick, TheVariants.Silent}
 
 -- ---- ticks by their numbers
 

@@ -1,19 +1,13 @@
 -- A causal walk on longer lines: notes and line begin with those of the line.
+use Rattle.burst_walk.{proofs.Walks.adds_one_tick, specs.Causal.IsCausal, specs.Causal.AddsOneTick}
+use Rattle.burst_walk.specs.{Laid.tick_at, Laid.laid, Longer.Begins, Longer.Extends, Walk.Walker}
+use Rattle.burst_walk.specs.Walk.{walked, emitted, notes_before, notes_at, notes_of, line_of}
 use Rattle.std.proofs.Common.{◌≡◌, ◌∙◌, ℕ, List, [], ◌∷◌, ◌++◌, length, sym, ap, subst}
 use Rattle.std.proofs.Common.{append_assoc}
-use Rattle.std.proofs.lemmas.List.{append-nil}
-use Rattle.std.proofs.lemmas.List.FromFn.{length-map-range_with_len}
-use Rattle.yasir_ticks.specs.Ticks.{silent}
-use Rattle.yasir_ticks.specs.Bursts.{bursts}
+use Rattle.std.proofs.lemmas.List.{append-nil, FromFn.length-map-range_with_len}
 use Rattle.yasir_ticks.proofs.BurstLaws.{bursts_from-silent_end}
-use Rattle.yasir_ticks.specs.declared.TheConstants.{T3_5_TICKS}
-use Rattle.yasir_ticks.specs.declared.tick.Tick.{Tick}
-use Rattle.burst_walk.specs.Laid.{tick_at, laid}
-use Rattle.burst_walk.specs.Walk.{Walker, walked, emitted, notes_before, notes_at, notes_of}
-use Rattle.burst_walk.specs.Walk.{line_of}
-use Rattle.burst_walk.specs.Causal.{IsCausal, AddsOneTick}
-use Rattle.burst_walk.specs.Longer.{Begins, Extends}
-use Rattle.burst_walk.proofs.Walks.{adds_one_tick}
+use Rattle.yasir_ticks.specs.{Bursts.bursts, Ticks.silent}
+use Rattle.yasir_ticks.specs.declared.{TheConstants.T3_5_TICKS, tick.Tick.Tick}
 
 begins-more : {A : Type 0} (a b c : List A) (added : List A) → b ≡ a ++ added → Begins b c
     → Begins a c

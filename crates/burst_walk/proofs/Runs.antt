@@ -1,10 +1,8 @@
 -- Runs of ticks, joined from single ticks and from shorter runs.
-use Rattle.std.proofs.Common.{◌∙◌, List, [], ◌∷◌, ◌++◌, sym, ap, append-nil, append_assoc}
-use Rattle.std.proofs.Common.{None}
-use Rattle.yasir_ticks.specs.declared.tick.Tick.{Tick}
+use Rattle.burst_walk.specs.{Answers.AnswersTick, Answers.told_notes, Runs.AnswersRun}
 use Rattle.burst_walk.specs.Walk.{Walker, notes_of, line_of}
-use Rattle.burst_walk.specs.Answers.{AnswersTick, told_notes}
-use Rattle.burst_walk.specs.Runs.{AnswersRun}
+use Rattle.std.proofs.Common.{◌∙◌, List, [], ◌∷◌, ◌++◌, sym, ap, append-nil, append_assoc, None}
+use Rattle.yasir_ticks.specs.declared.tick.Tick.{Tick}
 
 module _ {S N A : Type 0} (w : Walker S N) (note_of : N → A) (begun : S) where
   abbrev Run : List Tick → List Tick → List Tick → Type 0

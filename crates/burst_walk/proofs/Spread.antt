@@ -1,16 +1,12 @@
 -- The bursts of a line: each is contiguous, they stand `cut` silent ticks apart, and they end with
 -- the line at the latest.
 use Rattle.std.proofs.Common.{◌≡◌, ◌∙◌, ℕ, ◌+◌, ◌≤◌, List, [], ◌∷◌, ◌++◌, length, ap, arith}
-use Rattle.std.proofs.Common.{length-append}
-use Rattle.std.proofs.lemmas.List.{length-replicate}
-use Rattle.yasir_ticks.specs.Ticks.{silent}
+use Rattle.std.proofs.{Common.length-append, lemmas.List.length-replicate}
+use Rattle.yasir_ticks.proofs.{BurstLaws.bursts_from-starts, BurstsOfLaws.bursts_from-are}
 use Rattle.yasir_ticks.specs.Bursts.{Burst, bursts, bursts_from, end_of}
 use Rattle.yasir_ticks.specs.BurstsOf.{IsContiguous, StartsFrom, AreBursts}
-use Rattle.yasir_ticks.specs.declared.TheConstants.{T3_5_TICKS}
-use Rattle.yasir_ticks.specs.declared.tick.Tick.{Tick}
-use Rattle.yasir_ticks.specs.declared.tick.Tick.TheVariants.{Silent}
-use Rattle.yasir_ticks.proofs.BurstLaws.{bursts_from-starts}
-use Rattle.yasir_ticks.proofs.BurstsOfLaws.{bursts_from-are}
+use Rattle.yasir_ticks.specs.{Ticks.silent, declared.TheConstants.T3_5_TICKS}
+use Rattle.yasir_ticks.specs.declared.tick.Tick.{Tick, TheVariants.Silent}
 
 -- These bursts start at tick n or later, `cut` silent ticks apart.
 abbrev pub AreSpread : ℕ → ℕ → List Burst → Type 0

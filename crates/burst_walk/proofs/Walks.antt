@@ -1,23 +1,19 @@
 -- A causal walk: what one more tick of the line adds.
+use Rattle.burst_walk.proofs.Emissions.{tick_at-none, tick_at-front, laid-more, laid-same}
+use Rattle.burst_walk.proofs.Spread.{AreSpread, EndBy, bursts-spread, bursts-end}
+use Rattle.burst_walk.specs.Causal.{IsCausal, MayGoOn, AddsOneTick, going_on}
+use Rattle.burst_walk.specs.{Laid.tick_at, Laid.laid, Walk.Walker, Walk.Noted, Walk.noted}
+use Rattle.burst_walk.specs.Walk.{walked, emitted, state_after, notes_before, notes_at, notes_of}
 use Rattle.std.proofs.Common.{◌≡◌, ◌∙◌, ◌==◌, ℕ, ◌+◌, ◌<◌, ◌≤◌, nat_lt, true, false, List, [], ◌∷◌}
 use Rattle.std.proofs.Common.{◌++◌, length, refl, sym, ap, arith, append_assoc, length-append}
 use Rattle.std.proofs.Common.{⊎_elim}
 use Rattle.std.proofs.lemmas.Bool.{cases_lt, lt-ltb, le-ltb, cond-true, cond-false}
-use Rattle.std.proofs.lemmas.List.{append-nil}
-use Rattle.std.proofs.lemmas.List.Elements.{filter-append}
-use Rattle.yasir_ticks.specs.Bursts.{Burst, bursts, end_of}
-use Rattle.yasir_ticks.specs.BurstsOf.{one}
-use Rattle.yasir_ticks.specs.declared.TheConstants.{T3_5_TICKS}
-use Rattle.yasir_ticks.specs.declared.tick.Tick.{Tick}
-use Rattle.yasir_ticks.specs.declared.tick.Tick.TheVariants.{Silent, Byte}
+use Rattle.std.proofs.lemmas.List.{append-nil, Elements.filter-append}
 use Rattle.yasir_ticks.proofs.BurstLaws.{alone, extended, extended-nil, extended-near, extended-far}
 use Rattle.yasir_ticks.proofs.BurstLaws.{extended-cons, bursts_from-byte, bursts_from-silent}
-use Rattle.burst_walk.specs.Laid.{tick_at, laid}
-use Rattle.burst_walk.specs.Walk.{Walker, Noted, noted, walked, emitted, state_after, notes_before}
-use Rattle.burst_walk.specs.Walk.{notes_at, notes_of}
-use Rattle.burst_walk.specs.Causal.{IsCausal, MayGoOn, AddsOneTick, going_on}
-use Rattle.burst_walk.proofs.Emissions.{tick_at-none, tick_at-front, laid-more, laid-same}
-use Rattle.burst_walk.proofs.Spread.{AreSpread, EndBy, bursts-spread, bursts-end}
+use Rattle.yasir_ticks.specs.Bursts.{Burst, bursts, end_of}
+use Rattle.yasir_ticks.specs.{BurstsOf.one, declared.TheConstants.T3_5_TICKS}
+use Rattle.yasir_ticks.specs.declared.tick.Tick.{Tick, TheVariants.Silent, TheVariants.Byte}
 
 -- ---- walks in two parts
 

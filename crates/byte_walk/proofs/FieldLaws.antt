@@ -1,13 +1,12 @@
 -- What a reader comes to that takes fields of four bytes, and single bytes between them.
-use Rattle.std.proofs.Common.{◌≡◌, ◌∙◌, ℕ, ◌<◌, nat_lt, Bool, true, false, List, []}
-use Rattle.std.proofs.Common.{◌∷◌, ◌++◌, length, Option, None, Result, Ok, Err, refl, ap, sym}
-use Rattle.std.proofs.Common.{subst, arith, append_assoc, append-nil, lt-ltb, ◌⊎◌, inl, inr}
-use Rattle.std.specs.Option.{option_to_list}
-use Rattle.std.proofs.lemmas.Bool.{ltb-true, ltb-false, cond-true, cond-false}
-use Rattle.std.proofs.lemmas.List.{length-append}
-use Rattle.byte_walk.specs.Walks.{walk}
-use Rattle.byte_walk.specs.Fields.{Spot, before_field, at_spot, spot_step}
 use Rattle.byte_walk.proofs.WalkLaws.{walk-cons, walk-join, walk-one, walk_keeps}
+use Rattle.byte_walk.specs.Fields.{Spot, before_field, at_spot, spot_step}
+use Rattle.byte_walk.specs.Walks.{walk}
+use Rattle.std.proofs.Common.{◌≡◌, ◌∙◌, ℕ, ◌<◌, nat_lt, Bool, true, false, List, [], ◌∷◌, ◌++◌}
+use Rattle.std.proofs.Common.{length, Option, None, Result, Ok, Err, refl, ap, sym, subst, arith}
+use Rattle.std.proofs.Common.{append_assoc, append-nil, lt-ltb, ◌⊎◌, inl, inr}
+use Rattle.std.proofs.lemmas.Bool.{ltb-true, ltb-false, cond-true, cond-false}
+use Rattle.std.{proofs.lemmas.List.length-append, specs.Option.option_to_list}
 
 module _ {S I F : Type 0} where
   -- what came to a spot before a field

@@ -1,35 +1,28 @@
 -- How a pcapng file goes on to its end from each place of its reader.
-use Rattle.std.proofs.Common.{◌≡◌, ◌∙◌, ℕ, zero, suc, ◌+◌, ◌*◌, ◌-◌, ◌/◌, ◌<◌, ◌≤◌, ◌^◌, ◌==◌}
-use Rattle.std.proofs.Common.{◌||◌, nat_lt, Bool, true, false, List, [], ◌∷◌}
-use Rattle.std.proofs.Common.{length, replicate, None, Ok, refl, ap, sym, subst, arith}
-use Rattle.std.proofs.Common.{lt-ltb, le-ltb, append-nil}
-use Rattle.std.proofs.lemmas.Bool.{eq-eqb, le-leb, and_parts, ltb-true}
-use Rattle.std.proofs.lemmas.List.{length-replicate}
-use Rattle.byte_walk.specs.Walks.{walk}
-use Rattle.byte_walk.specs.Fields.{before_field}
+use Rattle.byte_walk.specs.{Fields.before_field, Walks.walk}
 use Rattle.byteorder.specs.Endian.{big_bytes, little_bytes}
 use Rattle.byteorder.specs.Numbers.{big_number-reads_back, little_number-reads_back}
 use Rattle.byteorder.specs.Numbers.{length-bytes_high_first, length-bytes_low_first}
-use Rattle.capture_pcap.specs.Words.{number, short_number}
+use Rattle.capture_pcap.specs.BlockStep.{rest_or_end, is_size, next_option_at, block_field_at}
 use Rattle.capture_pcap.specs.Blocks.{section_with, fresh, padded}
 use Rattle.capture_pcap.specs.BodyStep.{body_field_at, body_byte_at, has_more}
-use Rattle.capture_pcap.specs.BlockStep.{rest_or_end, is_size, next_option_at}
-use Rattle.capture_pcap.specs.BlockStep.{block_field_at}
 use Rattle.capture_pcap.specs.PcapStep.{takes_bytes, field_at}
-use Rattle.capture_pcap.specs.declared.body.Body.{Body}
-use Rattle.capture_pcap.specs.declared.body.Body.TheVariants.{Seconds as RtacSeconds}
-use Rattle.capture_pcap.specs.declared.words.Order.{Order}
-use Rattle.capture_pcap.specs.declared.words.Order.TheVariants.{Big, Little}
-use Rattle.capture_pcap.specs.declared.block.Section.{Section}
+use Rattle.capture_pcap.specs.{Words.number, Words.short_number, declared.block.Block.Block}
 use Rattle.capture_pcap.specs.declared.block.Kind.TheVariants.{Interface as InterfaceKind}
 use Rattle.capture_pcap.specs.declared.block.Kind.TheVariants.{Packet as PacketKind}
-use Rattle.capture_pcap.specs.declared.block.Kind.TheVariants.{Other as OtherKind}
-use Rattle.capture_pcap.specs.declared.block.Block.{Block}
+use Rattle.capture_pcap.specs.declared.block.{Kind.TheVariants.Other as OtherKind, Section.Section}
+use Rattle.capture_pcap.specs.declared.body.Body.{Body, TheVariants.Seconds as RtacSeconds}
+use Rattle.capture_pcap.specs.declared.words.Order.{Order, TheVariants.Big, TheVariants.Little}
+use Rattle.std.proofs.Common.{◌≡◌, ◌∙◌, ℕ, zero, suc, ◌+◌, ◌*◌, ◌-◌, ◌/◌, ◌<◌, ◌≤◌, ◌^◌, ◌==◌, ◌||◌}
+use Rattle.std.proofs.Common.{nat_lt, Bool, true, false, List, [], ◌∷◌, length, replicate, None, Ok}
+use Rattle.std.proofs.Common.{refl, ap, sym, subst, arith, lt-ltb, le-ltb, append-nil}
+use Rattle.std.proofs.lemmas.Bool.{eq-eqb, le-leb, and_parts, ltb-true}
+use Rattle.std.proofs.lemmas.List.{length-replicate}
 use Rattle.capture_pcap.specs.declared.block.Block.TheVariants as b
-use Rattle.capture_pcap.specs.declared.stage.Stage.TheVariants.{Blocks}
 use Rattle.capture_pcap.proofs.BlockLive.{HasField, HasBoth, Live}
 use Rattle.capture_pcap.proofs.BlockSpelled.{rest_walk, blocks_or}
 use Rattle.capture_pcap.proofs.Going.{GoesOn, on_walk, on_field, on_body}
+use Rattle.capture_pcap.specs.declared.stage.Stage.TheVariants.{Blocks}
 
 on_one : (from to : Block) (field : List ℕ) → takes_bytes (Blocks from) ≡ false → length field ≡ 4
     → block_field_at from field ≡ Ok (to, None) → GoesOn (Blocks to) → GoesOn (Blocks from)

@@ -1,36 +1,29 @@
 -- A pcapng file so far can still come to a right end: what its reader's place has to say for that.
-use Rattle.std.proofs.Common.{◌≡◌, ℕ, ◌+◌, ◌*◌, ◌-◌, ◌<◌, ◌≤◌, ◌^◌, ◌/◌, ◌%◌, ◌==◌, ◌&&◌, ◌||◌, nat_lt}
-use Rattle.std.proofs.Common.{nat_le, Bool, true, false, List, length, Option, Some, None, Ok}
-use Rattle.std.proofs.Common.{Err, refl, arith, slice_index, drop}
-use Rattle.std.proofs.lemmas.Bool.{ltb-true, leb-true, cond_both, and_parts}
-use Rattle.line_stamps.specs.declared.capture.Way.{Way}
-use Rattle.capture_pcap.specs.Words.{number, short_number, is_field}
+use Rattle.capture_pcap.specs.BlockStep.{Stepped, takes_bytes, rest_or_end, is_size, in_section}
+use Rattle.capture_pcap.specs.BlockStep.{after_order, after_kind, after_size, after_options}
+use Rattle.capture_pcap.specs.BlockStep.{next_option_at, over_fields, has_room, after_option}
+use Rattle.capture_pcap.specs.BlockStep.{after_value, at_resolution, block_field_at, block_byte_at}
 use Rattle.capture_pcap.specs.Blocks.{counts_at, section_with, fresh, padded}
 use Rattle.capture_pcap.specs.BodyStep.{takes_data, has_more, body_field_at, body_byte_at, body_or}
-use Rattle.capture_pcap.specs.BodyStep.{data_of}
-use Rattle.capture_pcap.specs.BlockStep.{Stepped, takes_bytes, rest_or_end, is_size, in_section}
-use Rattle.capture_pcap.specs.BlockStep.{after_order, after_kind, after_size}
-use Rattle.capture_pcap.specs.BlockStep.{after_options, next_option_at, over_fields, has_room}
-use Rattle.capture_pcap.specs.BlockStep.{after_option, after_value, at_resolution}
-use Rattle.capture_pcap.specs.BlockStep.{block_field_at, block_byte_at}
-use Rattle.capture_pcap.specs.declared.body.Body.{Body}
-use Rattle.capture_pcap.specs.declared.body.Body.TheVariants.{Seconds as RtacSeconds}
-use Rattle.capture_pcap.specs.declared.body.Body.TheVariants.{Fraction as RtacFraction}
-use Rattle.capture_pcap.specs.declared.body.Body.TheVariants.{Event, Data}
-use Rattle.capture_pcap.specs.declared.words.Order.{Order}
-use Rattle.capture_pcap.specs.declared.words.Order.TheVariants.{Big, Little}
+use Rattle.capture_pcap.specs.{BodyStep.data_of, Words.number, Words.short_number, Words.is_field}
+use Rattle.capture_pcap.specs.declared.block.Block.{Block}
+use Rattle.capture_pcap.specs.declared.block.Kind.{Kind, TheVariants.Interface as InterfaceKind}
+use Rattle.capture_pcap.specs.declared.block.Kind.TheVariants.{Packet as PacketKind}
+use Rattle.capture_pcap.specs.declared.block.{Kind.TheVariants.Other as OtherKind, Section.Section}
+use Rattle.capture_pcap.specs.declared.body.Body.{Body, TheVariants.Seconds as RtacSeconds}
+use Rattle.capture_pcap.specs.declared.body.Body.TheVariants.{Fraction as RtacFraction, Event, Data}
 use Rattle.capture_pcap.specs.declared.fault.PcapFault.TheVariants.{Link as NoLink, Short, Cut}
 use Rattle.capture_pcap.specs.declared.fault.PcapFault.TheVariants.{Order as NoOrder}
 use Rattle.capture_pcap.specs.declared.fault.PcapFault.TheVariants.{Size as WrongSize, Timeless}
 use Rattle.capture_pcap.specs.declared.fault.PcapFault.TheVariants.{Resolution as OtherResolution}
 use Rattle.capture_pcap.specs.declared.fault.PcapFault.TheVariants.{Option as WrongOption}
 use Rattle.capture_pcap.specs.declared.fault.PcapFault.TheVariants.{Interface as NoInterface, Late}
-use Rattle.capture_pcap.specs.declared.block.Section.{Section}
-use Rattle.capture_pcap.specs.declared.block.Kind.{Kind}
-use Rattle.capture_pcap.specs.declared.block.Kind.TheVariants.{Interface as InterfaceKind}
-use Rattle.capture_pcap.specs.declared.block.Kind.TheVariants.{Packet as PacketKind}
-use Rattle.capture_pcap.specs.declared.block.Kind.TheVariants.{Other as OtherKind}
-use Rattle.capture_pcap.specs.declared.block.Block.{Block}
+use Rattle.capture_pcap.specs.declared.words.Order.{Order, TheVariants.Big, TheVariants.Little}
+use Rattle.line_stamps.specs.declared.capture.Way.{Way}
+use Rattle.std.proofs.Common.{◌≡◌, ℕ, ◌+◌, ◌*◌, ◌-◌, ◌<◌, ◌≤◌, ◌^◌, ◌/◌, ◌%◌, ◌==◌, ◌&&◌, ◌||◌}
+use Rattle.std.proofs.Common.{nat_lt, nat_le, Bool, true, false, List, length, Option, Some, None}
+use Rattle.std.proofs.Common.{Ok, Err, refl, arith, slice_index, drop}
+use Rattle.std.proofs.lemmas.Bool.{ltb-true, leb-true, cond_both, and_parts}
 use Rattle.capture_pcap.specs.declared.block.Block.TheVariants as b
 
 -- a field that has come has this number

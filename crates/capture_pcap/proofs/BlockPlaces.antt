@@ -1,53 +1,45 @@
 -- What a field or a byte makes of a pcapng file so far, at each place of its reader.
-use Rattle.std.proofs.Common.{◌≡◌, ◌∙◌, ℕ, ◌+◌, ◌*◌, ◌-◌, ◌/◌, ◌<◌, ◌≤◌, ◌^◌, ◌==◌, ◌&&◌, ◌||◌}
-use Rattle.std.proofs.Common.{not, nat_lt, nat_le, Bool, true, false, List, [], ◌∷◌, ◌++◌, length}
-use Rattle.std.proofs.Common.{drop, Option, Some, None, Ok, Err, refl, ap, sym, subst, arith}
-use Rattle.std.proofs.Common.{append_assoc, append-nil, cond, slice_index}
-use Rattle.std.specs.Option.{option_to_list}
-use Rattle.std.proofs.lemmas.Bool.{ltb-true, ltb-false, cond_both, and_parts, eqb-true, leb-true}
-use Rattle.std.proofs.lemmas.List.{length-append}
-use Rattle.capture_pcap.specs.Words.{number, short_number, is_field}
-use Rattle.capture_pcap.specs.Blocks.{padded, counts_at, section_kind}
-use Rattle.capture_pcap.specs.Blocks.{is_plain, section_with}
-use Rattle.capture_pcap.specs.Blocks.{is_other, fresh, AreBlocks}
-use Rattle.capture_pcap.specs.Blocks.IsOrderMark.{big, little}
-use Rattle.capture_pcap.specs.Blocks.AreOptions.{none as no_option, ended as ended_option}
-use Rattle.capture_pcap.specs.Blocks.AreOptions.{plain as plain_option}
-use Rattle.capture_pcap.specs.Blocks.AreOptions.{resolution as resolution_option}
-use Rattle.capture_pcap.specs.BodyStep.{takes_data, body_field_at, body_byte_at, body_or}
 use Rattle.capture_pcap.specs.BlockStep.{Stepped, takes_bytes, rest_or_end, is_size, in_section}
 use Rattle.capture_pcap.specs.BlockStep.{after_order, of_kind, after_kind, after_size, after_link}
-use Rattle.capture_pcap.specs.BlockStep.{after_options, next_option_at, over_fields}
-use Rattle.capture_pcap.specs.BlockStep.{after_option, after_value, at_resolution, after_resolution}
-use Rattle.capture_pcap.specs.BlockStep.{after_low, after_captured, after_original, after_body}
+use Rattle.capture_pcap.specs.BlockStep.{after_options, next_option_at, over_fields, after_option}
+use Rattle.capture_pcap.specs.BlockStep.{after_value, at_resolution, after_resolution, after_low}
+use Rattle.capture_pcap.specs.BlockStep.{after_captured, after_original, after_body}
 use Rattle.capture_pcap.specs.BlockStep.{after_interface, after_end, block_field_at, block_byte_at}
 use Rattle.capture_pcap.specs.BlockStep.{after_high, after_section_size, has_room}
-use Rattle.line_stamps.specs.declared.seen.Seen.{Seen}
-use Rattle.capture_pcap.specs.declared.body.Body.{Body}
-use Rattle.capture_pcap.specs.declared.body.Body.TheVariants.{Seconds as RtacSeconds}
-use Rattle.capture_pcap.specs.declared.words.Order.{Order}
-use Rattle.capture_pcap.specs.declared.words.Order.TheVariants.{Big, Little}
+use Rattle.capture_pcap.specs.Blocks.{padded, counts_at, section_kind, is_plain, section_with}
+use Rattle.capture_pcap.specs.Blocks.{is_other, fresh, AreBlocks, AreOptions.none as no_option}
+use Rattle.capture_pcap.specs.Blocks.AreOptions.{ended as ended_option, plain as plain_option}
+use Rattle.capture_pcap.specs.Blocks.AreOptions.{resolution as resolution_option}
+use Rattle.capture_pcap.specs.Blocks.IsOrderMark.{big, little}
+use Rattle.capture_pcap.specs.BodyStep.{takes_data, body_field_at, body_byte_at, body_or}
+use Rattle.capture_pcap.specs.Words.{number, short_number, is_field}
+use Rattle.capture_pcap.specs.declared.block.Block.{Block}
+use Rattle.capture_pcap.specs.declared.block.Kind.{Kind, TheVariants.Interface as InterfaceKind}
+use Rattle.capture_pcap.specs.declared.block.Kind.TheVariants.{Packet as PacketKind}
+use Rattle.capture_pcap.specs.declared.block.{Kind.TheVariants.Other as OtherKind, Section.Section}
+use Rattle.capture_pcap.specs.declared.body.Body.{Body, TheVariants.Seconds as RtacSeconds}
 use Rattle.capture_pcap.specs.declared.fault.PcapFault.TheVariants.{Link as NoLink, Short, Cut}
 use Rattle.capture_pcap.specs.declared.fault.PcapFault.TheVariants.{Order as NoOrder}
 use Rattle.capture_pcap.specs.declared.fault.PcapFault.TheVariants.{Size as WrongSize, Timeless}
 use Rattle.capture_pcap.specs.declared.fault.PcapFault.TheVariants.{Resolution as OtherResolution}
 use Rattle.capture_pcap.specs.declared.fault.PcapFault.TheVariants.{Option as WrongOption}
 use Rattle.capture_pcap.specs.declared.fault.PcapFault.TheVariants.{Interface as NoInterface, Late}
-use Rattle.capture_pcap.specs.declared.block.Section.{Section}
-use Rattle.capture_pcap.specs.declared.block.Kind.{Kind}
-use Rattle.capture_pcap.specs.declared.block.Kind.TheVariants.{Interface as InterfaceKind}
-use Rattle.capture_pcap.specs.declared.block.Kind.TheVariants.{Packet as PacketKind}
-use Rattle.capture_pcap.specs.declared.block.Kind.TheVariants.{Other as OtherKind}
-use Rattle.capture_pcap.specs.declared.block.Block.{Block}
+use Rattle.capture_pcap.specs.declared.words.Order.{Order, TheVariants.Big, TheVariants.Little}
+use Rattle.line_stamps.specs.declared.seen.Seen.{Seen}
+use Rattle.std.proofs.Common.{◌≡◌, ◌∙◌, ℕ, ◌+◌, ◌*◌, ◌-◌, ◌/◌, ◌<◌, ◌≤◌, ◌^◌, ◌==◌, ◌&&◌, ◌||◌, not}
+use Rattle.std.proofs.Common.{nat_lt, nat_le, Bool, true, false, List, [], ◌∷◌, ◌++◌, length, drop}
+use Rattle.std.proofs.Common.{Option, Some, None, Ok, Err, refl, ap, sym, subst, arith}
+use Rattle.std.proofs.Common.{append_assoc, append-nil, cond, slice_index}
+use Rattle.std.proofs.lemmas.Bool.{ltb-true, ltb-false, cond_both, and_parts, eqb-true, leb-true}
+use Rattle.std.{proofs.lemmas.List.length-append, specs.Option.option_to_list}
 use Rattle.capture_pcap.specs.declared.block.Block.TheVariants as b
-use Rattle.capture_pcap.proofs.FieldFacts.{field_is}
-use Rattle.capture_pcap.proofs.Bodies.{BodyGoes, body_field_goes, body_byte_goes}
-use Rattle.capture_pcap.proofs.Bodies.AtBody.{seconds as rtac_seconds}
 use Rattle.capture_pcap.proofs.BlockStands.{SectionAs, BlockGoes, RestsAs, LinkAs, InterfaceAs}
 use Rattle.capture_pcap.proofs.BlockStands.{EndsAs, SizeAs, same, OrderAs, AtBlock, HighAs}
 use Rattle.capture_pcap.proofs.BlockStands.{OriginalAs, CapturedAs, BodyAs, AtPacket, OptionsAs}
 use Rattle.capture_pcap.proofs.BlockStands.{LowAs}
 use Rattle.capture_pcap.proofs.BlockWholes.{interface_as, section_as, other_as, packet_as}
+use Rattle.capture_pcap.proofs.Bodies.{BodyGoes, body_field_goes, body_byte_goes}
+use Rattle.capture_pcap.proofs.{Bodies.AtBody.seconds as rtac_seconds, FieldFacts.field_is}
 
 -- ---- the rest of a block
 

@@ -1,51 +1,42 @@
 -- What a reader comes to over the blocks of a right pcapng file.
-use Rattle.std.proofs.Common.{◌≡◌, ◌∙◌, ℕ, zero, suc, ◌+◌, ◌*◌, ◌-◌, ◌/◌, ◌%◌, ◌<◌, ◌≤◌, ◌^◌, ◌==◌}
-use Rattle.std.proofs.Common.{◌&&◌, ◌||◌, not, nat_lt, Bool, true, false, List, [], ◌∷◌, ◌++◌}
-use Rattle.std.proofs.Common.{if◌then◌else◌, length, drop, Option, Some, None, Ok, Err, refl, ap, sym, subst}
-use Rattle.std.proofs.Common.{arith, append_assoc, append-nil, cond, lt-ltb, le-ltb, slice_index}
-use Rattle.std.proofs.lemmas.Bool.{eq-eqb, le-leb}
-use Rattle.std.proofs.lemmas.List.{length-append}
-use Rattle.byte_walk.specs.Walks.{walk}
-use Rattle.byte_walk.proofs.FieldLaws.{single_walk}
-use Rattle.capture_pcap.specs.Words.{number, short_number, is_field}
-use Rattle.capture_pcap.specs.Record.{IsRecord}
-use Rattle.capture_pcap.specs.Blocks.{padded, counts_at, section_kind, IsOrderMark}
-use Rattle.capture_pcap.specs.Blocks.{IsSection, is_plain, AreOptions, IsInterface, section_with}
-use Rattle.capture_pcap.specs.Blocks.{IsEnhanced, is_other, IsOther, fresh, AreBlocks}
-use Rattle.capture_pcap.specs.Blocks.IsOrderMark.{big, little}
-use Rattle.capture_pcap.specs.Blocks.AreOptions.{none as no_option, ended as ended_option}
-use Rattle.capture_pcap.specs.Blocks.AreOptions.{plain as plain_option}
-use Rattle.capture_pcap.specs.Blocks.AreOptions.{resolution as resolution_option}
+use Rattle.byte_walk.{proofs.FieldLaws.single_walk, specs.Walks.walk}
+use Rattle.capture_pcap.specs.BlockStep.{Stepped, rest_or_end, is_size, after_order, after_kind}
+use Rattle.capture_pcap.specs.BlockStep.{after_options, next_option_at, over_fields, after_option}
+use Rattle.capture_pcap.specs.BlockStep.{after_value, after_captured, after_original}
+use Rattle.capture_pcap.specs.BlockStep.{block_field_at, after_section_size, has_room}
+use Rattle.capture_pcap.specs.Blocks.{padded, counts_at, section_kind, IsOrderMark, IsSection}
+use Rattle.capture_pcap.specs.Blocks.{is_plain, AreOptions, IsInterface, section_with, IsEnhanced}
+use Rattle.capture_pcap.specs.Blocks.{is_other, IsOther, fresh, AreBlocks}
 use Rattle.capture_pcap.specs.Blocks.AreBlocks.{nothing as no_block, section as section_block}
 use Rattle.capture_pcap.specs.Blocks.AreBlocks.{interface as interface_block}
 use Rattle.capture_pcap.specs.Blocks.AreBlocks.{packet as packet_block, other as other_block}
-use Rattle.capture_pcap.specs.BodyStep.{body_field_at, body_byte_at, body_or}
-use Rattle.capture_pcap.specs.BlockStep.{Stepped, rest_or_end, is_size, after_order}
-use Rattle.capture_pcap.specs.BlockStep.{after_kind, after_options, next_option_at}
-use Rattle.capture_pcap.specs.BlockStep.{over_fields, after_option, after_value}
-use Rattle.capture_pcap.specs.BlockStep.{after_captured, after_original, block_field_at}
-use Rattle.capture_pcap.specs.BlockStep.{after_section_size, has_room}
-use Rattle.capture_pcap.specs.PcapStep.{takes_bytes, field_at, byte_at}
-use Rattle.line_stamps.specs.declared.seen.Seen.{Seen}
-use Rattle.capture_pcap.specs.declared.body.Body.{Body}
-use Rattle.capture_pcap.specs.declared.body.Body.TheVariants.{Seconds as RtacSeconds}
-use Rattle.capture_pcap.specs.declared.words.Order.{Order}
-use Rattle.capture_pcap.specs.declared.words.Order.TheVariants.{Big, Little}
+use Rattle.capture_pcap.specs.Blocks.AreOptions.{none as no_option, ended as ended_option}
+use Rattle.capture_pcap.specs.Blocks.AreOptions.{plain as plain_option}
+use Rattle.capture_pcap.specs.Blocks.{AreOptions.resolution as resolution_option, IsOrderMark.big}
+use Rattle.capture_pcap.specs.{Blocks.IsOrderMark.little, BodyStep.body_field_at}
+use Rattle.capture_pcap.specs.{BodyStep.body_byte_at, BodyStep.body_or, PcapStep.takes_bytes}
+use Rattle.capture_pcap.specs.{PcapStep.field_at, PcapStep.byte_at, Record.IsRecord, Words.number}
+use Rattle.capture_pcap.specs.{Words.short_number, Words.is_field, declared.block.Block.Block}
+use Rattle.capture_pcap.specs.declared.block.Kind.TheVariants.{Interface as InterfaceKind}
+use Rattle.capture_pcap.specs.declared.block.Kind.TheVariants.{Packet as PacketKind}
+use Rattle.capture_pcap.specs.declared.block.{Kind.TheVariants.Other as OtherKind, Section.Section}
+use Rattle.capture_pcap.specs.declared.body.Body.{Body, TheVariants.Seconds as RtacSeconds}
 use Rattle.capture_pcap.specs.declared.fault.PcapFault.TheVariants.{Option as WrongOption}
 use Rattle.capture_pcap.specs.declared.fault.PcapFault.TheVariants.{Interface as NoInterface}
 use Rattle.capture_pcap.specs.declared.fault.PcapFault.TheVariants.{Timeless}
 use Rattle.capture_pcap.specs.declared.fault.PcapFault.TheVariants.{Resolution as OtherResolution}
-use Rattle.capture_pcap.specs.declared.block.Section.{Section}
-use Rattle.capture_pcap.specs.declared.block.Kind.TheVariants.{Interface as InterfaceKind}
-use Rattle.capture_pcap.specs.declared.block.Kind.TheVariants.{Packet as PacketKind}
-use Rattle.capture_pcap.specs.declared.block.Kind.TheVariants.{Other as OtherKind}
-use Rattle.capture_pcap.specs.declared.block.Block.{Block}
+use Rattle.capture_pcap.specs.declared.words.Order.{Order, TheVariants.Big, TheVariants.Little}
+use Rattle.line_stamps.specs.declared.seen.Seen.{Seen}
+use Rattle.std.proofs.Common.{◌≡◌, ◌∙◌, ℕ, zero, suc, ◌+◌, ◌*◌, ◌-◌, ◌/◌, ◌%◌, ◌<◌, ◌≤◌, ◌^◌, ◌==◌}
+use Rattle.std.proofs.Common.{◌&&◌, ◌||◌, not, nat_lt, Bool, true, false, List, [], ◌∷◌, ◌++◌}
+use Rattle.std.proofs.Common.{if◌then◌else◌, length, drop, Option, Some, None, Ok, Err, refl, ap}
+use Rattle.std.proofs.Common.{sym, subst, arith, append_assoc, append-nil, cond, lt-ltb, le-ltb}
+use Rattle.std.proofs.Common.{slice_index}
+use Rattle.std.proofs.lemmas.{Bool.eq-eqb, Bool.le-leb, List.length-append}
 use Rattle.capture_pcap.specs.declared.block.Block.TheVariants as b
-use Rattle.capture_pcap.specs.declared.stage.Stage.{Stage}
-use Rattle.capture_pcap.specs.declared.stage.Stage.TheVariants.{Magic, Blocks}
-use Rattle.capture_pcap.proofs.Bodies.{record_walk}
-use Rattle.capture_pcap.proofs.FieldFacts.{field_is}
+use Rattle.capture_pcap.proofs.{Bodies.record_walk, FieldFacts.field_is}
 use Rattle.capture_pcap.proofs.Walked.{Walks, one_field, both, four_of}
+use Rattle.capture_pcap.specs.declared.stage.Stage.{Stage, TheVariants.Magic, TheVariants.Blocks}
 
 -- nothing, and a reader stays
 stays : (stage : Stage) → Walks stage [] stage []

@@ -1,25 +1,17 @@
 -- What may follow a pcapng file so far at each place of its reader.
-use Rattle.std.proofs.Common.{◌≡◌, ℕ, ◌+◌, ◌*◌, ◌-◌, ◌/◌, ◌<◌, ◌≤◌, ◌^◌}
-use Rattle.std.proofs.Common.{true, List, [], ◌++◌, length}
-use Rattle.std.proofs.Common.{Some, Ok, Err, sym, subst}
-use Rattle.std.proofs.Common.{append-nil, slice_index}
-use Rattle.std.specs.Option.{option_to_list}
-use Rattle.capture_pcap.specs.Words.{number, short_number}
-use Rattle.capture_pcap.specs.Record.{IsRecord}
-use Rattle.capture_pcap.specs.Blocks.{padded, counts_at, IsOrderMark}
-use Rattle.capture_pcap.specs.Blocks.{AreOptions, section_with}
-use Rattle.capture_pcap.specs.Blocks.{fresh, AreBlocks}
 use Rattle.capture_pcap.specs.BlockStep.{Stepped, is_size}
-use Rattle.line_stamps.specs.declared.seen.Seen.{Seen}
-use Rattle.capture_pcap.specs.declared.body.Body.{Body}
-use Rattle.capture_pcap.specs.declared.words.Order.{Order}
-use Rattle.capture_pcap.specs.declared.words.Order.TheVariants.{Big, Little}
-use Rattle.capture_pcap.specs.declared.block.Section.{Section}
-use Rattle.capture_pcap.specs.declared.block.Kind.{Kind}
-use Rattle.capture_pcap.specs.declared.block.Kind.TheVariants.{Interface as InterfaceKind}
+use Rattle.capture_pcap.specs.Blocks.{padded, counts_at, IsOrderMark, AreOptions, section_with}
+use Rattle.capture_pcap.specs.{Blocks.fresh, Blocks.AreBlocks, Record.IsRecord, Words.number}
+use Rattle.capture_pcap.specs.{Words.short_number, declared.block.Block.Block}
+use Rattle.capture_pcap.specs.declared.block.Kind.{Kind, TheVariants.Interface as InterfaceKind}
 use Rattle.capture_pcap.specs.declared.block.Kind.TheVariants.{Packet as PacketKind}
-use Rattle.capture_pcap.specs.declared.block.Kind.TheVariants.{Other as OtherKind}
-use Rattle.capture_pcap.specs.declared.block.Block.{Block}
+use Rattle.capture_pcap.specs.declared.block.{Kind.TheVariants.Other as OtherKind, Section.Section}
+use Rattle.capture_pcap.specs.declared.{body.Body.Body, words.Order.Order}
+use Rattle.capture_pcap.specs.declared.words.Order.TheVariants.{Big, Little}
+use Rattle.line_stamps.specs.declared.seen.Seen.{Seen}
+use Rattle.std.proofs.Common.{◌≡◌, ℕ, ◌+◌, ◌*◌, ◌-◌, ◌/◌, ◌<◌, ◌≤◌, ◌^◌, true, List, [], ◌++◌}
+use Rattle.std.proofs.Common.{length, Some, Ok, Err, sym, subst, append-nil, slice_index}
+use Rattle.std.specs.Option.{option_to_list}
 use Rattle.capture_pcap.specs.declared.block.Block.TheVariants as b
 use Rattle.capture_pcap.proofs.Bodies.{AtBody}
 

@@ -1,29 +1,20 @@
 -- Whole blocks behind a pcapng file so far.
-use Rattle.std.proofs.Common.{◌≡◌, ◌∙◌, ℕ, ◌+◌, ◌*◌, ◌-◌, ◌%◌, ◌<◌, ◌≤◌, ◌==◌}
-use Rattle.std.proofs.Common.{nat_le, true, false, List, ◌∷◌, ◌++◌, length}
-use Rattle.std.proofs.Common.{Option, Some, refl, ap, sym, subst, arith}
-use Rattle.std.proofs.Common.{append_assoc}
-use Rattle.std.proofs.lemmas.Bool.{and_parts, eqb-true, leb-true}
-use Rattle.std.proofs.lemmas.List.{length-append}
-use Rattle.capture_pcap.specs.Words.{number, is_field}
-use Rattle.capture_pcap.specs.Record.{IsRecord}
-use Rattle.capture_pcap.specs.Blocks.{padded, section_kind, IsOrderMark}
-use Rattle.capture_pcap.specs.Blocks.{section_with}
-use Rattle.capture_pcap.specs.Blocks.{is_other, fresh, AreBlocks}
-use Rattle.capture_pcap.specs.Blocks.IsOrderMark.{big, little}
-use Rattle.capture_pcap.specs.Blocks.AreBlocks.{section as section_block}
+use Rattle.capture_pcap.proofs.BlockStands.{SectionAs, size_in, SizeAs}
+use Rattle.capture_pcap.specs.BlockStep.{is_size, has_room}
+use Rattle.capture_pcap.specs.Blocks.{padded, section_kind, IsOrderMark, section_with, is_other}
+use Rattle.capture_pcap.specs.Blocks.{fresh, AreBlocks, AreBlocks.section as section_block}
 use Rattle.capture_pcap.specs.Blocks.AreBlocks.{interface as interface_block}
 use Rattle.capture_pcap.specs.Blocks.AreBlocks.{packet as packet_block, other as other_block}
-use Rattle.capture_pcap.specs.BlockStep.{is_size}
-use Rattle.capture_pcap.specs.BlockStep.{has_room}
-use Rattle.line_stamps.specs.declared.seen.Seen.{Seen}
-use Rattle.capture_pcap.specs.declared.words.Order.{Order}
-use Rattle.capture_pcap.specs.declared.words.Order.TheVariants.{Big, Little}
-use Rattle.capture_pcap.specs.declared.block.Section.{Section}
+use Rattle.capture_pcap.specs.Blocks.IsOrderMark.{big, little}
+use Rattle.capture_pcap.specs.{Record.IsRecord, Words.number, Words.is_field}
 use Rattle.capture_pcap.specs.declared.block.Kind.TheVariants.{Interface as InterfaceKind}
 use Rattle.capture_pcap.specs.declared.block.Kind.TheVariants.{Packet as PacketKind}
-use Rattle.capture_pcap.specs.declared.block.Kind.TheVariants.{Other as OtherKind}
-use Rattle.capture_pcap.proofs.BlockStands.{SectionAs, size_in, SizeAs}
+use Rattle.capture_pcap.specs.declared.block.{Kind.TheVariants.Other as OtherKind, Section.Section}
+use Rattle.capture_pcap.specs.declared.words.Order.{Order, TheVariants.Big, TheVariants.Little}
+use Rattle.{line_stamps.specs.declared.seen.Seen.Seen, std.proofs.Common.◌≡◌, std.proofs.Common.◌∙◌}
+use Rattle.std.proofs.Common.{ℕ, ◌+◌, ◌*◌, ◌-◌, ◌%◌, ◌<◌, ◌≤◌, ◌==◌, nat_le, true, false, List, ◌∷◌}
+use Rattle.std.proofs.Common.{◌++◌, length, Option, Some, refl, ap, sym, subst, arith, append_assoc}
+use Rattle.std.proofs.lemmas.{Bool.and_parts, Bool.eqb-true, Bool.leb-true, List.length-append}
 
 -- ---- whole blocks
 

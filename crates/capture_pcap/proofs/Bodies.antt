@@ -1,25 +1,17 @@
 -- What a packet so far is at each place of its reader, and what a field or a byte makes of it.
-use Rattle.std.proofs.Common.{◌≡◌, ◌∙◌, ℕ, ◌+◌, ◌-◌, ◌<◌, nat_lt, Bool, true, false}
-use Rattle.std.proofs.Common.{List}
-use Rattle.std.proofs.Common.{[], ◌∷◌, ◌++◌, length, Option, Some, None, Result, Ok, refl, ap}
-use Rattle.std.proofs.Common.{sym}
-use Rattle.std.proofs.Common.{arith, append_assoc, append-nil, lt-ltb, slice_index}
-use Rattle.std.proofs.Common.{option_map}
-use Rattle.std.specs.Option.{option_to_list}
-use Rattle.std.proofs.lemmas.Bool.{ltb-true, ltb-false, cond_both}
-use Rattle.std.proofs.lemmas.List.{length-append}
-use Rattle.line_stamps.specs.declared.capture.Way.{Way}
-use Rattle.byte_walk.specs.Walks.{walk}
-use Rattle.byte_walk.specs.Fields.{Spot, before_field, spot_step}
-use Rattle.byte_walk.proofs.WalkLaws.{walk-join}
-use Rattle.byte_walk.proofs.FieldLaws.{field_walk, single_walk}
-use Rattle.capture_pcap.specs.Record.{IsRecord, event_way, seen_byte, seen_bytes, seen_data}
-use Rattle.capture_pcap.specs.Record.{seen_event}
+use Rattle.byte_walk.proofs.{FieldLaws.field_walk, FieldLaws.single_walk, WalkLaws.walk-join}
+use Rattle.byte_walk.specs.{Fields.Spot, Fields.before_field, Fields.spot_step, Walks.walk}
 use Rattle.capture_pcap.specs.BodyStep.{takes_data, data_of, body_event, body_field_at}
 use Rattle.capture_pcap.specs.BodyStep.{body_byte_at, body_or}
-use Rattle.line_stamps.specs.declared.seen.Seen.{Seen}
-use Rattle.capture_pcap.specs.declared.body.Body.{Body}
+use Rattle.capture_pcap.specs.Record.{IsRecord, event_way, seen_byte, seen_bytes, seen_data}
+use Rattle.capture_pcap.specs.{Record.seen_event, declared.body.Body.Body}
 use Rattle.capture_pcap.specs.declared.body.Body.TheVariants.{Seconds, Fraction, Event, Data}
+use Rattle.line_stamps.specs.declared.{capture.Way.Way, seen.Seen.Seen}
+use Rattle.std.proofs.Common.{◌≡◌, ◌∙◌, ℕ, ◌+◌, ◌-◌, ◌<◌, nat_lt, Bool, true, false, List, [], ◌∷◌}
+use Rattle.std.proofs.Common.{◌++◌, length, Option, Some, None, Result, Ok, refl, ap, sym, arith}
+use Rattle.std.proofs.Common.{append_assoc, append-nil, lt-ltb, slice_index, option_map}
+use Rattle.std.proofs.lemmas.{Bool.ltb-true, Bool.ltb-false, Bool.cond_both, List.length-append}
+use Rattle.std.specs.Option.{option_to_list}
 
 -- ---- what is seen of data
 

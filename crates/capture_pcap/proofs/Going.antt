@@ -1,25 +1,17 @@
 -- From before a field or a byte a file can still come to its end.
-use Rattle.std.proofs.Common.{◌≡◌, ℕ, Bool, true, false, List, [], ◌∷◌}
-use Rattle.std.proofs.Common.{◌++◌, length, replicate, Option, Some, None, Ok, refl}
-use Rattle.std.proofs.Common.{subst}
-use Rattle.std.specs.Option.{option_to_list}
-use Rattle.std.proofs.lemmas.List.{length-replicate}
-use Rattle.line_stamps.specs.declared.capture.Way.{Way}
-use Rattle.byte_walk.specs.Walks.{GoesOnFrom}
-use Rattle.byte_walk.specs.Fields.{before_field}
-use Rattle.byte_walk.proofs.WalkLaws.{walk-join}
-use Rattle.capture_pcap.specs.Record.{seen_data, event_way, seen_event}
-use Rattle.capture_pcap.specs.Pcap.{IsCapture}
+use Rattle.byte_walk.{proofs.WalkLaws.walk-join, specs.Fields.before_field, specs.Walks.GoesOnFrom}
+use Rattle.capture_pcap.proofs.{Bodies.data_walk, Walked.Walks, Walked.one_field}
 use Rattle.capture_pcap.specs.BodyStep.{takes_data, has_more, data_of, body_or, body_field_at}
-use Rattle.capture_pcap.specs.BodyStep.{body_byte_at}
+use Rattle.capture_pcap.specs.{BodyStep.body_byte_at, Pcap.IsCapture}
 use Rattle.capture_pcap.specs.PcapStep.{takes_bytes, field_at, byte_at, step_at, may_end_at}
-use Rattle.line_stamps.specs.declared.seen.Seen.{Seen}
+use Rattle.capture_pcap.specs.Record.{seen_data, event_way, seen_event}
 use Rattle.capture_pcap.specs.declared.body.Body.{Body}
 use Rattle.capture_pcap.specs.declared.body.Body.TheVariants.{Seconds, Fraction, Event, Data}
-use Rattle.capture_pcap.specs.declared.stage.Stage.{Stage}
-use Rattle.capture_pcap.specs.declared.stage.Stage.TheVariants.{Magic}
-use Rattle.capture_pcap.proofs.Bodies.{data_walk}
-use Rattle.capture_pcap.proofs.Walked.{Walks, one_field}
+use Rattle.capture_pcap.specs.declared.stage.Stage.{Stage, TheVariants.Magic}
+use Rattle.line_stamps.specs.declared.{capture.Way.Way, seen.Seen.Seen}
+use Rattle.std.proofs.Common.{◌≡◌, ℕ, Bool, true, false, List, [], ◌∷◌, ◌++◌, length, replicate}
+use Rattle.std.proofs.Common.{Option, Some, None, Ok, refl, subst}
+use Rattle.std.{proofs.lemmas.List.length-replicate, specs.Option.option_to_list}
 
 abbrev pub GoesOn : Stage → Type 0
 GoesOn stage = GoesOnFrom step_at (before_field Magic) may_end_at IsCapture (before_field stage)

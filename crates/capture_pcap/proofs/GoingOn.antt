@@ -1,32 +1,22 @@
 -- How a file goes on to its end from each stage of its reader.
-use Rattle.std.proofs.Common.{◌≡◌, ℕ, zero, suc, ◌+◌, ◌-◌}
-use Rattle.std.proofs.Common.{true, List, [], ◌∷◌, length, None}
-use Rattle.std.proofs.Common.{refl, arith, lt-ltb}
-use Rattle.std.proofs.lemmas.Bool.{eq-eqb}
-use Rattle.byte_walk.specs.Walks.{walk}
-use Rattle.byte_walk.specs.Fields.{before_field}
-use Rattle.capture_pcap.specs.Words.{number}
-use Rattle.capture_pcap.specs.BodyStep.{has_more}
-use Rattle.capture_pcap.specs.PcapStep.{field_at}
-use Rattle.line_stamps.specs.declared.seen.Seen.{Seen}
-use Rattle.capture_pcap.specs.declared.body.Body.{Body}
-use Rattle.capture_pcap.specs.declared.body.Body.TheVariants.{Seconds as RtacSeconds}
-use Rattle.capture_pcap.specs.declared.words.Clock.{Clock}
-use Rattle.capture_pcap.specs.declared.words.Order.{Order}
-use Rattle.capture_pcap.specs.declared.words.Order.TheVariants.{Big, Little}
-use Rattle.capture_pcap.specs.declared.words.Resolution.TheVariants.{Microseconds}
-use Rattle.capture_pcap.specs.declared.stage.Stage.{Stage}
-use Rattle.capture_pcap.specs.declared.stage.Stage.TheVariants.{Magic, Free, Link, Seconds}
-use Rattle.capture_pcap.specs.declared.stage.Stage.TheVariants.{Fraction, Captured, Original}
-use Rattle.capture_pcap.specs.declared.stage.Stage.TheVariants.{Packet}
-use Rattle.capture_pcap.proofs.Bodies.{AtBody}
-use Rattle.capture_pcap.proofs.Bodies.AtBody.{seconds as rtac_seconds, fraction as rtac_fraction}
-use Rattle.capture_pcap.proofs.Bodies.AtBody.{event, payload}
-use Rattle.capture_pcap.proofs.Stages.{AtStage}
+use Rattle.byte_walk.specs.{Fields.before_field, Walks.walk}
+use Rattle.capture_pcap.proofs.BlockGoing.{on_block}
+use Rattle.capture_pcap.proofs.Bodies.{AtBody, AtBody.seconds as rtac_seconds}
+use Rattle.capture_pcap.proofs.Bodies.AtBody.{fraction as rtac_fraction, event, payload}
+use Rattle.capture_pcap.proofs.{Going.GoesOn, Going.on_field, Going.on_body, Stages.AtStage}
 use Rattle.capture_pcap.proofs.Stages.AtStage.{magic, free, link, seconds, fraction, captured}
 use Rattle.capture_pcap.proofs.Stages.AtStage.{original, packet, blocks}
-use Rattle.capture_pcap.proofs.Going.{GoesOn, on_field, on_body}
-use Rattle.capture_pcap.proofs.BlockGoing.{on_block}
+use Rattle.capture_pcap.specs.{BodyStep.has_more, PcapStep.field_at, Words.number}
+use Rattle.capture_pcap.specs.declared.body.Body.{Body, TheVariants.Seconds as RtacSeconds}
+use Rattle.capture_pcap.specs.declared.stage.Stage.{Stage, TheVariants.Magic}
+use Rattle.capture_pcap.specs.declared.stage.Stage.TheVariants.{Free, Link, Seconds, Fraction}
+use Rattle.capture_pcap.specs.declared.stage.Stage.TheVariants.{Captured, Original, Packet}
+use Rattle.capture_pcap.specs.declared.words.{Clock.Clock, Order.Order}
+use Rattle.capture_pcap.specs.declared.words.Order.TheVariants.{Big, Little}
+use Rattle.capture_pcap.specs.declared.words.Resolution.TheVariants.{Microseconds}
+use Rattle.line_stamps.specs.declared.seen.Seen.{Seen}
+use Rattle.std.proofs.Common.{◌≡◌, ℕ, zero, suc, ◌+◌, ◌-◌, true, List, [], ◌∷◌, length, None, refl}
+use Rattle.std.proofs.{Common.arith, Common.lt-ltb, lemmas.Bool.eq-eqb}
 
 on_seconds : (clock : Clock) → GoesOn (Seconds clock)
 unfolding walk

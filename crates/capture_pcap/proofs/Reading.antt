@@ -1,34 +1,27 @@
 -- The reader reads pcap files exactly.
-use Rattle.std.proofs.Common.{◌≡◌, ◌∙◌, ℕ, ◌+◌, ◌==◌, Bool, true, false, List, []}
-use Rattle.std.proofs.Common.{◌∷◌, ◌++◌, length, Option, Some, None, Ok, Err, refl, ap, sym, subst}
-use Rattle.std.proofs.Common.{arith, append_assoc, append-nil, nat_lt, ◌⊎◌, inl, inr, Result}
-use Rattle.std.specs.Option.{option_to_list}
-use Rattle.std.proofs.lemmas.Bool.{and_parts, eqb-true, ltb-false, cond-true, cond-false}
-use Rattle.std.proofs.lemmas.List.{length-append}
-use Rattle.byte_walk.specs.Walks.{walk, ReadsFormat, Begins, BeginsNone}
-use Rattle.byte_walk.specs.Fields.{Spot, before_field, at_spot, RefusesField}
-use Rattle.byte_walk.proofs.WalkLaws.{walk-more, reads_begins, reads_none, reads_each, reads_open}
 use Rattle.byte_walk.proofs.FieldLaws.{ReachedSpot, reached_spot}
-use Rattle.capture_pcap.specs.Pcap.{IsCapture, IsCause}
-use Rattle.capture_pcap.specs.PcapStep.{Stepped, takes_bytes, field_at, byte_at, step_at, may_end}
-use Rattle.capture_pcap.specs.PcapStep.{may_end_at}
-use Rattle.line_stamps.specs.declared.seen.Seen.{Seen}
-use Rattle.capture_pcap.specs.declared.fault.PcapFault.{PcapFault}
-use Rattle.capture_pcap.specs.declared.stage.Stage.{Stage}
-use Rattle.capture_pcap.specs.declared.stage.Stage.TheVariants.{Magic}
+use Rattle.byte_walk.proofs.WalkLaws.{walk-more, reads_begins, reads_none, reads_each, reads_open}
+use Rattle.byte_walk.specs.Fields.{Spot, before_field, at_spot, RefusesField}
+use Rattle.byte_walk.specs.Walks.{walk, ReadsFormat, Begins, BeginsNone}
 use Rattle.capture_pcap.proofs.Stages.{AtStage, Moves, field_goes, byte_goes, field_cause}
 use Rattle.capture_pcap.proofs.Stages.{byte_taken}
 use Rattle.capture_pcap.proofs.Stages.AtStage.{magic, free, link, seconds, fraction, captured}
 use Rattle.capture_pcap.proofs.Stages.AtStage.{original, packet, blocks}
-use Rattle.capture_pcap.specs.Blocks.{section_kind}
-use Rattle.capture_pcap.specs.Pcap.IsCapture.{pcap, pcapng}
-use Rattle.capture_pcap.specs.BlockStep.{may_end as may_end_block}
-use Rattle.capture_pcap.specs.declared.block.Block.{Block}
+use Rattle.capture_pcap.specs.{BlockStep.may_end as may_end_block, Blocks.section_kind}
+use Rattle.capture_pcap.specs.Pcap.{IsCapture, IsCause, IsCapture.pcap, IsCapture.pcapng}
+use Rattle.capture_pcap.specs.PcapStep.{Stepped, takes_bytes, field_at, byte_at, step_at, may_end}
+use Rattle.capture_pcap.specs.PcapStep.{may_end_at}
+use Rattle.capture_pcap.specs.declared.{block.Block.Block, fault.PcapFault.PcapFault}
+use Rattle.capture_pcap.specs.declared.stage.Stage.{Stage, TheVariants.Magic}
+use Rattle.line_stamps.specs.declared.seen.Seen.{Seen}
+use Rattle.std.proofs.Common.{◌≡◌, ◌∙◌, ℕ, ◌+◌, ◌==◌, Bool, true, false, List, [], ◌∷◌, ◌++◌}
+use Rattle.std.proofs.Common.{length, Option, Some, None, Ok, Err, refl, ap, sym, subst, arith}
+use Rattle.std.proofs.Common.{append_assoc, append-nil, nat_lt, ◌⊎◌, inl, inr, Result}
+use Rattle.std.proofs.lemmas.Bool.{and_parts, eqb-true, ltb-false, cond-true, cond-false}
+use Rattle.std.{proofs.lemmas.List.length-append, specs.Option.option_to_list}
 use Rattle.capture_pcap.specs.declared.block.Block.TheVariants as b
-use Rattle.capture_pcap.proofs.BlockStands.{AtBlock}
-use Rattle.capture_pcap.proofs.BlockSpelled.{blocks_walk}
+use Rattle.capture_pcap.proofs.{BlockSpelled.blocks_walk, BlockStands.AtBlock, GoingOn.on_stage}
 use Rattle.capture_pcap.proofs.Spelled.{packets_walk}
-use Rattle.capture_pcap.proofs.GoingOn.{on_stage}
 
 pub fields : (stage next : Stage) (front field : List ℕ) (items : List Seen) (item : Option Seen)
     → AtStage stage front items → takes_bytes stage ≡ false → length field ≡ 4

@@ -1,25 +1,19 @@
 -- What a reader comes to over the parts of a right file.
-use Rattle.std.proofs.Common.{◌≡◌, ◌∙◌, ℕ, ◌+◌, ◌-◌, ◌<◌}
-use Rattle.std.proofs.Common.{List, [], ◌++◌, length, None, Ok}
-use Rattle.std.proofs.Common.{refl, ap}
-use Rattle.std.proofs.Common.{sym, subst, arith, lt-ltb, le-ltb}
-use Rattle.std.proofs.lemmas.Bool.{eq-eqb}
-use Rattle.capture_pcap.specs.Words.{number}
-use Rattle.capture_pcap.specs.Record.{IsRecord}
-use Rattle.capture_pcap.specs.Pcap.{IsMagic, IsHeader, IsTime, AreLengths, IsPacket, ArePackets}
-use Rattle.capture_pcap.specs.Pcap.IsMagic.{big_micro, little_micro, big_nano, little_nano}
-use Rattle.capture_pcap.specs.Pcap.ArePackets.{none, more}
-use Rattle.capture_pcap.specs.PcapStep.{takes_bytes, field_at, byte_at, after_length}
-use Rattle.capture_pcap.specs.PcapStep.{after_captured}
-use Rattle.line_stamps.specs.declared.seen.Seen.{Seen}
-use Rattle.capture_pcap.specs.declared.body.Body.TheVariants.{Seconds as RtacSeconds}
-use Rattle.capture_pcap.specs.declared.words.Clock.{Clock}
-use Rattle.capture_pcap.specs.declared.stage.Stage.{Stage}
-use Rattle.capture_pcap.specs.declared.stage.Stage.TheVariants.{Magic, Free, Link, Seconds}
-use Rattle.capture_pcap.specs.declared.stage.Stage.TheVariants.{Fraction, Captured, Original}
-use Rattle.capture_pcap.specs.declared.stage.Stage.TheVariants.{Packet}
 use Rattle.capture_pcap.proofs.Bodies.{record_walk}
 use Rattle.capture_pcap.proofs.Walked.{Walks, one_field, both, four_of}
+use Rattle.capture_pcap.specs.Pcap.{IsMagic, IsHeader, IsTime, AreLengths, IsPacket, ArePackets}
+use Rattle.capture_pcap.specs.Pcap.ArePackets.{none, more}
+use Rattle.capture_pcap.specs.Pcap.IsMagic.{big_micro, little_micro, big_nano, little_nano}
+use Rattle.capture_pcap.specs.PcapStep.{takes_bytes, field_at, byte_at, after_length}
+use Rattle.capture_pcap.specs.{PcapStep.after_captured, Record.IsRecord, Words.number}
+use Rattle.capture_pcap.specs.declared.body.Body.TheVariants.{Seconds as RtacSeconds}
+use Rattle.capture_pcap.specs.declared.stage.Stage.{Stage, TheVariants.Magic}
+use Rattle.capture_pcap.specs.declared.stage.Stage.TheVariants.{Free, Link, Seconds, Fraction}
+use Rattle.capture_pcap.specs.declared.stage.Stage.TheVariants.{Captured, Original, Packet}
+use Rattle.capture_pcap.specs.declared.words.Clock.{Clock}
+use Rattle.{line_stamps.specs.declared.seen.Seen.Seen, std.proofs.Common.◌≡◌, std.proofs.Common.◌∙◌}
+use Rattle.std.proofs.Common.{ℕ, ◌+◌, ◌-◌, ◌<◌, List, [], ◌++◌, length, None, Ok, refl, ap, sym}
+use Rattle.std.proofs.{Common.subst, Common.arith, Common.lt-ltb, Common.le-ltb, lemmas.Bool.eq-eqb}
 
 -- ---- the header
 

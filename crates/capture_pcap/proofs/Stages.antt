@@ -1,52 +1,39 @@
 -- What a file so far is at each stage of its reader, and what a field or a byte makes of it.
-use Rattle.std.proofs.Common.{◌≡◌, ◌∙◌, ℕ, ◌+◌, ◌*◌, ◌-◌, ◌<◌, ◌≤◌, ◌==◌, nat_lt}
-use Rattle.std.proofs.Common.{true, false, List, [], ◌∷◌, ◌++◌, length, Option, Some, None, Result}
-use Rattle.std.proofs.Common.{Ok}
-use Rattle.std.proofs.Common.{Err, refl, ap, sym, subst, arith, append_assoc, append-nil}
-use Rattle.std.specs.Option.{option_to_list}
-use Rattle.std.proofs.lemmas.Bool.{ltb-true, ltb-false, cond_both, eqb-true}
-use Rattle.std.proofs.lemmas.List.{length-append}
-use Rattle.capture_pcap.specs.Words.{number, nanoseconds, is_field}
-use Rattle.capture_pcap.specs.Pcap.{IsMagic, IsTime, AreLengths, ArePackets}
-use Rattle.capture_pcap.specs.Pcap.{IsCause}
-use Rattle.capture_pcap.specs.Pcap.IsMagic.{big_micro, little_micro, big_nano, little_nano}
-use Rattle.capture_pcap.specs.Pcap.ArePackets.{none, more}
-use Rattle.capture_pcap.specs.Pcap.IsCause.{no_magic, other_link, short_packet, cut_packet}
+use Rattle.byte_walk.specs.{Fields.before_field, Walks.walk}
+use Rattle.capture_pcap.specs.BlockStep.{block_field_at, block_byte_at}
+use Rattle.capture_pcap.specs.BlockStep.{takes_bytes as block_takes_bytes}
+use Rattle.capture_pcap.specs.Blocks.{section_kind, AreBlocks.nothing as no_block}
 use Rattle.capture_pcap.specs.BodyStep.{body_field_at, body_byte_at, body_or}
+use Rattle.capture_pcap.specs.Pcap.{IsMagic, IsTime, AreLengths, ArePackets, IsCause}
+use Rattle.capture_pcap.specs.Pcap.{ArePackets.none, ArePackets.more, IsCause.no_magic}
+use Rattle.capture_pcap.specs.Pcap.IsCause.{other_link, short_packet, cut_packet, in_block}
+use Rattle.capture_pcap.specs.Pcap.IsMagic.{big_micro, little_micro, big_nano, little_nano}
 use Rattle.capture_pcap.specs.PcapStep.{Stepped, takes_bytes, field_at, byte_at, free_at}
-use Rattle.capture_pcap.specs.PcapStep.{after_magic_at}
-use Rattle.line_stamps.specs.declared.seen.Seen.{Seen}
-use Rattle.capture_pcap.specs.declared.body.Body.{Body}
-use Rattle.capture_pcap.specs.declared.body.Body.TheVariants.{Seconds as RtacSeconds}
+use Rattle.capture_pcap.specs.PcapStep.{after_magic_at, in_blocks, pcap_magic_at, step_at}
+use Rattle.capture_pcap.specs.Words.{number, nanoseconds, is_field}
+use Rattle.capture_pcap.specs.declared.block.Block.{Block, TheVariants.SectionSize}
+use Rattle.capture_pcap.specs.declared.body.Body.{Body, TheVariants.Seconds as RtacSeconds}
+use Rattle.capture_pcap.specs.declared.fault.PcapFault.{PcapFault, TheVariants.Magic as NoMagic}
+use Rattle.capture_pcap.specs.declared.fault.PcapFault.TheVariants.{Link as NoLink, Short, Cut}
+use Rattle.capture_pcap.specs.declared.stage.Stage.{Stage, TheVariants.Magic}
+use Rattle.capture_pcap.specs.declared.stage.Stage.TheVariants.{Free, Link, Seconds, Fraction}
+use Rattle.capture_pcap.specs.declared.stage.Stage.TheVariants.{Captured, Original, Packet}
 use Rattle.capture_pcap.specs.declared.words.Clock.{Clock}
 use Rattle.capture_pcap.specs.declared.words.Order.TheVariants.{Big, Little}
 use Rattle.capture_pcap.specs.declared.words.Resolution.TheVariants.{Microseconds, Nanoseconds}
-use Rattle.capture_pcap.specs.declared.fault.PcapFault.{PcapFault}
-use Rattle.capture_pcap.specs.declared.fault.PcapFault.TheVariants.{Magic as NoMagic}
-use Rattle.capture_pcap.specs.declared.fault.PcapFault.TheVariants.{Link as NoLink, Short, Cut}
-use Rattle.capture_pcap.specs.declared.stage.Stage.{Stage}
-use Rattle.capture_pcap.specs.declared.stage.Stage.TheVariants.{Magic, Free, Link, Seconds}
-use Rattle.capture_pcap.specs.declared.stage.Stage.TheVariants.{Fraction, Captured, Original}
-use Rattle.capture_pcap.specs.declared.stage.Stage.TheVariants.{Packet}
-use Rattle.capture_pcap.specs.Blocks.{section_kind}
-use Rattle.capture_pcap.specs.Blocks.AreBlocks.{nothing as no_block}
-use Rattle.capture_pcap.specs.Pcap.IsCause.{in_block}
-use Rattle.byte_walk.specs.Walks.{walk}
-use Rattle.byte_walk.specs.Fields.{before_field}
-use Rattle.capture_pcap.specs.PcapStep.{in_blocks, pcap_magic_at, step_at}
-use Rattle.capture_pcap.specs.BlockStep.{block_field_at, block_byte_at}
-use Rattle.capture_pcap.specs.BlockStep.{takes_bytes as block_takes_bytes}
-use Rattle.capture_pcap.specs.declared.block.Block.{Block}
-use Rattle.capture_pcap.specs.declared.block.Block.TheVariants.{SectionSize}
+use Rattle.line_stamps.specs.declared.seen.Seen.{Seen}
+use Rattle.std.proofs.Common.{◌≡◌, ◌∙◌, ℕ, ◌+◌, ◌*◌, ◌-◌, ◌<◌, ◌≤◌, ◌==◌, nat_lt, true, false, List}
+use Rattle.std.proofs.Common.{[], ◌∷◌, ◌++◌, length, Option, Some, None, Result, Ok, Err, refl, ap}
+use Rattle.std.proofs.Common.{sym, subst, arith, append_assoc, append-nil}
+use Rattle.std.proofs.lemmas.Bool.{ltb-true, ltb-false, cond_both, eqb-true}
+use Rattle.std.{proofs.lemmas.List.length-append, specs.Option.option_to_list}
 use Rattle.capture_pcap.specs.declared.block.Block.TheVariants as b
-use Rattle.capture_pcap.specs.declared.stage.Stage.TheVariants.{Blocks}
-use Rattle.capture_pcap.proofs.BlockPlaces.{block_field_goes, block_byte_goes}
-use Rattle.capture_pcap.proofs.BlockStands.{AtBlock, BlockGoes}
-use Rattle.capture_pcap.proofs.BlockWholes.{section_as}
 use Rattle.capture_pcap.proofs.BlockLive.{Live, LiveStep, live_field, live_byte}
-use Rattle.capture_pcap.proofs.FieldFacts.{field_is}
+use Rattle.capture_pcap.proofs.BlockPlaces.{block_field_goes, block_byte_goes}
+use Rattle.capture_pcap.proofs.{BlockStands.AtBlock, BlockStands.BlockGoes, BlockWholes.section_as}
 use Rattle.capture_pcap.proofs.Bodies.{AtBody, BodyGoes, body_field_goes, body_byte_goes}
-use Rattle.capture_pcap.proofs.Bodies.AtBody.{seconds as rtac_seconds}
+use Rattle.capture_pcap.proofs.{Bodies.AtBody.seconds as rtac_seconds, FieldFacts.field_is}
+use Rattle.capture_pcap.specs.declared.stage.Stage.TheVariants.{Blocks}
 
 -- the file so far brings its reader to this stage, and has these items
 pub data AtStage : Stage → List ℕ → List Seen → Type 0 where

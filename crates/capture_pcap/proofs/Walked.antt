@@ -1,14 +1,11 @@
 -- Walks from before a field to before another.
-use Rattle.std.proofs.Common.{◌≡◌, ℕ, ◌+◌, false, List, [], ◌∷◌, ◌++◌, length, Option}
-use Rattle.std.proofs.Common.{Ok, refl, arith}
-use Rattle.std.specs.Option.{option_to_list}
-use Rattle.byte_walk.specs.Walks.{walk}
-use Rattle.byte_walk.specs.Fields.{before_field}
-use Rattle.byte_walk.proofs.WalkLaws.{walk-join}
-use Rattle.byte_walk.proofs.FieldLaws.{field_walk}
+use Rattle.byte_walk.proofs.{FieldLaws.field_walk, WalkLaws.walk-join}
+use Rattle.byte_walk.specs.{Fields.before_field, Walks.walk}
 use Rattle.capture_pcap.specs.PcapStep.{takes_bytes, field_at, byte_at, step_at}
-use Rattle.line_stamps.specs.declared.seen.Seen.{Seen}
 use Rattle.capture_pcap.specs.declared.stage.Stage.{Stage}
+use Rattle.line_stamps.specs.declared.seen.Seen.{Seen}
+use Rattle.std.proofs.Common.{◌≡◌, ℕ, ◌+◌, false, List, [], ◌∷◌, ◌++◌, length, Option, Ok, refl}
+use Rattle.std.{proofs.Common.arith, specs.Option.option_to_list}
 
 -- a reader that comes before a field comes over these bytes to where it comes before another
 pub record Walks (from : Stage) (bytes : List ℕ) (to : Stage) (items : List Seen) : Type 0 where

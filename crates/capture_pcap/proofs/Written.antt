@@ -1,18 +1,13 @@
 -- The header of a packet that is written, and data behind it, are a packet.
-use Rattle.std.proofs.Common.{◌≡◌, ◌∙◌, ℕ, ◌+◌, ◌*◌, ◌/◌, ◌%◌, ◌++◌, ◌∷◌, [], List, length, true, refl, ap}
-use Rattle.std.proofs.Common.{sym, subst, append-nil, ◌<◌, ◌^◌}
-use Rattle.std.proofs.Common.{arith, append_assoc}
-use Rattle.line_stamps.specs.declared.capture.Way.{Way}
-use Rattle.line_stamps.specs.declared.capture.Way.TheVariants.{A, B}
-use Rattle.capture_pcap.specs.Record.{seen_of, seen_bytes}
-use Rattle.capture_pcap.specs.Pcap.{IsPacket}
+use Rattle.byteorder.specs.{Endian.big_bytes, Endian.little_bytes, Numbers.little_number-reads_back}
+use Rattle.byteorder.specs.Numbers.{length-bytes_low_first, length-bytes_high_first}
+use Rattle.capture_pcap.specs.{Pcap.IsPacket, Record.seen_of, Record.seen_bytes, Words.number}
 use Rattle.capture_pcap.specs.Writing.{written_clock, data_event, AppendsNumber, AppendsFour}
 use Rattle.capture_pcap.specs.Writing.{packet_front, written_packet as as_written}
-use Rattle.capture_pcap.specs.Words.{number}
 use Rattle.capture_pcap.specs.declared.words.Order.TheVariants.{Little}
-use Rattle.byteorder.specs.Numbers.{little_number-reads_back, length-bytes_low_first}
-use Rattle.byteorder.specs.Numbers.{length-bytes_high_first}
-use Rattle.byteorder.specs.Endian.{big_bytes, little_bytes}
+use Rattle.line_stamps.specs.declared.capture.Way.{Way, TheVariants.A, TheVariants.B}
+use Rattle.std.proofs.Common.{◌≡◌, ◌∙◌, ℕ, ◌+◌, ◌*◌, ◌/◌, ◌%◌, ◌++◌, ◌∷◌, [], List, length, true}
+use Rattle.std.proofs.Common.{refl, ap, sym, subst, append-nil, ◌<◌, ◌^◌, arith, append_assoc}
 
 data_seen : (start : ℕ) (way : Way) (payload : List ℕ)
     → seen_bytes start way true payload ≡ seen_of start (data_event way) payload

@@ -1,23 +1,18 @@
 -- Where the reader of rows refuses an export, and in which line.
-use Rattle.std.proofs.Common.{◌≡◌, ◌∙◌, ℕ, ◌+◌, ◌==◌, if◌then◌else◌, Bool, true, false, List, [], ◌∷◌, ◌++◌}
-use Rattle.std.proofs.Common.{length, Option, Some, None, Result, Ok, Err, nat_lt, ◌≤◌, ⊎_elim, refl, ap}
-use Rattle.std.proofs.Common.{sym, arith, lt-ltb}
-use Rattle.std.proofs.lemmas.Bool.{cases_lt, eq-eqb, ne_eqb, cond-true, cond-false, le-ltb}
-use Rattle.std.proofs.lemmas.List.{length-append}
-use Rattle.line_stamps.specs.declared.seen.Seen.{Seen}
-use Rattle.capture_text.specs.CaptureText.{lines_ended}
-use Rattle.capture_text.proofs.Reached.{lines_ended-more}
-use Rattle.capture_rows.specs.Reader.{StandsFor, Refuses, CauseIn, place_of, state_of, with_line}
-use Rattle.yasir_ticks.specs.Characters.{line_feed}
-use Rattle.capture_rows.specs.Rows.{RowState, ended_line, line_at, step_at}
-use Rattle.capture_rows.specs.declared.TheConstants.{MAX_LINE}
-use Rattle.capture_rows.specs.declared.fault.RowFault.{RowFault}
-use Rattle.capture_rows.specs.declared.fault.RowFault.TheVariants.{Long}
-use Rattle.capture_rows.specs.declared.fault.BadRow.{BadRow}
-use Rattle.capture_rows.specs.declared.row.Row.{Row}
-use Rattle.capture_rows.specs.declared.row.Stage.{Stage}
-use Rattle.capture_rows.specs.declared.row_reader.RowReader.{RowReader}
 use Rattle.capture_rows.proofs.RowLaws.{reached}
+use Rattle.capture_rows.specs.Reader.{StandsFor, Refuses, CauseIn, place_of, state_of, with_line}
+use Rattle.capture_rows.specs.Rows.{RowState, ended_line, line_at, step_at}
+use Rattle.capture_rows.specs.declared.{TheConstants.MAX_LINE, fault.BadRow.BadRow}
+use Rattle.capture_rows.specs.declared.fault.RowFault.{RowFault, TheVariants.Long}
+use Rattle.capture_rows.specs.declared.row.{Row.Row, Stage.Stage}
+use Rattle.capture_rows.specs.declared.row_reader.RowReader.{RowReader}
+use Rattle.capture_text.{proofs.Reached.lines_ended-more, specs.CaptureText.lines_ended}
+use Rattle.line_stamps.specs.declared.seen.Seen.{Seen}
+use Rattle.std.proofs.Common.{◌≡◌, ◌∙◌, ℕ, ◌+◌, ◌==◌, if◌then◌else◌, Bool, true, false, List, []}
+use Rattle.std.proofs.Common.{◌∷◌, ◌++◌, length, Option, Some, None, Result, Ok, Err, nat_lt, ◌≤◌}
+use Rattle.std.proofs.Common.{⊎_elim, refl, ap, sym, arith, lt-ltb}
+use Rattle.std.proofs.lemmas.Bool.{cases_lt, eq-eqb, ne_eqb, cond-true, cond-false, le-ltb}
+use Rattle.{std.proofs.lemmas.List.length-append, yasir_ticks.specs.Characters.line_feed}
 
 one_more : (t : Bool) (n : ℕ) → (if t then n + 1 else n) ≡ n + (if t then 1 else 0)
 one_more true n = refl

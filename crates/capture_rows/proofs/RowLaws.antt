@@ -1,25 +1,19 @@
 -- The reader of rows reads exports exactly, whatever their form.
+use Rattle.byte_walk.proofs.WalkLaws.{walk-cons, walk-join, walk-one, walk-more, walk_keeps}
+use Rattle.byte_walk.proofs.WalkLaws.{reads_each, reads_none, reads_open}
+use Rattle.byte_walk.specs.Walks.{walk, ReadsFormat, BeginsNone}
+use Rattle.capture_rows.specs.Rows.{RowState, first_state, may_end, may_end_at, ended_line, line_at}
+use Rattle.capture_rows.specs.Rows.{step_at, AreRows, IsExport, AreRows.none, AreRows.more}
+use Rattle.capture_rows.specs.declared.{TheConstants.MAX_LINE, fault.RowFault.RowFault}
+use Rattle.capture_rows.specs.declared.{fault.RowFault.TheVariants.Long, row.Row.Row}
+use Rattle.{capture_rows.specs.declared.row.Stage.Stage, line_stamps.specs.declared.seen.Seen.Seen}
 use Rattle.std.proofs.Common.{◌≡◌, ◌∙◌, ℕ, ◌+◌, ◌<◌, ◌≤◌, ◌==◌, not, nat_lt, Bool, true, false}
 use Rattle.std.proofs.Common.{List, [], ◌∷◌, ◌++◌, length, Option, None, Result, Ok, Err, refl, ap}
 use Rattle.std.proofs.Common.{sym, subst, arith, append_assoc, append-nil, lt-ltb, ◌⊎◌, inl, inr}
-use Rattle.std.specs.List.{list_all}
-use Rattle.std.specs.Option.{option_to_list}
-use Rattle.std.proofs.lemmas.Bool.{and_parts, eqb-true, eq-eqb, ne_eqb, ltb-true, le-ltb}
-use Rattle.std.proofs.lemmas.Bool.{cond-true, cond-false}
-use Rattle.std.proofs.lemmas.List.{length-append}
+use Rattle.std.proofs.lemmas.Bool.{and_parts, eqb-true, eq-eqb, ne_eqb, ltb-true, le-ltb, cond-true}
+use Rattle.std.proofs.lemmas.{Bool.cond-false, List.length-append}
+use Rattle.std.specs.{List.list_all, Option.option_to_list}
 use Rattle.yasir_ticks.specs.Characters.{line_feed}
-use Rattle.byte_walk.specs.Walks.{walk, ReadsFormat, BeginsNone}
-use Rattle.byte_walk.proofs.WalkLaws.{walk-cons, walk-join, walk-one, walk-more, walk_keeps}
-use Rattle.byte_walk.proofs.WalkLaws.{reads_each, reads_none, reads_open}
-use Rattle.line_stamps.specs.declared.seen.Seen.{Seen}
-use Rattle.capture_rows.specs.declared.TheConstants.{MAX_LINE}
-use Rattle.capture_rows.specs.declared.fault.RowFault.{RowFault}
-use Rattle.capture_rows.specs.declared.fault.RowFault.TheVariants.{Long}
-use Rattle.capture_rows.specs.declared.row.Row.{Row}
-use Rattle.capture_rows.specs.declared.row.Stage.{Stage}
-use Rattle.capture_rows.specs.Rows.{RowState, first_state, may_end, may_end_at, ended_line, line_at}
-use Rattle.capture_rows.specs.Rows.{step_at, AreRows, IsExport}
-use Rattle.capture_rows.specs.Rows.AreRows.{none, more}
 
 abbrev Place : Type 0
 Place = RowState × List ℕ

@@ -1,13 +1,11 @@
 -- What the bytes of a line are, and what follows for the causes of its refusals.
-use Rattle.std.proofs.Common.{◌≡◌, ◌∙◌, ℕ, ◌+◌, ◌*◌, ◌-◌, ◌/◌, ◌==◌, ◌||◌, Bool, true}
-use Rattle.std.proofs.Common.{false, List, [], ◌∷◌, ◌++◌, Some, None, refl, ap}
-use Rattle.std.proofs.Common.{arith}
-use Rattle.std.specs.List.{list_all}
-use Rattle.std.proofs.lemmas.Bool.{and_parts}
+use Rattle.capture_text.specs.CaptureText.{point, is_blank, with_point, IsTime, ArePairs, IsPair}
+use Rattle.capture_text.specs.CaptureText.{fraction_value, stays_in_line, behind_blank}
 use Rattle.hex.specs.Hex.{hex_digit_value}
+use Rattle.std.proofs.Common.{◌≡◌, ◌∙◌, ℕ, ◌+◌, ◌*◌, ◌-◌, ◌/◌, ◌==◌, ◌||◌, Bool, true, false, List}
+use Rattle.std.proofs.Common.{[], ◌∷◌, ◌++◌, Some, None, refl, ap, arith}
+use Rattle.std.{proofs.lemmas.Bool.and_parts, specs.List.list_all}
 use Rattle.yasir_ticks.specs.TickText.{is_decimal_digit, ends_in_return}
-use Rattle.capture_text.specs.CaptureText.{point, is_blank, with_point, IsTime, ArePairs}
-use Rattle.capture_text.specs.CaptureText.{IsPair, fraction_value, stays_in_line, behind_blank}
 
 -- the bytes of a time
 abbrev pub is_time_byte : ℕ → Bool

@@ -1,43 +1,33 @@
 -- What a line so far is at each place of its reader, and what one byte more makes of it.
-use Rattle.std.proofs.Common.{◌≡◌, ◌∙◌, ℕ, ◌+◌, ◌*◌, ◌-◌, ◌/◌, ◌<◌, ◌^◌, ◌==◌, ◌⊎◌}
-use Rattle.std.proofs.Common.{Bool, true, false, List, [], ◌∷◌, ◌++◌, length, map, Option, Some}
-use Rattle.std.proofs.Common.{None}
-use Rattle.std.proofs.Common.{Ok, Err, refl, ap, sym, arith, cond, append_assoc, append-nil, inl}
-use Rattle.std.proofs.Common.{inr}
-use Rattle.std.proofs.Common.{subst, lt-ltb, nat_lt}
-use Rattle.std.specs.List.{list_all}
-use Rattle.std.specs.Option.{option_to_list}
-use Rattle.std.proofs.lemmas.Bool.{eqb-true, cond_both, ltb-true}
-use Rattle.std.proofs.lemmas.List.{length-append}
-use Rattle.hex.specs.Hex.{hex_digit_value}
-use Rattle.yasir_ticks.specs.TickText.{is_decimal_digit, number_after, ends_in_return}
-use Rattle.yasir_ticks.proofs.Digits.{number_after-append}
-use Rattle.line_stamps.specs.declared.capture.CaptureByte.{CaptureByte}
-use Rattle.capture_text.specs.CaptureText.{point, is_blank, ends_line, IsTime, ArePairs}
-use Rattle.capture_text.specs.CaptureText.{nanoseconds, stays_in_line}
-use Rattle.capture_text.specs.CaptureText.{behind_blank, fault_in_line, IsComment, IsContent}
-use Rattle.capture_text.specs.CaptureText.{IsLine}
-use Rattle.capture_text.specs.CaptureText.{IsRecord, recorded, capture_byte}
+use Rattle.capture_text.proofs.LineFacts.{is_time_byte, all_more, all_weaker, digit_is_time_byte}
+use Rattle.capture_text.proofs.LineFacts.{time_byte_no_return, hex_no_return, blank_no_return}
+use Rattle.capture_text.proofs.LineFacts.{blank_stays, hex_stays, digit_stays, no_hex_no_digit}
+use Rattle.capture_text.proofs.LineFacts.{ends_in_return-more, ends_in_return-none}
+use Rattle.capture_text.proofs.LineFacts.{behind_blank-none, behind_blank-some, time_bytes}
+use Rattle.capture_text.proofs.LineFacts.{counts_after, fraction_value-more, counts_after-more}
+use Rattle.capture_text.{proofs.LineFacts.pairs_more, specs.CaptureText.point}
+use Rattle.capture_text.specs.CaptureText.{is_blank, ends_line, IsTime, ArePairs, nanoseconds}
+use Rattle.capture_text.specs.CaptureText.{stays_in_line, behind_blank, fault_in_line, IsComment}
+use Rattle.capture_text.specs.CaptureText.{IsContent, IsLine, IsRecord, recorded, capture_byte}
 use Rattle.capture_text.specs.CaptureText.IsContent.{nothing, comment, stamped}
 use Rattle.capture_text.specs.CaptureText.IsLine.{plain, returned}
-use Rattle.capture_text.specs.TextStep.{Stepped, step_at, whole_time}
-use Rattle.capture_text.specs.TextStep.{fault_without_bytes, fault_in_pair, after_line, after_time}
-use Rattle.capture_text.specs.TextStep.{to_whole, to_fraction, after_fraction, to_half, to_pairs}
-use Rattle.capture_text.specs.TextStep.{may_end, end_fault_at}
-use Rattle.capture_text.specs.declared.place.Place.{Place}
-use Rattle.capture_text.specs.declared.place.Place.TheVariants.{Start, Comment, Whole, Point}
-use Rattle.capture_text.specs.declared.place.Place.TheVariants.{Fraction, Blank, Pairs, Half}
-use Rattle.capture_text.specs.declared.place.Place.TheVariants.{Returned}
-use Rattle.capture_text.specs.declared.fault.TextFault.{TextFault}
+use Rattle.capture_text.specs.TextStep.{Stepped, step_at, whole_time, fault_without_bytes}
+use Rattle.capture_text.specs.TextStep.{fault_in_pair, after_line, after_time, to_whole}
+use Rattle.capture_text.specs.TextStep.{to_fraction, after_fraction, to_half, to_pairs, may_end}
+use Rattle.capture_text.specs.{TextStep.end_fault_at, declared.fault.TextFault.TextFault}
 use Rattle.capture_text.specs.declared.fault.TextFault.TheVariants.{Char, Late, Odd, Empty}
-use Rattle.capture_text.proofs.LineFacts.{is_time_byte, all_more, all_weaker}
-use Rattle.capture_text.proofs.LineFacts.{digit_is_time_byte, time_byte_no_return, hex_no_return}
-use Rattle.capture_text.proofs.LineFacts.{blank_no_return, blank_stays, hex_stays, digit_stays}
-use Rattle.capture_text.proofs.LineFacts.{no_hex_no_digit}
-use Rattle.capture_text.proofs.LineFacts.{ends_in_return-more}
-use Rattle.capture_text.proofs.LineFacts.{ends_in_return-none, behind_blank-none}
-use Rattle.capture_text.proofs.LineFacts.{behind_blank-some, time_bytes, counts_after}
-use Rattle.capture_text.proofs.LineFacts.{fraction_value-more, counts_after-more, pairs_more}
+use Rattle.capture_text.specs.declared.place.Place.{Place, TheVariants.Start}
+use Rattle.capture_text.specs.declared.place.Place.TheVariants.{Comment, Whole, Point, Fraction}
+use Rattle.capture_text.specs.declared.place.Place.TheVariants.{Blank, Pairs, Half, Returned}
+use Rattle.hex.specs.Hex.{hex_digit_value}
+use Rattle.line_stamps.specs.declared.capture.CaptureByte.{CaptureByte}
+use Rattle.std.proofs.Common.{◌≡◌, ◌∙◌, ℕ, ◌+◌, ◌*◌, ◌-◌, ◌/◌, ◌<◌, ◌^◌, ◌==◌, ◌⊎◌, Bool, true}
+use Rattle.std.proofs.Common.{false, List, [], ◌∷◌, ◌++◌, length, map, Option, Some, None, Ok, Err}
+use Rattle.std.proofs.Common.{refl, ap, sym, arith, cond, append_assoc, append-nil, inl, inr, subst}
+use Rattle.std.proofs.{Common.lt-ltb, Common.nat_lt, lemmas.Bool.eqb-true, lemmas.Bool.cond_both}
+use Rattle.std.{proofs.lemmas.Bool.ltb-true, proofs.lemmas.List.length-append, specs.List.list_all}
+use Rattle.{std.specs.Option.option_to_list, yasir_ticks.proofs.Digits.number_after-append}
+use Rattle.yasir_ticks.specs.TickText.{is_decimal_digit, number_after, ends_in_return}
 
 -- digits of whole seconds
 pub record IsWhole (line : List ℕ) (time : ℕ) : Type 0 where

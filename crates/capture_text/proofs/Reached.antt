@@ -1,26 +1,21 @@
 -- What a text so far is where its reader has come to a place.
-use Rattle.std.proofs.Common.{◌≡◌, ◌∙◌, ℕ, ◌+◌, ◌==◌, true, false, List, [], ◌∷◌, ◌++◌}
-use Rattle.std.proofs.Common.{Option, Some, None, Ok, Err, refl, ap, sym, subst, arith}
-use Rattle.std.proofs.Common.{append_assoc}
-use Rattle.std.proofs.Common.{append-nil, inl, inr, if◌then◌else◌}
-use Rattle.std.specs.List.{list_all}
-use Rattle.std.specs.Option.{option_to_list}
-use Rattle.line_stamps.specs.declared.capture.CaptureByte.{CaptureByte}
-use Rattle.byte_walk.specs.Walks.{walk}
-use Rattle.byte_walk.proofs.WalkLaws.{walk_keeps}
-use Rattle.capture_text.specs.CaptureText.{stays_in_line, AreLines, IsLine, IsTextCapture, IsCause}
-use Rattle.capture_text.specs.CaptureText.{lines_ended}
-use Rattle.capture_text.specs.CaptureText.AreLines.{none, more}
-use Rattle.capture_text.specs.CaptureText.IsLine.{plain, returned}
-use Rattle.capture_text.specs.CaptureText.IsContent.{nothing, comment, stamped}
-use Rattle.capture_text.specs.TextStep.{step_at, may_end, end_fault_at, Stepped}
-use Rattle.capture_text.specs.declared.place.Place.{Place}
-use Rattle.capture_text.specs.declared.place.Place.TheVariants.{Start}
-use Rattle.capture_text.specs.declared.fault.TextFault.{TextFault}
+use Rattle.byte_walk.{proofs.WalkLaws.walk_keeps, specs.Walks.walk}
 use Rattle.capture_text.proofs.LineFacts.{all_more}
 use Rattle.capture_text.proofs.Places.{At, Goes, Ends, GoesOn, step_goes, end_goes, EndGoes}
 use Rattle.capture_text.proofs.Places.At.{start, in_comment, whole, after_point, fraction}
 use Rattle.capture_text.proofs.Places.At.{after_blank, pairs, half, after_return}
+use Rattle.capture_text.specs.CaptureText.{stays_in_line, AreLines, IsLine, IsTextCapture, IsCause}
+use Rattle.capture_text.specs.CaptureText.{lines_ended, AreLines.none, AreLines.more}
+use Rattle.capture_text.specs.CaptureText.IsContent.{nothing, comment, stamped}
+use Rattle.capture_text.specs.CaptureText.IsLine.{plain, returned}
+use Rattle.capture_text.specs.TextStep.{step_at, may_end, end_fault_at, Stepped}
+use Rattle.capture_text.specs.declared.fault.TextFault.{TextFault}
+use Rattle.capture_text.specs.declared.place.Place.{Place, TheVariants.Start}
+use Rattle.line_stamps.specs.declared.capture.CaptureByte.{CaptureByte}
+use Rattle.std.proofs.Common.{◌≡◌, ◌∙◌, ℕ, ◌+◌, ◌==◌, true, false, List, [], ◌∷◌, ◌++◌, Option}
+use Rattle.std.proofs.Common.{Some, None, Ok, Err, refl, ap, sym, subst, arith, append_assoc}
+use Rattle.std.proofs.Common.{append-nil, inl, inr, if◌then◌else◌}
+use Rattle.std.specs.{List.list_all, Option.option_to_list}
 
 -- the text so far: lines that ended, and a line that brings its reader to this place
 pub record Reached (place : Place) (text : List ℕ) (items : List CaptureByte) : Type 0 where

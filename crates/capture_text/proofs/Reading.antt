@@ -1,23 +1,19 @@
 -- The reader reads text captures exactly.
-use Rattle.std.proofs.Common.{◌≡◌, ℕ, ◌+◌, ◌*◌, ◌<◌, ◌^◌, true, List, []}
-use Rattle.std.proofs.Common.{◌∷◌, ◌++◌, Option, Some, None, Ok, Err, refl, sym, arith}
-use Rattle.std.specs.Option.{option_to_list}
-use Rattle.line_stamps.specs.declared.capture.CaptureByte.{CaptureByte}
-use Rattle.byte_walk.specs.Walks.{walk, ReadsFormat, GoesOnFrom, Begins, BeginsNone}
 use Rattle.byte_walk.proofs.WalkLaws.{walk-cons, walk-more, reads_begins, reads_none, reads_open}
+use Rattle.byte_walk.specs.Walks.{walk, ReadsFormat, GoesOnFrom, Begins, BeginsNone}
+use Rattle.capture_text.proofs.Places.{At, At.start, At.in_comment, At.whole, At.after_point}
+use Rattle.capture_text.proofs.Places.At.{fraction, after_blank, pairs, half, after_return}
+use Rattle.capture_text.proofs.Reached.{reached, reached_end, reached_cause, reached_open}
+use Rattle.capture_text.proofs.{Reached.reached_closed, Spelled.text_walk, Spelled.fits_so}
 use Rattle.capture_text.specs.CaptureText.{IsTextCapture, capture_byte, IsCause}
 use Rattle.capture_text.specs.TextStep.{step_at, may_end, end_fault_at}
-use Rattle.capture_text.specs.declared.place.Place.{Place}
-use Rattle.capture_text.specs.declared.place.Place.TheVariants.{Start, Comment, Point}
-use Rattle.capture_text.specs.declared.place.Place.TheVariants.{Fraction, Blank, Pairs}
-use Rattle.capture_text.specs.declared.place.Place.TheVariants.{Returned}
-use Rattle.capture_text.specs.declared.fault.TextFault.{TextFault}
-use Rattle.capture_text.proofs.Places.{At}
-use Rattle.capture_text.proofs.Places.At.{start, in_comment, whole, after_point, fraction}
-use Rattle.capture_text.proofs.Places.At.{after_blank, pairs, half, after_return}
-use Rattle.capture_text.proofs.Reached.{reached, reached_end, reached_cause, reached_open}
-use Rattle.capture_text.proofs.Reached.{reached_closed}
-use Rattle.capture_text.proofs.Spelled.{text_walk, fits_so}
+use Rattle.capture_text.specs.declared.{fault.TextFault.TextFault, place.Place.Place}
+use Rattle.capture_text.specs.declared.place.Place.TheVariants.{Start, Comment, Point, Fraction}
+use Rattle.capture_text.specs.declared.place.Place.TheVariants.{Blank, Pairs, Returned}
+use Rattle.line_stamps.specs.declared.capture.CaptureByte.{CaptureByte}
+use Rattle.std.proofs.Common.{◌≡◌, ℕ, ◌+◌, ◌*◌, ◌<◌, ◌^◌, true, List, [], ◌∷◌, ◌++◌, Option, Some}
+use Rattle.std.proofs.Common.{None, Ok, Err, refl, sym, arith}
+use Rattle.std.specs.Option.{option_to_list}
 
 -- from this place a text can still come to its end
 abbrev GoesOn : Place → Type 0

@@ -1,13 +1,10 @@
 -- A text capture as a list of items: its bytes, each as one.
-use Rattle.std.proofs.Common.{◌≡◌, ◌∙◌, ℕ, List, [], ◌∷◌, ◌++◌, map, Option, Some, None, refl, ap, sym}
-use Rattle.std.proofs.Common.{option_map}
-use Rattle.std.specs.Option.{option_to_list}
-use Rattle.line_stamps.specs.declared.capture.CaptureByte.{CaptureByte}
-use Rattle.line_stamps.specs.declared.seen.Seen.{Seen}
-use Rattle.line_stamps.specs.declared.seen.Seen.TheVariants.{Byte}
 use Rattle.byte_walk.specs.Walks.{Begins, BeginsNone}
-use Rattle.capture_text.specs.CaptureText.{IsTextCapture}
-use Rattle.capture_text.specs.Reader.{IsSeenText}
+use Rattle.capture_text.specs.{CaptureText.IsTextCapture, Reader.IsSeenText}
+use Rattle.line_stamps.specs.declared.capture.CaptureByte.{CaptureByte}
+use Rattle.line_stamps.specs.declared.seen.Seen.{Seen, TheVariants.Byte}
+use Rattle.std.proofs.Common.{◌≡◌, ◌∙◌, ℕ, List, [], ◌∷◌, ◌++◌, map, Option, Some, None, refl, ap}
+use Rattle.std.{proofs.Common.sym, proofs.Common.option_map, specs.Option.option_to_list}
 
 pub seen-append : (first second : List CaptureByte) → map Byte (first ++ second)
     ≡ map Byte first ++ map Byte second

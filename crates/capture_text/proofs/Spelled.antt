@@ -1,28 +1,23 @@
 -- What a reader comes to over the lines of a right text.
-use Rattle.std.proofs.Common.{◌≡◌, ◌∙◌, ℕ, ◌+◌, ◌*◌, ◌-◌, ◌/◌, ◌<◌, ◌^◌, ◌==◌, Bool, true}
-use Rattle.std.proofs.Common.{false, List, [], ◌∷◌, ◌++◌, length, map, Some, None, Ok}
-use Rattle.std.proofs.Common.{refl, ap, sym, subst, arith, append-nil, lt-ltb}
-use Rattle.std.specs.List.{list_all}
-use Rattle.std.proofs.lemmas.Bool.{and_parts}
-use Rattle.hex.specs.Hex.{hex_digit_value}
-use Rattle.yasir_ticks.specs.TickText.{is_decimal_digit, number_after}
-use Rattle.yasir_ticks.proofs.Digits.{number_after-grows}
-use Rattle.line_stamps.specs.declared.capture.CaptureByte.{CaptureByte}
-use Rattle.byte_walk.specs.Walks.{walk}
 use Rattle.byte_walk.proofs.WalkLaws.{walk-join, walk-more, walk-cons}
+use Rattle.{byte_walk.specs.Walks.walk, capture_text.proofs.LineFacts.counts_after}
 use Rattle.capture_text.specs.CaptureText.{point, is_blank, with_point, IsTime, ArePairs}
-use Rattle.capture_text.specs.CaptureText.{fraction_value, nanoseconds, stays_in_line}
-use Rattle.capture_text.specs.CaptureText.{IsContent, IsLine, AreLines, IsTextCapture}
-use Rattle.capture_text.specs.CaptureText.{IsRecord, recorded, capture_byte}
+use Rattle.capture_text.specs.CaptureText.{fraction_value, nanoseconds, stays_in_line, IsContent}
+use Rattle.capture_text.specs.CaptureText.{IsLine, AreLines, IsTextCapture, IsRecord, recorded}
+use Rattle.capture_text.specs.CaptureText.{capture_byte, AreLines.none, AreLines.more}
 use Rattle.capture_text.specs.CaptureText.IsContent.{nothing, comment, stamped}
 use Rattle.capture_text.specs.CaptureText.IsLine.{plain, returned}
-use Rattle.capture_text.specs.CaptureText.AreLines.{none, more}
 use Rattle.capture_text.specs.TextStep.{step_at, may_end, fitting}
-use Rattle.capture_text.specs.declared.place.Place.{Place}
-use Rattle.capture_text.specs.declared.place.Place.TheVariants.{Start, Comment, Whole, Point}
-use Rattle.capture_text.specs.declared.place.Place.TheVariants.{Fraction, Blank, Pairs, Half}
-use Rattle.capture_text.specs.declared.place.Place.TheVariants.{Returned}
-use Rattle.capture_text.proofs.LineFacts.{counts_after}
+use Rattle.capture_text.specs.declared.place.Place.{Place, TheVariants.Start}
+use Rattle.capture_text.specs.declared.place.Place.TheVariants.{Comment, Whole, Point, Fraction}
+use Rattle.capture_text.specs.declared.place.Place.TheVariants.{Blank, Pairs, Half, Returned}
+use Rattle.hex.specs.Hex.{hex_digit_value}
+use Rattle.{line_stamps.specs.declared.capture.CaptureByte.CaptureByte, std.proofs.Common.◌≡◌}
+use Rattle.std.proofs.Common.{◌∙◌, ℕ, ◌+◌, ◌*◌, ◌-◌, ◌/◌, ◌<◌, ◌^◌, ◌==◌, Bool, true, false, List}
+use Rattle.std.proofs.Common.{[], ◌∷◌, ◌++◌, length, map, Some, None, Ok, refl, ap, sym, subst}
+use Rattle.std.proofs.{Common.arith, Common.append-nil, Common.lt-ltb, lemmas.Bool.and_parts}
+use Rattle.{std.specs.List.list_all, yasir_ticks.proofs.Digits.number_after-grows}
+use Rattle.yasir_ticks.specs.TickText.{is_decimal_digit, number_after}
 
 -- ---- times
 

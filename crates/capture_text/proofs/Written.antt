@@ -1,19 +1,15 @@
 -- A time that is written, and digits of bytes behind it, are a record.
-use Rattle.std.proofs.Common.{◌≡◌, ◌∙◌, ℕ, ◌+◌, ◌*◌, ◌-◌, ◌/◌, ◌%◌, ◌<◌, ◌≤◌, ◌^◌, true, List}
-use Rattle.std.proofs.Common.{[], ◌∷◌, ◌++◌, length, refl, ap, arith, append_assoc}
-use Rattle.std.proofs.Common.{slice_index, suc}
-use Rattle.std.specs.Fmt.{decimal}
-use Rattle.std.specs.List.{list_all}
-use Rattle.std.proofs.lemmas.Fmt.{decimal_by_steps}
-use Rattle.std.proofs.lemmas.List.{length-append}
-use Rattle.hex.specs.Hex.{encode_lower, encode_with, lower_digits, IsBytes}
-use Rattle.hex.proofs.HexLemmas.{IsDigits-lower_digits}
-use Rattle.yasir_ticks.specs.TickText.{is_decimal_digit, number_after}
-use Rattle.yasir_ticks.proofs.Digits.{number_after-append}
-use Rattle.capture_text.specs.CaptureText.{IsTime, IsRecord, IsPair, ArePairs, recorded, point}
-use Rattle.capture_text.specs.CaptureText.{fraction_value}
-use Rattle.capture_text.specs.Writing.{fraction_digits, time_front}
 use Rattle.capture_text.proofs.LineFacts.{all_more}
+use Rattle.capture_text.specs.CaptureText.{IsTime, IsRecord, IsPair, ArePairs, recorded, point}
+use Rattle.capture_text.specs.{CaptureText.fraction_value, Writing.fraction_digits}
+use Rattle.{capture_text.specs.Writing.time_front, hex.proofs.HexLemmas.IsDigits-lower_digits}
+use Rattle.hex.specs.Hex.{encode_lower, encode_with, lower_digits, IsBytes}
+use Rattle.std.proofs.Common.{◌≡◌, ◌∙◌, ℕ, ◌+◌, ◌*◌, ◌-◌, ◌/◌, ◌%◌, ◌<◌, ◌≤◌, ◌^◌, true, List, []}
+use Rattle.std.proofs.Common.{◌∷◌, ◌++◌, length, refl, ap, arith, append_assoc, slice_index, suc}
+use Rattle.std.proofs.lemmas.{Fmt.decimal_by_steps, List.length-append}
+use Rattle.std.specs.{Fmt.decimal, List.list_all}
+use Rattle.yasir_ticks.proofs.Digits.{number_after-append}
+use Rattle.yasir_ticks.specs.TickText.{is_decimal_digit, number_after}
 
 -- ---- pairs
 

@@ -1,17 +1,14 @@
 -- The changes of a line, tick by tick.
-use Rattle.std.proofs.Common.{◌≡◌, ◌∙◌, ℕ, suc, ◌+◌, ◌-◌, ◌*◌, ◌<◌, ◌≤◌, Bool, true, false, List, [], ◌∷◌, ◌++◌, length}
-use Rattle.std.proofs.Common.{get_or, take, drop, replicate, refl, ap, sym, arith, append_assoc}
-use Rattle.std.proofs.lemmas.Grind.{flat_map-append}
-use Rattle.std.proofs.lemmas.List.{append-nil, take_all, length-append, length-replicate}
-use Rattle.yasir_ticks.specs.declared.tick.Tick.{Tick}
-use Rattle.yasir_ticks.specs.declared.tick.Tick.TheVariants.{Silent}
-use Rattle.line_stamps.specs.declared.rate.Rate.{Rate}
-use Rattle.capture_vcd.specs.Levels.{tick_levels, line_levels}
-use Rattle.capture_vcd.specs.Changes.{bit_start, quiet, changes_at, changes_from}
-use Rattle.capture_vcd.specs.Changes.{padded, ticks_changes}
-use Rattle.capture_vcd.specs.declared.changes.BothLevels.{BothLevels}
-use Rattle.capture_vcd.specs.declared.changes.Change.{Change}
 use Rattle.capture_vcd.proofs.LevelLaws.{last_level, line_ends_high, length_line}
+use Rattle.capture_vcd.specs.Changes.{bit_start, quiet, changes_at, changes_from, padded}
+use Rattle.capture_vcd.specs.{Changes.ticks_changes, Levels.tick_levels, Levels.line_levels}
+use Rattle.capture_vcd.specs.declared.changes.{BothLevels.BothLevels, Change.Change}
+use Rattle.line_stamps.specs.declared.rate.Rate.{Rate}
+use Rattle.std.proofs.Common.{◌≡◌, ◌∙◌, ℕ, suc, ◌+◌, ◌-◌, ◌*◌, ◌<◌, ◌≤◌, Bool, true, false, List}
+use Rattle.std.proofs.Common.{[], ◌∷◌, ◌++◌, length, get_or, take, drop, replicate, refl, ap, sym}
+use Rattle.std.proofs.{Common.arith, Common.append_assoc, lemmas.Grind.flat_map-append}
+use Rattle.std.proofs.lemmas.List.{append-nil, take_all, length-append, length-replicate}
+use Rattle.yasir_ticks.specs.declared.tick.Tick.{Tick, TheVariants.Silent}
 
 -- the levels of the last bit
 abbrev pub last_of : BothLevels → List Bool → List Bool → BothLevels

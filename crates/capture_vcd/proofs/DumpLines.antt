@@ -1,15 +1,11 @@
 -- What a writer has written of two lines, tick by tick.
-use Rattle.std.proofs.Common.{◌≡◌, ◌∙◌, ℕ, ◌+◌, ◌<◌, max, List, [], ◌∷◌, ◌++◌, length, take, get_or, subst, sym, ap}
-use Rattle.std.proofs.Common.{arith}
-use Rattle.yasir_ticks.specs.declared.tick.Tick.{Tick}
-use Rattle.yasir_ticks.specs.declared.tick.Tick.TheVariants.{Silent}
-use Rattle.line_stamps.specs.declared.rate.Rate.{Rate}
-use Rattle.capture_vcd.specs.Changes.{padded}
-use Rattle.capture_vcd.specs.Dump.{dump_text}
-use Rattle.capture_vcd.specs.Writer.{HasWritten}
-use Rattle.capture_vcd.specs.declared.text.Wires.{Wires}
-use Rattle.capture_vcd.specs.declared.writer.DumpWriter.{DumpWriter}
 use Rattle.capture_vcd.proofs.TextLaws.{front_more, front_all, dump_padded}
+use Rattle.capture_vcd.specs.{Changes.padded, Dump.dump_text, Writer.HasWritten}
+use Rattle.capture_vcd.specs.declared.{text.Wires.Wires, writer.DumpWriter.DumpWriter}
+use Rattle.line_stamps.specs.declared.rate.Rate.{Rate}
+use Rattle.std.proofs.Common.{◌≡◌, ◌∙◌, ℕ, ◌+◌, ◌<◌, max, List, [], ◌∷◌, ◌++◌, length, take, get_or}
+use Rattle.std.proofs.Common.{subst, sym, ap, arith}
+use Rattle.yasir_ticks.specs.declared.tick.Tick.{Tick, TheVariants.Silent}
 
 pub written_so : (writer : DumpWriter) (xs ys more_x more_y : List Tick) (text more : List ℕ)
     → HasWritten writer xs ys text → xs ≡ more_x → ys ≡ more_y → more ≡ text

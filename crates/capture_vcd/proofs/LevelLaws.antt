@@ -1,17 +1,14 @@
 -- The levels of ticks: how many they are, that they end high, and that they give their ticks back.
-use Rattle.std.proofs.Common.{◌≡◌, ◌∙◌, ℕ, zero, suc, ◌+◌, ◌-◌, ◌*◌, ◌/◌, ◌%◌, ◌^◌, ◌<◌, ◌≤◌, ◌==◌, ⊎_elim, Bool, true}
-use Rattle.std.proofs.Common.{count_ones, false, cond, List, [], ◌∷◌, ◌++◌, length, get_or, take, replicate, refl, ap, sym}
-use Rattle.std.proofs.Common.{arith, append_assoc}
-use Rattle.std.proofs.Math.Nat.{pow-succ'}
-use Rattle.std.proofs.lemmas.Bool.{cases_eq, eq-eqb, ne_eqb, cond-true, cond-false}
-use Rattle.std.proofs.lemmas.List.{length-append, length-replicate, take-replicate}
-use Rattle.std.proofs.lemmas.List.{get_or_append_left, get_or-append_right}
-use Rattle.yasir_ticks.specs.Ticks.{IsTick}
-use Rattle.yasir_ticks.specs.declared.tick.Tick.{Tick}
-use Rattle.yasir_ticks.specs.declared.tick.Tick.TheVariants.{Silent, Byte}
 use Rattle.capture_vcd.specs.Levels.{data_levels, parity_levels, byte_levels, tick_levels}
-use Rattle.capture_vcd.specs.Levels.{line_levels}
-use Rattle.capture_vcd.specs.Looks.{value_of, tick_of}
+use Rattle.capture_vcd.specs.{Levels.line_levels, Looks.value_of, Looks.tick_of}
+use Rattle.std.proofs.Common.{◌≡◌, ◌∙◌, ℕ, zero, suc, ◌+◌, ◌-◌, ◌*◌, ◌/◌, ◌%◌, ◌^◌, ◌<◌, ◌≤◌, ◌==◌}
+use Rattle.std.proofs.Common.{⊎_elim, Bool, true, count_ones, false, cond, List, [], ◌∷◌, ◌++◌}
+use Rattle.std.proofs.Common.{length, get_or, take, replicate, refl, ap, sym, arith, append_assoc}
+use Rattle.std.proofs.{Math.Nat.pow-succ', lemmas.Bool.cases_eq, lemmas.Bool.eq-eqb}
+use Rattle.std.proofs.lemmas.{Bool.ne_eqb, Bool.cond-true, Bool.cond-false, List.length-append}
+use Rattle.std.proofs.lemmas.List.{length-replicate, take-replicate, get_or_append_left}
+use Rattle.{std.proofs.lemmas.List.get_or-append_right, yasir_ticks.specs.Ticks.IsTick}
+use Rattle.yasir_ticks.specs.declared.tick.Tick.{Tick, TheVariants.Silent, TheVariants.Byte}
 
 -- ---- bits of data
 

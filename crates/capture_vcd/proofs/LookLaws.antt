@@ -1,24 +1,19 @@
 -- Who looks at a wire of a dump within a bit sees the level of this bit.
-use Rattle.std.proofs.Common.{◌≡◌, ◌∙◌, ℕ, zero, suc, ◌+◌, ◌-◌, ◌*◌, ◌<◌, ◌≤◌, ◌&&◌, if◌then◌else◌, Bool, true, false}
-use Rattle.std.proofs.Common.{List, [], ◌∷◌, ◌++◌, length, get_or, replicate, refl, ap, sym, arith, lt-ltb}
-use Rattle.std.proofs.Math.Nat.{div-mul-le_self, mul-le-mul_right}
-use Rattle.std.proofs.lemmas.Bool.{le-ltb}
-use Rattle.std.proofs.lemmas.Nat.{le-div}
-use Rattle.std.proofs.lemmas.List.{length-append, length-replicate}
-use Rattle.yasir_ticks.specs.declared.tick.Tick.{Tick}
-use Rattle.yasir_ticks.specs.declared.tick.Tick.TheVariants.{Silent}
-use Rattle.line_stamps.specs.Parts.{rounded}
-use Rattle.line_stamps.specs.declared.capture.Way.{Way}
-use Rattle.line_stamps.specs.declared.capture.Way.TheVariants.{A, B}
-use Rattle.line_stamps.specs.declared.rate.Rate.{Rate}
-use Rattle.capture_vcd.specs.Levels.{tick_levels, line_levels}
-use Rattle.capture_vcd.specs.Changes.{bit_start, quiet, change_if, changes_at, changes_from, padded}
-use Rattle.capture_vcd.specs.Changes.{dump_changes}
-use Rattle.capture_vcd.specs.Looks.{same_way, is_past, level_at, IsWithin}
-use Rattle.capture_vcd.specs.declared.changes.BothLevels.{BothLevels}
-use Rattle.capture_vcd.specs.declared.changes.Change.{Change}
-use Rattle.capture_vcd.proofs.LevelLaws.{length_line, level_in_line}
 use Rattle.capture_vcd.proofs.ChangeLaws.{changes_none, changes_one, changes_more, length_padded}
+use Rattle.capture_vcd.proofs.LevelLaws.{length_line, level_in_line}
+use Rattle.capture_vcd.specs.Changes.{bit_start, quiet, change_if, changes_at, changes_from, padded}
+use Rattle.capture_vcd.specs.{Changes.dump_changes, Levels.tick_levels, Levels.line_levels}
+use Rattle.capture_vcd.specs.Looks.{same_way, is_past, level_at, IsWithin}
+use Rattle.capture_vcd.specs.declared.changes.{BothLevels.BothLevels, Change.Change}
+use Rattle.line_stamps.specs.Parts.{rounded}
+use Rattle.line_stamps.specs.declared.capture.Way.{Way, TheVariants.A, TheVariants.B}
+use Rattle.line_stamps.specs.declared.rate.Rate.{Rate}
+use Rattle.std.proofs.Common.{◌≡◌, ◌∙◌, ℕ, zero, suc, ◌+◌, ◌-◌, ◌*◌, ◌<◌, ◌≤◌, ◌&&◌, if◌then◌else◌}
+use Rattle.std.proofs.Common.{Bool, true, false, List, [], ◌∷◌, ◌++◌, length, get_or, replicate}
+use Rattle.std.proofs.Common.{refl, ap, sym, arith, lt-ltb}
+use Rattle.std.proofs.Math.Nat.{div-mul-le_self, mul-le-mul_right}
+use Rattle.std.proofs.lemmas.{Bool.le-ltb, List.length-append, List.length-replicate, Nat.le-div}
+use Rattle.yasir_ticks.specs.declared.tick.Tick.{Tick, TheVariants.Silent}
 
 -- ---- bits start in their order
 

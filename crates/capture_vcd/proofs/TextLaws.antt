@@ -1,23 +1,17 @@
 -- The text of a dump, tick by tick.
-use Rattle.std.proofs.Common.{◌≡◌, ◌∙◌, ℕ, zero, suc, ◌+◌, ◌-◌, ◌*◌, ◌<◌, ◌≤◌, max, ⊎_elim, Bool, false, List}
-use Rattle.std.proofs.Common.{[], ◌∷◌, ◌++◌, length, take, drop, get_or, replicate, refl, ap, sym, arith}
-use Rattle.std.proofs.Common.{append_assoc}
-use Rattle.std.specs.List.{flat_map}
-use Rattle.std.proofs.lemmas.Grind.{flat_map-append}
-use Rattle.std.proofs.lemmas.Bool.{cases_lt}
-use Rattle.std.proofs.lemmas.List.{append-nil, take_all, take_more}
-use Rattle.std.proofs.lemmas.List.{get_or_append_left, get_or-append_right}
-use Rattle.yasir_ticks.specs.declared.tick.Tick.{Tick}
-use Rattle.yasir_ticks.specs.declared.tick.Tick.TheVariants.{Silent}
-use Rattle.line_stamps.specs.declared.rate.Rate.{Rate}
-use Rattle.capture_vcd.specs.Levels.{tick_levels}
-use Rattle.capture_vcd.specs.Changes.{bit_start, quiet, changes_at, changes_from, padded}
-use Rattle.capture_vcd.specs.Changes.{ticks_changes}
-use Rattle.capture_vcd.specs.Dump.{change_text, dump_front, dump_end, dump_text}
-use Rattle.capture_vcd.specs.declared.changes.BothLevels.{BothLevels}
-use Rattle.capture_vcd.specs.declared.changes.Change.{Change}
-use Rattle.capture_vcd.specs.declared.text.Wires.{Wires}
 use Rattle.capture_vcd.proofs.ChangeLaws.{bits_more, ticks_more, length_padded}
+use Rattle.capture_vcd.specs.Changes.{bit_start, quiet, changes_at, changes_from, padded}
+use Rattle.capture_vcd.specs.{Changes.ticks_changes, Dump.change_text, Dump.dump_front}
+use Rattle.capture_vcd.specs.{Dump.dump_end, Dump.dump_text, Levels.tick_levels}
+use Rattle.capture_vcd.specs.declared.changes.{BothLevels.BothLevels, Change.Change}
+use Rattle.{capture_vcd.specs.declared.text.Wires.Wires, line_stamps.specs.declared.rate.Rate.Rate}
+use Rattle.std.proofs.Common.{◌≡◌, ◌∙◌, ℕ, zero, suc, ◌+◌, ◌-◌, ◌*◌, ◌<◌, ◌≤◌, max, ⊎_elim, Bool}
+use Rattle.std.proofs.Common.{false, List, [], ◌∷◌, ◌++◌, length, take, drop, get_or, replicate}
+use Rattle.std.proofs.Common.{refl, ap, sym, arith, append_assoc}
+use Rattle.std.proofs.lemmas.{Bool.cases_lt, Grind.flat_map-append, List.append-nil}
+use Rattle.std.proofs.lemmas.List.{take_all, take_more, get_or_append_left, get_or-append_right}
+use Rattle.std.specs.List.{flat_map}
+use Rattle.yasir_ticks.specs.declared.tick.Tick.{Tick, TheVariants.Silent}
 
 -- the text of the first bit, and that of those behind it
 pub bits_text : (rate : Rate) (bit : ℕ) (before : BothLevels) (xs ys : List Bool)

@@ -1,13 +1,11 @@
 -- Bytes with marks, and the ticks that they are.
-use Rattle.std.proofs.Common.{◌≡◌, ◌∙◌, ℕ, zero, suc, ◌+◌, ◌<◌, ◌≤◌, List, [], ◌∷◌, ◌++◌}
-use Rattle.std.proofs.Common.{length, length-append, take, drop, map, replicate, get_or, refl, sym}
-use Rattle.std.proofs.Common.{ap, arith, append_assoc}
-use Rattle.std.proofs.lemmas.List.{drop-take, drop-drop, take_at}
-use Rattle.std.proofs.lemmas.List.{length-take-le}
-use Rattle.yasir_ticks.specs.Ticks.{silent}
-use Rattle.yasir_ticks.specs.declared.tick.Tick.{Tick}
-use Rattle.yasir_ticks.specs.declared.tick.Tick.TheVariants.{Silent, Byte}
 use Rattle.delay_ring.specs.DelayRing.{marked, marked_ticks}
+use Rattle.std.proofs.Common.{◌≡◌, ◌∙◌, ℕ, zero, suc, ◌+◌, ◌<◌, ◌≤◌, List, [], ◌∷◌, ◌++◌, length}
+use Rattle.std.proofs.Common.{length-append, take, drop, map, replicate, get_or, refl, sym, ap}
+use Rattle.std.proofs.Common.{arith, append_assoc}
+use Rattle.std.proofs.lemmas.List.{drop-take, drop-drop, take_at, length-take-le}
+use Rattle.yasir_ticks.specs.Ticks.{silent}
+use Rattle.yasir_ticks.specs.declared.tick.Tick.{Tick, TheVariants.Silent, TheVariants.Byte}
 
 pub ticks-append : (x y m n : List ℕ) → length x ≡ length m
     → marked_ticks (x ++ y) (m ++ n) ≡ marked_ticks x m ++ marked_ticks y n

@@ -1,7 +1,6 @@
 -- Marks of silence.
 use Rattle.std.proofs.Common.{◌≡◌, ℕ, ◌+◌, ◌-◌, ◌<◌, List, arith, subst, ⊎_elim}
-use Rattle.std.specs.Prelude.{slice_index_or}
-use Rattle.std.proofs.lemmas.Bool.{cases_lt}
+use Rattle.std.{proofs.lemmas.Bool.cases_lt, specs.Prelude.slice_index_or}
 
 -- those up to a place, and the next ones
 pub silence-more : (marks : List ℕ) (at n : ℕ)

@@ -1,17 +1,16 @@
 -- The ticks of a ring, which stand from a place on.
-use Rattle.std.proofs.Common.{◌≡◌, ◌∙◌, ℕ, zero, suc, ◌+◌, ◌<◌, ◌≤◌, List, [], ◌∷◌, ◌++◌}
-use Rattle.std.proofs.Common.{length, take, drop, map, replicate, get_or, refl, sym, ap, arith}
-use Rattle.std.proofs.Common.{slice_set, ⊎_elim}
+use Rattle.delay_ring.proofs.Marks.{ticks-append, ticks-length, ticks-take, ticks-drop, ticks-at}
+use Rattle.delay_ring.proofs.Marks.{ticks-silent, ticks-bytes, all-bytes, all-silent, entered}
+use Rattle.delay_ring.proofs.Marks.{marked-silent, marked-byte}
+use Rattle.delay_ring.specs.DelayRing.{marked, marked_ticks, AreAlike}
+use Rattle.std.proofs.Common.{◌≡◌, ◌∙◌, ℕ, zero, suc, ◌+◌, ◌<◌, ◌≤◌, List, [], ◌∷◌, ◌++◌, length}
+use Rattle.std.proofs.Common.{take, drop, map, replicate, get_or, refl, sym, ap, arith, slice_set}
+use Rattle.std.proofs.Common.{⊎_elim}
 use Rattle.std.proofs.lemmas.List.{drop-append-le, take_at, drop_at, set_split, length-drop}
 use Rattle.std.proofs.lemmas.List.{length-take-le, take-append-drop, take-replicate, get_or-take}
 use Rattle.std.proofs.lemmas.List.{get_or-drop, drop-drop, length-replicate}
 use Rattle.yasir_ticks.specs.Ticks.{silent}
-use Rattle.yasir_ticks.specs.declared.tick.Tick.{Tick}
-use Rattle.yasir_ticks.specs.declared.tick.Tick.TheVariants.{Silent, Byte}
-use Rattle.delay_ring.specs.DelayRing.{marked, marked_ticks, AreAlike}
-use Rattle.delay_ring.proofs.Marks.{ticks-append, ticks-length, ticks-take, ticks-drop, ticks-at}
-use Rattle.delay_ring.proofs.Marks.{ticks-silent, ticks-bytes, all-bytes, all-silent, entered}
-use Rattle.delay_ring.proofs.Marks.{marked-silent, marked-byte}
+use Rattle.yasir_ticks.specs.declared.tick.Tick.{Tick, TheVariants.Silent, TheVariants.Byte}
 
 -- the ticks that stand from a place on
 abbrev from : ℕ → ℕ → List ℕ → List ℕ → List Tick

@@ -1,19 +1,18 @@
 -- How many bytes of blocks of user data are right.
-use Rattle.std.proofs.Common.{◌≡◌, ℕ, zero, suc, ◌+◌, ◌-◌, ◌*◌, ◌<◌, ◌≤◌, ◌==◌}
-use Rattle.std.proofs.Common.{List, [], ◌++◌, length, take, drop, min, refl, arith, sym, ◌∙◌, ap}
-use Rattle.std.proofs.Common.{⊎_elim, length-append, append_assoc, append-nil, replicate}
-use Rattle.std.proofs.lemmas.List.{take_all, drop_all, take_at, drop_at, length-take, length-drop}
-use Rattle.std.proofs.lemmas.List.{length-replicate, nil_from_length, take-append-le}
-use Rattle.std.proofs.lemmas.List.{drop-append-le}
-use Rattle.std.proofs.lemmas.List.{take-append-drop, length-take-le, drop-take, take-take}
-use Rattle.std.proofs.lemmas.List.Elements.{All-append, All-take, All-drop, All-replicate, All-nil}
-use Rattle.std.proofs.lemmas.Bool.{cases_lt, cases_eq, cond-true, cond-false, eq-eqb, ne_eqb}
-use Rattle.line_rules.specs.Bytes.{AreBytes, low_first}
-use Rattle.dnp_link_frame.specs.Crc.{crc_dnp}
-use Rattle.dnp_link_frame.specs.Frame.{with_crc, blocks_for, in_blocks}
-use Rattle.dnp_link_frame.specs.Beginnings.{right_in_part, right_in_blocks, user_in_blocks}
 use Rattle.dnp_link_frame.proofs.Parts.{Starts, part_data, length-part_data, part_data-bytes}
 use Rattle.dnp_link_frame.proofs.Parts.{part_starts, part_bounds, part_longest}
+use Rattle.dnp_link_frame.specs.Beginnings.{right_in_part, right_in_blocks, user_in_blocks}
+use Rattle.dnp_link_frame.specs.{Crc.crc_dnp, Frame.with_crc, Frame.blocks_for, Frame.in_blocks}
+use Rattle.line_rules.specs.Bytes.{AreBytes, low_first}
+use Rattle.std.proofs.Common.{◌≡◌, ℕ, zero, suc, ◌+◌, ◌-◌, ◌*◌, ◌<◌, ◌≤◌, ◌==◌, List, [], ◌++◌}
+use Rattle.std.proofs.Common.{length, take, drop, min, refl, arith, sym, ◌∙◌, ap, ⊎_elim}
+use Rattle.std.proofs.Common.{length-append, append_assoc, append-nil, replicate}
+use Rattle.std.proofs.lemmas.Bool.{cases_lt, cases_eq, cond-true, cond-false, eq-eqb, ne_eqb}
+use Rattle.std.proofs.lemmas.List.{take_all, drop_all, take_at, drop_at, length-take, length-drop}
+use Rattle.std.proofs.lemmas.List.{length-replicate, nil_from_length, take-append-le}
+use Rattle.std.proofs.lemmas.List.{drop-append-le, take-append-drop, length-take-le, drop-take}
+use Rattle.std.proofs.lemmas.List.{take-take}
+use Rattle.std.proofs.lemmas.List.Elements.{All-append, All-take, All-drop, All-replicate, All-nil}
 
 pub in_blocks-none : (user : List ℕ) → in_blocks 0 user ≡ []
 unfolding in_blocks

@@ -1,45 +1,31 @@
 -- What a value keeps of its bytes, and what one more byte does to it.
-use Rattle.std.proofs.Common.{◌≡◌, ℕ, suc, ◌+◌, ◌-◌, ◌*◌, ◌/◌, ◌%◌, ◌<◌, ◌≤◌, nat_le, nat_lt}
-use Rattle.std.proofs.Common.{◌&&◌, ◌==◌, Bool, true, false, List, [], ◌∷◌, ◌++◌, length, take}
-use Rattle.std.proofs.Common.{drop, refl, arith, sym, ◌∙◌, ap, ⊎_elim, inl, inr, ◌⊎◌}
-use Rattle.std.proofs.Common.{lit<, lit≤}
-use Rattle.std.specs.Prelude.{if◌then◌else◌}
-use Rattle.std.proofs.lemmas.List.{length_push, get_or_push}
-use Rattle.std.proofs.lemmas.List.{take_all, drop_all, length-drop}
-use Rattle.std.proofs.lemmas.List.{take-append-le, drop-append-le}
-use Rattle.std.proofs.lemmas.List.Elements.{All-nil, All-push, All-drop}
-use Rattle.std.proofs.lemmas.Bool.{cases_lt, cases_eq, cases_Bool, cond-true, cond-false}
-use Rattle.std.proofs.lemmas.Bool.{and_from, and_left, and_right, lt-ltb, le-ltb, lt-leb, le-leb}
-use Rattle.std.proofs.lemmas.Bool.{eq-eqb, ne_eqb}
-use Rattle.line_rules.specs.Bytes.{AreBytes}
-use Rattle.line_rules.specs.Crc.{byte_step}
-use Rattle.line_rules.specs.Rules.{head_of}
-use Rattle.line_rules.specs.declared.head.Head.TheVariants.{Good, Bad}
-use Rattle.line_rules.proofs.CrcLaws.{crc-nil}
-use Rattle.line_rules.proofs.CrcZero.{crc-append}
-use Rattle.dnp_link_frame.specs.Crc.{register_of}
-use Rattle.dnp_link_frame.specs.Frame.{blocks_for}
-use Rattle.dnp_link_frame.specs.Blocks.{length_byte, user_len_by, size_by, room_by}
-use Rattle.dnp_link_frame.specs.Blocks.{ends_in_crc, is_good_header, end_in_crcs}
-use Rattle.dnp_link_frame.specs.Blocks.{block_start, running_block, is_frame, has_right_ending}
-use Rattle.dnp_link_frame.specs.BlockLaws.{length_byte-append, length_byte-none, end_in_crcs-none}
-use Rattle.dnp_link_frame.specs.BlockLaws.{end_in_crcs-last, end_in_crcs-append}
-use Rattle.dnp_link_frame.specs.BlockLaws.{block_start-header, block_start-user, blocks_for-last}
-use Rattle.dnp_link_frame.specs.BlockLaws.{running_block-header, running_block-user}
-use Rattle.dnp_link_frame.specs.BlockLaws.{is_good_header-begins}
-use Rattle.dnp_link_frame.specs.BlockLaws.{room_by-wrong}
-use Rattle.dnp_link_frame.specs.Rules.{dnp_rules}
-use Rattle.dnp_link_frame.specs.RulesLaws.{dnp_lawful, running_block-push, head_of-short}
-use Rattle.dnp_link_frame.specs.RulesLaws.{head_of-whole}
-use Rattle.dnp_link_frame.specs.Steps.{residue, begins_block, register_after, fits_header}
-use Rattle.dnp_link_frame.specs.Steps.{left_in_block}
-use Rattle.dnp_link_frame.specs.Steps.{blocks_after, len_byte_after, is_whole, ends_right, head_by}
-use Rattle.dnp_link_frame.specs.Dnp.{DnpStandsFor, header_so_far, blocks_so_far}
-use Rattle.dnp_link_frame.specs.Dnp.{is_full_dnp}
-use Rattle.dnp_link_frame.specs.declared.dnp.Dnp.{Dnp}
-use Rattle.dnp_link_frame.proofs.Residue.{residue_decides}
 use Rattle.dnp_link_frame.proofs.HeaderLaws.{header_so_far-push, header_so_far-none}
-use Rattle.dnp_link_frame.proofs.HeaderLaws.{header_so_far-whole}
+use Rattle.dnp_link_frame.proofs.{HeaderLaws.header_so_far-whole, Residue.residue_decides}
+use Rattle.dnp_link_frame.specs.BlockLaws.{length_byte-append, length_byte-none, end_in_crcs-none}
+use Rattle.dnp_link_frame.specs.BlockLaws.{end_in_crcs-last, end_in_crcs-append, block_start-header}
+use Rattle.dnp_link_frame.specs.BlockLaws.{block_start-user, blocks_for-last, running_block-header}
+use Rattle.dnp_link_frame.specs.BlockLaws.{running_block-user, is_good_header-begins, room_by-wrong}
+use Rattle.dnp_link_frame.specs.Blocks.{length_byte, user_len_by, size_by, room_by, ends_in_crc}
+use Rattle.dnp_link_frame.specs.Blocks.{is_good_header, end_in_crcs, block_start, running_block}
+use Rattle.dnp_link_frame.specs.{Blocks.is_frame, Blocks.has_right_ending, Crc.register_of}
+use Rattle.dnp_link_frame.specs.Dnp.{DnpStandsFor, header_so_far, blocks_so_far, is_full_dnp}
+use Rattle.dnp_link_frame.specs.{Frame.blocks_for, Rules.dnp_rules, RulesLaws.dnp_lawful}
+use Rattle.dnp_link_frame.specs.RulesLaws.{running_block-push, head_of-short, head_of-whole}
+use Rattle.dnp_link_frame.specs.Steps.{residue, begins_block, register_after, fits_header}
+use Rattle.dnp_link_frame.specs.Steps.{left_in_block, blocks_after, len_byte_after, is_whole}
+use Rattle.dnp_link_frame.specs.{Steps.ends_right, Steps.head_by, declared.dnp.Dnp.Dnp}
+use Rattle.line_rules.proofs.{CrcLaws.crc-nil, CrcZero.crc-append}
+use Rattle.line_rules.specs.{Bytes.AreBytes, Crc.byte_step, Rules.head_of}
+use Rattle.line_rules.specs.declared.head.Head.TheVariants.{Good, Bad}
+use Rattle.std.proofs.Common.{◌≡◌, ℕ, suc, ◌+◌, ◌-◌, ◌*◌, ◌/◌, ◌%◌, ◌<◌, ◌≤◌, nat_le, nat_lt, ◌&&◌}
+use Rattle.std.proofs.Common.{◌==◌, Bool, true, false, List, [], ◌∷◌, ◌++◌, length, take, drop}
+use Rattle.std.proofs.Common.{refl, arith, sym, ◌∙◌, ap, ⊎_elim, inl, inr, ◌⊎◌, lit<, lit≤}
+use Rattle.std.proofs.lemmas.Bool.{cases_lt, cases_eq, cases_Bool, cond-true, cond-false, and_from}
+use Rattle.std.proofs.lemmas.Bool.{and_left, and_right, lt-ltb, le-ltb, lt-leb, le-leb, eq-eqb}
+use Rattle.std.proofs.lemmas.{Bool.ne_eqb, List.length_push, List.get_or_push}
+use Rattle.std.proofs.lemmas.List.{take_all, drop_all, length-drop, take-append-le, drop-append-le}
+use Rattle.std.proofs.lemmas.List.Elements.{All-nil, All-push, All-drop}
+use Rattle.std.specs.Prelude.{if◌then◌else◌}
 
 -- ---- a byte begins a block of user data, or goes on in the one before
 

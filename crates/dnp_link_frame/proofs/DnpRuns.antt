@@ -1,32 +1,24 @@
 -- Bytes that are taken together: a whole header, bytes of one part, and runs of blocks.
-use Rattle.std.proofs.Common.{◌≡◌, ℕ, ◌+◌, ◌-◌, ◌*◌, ◌/◌, ◌%◌, ◌<◌, ◌≤◌, nat_le, nat_lt}
-use Rattle.std.proofs.Common.{◌&&◌, ◌==◌, Bool, true, false, List, [], ◌∷◌, ◌++◌, length, take}
-use Rattle.std.proofs.Common.{drop, get_or, min, refl, arith, sym, ◌∙◌, ap, subst}
-use Rattle.std.proofs.Common.{append-nil, append_assoc, length-append}
-use Rattle.std.specs.Prelude.{if◌then◌else◌}
-use Rattle.std.proofs.Math.Bool.{and-true}
-use Rattle.std.proofs.lemmas.List.{length-take, length-drop, nil_from_length, take-append-drop}
-use Rattle.std.proofs.lemmas.List.{take_all}
-use Rattle.std.proofs.lemmas.List.Elements.{All-head, All-tail, All-drop}
-use Rattle.std.proofs.lemmas.Bool.{cond-true, cond-false, ne_eqb, le-leb, and_left}
-use Rattle.std.proofs.lemmas.Bool.{lt-leb, and_right, cond_both, and_from}
-use Rattle.std.proofs.lemmas.Bool.{eq-eqb}
-use Rattle.line_rules.specs.Bytes.{AreBytes}
-use Rattle.line_rules.specs.Crc.{byte_step, crc}
-use Rattle.line_rules.specs.Rules.{fills_room}
-use Rattle.line_rules.proofs.CrcLaws.{crc-nil, crc-cons}
-use Rattle.dnp_link_frame.specs.Crc.{register_of}
+use Rattle.dnp_link_frame.proofs.DnpLaws.{dnp_take, blocks-none}
+use Rattle.dnp_link_frame.proofs.HeaderLaws.{header_so_far-ten}
+use Rattle.dnp_link_frame.specs.BlockLaws.{length_byte-append, room_by-least, running_block-header}
 use Rattle.dnp_link_frame.specs.Blocks.{length_byte, room_by, room_of, running_block}
-use Rattle.dnp_link_frame.specs.BlockLaws.{length_byte-append, room_by-least}
-use Rattle.dnp_link_frame.specs.BlockLaws.{running_block-header}
+use Rattle.dnp_link_frame.specs.{Crc.register_of, Dnp.DnpStandsFor, Dnp.Appends, Dnp.blocks_so_far}
 use Rattle.dnp_link_frame.specs.Rules.{dnp_rules}
 use Rattle.dnp_link_frame.specs.Steps.{begins_block, register_before, register_after, fits_header}
-use Rattle.dnp_link_frame.specs.Steps.{blocks_after, blocks_at_beginning, len_byte_after}
-use Rattle.dnp_link_frame.specs.Steps.{is_header, left_in_block, residue}
-use Rattle.dnp_link_frame.specs.Dnp.{DnpStandsFor, Appends, blocks_so_far}
-use Rattle.dnp_link_frame.specs.declared.dnp.Dnp.{Dnp}
-use Rattle.dnp_link_frame.proofs.HeaderLaws.{header_so_far-ten}
-use Rattle.dnp_link_frame.proofs.DnpLaws.{dnp_take, blocks-none}
+use Rattle.dnp_link_frame.specs.Steps.{blocks_after, blocks_at_beginning, len_byte_after, is_header}
+use Rattle.dnp_link_frame.specs.{Steps.left_in_block, Steps.residue, declared.dnp.Dnp.Dnp}
+use Rattle.line_rules.proofs.CrcLaws.{crc-nil, crc-cons}
+use Rattle.line_rules.specs.{Bytes.AreBytes, Crc.byte_step, Crc.crc, Rules.fills_room}
+use Rattle.std.proofs.Common.{◌≡◌, ℕ, ◌+◌, ◌-◌, ◌*◌, ◌/◌, ◌%◌, ◌<◌, ◌≤◌, nat_le, nat_lt, ◌&&◌, ◌==◌}
+use Rattle.std.proofs.Common.{Bool, true, false, List, [], ◌∷◌, ◌++◌, length, take, drop, get_or}
+use Rattle.std.proofs.Common.{min, refl, arith, sym, ◌∙◌, ap, subst, append-nil, append_assoc}
+use Rattle.std.proofs.{Common.length-append, Math.Bool.and-true, lemmas.Bool.cond-true}
+use Rattle.std.proofs.lemmas.Bool.{cond-false, ne_eqb, le-leb, and_left, lt-leb, and_right}
+use Rattle.std.proofs.lemmas.{Bool.cond_both, Bool.and_from, Bool.eq-eqb, List.length-take}
+use Rattle.std.proofs.lemmas.List.{length-drop, nil_from_length, take-append-drop, take_all}
+use Rattle.std.proofs.lemmas.List.Elements.{All-head, All-tail, All-drop}
+use Rattle.std.specs.Prelude.{if◌then◌else◌}
 
 -- ---- one byte behind the header
 

@@ -1,34 +1,30 @@
 -- `is_frame` decides `IsFrame`, and a frame has one header and one user data.
+use Rattle.dnp_link_frame.proofs.BlockParts.{in_blocks-none, in_blocks-next, in_blocks-first}
+use Rattle.dnp_link_frame.proofs.BlockParts.{user_in_blocks-none, user_in_blocks-next}
+use Rattle.dnp_link_frame.proofs.FrameParts.{length-frame_of, user_in-frame_of, header_in-frame_of}
+use Rattle.dnp_link_frame.proofs.FrameParts.{fields_are, header_in-fits, user_fits}
+use Rattle.dnp_link_frame.specs.Beginnings.{user_in_blocks, header_in, user_in}
+use Rattle.dnp_link_frame.specs.BlockLaws.{is_frame-true, is_frame-from, end_in_crcs-none}
+use Rattle.dnp_link_frame.specs.BlockLaws.{end_in_crcs-next, length_byte-good}
+use Rattle.dnp_link_frame.specs.BlockLaws.{is_good_header-begins, blocks_for-last, block_start-user}
+use Rattle.dnp_link_frame.specs.{BlockLaws.running_block-header, Blocks.length_byte}
+use Rattle.dnp_link_frame.specs.Blocks.{user_len_by, size_by, ends_in_crc, begins_right}
+use Rattle.dnp_link_frame.specs.Blocks.{is_good_header, end_in_crcs, is_frame, running_block}
+use Rattle.dnp_link_frame.specs.{Blocks.has_right_ending, Crc.crc_dnp}
+use Rattle.dnp_link_frame.specs.Endings.{IsGoodHeader, HasRightEnding, last_part}
+use Rattle.dnp_link_frame.specs.Frame.{with_crc, blocks_for, in_blocks, header_fields, frame_of}
+use Rattle.dnp_link_frame.specs.Frame.{IsFrameOf, IsFrame}
+use Rattle.dnp_link_frame.specs.{RulesLaws.has_right_ending-true, declared.header.Header.Header}
+use Rattle.line_rules.proofs.EndingLaws.{ending, ends_in_check-true, ends_in_check-from}
+use Rattle.line_rules.specs.{Bytes.AreBytes, Bytes.low_first, Endings.body_of}
 use Rattle.std.proofs.Common.{◌≡◌, ℕ, zero, suc, ◌+◌, ◌-◌, ◌*◌, ◌/◌, ◌<◌, ◌≤◌, ◌&&◌, ◌==◌, true}
 use Rattle.std.proofs.Common.{List, [], ◌++◌, length, take, drop, get_or, min, refl, arith, sym}
 use Rattle.std.proofs.Common.{◌∙◌, ap, subst, ⊎_elim, length-append, append-nil}
-use Rattle.std.proofs.lemmas.List.{take_all, take_at, drop_at, length-take, length-drop}
-use Rattle.std.proofs.lemmas.List.{nil_from_length, take-append-drop, take-take}
-use Rattle.std.proofs.lemmas.List.{length-take-le, get_or-take, get_or_default}
-use Rattle.std.proofs.lemmas.List.Elements.{All-append, All-take, All-drop, All-nil}
 use Rattle.std.proofs.lemmas.Bool.{cases_lt, and_parts, and_from, eqb-true, eq-eqb, le-leb}
-use Rattle.line_rules.specs.Bytes.{AreBytes, low_first}
-use Rattle.dnp_link_frame.specs.Crc.{crc_dnp}
-use Rattle.line_rules.specs.Endings.{body_of}
-use Rattle.dnp_link_frame.specs.Frame.{with_crc, blocks_for, in_blocks, header_fields, frame_of}
-use Rattle.dnp_link_frame.specs.Frame.{IsFrameOf, IsFrame}
-use Rattle.dnp_link_frame.specs.Blocks.{length_byte, user_len_by, size_by, ends_in_crc}
-use Rattle.dnp_link_frame.specs.Blocks.{begins_right, is_good_header, end_in_crcs, is_frame}
-use Rattle.dnp_link_frame.specs.BlockLaws.{is_frame-true, is_frame-from, end_in_crcs-none}
-use Rattle.dnp_link_frame.specs.BlockLaws.{end_in_crcs-next, length_byte-good}
-use Rattle.dnp_link_frame.specs.Beginnings.{user_in_blocks, header_in, user_in}
-use Rattle.dnp_link_frame.specs.Blocks.{running_block, has_right_ending}
-use Rattle.dnp_link_frame.specs.BlockLaws.{is_good_header-begins, blocks_for-last}
-use Rattle.dnp_link_frame.specs.BlockLaws.{block_start-user, running_block-header}
-use Rattle.dnp_link_frame.specs.RulesLaws.{has_right_ending-true}
-use Rattle.dnp_link_frame.specs.Endings.{IsGoodHeader, HasRightEnding, last_part}
-use Rattle.dnp_link_frame.specs.declared.header.Header.{Header}
-use Rattle.line_rules.proofs.EndingLaws.{ending, ends_in_check-true, ends_in_check-from}
-use Rattle.dnp_link_frame.proofs.BlockParts.{in_blocks-none, in_blocks-next, in_blocks-first}
-use Rattle.dnp_link_frame.proofs.BlockParts.{user_in_blocks-none}
-use Rattle.dnp_link_frame.proofs.BlockParts.{user_in_blocks-next}
-use Rattle.dnp_link_frame.proofs.FrameParts.{length-frame_of, user_in-frame_of, header_in-frame_of}
-use Rattle.dnp_link_frame.proofs.FrameParts.{fields_are, header_in-fits, user_fits}
+use Rattle.std.proofs.lemmas.List.{take_all, take_at, drop_at, length-take, length-drop}
+use Rattle.std.proofs.lemmas.List.{nil_from_length, take-append-drop, take-take, length-take-le}
+use Rattle.std.proofs.lemmas.List.{get_or-take, get_or_default}
+use Rattle.std.proofs.lemmas.List.Elements.{All-append, All-take, All-drop, All-nil}
 
 -- ---- one header and one user data
 

@@ -1,33 +1,27 @@
 -- How many bytes are right as a frame's, and a frame taken apart again.
-use Rattle.std.proofs.Common.{◌≡◌, ℕ, ◌+◌, ◌-◌, ◌*◌, ◌/◌, ◌%◌, ◌<◌, ◌≤◌, ◌==◌, nat_le}
-use Rattle.std.proofs.Common.{nat_lt, ◌&&◌, Bool, true, false, List, [], ◌∷◌, ◌++◌, length, take}
-use Rattle.std.proofs.Common.{drop, get_or, min}
-use Rattle.std.proofs.Common.{refl, arith, sym, ◌∙◌, ap, subst, ⊎_elim, length-append, append_assoc}
-use Rattle.std.proofs.Common.{append-nil, replicate}
-use Rattle.std.proofs.lemmas.List.{take_all, take_more, drop_more, take_at, drop_at, length-take}
-use Rattle.std.proofs.lemmas.List.{length-drop, length-replicate, nil_from_length, take-append-le}
-use Rattle.std.proofs.lemmas.List.{drop-append-le, take-append-drop, length-take-le, drop-take}
-use Rattle.std.proofs.lemmas.List.{take-take, get_or_append_left, get_or-take, get_or_past}
-use Rattle.std.proofs.lemmas.List.{drop_all}
-use Rattle.std.proofs.lemmas.List.Elements.{All-drop, All-replicate, All-nil}
-use Rattle.std.proofs.lemmas.List.Elements.{All-get_or}
-use Rattle.std.proofs.lemmas.Bool.{cases_lt, cases_eq, cond-true, cond-false, eq-eqb, ne_eqb}
-use Rattle.std.proofs.lemmas.Bool.{le-leb}
-use Rattle.std.proofs.lemmas.Bool.{lt-leb, lt-ltb, le-ltb, and_from, and_parts, eqb-true}
-use Rattle.std.proofs.lemmas.Bool.{false≢true}
-use Rattle.line_rules.specs.Bytes.{AreBytes, low_first}
-use Rattle.dnp_link_frame.specs.Frame.{with_crc, blocks_for, in_blocks, header_fields, frame_of}
-use Rattle.dnp_link_frame.specs.Frame.{IsHeader, IsFrameOf, IsFrame, BeginsFrame}
-use Rattle.dnp_link_frame.specs.Frame.{IsLongestBeginning}
-use Rattle.dnp_link_frame.specs.Blocks.{length_byte, user_len_by, size_by}
-use Rattle.dnp_link_frame.specs.Beginnings.{right_in_start, right_in_part, right_in_blocks}
-use Rattle.dnp_link_frame.specs.Beginnings.{right_in_frame, user_in_blocks, header_in, user_in}
-use Rattle.dnp_link_frame.specs.declared.header.Header.{Header}
+use Rattle.dnp_link_frame.proofs.BlockParts.{blocks_start, blocks_longest, length-in_blocks}
+use Rattle.dnp_link_frame.proofs.BlockParts.{right_in_blocks-within, user_in_blocks-in_blocks}
 use Rattle.dnp_link_frame.proofs.Parts.{Starts, part_data, length-part_data, part_data-bytes}
 use Rattle.dnp_link_frame.proofs.Parts.{part_data-whole, part_starts, part_bounds, part_longest}
-use Rattle.dnp_link_frame.proofs.BlockParts.{blocks_start, blocks_longest, length-in_blocks}
-use Rattle.dnp_link_frame.proofs.BlockParts.{right_in_blocks-within}
-use Rattle.dnp_link_frame.proofs.BlockParts.{user_in_blocks-in_blocks}
+use Rattle.dnp_link_frame.specs.Beginnings.{right_in_start, right_in_part, right_in_blocks}
+use Rattle.dnp_link_frame.specs.Beginnings.{right_in_frame, user_in_blocks, header_in, user_in}
+use Rattle.dnp_link_frame.specs.Blocks.{length_byte, user_len_by, size_by}
+use Rattle.dnp_link_frame.specs.Frame.{with_crc, blocks_for, in_blocks, header_fields, frame_of}
+use Rattle.dnp_link_frame.specs.Frame.{IsHeader, IsFrameOf, IsFrame, BeginsFrame}
+use Rattle.dnp_link_frame.specs.{Frame.IsLongestBeginning, declared.header.Header.Header}
+use Rattle.line_rules.specs.Bytes.{AreBytes, low_first}
+use Rattle.std.proofs.Common.{◌≡◌, ℕ, ◌+◌, ◌-◌, ◌*◌, ◌/◌, ◌%◌, ◌<◌, ◌≤◌, ◌==◌, nat_le, nat_lt, ◌&&◌}
+use Rattle.std.proofs.Common.{Bool, true, false, List, [], ◌∷◌, ◌++◌, length, take, drop, get_or}
+use Rattle.std.proofs.Common.{min, refl, arith, sym, ◌∙◌, ap, subst, ⊎_elim, length-append}
+use Rattle.std.proofs.Common.{append_assoc, append-nil, replicate}
+use Rattle.std.proofs.lemmas.Bool.{cases_lt, cases_eq, cond-true, cond-false, eq-eqb, ne_eqb}
+use Rattle.std.proofs.lemmas.Bool.{le-leb, lt-leb, lt-ltb, le-ltb, and_from, and_parts, eqb-true}
+use Rattle.std.proofs.lemmas.{Bool.false≢true, List.take_all, List.take_more, List.drop_more}
+use Rattle.std.proofs.lemmas.List.{take_at, drop_at, length-take, length-drop, length-replicate}
+use Rattle.std.proofs.lemmas.List.{nil_from_length, take-append-le, drop-append-le}
+use Rattle.std.proofs.lemmas.List.{take-append-drop, length-take-le, drop-take, take-take}
+use Rattle.std.proofs.lemmas.List.{get_or_append_left, get_or-take, get_or_past, drop_all}
+use Rattle.std.proofs.lemmas.List.Elements.{All-drop, All-replicate, All-nil, All-get_or}
 
 -- ---- eight bytes as the fields of a header
 

@@ -1,20 +1,17 @@
 -- The header, as far as it is there, and what one more byte does to it.
-use Rattle.std.proofs.Common.{◌≡◌, ℕ, ◌<◌, ◌≤◌, nat_le, nat_lt, ◌&&◌, ◌||◌, ◌==◌}
-use Rattle.std.proofs.Common.{Bool, true, false, List, [], ◌∷◌, ◌++◌, length, take, get_or, refl}
-use Rattle.std.proofs.Common.{arith, sym, ◌∙◌, ap, ⊎_elim}
-use Rattle.std.specs.Prelude.{if◌then◌else◌}
-use Rattle.std.proofs.lemmas.List.{length_push, get_or_append_left, get_or_push, get_or_past}
-use Rattle.std.proofs.lemmas.List.{get_or-take, length-take-le, take_all, take-append-le}
-use Rattle.std.proofs.lemmas.List.{get_or_default}
+use Rattle.dnp_link_frame.{proofs.Residue.residue_decides, specs.BlockLaws.running_block-header}
+use Rattle.dnp_link_frame.specs.Blocks.{ends_in_crc, begins_right, is_good_header, running_block}
+use Rattle.dnp_link_frame.specs.{Crc.register_of, Dnp.header_so_far}
+use Rattle.dnp_link_frame.specs.Steps.{residue, fits_header, is_header}
+use Rattle.line_rules.specs.Bytes.{AreBytes}
+use Rattle.std.proofs.Common.{◌≡◌, ℕ, ◌<◌, ◌≤◌, nat_le, nat_lt, ◌&&◌, ◌||◌, ◌==◌, Bool, true, false}
+use Rattle.std.proofs.Common.{List, [], ◌∷◌, ◌++◌, length, take, get_or, refl, arith, sym, ◌∙◌, ap}
+use Rattle.std.proofs.Common.{⊎_elim}
 use Rattle.std.proofs.lemmas.Bool.{cases_lt, cases_eq, cond-true, cond-false, and_from, and_left}
 use Rattle.std.proofs.lemmas.Bool.{and_right, lt-ltb, le-ltb, eq-eqb, ne_eqb}
-use Rattle.line_rules.specs.Bytes.{AreBytes}
-use Rattle.dnp_link_frame.specs.Crc.{register_of}
-use Rattle.dnp_link_frame.specs.Blocks.{ends_in_crc, begins_right, is_good_header, running_block}
-use Rattle.dnp_link_frame.specs.BlockLaws.{running_block-header}
-use Rattle.dnp_link_frame.specs.Steps.{residue, fits_header, is_header}
-use Rattle.dnp_link_frame.specs.Dnp.{header_so_far}
-use Rattle.dnp_link_frame.proofs.Residue.{residue_decides}
+use Rattle.std.proofs.lemmas.List.{length_push, get_or_append_left, get_or_push, get_or_past}
+use Rattle.std.proofs.lemmas.List.{get_or-take, length-take-le, take_all, take-append-le}
+use Rattle.std.{proofs.lemmas.List.get_or_default, specs.Prelude.if◌then◌else◌}
 
 -- ---- truths
 

@@ -1,16 +1,15 @@
 -- What a loop over blocks has done, and what it does with the next one.
-use Rattle.std.proofs.Common.{◌≡◌, ℕ, zero, suc, ◌+◌, ◌-◌, ◌*◌, ◌<◌, ◌≤◌, List, [], ◌++◌}
-use Rattle.std.proofs.Common.{length, take, drop, min, arith, sym, ◌∙◌, ap, add-one}
-use Rattle.std.proofs.Common.{length-append, append_assoc, append-nil}
-use Rattle.std.proofs.lemmas.List.{length-take, length-drop, drop-drop, take_min, take_all}
-use Rattle.line_rules.specs.Bytes.{low_first}
-use Rattle.dnp_link_frame.specs.Crc.{crc_dnp}
-use Rattle.dnp_link_frame.specs.Frame.{with_crc, blocks_for, in_blocks}
-use Rattle.dnp_link_frame.specs.Beginnings.{right_in_part, right_in_blocks, user_in_blocks}
-use Rattle.dnp_link_frame.proofs.Parts.{part_bounds}
 use Rattle.dnp_link_frame.proofs.BlockParts.{in_blocks-none, in_blocks-next, right_in_blocks-none}
 use Rattle.dnp_link_frame.proofs.BlockParts.{right_in_blocks-on, right_in_blocks-stop}
 use Rattle.dnp_link_frame.proofs.BlockParts.{user_in_blocks-none, user_in_blocks-next}
+use Rattle.dnp_link_frame.proofs.Parts.{part_bounds}
+use Rattle.dnp_link_frame.specs.Beginnings.{right_in_part, right_in_blocks, user_in_blocks}
+use Rattle.dnp_link_frame.specs.{Crc.crc_dnp, Frame.with_crc, Frame.blocks_for, Frame.in_blocks}
+use Rattle.line_rules.specs.Bytes.{low_first}
+use Rattle.std.proofs.Common.{◌≡◌, ℕ, zero, suc, ◌+◌, ◌-◌, ◌*◌, ◌<◌, ◌≤◌, List, [], ◌++◌, length}
+use Rattle.std.proofs.Common.{take, drop, min, arith, sym, ◌∙◌, ap, add-one, length-append}
+use Rattle.std.proofs.Common.{append_assoc, append-nil}
+use Rattle.std.proofs.lemmas.List.{length-take, length-drop, drop-drop, take_min, take_all}
 
 -- ---- blocks that are built
 

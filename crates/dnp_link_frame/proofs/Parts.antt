@@ -1,19 +1,16 @@
 -- How many bytes of a part are right: of this many bytes of any sort and their CRC.
-use Rattle.std.proofs.Common.{◌≡◌, ℕ, ◌+◌, ◌-◌, ◌/◌, ◌%◌, ◌<◌, ◌≤◌, nat_le, nat_lt, ◌&&◌}
-use Rattle.std.proofs.Common.{◌==◌, Bool, true, false, List, [], ◌∷◌, ◌++◌, length, take, get_or}
-use Rattle.std.proofs.Common.{arith, sym, ◌∙◌, ap, ⊎_elim, length-append, append_assoc, append-nil}
+use Rattle.dnp_link_frame.specs.{Beginnings.right_in_part, Crc.crc_dnp, Frame.with_crc}
+use Rattle.line_rules.specs.Bytes.{AreBytes, low_first}
+use Rattle.std.proofs.Common.{◌≡◌, ℕ, ◌+◌, ◌-◌, ◌/◌, ◌%◌, ◌<◌, ◌≤◌, nat_le, nat_lt, ◌&&◌, ◌==◌}
+use Rattle.std.proofs.Common.{Bool, true, false, List, [], ◌∷◌, ◌++◌, length, take, get_or, arith}
+use Rattle.std.proofs.Common.{sym, ◌∙◌, ap, ⊎_elim, length-append, append_assoc, append-nil}
 use Rattle.std.proofs.Common.{replicate}
+use Rattle.std.proofs.lemmas.Bool.{cases_lt, cases_Bool, cond-true, cond-false, and_from, and_parts}
+use Rattle.std.proofs.lemmas.Bool.{le-leb, lt-leb, lt-ltb, eq-eqb, eqb-true, ltb-true}
 use Rattle.std.proofs.lemmas.List.{take_all, take_more, length-take-le, length-replicate, get_or_at}
 use Rattle.std.proofs.lemmas.List.{take-append-le, get_or_append_left, get_or-take, take_at}
 use Rattle.std.proofs.lemmas.List.{length-take, take-take}
 use Rattle.std.proofs.lemmas.List.Elements.{All-append, All-take, All-replicate}
-use Rattle.std.proofs.lemmas.Bool.{cases_lt, cases_Bool, cond-true, cond-false, and_from}
-use Rattle.std.proofs.lemmas.Bool.{and_parts, le-leb, lt-leb, lt-ltb, eq-eqb, eqb-true}
-use Rattle.std.proofs.lemmas.Bool.{ltb-true}
-use Rattle.line_rules.specs.Bytes.{AreBytes, low_first}
-use Rattle.dnp_link_frame.specs.Crc.{crc_dnp}
-use Rattle.dnp_link_frame.specs.Frame.{with_crc}
-use Rattle.dnp_link_frame.specs.Beginnings.{right_in_part}
 
 -- a list begins so
 pub record Starts (x whole : List ℕ) : Type 0 where

@@ -1,25 +1,20 @@
 -- Bytes end in their CRC exactly where the register of all is 66C5: the CRC is the complement of
 -- the register, and what the complement adds doesn't depend on the bytes.
-use Rattle.std.proofs.Common.{◌≡◌, ℕ, ◌-◌, ◌/◌, ◌%◌, ◌^◌, ◌<◌, ◌≤◌, nat_eq}
-use Rattle.std.proofs.Common.{false, List, [], ◌∷◌, ◌++◌, length, take, get_or, refl, arith}
-use Rattle.std.proofs.Common.{sym, ◌∙◌}
-use Rattle.std.proofs.Common.{ap, subst, lit<, lit≤, append_assoc}
-use Rattle.std.specs.Prelude.{bit_xor}
-use Rattle.std.specs.Int.Bits.{xor_add_and, xor_self, xor_assoc, xor_zero_r}
-use Rattle.std.proofs.Math.Nat.{mod-eq_of_lt}
-use Rattle.std.proofs.Math.Seq.{take-append_seam}
-use Rattle.std.proofs.lemmas.Nat.{and_mask}
-use Rattle.std.proofs.lemmas.Bool.{eqb-true, eqb-false, eq-eqb, agree_below_at}
-use Rattle.std.proofs.lemmas.Bool.Decides.{same_from_decides}
-use Rattle.std.proofs.lemmas.List.Elements.{All-take, All-get_or, All-head}
+use Rattle.dnp_link_frame.specs.Crc.{register_of, crc_dnp}
+use Rattle.line_rules.proofs.{CrcLaws.crc-nil, CrcLinear.byte_steps-turned}
+use Rattle.line_rules.proofs.CrcZero.{crc-zero, crc-own, crc-fits, crc-append}
+use Rattle.line_rules.proofs.EndingLaws.{apart, ends_in_check-true, ends_in_check-from}
 use Rattle.line_rules.specs.Bytes.{AreBytes, low_first}
 use Rattle.line_rules.specs.Crc.{bit_step, bit_steps, byte_step}
-use Rattle.line_rules.proofs.CrcZero.{crc-zero, crc-own, crc-fits, crc-append}
-use Rattle.line_rules.proofs.CrcLaws.{crc-nil}
-use Rattle.dnp_link_frame.specs.Crc.{register_of, crc_dnp}
 use Rattle.line_rules.specs.Endings.{EndsInCheck, ends_in_check, body_of}
-use Rattle.line_rules.proofs.CrcLinear.{byte_steps-turned}
-use Rattle.line_rules.proofs.EndingLaws.{apart, ends_in_check-true, ends_in_check-from}
+use Rattle.std.proofs.Common.{◌≡◌, ℕ, ◌-◌, ◌/◌, ◌%◌, ◌^◌, ◌<◌, ◌≤◌, nat_eq, false, List, [], ◌∷◌}
+use Rattle.std.proofs.Common.{◌++◌, length, take, get_or, refl, arith, sym, ◌∙◌, ap, subst, lit<}
+use Rattle.std.proofs.Common.{lit≤, append_assoc}
+use Rattle.std.proofs.{Math.Nat.mod-eq_of_lt, Math.Seq.take-append_seam, lemmas.Bool.eqb-true}
+use Rattle.std.proofs.lemmas.Bool.{eqb-false, eq-eqb, agree_below_at, Decides.same_from_decides}
+use Rattle.std.proofs.lemmas.List.Elements.{All-take, All-get_or, All-head}
+use Rattle.std.{proofs.lemmas.Nat.and_mask, specs.Int.Bits.xor_add_and}
+use Rattle.std.specs.{Int.Bits.xor_self, Int.Bits.xor_assoc, Int.Bits.xor_zero_r, Prelude.bit_xor}
 
 -- the complement of a byte, and of two
 pub complement : (b : ℕ) → b < 256 → bit_xor b 0xFF ≡ 0xFF - b

@@ -1,15 +1,13 @@
 -- The definitions, computed at known values: the usual check text, a reset of a link, a read of
 -- class data, and a frame whose last CRC is 0000.
-use Rattle.std.proofs.Common.{◌≡◌, ℕ, List, [], ◌∷◌, ◌++◌, true, false, refl, codes}
-use Rattle.line_rules.specs.Crc.{bit_step, bit_steps, byte_step, crc}
-use Rattle.line_rules.specs.Rules.{head_of, left_of}
-use Rattle.line_rules.specs.declared.head.Head.TheVariants.{Short, Good, Bad}
-use Rattle.dnp_link_frame.specs.Crc.{register_of, crc_dnp}
-use Rattle.line_rules.specs.Endings.{ends_in_check}
-use Rattle.dnp_link_frame.specs.Frame.{frame_of, in_blocks}
 use Rattle.dnp_link_frame.specs.Blocks.{size_by, room_by, room_of, begins_right, is_good_header}
 use Rattle.dnp_link_frame.specs.Blocks.{end_in_crcs, block_start, is_frame, has_right_ending}
-use Rattle.dnp_link_frame.specs.Rules.{dnp_rules}
+use Rattle.dnp_link_frame.specs.Crc.{register_of, crc_dnp}
+use Rattle.dnp_link_frame.specs.{Frame.frame_of, Frame.in_blocks, Rules.dnp_rules}
+use Rattle.line_rules.specs.Crc.{bit_step, bit_steps, byte_step, crc}
+use Rattle.line_rules.specs.{Endings.ends_in_check, Rules.head_of, Rules.left_of}
+use Rattle.line_rules.specs.declared.head.Head.TheVariants.{Short, Good, Bad}
+use Rattle.std.proofs.Common.{◌≡◌, ℕ, List, [], ◌∷◌, ◌++◌, true, false, refl, codes}
 
 abbrev pub reset_link : List ℕ
 reset_link = 0x05 ∷ 0x64 ∷ 0x05 ∷ 0xC0 ∷ 0x01 ∷ 0x00 ∷ 0x00 ∷ 0x04 ∷ 0xE9 ∷ 0x21 ∷ []

@@ -1,29 +1,24 @@
 -- What is said of a burst that goes on by one byte.
-use Rattle.std.proofs.Common.{◌≡◌, ℕ, suc, ◌+◌, ◌-◌, ◌<◌, ◌≤◌, nat_le, Bool, true, false, ◌||◌}
-use Rattle.std.proofs.Common.{List, [], ◌∷◌, ◌++◌, length, refl, arith, sym, ◌∙◌, ap, subst, ⊎_elim}
-use Rattle.std.proofs.Common.{append_assoc, length-append}
-use Rattle.std.proofs.lemmas.Bool.{cases_Bool, or_cases, or_parts, leb-true, leb-false, lt-ltb}
-use Rattle.std.proofs.lemmas.Bool.{le-ltb}
-use Rattle.std.proofs.lemmas.List.{append-nil, length-replicate}
-use Rattle.line_rules.specs.Rules.{Rules, fills_room}
-use Rattle.line_rules.specs.RulesLaws.{IsLawful}
-use Rattle.yasir_ticks.specs.Ticks.{bytes_in, silent}
-use Rattle.yasir_ticks.specs.Bursts.{Burst, end_of}
-use Rattle.yasir_ticks.specs.declared.tick.Tick.{Tick}
-use Rattle.yasir_ticks.specs.declared.tick.Tick.TheVariants.{Silent, Byte}
-use Rattle.yasir_ticks.proofs.BurstLaws.{alone, with_last}
-use Rattle.yasir_ticks.proofs.SilenceLaws.{bytes_in-append, bytes_in-silent}
-use Rattle.frame_ending.specs.LiveBytes.{before_pause, has_pause, up_to_byte, within_room, spelled}
-use Rattle.frame_ending.specs.LiveBytes.{live_bytes, live_end, has_extra}
-use Rattle.frame_ending.proofs.LastBurst.{IsWithin}
-use Rattle.frame_ending.proofs.Pauses.{ended, contiguous-ends, has_pause-append}
-use Rattle.frame_ending.proofs.Pauses.{before_pause-paused}
+use Rattle.frame_ending.proofs.{LastBurst.IsWithin, Pauses.ended}
+use Rattle.frame_ending.proofs.Pauses.{contiguous-ends, has_pause-append, before_pause-paused}
 use Rattle.frame_ending.proofs.Pauses.{before_pause-goes_on, before_pause-whole, has_pause-silent}
 use Rattle.frame_ending.proofs.Pauses.{before_pause-silent_few, before_pause-silent_more}
 use Rattle.frame_ending.proofs.Pauses.{bytes_before-le, up_to_byte-append, up_to_byte-all}
 use Rattle.frame_ending.proofs.Pauses.{up_to_byte-le}
 use Rattle.frame_ending.proofs.Rooms.{within_room-open, within_room-more, within_room-full}
 use Rattle.frame_ending.proofs.Rooms.{within_room-one, within_room-le}
+use Rattle.frame_ending.specs.LiveBytes.{before_pause, has_pause, up_to_byte, within_room, spelled}
+use Rattle.frame_ending.specs.LiveBytes.{live_bytes, live_end, has_extra}
+use Rattle.line_rules.specs.{Rules.Rules, Rules.fills_room, RulesLaws.IsLawful}
+use Rattle.std.proofs.Common.{◌≡◌, ℕ, suc, ◌+◌, ◌-◌, ◌<◌, ◌≤◌, nat_le, Bool, true, false, ◌||◌}
+use Rattle.std.proofs.Common.{List, [], ◌∷◌, ◌++◌, length, refl, arith, sym, ◌∙◌, ap, subst, ⊎_elim}
+use Rattle.std.proofs.Common.{append_assoc, length-append}
+use Rattle.std.proofs.lemmas.Bool.{cases_Bool, or_cases, or_parts, leb-true, leb-false, lt-ltb}
+use Rattle.std.proofs.lemmas.{Bool.le-ltb, List.append-nil, List.length-replicate}
+use Rattle.yasir_ticks.proofs.BurstLaws.{alone, with_last}
+use Rattle.yasir_ticks.proofs.SilenceLaws.{bytes_in-append, bytes_in-silent}
+use Rattle.yasir_ticks.specs.{Bursts.Burst, Bursts.end_of, Ticks.bytes_in, Ticks.silent}
+use Rattle.yasir_ticks.specs.declared.tick.Tick.{Tick, TheVariants.Silent, TheVariants.Byte}
 
 -- this many silent ticks and a byte
 abbrev gap_byte : ℕ → ℕ → List Tick

@@ -1,31 +1,27 @@
 -- The steps of a value that cuts a line, over the values that it has before and after.
+use Rattle.frame_ending.proofs.BurstSteps.{paused, longer-end, longer-has_pause, later, live-over}
+use Rattle.frame_ending.proofs.BurstSteps.{end-over, extra-over, live_end-le, live-more, end-more}
+use Rattle.frame_ending.proofs.BurstSteps.{extra-more, alone-has_pause, alone-live, alone-live_end}
+use Rattle.frame_ending.proofs.BurstSteps.{alone-extra}
+use Rattle.frame_ending.proofs.LastBurst.{grown, last_burst-byte, last_burst-silent, last_burst-nil}
+use Rattle.frame_ending.proofs.LastBurst.{IsWithin, last_burst-within}
+use Rattle.frame_ending.specs.Cuts.{cut_of, byte_cut, silence_cut, silent_cut}
+use Rattle.frame_ending.specs.LiveBytes.{has_pause, live_bytes, live_end}
+use Rattle.frame_ending.specs.SoFar.{last_burst, start_in, live_bytes_in, last_live_in}
+use Rattle.frame_ending.specs.SoFar.{has_extra_in, has_paused_in, quiet_in, quiet_so_far}
+use Rattle.frame_ending.specs.{SoFar.has_paused_so_far, SoFar.live_bytes_so_far, Stands.StandsFor}
+use Rattle.frame_ending.specs.declared.{burst_cut.BurstCut.BurstCut, cut.Cut.TheVariants.Start}
+use Rattle.frame_ending.specs.declared.cut.Cut.TheVariants.{Live, Extra, Pause, Closed, Quiet}
+use Rattle.line_rules.specs.Rules.{Rules, fills_room}
+use Rattle.line_rules.specs.{RulesLaws.IsLawful, declared.line_rules.LineRules.Ghosts as LineRules}
 use Rattle.std.proofs.Common.{◌≡◌, ℕ, suc, ◌+◌, ◌-◌, ◌<◌, ◌≤◌, nat_le, Bool, true, false, ◌||◌}
 use Rattle.std.proofs.Common.{List, [], ◌∷◌, ◌++◌, length, refl, arith, sym, ◌∙◌, ap, subst, ⊎_elim}
 use Rattle.std.proofs.Common.{length-append, Option, Some, None}
 use Rattle.std.proofs.lemmas.Bool.{cases_Bool, or_from, le-leb, leb-true, lt-leb, le-ltb, lt-ltb}
 use Rattle.std.proofs.lemmas.Bool.{eq-eqb, ne_eqb, cond-true, cond-false}
-use Rattle.line_rules.specs.Rules.{Rules, fills_room}
-use Rattle.line_rules.specs.declared.line_rules.LineRules.{Ghosts as LineRules}
-use Rattle.line_rules.specs.RulesLaws.{IsLawful}
-use Rattle.yasir_ticks.specs.Bursts.{Burst, end_of}
-use Rattle.yasir_ticks.specs.declared.tick.Tick.{Tick}
-use Rattle.yasir_ticks.specs.declared.tick.Tick.TheVariants.{Silent, Byte}
 use Rattle.yasir_ticks.proofs.BurstLaws.{alone, with_last}
-use Rattle.frame_ending.specs.declared.burst_cut.BurstCut.{BurstCut}
-use Rattle.frame_ending.specs.declared.cut.Cut.TheVariants.{Start, Live, Extra, Pause, Closed}
-use Rattle.frame_ending.specs.declared.cut.Cut.TheVariants.{Quiet}
-use Rattle.frame_ending.specs.LiveBytes.{has_pause, live_bytes, live_end}
-use Rattle.frame_ending.specs.SoFar.{last_burst, start_in, live_bytes_in, last_live_in}
-use Rattle.frame_ending.specs.SoFar.{has_extra_in, has_paused_in, quiet_in, quiet_so_far}
-use Rattle.frame_ending.specs.SoFar.{has_paused_so_far, live_bytes_so_far}
-use Rattle.frame_ending.specs.Cuts.{cut_of, byte_cut, silence_cut, silent_cut}
-use Rattle.frame_ending.specs.Stands.{StandsFor}
-use Rattle.frame_ending.proofs.LastBurst.{grown, last_burst-byte, last_burst-silent, last_burst-nil}
-use Rattle.frame_ending.proofs.LastBurst.{IsWithin, last_burst-within}
-use Rattle.frame_ending.proofs.BurstSteps.{paused, longer-end, longer-has_pause, later, live-over}
-use Rattle.frame_ending.proofs.BurstSteps.{end-over, extra-over, live_end-le, live-more, end-more}
-use Rattle.frame_ending.proofs.BurstSteps.{extra-more, alone-has_pause, alone-live, alone-live_end}
-use Rattle.frame_ending.proofs.BurstSteps.{alone-extra}
+use Rattle.yasir_ticks.specs.Bursts.{Burst, end_of}
+use Rattle.yasir_ticks.specs.declared.tick.Tick.{Tick, TheVariants.Silent, TheVariants.Byte}
 
 longer-line : (line : List Tick) (t : Tick) → length (line ++ t ∷ []) ≡ length line + 1
 longer-line line t = length-append line (t ∷ [])

@@ -1,22 +1,18 @@
 -- One more tick of a line that is divided into its closed bursts and the running one.
+use Rattle.frame_ending.proofs.{BurstSteps.longer-end, LastBurst.IsWithin}
+use Rattle.frame_ending.proofs.{LastBurst.last_burst-within, Running.with_byte_at}
+use Rattle.frame_ending.{proofs.Running.divided-running, specs.Divided.IsDivided}
 use Rattle.std.proofs.Common.{◌≡◌, ◌∙◌, ℕ, ◌+◌, ◌-◌, ◌<◌, ◌≤◌, List, [], ◌∷◌, ◌++◌, length, refl}
 use Rattle.std.proofs.Common.{sym, ap, arith, append_assoc, length-append, get_or, Option, Some}
-use Rattle.std.proofs.Common.{None, IfSome}
+use Rattle.std.proofs.{Common.None, Common.IfSome, Math.Seq.get_or-append_seam}
 use Rattle.std.proofs.lemmas.List.{append-nil, length-replicate}
-use Rattle.std.proofs.Math.Seq.{get_or-append_seam}
-use Rattle.yasir_ticks.specs.Ticks.{silent}
-use Rattle.yasir_ticks.specs.Bursts.{Burst, bursts, end_of, AreClosed}
-use Rattle.yasir_ticks.specs.BurstsOf.{IsContiguous, one}
-use Rattle.yasir_ticks.specs.declared.tick.Tick.{Tick}
-use Rattle.yasir_ticks.specs.declared.tick.Tick.TheVariants.{Silent, Byte}
 use Rattle.yasir_ticks.proofs.BurstLaws.{alone, with_last, extended, extended-closed}
 use Rattle.yasir_ticks.proofs.BurstLaws.{extended-joins, bursts_from-byte, bursts_from-silent}
 use Rattle.yasir_ticks.proofs.BurstLaws.{AreClosed-later, AreClosed-more}
 use Rattle.yasir_ticks.proofs.BurstsOfLaws.{contiguous-more}
-use Rattle.frame_ending.specs.Divided.{IsDivided}
-use Rattle.frame_ending.proofs.LastBurst.{IsWithin, last_burst-within}
-use Rattle.frame_ending.proofs.BurstSteps.{longer-end}
-use Rattle.frame_ending.proofs.Running.{with_byte_at, divided-running}
+use Rattle.yasir_ticks.specs.Bursts.{Burst, bursts, end_of, AreClosed}
+use Rattle.yasir_ticks.specs.{BurstsOf.IsContiguous, BurstsOf.one, Ticks.silent}
+use Rattle.yasir_ticks.specs.declared.tick.Tick.{Tick, TheVariants.Silent, TheVariants.Byte}
 
 -- a line that is longer by one tick
 pub longer-line : (line : List Tick) (t : Tick) → length (line ++ t ∷ []) ≡ length line + 1

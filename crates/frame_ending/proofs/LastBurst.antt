@@ -1,17 +1,15 @@
 -- The last burst of a line, as the line goes on by one tick.
+use Rattle.frame_ending.specs.SoFar.{last_of, last_burst}
 use Rattle.std.proofs.Common.{◌≡◌, ℕ, ◌+◌, ◌≤◌, nat_lt, cond, List, [], ◌∷◌, ◌++◌, length, refl}
 use Rattle.std.proofs.Common.{arith, sym, ◌∙◌, ap, subst, ⊎_elim, length-append, Option, Some, None}
 use Rattle.std.proofs.lemmas.Bool.{cases_lt, lt-ltb, le-ltb, cond-true, cond-false}
 use Rattle.std.proofs.lemmas.List.{length-replicate}
-use Rattle.yasir_ticks.specs.Ticks.{silent}
-use Rattle.yasir_ticks.specs.Bursts.{Burst, bursts_from, bursts, end_of}
-use Rattle.yasir_ticks.specs.BurstsOf.{IsContiguous, AreBursts}
-use Rattle.yasir_ticks.specs.declared.tick.Tick.{Tick}
-use Rattle.yasir_ticks.specs.declared.tick.Tick.TheVariants.{Silent, Byte}
 use Rattle.yasir_ticks.proofs.BurstLaws.{alone, with_last, extended, extended-near, extended-far}
 use Rattle.yasir_ticks.proofs.BurstLaws.{bursts_from-byte, bursts_from-silent}
 use Rattle.yasir_ticks.proofs.BurstsOfLaws.{bursts_from-are}
-use Rattle.frame_ending.specs.SoFar.{last_of, last_burst}
+use Rattle.yasir_ticks.specs.Bursts.{Burst, bursts_from, bursts, end_of}
+use Rattle.yasir_ticks.specs.{BurstsOf.IsContiguous, BurstsOf.AreBursts, Ticks.silent}
+use Rattle.yasir_ticks.specs.declared.tick.Tick.{Tick, TheVariants.Silent, TheVariants.Byte}
 
 -- the last burst after one more byte at tick m
 abbrev pub grown : ℕ → ℕ → Option Burst → Burst

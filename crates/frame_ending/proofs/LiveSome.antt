@@ -1,16 +1,13 @@
 -- Each burst has a live byte.
-use Rattle.std.proofs.Common.{◌≡◌, ℕ, zero, suc, ◌<◌, List, [], ◌∷◌, ◌++◌, length, arith, refl, ◌∙◌}
-use Rattle.std.proofs.Common.{ap, ⊎_elim}
-use Rattle.line_rules.specs.Rules.{Rules}
-use Rattle.line_rules.specs.RulesLaws.{IsLawful}
-use Rattle.yasir_ticks.specs.Ticks.{bytes_in, silent}
-use Rattle.yasir_ticks.specs.Bursts.{Burst}
-use Rattle.yasir_ticks.specs.BurstsOf.{IsContiguous, one, more}
-use Rattle.yasir_ticks.specs.declared.tick.Tick.{Tick}
-use Rattle.yasir_ticks.specs.declared.tick.Tick.TheVariants.{Byte}
+use Rattle.frame_ending.proofs.Rooms.{FitFirst, within_room-fit}
 use Rattle.frame_ending.specs.LiveBytes.{before_pause, up_to_byte, within_room, live_bytes}
 use Rattle.frame_ending.specs.LiveBytes.{live_end}
-use Rattle.frame_ending.proofs.Rooms.{FitFirst, within_room-fit}
+use Rattle.line_rules.specs.{Rules.Rules, RulesLaws.IsLawful}
+use Rattle.std.proofs.Common.{◌≡◌, ℕ, zero, suc, ◌<◌, List, [], ◌∷◌, ◌++◌, length, arith, refl, ◌∙◌}
+use Rattle.std.proofs.Common.{ap, ⊎_elim}
+use Rattle.yasir_ticks.specs.{Bursts.Burst, BurstsOf.IsContiguous, BurstsOf.one, BurstsOf.more}
+use Rattle.yasir_ticks.specs.Ticks.{bytes_in, silent}
+use Rattle.yasir_ticks.specs.declared.tick.Tick.{Tick, TheVariants.Byte}
 
 contiguous-begins : (cut : ℕ) (x : List Tick) → IsContiguous cut x
     → (b : ℕ) × (l : List Tick) × (x ≡ Byte b ∷ l)

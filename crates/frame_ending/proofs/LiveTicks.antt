@@ -1,25 +1,20 @@
 -- The live ticks of a burst, as it goes on with a byte, and where they end.
+use Rattle.frame_ending.proofs.BurstSteps.{live-le, live-over, live-more, live-all, longer-bytes}
+use Rattle.frame_ending.proofs.{LastBurst.IsWithin, LiveSome.live-some}
+use Rattle.frame_ending.proofs.Pauses.{ended, contiguous-ends, up_to_byte-append, up_to_byte-all}
+use Rattle.frame_ending.proofs.{Pauses.up_to_byte-le, Rooms.within_room-le}
+use Rattle.frame_ending.specs.LiveBytes.{before_pause, has_pause, up_to_byte, spelled, live_bytes}
+use Rattle.frame_ending.specs.LiveBytes.{live_ticks, live_end, has_extra}
+use Rattle.line_rules.specs.{Rules.Rules, Rules.fills_room, RulesLaws.IsLawful}
 use Rattle.std.proofs.Common.{◌≡◌, ◌∙◌, ℕ, zero, suc, ◌+◌, ◌-◌, ◌<◌, ◌≤◌, nat_le, Bool, true, false}
 use Rattle.std.proofs.Common.{◌||◌, List, [], ◌∷◌, ◌++◌, length, take, refl, sym, ap, subst, arith}
 use Rattle.std.proofs.Common.{length-append, get_or, ⊎_elim}
 use Rattle.std.proofs.lemmas.Bool.{cases_Bool, cases_lt, or_parts, ltb-false}
-use Rattle.yasir_ticks.specs.Ticks.{bytes_in, silent}
-use Rattle.yasir_ticks.specs.Bursts.{Burst, end_of}
+use Rattle.yasir_ticks.proofs.{BurstLaws.with_last, SilenceLaws.bytes_in-append}
+use Rattle.yasir_ticks.{proofs.SilenceLaws.get_or-silence, specs.Bursts.Burst, specs.Bursts.end_of}
 use Rattle.yasir_ticks.specs.BurstsOf.{IsContiguous, one, more}
-use Rattle.yasir_ticks.specs.declared.tick.Tick.{Tick}
-use Rattle.yasir_ticks.specs.declared.tick.Tick.TheVariants.{Silent, Byte}
-use Rattle.line_rules.specs.Rules.{Rules, fills_room}
-use Rattle.line_rules.specs.RulesLaws.{IsLawful}
-use Rattle.frame_ending.specs.LiveBytes.{before_pause, has_pause, up_to_byte, spelled, live_bytes}
-use Rattle.frame_ending.specs.LiveBytes.{live_ticks, live_end, has_extra}
-use Rattle.frame_ending.proofs.LastBurst.{IsWithin}
-use Rattle.frame_ending.proofs.Pauses.{ended, contiguous-ends, up_to_byte-append, up_to_byte-all}
-use Rattle.frame_ending.proofs.Pauses.{up_to_byte-le}
-use Rattle.frame_ending.proofs.Rooms.{within_room-le}
-use Rattle.frame_ending.proofs.LiveSome.{live-some}
-use Rattle.frame_ending.proofs.BurstSteps.{live-le, live-over, live-more, live-all, longer-bytes}
-use Rattle.yasir_ticks.proofs.BurstLaws.{with_last}
-use Rattle.yasir_ticks.proofs.SilenceLaws.{bytes_in-append, get_or-silence}
+use Rattle.yasir_ticks.specs.Ticks.{bytes_in, silent}
+use Rattle.yasir_ticks.specs.declared.tick.Tick.{Tick, TheVariants.Silent, TheVariants.Byte}
 
 -- where all bytes are live, the live ticks are all ticks
 pub live_ticks-all : (rules : Rules) (d : Burst) → IsContiguous 4 d.body

@@ -1,20 +1,15 @@
 -- Bytes of a burst that aren't live, taken as a run.
-use Rattle.std.proofs.Common.{◌≡◌, ◌∙◌, ℕ, ◌+◌, ◌-◌, ◌<◌, ◌≤◌, Bool, true, ◌||◌, List, [], ◌∷◌}
-use Rattle.std.proofs.Common.{◌++◌}
-use Rattle.std.proofs.Common.{length, map, refl, subst, ap, arith, append_assoc, false}
-use Rattle.std.proofs.lemmas.List.{replicate-append-replicate}
-use Rattle.yasir_ticks.specs.Ticks.{silent}
-use Rattle.line_rules.specs.Rules.{Rules, fills_room}
-use Rattle.line_rules.specs.declared.line_rules.LineRules.{Ghosts as LineRules}
-use Rattle.yasir_ticks.specs.declared.tick.Tick.{Tick}
-use Rattle.yasir_ticks.specs.declared.tick.Tick.TheVariants.{Silent, Byte}
-use Rattle.frame_ending.specs.declared.burst_cut.BurstCut.{BurstCut}
-use Rattle.frame_ending.specs.declared.cut.Cut.TheVariants.{Start, Live, Extra}
-use Rattle.frame_ending.specs.SoFar.{live_bytes_so_far}
-use Rattle.frame_ending.specs.Cuts.{cut_of, cuts_after}
-use Rattle.frame_ending.specs.Stands.{StandsFor}
 use Rattle.frame_ending.proofs.Cutting.{cut-begin, cut-pass, cut-go_on, stands-pass}
 use Rattle.frame_ending.proofs.Runs.{stands-silence}
+use Rattle.frame_ending.specs.{Cuts.cut_of, Cuts.cuts_after, SoFar.live_bytes_so_far}
+use Rattle.frame_ending.specs.{Stands.StandsFor, declared.burst_cut.BurstCut.BurstCut}
+use Rattle.frame_ending.specs.declared.cut.Cut.TheVariants.{Start, Live, Extra}
+use Rattle.line_rules.specs.Rules.{Rules, fills_room}
+use Rattle.line_rules.specs.declared.line_rules.LineRules.{Ghosts as LineRules}
+use Rattle.std.proofs.Common.{◌≡◌, ◌∙◌, ℕ, ◌+◌, ◌-◌, ◌<◌, ◌≤◌, Bool, true, ◌||◌, List, [], ◌∷◌}
+use Rattle.std.proofs.Common.{◌++◌, length, map, refl, subst, ap, arith, append_assoc, false}
+use Rattle.{std.proofs.lemmas.List.replicate-append-replicate, yasir_ticks.specs.Ticks.silent}
+use Rattle.yasir_ticks.specs.declared.tick.Tick.{Tick, TheVariants.Silent, TheVariants.Byte}
 
 -- silence behind silence
 silence-joined : (line : List Tick) (w n : ℕ) → w ≤ n

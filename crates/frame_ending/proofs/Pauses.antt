@@ -1,13 +1,11 @@
 -- Pauses and bytes of ticks that go on after a byte.
+use Rattle.frame_ending.specs.LiveBytes.{before_pause, has_pause, up_to_byte}
 use Rattle.std.proofs.Common.{◌≡◌, ℕ, zero, suc, ◌<◌, ◌≤◌, nat_le, true, false, ◌||◌, List, [], ◌∷◌}
 use Rattle.std.proofs.Common.{◌++◌, length, refl, arith, sym, ◌∙◌, ap, append_assoc}
-use Rattle.std.proofs.lemmas.Bool.{le-leb}
-use Rattle.std.proofs.lemmas.List.{append-nil}
-use Rattle.yasir_ticks.specs.Ticks.{bytes_in, silent}
+use Rattle.std.proofs.lemmas.{Bool.le-leb, List.append-nil}
 use Rattle.yasir_ticks.specs.BurstsOf.{IsContiguous, one, more}
-use Rattle.yasir_ticks.specs.declared.tick.Tick.{Tick}
-use Rattle.yasir_ticks.specs.declared.tick.Tick.TheVariants.{Silent, Byte}
-use Rattle.frame_ending.specs.LiveBytes.{before_pause, has_pause, up_to_byte}
+use Rattle.yasir_ticks.specs.Ticks.{bytes_in, silent}
+use Rattle.yasir_ticks.specs.declared.tick.Tick.{Tick, TheVariants.Silent, TheVariants.Byte}
 
 -- ticks that end with this byte
 abbrev pub ended : List Tick → ℕ → List Tick

@@ -1,13 +1,10 @@
 -- The first bytes that there is room for, as the bytes go on.
+use Rattle.frame_ending.specs.LiveBytes.{within_room}
+use Rattle.line_rules.specs.{Rules.Rules, Rules.fills_room, RulesLaws.IsLawful}
 use Rattle.std.proofs.Common.{◌≡◌, ℕ, ◌<◌, ◌≤◌, true, false, List, [], ◌∷◌, ◌++◌, length, take}
 use Rattle.std.proofs.Common.{refl, arith, sym, ◌∙◌, ap, subst, inl, inr, ◌⊎◌, ⊎_elim, append_assoc}
-use Rattle.std.proofs.Common.{length-append}
-use Rattle.std.proofs.Math.Seq.{take-append_seam}
-use Rattle.std.proofs.lemmas.Bool.{cases_eq, eqb-true, eqb-false}
-use Rattle.std.proofs.lemmas.List.{append-nil, take_all}
-use Rattle.line_rules.specs.Rules.{Rules, fills_room}
-use Rattle.line_rules.specs.RulesLaws.{IsLawful}
-use Rattle.frame_ending.specs.LiveBytes.{within_room}
+use Rattle.std.proofs.{Common.length-append, Math.Seq.take-append_seam, lemmas.Bool.cases_eq}
+use Rattle.std.proofs.lemmas.{Bool.eqb-true, Bool.eqb-false, List.append-nil, List.take_all}
 
 -- These are the first of the bytes: all of them, and there is room for them, or as many as there is
 -- room for.

@@ -1,19 +1,15 @@
 -- What ticks are, computed from the definition: bytes with one silent tick between them, two silent
 -- ticks inside a burst, three and four silent ticks before a byte, and more bytes than there is
 -- room for.
+use Rattle.frame_ending.specs.{Cuts.cuts_after, LiveBytes.before_pause, LiveBytes.has_pause}
+use Rattle.frame_ending.specs.{LiveBytes.up_to_byte, SoFar.last_of, SoFar.start_so_far}
+use Rattle.frame_ending.specs.SoFar.{last_live_so_far, live_bytes_so_far, has_extra_so_far}
+use Rattle.frame_ending.specs.{SoFar.is_over_so_far, declared.cut.Cut.TheVariants.Start}
+use Rattle.frame_ending.specs.declared.cut.Cut.TheVariants.{Live, Extra, Pause, Closed, Quiet}
+use Rattle.line_rules.specs.{Headerless.headerless, Rules.Rules}
 use Rattle.std.proofs.Common.{◌≡◌, ℕ, true, false, List, [], ◌∷◌, ◌++◌, refl}
-use Rattle.line_rules.specs.Rules.{Rules}
-use Rattle.line_rules.specs.Headerless.{headerless}
-use Rattle.yasir_ticks.specs.Ticks.{silent}
-use Rattle.yasir_ticks.specs.Bursts.{with_byte, bursts_from}
-use Rattle.yasir_ticks.specs.declared.tick.Tick.{Tick}
-use Rattle.yasir_ticks.specs.declared.tick.Tick.TheVariants.{Silent, Byte}
-use Rattle.frame_ending.specs.declared.cut.Cut.TheVariants.{Start, Live, Extra, Pause, Closed}
-use Rattle.frame_ending.specs.declared.cut.Cut.TheVariants.{Quiet}
-use Rattle.frame_ending.specs.LiveBytes.{before_pause, has_pause, up_to_byte}
-use Rattle.frame_ending.specs.SoFar.{last_of, start_so_far, last_live_so_far, live_bytes_so_far}
-use Rattle.frame_ending.specs.SoFar.{has_extra_so_far, is_over_so_far}
-use Rattle.frame_ending.specs.Cuts.{cuts_after}
+use Rattle.yasir_ticks.specs.{Bursts.with_byte, Bursts.bursts_from, Ticks.silent}
+use Rattle.yasir_ticks.specs.declared.tick.Tick.{Tick, TheVariants.Silent, TheVariants.Byte}
 
 -- room for this many bytes, and no frames
 abbrev with_room : ℕ → Rules

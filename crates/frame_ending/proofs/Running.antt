@@ -1,26 +1,21 @@
 -- What a tick is, by the burst that runs.
-use Rattle.std.proofs.Common.{◌≡◌, ◌∙◌, ℕ, suc, ◌+◌, ◌-◌, ◌<◌, ◌≤◌, ◌==◌, nat_le, nat_lt, Bool}
-use Rattle.std.proofs.Common.{true, false}
-use Rattle.std.proofs.Common.{◌||◌, cond, ◌⊎◌, inl, inr, List, [], ◌∷◌, ◌++◌, length, refl, sym, ap}
-use Rattle.std.proofs.Common.{subst, arith, ⊎_elim, Option, Some, None, IfSome, append-nil}
-use Rattle.std.proofs.lemmas.Bool.{cases_Bool, cases_lt, or_parts, eq-eqb, ne_eqb}
-use Rattle.std.proofs.lemmas.Bool.{le-ltb, lt-ltb, cond-true, cond-false}
-use Rattle.yasir_ticks.specs.Bursts.{Burst, end_of, AreClosed}
-use Rattle.yasir_ticks.specs.declared.tick.Tick.{Tick}
-use Rattle.yasir_ticks.specs.declared.tick.Tick.TheVariants.{Silent, Byte}
-use Rattle.yasir_ticks.proofs.BurstLaws.{alone, with_last}
-use Rattle.line_rules.specs.Rules.{Rules, fills_room}
-use Rattle.line_rules.specs.RulesLaws.{IsLawful}
-use Rattle.frame_ending.specs.declared.cut.Cut.{Cut}
-use Rattle.frame_ending.specs.declared.cut.Cut.TheVariants.{Start, Live, Extra, Pause, Closed}
-use Rattle.frame_ending.specs.declared.cut.Cut.TheVariants.{Quiet}
-use Rattle.frame_ending.specs.LiveBytes.{has_pause, live_bytes, live_end}
-use Rattle.frame_ending.specs.Cuts.{cut_of, byte_cut, silence_cut, silent_cut, IsPassing}
-use Rattle.frame_ending.specs.Divided.{IsDivided}
-use Rattle.frame_ending.specs.SoFar.{last_of, last_burst}
-use Rattle.frame_ending.proofs.LastBurst.{grown, last_burst-byte, last_burst-within}
 use Rattle.frame_ending.proofs.BurstSteps.{later, live-over, end-over, live_end-le, live-more}
 use Rattle.frame_ending.proofs.BurstSteps.{end-more, alone-live, alone-live_end}
+use Rattle.frame_ending.proofs.LastBurst.{grown, last_burst-byte, last_burst-within}
+use Rattle.frame_ending.specs.Cuts.{cut_of, byte_cut, silence_cut, silent_cut, IsPassing}
+use Rattle.frame_ending.specs.{Divided.IsDivided, LiveBytes.has_pause, LiveBytes.live_bytes}
+use Rattle.frame_ending.specs.{LiveBytes.live_end, SoFar.last_of, SoFar.last_burst}
+use Rattle.frame_ending.specs.declared.cut.Cut.{Cut, TheVariants.Start}
+use Rattle.frame_ending.specs.declared.cut.Cut.TheVariants.{Live, Extra, Pause, Closed, Quiet}
+use Rattle.line_rules.specs.{Rules.Rules, Rules.fills_room, RulesLaws.IsLawful}
+use Rattle.std.proofs.Common.{◌≡◌, ◌∙◌, ℕ, suc, ◌+◌, ◌-◌, ◌<◌, ◌≤◌, ◌==◌, nat_le, nat_lt, Bool}
+use Rattle.std.proofs.Common.{true, false, ◌||◌, cond, ◌⊎◌, inl, inr, List, [], ◌∷◌, ◌++◌, length}
+use Rattle.std.proofs.Common.{refl, sym, ap, subst, arith, ⊎_elim, Option, Some, None, IfSome}
+use Rattle.std.proofs.{Common.append-nil, lemmas.Bool.cases_Bool, lemmas.Bool.cases_lt}
+use Rattle.std.proofs.lemmas.Bool.{or_parts, eq-eqb, ne_eqb, le-ltb, lt-ltb, cond-true, cond-false}
+use Rattle.yasir_ticks.proofs.BurstLaws.{alone, with_last}
+use Rattle.yasir_ticks.specs.Bursts.{Burst, end_of, AreClosed}
+use Rattle.yasir_ticks.specs.declared.tick.Tick.{Tick, TheVariants.Silent, TheVariants.Byte}
 
 -- the running burst after a byte at tick m
 abbrev pub with_byte_at : ℕ → ℕ → Option Burst → Burst

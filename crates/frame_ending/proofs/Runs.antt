@@ -1,30 +1,22 @@
 -- Runs of ticks of a value that cuts a line: live bytes, and silence where no burst runs.
-use Rattle.std.proofs.Common.{◌≡◌, ◌∙◌, ℕ, zero, suc, ◌+◌, ◌<◌, ◌≤◌, Bool, true, false, ◌||◌}
-use Rattle.std.proofs.Common.{List, [], ◌∷◌, ◌++◌}
-use Rattle.std.proofs.Common.{length, take, map, replicate, refl, sym, ap, subst, arith}
-use Rattle.std.proofs.Common.{append_assoc, append-nil, length-append, Option, Some, None, ⊎_elim}
-use Rattle.std.proofs.Math.Seq.{drop-append_seam}
-use Rattle.std.proofs.lemmas.Bool.{cases_lt, eq-eqb, eqb-false, lt-ltb, le-ltb, cond-true}
-use Rattle.std.proofs.lemmas.Bool.{cond-false}
-use Rattle.std.proofs.lemmas.List.{length-take-le, take-take}
-use Rattle.std.proofs.lemmas.List.Elements.{All-append, All-head, All-tail, All-nil, All-cons}
-use Rattle.std.proofs.lemmas.List.Elements.{All-drop}
-use Rattle.line_rules.specs.Bytes.{AreBytes}
-use Rattle.line_rules.specs.Rules.{Rules, fills_room}
-use Rattle.line_rules.specs.declared.line_rules.LineRules.{Ghosts as LineRules}
-use Rattle.yasir_ticks.specs.Bursts.{Burst, end_of}
-use Rattle.yasir_ticks.specs.Ticks.{silent}
-use Rattle.yasir_ticks.proofs.BurstLaws.{alone}
-use Rattle.yasir_ticks.specs.declared.tick.Tick.{Tick}
-use Rattle.yasir_ticks.specs.declared.tick.Tick.TheVariants.{Silent, Byte}
-use Rattle.frame_ending.specs.declared.burst_cut.BurstCut.{BurstCut}
-use Rattle.frame_ending.specs.declared.cut.Cut.TheVariants.{Start, Live, Extra, Quiet}
-use Rattle.frame_ending.specs.SoFar.{last_burst, start_in, start_so_far, live_bytes_so_far}
+use Rattle.frame_ending.proofs.Cutting.{cut-begin, cut-pass, stands-go_on, cut-go_on, stands-rest}
+use Rattle.frame_ending.proofs.{Cutting.cut-rest, LastBurst.grown, LastBurst.last_burst-byte}
 use Rattle.frame_ending.specs.Cuts.{cut_of, byte_cut, cuts_after}
-use Rattle.frame_ending.specs.Stands.{StandsFor}
-use Rattle.frame_ending.proofs.LastBurst.{grown, last_burst-byte}
-use Rattle.frame_ending.proofs.Cutting.{cut-begin, cut-pass, stands-go_on, cut-go_on}
-use Rattle.frame_ending.proofs.Cutting.{stands-rest, cut-rest}
+use Rattle.frame_ending.specs.SoFar.{last_burst, start_in, start_so_far, live_bytes_so_far}
+use Rattle.frame_ending.specs.{Stands.StandsFor, declared.burst_cut.BurstCut.BurstCut}
+use Rattle.frame_ending.specs.declared.cut.Cut.TheVariants.{Start, Live, Extra, Quiet}
+use Rattle.line_rules.specs.{Bytes.AreBytes, Rules.Rules, Rules.fills_room}
+use Rattle.line_rules.specs.declared.line_rules.LineRules.{Ghosts as LineRules}
+use Rattle.std.proofs.Common.{◌≡◌, ◌∙◌, ℕ, zero, suc, ◌+◌, ◌<◌, ◌≤◌, Bool, true, false, ◌||◌, List}
+use Rattle.std.proofs.Common.{[], ◌∷◌, ◌++◌, length, take, map, replicate, refl, sym, ap, subst}
+use Rattle.std.proofs.Common.{arith, append_assoc, append-nil, length-append, Option, Some, None}
+use Rattle.std.proofs.{Common.⊎_elim, Math.Seq.drop-append_seam, lemmas.Bool.cases_lt}
+use Rattle.std.proofs.lemmas.Bool.{eq-eqb, eqb-false, lt-ltb, le-ltb, cond-true, cond-false}
+use Rattle.std.proofs.lemmas.List.{length-take-le, take-take, Elements.All-append}
+use Rattle.std.proofs.lemmas.List.Elements.{All-head, All-tail, All-nil, All-cons, All-drop}
+use Rattle.yasir_ticks.proofs.BurstLaws.{alone}
+use Rattle.yasir_ticks.specs.{Bursts.Burst, Bursts.end_of, Ticks.silent}
+use Rattle.yasir_ticks.specs.declared.tick.Tick.{Tick, TheVariants.Silent, TheVariants.Byte}
 
 -- a live byte that starts no burst belongs to the last one
 pub live-start : (rules : Rules) (line : List Tick) (b : ℕ) → cut_of rules line (Byte b) ≡ Live b

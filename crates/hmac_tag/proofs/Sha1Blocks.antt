@@ -1,22 +1,18 @@
 -- SHA-1's schedule by fours, and the rounds over words that come with their constants.
 use Rattle.std.proofs.Common.{◌≡◌, ℕ, zero, suc, ◌+◌, ◌-◌, ◌*◌, ◌/◌, ◌%◌, ◌^◌, ◌<◌, ◌≤◌, List, []}
-use Rattle.std.proofs.Common.{◌∷◌, ◌++◌, length, slice_index, map, refl}
-use Rattle.std.proofs.Common.{sym, ap, ap₂, ◌∙◌, arith, inl, inr}
-use Rattle.std.proofs.Common.{bit_or, bit_xor}
-use Rattle.std.proofs.lemmas.Bool.{cases_lt}
+use Rattle.std.proofs.Common.{◌∷◌, ◌++◌, length, slice_index, map, refl, sym, ap, ap₂, ◌∙◌, arith}
+use Rattle.std.proofs.{Common.inl, Common.inr, Common.bit_or, Common.bit_xor, lemmas.Bool.cases_lt}
 use Rattle.std.proofs.lemmas.Nat.{or_shifted, xor_mod, xor_shr, xor_block, xor_lt, xor_comm}
 use Rattle.std.proofs.lemmas.Nat.Bits.{bit_at-lt, bit_at_xor, same_from_bits}
-use Rattle.std.specs.Int.{w32, rotate_left}
-use Rattle.std.specs.Int.Bits.{xor_assoc, xor_zero_r, xor_zero_l}
+use Rattle.std.specs.Int.{w32, rotate_left, Bits.xor_assoc, Bits.xor_zero_r, Bits.xor_zero_l}
 use lib.Lanes.{zip2, pick_l, put_chunk}
 use borrow.Rule.Slice.PartMut.{put_mid, mid_of, post_of}
+use Rattle.hmac_tag.specs.Sha1Words.{AreBytes, four_at, IsFour, AreKeyed}
+use Rattle.sha1.proofs.Schedule.{slice_index-schedule_first, slice_index-schedule_next, rounds_next}
+use Rattle.sha1.specs.Sha1.{add32, schedule, rounds, round, round_fn, round_constant}
 use Rattle.std.proofs.Common.{take, drop, get_or, add-zero, length-drop}
 use Rattle.std.proofs.lemmas.List.{length-take-le, get_or_append_left, get_or-append_right}
-use Rattle.std.proofs.lemmas.List.{get_or-take}
-use Rattle.std.proofs.lemmas.Simd.{put_chunk_whole}
-use Rattle.sha1.specs.Sha1.{add32, schedule, rounds, round, round_fn, round_constant}
-use Rattle.sha1.proofs.Schedule.{slice_index-schedule_first, slice_index-schedule_next, rounds_next}
-use Rattle.hmac_tag.specs.Sha1Words.{AreBytes, four_at, IsFour, AreKeyed}
+use Rattle.std.proofs.lemmas.{List.get_or-take, Simd.put_chunk_whole}
 
 -- ---- four lanes
 

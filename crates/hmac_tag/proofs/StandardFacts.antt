@@ -1,11 +1,10 @@
 -- Test cases of RFC 2202 and RFC 4231, computed: a wrong pad, filling or order in the definition
 -- does not check. The tags of a frame are Python's.
-use Rattle.std.proofs.Common.{◌≡◌, [], ◌∷◌, codes, refl, replicate}
 use Rattle.sha1.specs.Sha1.{first_words, schedule, rounds, compress, hash_after, digest_bytes, sha1}
+use Rattle.std.proofs.Common.{◌≡◌, [], ◌∷◌, codes, refl, replicate}
 use Rattle.sha2.specs.Sha256 as S256
 use Rattle.hmac_tag.specs.Hmac.{key_block, hmac}
-use Rattle.hmac_tag.specs.Tag.{hmac_sha1, hmac_sha1_96, tag_text, tag}
-use Rattle.hmac_tag.specs.Tag.{hmac_sha256, hmac_sha256_128}
+use Rattle.hmac_tag.specs.Tag.{hmac_sha1, hmac_sha1_96, tag_text, tag, hmac_sha256, hmac_sha256_128}
 
 pub hmac_of_hi_there : hmac_sha1 (replicate 20 0x0B) (codes "Hi There") ≡
     0xB6 ∷ 0x17 ∷ 0x31 ∷ 0x86 ∷ 0x55 ∷ 0x05 ∷ 0x72 ∷ 0x64 ∷ 0xE2 ∷ 0x8B ∷ 0xC0 ∷ 0xB6 ∷ 0xFB ∷ 0x37

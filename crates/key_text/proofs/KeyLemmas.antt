@@ -3,22 +3,18 @@ use Rattle.std.proofs.Common.{◌≡◌, ℕ, zero, suc, ◌+◌, ◌-◌, ◌*�
 use Rattle.std.proofs.Common.{List, [], ◌∷◌, ◌++◌, length, length-append, take, drop, replicate}
 use Rattle.std.proofs.Common.{slice_index, true, false, Result, Ok, Err, refl, sym, ap, subst, ◌∙◌}
 use Rattle.std.proofs.Common.{append_assoc, append-nil, arith}
+use Rattle.std.specs.{Io.KnownBytes.prepend_known, List.AllPass}
 use Rattle.std.specs.Prelude.{MatchResult, ⊤, Option, Some, None}
-use Rattle.std.specs.Io.KnownBytes.{prepend_known}
-use Rattle.std.specs.List.{AllPass}
 use borrow.Rule.Slice.PartMut.{put_mid}
-use Rattle.std.proofs.lemmas.Slice.{take-put_mid}
-use Rattle.std.proofs.Common.{take-take}
-use Rattle.std.proofs.lemmas.Bool.{cases_lt}
+use Rattle.hex.proofs.HexLemmas.{decode_of-digits, decode_of-ok, decode_sized-twice}
+use Rattle.hex.specs.Hex.{decode_of, decode_sized, is_hex_digit}
+use Rattle.{hex.specs.declared.error.FromHexError.FromHexError, key_text.specs.KeyText.IsKeyText}
+use Rattle.key_text.specs.KeyText.{IsKeyEnding, BeginsKey, BeginsEnding, IsLongestFront, IsKeyPlace}
+use Rattle.{key_text.specs.KeyText.IsNoKey, std.proofs.Common.take-take}
+use Rattle.std.proofs.{Math.Seq.take-append_seam, Math.Seq.take-append-add, lemmas.Bool.cases_lt}
 use Rattle.std.proofs.lemmas.List.{take-append-drop, length-replicate, length-take-le}
 use Rattle.std.proofs.lemmas.List.Elements.{All-head, All-tail, All-append, All-replicate}
-use Rattle.std.proofs.Math.Seq.{take-append_seam, take-append-add}
-use Rattle.std.specs.Char.{is_ascii_hexdigit}
-use Rattle.hex.specs.Hex.{decode_of, decode_sized, is_hex_digit}
-use Rattle.hex.specs.declared.error.FromHexError.{FromHexError}
-use Rattle.hex.proofs.HexLemmas.{decode_of-digits, decode_of-ok, decode_sized-twice}
-use Rattle.key_text.specs.KeyText.{IsKeyText, IsKeyEnding, BeginsKey, BeginsEnding, IsLongestFront}
-use Rattle.key_text.specs.KeyText.{IsKeyPlace, IsNoKey}
+use Rattle.std.{proofs.lemmas.Slice.take-put_mid, specs.Char.is_ascii_hexdigit}
 
 pub hexdigit_same : (c : ℕ) → is_ascii_hexdigit c ≡ is_hex_digit c
 hexdigit_same c = grind arith

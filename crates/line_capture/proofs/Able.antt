@@ -1,50 +1,38 @@
 -- What is right is done.
-use Rattle.std.proofs.Common.{◌≡◌, ◌∙◌, ℕ, ◌≤◌, inl, inr, List, [], ◌∷◌, ◌++◌, length}
-use Rattle.std.proofs.Common.{true, Option, Some, refl, sym, ap, subst, arith, length-append}
-use Rattle.std.proofs.Common.{append_assoc}
+use Rattle.std.proofs.Common.{◌≡◌, ◌∙◌, ℕ, ◌≤◌, inl, inr, List, [], ◌∷◌, ◌++◌, length, true, Option}
+use Rattle.std.proofs.Common.{Some, refl, sym, ap, subst, arith, length-append, append_assoc}
+use Rattle.tick_drive.specs.{Input.max_bytes, declared.end.End.End}
 use Rattle.yasir_io.specs.Causes.{Rose}
-use Rattle.tick_drive.specs.Input.{max_bytes}
-use Rattle.tick_drive.specs.declared.end.End.{End}
 use Rattle.tick_drive.specs.declared.end.End.TheVariants as drive_ends
-use Rattle.tick_lists.specs.Listing.{EndsBefore}
-use Rattle.replay_status.specs.Causes.{SinkCause}
-use Rattle.replay_status.specs.PrintsText.{PrintsText}
-use Rattle.replay_status.specs.Readable.{IsReadableWith}
-use Rattle.replay_status.specs.declared.status.Status.{Status}
+use Rattle.replay_status.specs.{Causes.SinkCause, PrintsText.PrintsText, Readable.IsReadableWith}
+use Rattle.{replay_status.specs.declared.status.Status.Status, tick_lists.specs.Listing.EndsBefore}
 use Rattle.replay_status.specs.declared.status.Status.TheVariants as statuses
-use Rattle.replay_status.proofs.Readable.{all_of_told, met_of_told, not_refused, not_too_long}
 use Rattle.line_stamps.specs.declared.capture.CaptureByte.{CaptureByte}
+use Rattle.replay_status.proofs.Readable.{all_of_told, met_of_told, not_refused, not_too_long}
 use Rattle.line_stamps.specs.declared.capture.Way.TheVariants as way
-use Rattle.line_stamps.specs.declared.rate.Rate.{Rate}
-use Rattle.line_stamps.specs.declared.seen.Seen.{Seen}
-use Rattle.line_stamps.specs.declared.seen.Seen.TheVariants.{Event}
-use Rattle.line_stamps.specs.declared.timing.Timing.{Timing}
 use Rattle.line_capture.specs.Able.{IsTakeable, IsGivable, IsPlacedWhole, timing_of_items, EndsWell}
-use Rattle.line_capture.specs.Captures.{NoError, is_error, HoldsItems, Collects, way_bytes, IsRefused}
-use Rattle.line_capture.specs.Captures.IsRefused.{at_byte, at_error, at_end}
-use Rattle.line_capture.specs.Formats.{Format}
+use Rattle.line_capture.specs.Captures.{NoError, is_error, HoldsItems, Collects, way_bytes}
+use Rattle.line_capture.specs.Captures.{IsRefused, IsRefused.at_byte, IsRefused.at_error}
+use Rattle.line_capture.specs.{Captures.IsRefused.at_end, Formats.Format}
 use Rattle.line_capture.specs.Gives.{marks_for, GivesFile, GivesRead, Gives, end_status}
-use Rattle.line_capture.specs.Gives.GivesFile.{no_memory as no_memory_given, refused, given}
 use Rattle.line_capture.specs.Gives.Gives.{no_memory as no_input_given, read as input_given}
-use Rattle.line_capture.specs.Inputs.{Told, IsRead}
-use Rattle.line_capture.specs.Outcomes.{status_in}
+use Rattle.line_capture.specs.Gives.GivesFile.{no_memory as no_memory_given, refused, given}
+use Rattle.line_capture.specs.{Inputs.Told, Inputs.IsRead, Outcomes.status_in}
 use Rattle.line_capture.specs.Takes.{Held, Takes, TakesRead, WritesTaken, timing_for, outcome_of}
 use Rattle.line_capture.specs.Takes.{read_outcome, or_else, stop_outcome, origin_of}
-use Rattle.line_capture.specs.Takes.WritesTaken.{written, failed}
-use Rattle.line_capture.specs.Takes.TakesRead.{no_memory, kept as was_kept}
 use Rattle.line_capture.specs.Takes.Takes.{no_memory as no_room, read as was_read}
+use Rattle.line_capture.specs.Takes.TakesRead.{no_memory, kept as was_kept}
+use Rattle.line_capture.specs.Takes.WritesTaken.{written, failed}
 use Rattle.line_capture.specs.declared.bad_capture.BadCapture.{BadCapture}
 use Rattle.line_capture.specs.declared.collect.CaptureEnd.{CaptureEnd}
+use Rattle.line_stamps.specs.declared.{rate.Rate.Rate, seen.Seen.Seen, seen.Seen.TheVariants.Event}
+use Rattle.line_stamps.specs.declared.timing.Timing.{Timing}
 use Rattle.line_capture.specs.declared.collect.CaptureEnd.TheVariants as ends
-use Rattle.line_capture.specs.declared.collect.Kept.{Kept}
-use Rattle.line_capture.specs.declared.input.ReadEnd.{ReadEnd}
+use Rattle.line_capture.proofs.{PlacedWhole.all_placed, SoundForms.IsSound}
+use Rattle.line_capture.specs.declared.{collect.Kept.Kept, input.ReadEnd.ReadEnd}
 use Rattle.line_capture.specs.declared.input.ReadEnd.TheVariants.{Whole, Failed, TooLong}
-use Rattle.line_capture.specs.declared.outcome.Outcome.{Outcome}
-use Rattle.line_capture.specs.declared.outcome.Outcome.TheVariants.{Ended}
-use Rattle.line_capture.specs.declared.take.Taking.{Taking}
-use Rattle.line_capture.specs.declared.words.GiveForm.{GiveForm}
-use Rattle.line_capture.proofs.PlacedWhole.{all_placed}
-use Rattle.line_capture.proofs.SoundForms.{IsSound}
+use Rattle.line_capture.specs.declared.outcome.Outcome.{Outcome, TheVariants.Ended}
+use Rattle.line_capture.specs.declared.{take.Taking.Taking, words.GiveForm.GiveForm}
 
 -- Nothing was refused.
 pub data EndsFree (outcome : Outcome) : Type 0 where

@@ -1,15 +1,11 @@
 -- Words that ask for no command, and words that ask for one.
+use Rattle.line_capture.specs.Words.{IsCommand, take_form_word, give_form_word, ways_word}
+use Rattle.line_capture.specs.declared.words.Command.{Command, TheVariants.Take, TheVariants.Give}
+use Rattle.line_capture.specs.declared.words.{GiveForm.GiveForm, TakeForm.TakeForm, Ways.Ways}
+use Rattle.line_stamps.specs.{RateWords.rate_word, declared.rate.Rate.Rate}
+use Rattle.line_stamps.specs.declared.timing.Spacing.TheVariants.{ByTime, ByRecord}
 use Rattle.std.proofs.Common.{◌≡◌, ℕ, zero, suc, ◌≤◌, List, [], ◌∷◌, length, ap, refl, arith}
 use Rattle.std.specs.Prelude.{codes}
-use Rattle.line_stamps.specs.RateWords.{rate_word}
-use Rattle.line_stamps.specs.declared.rate.Rate.{Rate}
-use Rattle.line_stamps.specs.declared.timing.Spacing.TheVariants.{ByTime, ByRecord}
-use Rattle.line_capture.specs.Words.{IsCommand, take_form_word, give_form_word, ways_word}
-use Rattle.line_capture.specs.declared.words.Command.{Command}
-use Rattle.line_capture.specs.declared.words.Command.TheVariants.{Take, Give}
-use Rattle.line_capture.specs.declared.words.GiveForm.{GiveForm}
-use Rattle.line_capture.specs.declared.words.TakeForm.{TakeForm}
-use Rattle.line_capture.specs.declared.words.Ways.{Ways}
 
 abbrev word_at : ℕ → List (List ℕ) → List ℕ
 word_at n [] = []

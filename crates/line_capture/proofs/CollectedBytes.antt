@@ -1,11 +1,5 @@
 -- A capture, collected byte by byte.
-use Rattle.std.proofs.Common.{◌≡◌, ◌∙◌, ℕ, ◌+◌, ◌<◌, List, [], ◌∷◌, ◌++◌, Bool, true, false, length, take, drop}
-use Rattle.std.proofs.Common.{get_or, suc, sym, ap, subst, append-nil, arith}
-use Rattle.std.proofs.Common.{append_assoc}
-use Rattle.std.proofs.Math.Seq.{drop-cons}
-use Rattle.std.proofs.lemmas.List.{take-append-drop, take_more, length-take}
-use Rattle.line_stamps.specs.declared.seen.Seen.{Seen}
-use Rattle.line_capture.specs.Captures.{TakesItem}
+use Rattle.line_capture.{proofs.Keeping.right_more, specs.Captures.TakesItem}
 use Rattle.line_capture.specs.Captures.{IsRefused, Collects, EndsSo, TakesItems, is_error}
 use Rattle.line_capture.specs.Captures.IsRefused.{at_byte, at_error, at_end}
 use Rattle.line_capture.specs.Collecting.{Collecting, StopsNext}
@@ -13,10 +7,13 @@ use Rattle.line_capture.specs.Collecting.StopsNext.{refused, in_error}
 use Rattle.line_capture.specs.declared.bad_capture.BadCapture.{BadCapture}
 use Rattle.line_capture.specs.declared.collect.CaptureEnd.{CaptureEnd}
 use Rattle.line_capture.specs.declared.collect.CaptureEnd.TheVariants.{Whole, Open, Bad}
-use Rattle.line_capture.specs.declared.collect.Kept.{Kept}
-use Rattle.line_capture.specs.declared.reader.FormReader.{Ghosts as FormReader}
+use Rattle.line_capture.specs.declared.{collect.Kept.Kept, reader.FormReader.Ghosts as FormReader}
 use Rattle.line_capture.specs.declared.take.Taking.{Taking}
-use Rattle.line_capture.proofs.Keeping.{right_more}
+use Rattle.line_stamps.specs.declared.seen.Seen.{Seen}
+use Rattle.std.proofs.Common.{◌≡◌, ◌∙◌, ℕ, ◌+◌, ◌<◌, List, [], ◌∷◌, ◌++◌, Bool, true, false, length}
+use Rattle.std.proofs.Common.{take, drop, get_or, suc, sym, ap, subst, append-nil, arith}
+use Rattle.std.proofs.{Common.append_assoc, Math.Seq.drop-cons}
+use Rattle.std.proofs.lemmas.List.{take-append-drop, take_more, length-take}
 
 -- a list, around one of its items
 pub item_parts : {X : Type 0} (xs : List X) (i : ℕ) (d : X) → i < length xs

@@ -1,21 +1,18 @@
 -- Bytes of which none is refused are placed, on a line that isn't too long: none of them is late.
-use Rattle.std.proofs.Common.{◌≡◌, ◌∙◌, ℕ, ◌+◌, ◌-◌, ◌*◌, ◌<◌, ◌≤◌, ⊎_elim, List, [], ◌∷◌, length}
-use Rattle.std.proofs.Common.{false, ◌||◌, Option, Some, None, Ok, refl, sym, ap, subst, arith, add-mul, nat_le}
-use Rattle.std.proofs.Math.Nat.{mul-le-mul_right}
-use Rattle.std.proofs.lemmas.Bool.{cases_lt, cond-false, lt-leb, ltb-false}
-use Rattle.tick_drive.specs.Input.{max_ticks}
-use Rattle.line_stamps.specs.Parts.{character, rounded, ticks_apart}
-use Rattle.line_stamps.specs.Places.{Spot, spot_of, start_of, next_tick}
-use Rattle.line_stamps.specs.Places.{line_of, last_spot_from, tick_at}
-use Rattle.line_stamps.specs.Placing.{answer_at, is_early, is_late, overlaps, overlaps_at}
-use Rattle.line_stamps.specs.Placing.{NoneRefused, silence_before}
-use Rattle.line_stamps.specs.declared.TheConstants.{TIME_LIMIT}
-use Rattle.line_stamps.specs.declared.capture.CaptureByte.{CaptureByte}
-use Rattle.line_stamps.specs.declared.timing.Spacing.TheVariants.{ByTime}
-use Rattle.line_stamps.specs.declared.timing.Timing.{Timing}
+use Rattle.line_capture.specs.Able.{ArePlaced, IsPlacedWhole}
 use Rattle.line_stamps.proofs.Clocks.{character-some, spot-is, tick-near, tick-far, line-length}
 use Rattle.line_stamps.proofs.RoundingLaws.{rounded-some, apart-some, apart-least}
-use Rattle.line_capture.specs.Able.{ArePlaced, IsPlacedWhole}
+use Rattle.line_stamps.specs.Parts.{character, rounded, ticks_apart}
+use Rattle.line_stamps.specs.Places.{Spot, spot_of, start_of, next_tick, line_of, last_spot_from}
+use Rattle.line_stamps.specs.{Places.tick_at, Placing.answer_at, Placing.is_early}
+use Rattle.line_stamps.specs.Placing.{is_late, overlaps, overlaps_at, NoneRefused, silence_before}
+use Rattle.line_stamps.specs.declared.{TheConstants.TIME_LIMIT, capture.CaptureByte.CaptureByte}
+use Rattle.line_stamps.specs.declared.timing.{Spacing.TheVariants.ByTime, Timing.Timing}
+use Rattle.std.proofs.Common.{◌≡◌, ◌∙◌, ℕ, ◌+◌, ◌-◌, ◌*◌, ◌<◌, ◌≤◌, ⊎_elim, List, [], ◌∷◌, length}
+use Rattle.std.proofs.Common.{false, ◌||◌, Option, Some, None, Ok, refl, sym, ap, subst, arith}
+use Rattle.std.proofs.{Common.add-mul, Common.nat_le, Math.Nat.mul-le-mul_right}
+use Rattle.std.proofs.lemmas.Bool.{cases_lt, cond-false, lt-leb, ltb-false}
+use Rattle.tick_drive.specs.Input.{max_ticks}
 
 module _ (t : Timing) (by_time : t.spacing ≡ ByTime) where
   abbrev one : ℕ

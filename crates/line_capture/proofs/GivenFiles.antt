@@ -1,42 +1,31 @@
 -- What is given is a capture of the records of its lines.
-use Rattle.std.proofs.Common.{◌≡◌, ◌∙◌, ℕ, zero, suc, ◌+◌, ◌<◌, ◌≤◌, List, [], ◌∷◌, ◌++◌, map}
-use Rattle.std.proofs.Common.{Bool, true, false, cond, refl, sym, ap, subst, arith, length}
-use Rattle.std.proofs.Common.{append_assoc, append-nil}
-use Rattle.std.proofs.lemmas.List.Elements.{filter_map-append}
-use Rattle.hex.specs.Hex.{IsBytes, encode_lower}
-use Rattle.yasir_ticks.specs.Ticks.{AreTicks}
-use Rattle.yasir_ticks.specs.declared.tick.Tick.{Tick}
-use Rattle.yasir_ticks.specs.declared.tick.Tick.TheVariants.{Silent, Byte as ByteTick}
-use Rattle.tick_drive.specs.Input.{max_ticks}
-use Rattle.line_stamps.specs.Giving.{tick_start}
-use Rattle.line_stamps.specs.declared.capture.CaptureByte.{CaptureByte}
-use Rattle.line_stamps.specs.declared.capture.Way.{Way}
-use Rattle.line_stamps.specs.declared.capture.Way.TheVariants.{A, B}
-use Rattle.line_stamps.specs.declared.rate.Rate.{Rate}
-use Rattle.line_stamps.specs.declared.seen.Seen.{Seen}
-use Rattle.line_stamps.specs.declared.seen.Seen.TheVariants.{Byte}
-use Rattle.capture_pcap.specs.Pcap.{IsHeader, ArePackets, IsCapture}
-use Rattle.capture_pcap.specs.Pcap.ArePackets.{none as no_packets, more as more_packets}
-use Rattle.capture_pcap.specs.Pcap.IsCapture.{pcap}
-use Rattle.capture_pcap.specs.Record.{seen_byte, seen_bytes}
-use Rattle.capture_pcap.specs.Writing.{written_clock}
-use Rattle.capture_pcap.specs.declared.writer.TheConstants.{FILE_HEADER}
 use Rattle.capture_pcap.proofs.Written.{packet_is}
-use Rattle.capture_text.specs.CaptureText.{AreLines, IsLine, recorded}
-use Rattle.capture_text.specs.CaptureText.{capture_byte}
-use Rattle.capture_text.specs.CaptureText.AreLines.{none as no_lines, more as more_lines}
-use Rattle.capture_text.specs.CaptureText.IsContent.{nothing, stamped}
-use Rattle.capture_text.specs.CaptureText.IsLine.{plain}
-use Rattle.capture_text.specs.Reader.{IsSeenText}
-use Rattle.capture_text.specs.Writing.{time_front}
+use Rattle.capture_pcap.specs.Pcap.{IsHeader, ArePackets, IsCapture, ArePackets.none as no_packets}
+use Rattle.capture_pcap.specs.Pcap.{ArePackets.more as more_packets, IsCapture.pcap}
+use Rattle.capture_pcap.specs.Record.{seen_byte, seen_bytes}
+use Rattle.capture_pcap.specs.{Writing.written_clock, declared.writer.TheConstants.FILE_HEADER}
 use Rattle.capture_text.proofs.Written.{written_record}
+use Rattle.capture_text.specs.CaptureText.{AreLines, IsLine, recorded, capture_byte}
+use Rattle.capture_text.specs.CaptureText.AreLines.{none as no_lines, more as more_lines}
+use Rattle.capture_text.specs.CaptureText.{IsContent.nothing, IsContent.stamped, IsLine.plain}
+use Rattle.capture_text.specs.{Reader.IsSeenText, Writing.time_front}
+use Rattle.hex.specs.Hex.{IsBytes, encode_lower}
+use Rattle.line_capture.proofs.GivenRecords.{record_bytes, bytes_of_record, bytes_of_records}
+use Rattle.line_capture.proofs.RecordBytes.{start_fits}
 use Rattle.line_capture.specs.Captures.{is_way, way_bytes, byte_of, NoError}
 use Rattle.line_capture.specs.Records.{LineRecord, leading, records_from, records_of, of_way}
 use Rattle.line_capture.specs.Records.{most_further, records_text, file_front}
 use Rattle.line_capture.specs.declared.records.RecordForm.TheVariants.{Pcap, Text}
 use Rattle.line_capture.specs.declared.words.Ways.TheVariants.{Both}
-use Rattle.line_capture.proofs.GivenRecords.{record_bytes, bytes_of_record, bytes_of_records}
-use Rattle.line_capture.proofs.RecordBytes.{start_fits}
+use Rattle.line_stamps.specs.{Giving.tick_start, declared.capture.CaptureByte.CaptureByte}
+use Rattle.line_stamps.specs.declared.capture.Way.{Way, TheVariants.A, TheVariants.B}
+use Rattle.line_stamps.specs.declared.{rate.Rate.Rate, seen.Seen.Seen, seen.Seen.TheVariants.Byte}
+use Rattle.std.proofs.Common.{◌≡◌, ◌∙◌, ℕ, zero, suc, ◌+◌, ◌<◌, ◌≤◌, List, [], ◌∷◌, ◌++◌, map, Bool}
+use Rattle.std.proofs.Common.{true, false, cond, refl, sym, ap, subst, arith, length, append_assoc}
+use Rattle.std.proofs.{Common.append-nil, lemmas.List.Elements.filter_map-append}
+use Rattle.tick_drive.specs.Input.{max_ticks}
+use Rattle.yasir_ticks.specs.{Ticks.AreTicks, declared.tick.Tick.Tick}
+use Rattle.yasir_ticks.specs.declared.tick.Tick.TheVariants.{Silent, Byte as ByteTick}
 
 -- ---- what is true of each record of a line
 

@@ -1,15 +1,13 @@
 -- The bytes of the records of a line give those of its ticks.
-use Rattle.std.proofs.Common.{◌≡◌, ◌∙◌, ℕ, zero, suc, ◌+◌, ◌<◌, ◌≤◌, List, [], ◌∷◌, ◌++◌}
-use Rattle.std.proofs.Common.{Bool, true, false, Option, Some, None, refl, sym, ap, subst, arith, drop}
-use Rattle.std.specs.List.{flat_map}
-use Rattle.yasir_ticks.specs.declared.tick.Tick.{Tick}
-use Rattle.yasir_ticks.specs.declared.tick.Tick.TheVariants.{Silent, Byte}
-use Rattle.line_stamps.specs.Giving.{ByteAt, bytes_from, tick_start, Gives, AreGiven}
-use Rattle.line_stamps.specs.declared.capture.CaptureByte.{CaptureByte}
-use Rattle.line_stamps.specs.declared.capture.Way.{Way}
-use Rattle.line_stamps.specs.declared.rate.Rate.{Rate}
-use Rattle.line_capture.specs.Records.{LineRecord, leading, records_from, records_of, most_further}
 use Rattle.line_capture.proofs.RecordBytes.{no_room}
+use Rattle.line_capture.specs.Records.{LineRecord, leading, records_from, records_of, most_further}
+use Rattle.line_stamps.specs.Giving.{ByteAt, bytes_from, tick_start, Gives, AreGiven}
+use Rattle.line_stamps.specs.declared.capture.{CaptureByte.CaptureByte, Way.Way}
+use Rattle.line_stamps.specs.declared.rate.Rate.{Rate}
+use Rattle.std.proofs.Common.{◌≡◌, ◌∙◌, ℕ, zero, suc, ◌+◌, ◌<◌, ◌≤◌, List, [], ◌∷◌, ◌++◌, Bool}
+use Rattle.std.proofs.Common.{true, false, Option, Some, None, refl, sym, ap, subst, arith, drop}
+use Rattle.std.specs.List.{flat_map}
+use Rattle.yasir_ticks.specs.declared.tick.Tick.{Tick, TheVariants.Silent, TheVariants.Byte}
 
 -- the bytes of a record that starts then, the first of them the first one of it or not
 abbrev pub record_bytes : ℕ → Way → Bool → List ℕ → List CaptureByte

@@ -1,37 +1,27 @@
 -- How runs of `give` end.
-use Rattle.std.proofs.Common.{◌≡◌, ◌∙◌, ℕ, zero, suc, ◌+◌, ◌<◌, ◌≤◌, ◌==◌, ◌&&◌, ◌||◌, Bool, true, false}
-use Rattle.std.proofs.Common.{List, [], ◌∷◌, length, drop, get_or, Option, Some, refl, sym}
+use Rattle.std.proofs.Common.{◌≡◌, ◌∙◌, ℕ, zero, suc, ◌+◌, ◌<◌, ◌≤◌, ◌==◌, ◌&&◌, ◌||◌, Bool, true}
+use Rattle.std.proofs.Common.{false, List, [], ◌∷◌, length, drop, get_or, Option, Some, refl, sym}
 use Rattle.std.proofs.Common.{ap, subst, arith, append-nil}
-use Rattle.std.proofs.Math.Seq.{drop-cons}
-use Rattle.std.proofs.Math.ListN.{drop_of_length-le}
-use Rattle.yasir_ticks.specs.Characters.{line_feed, percent_sign}
-use Rattle.yasir_ticks.specs.TickText.{IsTickText}
-use Rattle.yasir_ticks.specs.Ticks.{Item, ticks_in}
-use Rattle.yasir_ticks.specs.Ticks.Item.{tick, mark}
+use Rattle.std.proofs.Math.{ListN.drop_of_length-le, Seq.drop-cons}
 use Rattle.tick_drive.specs.Input.{max_ticks, IsReadCause, is_read_fault}
 use Rattle.tick_drive.specs.declared.end.End.{End}
+use Rattle.yasir_ticks.specs.{Characters.line_feed, Characters.percent_sign, TickText.IsTickText}
+use Rattle.yasir_ticks.specs.Ticks.{Item, ticks_in, Item.tick, Item.mark}
 use Rattle.tick_drive.specs.declared.end.End.TheVariants as ends
-use Rattle.tick_lists.specs.Listing.{KeepsWhole}
-use Rattle.tick_lists.specs.Parts.{part}
-use Rattle.tick_lists.specs.TickLists.{ticks_first, ticks_second}
-use Rattle.tick_lists.specs.declared.tick_lists.TickLists.{TickLists}
-use Rattle.replay_status.proofs.Readable.{all_of_told}
-use Rattle.replay_status.specs.Causes.{SinkCause}
-use Rattle.replay_status.specs.PrintsText.{PrintsText}
-use Rattle.replay_status.specs.declared.status.Status.{Status}
+use Rattle.replay_status.{proofs.Readable.all_of_told, specs.Causes.SinkCause}
+use Rattle.replay_status.specs.{PrintsText.PrintsText, declared.status.Status.Status}
+use Rattle.tick_lists.specs.{Listing.KeepsWhole, Parts.part, TickLists.ticks_first}
+use Rattle.tick_lists.specs.{TickLists.ticks_second, declared.tick_lists.TickLists.TickLists}
 use Rattle.replay_status.specs.declared.status.Status.TheVariants as statuses
-use Rattle.line_stamps.specs.declared.rate.Rate.{Rate}
-use Rattle.line_capture.specs.Gives.{has_mark_behind, marks_for, AreLinesOf, end_status}
-use Rattle.line_capture.specs.Gives.{GivesFile, GivesRead, Gives}
-use Rattle.line_capture.specs.Gives.GivesFile.{no_memory, refused, given}
+use Rattle.line_capture.specs.Gives.{has_mark_behind, marks_for, AreLinesOf, end_status, GivesFile}
+use Rattle.line_capture.specs.Gives.{GivesRead, Gives}
 use Rattle.line_capture.specs.Gives.Gives.{no_memory as no_room, read as was_read}
-use Rattle.line_capture.specs.Inputs.{Told}
-use Rattle.line_capture.specs.Takes.{Held}
-use Rattle.line_capture.specs.declared.input.ReadEnd.{ReadEnd}
+use Rattle.line_capture.specs.Gives.GivesFile.{no_memory, refused, given}
+use Rattle.line_capture.specs.{Inputs.Told, Takes.Held, declared.input.ReadEnd.ReadEnd}
 use Rattle.line_capture.specs.declared.input.ReadEnd.TheVariants.{Whole, Failed, TooLong}
-use Rattle.line_capture.specs.declared.outcome.Outcome.{Outcome}
-use Rattle.line_capture.specs.declared.outcome.Outcome.TheVariants.{Ended}
+use Rattle.line_capture.specs.declared.outcome.Outcome.{Outcome, TheVariants.Ended}
 use Rattle.line_capture.specs.declared.words.GiveForm.{GiveForm}
+use Rattle.line_stamps.specs.declared.rate.Rate.{Rate}
 
 -- ---- a mark
 

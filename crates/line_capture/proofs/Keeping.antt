@@ -1,17 +1,15 @@
 -- What is kept of items, with one item more.
-use Rattle.std.proofs.Common.{◌≡◌, ◌∙◌, ℕ, ◌+◌, ◌-◌, ◌^◌, min, Bool, true, false, cond, List, []}
-use Rattle.std.proofs.Common.{◌∷◌, ◌++◌, Some, None, refl, sym, ap, arith, append-nil}
-use Rattle.std.proofs.Common.{zero, suc, length, take, get_or}
-use Rattle.std.proofs.lemmas.List.Elements.{filter_map-append}
-use Rattle.line_stamps.specs.declared.capture.CaptureByte.{CaptureByte}
+use Rattle.{line_stamps.specs.declared.capture.CaptureByte.CaptureByte, std.proofs.Common.◌≡◌}
+use Rattle.std.proofs.Common.{◌∙◌, ℕ, ◌+◌, ◌-◌, ◌^◌, min, Bool, true, false, cond, List, [], ◌∷◌}
+use Rattle.std.proofs.Common.{◌++◌, Some, None, refl, sym, ap, arith, append-nil, zero, suc, length}
+use Rattle.std.proofs.{Common.take, Common.get_or, lemmas.List.Elements.filter_map-append}
 use Rattle.line_stamps.specs.declared.capture.Way.TheVariants as way
-use Rattle.line_stamps.specs.declared.seen.LineEvent.{LineEvent}
-use Rattle.line_stamps.specs.declared.seen.Seen.{Seen}
-use Rattle.line_stamps.specs.declared.seen.Seen.TheVariants.{Byte, Event}
 use Rattle.line_capture.specs.Captures.{takes, byte_of, way_bytes, is_error, is_break}
-use Rattle.line_capture.specs.Captures.{is_control_line, count_of, NoError, TakesItem, without_wrong}
-use Rattle.line_capture.specs.declared.collect.Kept.{Kept}
-use Rattle.line_capture.specs.declared.words.Ways.{Ways}
+use Rattle.line_capture.specs.Captures.{is_control_line, count_of, NoError, TakesItem}
+use Rattle.line_capture.specs.Captures.{without_wrong}
+use Rattle.line_capture.specs.declared.{collect.Kept.Kept, words.Ways.Ways}
+use Rattle.line_stamps.specs.declared.seen.{LineEvent.LineEvent, Seen.Seen}
+use Rattle.line_stamps.specs.declared.seen.Seen.TheVariants.{Byte, Event}
 
 -- one item more, of those that are such
 count_more : (such : Seen → Bool) (items : List Seen) (item : Seen)

@@ -1,38 +1,30 @@
 -- A capture that was given is taken as the same ticks, for each form.
-use Rattle.std.proofs.Common.{◌≡◌, ◌∙◌, ℕ, zero, suc, ◌≤◌, List, [], ◌∷◌, length, map, Some, refl, sym, ap, subst}
-use Rattle.line_stamps.specs.declared.seen.Seen.TheVariants.{Byte}
-use Rattle.yasir_ticks.specs.Ticks.{Item, ticks_in, marks_in, AreTicks}
-use Rattle.yasir_ticks.specs.Ticks.Item.{tick, mark}
-use Rattle.yasir_ticks.specs.declared.tick.Tick.{Tick}
-use Rattle.yasir_ticks.proofs.TextTicks.{text-ticks}
-use Rattle.tick_lists.specs.Parts.{part}
-use Rattle.line_stamps.specs.declared.capture.Way.TheVariants.{A, B}
-use Rattle.line_stamps.specs.declared.rate.Rate.{Rate}
 use Rattle.capture_pcap.specs.Pcap.{IsHeader, IsCapture}
-use Rattle.capture_pcap.specs.Writing.{written_clock}
-use Rattle.capture_pcap.specs.declared.writer.TheConstants.{FILE_HEADER}
+use Rattle.capture_pcap.specs.{Writing.written_clock, declared.writer.TheConstants.FILE_HEADER}
 use Rattle.capture_text.specs.Reader.{IsSeenText}
+use Rattle.line_stamps.specs.declared.capture.Way.TheVariants.{A, B}
+use Rattle.line_stamps.specs.declared.{rate.Rate.Rate, seen.Seen.TheVariants.Byte}
+use Rattle.std.proofs.Common.{◌≡◌, ◌∙◌, ℕ, zero, suc, ◌≤◌, List, [], ◌∷◌, length, map, Some, refl}
+use Rattle.std.proofs.Common.{sym, ap, subst}
+use Rattle.{tick_lists.specs.Parts.part, yasir_ticks.proofs.TextTicks.text-ticks}
+use Rattle.yasir_ticks.specs.Ticks.{Item, ticks_in, marks_in, AreTicks, Item.tick, Item.mark}
+use Rattle.yasir_ticks.specs.declared.tick.Tick.{Tick}
 use Rattle.replay_status.specs.declared.status.Status.TheVariants as statuses
-use Rattle.line_capture.specs.Formats.{format_of}
-use Rattle.line_capture.specs.Gives.{AreLinesOf, IsGiven, marks_for}
+use Rattle.line_capture.specs.{Formats.format_of, Gives.AreLinesOf, Gives.IsGiven, Gives.marks_for}
 use Rattle.line_capture.specs.Inputs.{Told}
 use Rattle.line_capture.specs.Records.{LineRecord, AreRecords, records_of}
 use Rattle.line_capture.specs.TakenAgain.{taken_as, both_ways, TakesAgain}
-use Rattle.line_capture.specs.Takes.{Held, Takes}
-use Rattle.line_capture.specs.declared.outcome.Outcome.{Outcome}
-use Rattle.line_capture.specs.declared.outcome.Outcome.TheVariants.{Ended}
-use Rattle.line_capture.specs.declared.words.GiveForm.{GiveForm}
+use Rattle.line_capture.specs.{Takes.Held, Takes.Takes, declared.outcome.Outcome.Outcome}
+use Rattle.line_capture.specs.declared.{outcome.Outcome.TheVariants.Ended, words.GiveForm.GiveForm}
 use Rattle.line_capture.specs.declared.words.GiveForm.TheVariants as give_forms
 use Rattle.line_capture.specs.declared.words.TakeForm.{TakeForm}
 use Rattle.line_capture.specs.declared.words.TakeForm.TheVariants as take_forms
-use Rattle.line_capture.proofs.GivenFiles.{AreRight, right_records, right_both, packets_are, lines_are}
-use Rattle.line_capture.proofs.GivenFiles.{none_of_b}
-use Rattle.line_capture.proofs.GivenRecords.{bytes_of_records}
-use Rattle.line_capture.proofs.Gives.{few_ticks}
-use Rattle.line_capture.proofs.SoundForms.{sound_form}
+use Rattle.line_capture.proofs.GivenFiles.{AreRight, right_records, right_both, packets_are}
+use Rattle.line_capture.proofs.GivenFiles.{lines_are, none_of_b}
+use Rattle.line_capture.proofs.{GivenRecords.bytes_of_records, Gives.few_ticks}
+use Rattle.line_capture.proofs.{SoundForms.sound_form, TakenAgain.run-again}
+use Rattle.line_capture.{proofs.TakenAgain.takeable-again, specs.Able.IsTakeable}
 use Rattle.tick_drive.specs.Input.{max_bytes}
-use Rattle.line_capture.specs.Able.{IsTakeable}
-use Rattle.line_capture.proofs.TakenAgain.{run-again, takeable-again}
 
 -- the ticks of a part are ticks
 part_ticks : (n : ℕ) (items : List Item) → AreTicks (ticks_in items) → AreTicks (part n items)

@@ -1,22 +1,14 @@
 -- The text of a line, from its first tick to its last one.
-use Rattle.std.proofs.Common.{◌≡◌, ◌∙◌, ℕ, List, [], ◌∷◌, ◌++◌, Option, refl, sym, ap}
-use Rattle.std.proofs.Common.{append-nil}
-use Rattle.std.specs.Io.KnownBytes.{append_known}
-use Rattle.yasir_io.specs.Output.{GotPrefix}
-use Rattle.yasir_io.specs.TextBuffer.{waiting_bytes}
-use Rattle.yasir_io.specs.declared.Failed.{Failed}
-use Rattle.yasir_io.specs.declared.sink.Sink.{Ghosts as Sink}
-use Rattle.yasir_io.proofs.OutputLemmas.{append_known-nil}
-use Rattle.line_texts.specs.Sending.{SinkTexts, sink_texts, HasSent, HasSentFronts}
-use Rattle.line_texts.specs.Texts.{Writing, writing, texts_held}
-use Rattle.line_texts.specs.Writer.{HasWritten}
-use Rattle.line_texts.specs.declared.texts.Texts.{Texts}
-use Rattle.line_texts.proofs.Sending.{begins}
-use Rattle.line_stamps.specs.declared.capture.CaptureByte.{CaptureByte}
-use Rattle.line_stamps.specs.declared.timing.Timing.{Timing}
-use Rattle.line_stamps.specs.Places.{line_of}
 use Rattle.line_capture.specs.Placed.{plain, Sends, PlacesAll, PlacesPart, WrittenLine, WrittenPart}
-use Rattle.line_capture.specs.declared.placing.LineEnd.{LineEnd}
+use Rattle.{line_capture.specs.declared.placing.LineEnd.LineEnd, line_stamps.specs.Places.line_of}
+use Rattle.line_stamps.specs.declared.{capture.CaptureByte.CaptureByte, timing.Timing.Timing}
+use Rattle.line_texts.{proofs.Sending.begins, specs.Sending.SinkTexts, specs.Sending.sink_texts}
+use Rattle.line_texts.specs.{Sending.HasSent, Sending.HasSentFronts, Texts.Writing, Texts.writing}
+use Rattle.line_texts.specs.{Texts.texts_held, Writer.HasWritten, declared.texts.Texts.Texts}
+use Rattle.std.proofs.Common.{◌≡◌, ◌∙◌, ℕ, List, [], ◌∷◌, ◌++◌, Option, refl, sym, ap, append-nil}
+use Rattle.{std.specs.Io.KnownBytes.append_known, yasir_io.proofs.OutputLemmas.append_known-nil}
+use Rattle.yasir_io.specs.{Output.GotPrefix, TextBuffer.waiting_bytes}
+use Rattle.yasir_io.specs.declared.{Failed.Failed, sink.Sink.Ghosts as Sink}
 
 front_none : (front rest : List ℕ) → [] ≡ front ++ rest → front ≡ []
 front_none [] rest is = refl

@@ -1,30 +1,26 @@
 -- The bytes of a way, placed one after the other, and the ticks that go out with them.
-use Rattle.std.proofs.Common.{◌≡◌, ◌∙◌, ℕ, ◌+◌, ◌<◌, ◌≤◌, ◌^◌, Bool, true, false, cond, List, []}
-use Rattle.std.proofs.Common.{◌∷◌, ◌++◌, length, take, get_or, min, drop, ◌-◌, Option, Some, None, Result, Ok, Err, refl, sym}
-use Rattle.std.proofs.Common.{ap, subst, arith, append_assoc, append-nil, suc, inr, ◌⊎◌}
-use Rattle.std.proofs.lemmas.List.{take_more}
-use Rattle.yasir_io.specs.declared.Failed.{Failed}
-use Rattle.yasir_io.specs.declared.sink.Sink.{Ghosts as Sink}
-use Rattle.yasir_io.proofs.FlushLaws.{none_flushed, none_flushed_then}
-use Rattle.yasir_ticks.specs.declared.tick.Tick.{Tick}
-use Rattle.tick_drive.specs.Input.{max_ticks}
-use Rattle.line_texts.specs.Sending.{AnswersNoted, SinkTexts, HasSentFronts, HaveCause}
-use Rattle.line_texts.specs.Texts.{Writing, waiting_in, texts_held, Writes, Pushes}
-use Rattle.line_texts.proofs.Sending.{sends_more, sent_in_part}
-use Rattle.line_texts.proofs.PushedRuns.{pushed_then}
-use Rattle.line_stamps.specs.declared.capture.CaptureByte.{CaptureByte}
-use Rattle.line_stamps.specs.declared.placer.Placer.{Placer}
-use Rattle.line_stamps.specs.declared.placer.Unplaced.TheVariants.{Early, Late, Overlap}
-use Rattle.line_stamps.specs.declared.timing.Timing.{Timing}
+use Rattle.line_capture.{proofs.CollectedBytes.item_parts, specs.Placed.plain}
+use Rattle.line_capture.specs.Placed.{StopsAt, PlacesByte, SendsFront, Sends, PushesLine, PlacesOne}
+use Rattle.line_capture.specs.Placed.{TakesOne, StopsBefore, PlacesAll, PlacesPart, CountsNext}
+use Rattle.line_capture.specs.{Placed.CountsOverlaps, declared.placing.LineStop.LineStop}
+use Rattle.line_capture.specs.declared.placing.LineStop.TheVariants.{AllPlaced, TooLong}
 use Rattle.line_stamps.specs.Places.{Spot, spot_of, line_of, last_spot, last_spot_from}
 use Rattle.line_stamps.specs.Placing.{HasTaken, timing_of, answer_at, is_early, overlaps, is_late}
 use Rattle.line_stamps.specs.Placing.{NoneRefused, silence_before, overlap_count}
-use Rattle.line_capture.specs.Placed.{plain, StopsAt, PlacesByte, SendsFront, Sends}
-use Rattle.line_capture.specs.Placed.{PushesLine, PlacesOne, TakesOne, StopsBefore, PlacesAll}
-use Rattle.line_capture.specs.Placed.{PlacesPart, CountsNext, CountsOverlaps}
-use Rattle.line_capture.proofs.CollectedBytes.{item_parts}
-use Rattle.line_capture.specs.declared.placing.LineStop.{LineStop}
-use Rattle.line_capture.specs.declared.placing.LineStop.TheVariants.{AllPlaced, TooLong}
+use Rattle.line_stamps.specs.declared.{capture.CaptureByte.CaptureByte, placer.Placer.Placer}
+use Rattle.line_stamps.specs.declared.placer.Unplaced.TheVariants.{Early, Late, Overlap}
+use Rattle.line_stamps.specs.declared.timing.Timing.{Timing}
+use Rattle.line_texts.proofs.{PushedRuns.pushed_then, Sending.sends_more, Sending.sent_in_part}
+use Rattle.line_texts.specs.Sending.{AnswersNoted, SinkTexts, HasSentFronts, HaveCause}
+use Rattle.line_texts.specs.Texts.{Writing, waiting_in, texts_held, Writes, Pushes}
+use Rattle.std.proofs.Common.{◌≡◌, ◌∙◌, ℕ, ◌+◌, ◌<◌, ◌≤◌, ◌^◌, Bool, true, false, cond, List, []}
+use Rattle.std.proofs.Common.{◌∷◌, ◌++◌, length, take, get_or, min, drop, ◌-◌, Option, Some, None}
+use Rattle.std.proofs.Common.{Result, Ok, Err, refl, sym, ap, subst, arith, append_assoc}
+use Rattle.std.proofs.Common.{append-nil, suc, inr, ◌⊎◌}
+use Rattle.{std.proofs.lemmas.List.take_more, tick_drive.specs.Input.max_ticks}
+use Rattle.yasir_io.proofs.FlushLaws.{none_flushed, none_flushed_then}
+use Rattle.yasir_io.specs.declared.{Failed.Failed, sink.Sink.Ghosts as Sink}
+use Rattle.yasir_ticks.specs.declared.tick.Tick.{Tick}
 use Rattle.line_capture.specs.declared.placing.LineStop.TheVariants as stops
 
 -- ---- one byte more

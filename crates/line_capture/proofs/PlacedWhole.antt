@@ -1,17 +1,14 @@
 -- Bytes of a way that are all placed.
-use Rattle.std.proofs.Common.{◌≡◌, ◌∙◌, ℕ, suc, ◌-◌, ◌≤◌, List, [], ◌∷◌, ◌++◌, length, refl, sym}
-use Rattle.std.proofs.Common.{ap, subst, arith, Option, Some, None, Ok, Err, length-append, append_assoc}
-use Rattle.yasir_ticks.specs.Ticks.{silent}
-use Rattle.yasir_ticks.specs.declared.tick.Tick.TheVariants.{Byte}
+use Rattle.line_capture.specs.Able.{ArePlaced, IsPlacedWhole}
+use Rattle.line_capture.specs.{Placed.StopsAt, declared.placing.LineStop.LineStop}
 use Rattle.line_stamps.specs.Places.{Spot, spot_of, placed_from, ticks_from, line_of, PlacedByte}
 use Rattle.line_stamps.specs.Places.{last_spot_from, placed_at}
-use Rattle.line_stamps.specs.Placing.{answer_at}
-use Rattle.line_stamps.specs.declared.capture.CaptureByte.{CaptureByte}
-use Rattle.line_stamps.specs.declared.placer.Unplaced.{Unplaced}
-use Rattle.line_stamps.specs.declared.timing.Timing.{Timing}
-use Rattle.line_capture.specs.Able.{ArePlaced, IsPlacedWhole}
-use Rattle.line_capture.specs.Placed.{StopsAt}
-use Rattle.line_capture.specs.declared.placing.LineStop.{LineStop}
+use Rattle.line_stamps.specs.{Placing.answer_at, declared.capture.CaptureByte.CaptureByte}
+use Rattle.line_stamps.specs.declared.{placer.Unplaced.Unplaced, timing.Timing.Timing}
+use Rattle.std.proofs.Common.{◌≡◌, ◌∙◌, ℕ, suc, ◌-◌, ◌≤◌, List, [], ◌∷◌, ◌++◌, length, refl, sym}
+use Rattle.std.proofs.Common.{ap, subst, arith, Option, Some, None, Ok, Err, length-append}
+use Rattle.std.proofs.Common.{append_assoc}
+use Rattle.yasir_ticks.specs.{Ticks.silent, declared.tick.Tick.TheVariants.Byte}
 use Rattle.line_capture.specs.declared.placing.LineStop.TheVariants as stops
 
 -- the ticks of some first bytes are no more than those of all

@@ -1,11 +1,9 @@
 -- More bytes than are read.
-use Rattle.std.proofs.Common.{◌≡◌, ◌∙◌, ℕ, ◌+◌, ◌<◌, ◌≤◌, List, ◌++◌, length, take, drop}
-use Rattle.std.proofs.Common.{Option, Some, None, refl, sym, ap, arith, append_assoc, length-append}
-use Rattle.std.proofs.Common.{length-drop}
+use Rattle.{line_capture.specs.Inputs.IsTooMuch, std.proofs.Common.◌≡◌}
+use Rattle.std.proofs.Common.{◌∙◌, ℕ, ◌+◌, ◌<◌, ◌≤◌, List, ◌++◌, length, take, drop, Option, Some}
+use Rattle.std.proofs.Common.{None, refl, sym, ap, arith, append_assoc, length-append, length-drop}
 use Rattle.std.proofs.lemmas.List.{take-append-drop, take-take, length-take}
-use Rattle.std.specs.Io.KnownBytes.{prepend_known}
-use Rattle.tick_drive.specs.Input.{max_bytes}
-use Rattle.line_capture.specs.Inputs.{IsTooMuch}
+use Rattle.{std.specs.Io.KnownBytes.prepend_known, tick_drive.specs.Input.max_bytes}
 
 prepend_twice : (x y : List ℕ) (known : Option (List ℕ))
     → prepend_known x (prepend_known y known) ≡ prepend_known (x ++ y) known

@@ -1,31 +1,22 @@
 -- The bytes of a record, tick by tick.
-use Rattle.std.proofs.Common.{◌≡◌, ◌∙◌, ℕ, suc, ◌+◌, ◌-◌, ◌*◌, ◌/◌, ◌<◌, ◌≤◌, ◌^◌, List, [], ◌∷◌}
-use Rattle.std.proofs.Common.{◌++◌, ◌%◌, get_or, slice_index, min, ⊎_elim, Result, Ok, Err, OnOk}
-use Rattle.std.proofs.Common.{refl, sym, ap, subst, arith, length, take, drop, append-nil, append_assoc}
-use Rattle.std.proofs.Math.ListN.{drop_of_length-le}
-use Rattle.std.proofs.Math.Seq.{drop-cons}
-use Rattle.std.proofs.Math.Nat.{mul-le-mul_right, div-le_self}
-use Rattle.std.proofs.lemmas.Bool.{cases_lt}
-use Rattle.std.proofs.lemmas.List.{take_more}
-use Rattle.hex.specs.Hex.{encode_with, encode_lower, lower_digits}
-use Rattle.yasir_ticks.specs.Ticks.{bytes_in}
-use Rattle.yasir_ticks.specs.declared.tick.Tick.{Tick}
-use Rattle.yasir_ticks.specs.declared.tick.Tick.TheVariants.{Silent, Byte}
-use Rattle.yasir_ticks.proofs.SilenceLaws.{bytes_in-append}
-use Rattle.tick_drive.specs.Input.{max_ticks}
-use Rattle.line_stamps.specs.Giving.{tick_start}
-use Rattle.line_stamps.specs.Parts.{character}
-use Rattle.line_stamps.specs.declared.capture.Way.{Way}
-use Rattle.line_stamps.specs.declared.rate.Rate.{Rate}
 use Rattle.capture_pcap.specs.Writing.{packet_front, written_packet}
 use Rattle.capture_text.specs.Writing.{time_front, written_line}
-use Rattle.yasir_ticks.specs.Characters.{line_feed}
-use Rattle.line_capture.specs.Records.{leading, most_further}
-use Rattle.line_capture.specs.Records.{record_text}
+use Rattle.hex.specs.Hex.{encode_with, encode_lower, lower_digits}
 use Rattle.line_capture.specs.RecordWalk.{data_text, Adds, AddsAt}
+use Rattle.line_capture.specs.Records.{leading, most_further, record_text}
 use Rattle.line_capture.specs.declared.records.RecordForm.{RecordForm}
 use Rattle.line_capture.specs.declared.records.RecordForm.TheVariants.{Pcap, Text}
 use Rattle.line_capture.specs.declared.records.RecordTexts.{RecordTexts}
+use Rattle.line_stamps.specs.{Giving.tick_start, Parts.character, declared.capture.Way.Way}
+use Rattle.{line_stamps.specs.declared.rate.Rate.Rate, std.proofs.Common.◌≡◌}
+use Rattle.std.proofs.Common.{◌∙◌, ℕ, suc, ◌+◌, ◌-◌, ◌*◌, ◌/◌, ◌<◌, ◌≤◌, ◌^◌, List, [], ◌∷◌, ◌++◌}
+use Rattle.std.proofs.Common.{◌%◌, get_or, slice_index, min, ⊎_elim, Result, Ok, Err, OnOk, refl}
+use Rattle.std.proofs.Common.{sym, ap, subst, arith, length, take, drop, append-nil, append_assoc}
+use Rattle.std.proofs.Math.{ListN.drop_of_length-le, Nat.mul-le-mul_right, Nat.div-le_self}
+use Rattle.std.proofs.{Math.Seq.drop-cons, lemmas.Bool.cases_lt, lemmas.List.take_more}
+use Rattle.{tick_drive.specs.Input.max_ticks, yasir_ticks.proofs.SilenceLaws.bytes_in-append}
+use Rattle.yasir_ticks.specs.{Characters.line_feed, Ticks.bytes_in}
+use Rattle.yasir_ticks.specs.declared.tick.Tick.{Tick, TheVariants.Silent, TheVariants.Byte}
 
 -- ---- what is added
 

@@ -1,20 +1,16 @@
 -- The records of two lines that a walk over their ticks finds are those of the definition.
+use Rattle.line_capture.specs.Captures.{is_way}
+use Rattle.line_capture.specs.RecordWalk.{begins, room_behind, rest_of, walked, AddsAt}
+use Rattle.line_capture.specs.Records.{LineRecord, records_from, of_way, way_place, InOrder}
+use Rattle.line_capture.specs.Records.{AreRecords, records_text, record_text, file_front}
+use Rattle.line_capture.specs.Records.{IsRecorded}
+use Rattle.line_capture.specs.declared.records.{RecordForm.RecordForm, RecordTexts.RecordTexts}
+use Rattle.line_stamps.specs.declared.capture.Way.{Way, TheVariants.A, TheVariants.B}
+use Rattle.line_stamps.specs.declared.rate.Rate.{Rate}
 use Rattle.std.proofs.Common.{◌≡◌, ◌∙◌, ℕ, zero, suc, ◌+◌, ◌-◌, ◌*◌, ◌<◌, ◌≤◌, List, [], ◌∷◌, ◌++◌}
 use Rattle.std.proofs.Common.{refl, sym, ap, subst, arith, length, drop, append-nil, append_assoc}
-use Rattle.std.proofs.lemmas.List.Elements.{filter-append}
-use Rattle.std.proofs.lemmas.Grind.{flat_map-append}
-use Rattle.yasir_ticks.specs.declared.tick.Tick.{Tick}
-use Rattle.yasir_ticks.specs.declared.tick.Tick.TheVariants.{Silent, Byte}
-use Rattle.line_stamps.specs.declared.capture.Way.{Way}
-use Rattle.line_stamps.specs.declared.capture.Way.TheVariants.{A, B}
-use Rattle.line_stamps.specs.declared.rate.Rate.{Rate}
-use Rattle.line_capture.specs.Captures.{is_way}
-use Rattle.line_capture.specs.Records.{LineRecord, records_from, of_way, way_place}
-use Rattle.line_capture.specs.Records.{InOrder, AreRecords, records_text, record_text}
-use Rattle.line_capture.specs.Records.{file_front, IsRecorded}
-use Rattle.line_capture.specs.RecordWalk.{begins, room_behind, rest_of, walked, AddsAt}
-use Rattle.line_capture.specs.declared.records.RecordForm.{RecordForm}
-use Rattle.line_capture.specs.declared.records.RecordTexts.{RecordTexts}
+use Rattle.std.proofs.lemmas.{Grind.flat_map-append, List.Elements.filter-append}
+use Rattle.yasir_ticks.specs.declared.tick.Tick.{Tick, TheVariants.Silent, TheVariants.Byte}
 
 -- ---- the ticks of a list
 

@@ -1,15 +1,12 @@
 -- A run that is given what is right.
-use Rattle.std.proofs.Common.{ℕ, List, Option, Some, None}
-use Rattle.yasir_io.specs.Causes.{Rose}
-use Rattle.yasir_io.specs.declared.source.Source.{Ghosts as Source}
-use Rattle.yasir_io.specs.declared.sink.Sink.{Ghosts as Sink}
-use Rattle.line_capture.specs.Able.{MayDo, EndsWell}
+use Rattle.line_capture.proofs.Able.{EndsFree, take_done, give_done, ends_well}
+use Rattle.line_capture.{proofs.SoundForms.sound_form, specs.Able.MayDo, specs.Able.EndsWell}
 use Rattle.line_capture.specs.Programs.{Outside, Does, Answers, IsCalm, RunCauses}
 use Rattle.line_capture.specs.declared.outcome.Outcome.{Outcome}
-use Rattle.line_capture.specs.declared.words.Command.{Command}
-use Rattle.line_capture.specs.declared.words.Command.TheVariants.{Take, Give}
-use Rattle.line_capture.proofs.Able.{EndsFree, take_done, give_done, ends_well}
-use Rattle.line_capture.proofs.SoundForms.{sound_form}
+use Rattle.line_capture.specs.declared.words.Command.{Command, TheVariants.Take, TheVariants.Give}
+use Rattle.std.proofs.Common.{ℕ, List, Option, Some, None}
+use Rattle.yasir_io.specs.Causes.{Rose}
+use Rattle.yasir_io.specs.declared.{sink.Sink.Ghosts as Sink, source.Source.Ghosts as Source}
 
 module _ {S O L : Type 0} (s : Source S) (o : Sink O) (l : Sink L) where
   does_free : (asked : Option Command) (before after : Outside S O L) (outcome : Outcome)

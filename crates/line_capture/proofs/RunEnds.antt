@@ -1,47 +1,35 @@
 -- How runs of `take` end.
-use Rattle.std.proofs.Common.{◌≡◌, ◌∙◌, ℕ, ◌⊎◌, inl, inr, Bool, false, Option, refl}
-use Rattle.std.proofs.Common.{sym, ap, subst, List, min, ◌+◌, ◌-◌, ◌^◌, ◌≤◌, [], arith}
-use Rattle.std.specs.Io.KnownBytes.{append_known}
-use Rattle.yasir_io.specs.Output.{GotPrefix}
+use Rattle.std.proofs.Common.{◌≡◌, ◌∙◌, ℕ, ◌⊎◌, inl, inr, Bool, false, Option, refl, sym, ap, subst}
+use Rattle.std.proofs.Common.{List, min, ◌+◌, ◌-◌, ◌^◌, ◌≤◌, [], arith}
+use Rattle.{std.specs.Io.KnownBytes.append_known, yasir_io.specs.Output.GotPrefix}
 use Rattle.line_stamps.specs.declared.capture.Way.TheVariants as way
 use Rattle.replay_status.specs.declared.status.Status.{Status}
 use Rattle.replay_status.specs.declared.status.Status.TheVariants as statuses
-use Rattle.replay_status.specs.Causes.{SinkCause}
-use Rattle.replay_status.specs.Statuses.{fault_line as status_line}
-use Rattle.replay_status.specs.Flushes.{FlushesAtEnd}
-use Rattle.replay_status.proofs.FlushLaws.{flushes_after}
-use Rattle.replay_status.proofs.Logging.{sinks_after}
-use Rattle.yasir_io.specs.Flushed.{NoneFlushed, IsNotFlushed}
-use Rattle.yasir_io.specs.declared.sink.Sink.{Ghosts as Sink}
-use Rattle.line_capture.specs.Formats.{Format}
-use Rattle.line_capture.specs.Inputs.{Told}
-use Rattle.line_capture.specs.Outcomes.{status_in}
+use Rattle.line_capture.specs.{Captures.Collects, Formats.Format, Inputs.Told, Outcomes.status_in}
 use Rattle.line_capture.specs.Placed.{CountsOverlaps}
-use Rattle.line_capture.specs.Takes.{Held, stop_outcome, read_outcome, or_else}
-use Rattle.line_capture.specs.Takes.{outcome_of, WritesTaken}
-use Rattle.line_capture.specs.Takes.{TakesRead, Takes, is_write_fault}
-use Rattle.line_capture.specs.Captures.{Collects}
-use Rattle.line_capture.specs.Takes.{HasOutcome, timing_for, counts_line, WrittenLines, WrittenFront}
-use Rattle.line_capture.specs.Takes.{is_whole}
-use Rattle.line_stamps.specs.declared.capture.CaptureByte.{CaptureByte}
-use Rattle.line_stamps.specs.declared.timing.Timing.{Timing}
-use Rattle.line_capture.specs.Takes.WritesTaken.{written, failed}
-use Rattle.line_capture.specs.Takes.TakesRead.{no_memory, kept}
+use Rattle.line_capture.specs.Takes.{Held, stop_outcome, read_outcome, or_else, outcome_of}
+use Rattle.line_capture.specs.Takes.{WritesTaken, TakesRead, Takes, is_write_fault, HasOutcome}
+use Rattle.line_capture.specs.Takes.{timing_for, counts_line, WrittenLines, WrittenFront, is_whole}
 use Rattle.line_capture.specs.Takes.HasOutcome.{same, flush_failed}
 use Rattle.line_capture.specs.Takes.Takes.{no_memory as no_room, read as was_read}
-use Rattle.line_capture.specs.declared.collect.CaptureEnd.{CaptureEnd}
+use Rattle.line_capture.specs.Takes.{TakesRead.no_memory, TakesRead.kept, WritesTaken.written}
+use Rattle.line_capture.specs.{Takes.WritesTaken.failed, declared.collect.CaptureEnd.CaptureEnd}
+use Rattle.line_stamps.specs.declared.{capture.CaptureByte.CaptureByte, timing.Timing.Timing}
+use Rattle.replay_status.proofs.{FlushLaws.flushes_after, Logging.sinks_after}
+use Rattle.replay_status.specs.{Causes.SinkCause, Flushes.FlushesAtEnd}
+use Rattle.replay_status.specs.Statuses.{fault_line as status_line}
+use Rattle.yasir_io.specs.Flushed.{NoneFlushed, IsNotFlushed}
+use Rattle.yasir_io.specs.declared.sink.Sink.{Ghosts as Sink}
 use Rattle.line_capture.specs.declared.collect.CaptureEnd.TheVariants as ends
-use Rattle.line_capture.specs.declared.collect.Kept.{Kept}
-use Rattle.line_capture.specs.declared.input.ReadEnd.{ReadEnd}
+use Rattle.line_capture.specs.declared.{collect.Kept.Kept, input.ReadEnd.ReadEnd}
 use Rattle.line_capture.specs.declared.input.ReadEnd.TheVariants.{Whole, Failed, TooLong}
 use Rattle.line_capture.specs.declared.outcome.Outcome.{Outcome}
 use Rattle.line_capture.specs.declared.outcome.Outcome.TheVariants.{Ended, BadCapture}
 use Rattle.line_capture.specs.declared.outcome.Outcome.TheVariants as outcomes
-use Rattle.line_capture.specs.declared.placing.LineEnd.{LineEnd}
-use Rattle.line_capture.specs.declared.placing.LineStop.{LineStop}
+use Rattle.line_capture.specs.declared.placing.{LineEnd.LineEnd, LineStop.LineStop}
 use Rattle.line_capture.specs.declared.placing.LineStop.TheVariants as stops
-use Rattle.line_capture.specs.declared.take.Taking.{Taking}
 use Rattle.line_capture.proofs.Written.{lines_front, all_got}
+use Rattle.line_capture.specs.declared.take.Taking.{Taking}
 
 -- ---- the outcome of what was read and placed
 

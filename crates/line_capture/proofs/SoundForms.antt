@@ -1,33 +1,24 @@
 -- What is refused is no capture, and a capture has no other items than its own.
+use Rattle.byte_walk.specs.{Fields.before_field, Walks.walk}
+use Rattle.capture_pcap.proofs.Reading.{reads_pcap}
+use Rattle.capture_pcap.specs.{Pcap.IsCapture, PcapStep.step_at as pcap_step}
+use Rattle.capture_pcap.specs.declared.stage.Stage.TheVariants.{Magic}
+use Rattle.capture_rows.{proofs.RowLaws.reads_rows, specs.Logic2.logic2_row}
+use Rattle.capture_rows.specs.{Logic2.logic2_name, Rows.IsExport, Rows.first_state}
+use Rattle.capture_rows.specs.{Rows.step_at as row_step, Sigrok.trace_row, Sigrok.trace_name}
+use Rattle.capture_rows.specs.declared.{fault.RowFault.RowFault, row.Row.Row, row.Stage.Stage}
+use Rattle.capture_text.{proofs.Reading.reads_text, specs.CaptureText.IsTextCapture}
+use Rattle.capture_text.specs.{Reader.IsSeenText, TextStep.step_at as text_step}
+use Rattle.capture_text.specs.declared.place.Place.TheVariants.{Start}
+use Rattle.line_capture.specs.Formats.{Format, text_format, pcap_format, format_of, RefusesRows}
+use Rattle.line_capture.specs.Formats.{LacksRows, rows_format}
+use Rattle.line_capture.specs.declared.bad_capture.BadCapture.{BadCapture, TheVariants.Text}
+use Rattle.line_capture.specs.declared.bad_capture.BadCapture.TheVariants.{Pcap, Rows, ByteError}
+use Rattle.line_capture.specs.declared.words.TakeForm.{TakeForm}
+use Rattle.line_stamps.specs.declared.capture.CaptureByte.{CaptureByte}
+use Rattle.line_stamps.specs.declared.seen.Seen.{Seen, TheVariants.Byte}
 use Rattle.std.proofs.Common.{◌≡◌, ◌∙◌, ℕ, List, [], ◌∷◌, ◌++◌, Result, Ok, Err, sym, ap, subst}
 use Rattle.std.proofs.Common.{append_assoc, map, Bool, true, false}
-use Rattle.byte_walk.specs.Walks.{walk}
-use Rattle.byte_walk.specs.Fields.{before_field}
-use Rattle.capture_pcap.specs.Pcap.{IsCapture}
-use Rattle.capture_pcap.specs.PcapStep.{step_at as pcap_step}
-use Rattle.capture_pcap.specs.declared.stage.Stage.TheVariants.{Magic}
-use Rattle.capture_pcap.proofs.Reading.{reads_pcap}
-use Rattle.capture_rows.specs.Logic2.{logic2_row, logic2_name}
-use Rattle.capture_rows.specs.Rows.{IsExport, first_state}
-use Rattle.capture_rows.specs.Rows.{step_at as row_step}
-use Rattle.capture_rows.specs.Sigrok.{trace_row, trace_name}
-use Rattle.capture_rows.specs.declared.fault.RowFault.{RowFault}
-use Rattle.capture_rows.specs.declared.row.Row.{Row}
-use Rattle.capture_rows.specs.declared.row.Stage.{Stage}
-use Rattle.capture_rows.proofs.RowLaws.{reads_rows}
-use Rattle.capture_text.specs.CaptureText.{IsTextCapture}
-use Rattle.capture_text.specs.Reader.{IsSeenText}
-use Rattle.capture_text.specs.TextStep.{step_at as text_step}
-use Rattle.capture_text.specs.declared.place.Place.TheVariants.{Start}
-use Rattle.capture_text.proofs.Reading.{reads_text}
-use Rattle.line_stamps.specs.declared.capture.CaptureByte.{CaptureByte}
-use Rattle.line_stamps.specs.declared.seen.Seen.{Seen}
-use Rattle.line_stamps.specs.declared.seen.Seen.TheVariants.{Byte}
-use Rattle.line_capture.specs.Formats.{Format, text_format, pcap_format, format_of}
-use Rattle.line_capture.specs.Formats.{RefusesRows, LacksRows, rows_format}
-use Rattle.line_capture.specs.declared.bad_capture.BadCapture.{BadCapture}
-use Rattle.line_capture.specs.declared.bad_capture.BadCapture.TheVariants.{Text, Pcap, Rows, ByteError}
-use Rattle.line_capture.specs.declared.words.TakeForm.{TakeForm}
 use Rattle.line_capture.specs.declared.words.TakeForm.TheVariants as take_forms
 
 pub record IsSound (format : Format) : Type 0 where

@@ -1,56 +1,43 @@
 -- A capture that was given is taken as the same ticks.
-use Rattle.std.proofs.Common.{◌≡◌, ◌∙◌, ℕ, zero, suc, ◌+◌, ◌*◌, ◌/◌, ◌<◌, ◌≤◌, min, ⊎_elim, List, []}
-use Rattle.std.proofs.Common.{◌∷◌, ◌++◌, map, drop, true, Some, None}
-use Rattle.std.proofs.Common.{refl, sym, ap, subst, arith, append-nil, length-append, length-drop}
-use Rattle.std.proofs.Common.{length}
-use Rattle.std.proofs.Math.Nat.{mul-le-mul_right, div-mul-le_self, div-eq_of_lt}
-use Rattle.std.proofs.lemmas.Nat.{le-div}
-use Rattle.std.proofs.lemmas.Bool.{cases_lt}
-use Rattle.yasir_ticks.specs.Ticks.{silent}
-use Rattle.yasir_ticks.specs.declared.tick.Tick.{Tick}
-use Rattle.yasir_ticks.specs.declared.tick.Tick.TheVariants.{Silent, Byte as ByteTick}
-use Rattle.line_stamps.specs.Giving.{ByteAt, bytes_from, tick_start, AreGiven, IsTakenAs, taken_from}
-use Rattle.line_stamps.specs.Parts.{character}
-use Rattle.line_stamps.specs.Places.{line_of}
+use Rattle.line_stamps.specs.Giving.{ByteAt, bytes_from, tick_start, AreGiven, IsTakenAs}
+use Rattle.line_stamps.specs.{Giving.taken_from, Parts.character, Places.line_of}
 use Rattle.line_stamps.specs.declared.capture.CaptureByte.{CaptureByte}
+use Rattle.std.proofs.Common.{◌≡◌, ◌∙◌, ℕ, zero, suc, ◌+◌, ◌*◌, ◌/◌, ◌<◌, ◌≤◌, min, ⊎_elim, List}
+use Rattle.std.proofs.Common.{[], ◌∷◌, ◌++◌, map, drop, true, Some, None, refl, sym, ap, subst}
+use Rattle.std.proofs.Common.{arith, append-nil, length-append, length-drop, length}
+use Rattle.std.proofs.Math.Nat.{mul-le-mul_right, div-mul-le_self, div-eq_of_lt}
+use Rattle.std.proofs.lemmas.{Bool.cases_lt, Nat.le-div}
+use Rattle.yasir_ticks.specs.{Ticks.silent, declared.tick.Tick.Tick}
+use Rattle.yasir_ticks.specs.declared.tick.Tick.TheVariants.{Silent, Byte as ByteTick}
 use Rattle.line_stamps.specs.declared.capture.Way.TheVariants as way
-use Rattle.line_stamps.specs.declared.rate.Rate.{Rate}
-use Rattle.line_stamps.specs.declared.seen.Seen.{Seen}
-use Rattle.line_stamps.specs.declared.seen.Seen.TheVariants.{Byte}
-use Rattle.line_stamps.specs.declared.timing.Timing.{Timing}
 use Rattle.line_stamps.proofs.GivenLines.{given-line, given-free}
+use Rattle.line_stamps.specs.declared.{rate.Rate.Rate, seen.Seen.Seen, seen.Seen.TheVariants.Byte}
+use Rattle.line_stamps.specs.declared.timing.Timing.{Timing}
 use Rattle.replay_status.specs.declared.status.Status.TheVariants as statuses
-use Rattle.replay_status.proofs.Readable.{all_of_told}
 use Rattle.line_capture.specs.Captures.{Collects, HoldsItems, way_bytes}
-use Rattle.line_capture.specs.Formats.{Format}
-use Rattle.line_capture.specs.Inputs.{Told, ReadsInput}
-use Rattle.line_capture.specs.Placed.{StopsAt}
+use Rattle.line_capture.specs.{Formats.Format, Inputs.Told, Inputs.ReadsInput, Placed.StopsAt}
 use Rattle.line_capture.specs.Records.{LineRecord, AreRecords, records_of}
-use Rattle.line_capture.specs.Takes.{Held, Takes, TakesRead, WritesTaken, WritesAll}
-use Rattle.line_capture.specs.Takes.{outcome_of, stop_outcome, or_else, read_outcome, timing_for}
-use Rattle.line_capture.specs.Takes.{origin_of, is_whole}
-use Rattle.line_capture.specs.Takes.WritesTaken.{written, failed}
-use Rattle.line_capture.specs.Takes.TakesRead.{no_memory, kept as was_kept}
-use Rattle.line_capture.specs.Takes.Takes.{no_memory as no_room, read as was_read}
 use Rattle.line_capture.specs.TakenAgain.{both_ways, first_of, first_tick, SameTicks, TakesAgain}
+use Rattle.line_capture.specs.Takes.{Held, Takes, TakesRead, WritesTaken, WritesAll, outcome_of}
+use Rattle.line_capture.specs.Takes.{stop_outcome, or_else, read_outcome, timing_for, origin_of}
+use Rattle.line_capture.specs.Takes.{is_whole, Takes.no_memory as no_room, Takes.read as was_read}
+use Rattle.line_capture.specs.Takes.TakesRead.{no_memory, kept as was_kept}
+use Rattle.line_capture.specs.Takes.WritesTaken.{written, failed}
 use Rattle.line_capture.specs.declared.bad_capture.BadCapture.{BadCapture as BadCaptureOf}
 use Rattle.line_capture.specs.declared.collect.CaptureEnd.{CaptureEnd}
+use Rattle.replay_status.proofs.Readable.{all_of_told}
 use Rattle.line_capture.specs.declared.collect.CaptureEnd.TheVariants as ends
-use Rattle.line_capture.specs.declared.collect.Kept.{Kept}
-use Rattle.line_capture.specs.declared.input.ReadEnd.{ReadEnd}
+use Rattle.line_capture.specs.declared.{collect.Kept.Kept, input.ReadEnd.ReadEnd}
 use Rattle.line_capture.specs.declared.input.ReadEnd.TheVariants.{Whole, Failed, TooLong}
-use Rattle.line_capture.specs.declared.outcome.Outcome.{Outcome}
-use Rattle.line_capture.specs.declared.outcome.Outcome.TheVariants.{Ended}
-use Rattle.line_capture.specs.declared.placing.LineEnd.{LineEnd}
-use Rattle.line_capture.specs.declared.placing.LineStop.{LineStop}
+use Rattle.line_capture.specs.declared.outcome.Outcome.{Outcome, TheVariants.Ended}
+use Rattle.line_capture.specs.declared.placing.{LineEnd.LineEnd, LineStop.LineStop}
 use Rattle.line_capture.specs.declared.placing.LineStop.TheVariants as stops
-use Rattle.line_capture.specs.declared.words.Ways.TheVariants.{Both}
-use Rattle.tick_drive.specs.Input.{max_ticks, max_bytes}
-use Rattle.line_capture.specs.Able.{IsPlacedWhole, IsTakeable, timing_of_items}
 use Rattle.line_capture.proofs.EachPlaced.{placed-whole}
 use Rattle.line_capture.proofs.GivenFiles.{way-records, no_errors}
 use Rattle.line_capture.proofs.GivenRecords.{bytes_of_records, given_line, from_later, BeginsBehind}
-use Rattle.line_capture.proofs.SoundForms.{IsSound}
+use Rattle.line_capture.{proofs.SoundForms.IsSound, specs.Able.IsPlacedWhole, specs.Able.IsTakeable}
+use Rattle.line_capture.specs.{Able.timing_of_items, declared.words.Ways.TheVariants.Both}
+use Rattle.tick_drive.specs.Input.{max_ticks, max_bytes}
 
 -- ---- where tick 0 is
 

@@ -1,23 +1,16 @@
 -- The texts of lines in the output, and what was counted in the log.
-use Rattle.std.proofs.Common.{◌≡◌, ◌∙◌, ℕ, inl, List, []}
-use Rattle.std.proofs.Common.{◌++◌, Option, Result, Ok, refl, sym}
-use Rattle.std.proofs.Common.{ap, subst, arith, append_assoc, append-nil}
-use Rattle.std.proofs.lemmas.Result.{on_err_weaker}
-use Rattle.std.specs.Io.KnownBytes.{append_known}
-use Rattle.yasir_io.specs.Causes.{HasCause}
-use Rattle.yasir_io.specs.Output.{GotPrefix}
-use Rattle.yasir_io.proofs.OutputLemmas.{append_known-nil, append_known-twice}
-use Rattle.yasir_ticks.specs.CanonicalText.{canonical_text}
-use Rattle.line_texts.specs.Sending.{HaveCause}
-use Rattle.line_texts.proofs.Sending.{part_before, always_on_ok}
-use Rattle.line_stamps.specs.declared.capture.CaptureByte.{CaptureByte}
-use Rattle.line_stamps.specs.declared.timing.Timing.{Timing}
-use Rattle.line_stamps.specs.Places.{line_of}
 use Rattle.line_capture.specs.Placed.{IsFront, WrittenLine, WrittenPart}
 use Rattle.line_capture.specs.Takes.{mark_of, WrittenLines, WrittenFront}
-use Rattle.line_capture.specs.declared.collect.Kept.{Kept}
-use Rattle.line_capture.specs.declared.placing.LineEnd.{LineEnd}
-use Rattle.line_capture.specs.declared.words.Ways.{Ways}
+use Rattle.line_capture.specs.declared.{collect.Kept.Kept, placing.LineEnd.LineEnd, words.Ways.Ways}
+use Rattle.line_stamps.specs.{Places.line_of, declared.capture.CaptureByte.CaptureByte}
+use Rattle.{line_stamps.specs.declared.timing.Timing.Timing, line_texts.proofs.Sending.part_before}
+use Rattle.line_texts.{proofs.Sending.always_on_ok, specs.Sending.HaveCause}
+use Rattle.std.proofs.Common.{◌≡◌, ◌∙◌, ℕ, inl, List, [], ◌++◌, Option, Result, Ok, refl, sym, ap}
+use Rattle.std.proofs.Common.{subst, arith, append_assoc, append-nil}
+use Rattle.std.{proofs.lemmas.Result.on_err_weaker, specs.Io.KnownBytes.append_known}
+use Rattle.yasir_io.proofs.OutputLemmas.{append_known-nil, append_known-twice}
+use Rattle.yasir_io.specs.{Causes.HasCause, Output.GotPrefix}
+use Rattle.yasir_ticks.specs.CanonicalText.{canonical_text}
 
 -- ---- a text behind another one
 

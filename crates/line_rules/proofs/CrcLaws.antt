@@ -1,18 +1,12 @@
 -- The register, one step at a time.
-use Rattle.std.proofs.Common.{◌*◌, ◌++◌, take}
-use Rattle.std.proofs.lemmas.List.{take-append-drop}
-use Rattle.std.proofs.Common.{◌≡◌, ℕ, zero, suc, ◌+◌, ◌-◌, ◌/◌, ◌%◌, ◌^◌, ◌<◌, ◌≤◌, ◌∷◌, List, []}
-use Rattle.std.proofs.Common.{length, get_or, drop, refl, arith, sym, ◌∙◌, ap, bit_and, nat_eq}
-use Rattle.std.proofs.Common.{add-one}
-use Rattle.std.specs.Prelude.{bit_xor}
-use Rattle.std.specs.Int.Bits.{and_zero_r, xor_zero_r}
-use Rattle.std.proofs.Math.Nat.{mod-eq_of_lt, pow-succ', mul_assoc}
-use Rattle.std.proofs.Math.ListN.{drop_of_length-le}
-use Rattle.std.proofs.Math.Seq.{drop-cons}
-use Rattle.std.proofs.lemmas.Nat.{and_mask}
-use Rattle.std.proofs.lemmas.Bool.{cond_both, cond-true, cond-false, eqb-true, eqb-false}
-use Rattle.std.proofs.lemmas.Bool.{eq-eqb, ne_eqb}
 use Rattle.line_rules.specs.Crc.{bit_step, bit_steps, byte_step, crc}
+use Rattle.std.proofs.Common.{◌*◌, ◌++◌, take, ◌≡◌, ℕ, zero, suc, ◌+◌, ◌-◌, ◌/◌, ◌%◌, ◌^◌, ◌<◌, ◌≤◌}
+use Rattle.std.proofs.Common.{◌∷◌, List, [], length, get_or, drop, refl, arith, sym, ◌∙◌, ap}
+use Rattle.std.proofs.{Common.bit_and, Common.nat_eq, Common.add-one, Math.ListN.drop_of_length-le}
+use Rattle.std.proofs.Math.{Nat.mod-eq_of_lt, Nat.pow-succ', Nat.mul_assoc, Seq.drop-cons}
+use Rattle.std.proofs.lemmas.Bool.{cond_both, cond-true, cond-false, eqb-true, eqb-false, eq-eqb}
+use Rattle.std.proofs.lemmas.{Bool.ne_eqb, List.take-append-drop, Nat.and_mask}
+use Rattle.std.specs.{Int.Bits.and_zero_r, Int.Bits.xor_zero_r, Prelude.bit_xor}
 
 -- A bit step without a branch: the mask is all ones where the lowest bit is 1, and else 0.
 pub bit_step-masked : (p r mask : ℕ) → p < 2 ^ 16 → mask < 2 ^ 16

@@ -1,14 +1,12 @@
 -- The steps of a CRC are linear, and the high byte of the register is shifted down unchanged.
-use Rattle.std.proofs.Common.{◌≡◌, ℕ, zero, suc, ◌*◌, ◌/◌, ◌%◌, ◌^◌, ◌<◌, ◌&&◌, ◌==◌, Bool}
-use Rattle.std.proofs.Common.{true, refl, arith, sym, ◌∙◌, ap, ⊎_elim}
-use Rattle.std.specs.Prelude.{bit_xor}
-use Rattle.std.specs.Int.Bits.{xor_zero_l, xor_zero_r, xor_self, xor_assoc}
-use Rattle.std.proofs.Math.Nat.{mod-eq_of_lt}
-use Rattle.std.proofs.lemmas.Nat.{xor_shr, xor_mod, xor_comm}
-use Rattle.std.proofs.lemmas.Bool.{cases_eq, and_parts, eqb-true}
+use Rattle.line_rules.proofs.CrcLaws.{byte_step_lem, bit_step-even, bit_step-odd, bit_steps-shift}
 use Rattle.line_rules.specs.Crc.{bit_step, bit_steps, byte_step}
-use Rattle.line_rules.proofs.CrcLaws.{byte_step_lem, bit_step-even, bit_step-odd}
-use Rattle.line_rules.proofs.CrcLaws.{bit_steps-shift}
+use Rattle.std.proofs.Common.{◌≡◌, ℕ, zero, suc, ◌*◌, ◌/◌, ◌%◌, ◌^◌, ◌<◌, ◌&&◌, ◌==◌, Bool, true}
+use Rattle.std.proofs.Common.{refl, arith, sym, ◌∙◌, ap, ⊎_elim}
+use Rattle.std.proofs.{Math.Nat.mod-eq_of_lt, lemmas.Bool.cases_eq}
+use Rattle.std.proofs.lemmas.{Bool.and_parts, Bool.eqb-true, Nat.xor_shr, Nat.xor_mod, Nat.xor_comm}
+use Rattle.std.specs.Int.Bits.{xor_zero_l, xor_zero_r, xor_self, xor_assoc}
+use Rattle.std.specs.Prelude.{bit_xor}
 
 -- ---- xor
 

@@ -1,17 +1,14 @@
 -- Bytes taken at once: what each of them makes, on its own, of the register that the bytes behind
 -- it leave.
-use Rattle.std.proofs.Common.{◌≡◌, ℕ, suc, ◌+◌, ◌-◌, ◌*◌, ◌/◌, ◌%◌, ◌^◌, ◌<◌, ◌≤◌, List, [], ◌∷◌}
-use Rattle.std.proofs.Common.{length, get_or, drop, arith, sym, ◌∙◌, ap, add-one}
-use Rattle.std.specs.Prelude.{bit_xor}
-use Rattle.std.specs.Int.Bits.{xor_zero_l, xor_zero_r, xor_assoc}
-use Rattle.std.proofs.Math.ListN.{drop_of_length-le}
-use Rattle.std.proofs.Math.Seq.{drop-cons}
-use Rattle.std.proofs.lemmas.List.{length-drop}
-use Rattle.std.proofs.lemmas.Nat.{xor_comm}
-use Rattle.line_rules.specs.Crc.{bit_steps, byte_step, crc}
 use Rattle.line_rules.proofs.CrcLaws.{byte_step_lem, crc-nil, crc-cons, bit_steps-zero}
 use Rattle.line_rules.proofs.CrcLaws.{bit_steps-add}
 use Rattle.line_rules.proofs.CrcLinear.{bit_steps-xor, byte_step-xor, byte_step-split}
+use Rattle.line_rules.specs.Crc.{bit_steps, byte_step, crc}
+use Rattle.std.proofs.Common.{◌≡◌, ℕ, suc, ◌+◌, ◌-◌, ◌*◌, ◌/◌, ◌%◌, ◌^◌, ◌<◌, ◌≤◌, List, [], ◌∷◌}
+use Rattle.std.proofs.Common.{length, get_or, drop, arith, sym, ◌∙◌, ap, add-one}
+use Rattle.std.proofs.Math.{ListN.drop_of_length-le, Seq.drop-cons}
+use Rattle.std.proofs.lemmas.{List.length-drop, Nat.xor_comm}
+use Rattle.std.specs.{Int.Bits.xor_zero_l, Int.Bits.xor_zero_r, Int.Bits.xor_assoc, Prelude.bit_xor}
 
 swap : (h l b t : ℕ) → bit_xor h (bit_xor l (bit_xor b t)) ≡ bit_xor l (bit_xor (bit_xor h b) t)
 swap h l b t =

@@ -1,10 +1,9 @@
 -- Tables that are the right ones, by computing each entry from that of the table before.
-use Rattle.std.proofs.Common.{◌≡◌, ℕ, zero, suc, ◌+◌, ◌*◌, ◌<◌, ◌&&◌, ◌==◌, Bool, true, false}
-use Rattle.std.proofs.Common.{List, [], ◌∷◌, length, get_or, arith, sym, ◌∙◌, ap}
-use Rattle.std.proofs.lemmas.Bool.{and_parts, eqb-true}
-use Rattle.line_rules.specs.Crc.{bit_steps}
-use Rattle.line_rules.specs.CrcTables.{AreCrcTables}
 use Rattle.line_rules.proofs.CrcLaws.{bit_steps-add}
+use Rattle.line_rules.specs.{Crc.bit_steps, CrcTables.AreCrcTables}
+use Rattle.std.proofs.Common.{◌≡◌, ℕ, zero, suc, ◌+◌, ◌*◌, ◌<◌, ◌&&◌, ◌==◌, Bool, true, false, List}
+use Rattle.std.proofs.Common.{[], ◌∷◌, length, get_or, arith, sym, ◌∙◌, ap}
+use Rattle.std.proofs.lemmas.Bool.{and_parts, eqb-true}
 
 -- this many numbers from the first one on
 abbrev pub numbers_from : ℕ → ℕ → List ℕ

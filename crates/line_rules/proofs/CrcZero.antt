@@ -1,17 +1,15 @@
 -- Bytes that end in their own check, low byte first: the register is then 0, and only then. The
 -- polynomial's highest bit is 1.
+use Rattle.line_rules.proofs.CrcLaws.{byte_step_lem, crc-nil, crc-cons, bit_step-even, bit_step-odd}
+use Rattle.line_rules.{proofs.CrcLaws.bit_steps-shift, specs.Bytes.AreBytes, specs.Bytes.low_first}
+use Rattle.line_rules.specs.Crc.{bit_step, bit_steps, byte_step, crc}
 use Rattle.std.proofs.Common.{◌≡◌, ℕ, zero, suc, ◌+◌, ◌-◌, ◌*◌, ◌/◌, ◌%◌, ◌^◌, ◌<◌, ◌≤◌, ◌∷◌, ◌++◌}
 use Rattle.std.proofs.Common.{List, [], refl, arith, sym, ◌∙◌, ap, subst, ⊎_elim}
-use Rattle.std.specs.Prelude.{bit_xor}
-use Rattle.std.specs.Int.Bits.{xor_zero_l, xor_zero_r, xor_self, xor_add_and}
 use Rattle.std.proofs.Math.Nat.{mod-eq_of_lt, pow-le-pow_right, pow-succ', mul_assoc}
+use Rattle.std.proofs.lemmas.{Bool.cases_eq, List.Elements.All-head, List.Elements.All-tail}
 use Rattle.std.proofs.lemmas.Nat.{xor_shr, xor_mod, xor_lt, and_le_l, and_le_r}
-use Rattle.std.proofs.lemmas.List.Elements.{All-head, All-tail}
-use Rattle.std.proofs.lemmas.Bool.{cases_eq}
-use Rattle.line_rules.specs.Bytes.{AreBytes, low_first}
-use Rattle.line_rules.specs.Crc.{bit_step, bit_steps, byte_step, crc}
-use Rattle.line_rules.proofs.CrcLaws.{byte_step_lem, crc-nil, crc-cons}
-use Rattle.line_rules.proofs.CrcLaws.{bit_step-even, bit_step-odd, bit_steps-shift}
+use Rattle.std.specs.Int.Bits.{xor_zero_l, xor_zero_r, xor_self, xor_add_and}
+use Rattle.std.specs.Prelude.{bit_xor}
 
 -- two numbers that differ in no bit
 xor-zero : (a b : ℕ) → bit_xor a b ≡ 0 → a ≡ b

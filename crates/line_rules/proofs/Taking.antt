@@ -1,11 +1,9 @@
 -- Bytes of a part that are appended one after the other, as long as there is room.
-use Rattle.std.proofs.Common.{◌-◌, drop}
-use Rattle.std.proofs.Common.{◌≡◌, ℕ, ◌+◌, ◌<◌, false, List, [], ◌∷◌, ◌++◌, length, take, get_or}
-use Rattle.std.proofs.Common.{arith, sym, ◌∙◌, ap, subst, append_assoc, append-nil, ⊎_elim}
-use Rattle.std.proofs.Math.Seq.{take-add}
-use Rattle.std.proofs.lemmas.Bool.{cases_eq, cases_lt}
-use Rattle.std.proofs.lemmas.List.{take_more}
 use Rattle.line_rules.specs.Rules.{Rules, fills_room}
+use Rattle.std.proofs.Common.{◌-◌, drop, ◌≡◌, ℕ, ◌+◌, ◌<◌, false, List, [], ◌∷◌, ◌++◌, length, take}
+use Rattle.std.proofs.Common.{get_or, arith, sym, ◌∙◌, ap, subst, append_assoc, append-nil, ⊎_elim}
+use Rattle.std.proofs.Math.Seq.{take-add}
+use Rattle.std.proofs.lemmas.{Bool.cases_eq, Bool.cases_lt, List.take_more}
 
 module _ {V : Type 0} (rules : Rules) (stands : V → List ℕ → Type 0) (old : V) (part : List ℕ) where
   -- the value has the first n bytes of the part, and there was room for each

@@ -1,30 +1,23 @@
 -- The ticks of a line keep to the times of a capture.
-use Rattle.std.proofs.Common.{◌≡◌, ◌∙◌, ℕ, suc, ◌+◌, ◌-◌, ◌*◌, ◌<◌, ◌≤◌, ⊎_elim, inl, inr}
-use Rattle.std.proofs.Common.{List, [], ◌∷◌, Option, Some, None, sym, ap, arith, max}
-use Rattle.std.proofs.Common.{map, refl, subst, Bool, true, false, add-one, ◌++◌, length}
-use Rattle.std.proofs.Common.{length-append}
-use Rattle.std.proofs.Common.{zero-add, add-zero, zero}
-use Rattle.std.proofs.Math.Nat.{mul-le-mul_right}
-use Rattle.std.proofs.lemmas.Bool.{cases_lt, cases_Bool, cond-true, cond-false, lt-ltb, le-ltb}
-use Rattle.std.proofs.lemmas.List.{length-replicate}
-use Rattle.yasir_ticks.specs.Ticks.{bytes_in, silent}
-use Rattle.yasir_ticks.specs.declared.tick.Tick.{Tick}
-use Rattle.yasir_ticks.specs.declared.tick.Tick.TheVariants.{Silent, Byte}
-use Rattle.yasir_ticks.proofs.SilenceLaws.{bytes_in-silent}
-use Rattle.line_stamps.specs.declared.TheConstants.{DRIFT_SILENCE}
-use Rattle.line_stamps.specs.declared.capture.CaptureByte.{CaptureByte}
-use Rattle.line_stamps.specs.declared.timing.Spacing.TheVariants.{ByTime, ByRecord}
-use Rattle.line_stamps.specs.declared.timing.Spacing.{Spacing}
-use Rattle.line_stamps.specs.declared.timing.Timing.{Timing}
-use Rattle.line_stamps.specs.Parts.{character, rounded, ticks_apart}
-use Rattle.line_stamps.specs.Places.{Spot, PlacedByte, tick_at, spot_of, steps_apart}
-use Rattle.line_stamps.specs.Places.{placed_at, placed_from, placed, ticks_from, next_tick}
-use Rattle.line_stamps.specs.Places.{last_spot_from, start_of}
-use Rattle.line_stamps.specs.Giving.{bytes_from, at_tick}
-use Rattle.line_stamps.specs.Clock.{AllNext, time_between, KeepsEdges, KeepsTime, WithinHalf}
-use Rattle.line_stamps.specs.Clock.{ArePartedRecords}
 use Rattle.line_stamps.proofs.RoundingLaws.{apart-some, apart-inside, apart-end, apart-most}
 use Rattle.line_stamps.proofs.RoundingLaws.{apart-is, apart-least, rounded-most, rounded-some}
+use Rattle.line_stamps.specs.Clock.{AllNext, time_between, KeepsEdges, KeepsTime, WithinHalf}
+use Rattle.line_stamps.specs.{Clock.ArePartedRecords, Giving.bytes_from, Giving.at_tick}
+use Rattle.line_stamps.specs.Parts.{character, rounded, ticks_apart}
+use Rattle.line_stamps.specs.Places.{Spot, PlacedByte, tick_at, spot_of, steps_apart, placed_at}
+use Rattle.line_stamps.specs.Places.{placed_from, placed, ticks_from, next_tick, last_spot_from}
+use Rattle.line_stamps.specs.Places.{start_of}
+use Rattle.line_stamps.specs.declared.{TheConstants.DRIFT_SILENCE, capture.CaptureByte.CaptureByte}
+use Rattle.line_stamps.specs.declared.timing.Spacing.{Spacing, TheVariants.ByTime}
+use Rattle.line_stamps.specs.declared.timing.{Spacing.TheVariants.ByRecord, Timing.Timing}
+use Rattle.std.proofs.Common.{◌≡◌, ◌∙◌, ℕ, suc, ◌+◌, ◌-◌, ◌*◌, ◌<◌, ◌≤◌, ⊎_elim, inl, inr, List, []}
+use Rattle.std.proofs.Common.{◌∷◌, Option, Some, None, sym, ap, arith, max, map, refl, subst, Bool}
+use Rattle.std.proofs.Common.{true, false, add-one, ◌++◌, length, length-append, zero-add, add-zero}
+use Rattle.std.proofs.{Common.zero, Math.Nat.mul-le-mul_right}
+use Rattle.std.proofs.lemmas.Bool.{cases_lt, cases_Bool, cond-true, cond-false, lt-ltb, le-ltb}
+use Rattle.{std.proofs.lemmas.List.length-replicate, yasir_ticks.proofs.SilenceLaws.bytes_in-silent}
+use Rattle.yasir_ticks.specs.Ticks.{bytes_in, silent}
+use Rattle.yasir_ticks.specs.declared.tick.Tick.{Tick, TheVariants.Silent, TheVariants.Byte}
 
 -- what the tick of a byte is, where drift is taken up and where it isn't
 pub tick-far : (n before time one : ℕ) → suc DRIFT_SILENCE < n

@@ -1,28 +1,21 @@
 -- What was given as times of a capture is taken as the same line.
-use Rattle.std.proofs.Common.{◌≡◌, ◌∙◌, ℕ, zero, suc, ◌+◌, ◌-◌, ◌*◌, ◌<◌, ◌≤◌, ⊎_elim, sym, ap}
-use Rattle.std.proofs.Common.{List, [], ◌∷◌, ◌++◌, Option, Some, None, true, false, arith, refl}
-use Rattle.std.proofs.Common.{append_assoc, subst, nat_lt, ◌&&◌}
-use Rattle.std.proofs.Math.Bool.{and-false}
-use Rattle.std.proofs.Math.Nat.{mul-sub, mul_comm, le_of_mul-le-mul_right}
-use Rattle.std.proofs.lemmas.Bool.{cases_Bool, cond-true, cond-false, le-ltb}
-use Rattle.std.proofs.lemmas.List.{append-nil}
-use Rattle.yasir_ticks.specs.Ticks.{silent}
-use Rattle.yasir_ticks.specs.declared.tick.Tick.{Tick}
-use Rattle.yasir_ticks.specs.declared.tick.Tick.TheVariants.{Silent, Byte}
-use Rattle.line_stamps.specs.declared.capture.CaptureByte.{CaptureByte}
-use Rattle.line_stamps.specs.declared.rate.Rate.{Rate}
-use Rattle.line_stamps.specs.declared.timing.Spacing.TheVariants.{ByTime}
-use Rattle.line_stamps.specs.declared.timing.Timing.{Timing}
+use Rattle.line_stamps.proofs.{Clocks.spot-is, GivenTicks.tick-is, GivenTicks.stamped-apart}
+use Rattle.line_stamps.proofs.GivenTicks.{following-apart, start-rises, stamped-free, tick-later}
+use Rattle.line_stamps.proofs.RoundingLaws.{rounded-most, rounded-some}
+use Rattle.line_stamps.specs.Giving.{bytes_from, tick_start, Gives, AreGiven, IsTakenAs}
 use Rattle.line_stamps.specs.Parts.{character, rounded, ticks_apart}
 use Rattle.line_stamps.specs.Places.{Spot, spot_of, next_tick, placed_from, ticks_from, tick_at}
 use Rattle.line_stamps.specs.Places.{stamp, start_of}
 use Rattle.line_stamps.specs.Placing.{is_stamped, is_early, overlaps, NoneRefused}
-use Rattle.line_stamps.specs.Giving.{bytes_from, tick_start, Gives, AreGiven}
-use Rattle.line_stamps.specs.Giving.{IsTakenAs}
-use Rattle.line_stamps.proofs.Clocks.{spot-is}
-use Rattle.line_stamps.proofs.RoundingLaws.{rounded-most, rounded-some}
-use Rattle.line_stamps.proofs.GivenTicks.{tick-is, stamped-apart, following-apart}
-use Rattle.line_stamps.proofs.GivenTicks.{start-rises, stamped-free, tick-later}
+use Rattle.line_stamps.specs.declared.{capture.CaptureByte.CaptureByte, rate.Rate.Rate}
+use Rattle.line_stamps.specs.declared.timing.{Spacing.TheVariants.ByTime, Timing.Timing}
+use Rattle.std.proofs.Common.{◌≡◌, ◌∙◌, ℕ, zero, suc, ◌+◌, ◌-◌, ◌*◌, ◌<◌, ◌≤◌, ⊎_elim, sym, ap}
+use Rattle.std.proofs.Common.{List, [], ◌∷◌, ◌++◌, Option, Some, None, true, false, arith, refl}
+use Rattle.std.proofs.Common.{append_assoc, subst, nat_lt, ◌&&◌}
+use Rattle.std.proofs.Math.{Bool.and-false, Nat.mul-sub, Nat.mul_comm, Nat.le_of_mul-le-mul_right}
+use Rattle.std.proofs.lemmas.Bool.{cases_Bool, cond-true, cond-false, le-ltb}
+use Rattle.{std.proofs.lemmas.List.append-nil, yasir_ticks.specs.Ticks.silent}
+use Rattle.yasir_ticks.specs.declared.tick.Tick.{Tick, TheVariants.Silent, TheVariants.Byte}
 
 sub-mul : (a b k : ℕ) → (a - b) * k ≡ a * k - b * k
 sub-mul a b k =

@@ -1,13 +1,10 @@
 -- What was given as times of a capture is taken as the same ticks, over plain numbers: a character
 -- of `one` parts, and starts of ticks in parts, each at most half of `off` parts from its own.
-use Rattle.std.proofs.Common.{◌≡◌, ◌∙◌, ℕ, suc, ◌+◌, ◌-◌, ◌*◌, ◌<◌, ◌≤◌, ⊎_elim, sym, ap, add-mul}
-use Rattle.std.proofs.Common.{arith}
-use Rattle.std.proofs.Math.Nat.{mul-le-mul_right}
-use Rattle.std.proofs.lemmas.Bool.{cases_lt}
-use Rattle.line_stamps.specs.Parts.{rounded, ticks_apart}
-use Rattle.line_stamps.specs.Places.{tick_at}
 use Rattle.line_stamps.proofs.Clocks.{tick-far, tick-near}
 use Rattle.line_stamps.proofs.RoundingLaws.{rounded-is, apart-is}
+use Rattle.line_stamps.specs.{Parts.rounded, Parts.ticks_apart, Places.tick_at}
+use Rattle.std.proofs.Common.{◌≡◌, ◌∙◌, ℕ, suc, ◌+◌, ◌-◌, ◌*◌, ◌<◌, ◌≤◌, ⊎_elim, sym, ap, add-mul}
+use Rattle.std.proofs.{Common.arith, Math.Nat.mul-le-mul_right, lemmas.Bool.cases_lt}
 
 module _ (one off : ℕ) (some : 0 < one) (small : 2 * off < one) (start : ℕ → ℕ)
     (most : (n : ℕ) → 2 * start n ≤ 2 * (n * one) + off)

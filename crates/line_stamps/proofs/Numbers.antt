@@ -1,10 +1,7 @@
 -- A word that spells a number is read as this number, and what is printed of it is the word.
 use Rattle.std.proofs.Common.{◌≡◌, ◌∙◌, ℕ, ◌^◌, ◌<◌, true, false, List, Result, Ok, Err, sym, ap}
-use Rattle.std.proofs.Common.{arith}
-use Rattle.std.specs.Prelude.{bytes_eq, decimal}
-use Rattle.std.specs.Str.Parse.{ParsesUnsigned}
-use Rattle.std.proofs.lemmas.Fmt.{parse-decimal}
-use Rattle.std.proofs.lemmas.Slice.Eq.{bytes_eq-Decides}
+use Rattle.std.proofs.{Common.arith, lemmas.Fmt.parse-decimal, lemmas.Slice.Eq.bytes_eq-Decides}
+use Rattle.std.specs.{Prelude.bytes_eq, Prelude.decimal, Str.Parse.ParsesUnsigned}
 
 module _ {E : Type 0} (word : List ℕ) (r : Result ℕ E) (n : ℕ) (few : n < 2 ^ 32)
     (spelled : word ≡ decimal n) (parsed : ParsesUnsigned 32 10 word r) where

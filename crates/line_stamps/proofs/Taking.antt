@@ -1,16 +1,13 @@
 -- One more byte: where it stands, and what it adds to the line.
+use Rattle.line_stamps.specs.{Parts.character, Places.Spot, Places.spot_of, Places.next_tick}
+use Rattle.line_stamps.specs.Places.{placed_from, ticks_from, line_of, last_spot_from, last_spot}
+use Rattle.line_stamps.specs.{Places.start_of, Places.tick_after, Placing.silence_before}
+use Rattle.line_stamps.specs.Placing.{overlaps_at, overlaps, overlaps_from, overlap_count}
+use Rattle.line_stamps.specs.declared.{capture.CaptureByte.CaptureByte, timing.Timing.Timing}
 use Rattle.std.proofs.Common.{◌≡◌, ◌∙◌, ℕ, suc, ◌-◌, List, [], ◌∷◌, ◌++◌, refl, ap, sym}
 use Rattle.std.proofs.Common.{append_assoc, ◌+◌, ◌^◌, min, Bool, true, false, arith}
 use Rattle.std.specs.Prelude.{Option, Some, None, if◌then◌else◌}
-use Rattle.yasir_ticks.specs.Ticks.{silent}
-use Rattle.yasir_ticks.specs.declared.tick.Tick.TheVariants.{Byte}
-use Rattle.line_stamps.specs.declared.capture.CaptureByte.{CaptureByte}
-use Rattle.line_stamps.specs.declared.timing.Timing.{Timing}
-use Rattle.line_stamps.specs.Parts.{character}
-use Rattle.line_stamps.specs.Places.{Spot, spot_of, next_tick, placed_from, ticks_from, line_of}
-use Rattle.line_stamps.specs.Places.{last_spot_from, last_spot, start_of, tick_after}
-use Rattle.line_stamps.specs.Placing.{silence_before, overlaps_at, overlaps, overlaps_from}
-use Rattle.line_stamps.specs.Placing.{overlap_count}
+use Rattle.yasir_ticks.specs.{Ticks.silent, declared.tick.Tick.TheVariants.Byte}
 
 -- what a placer that has taken these bytes knows of them
 abbrev pub HasStood : Timing → Option Spot → ℕ → List CaptureByte → Type 0

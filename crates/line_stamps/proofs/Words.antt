@@ -1,13 +1,11 @@
 -- What a word that ends in `x` and two digits has in front of them, and that it is the word of a
 -- rate or isn't.
+use Rattle.line_stamps.specs.{RateWords.rate_word, declared.rate.Rate.Rate}
 use Rattle.std.proofs.Common.{◌≡◌, ◌≢◌, ◌∙◌, ℕ, ◌+◌, ◌<◌, ◌≤◌, ◌/◌, ◌%◌, List, [], ◌∷◌, ◌++◌}
 use Rattle.std.proofs.Common.{Option, Some, None, IfSome, IfNone, sym, ap, arith, decimal}
 use Rattle.std.proofs.Common.{append_assoc, ◌⊎◌, ⊎_elim, lit<, ◌^◌, Bor}
-use Rattle.std.proofs.lemmas.Bool.{cases_lt}
-use Rattle.std.proofs.lemmas.Fmt.{decimal_step, decimal_digit, decimal_injective}
-use Rattle.std.proofs.lemmas.List.{append_cancel_right, same_from_push}
-use Rattle.line_stamps.specs.RateWords.{rate_word}
-use Rattle.line_stamps.specs.declared.rate.Rate.{Rate}
+use Rattle.std.proofs.lemmas.{Bool.cases_lt, Fmt.decimal_step, Fmt.decimal_digit}
+use Rattle.std.proofs.lemmas.{Fmt.decimal_injective, List.append_cancel_right, List.same_from_push}
 
 -- an `x`, a `1` and a digit
 abbrev pub ending : ℕ → List ℕ

@@ -1,12 +1,9 @@
 -- Worked rows of the definitions: at 1,000 baud and 10 bits a character is 10 ms.
-use Rattle.std.proofs.Common.{◌≡◌, ℕ, ◌*◌, List, [], ◌∷◌, true, refl, lit≤, map, false}
-use Rattle.line_stamps.specs.declared.rate.Rate.{Rate}
-use Rattle.line_stamps.specs.declared.capture.CaptureByte.{CaptureByte}
-use Rattle.line_stamps.specs.declared.capture.Way.TheVariants.{A}
-use Rattle.line_stamps.specs.declared.timing.Spacing.{Spacing}
+use Rattle.line_stamps.specs.{Parts.ticks_apart, Places.placed}
+use Rattle.line_stamps.specs.declared.capture.{CaptureByte.CaptureByte, Way.TheVariants.A}
+use Rattle.line_stamps.specs.declared.{rate.Rate.Rate, timing.Spacing.Spacing}
 use Rattle.line_stamps.specs.declared.timing.Spacing.TheVariants.{ByTime, ByRecord}
-use Rattle.line_stamps.specs.Parts.{ticks_apart}
-use Rattle.line_stamps.specs.Places.{placed}
+use Rattle.std.proofs.Common.{◌≡◌, ℕ, ◌*◌, List, [], ◌∷◌, true, refl, lit≤, map, false}
 
 abbrev slow : Rate
 slow = record {

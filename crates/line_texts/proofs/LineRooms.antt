@@ -1,11 +1,9 @@
 -- Pieces of lines behind those that wait.
-use Rattle.std.proofs.Common.{◌≡◌, ◌∙◌, ℕ, zero, suc, ◌+◌, ◌*◌, ◌<◌, ◌≤◌, ◌/◌, ◌%◌, List, [], ◌∷◌, ◌++◌}
-use Rattle.std.proofs.Common.{length, take, get_or, refl, sym, ap, arith, append_assoc}
-use Rattle.std.proofs.lemmas.Fmt.{decimal_digit, decimal_step}
-use Rattle.std.specs.Fmt.{decimal}
 use Rattle.hex.specs.Hex.{encode_lower, encode_with, lower_digits}
-use Rattle.yasir_ticks.specs.CanonicalText.{byte_line}
-use Rattle.yasir_ticks.specs.Characters.{plus_sign, line_feed}
+use Rattle.std.proofs.Common.{◌≡◌, ◌∙◌, ℕ, zero, suc, ◌+◌, ◌*◌, ◌<◌, ◌≤◌, ◌/◌, ◌%◌, List, [], ◌∷◌}
+use Rattle.std.proofs.Common.{◌++◌, length, take, get_or, refl, sym, ap, arith, append_assoc}
+use Rattle.std.{proofs.lemmas.Fmt.decimal_digit, proofs.lemmas.Fmt.decimal_step, specs.Fmt.decimal}
+use Rattle.yasir_ticks.specs.{CanonicalText.byte_line, Characters.plus_sign, Characters.line_feed}
 
 -- the digits of the first bytes
 encode-take : (t x : List ℕ) (n : ℕ) → take (2 * n) (encode_with t x) ≡ encode_with t (take n x)

@@ -1,17 +1,15 @@
 -- What more ticks do to the line of a writer that isn't filled.
-use Rattle.std.proofs.Common.{◌≡◌, ◌∙◌, ℕ, zero, suc, ◌+◌, ◌<◌, ◌≤◌, List, [], ◌∷◌, ◌++◌, length}
-use Rattle.std.proofs.Common.{get_or, map, take, refl, sym, ap, arith}
-use Rattle.std.proofs.lemmas.List.{append-nil, append_assoc, map-append}
-use Rattle.std.proofs.lemmas.List.{replicate-append-replicate, length-take-le}
-use Rattle.yasir_ticks.specs.CanonicalText.{canonical_text, byte_line, silence_line, stretches}
-use Rattle.yasir_ticks.specs.Ticks.{AreTicks, silent}
-use Rattle.yasir_ticks.specs.declared.tick.Tick.{Tick}
-use Rattle.yasir_ticks.specs.declared.tick.Tick.TheVariants.{Silent, Byte}
-use Rattle.yasir_ticks.proofs.RightTicks.{are_silent}
-use Rattle.yasir_ticks.proofs.Writing.{leads-bytes, leads-silence, full_ends-bytes}
-use Rattle.yasir_ticks.proofs.Writing.{silent_ends-bytes, full_ends-silence, byte_ends-silence}
 use Rattle.line_texts.specs.Writer.{unfilled, HasWritten, Takes}
 use Rattle.line_texts.specs.declared.line_writer.LineWriter.{LineWriter}
+use Rattle.std.proofs.Common.{◌≡◌, ◌∙◌, ℕ, zero, suc, ◌+◌, ◌<◌, ◌≤◌, List, [], ◌∷◌, ◌++◌, length}
+use Rattle.std.proofs.Common.{get_or, map, take, refl, sym, ap, arith}
+use Rattle.std.proofs.lemmas.List.{append-nil, append_assoc, map-append, replicate-append-replicate}
+use Rattle.{std.proofs.lemmas.List.length-take-le, yasir_ticks.proofs.RightTicks.are_silent}
+use Rattle.yasir_ticks.proofs.Writing.{leads-bytes, leads-silence, full_ends-bytes}
+use Rattle.yasir_ticks.proofs.Writing.{silent_ends-bytes, full_ends-silence, byte_ends-silence}
+use Rattle.yasir_ticks.specs.CanonicalText.{canonical_text, byte_line, silence_line, stretches}
+use Rattle.yasir_ticks.specs.Ticks.{AreTicks, silent}
+use Rattle.yasir_ticks.specs.declared.tick.Tick.{Tick, TheVariants.Silent, TheVariants.Byte}
 
 -- ---- ticks
 

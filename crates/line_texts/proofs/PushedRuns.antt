@@ -1,29 +1,23 @@
 -- How runs of ticks go to the text of the other line, a line after the other.
-use Rattle.std.proofs.Common.{◌≡◌, ◌∙◌, ℕ, ◌+◌, ◌≤◌, inl, inr, List, [], ◌∷◌, ◌++◌, Option, Result, Ok, Err}
-use Rattle.std.proofs.Common.{refl, sym, ap, subst, append_assoc, append-nil, arith, length}
-use Rattle.std.proofs.Common.{take, drop}
-use Rattle.std.proofs.lemmas.List.{take-append-drop}
-use Rattle.std.specs.Io.KnownBytes.{append_known}
-use Rattle.std.specs.Prelude.{OnOk, OnErr}
-use Rattle.std.proofs.lemmas.Result.{on_ok_weaker, on_err_weaker}
-use Rattle.yasir_io.specs.Causes.{HasCause}
-use Rattle.yasir_io.specs.TextBuffer.{waiting_bytes}
-use Rattle.yasir_io.specs.declared.Failed.{Failed}
-use Rattle.yasir_io.specs.declared.text_buffer.TextBuffer.{TextBuffer}
-use Rattle.yasir_io.specs.Output.{Buffered, GotPrefix}
-use Rattle.yasir_io.proofs.OutputLemmas.{append_known-nil, append_known-twice, nothing_written}
-use Rattle.yasir_io.proofs.FlushLaws.{none_flushed, none_flushed_then}
-use Rattle.yasir_io.specs.declared.sink.Sink.{Ghosts as Sink}
-use Rattle.yasir_ticks.specs.declared.tick.Tick.{Tick}
-use Rattle.line_texts.specs.Writer.{HasWritten, Takes, TakesInto}
+use Rattle.line_texts.proofs.Sending.{front_of_nothing, texts_after_note, part_before}
+use Rattle.line_texts.proofs.Sending.{buffered_then, part_then, buffered_on, part_on}
 use Rattle.line_texts.specs.Runs.{TakesRun}
+use Rattle.line_texts.specs.Sending.{SinkTexts, Waiting, PushesTexts, PushesTicks, HaveCause}
+use Rattle.line_texts.specs.Texts.{Writing, texts_held, waiting_in, Writes, MakesRoom, Pushes}
+use Rattle.line_texts.specs.{Texts.PushesFirst, Writer.HasWritten, Writer.Takes, Writer.TakesInto}
 use Rattle.line_texts.specs.declared.line_room.LineRoom.{LineRoom}
 use Rattle.line_texts.specs.declared.line_writer.LineWriter.{LineWriter}
-use Rattle.line_texts.specs.Sending.{SinkTexts, Waiting, PushesTexts, PushesTicks, HaveCause}
-use Rattle.line_texts.specs.Texts.{Writing, texts_held, waiting_in, Writes, MakesRoom}
-use Rattle.line_texts.specs.Texts.{Pushes, PushesFirst}
-use Rattle.line_texts.proofs.Sending.{front_of_nothing, texts_after_note, part_before, buffered_then, part_then}
-use Rattle.line_texts.proofs.Sending.{buffered_on, part_on}
+use Rattle.std.proofs.Common.{◌≡◌, ◌∙◌, ℕ, ◌+◌, ◌≤◌, inl, inr, List, [], ◌∷◌, ◌++◌, Option, Result}
+use Rattle.std.proofs.Common.{Ok, Err, refl, sym, ap, subst, append_assoc, append-nil, arith}
+use Rattle.std.proofs.Common.{length, take, drop}
+use Rattle.std.proofs.lemmas.{List.take-append-drop, Result.on_ok_weaker, Result.on_err_weaker}
+use Rattle.std.specs.{Io.KnownBytes.append_known, Prelude.OnOk, Prelude.OnErr}
+use Rattle.yasir_io.proofs.FlushLaws.{none_flushed, none_flushed_then}
+use Rattle.yasir_io.proofs.OutputLemmas.{append_known-nil, append_known-twice, nothing_written}
+use Rattle.yasir_io.specs.{Causes.HasCause, Output.Buffered, Output.GotPrefix}
+use Rattle.yasir_io.specs.{TextBuffer.waiting_bytes, declared.Failed.Failed}
+use Rattle.yasir_io.specs.declared.{sink.Sink.Ghosts as Sink, text_buffer.TextBuffer.TextBuffer}
+use Rattle.yasir_ticks.specs.declared.tick.Tick.{Tick}
 
 -- what has gone on by nothing
 nil_front : (front waits : List ℕ) → front ++ waits ≡ [] → (front ≡ []) × (waits ≡ [])

@@ -1,21 +1,15 @@
 -- How what is made of a line goes on to the two sinks, by some ticks, and how it ends.
-use Rattle.std.proofs.Common.{◌≡◌, ◌∙◌, ℕ, inl, inr, List, [], ◌++◌, Option}
-use Rattle.std.proofs.Common.{Result, Ok, Err, refl, sym}
-use Rattle.std.proofs.Common.{ap, subst, append_assoc, append-nil}
-use Rattle.std.specs.Io.KnownBytes.{append_known}
-use Rattle.yasir_io.specs.Output.{Buffered, GotPrefix}
-use Rattle.std.specs.Prelude.{OnOk}
-use Rattle.std.proofs.lemmas.Result.{on_ok_weaker, on_err_weaker}
-use Rattle.yasir_io.proofs.OutputLemmas.{append_known-nil, append_known-twice}
-use Rattle.yasir_io.proofs.OutputLemmas.{printed}
-use Rattle.yasir_ticks.specs.Ticks.{AreTicks}
-use Rattle.yasir_ticks.specs.CanonicalText.{canonical_text}
-use Rattle.yasir_ticks.specs.declared.tick.Tick.{Tick}
-use Rattle.line_texts.specs.Writer.{HasWritten, unfilled}
-use Rattle.line_texts.specs.declared.line_writer.LineWriter.{LineWriter}
 use Rattle.line_texts.specs.Sending.{LineAndNotes, AnswersNoted, SinkTexts, sink_texts, Waiting}
-use Rattle.line_texts.specs.Sending.{waiting, NotesFirst}
-use Rattle.line_texts.specs.Sending.{SendsTexts, HasSent, HasSentFronts, PushesTexts, PushesTicks}
+use Rattle.line_texts.specs.Sending.{waiting, NotesFirst, SendsTexts, HasSent, HasSentFronts}
+use Rattle.line_texts.specs.{Sending.PushesTexts, Sending.PushesTicks, Writer.HasWritten}
+use Rattle.line_texts.specs.{Writer.unfilled, declared.line_writer.LineWriter.LineWriter}
+use Rattle.std.proofs.Common.{◌≡◌, ◌∙◌, ℕ, inl, inr, List, [], ◌++◌, Option, Result, Ok, Err, refl}
+use Rattle.std.proofs.Common.{sym, ap, subst, append_assoc, append-nil}
+use Rattle.std.proofs.lemmas.Result.{on_ok_weaker, on_err_weaker}
+use Rattle.std.specs.{Io.KnownBytes.append_known, Prelude.OnOk}
+use Rattle.yasir_io.proofs.OutputLemmas.{append_known-nil, append_known-twice, printed}
+use Rattle.yasir_io.specs.Output.{Buffered, GotPrefix}
+use Rattle.yasir_ticks.specs.{CanonicalText.canonical_text, Ticks.AreTicks, declared.tick.Tick.Tick}
 
 -- ---- texts on their way
 

@@ -1,12 +1,10 @@
 -- Runs of the other line as they are lent.
-use Rattle.std.proofs.Common.{◌≡◌, ◌∙◌, ℕ, ◌≤◌, List, [], ◌∷◌, length, map, take, refl, sym, ap}
-use Rattle.std.proofs.Common.{arith}
+use Rattle.{burst_walk.specs.Answered.answered, std.proofs.Common.◌≡◌}
+use Rattle.std.proofs.Common.{◌∙◌, ℕ, ◌≤◌, List, [], ◌∷◌, length, map, take, refl, sym, ap, arith}
 use Rattle.std.proofs.lemmas.List.{length-take, length-take-le, take-map, take-replicate, take-take}
-use Rattle.yasir_ticks.specs.Ticks.{silent}
-use Rattle.yasir_ticks.specs.TickRun.{run_ticks}
-use Rattle.yasir_ticks.specs.declared.tick_run.TickRun.{TickRun}
+use Rattle.yasir_ticks.specs.{TickRun.run_ticks, Ticks.silent}
 use Rattle.yasir_ticks.specs.declared.tick.Tick.TheVariants.{Silent, Byte}
-use Rattle.burst_walk.specs.Answered.{answered}
+use Rattle.yasir_ticks.specs.declared.tick_run.TickRun.{TickRun}
 
 -- as many bytes as there are ticks are answered as they are
 answered-bytes : (x : List ℕ) → answered (length x) x ≡ map Byte x

@@ -1,9 +1,7 @@
 -- Links for which journals can be made.
-use Rattle.hmac_tag.specs.declared.dir.Dir.{Dir}
-use Rattle.hmac_tag.specs.declared.dir.Dir.TheVariants.{Ab, Ba}
-use Rattle.sequence_journal.specs.Links.{IsLink}
-use Rattle.sequence_journal.specs.declared.link.LinkId.{LinkId}
+use Rattle.hmac_tag.specs.declared.dir.Dir.{Dir, TheVariants.Ab, TheVariants.Ba}
 use Rattle.link_box.specs.Links.{AreLinks}
+use Rattle.sequence_journal.specs.{Links.IsLink, declared.link.LinkId.LinkId}
 
 pub known : (link_in : Dir → LinkId) → AreLinks link_in → (dir : Dir) → IsLink (link_in dir)
 known link_in links Ab = links.ab

@@ -1,9 +1,8 @@
 -- Runs that a box takes at once.
+use Rattle.link_box.specs.{Runs.HasTakenRun, Runs.TakesRun, Walking.Walking}
+use Rattle.link_format.specs.Setup.{Setup}
 use Rattle.std.proofs.Common.{◌≡◌, ◌∙◌, ℕ, List, [], ◌++◌, ap, subst, append-nil}
 use Rattle.yasir_ticks.specs.declared.tick.Tick.{Tick}
-use Rattle.link_format.specs.Setup.{Setup}
-use Rattle.link_box.specs.Walking.{Walking}
-use Rattle.link_box.specs.Runs.{HasTakenRun, TakesRun}
 
 module _ {X A : Type 0} (walking : Walking A) (standing : X → ℕ → Setup → List Tick → Type 0)
     (old new : X) where

@@ -1,16 +1,11 @@
 -- Words and lengths of trailers, and the profiles y18 and y24.
-use Rattle.std.proofs.Common.{◌≡◌, ◌∙◌, ℕ, ◌%◌, zero, suc, List, length, refl, ap, arith, lit≤}
-use Rattle.std.proofs.Common.{length-append}
-use Rattle.std.specs.Int.{bytes_high_first}
-use Rattle.byteorder.specs.Numbers.{big_from-bytes}
-use Rattle.sha1.specs.Sha1.{sha1}
-use Rattle.sha2.specs.Sha256.{sha256}
-use Rattle.hmac_tag.specs.Tag.{tag_text}
-use Rattle.hmac_tag.specs.Digests.{length-sha1, length-sha256, length-hmac_cut}
+use Rattle.{byteorder.specs.Numbers.big_from-bytes, hmac_tag.specs.Digests.length-sha1}
+use Rattle.hmac_tag.specs.{Digests.length-sha256, Digests.length-hmac_cut, Tag.tag_text}
 use Rattle.link_format.specs.Profile.{Profile, HasTags, trailer, trailer_len, delay, words, word_of}
-use Rattle.link_format.specs.Setup.{Setup}
-use Rattle.link_format.specs.Y18.{y18}
-use Rattle.link_format.specs.Y24.{y24}
+use Rattle.link_format.specs.{Setup.Setup, Y18.y18, Y24.y24}
+use Rattle.{sha1.specs.Sha1.sha1, sha2.specs.Sha256.sha256}
+use Rattle.std.proofs.Common.{◌≡◌, ◌∙◌, ℕ, ◌%◌, zero, suc, List, length, refl, ap, arith, lit≤}
+use Rattle.std.{proofs.Common.length-append, specs.Int.bytes_high_first}
 
 length-word : (k n : ℕ) → length (bytes_high_first k n) ≡ k
 length-word zero n = refl

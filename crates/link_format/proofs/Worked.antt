@@ -1,12 +1,8 @@
 -- What small worked lines are made of: frames of Modbus RTU, and a tag that is in for HMAC.
-use Rattle.std.proofs.Common.{ℕ, ◌==◌, ◌&&◌, ◌%◌, nat_le, List, [], ◌∷◌, ◌++◌, length, map, take}
-use Rattle.std.proofs.Common.{replicate}
-use Rattle.yasir_ticks.specs.declared.tick.Tick.{Tick}
-use Rattle.yasir_ticks.specs.declared.tick.Tick.TheVariants.{Byte}
-use Rattle.line_rules.specs.Crc.{crc}
-use Rattle.line_rules.specs.Headerless.{headerless}
-use Rattle.line_rules.specs.Rules.{Rules}
-use Rattle.link_format.specs.Profile.{Profile}
+use Rattle.line_rules.specs.{Crc.crc, Headerless.headerless, Rules.Rules}
+use Rattle.{link_format.specs.Profile.Profile, std.proofs.Common.ℕ, std.proofs.Common.◌==◌}
+use Rattle.std.proofs.Common.{◌&&◌, ◌%◌, nat_le, List, [], ◌∷◌, ◌++◌, length, map, take, replicate}
+use Rattle.yasir_ticks.specs.declared.tick.Tick.{Tick, TheVariants.Byte}
 
 -- frames of at most 256 bytes that end in their CRC, which leaves the register at 0
 abbrev pub rtu : Rules

@@ -1,23 +1,17 @@
 -- What leaves of one burst and what leaves of the next stand as far apart as the receiver is late.
-use Rattle.std.proofs.Common.{ℕ, ◌+◌, ◌≤◌, List, [], ◌∷◌, ◌++◌, length}
-use Rattle.std.proofs.Common.{arith}
-use Rattle.yasir_ticks.specs.Bursts.{Burst, end_of}
-use Rattle.yasir_ticks.specs.BurstsOf.{IsContiguous}
-use Rattle.line_rules.specs.Rules.{Rules}
-use Rattle.line_rules.specs.RulesLaws.{IsLawful}
-use Rattle.frame_ending.specs.LiveBytes.{live_ticks}
-use Rattle.frame_ending.proofs.LiveTicks.{live_ticks-contiguous}
-use Rattle.burst_walk.specs.Walk.{emitted}
-use Rattle.burst_walk.proofs.Spread.{AreSpread}
+use Rattle.burst_walk.{proofs.Spread.AreSpread, specs.Walk.emitted}
+use Rattle.frame_ending.{proofs.LiveTicks.live_ticks-contiguous, specs.LiveBytes.live_ticks}
+use Rattle.line_rules.specs.{Rules.Rules, RulesLaws.IsLawful}
 use Rattle.link_format.specs.Profile.{Profile, delay}
-use Rattle.link_verdicts.specs.Verdicts.{CheckState, Verdict, checked}
-use Rattle.link_verdicts.specs.Verdicts.Verdict.{passed_with, refused, dropped}
-use Rattle.link_verdicts.specs.Emissions.{spoiled, filled_ticks, emission_by}
-use Rattle.link_verdicts.specs.Checking.{state_by, checker}
-use Rattle.link_verdicts.proofs.Judging.{IsJudged}
-use Rattle.link_verdicts.proofs.Past.{judged-late}
+use Rattle.link_verdicts.proofs.{Judging.IsJudged, Past.judged-late}
 use Rattle.link_verdicts.proofs.Spoiled.{contiguous-wider, spoiled-contiguous, spoiled-length}
 use Rattle.link_verdicts.proofs.Spoiled.{filled-contiguous, filled-length}
+use Rattle.link_verdicts.specs.Checking.{state_by, checker}
+use Rattle.link_verdicts.specs.Emissions.{spoiled, filled_ticks, emission_by}
+use Rattle.link_verdicts.specs.Verdicts.{CheckState, Verdict, checked}
+use Rattle.link_verdicts.specs.Verdicts.Verdict.{passed_with, refused, dropped}
+use Rattle.std.proofs.Common.{ℕ, ◌+◌, ◌≤◌, List, [], ◌∷◌, ◌++◌, length, arith}
+use Rattle.yasir_ticks.specs.{Bursts.Burst, Bursts.end_of, BurstsOf.IsContiguous}
 
 module _ (profile : Profile) (rules : Rules) (lawful : IsLawful rules) where
   module _ (cut : ℕ) (some : 2 ≤ cut) (few : cut ≤ delay profile) where

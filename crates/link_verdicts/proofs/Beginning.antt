@@ -1,18 +1,14 @@
 -- A burst begins where no verdict is open.
+use Rattle.frame_ending.specs.LiveBytes.{up_to_byte, live_bytes, live_ticks, live_end}
+use Rattle.line_rules.specs.{Rules.Rules, RulesLaws.IsLawful}
+use Rattle.link_format.specs.Profile.{Profile, delay}
+use Rattle.link_verdicts.proofs.Leavings.{leaves-silent, leaves-byte}
+use Rattle.link_verdicts.specs.{Holding.Opens, Holding.Rests, Holding.as_it_came, Leaving.leaves}
 use Rattle.std.proofs.Common.{◌≡◌, ◌∙◌, ℕ, zero, suc, ◌+◌, ◌-◌, ◌<◌, ◌≤◌, Bool, true, List, [], ◌∷◌}
 use Rattle.std.proofs.Common.{◌++◌, length, take, drop, get_or, refl, sym, ap, arith}
+use Rattle.yasir_ticks.{proofs.BurstLaws.alone, specs.Bursts.Burst}
 use Rattle.yasir_ticks.specs.Ticks.{silent, bytes_in}
-use Rattle.yasir_ticks.specs.Bursts.{Burst}
-use Rattle.yasir_ticks.specs.declared.tick.Tick.{Tick}
-use Rattle.yasir_ticks.specs.declared.tick.Tick.TheVariants.{Silent, Byte}
-use Rattle.yasir_ticks.proofs.BurstLaws.{alone}
-use Rattle.line_rules.specs.Rules.{Rules}
-use Rattle.line_rules.specs.RulesLaws.{IsLawful}
-use Rattle.frame_ending.specs.LiveBytes.{up_to_byte, live_bytes, live_ticks, live_end}
-use Rattle.link_format.specs.Profile.{Profile, delay}
-use Rattle.link_verdicts.specs.Leaving.{leaves}
-use Rattle.link_verdicts.specs.Holding.{Opens, Rests, as_it_came}
-use Rattle.link_verdicts.proofs.Leavings.{leaves-silent, leaves-byte}
+use Rattle.yasir_ticks.specs.declared.tick.Tick.{Tick, TheVariants.Silent, TheVariants.Byte}
 
 -- where a burst may start, nothing is to leave
 pub rests-none : (rules : Rules) (p : Bool) (m earliest : ℕ) (left : List ℕ) (live : List Tick)

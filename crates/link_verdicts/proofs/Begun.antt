@@ -1,16 +1,13 @@
 -- Before the first tick.
+use Rattle.burst_walk.proofs.{Coming.come-begun, Emissions.tick_at-none}
+use Rattle.{burst_walk.specs.HasCome.HasCome, line_rules.specs.Rules.Rules}
+use Rattle.link_format.specs.Profile.{Profile}
+use Rattle.link_verdicts.proofs.Leavings.{leaves-none, fill_out-zero}
+use Rattle.link_verdicts.specs.{Checking.checker, Checking.at_floor, Holding.HasWalked}
 use Rattle.std.proofs.Common.{◌≡◌, ◌∙◌, ℕ, ◌-◌, false, List, [], length, get_or, refl, sym, ap}
 use Rattle.std.proofs.Common.{subst, arith, None}
 use Rattle.yasir_ticks.specs.Bursts.{Burst, bursts, bursts_from}
 use Rattle.yasir_ticks.specs.declared.tick.Tick.TheVariants.{Silent}
-use Rattle.line_rules.specs.Rules.{Rules}
-use Rattle.burst_walk.specs.HasCome.{HasCome}
-use Rattle.burst_walk.proofs.Coming.{come-begun}
-use Rattle.burst_walk.proofs.Emissions.{tick_at-none}
-use Rattle.link_format.specs.Profile.{Profile}
-use Rattle.link_verdicts.specs.Checking.{checker, at_floor}
-use Rattle.link_verdicts.specs.Holding.{HasWalked}
-use Rattle.link_verdicts.proofs.Leavings.{leaves-none, fill_out-zero}
 
 bursts-none : bursts [] ≡ []
 unfolding bursts_from

@@ -1,39 +1,30 @@
 -- The receiver needs no tick of the link before its time.
-use Rattle.std.proofs.Common.{◌≡◌, ◌∙◌, ℕ, zero, suc, ◌+◌, ◌-◌, ◌<◌, ◌≤◌, true, List, [], ◌∷◌}
-use Rattle.std.proofs.Common.{◌++◌, length, length-append, take, replicate, get_or, refl, sym, ap}
-use Rattle.std.proofs.Common.{subst, arith, ⊎_elim}
-use Rattle.std.proofs.lemmas.Bool.{cases_Bool, cases_lt}
-use Rattle.std.proofs.lemmas.List.{get_or_append_left}
-use Rattle.yasir_ticks.specs.Bursts.{Burst, end_of}
-use Rattle.yasir_ticks.specs.BurstsOf.{IsContiguous}
-use Rattle.yasir_ticks.specs.declared.tick.Tick.{Tick}
-use Rattle.yasir_ticks.specs.declared.tick.Tick.TheVariants.{Silent, Byte}
-use Rattle.yasir_ticks.proofs.BurstsOfLaws.{contiguous-more}
-use Rattle.line_rules.specs.Rules.{Rules, left_of}
-use Rattle.line_rules.specs.RulesLaws.{IsLawful, IsHeaded}
-use Rattle.frame_ending.specs.LiveBytes.{live_bytes, live_ticks, live_end}
-use Rattle.frame_ending.proofs.LastBurst.{IsWithin}
-use Rattle.frame_ending.proofs.Pauses.{up_to_byte-le}
-use Rattle.frame_ending.proofs.LiveTicks.{live_ticks-before}
-use Rattle.burst_walk.specs.Laid.{tick_at}
-use Rattle.burst_walk.specs.Causal.{IsCausal, MayGoOn, AddsOneTick, going_on}
-use Rattle.burst_walk.specs.Longer.{Extends}
 use Rattle.burst_walk.proofs.Emissions.{tick_at-none, tick_at-before, tick_at-from}
-use Rattle.burst_walk.proofs.Walks.{adds_one_tick}
-use Rattle.burst_walk.proofs.Longer.{extends}
+use Rattle.burst_walk.{proofs.Longer.extends, proofs.Walks.adds_one_tick, specs.Causal.IsCausal}
+use Rattle.burst_walk.specs.{Causal.MayGoOn, Causal.AddsOneTick, Causal.going_on, Laid.tick_at}
+use Rattle.{burst_walk.specs.Longer.Extends, frame_ending.proofs.LastBurst.IsWithin}
+use Rattle.frame_ending.proofs.{LiveTicks.live_ticks-before, Pauses.up_to_byte-le}
+use Rattle.frame_ending.specs.LiveBytes.{live_bytes, live_ticks, live_end}
+use Rattle.line_rules.specs.{Rules.Rules, Rules.left_of, RulesLaws.IsLawful, RulesLaws.IsHeaded}
 use Rattle.link_format.specs.Profile.{Profile, delay}
-use Rattle.link_verdicts.specs.Verdicts.{CheckState, Verdict, checked}
-use Rattle.link_verdicts.specs.Verdicts.Verdict.{passed_with, refused, dropped}
-use Rattle.link_verdicts.specs.Emissions.{spoiled, owed, filled_ticks, delayed, emission_by}
-use Rattle.link_verdicts.specs.Checking.{trailer_tick, state_by, note_by, checker}
-use Rattle.link_verdicts.specs.Timely.{IsTimely}
-use Rattle.link_verdicts.specs.Checking.FullNote.{passed_note}
 use Rattle.link_verdicts.proofs.HeadTicks.{before_pause-le, short-pause}
 use Rattle.link_verdicts.proofs.Judging.{IsJudged, judged-verdict, checked-good, tick-busy}
 use Rattle.link_verdicts.proofs.Judging.{tick-short, tick-bad, tick-good}
 use Rattle.link_verdicts.proofs.Settling.{IsSettled, trailer_tick-soon, good-waits, long-bytes}
-use Rattle.link_verdicts.proofs.Settling.{long-header}
-use Rattle.link_verdicts.proofs.Settling.{settled, waits-late, waits-header, waits-on}
+use Rattle.link_verdicts.proofs.Settling.{long-header, settled, waits-late, waits-header, waits-on}
+use Rattle.link_verdicts.specs.Checking.{trailer_tick, state_by, note_by, checker}
+use Rattle.link_verdicts.specs.Checking.FullNote.{passed_note}
+use Rattle.link_verdicts.specs.Emissions.{spoiled, owed, filled_ticks, delayed, emission_by}
+use Rattle.link_verdicts.specs.Timely.{IsTimely}
+use Rattle.link_verdicts.specs.Verdicts.{CheckState, Verdict, checked}
+use Rattle.link_verdicts.specs.Verdicts.Verdict.{passed_with, refused, dropped}
+use Rattle.std.proofs.Common.{◌≡◌, ◌∙◌, ℕ, zero, suc, ◌+◌, ◌-◌, ◌<◌, ◌≤◌, true, List, [], ◌∷◌, ◌++◌}
+use Rattle.std.proofs.Common.{length, length-append, take, replicate, get_or, refl, sym, ap, subst}
+use Rattle.std.proofs.Common.{arith, ⊎_elim}
+use Rattle.std.proofs.lemmas.{Bool.cases_Bool, Bool.cases_lt, List.get_or_append_left}
+use Rattle.yasir_ticks.proofs.BurstsOfLaws.{contiguous-more}
+use Rattle.yasir_ticks.specs.{Bursts.Burst, Bursts.end_of, BurstsOf.IsContiguous}
+use Rattle.yasir_ticks.specs.declared.tick.Tick.{Tick, TheVariants.Silent, TheVariants.Byte}
 
 -- ---- spoiled ticks
 

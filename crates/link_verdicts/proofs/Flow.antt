@@ -1,22 +1,16 @@
 -- One turn: what leaves, and what then is still to leave.
-use Rattle.std.proofs.Common.{◌≡◌, ◌∙◌, ℕ, zero, suc, ◌-◌, ◌<◌, Bool, true, false, List, [], ◌∷◌}
-use Rattle.std.proofs.Common.{◌++◌, length, take, drop, get_or, refl, sym, ap, arith}
-use Rattle.std.proofs.Common.{append_assoc, subst}
-use Rattle.std.proofs.Common.{Option, Some}
-use Rattle.std.proofs.lemmas.Bool.{ne_eqb, cond-false}
-use Rattle.std.proofs.lemmas.List.{append-nil}
-use Rattle.yasir_ticks.specs.Ticks.{bytes_in}
-use Rattle.yasir_ticks.specs.declared.tick.Tick.{Tick}
-use Rattle.yasir_ticks.specs.declared.tick.Tick.TheVariants.{Silent, Byte}
-use Rattle.line_rules.specs.Rules.{Rules}
-use Rattle.line_rules.specs.declared.line_rules.LineRules.{Ghosts as LineRules}
-use Rattle.spoiler.specs.declared.outlet.Outlet.{Outlet}
+use Rattle.line_rules.specs.{Rules.Rules, declared.line_rules.LineRules.Ghosts as LineRules}
+use Rattle.link_verdicts.proofs.Leavings.{leaves-none, leaves-silent, leaves-byte, fill_out-zero}
+use Rattle.link_verdicts.{proofs.Leavings.fill_out-suc, specs.Leaving.is_none, specs.Leaving.leaves}
+use Rattle.link_verdicts.specs.Turns.{HasTurned, tick_or_silence}
 use Rattle.spoiler.specs.Outlet.{StandsFor as OutletStandsFor, Refuses, owed_by, refused_by}
 use Rattle.spoiler.specs.Outlet.{emitted, owed_after, filled, filled_bytes}
-use Rattle.link_verdicts.specs.Leaving.{is_none, leaves}
-use Rattle.link_verdicts.specs.Turns.{HasTurned, tick_or_silence}
-use Rattle.link_verdicts.proofs.Leavings.{leaves-none, leaves-silent, leaves-byte, fill_out-zero}
-use Rattle.link_verdicts.proofs.Leavings.{fill_out-suc}
+use Rattle.{spoiler.specs.declared.outlet.Outlet.Outlet, std.proofs.Common.◌≡◌}
+use Rattle.std.proofs.Common.{◌∙◌, ℕ, zero, suc, ◌-◌, ◌<◌, Bool, true, false, List, [], ◌∷◌, ◌++◌}
+use Rattle.std.proofs.Common.{length, take, drop, get_or, refl, sym, ap, arith, append_assoc, subst}
+use Rattle.std.proofs.{Common.Option, Common.Some, lemmas.Bool.ne_eqb, lemmas.Bool.cond-false}
+use Rattle.{std.proofs.lemmas.List.append-nil, yasir_ticks.specs.Ticks.bytes_in}
+use Rattle.yasir_ticks.specs.declared.tick.Tick.{Tick, TheVariants.Silent, TheVariants.Byte}
 
 module _ {R : Type 0} (proto : LineRules R) (passes : Bool) where
   -- What has left, where a turn has answered so: what is still to leave is all but the first tick.

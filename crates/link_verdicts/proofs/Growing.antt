@@ -1,37 +1,27 @@
 -- The burst whose verdict is open, one tick later.
-use Rattle.std.proofs.Common.{◌≡◌, ◌∙◌, ◌||◌, ℕ, zero, suc, ◌+◌, ◌-◌, ◌<◌, ◌≤◌, nat_le, Bool, true}
-use Rattle.std.proofs.Common.{false, List, [], ◌∷◌}
-use Rattle.std.proofs.Common.{◌++◌, length, take, drop, get_or, refl, sym, ap, arith, append_assoc}
-use Rattle.std.proofs.Common.{⊎_elim}
-use Rattle.std.proofs.lemmas.Bool.{cases_lt, cases_Bool, ne_eqb, or_parts}
-use Rattle.yasir_ticks.proofs.BurstsOfLaws.{contiguous-more}
-use Rattle.std.proofs.lemmas.List.{length-drop, get_or_append_left, drop-drop, take-append-le}
-use Rattle.std.proofs.lemmas.List.{drop-append-le}
-use Rattle.yasir_ticks.specs.Ticks.{silent, bytes_in}
-use Rattle.yasir_ticks.specs.Bursts.{Burst, end_of}
-use Rattle.yasir_ticks.specs.declared.tick.Tick.{Tick}
-use Rattle.yasir_ticks.specs.declared.tick.Tick.TheVariants.{Silent, Byte}
-use Rattle.yasir_ticks.proofs.SilenceLaws.{bytes_in-append}
-use Rattle.line_rules.specs.Rules.{Rules, fills_room}
-use Rattle.line_rules.specs.RulesLaws.{IsLawful, IsHeaded}
-use Rattle.frame_ending.specs.LiveBytes.{has_pause, live_bytes, live_ticks, live_end}
-use Rattle.frame_ending.proofs.BurstSteps.{live-over}
-use Rattle.frame_ending.proofs.Pauses.{up_to_byte-le}
-use Rattle.frame_ending.proofs.LiveTicks.{live_end-within, live_ticks-over, live_ticks-open}
-use Rattle.frame_ending.proofs.LiveTicks.{live_ticks-more}
 use Rattle.burst_walk.specs.Causal.{MayGoOn, going_on}
+use Rattle.frame_ending.proofs.{BurstSteps.live-over, LiveTicks.live_end-within}
+use Rattle.frame_ending.proofs.LiveTicks.{live_ticks-over, live_ticks-open, live_ticks-more}
+use Rattle.frame_ending.proofs.Pauses.{up_to_byte-le}
+use Rattle.frame_ending.specs.LiveBytes.{has_pause, live_bytes, live_ticks, live_end}
+use Rattle.line_rules.specs.{Rules.Rules, Rules.fills_room, RulesLaws.IsLawful, RulesLaws.IsHeaded}
 use Rattle.link_format.specs.Profile.{Profile, delay, trailer_len, trailer_shape}
-use Rattle.link_verdicts.specs.Shapes.{kept}
-use Rattle.link_verdicts.specs.Verdicts.{CheckState, after_live, kept_after, checked}
-use Rattle.link_verdicts.specs.Verdicts.Verdict.{refused}
-use Rattle.link_verdicts.specs.Checking.{note_tick}
-use Rattle.link_verdicts.specs.declared.note.RefusedWhy.TheVariants.{Trailer}
 use Rattle.link_verdicts.proofs.Judging.{checked-good, verdict-cut}
-use Rattle.link_verdicts.proofs.Settling.{after-long, within, is_over, open-end, open-near}
-use Rattle.link_verdicts.specs.Holding.{Opens, as_it_came}
-use Rattle.link_verdicts.proofs.Shaping.{pause-goes_on, kept-most, byte-keeps, byte-breaks}
-use Rattle.link_verdicts.proofs.Shaping.{pause-longer}
 use Rattle.link_verdicts.proofs.Opening.{short-ticks, length-silent}
+use Rattle.link_verdicts.proofs.Settling.{after-long, within, is_over, open-end, open-near}
+use Rattle.link_verdicts.proofs.Shaping.{pause-goes_on, kept-most, byte-keeps, byte-breaks}
+use Rattle.link_verdicts.{proofs.Shaping.pause-longer, specs.Checking.note_tick}
+use Rattle.link_verdicts.specs.{Holding.Opens, Holding.as_it_came, Shapes.kept, Verdicts.CheckState}
+use Rattle.link_verdicts.specs.Verdicts.{after_live, kept_after, checked, Verdict.refused}
+use Rattle.link_verdicts.specs.declared.note.RefusedWhy.TheVariants.{Trailer}
+use Rattle.std.proofs.Common.{◌≡◌, ◌∙◌, ◌||◌, ℕ, zero, suc, ◌+◌, ◌-◌, ◌<◌, ◌≤◌, nat_le, Bool, true}
+use Rattle.std.proofs.Common.{false, List, [], ◌∷◌, ◌++◌, length, take, drop, get_or, refl, sym, ap}
+use Rattle.std.proofs.{Common.arith, Common.append_assoc, Common.⊎_elim, lemmas.Bool.cases_lt}
+use Rattle.std.proofs.lemmas.{Bool.cases_Bool, Bool.ne_eqb, Bool.or_parts, List.length-drop}
+use Rattle.std.proofs.lemmas.List.{get_or_append_left, drop-drop, take-append-le, drop-append-le}
+use Rattle.yasir_ticks.proofs.{BurstsOfLaws.contiguous-more, SilenceLaws.bytes_in-append}
+use Rattle.yasir_ticks.specs.{Bursts.Burst, Bursts.end_of, Ticks.silent, Ticks.bytes_in}
+use Rattle.yasir_ticks.specs.declared.tick.Tick.{Tick, TheVariants.Silent, TheVariants.Byte}
 
 -- ---- one tick leaves
 

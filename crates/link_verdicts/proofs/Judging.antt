@@ -1,21 +1,19 @@
 -- The receiver's verdict, case by case.
-use Rattle.std.proofs.Common.{◌≡◌, ◌∙◌, ℕ, ◌+◌, ◌-◌, ◌<◌, ◌≤◌, nat_lt, Bool, true, false, cond}
-use Rattle.std.proofs.Common.{List}
-use Rattle.std.proofs.Common.{length, take, refl, ap, Option, Some, None, bytes_eq}
-use Rattle.std.proofs.lemmas.Bool.{cond-true, cond-false, lt-ltb, le-ltb}
-use Rattle.yasir_ticks.specs.Bursts.{Burst}
-use Rattle.line_rules.specs.Rules.{Rules, head_of}
-use Rattle.line_rules.specs.declared.head.Head.{Head}
-use Rattle.line_rules.specs.declared.head.Head.TheVariants.{Short, Good, Bad}
 use Rattle.frame_ending.specs.LiveBytes.{before_pause, up_to_byte, live_bytes}
+use Rattle.line_rules.specs.{Rules.Rules, Rules.head_of, declared.head.Head.Head}
+use Rattle.line_rules.specs.declared.head.Head.TheVariants.{Short, Good, Bad}
 use Rattle.link_format.specs.Profile.{Profile, pause_len, trailer_len}
+use Rattle.link_verdicts.specs.Checking.{head_tick, trailer_tick, note_tick, checker}
 use Rattle.link_verdicts.specs.Verdicts.{CheckState, Verdict, kept_after, trailer_of, number_of}
 use Rattle.link_verdicts.specs.Verdicts.{tag_in, verdict_by_number, whole_verdict, verdict_of}
 use Rattle.link_verdicts.specs.Verdicts.{verdict_by_head, checked}
 use Rattle.link_verdicts.specs.Verdicts.Verdict.{passed_with, refused, dropped}
-use Rattle.link_verdicts.specs.Checking.{head_tick, trailer_tick, note_tick, checker}
-use Rattle.link_verdicts.specs.declared.note.RefusedWhy.TheVariants.{Trailer, Form, Tag}
 use Rattle.link_verdicts.specs.declared.note.DroppedWhy.TheVariants.{Busy, Head as NoHead}
+use Rattle.link_verdicts.specs.declared.note.RefusedWhy.TheVariants.{Trailer, Form, Tag}
+use Rattle.std.proofs.Common.{◌≡◌, ◌∙◌, ℕ, ◌+◌, ◌-◌, ◌<◌, ◌≤◌, nat_lt, Bool, true, false, cond}
+use Rattle.std.proofs.Common.{List, length, take, refl, ap, Option, Some, None, bytes_eq}
+use Rattle.std.proofs.lemmas.Bool.{cond-true, cond-false, lt-ltb, le-ltb}
+use Rattle.yasir_ticks.specs.Bursts.{Burst}
 
 -- passed or refused: the burst leaves
 abbrev pub IsJudged : Verdict → Type 0

@@ -1,13 +1,11 @@
 -- How many ticks keep a shape, as ticks go on with silence and more.
-use Rattle.std.proofs.Common.{◌≡◌, ℕ, zero, suc, ◌+◌, ◌-◌, ◌<◌, ◌≤◌, Bool, true, false, List}
-use Rattle.std.proofs.Common.{[], ◌∷◌}
-use Rattle.std.proofs.Common.{◌++◌, length, take, drop, replicate, refl, ap, arith}
-use Rattle.std.proofs.lemmas.List.{take-append-le, length-replicate}
-use Rattle.yasir_ticks.specs.Ticks.{silent}
-use Rattle.yasir_ticks.specs.declared.tick.Tick.{Tick}
-use Rattle.yasir_ticks.specs.declared.tick.Tick.TheVariants.{Silent, Byte}
 use Rattle.link_format.specs.Profile.{Profile, pause_len, trailer_len, trailer_shape}
 use Rattle.link_verdicts.specs.Shapes.{kept}
+use Rattle.std.proofs.Common.{◌≡◌, ℕ, zero, suc, ◌+◌, ◌-◌, ◌<◌, ◌≤◌, Bool, true, false, List, []}
+use Rattle.std.proofs.Common.{◌∷◌, ◌++◌, length, take, drop, replicate, refl, ap, arith}
+use Rattle.std.proofs.lemmas.List.{take-append-le, length-replicate}
+use Rattle.yasir_ticks.specs.Ticks.{silent}
+use Rattle.yasir_ticks.specs.declared.tick.Tick.{Tick, TheVariants.Silent, TheVariants.Byte}
 
 pub kept-le : (shape : List Bool) (x : List Tick) → kept shape x ≤ length shape
 unfolding kept

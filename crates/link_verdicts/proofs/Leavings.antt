@@ -1,17 +1,14 @@
 -- What leaves of a burst that passes, and of one that doesn't.
-use Rattle.std.proofs.Common.{◌≡◌, ◌∙◌, ℕ, zero, suc, ◌<◌, ◌==◌, Bool, true, false, List, [], ◌∷◌}
-use Rattle.std.proofs.Common.{◌++◌, length, take, drop, replicate, refl, sym, ap, arith}
-use Rattle.std.proofs.Common.{append_assoc}
-use Rattle.std.proofs.Common.{if◌then◌else◌}
-use Rattle.std.proofs.lemmas.Bool.{cond-false, ne_eqb}
-use Rattle.std.proofs.lemmas.List.{append-nil}
-use Rattle.yasir_ticks.specs.Ticks.{silent, bytes_in}
-use Rattle.yasir_ticks.specs.declared.tick.Tick.{Tick}
-use Rattle.yasir_ticks.specs.declared.tick.Tick.TheVariants.{Silent, Byte}
 use Rattle.line_rules.specs.Rules.{Rules, left_of, spoil_of}
-use Rattle.spoiler.specs.Outlet.{emitted, owed_after}
 use Rattle.link_verdicts.specs.Emissions.{spoiled}
 use Rattle.link_verdicts.specs.Leaving.{is_none, fill_byte, fill_out, leaves}
+use Rattle.spoiler.specs.Outlet.{emitted, owed_after}
+use Rattle.std.proofs.Common.{◌≡◌, ◌∙◌, ℕ, zero, suc, ◌<◌, ◌==◌, Bool, true, false, List, [], ◌∷◌}
+use Rattle.std.proofs.Common.{◌++◌, length, take, drop, replicate, refl, sym, ap, arith}
+use Rattle.std.proofs.Common.{append_assoc, if◌then◌else◌}
+use Rattle.std.proofs.lemmas.{Bool.cond-false, Bool.ne_eqb, List.append-nil}
+use Rattle.yasir_ticks.specs.Ticks.{silent, bytes_in}
+use Rattle.yasir_ticks.specs.declared.tick.Tick.{Tick, TheVariants.Silent, TheVariants.Byte}
 
 module _ (rules : Rules) where
   pub leaves-none : (p : Bool) (left : List ℕ) (owed : ℕ)

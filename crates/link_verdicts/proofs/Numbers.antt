@@ -1,18 +1,15 @@
 -- The floor of the state is the number of the last frame that has passed.
-use Rattle.std.proofs.Common.{◌≡◌, ◌∙◌, ℕ, Bool, List, [], ◌∷◌, length, refl, sym, ap, Option}
-use Rattle.std.specs.List.{filter_map}
-use Rattle.yasir_ticks.specs.Bursts.{Burst, bursts}
-use Rattle.yasir_ticks.specs.declared.tick.Tick.{Tick}
-use Rattle.line_rules.specs.Rules.{Rules}
-use Rattle.burst_walk.specs.Walk.{Noted, walked, state_after}
 use Rattle.burst_walk.proofs.Coming.{notes_before-come}
-use Rattle.link_format.specs.NumberedFrame.{NumberedFrame, last_number}
-use Rattle.link_format.specs.Profile.{Profile}
+use Rattle.burst_walk.specs.Walk.{Noted, walked, state_after}
+use Rattle.{line_rules.specs.Rules.Rules, link_format.specs.NumberedFrame.NumberedFrame}
+use Rattle.link_format.specs.{NumberedFrame.last_number, Profile.Profile}
+use Rattle.link_verdicts.specs.Checking.{FullNote, checker, at_floor, state_by, note_by, note_tick}
+use Rattle.link_verdicts.specs.{Checking.passed_in, Checking.passed, Holding.HasWalked}
 use Rattle.link_verdicts.specs.Verdicts.{CheckState, Verdict, checked}
 use Rattle.link_verdicts.specs.Verdicts.Verdict.{passed_with, refused, dropped}
-use Rattle.link_verdicts.specs.Checking.{FullNote, checker, at_floor, state_by, note_by, note_tick}
-use Rattle.link_verdicts.specs.Checking.{passed_in, passed}
-use Rattle.link_verdicts.specs.Holding.{HasWalked}
+use Rattle.std.proofs.Common.{◌≡◌, ◌∙◌, ℕ, Bool, List, [], ◌∷◌, length, refl, sym, ap, Option}
+use Rattle.std.specs.List.{filter_map}
+use Rattle.yasir_ticks.specs.{Bursts.Burst, Bursts.bursts, declared.tick.Tick.Tick}
 
 abbrev frames_in : List (Noted FullNote) → List NumberedFrame
 frames_in notes = filter_map (λ n. passed_in n.note) notes

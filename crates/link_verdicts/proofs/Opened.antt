@@ -1,54 +1,40 @@
 -- A burst whose verdict is open: what is known of it, and what one more tick of the link does. More
 -- than one live tick is still to leave then, and the first of them leaves as it came.
-use Rattle.std.proofs.Common.{◌≡◌, ◌∙◌, ℕ, zero, suc, ◌+◌, ◌-◌, ◌<◌, ◌≤◌, Bool, true, false, List}
-use Rattle.std.proofs.Common.{[], ◌∷◌, ◌++◌, length, length-append, take, drop}
-use Rattle.std.proofs.Common.{get_or}
-use Rattle.std.proofs.Common.{refl, sym, ap, subst, arith, append_assoc, Option, Some, None, ⊎_elim}
-use Rattle.std.proofs.lemmas.Bool.{cases_Bool, cases_lt}
-use Rattle.std.proofs.lemmas.List.{get_or-drop, take-append-drop}
-use Rattle.yasir_ticks.specs.Ticks.{silent, bytes_in}
-use Rattle.yasir_ticks.specs.Bursts.{Burst, bursts, end_of}
-use Rattle.yasir_ticks.specs.BurstsOf.{IsContiguous}
-use Rattle.yasir_ticks.specs.declared.tick.Tick.{Tick}
-use Rattle.yasir_ticks.specs.declared.tick.Tick.TheVariants.{Silent, Byte}
-use Rattle.yasir_ticks.proofs.BurstsOfLaws.{contiguous-more}
-use Rattle.yasir_ticks.proofs.SilenceLaws.{bytes_in-append}
-use Rattle.line_rules.specs.Rules.{Rules}
-use Rattle.line_rules.specs.declared.line_rules.LineRules.{Ghosts as LineRules}
-use Rattle.frame_ending.specs.Cuts.{cut_of}
-use Rattle.frame_ending.specs.LiveBytes.{live_bytes, live_ticks, live_end}
-use Rattle.frame_ending.specs.SoFar.{last_of, last_burst}
-use Rattle.frame_ending.specs.declared.cut.Cut.TheVariants.{Live, Extra}
-use Rattle.frame_ending.proofs.LiveTicks.{live_ticks-bytes}
-use Rattle.frame_ending.proofs.Running.{byte-lives, byte-over}
-use Rattle.burst_walk.specs.Causal.{IsCausal, MayGoOn, going_on}
-use Rattle.burst_walk.specs.HasCome.{HasCome}
-use Rattle.burst_walk.specs.Walk.{Walker}
 use Rattle.burst_walk.proofs.Coming.{come-joined, come-silent, waiting-may}
+use Rattle.burst_walk.specs.Causal.{IsCausal, MayGoOn, going_on}
+use Rattle.burst_walk.specs.{HasCome.HasCome, Walk.Walker}
+use Rattle.frame_ending.proofs.{LiveTicks.live_ticks-bytes, Running.byte-lives, Running.byte-over}
+use Rattle.frame_ending.specs.{Cuts.cut_of, LiveBytes.live_bytes, LiveBytes.live_ticks}
+use Rattle.frame_ending.specs.{LiveBytes.live_end, SoFar.last_of, SoFar.last_burst}
+use Rattle.frame_ending.specs.declared.cut.Cut.TheVariants.{Live, Extra}
+use Rattle.line_rules.specs.{Rules.Rules, declared.line_rules.LineRules.Ghosts as LineRules}
 use Rattle.link_format.specs.Profile.{Profile, delay, trailer_len, pause_len}
-use Rattle.link_verdicts.specs.Verdicts.{CheckState, after_live, checked, kept_after, trailer_of}
-use Rattle.link_verdicts.specs.Verdicts.{whole_verdict}
-use Rattle.link_verdicts.specs.Verdicts.Verdict.{passed_with, refused}
-use Rattle.link_verdicts.specs.Emissions.{owed}
-use Rattle.link_verdicts.specs.Checking.{FullNote, checker, at_floor, trailer_tick}
-use Rattle.link_verdicts.specs.declared.note.CheckNote.{CheckNote}
-use Rattle.link_verdicts.specs.declared.note.CheckNote.TheVariants.{Passed, Refused}
-use Rattle.link_verdicts.specs.declared.note.RefusedWhy.{RefusedWhy}
-use Rattle.link_verdicts.specs.declared.note.RefusedWhy.TheVariants.{Trailer}
-use Rattle.link_verdicts.specs.Timely.{IsTimely}
-use Rattle.link_verdicts.specs.Holding.{HasWalked, Opens, as_it_came, trailer_so_far}
-use Rattle.link_verdicts.specs.Going.{Goes}
-use Rattle.link_verdicts.proofs.Judging.{checked-good, verdict-whole}
-use Rattle.link_verdicts.proofs.Settling.{is_over, open-near, open-bytes, open-end, over-after}
-use Rattle.link_verdicts.proofs.Settling.{after-long}
-use Rattle.link_verdicts.proofs.Shaping.{kept-most}
-use Rattle.link_verdicts.proofs.Trailing.{trailer-bytes, bytes-more}
-use Rattle.link_verdicts.proofs.Opening.{open-goes, refuse-goes, pass-goes, length-silent}
 use Rattle.link_verdicts.proofs.Growing.{live-long, next-left, next-live, opens-silent, silent-kept}
 use Rattle.link_verdicts.proofs.Growing.{breaks, over-bytes, over-end, over-whole, over-left}
 use Rattle.link_verdicts.proofs.Growing.{over-live, over-breaks, over-keeps, over-good, opens-over}
 use Rattle.link_verdicts.proofs.Growing.{over-long-header, open-seen, open-whole, opens-live}
-use Rattle.link_verdicts.proofs.Resting.{causal}
+use Rattle.link_verdicts.proofs.Judging.{checked-good, verdict-whole}
+use Rattle.link_verdicts.proofs.Opening.{open-goes, refuse-goes, pass-goes, length-silent}
+use Rattle.link_verdicts.proofs.{Resting.causal, Settling.is_over}
+use Rattle.link_verdicts.proofs.Settling.{open-near, open-bytes, open-end, over-after, after-long}
+use Rattle.link_verdicts.proofs.{Shaping.kept-most, Trailing.trailer-bytes, Trailing.bytes-more}
+use Rattle.link_verdicts.specs.Checking.{FullNote, checker, at_floor, trailer_tick}
+use Rattle.link_verdicts.specs.{Emissions.owed, Going.Goes, Holding.HasWalked, Holding.Opens}
+use Rattle.link_verdicts.specs.{Holding.as_it_came, Holding.trailer_so_far, Timely.IsTimely}
+use Rattle.link_verdicts.specs.Verdicts.{CheckState, after_live, checked, kept_after, trailer_of}
+use Rattle.link_verdicts.specs.Verdicts.{whole_verdict, Verdict.passed_with, Verdict.refused}
+use Rattle.link_verdicts.specs.declared.note.CheckNote.{CheckNote}
+use Rattle.link_verdicts.specs.declared.note.CheckNote.TheVariants.{Passed, Refused}
+use Rattle.link_verdicts.specs.declared.note.RefusedWhy.{RefusedWhy, TheVariants.Trailer}
+use Rattle.std.proofs.Common.{◌≡◌, ◌∙◌, ℕ, zero, suc, ◌+◌, ◌-◌, ◌<◌, ◌≤◌, Bool, true, false, List}
+use Rattle.std.proofs.Common.{[], ◌∷◌, ◌++◌, length, length-append, take, drop, get_or, refl, sym}
+use Rattle.std.proofs.Common.{ap, subst, arith, append_assoc, Option, Some, None, ⊎_elim}
+use Rattle.std.proofs.lemmas.Bool.{cases_Bool, cases_lt}
+use Rattle.std.proofs.lemmas.List.{get_or-drop, take-append-drop}
+use Rattle.yasir_ticks.proofs.{BurstsOfLaws.contiguous-more, SilenceLaws.bytes_in-append}
+use Rattle.yasir_ticks.specs.Bursts.{Burst, bursts, end_of}
+use Rattle.yasir_ticks.specs.{BurstsOf.IsContiguous, Ticks.silent, Ticks.bytes_in}
+use Rattle.yasir_ticks.specs.declared.tick.Tick.{Tick, TheVariants.Silent, TheVariants.Byte}
 
 silent-bytes : (n : ℕ) (x : List Tick) → bytes_in (silent n ++ x) ≡ bytes_in x
 silent-bytes zero x = refl

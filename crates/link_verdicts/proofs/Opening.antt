@@ -1,48 +1,34 @@
 -- One more tick where a verdict is open before it or after it.
-use Rattle.std.proofs.Common.{◌≡◌, ◌∙◌, ℕ, zero, suc, ◌+◌, ◌-◌, ◌<◌, ◌≤◌, Bool, true, false, List}
-use Rattle.std.proofs.Common.{[], ◌∷◌}
-use Rattle.std.proofs.Common.{◌++◌, length, length-append, take, drop, get_or, replicate, refl, sym}
-use Rattle.std.proofs.Common.{ap, arith, subst, ⊎_elim}
-use Rattle.std.proofs.Common.{Option, Some, None}
-use Rattle.std.proofs.lemmas.Bool.{cases_lt}
-use Rattle.std.proofs.lemmas.List.{append-nil, length-drop, length-take, get_or-drop}
-use Rattle.std.proofs.lemmas.List.{length-replicate}
-use Rattle.yasir_ticks.specs.Ticks.{silent, bytes_in}
-use Rattle.yasir_ticks.specs.Bursts.{Burst, bursts}
-use Rattle.yasir_ticks.specs.BurstsOf.{IsContiguous}
-use Rattle.yasir_ticks.specs.declared.tick.Tick.{Tick}
-use Rattle.yasir_ticks.specs.declared.tick.Tick.TheVariants.{Silent, Byte}
-use Rattle.line_rules.specs.Rules.{Rules, left_of}
-use Rattle.line_rules.specs.RulesLaws.{IsHeaded}
-use Rattle.line_rules.specs.declared.line_rules.LineRules.{Ghosts as LineRules}
-use Rattle.frame_ending.specs.LiveBytes.{before_pause, up_to_byte, spelled, live_bytes, live_ticks}
-use Rattle.frame_ending.specs.LiveBytes.{live_end}
-use Rattle.frame_ending.proofs.LiveTicks.{live_ticks-bytes, live_ticks-contiguous}
-use Rattle.frame_ending.proofs.Pauses.{contiguous-ends}
-use Rattle.burst_walk.specs.Laid.{tick_at}
-use Rattle.burst_walk.specs.HasCome.{HasCome}
 use Rattle.burst_walk.proofs.Emissions.{tick_at-none, tick_at-before, tick_at-from}
+use Rattle.burst_walk.specs.{HasCome.HasCome, Laid.tick_at}
+use Rattle.frame_ending.proofs.LiveTicks.{live_ticks-bytes, live_ticks-contiguous}
+use Rattle.frame_ending.{proofs.Pauses.contiguous-ends, specs.LiveBytes.before_pause}
+use Rattle.frame_ending.specs.LiveBytes.{up_to_byte, spelled, live_bytes, live_ticks, live_end}
+use Rattle.line_rules.specs.Rules.{Rules, left_of}
+use Rattle.line_rules.specs.{RulesLaws.IsHeaded, declared.line_rules.LineRules.Ghosts as LineRules}
 use Rattle.link_format.specs.Profile.{Profile, delay}
-use Rattle.link_verdicts.specs.Verdicts.{CheckState, Verdict, checked}
-use Rattle.link_verdicts.specs.Verdicts.Verdict.{passed_with, refused}
-use Rattle.link_verdicts.specs.Emissions.{spoiled, owed, filled_ticks, delayed, emission_by}
+use Rattle.link_verdicts.proofs.Causality.{emission-dark, emission-shown}
+use Rattle.link_verdicts.proofs.{HeadTicks.short-pause, Judging.IsJudged}
+use Rattle.link_verdicts.proofs.Judging.{judged-verdict, checked-good, tick-short, tick-good}
+use Rattle.link_verdicts.proofs.Leavings.{leaves-none, fill_out-zero, leaves-silent, leaves-byte}
+use Rattle.link_verdicts.proofs.Leavings.{leaves-passed, leaves-spoiled, leaves-drop, leaves-behind}
+use Rattle.link_verdicts.proofs.{Past.past, Past.judged-late, Past.length-spoiled, Resting.goes-at}
+use Rattle.link_verdicts.proofs.Resting.{noted-come, noted-answers, still-come, still-answers}
 use Rattle.link_verdicts.specs.Checking.{checker, at_floor, note_tick}
+use Rattle.link_verdicts.specs.Emissions.{spoiled, owed, filled_ticks, delayed, emission_by}
+use Rattle.link_verdicts.specs.{Going.Goes, Holding.Opens, Holding.Rests, Holding.as_it_came}
+use Rattle.link_verdicts.specs.{Leaving.leaves, Timely.IsTimely, Verdicts.CheckState}
+use Rattle.link_verdicts.specs.Verdicts.{Verdict, checked, Verdict.passed_with, Verdict.refused}
 use Rattle.link_verdicts.specs.declared.note.CheckNote.TheVariants.{Passed, Refused}
 use Rattle.link_verdicts.specs.declared.note.RefusedWhy.{RefusedWhy}
-use Rattle.link_verdicts.proofs.HeadTicks.{short-pause}
-use Rattle.link_verdicts.proofs.Judging.{IsJudged, judged-verdict, checked-good, tick-short}
-use Rattle.link_verdicts.proofs.Judging.{tick-good}
-use Rattle.link_verdicts.specs.Timely.{IsTimely}
-use Rattle.link_verdicts.proofs.Causality.{emission-dark, emission-shown}
-use Rattle.link_verdicts.specs.Leaving.{leaves}
-use Rattle.link_verdicts.specs.Holding.{Opens, Rests, as_it_came}
-use Rattle.link_verdicts.specs.Going.{Goes}
-use Rattle.link_verdicts.proofs.Leavings.{leaves-none, fill_out-zero, leaves-silent, leaves-byte}
-use Rattle.link_verdicts.proofs.Leavings.{leaves-passed}
-use Rattle.link_verdicts.proofs.Leavings.{leaves-spoiled, leaves-drop, leaves-behind}
-use Rattle.link_verdicts.proofs.Past.{past, judged-late, length-spoiled}
-use Rattle.link_verdicts.proofs.Resting.{goes-at, noted-come, noted-answers, still-come}
-use Rattle.link_verdicts.proofs.Resting.{still-answers}
+use Rattle.std.proofs.Common.{◌≡◌, ◌∙◌, ℕ, zero, suc, ◌+◌, ◌-◌, ◌<◌, ◌≤◌, Bool, true, false, List}
+use Rattle.std.proofs.Common.{[], ◌∷◌, ◌++◌, length, length-append, take, drop, get_or, replicate}
+use Rattle.std.proofs.Common.{refl, sym, ap, arith, subst, ⊎_elim, Option, Some, None}
+use Rattle.std.proofs.lemmas.{Bool.cases_lt, List.append-nil}
+use Rattle.std.proofs.lemmas.List.{length-drop, length-take, get_or-drop, length-replicate}
+use Rattle.yasir_ticks.specs.Bursts.{Burst, bursts}
+use Rattle.yasir_ticks.specs.{BurstsOf.IsContiguous, Ticks.silent, Ticks.bytes_in}
+use Rattle.yasir_ticks.specs.declared.tick.Tick.{Tick, TheVariants.Silent, TheVariants.Byte}
 
 -- ---- silence in front
 

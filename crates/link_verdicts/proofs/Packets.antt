@@ -1,34 +1,25 @@
 -- A whole packet passes.
-use Rattle.std.proofs.Common.{◌≡◌, ◌∙◌, ℕ, zero, suc, ◌+◌, ◌*◌, ◌/◌, ◌%◌, ◌<◌, ◌≤◌, nat_le}
-use Rattle.std.proofs.Common.{true, false, List, [], ◌∷◌, ◌++◌, length, map, take, drop, replicate}
-use Rattle.std.proofs.Common.{refl, sym, ap, arith, ⊎_elim, Some, None, length-append}
-use Rattle.std.proofs.Common.{append_assoc, cond}
-use Rattle.std.specs.Int.{bytes_high_first}
-use Rattle.std.proofs.lemmas.Bool.{cases_Bool, cases_lt, cond-true, le-leb}
-use Rattle.std.proofs.lemmas.List.{drop-take, take-append-drop}
-use Rattle.std.proofs.Math.Nat.{mod-lt, mod-add-div', mul-le-mul_right, one-le-pow}
-use Rattle.std.proofs.Math.Seq.{drop-append_seam}
-use Rattle.yasir_ticks.specs.Ticks.{bytes_in, silent}
-use Rattle.yasir_ticks.specs.Bursts.{Burst}
-use Rattle.yasir_ticks.specs.declared.tick.Tick.{Tick}
-use Rattle.yasir_ticks.specs.declared.tick.Tick.TheVariants.{Byte}
-use Rattle.line_rules.specs.Rules.{Rules, head_of}
-use Rattle.line_rules.specs.RulesLaws.{IsFramed}
-use Rattle.line_rules.specs.declared.head.Head.TheVariants.{Short, Good, Bad}
 use Rattle.frame_ending.specs.LiveBytes.{live_bytes}
-use Rattle.link_format.specs.Profile.{Profile, HasTags, pause_len, trailer_len, trailer_shape}
-use Rattle.link_format.specs.Profile.{trailer}
-use Rattle.link_format.specs.Profile.{words}
+use Rattle.line_rules.specs.{Rules.Rules, Rules.head_of, RulesLaws.IsFramed}
+use Rattle.line_rules.specs.declared.head.Head.TheVariants.{Short, Good, Bad}
 use Rattle.link_format.proofs.Profiles.{length-trailer, word_of-trailer}
-use Rattle.sequence_journal.specs.Numbers.{IsLeastWith, least_with, full_of}
-use Rattle.sequence_journal.proofs.NumberLaws.{whole-more, least-is}
-use Rattle.link_verdicts.specs.Shapes.{kept}
+use Rattle.link_format.specs.Profile.{Profile, HasTags, pause_len, trailer_len, trailer_shape}
+use Rattle.link_format.specs.Profile.{trailer, words}
+use Rattle.link_verdicts.proofs.{Judging.head-short, Judging.head-bad, Passing.passing-passes}
+use Rattle.link_verdicts.specs.{Packet.IsPacket, Shapes.kept}
 use Rattle.link_verdicts.specs.Verdicts.{CheckState, after_live, kept_after, trailer_of, number_of}
-use Rattle.link_verdicts.specs.Verdicts.{tag_in, checked}
-use Rattle.link_verdicts.specs.Verdicts.Verdict.{passed_with}
-use Rattle.link_verdicts.specs.Packet.{IsPacket}
-use Rattle.link_verdicts.proofs.Judging.{head-short, head-bad}
-use Rattle.link_verdicts.proofs.Passing.{passing-passes}
+use Rattle.link_verdicts.specs.Verdicts.{tag_in, checked, Verdict.passed_with}
+use Rattle.sequence_journal.proofs.NumberLaws.{whole-more, least-is}
+use Rattle.sequence_journal.specs.Numbers.{IsLeastWith, least_with, full_of}
+use Rattle.std.proofs.Common.{◌≡◌, ◌∙◌, ℕ, zero, suc, ◌+◌, ◌*◌, ◌/◌, ◌%◌, ◌<◌, ◌≤◌, nat_le, true}
+use Rattle.std.proofs.Common.{false, List, [], ◌∷◌, ◌++◌, length, map, take, drop, replicate, refl}
+use Rattle.std.proofs.Common.{sym, ap, arith, ⊎_elim, Some, None, length-append, append_assoc, cond}
+use Rattle.std.proofs.Math.Nat.{mod-lt, mod-add-div', mul-le-mul_right, one-le-pow}
+use Rattle.std.proofs.{Math.Seq.drop-append_seam, lemmas.Bool.cases_Bool, lemmas.Bool.cases_lt}
+use Rattle.std.proofs.lemmas.{Bool.cond-true, Bool.le-leb, List.drop-take, List.take-append-drop}
+use Rattle.std.specs.Int.{bytes_high_first}
+use Rattle.yasir_ticks.specs.{Bursts.Burst, Ticks.bytes_in, Ticks.silent}
+use Rattle.yasir_ticks.specs.declared.tick.Tick.{Tick, TheVariants.Byte}
 
 -- ---- ticks that begin with a pause and a trailer
 

@@ -1,22 +1,19 @@
 -- When a burst of the link passes.
-use Rattle.std.proofs.Common.{◌≡◌, ◌∙◌, ℕ, ◌+◌, ◌<◌, ◌≤◌, nat_le, Bool, true, false, cond, List}
-use Rattle.std.proofs.Common.{length, take, refl, sym, ap, arith, ⊎_elim, Option, Some, None}
-use Rattle.std.proofs.Common.{bytes_eq}
-use Rattle.std.proofs.lemmas.Bool.{cases_lt, cases_Bool, cond-true, leb-true}
-use Rattle.std.proofs.lemmas.Slice.Eq.{bytes_eq-Decides}
-use Rattle.yasir_ticks.specs.Bursts.{Burst}
-use Rattle.line_rules.specs.Rules.{Rules}
-use Rattle.frame_ending.specs.LiveBytes.{live_bytes}
+use Rattle.{frame_ending.specs.LiveBytes.live_bytes, line_rules.specs.Rules.Rules}
 use Rattle.link_format.specs.Profile.{Profile, pause_len, trailer_len, words, word_of}
-use Rattle.sequence_journal.specs.Numbers.{least_with}
+use Rattle.link_verdicts.proofs.Judging.{checked-busy, checked-short, checked-bad, checked-good}
+use Rattle.link_verdicts.proofs.Judging.{verdict-cut, verdict-whole}
 use Rattle.link_verdicts.specs.Verdicts.{CheckState, Verdict, kept_after, trailer_of, number_of}
 use Rattle.link_verdicts.specs.Verdicts.{tag_in, verdict_by_number, checked}
 use Rattle.link_verdicts.specs.Verdicts.Verdict.{passed_with, refused, dropped}
-use Rattle.link_verdicts.specs.declared.note.RefusedWhy.TheVariants.{Trailer, Form, Tag}
 use Rattle.link_verdicts.specs.declared.note.DroppedWhy.{DroppedWhy}
 use Rattle.link_verdicts.specs.declared.note.DroppedWhy.TheVariants.{Busy, Head as NoHead}
-use Rattle.link_verdicts.proofs.Judging.{checked-busy, checked-short, checked-bad, checked-good}
-use Rattle.link_verdicts.proofs.Judging.{verdict-cut, verdict-whole}
+use Rattle.link_verdicts.specs.declared.note.RefusedWhy.TheVariants.{Trailer, Form, Tag}
+use Rattle.{sequence_journal.specs.Numbers.least_with, std.proofs.Common.◌≡◌}
+use Rattle.std.proofs.Common.{◌∙◌, ℕ, ◌+◌, ◌<◌, ◌≤◌, nat_le, Bool, true, false, cond, List, length}
+use Rattle.std.proofs.Common.{take, refl, sym, ap, arith, ⊎_elim, Option, Some, None, bytes_eq}
+use Rattle.std.proofs.lemmas.Bool.{cases_lt, cases_Bool, cond-true, leb-true}
+use Rattle.{std.proofs.lemmas.Slice.Eq.bytes_eq-Decides, yasir_ticks.specs.Bursts.Burst}
 
 -- A burst passes with a number: it starts late enough, with a good header; its live bytes are a
 -- frame; a whole trailer follows, whose word stands for the number, and whose tag is theirs.

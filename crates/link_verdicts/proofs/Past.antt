@@ -1,22 +1,18 @@
 -- What bursts emit that are noted has left before another one may leave.
+use Rattle.burst_walk.specs.{Laid.tick_at, Walk.emitted, Walk.state_after}
+use Rattle.{frame_ending.specs.LiveBytes.live_ticks, line_rules.specs.Rules.Rules}
+use Rattle.link_format.specs.Profile.{Profile}
+use Rattle.link_verdicts.proofs.Judging.{IsJudged, checked-busy}
+use Rattle.link_verdicts.specs.Checking.{state_by, checker}
+use Rattle.link_verdicts.specs.Emissions.{spoiled, owed, filled_ticks, delayed, emission_by}
+use Rattle.link_verdicts.specs.Verdicts.{CheckState, Verdict, checked}
+use Rattle.link_verdicts.specs.Verdicts.Verdict.{passed_with, refused, dropped}
 use Rattle.std.proofs.Common.{◌≡◌, ◌∙◌, ◌&&◌, ℕ, suc, ◌≤◌, nat_le, nat_lt, false, List, [], ◌∷◌}
 use Rattle.std.proofs.Common.{◌++◌, length, length-append, replicate, refl, ap, arith, append_assoc}
 use Rattle.std.proofs.Common.{⊎_elim, subst}
-use Rattle.std.proofs.lemmas.Bool.{cases_lt}
-use Rattle.std.proofs.lemmas.List.{length-replicate}
+use Rattle.std.proofs.lemmas.{Bool.cases_lt, List.length-replicate}
 use Rattle.yasir_ticks.specs.Bursts.{Burst, end_of}
-use Rattle.yasir_ticks.specs.declared.tick.Tick.{Tick}
-use Rattle.yasir_ticks.specs.declared.tick.Tick.TheVariants.{Silent, Byte}
-use Rattle.line_rules.specs.Rules.{Rules}
-use Rattle.frame_ending.specs.LiveBytes.{live_ticks}
-use Rattle.burst_walk.specs.Laid.{tick_at}
-use Rattle.burst_walk.specs.Walk.{emitted, state_after}
-use Rattle.link_format.specs.Profile.{Profile}
-use Rattle.link_verdicts.specs.Verdicts.{CheckState, Verdict, checked}
-use Rattle.link_verdicts.specs.Verdicts.Verdict.{passed_with, refused, dropped}
-use Rattle.link_verdicts.specs.Emissions.{spoiled, owed, filled_ticks, delayed, emission_by}
-use Rattle.link_verdicts.specs.Checking.{state_by, checker}
-use Rattle.link_verdicts.proofs.Judging.{IsJudged, checked-busy}
+use Rattle.yasir_ticks.specs.declared.tick.Tick.{Tick, TheVariants.Silent, TheVariants.Byte}
 
 pub length-spoiled : (rules : Rules) (h : List ℕ) (x : List Tick)
     → length (spoiled rules h x) ≡ length x

@@ -1,38 +1,24 @@
 -- One more tick where no verdict is open after it, or none falls.
-use Rattle.std.proofs.Common.{◌≡◌, ◌∙◌, ℕ, ◌+◌, ◌-◌, ◌<◌, ◌≤◌, Bool, false, List, []}
-use Rattle.std.proofs.Common.{◌∷◌, ◌++◌, length, drop, get_or, sym, ap, arith, subst}
-use Rattle.std.proofs.Common.{Option, Some, None, IfSome}
-use Rattle.std.proofs.lemmas.List.{append-nil, length-drop, get_or-drop}
-use Rattle.yasir_ticks.specs.Ticks.{bytes_in}
-use Rattle.yasir_ticks.specs.Bursts.{Burst, bursts}
-use Rattle.yasir_ticks.specs.declared.tick.Tick.{Tick}
-use Rattle.yasir_ticks.specs.declared.tick.Tick.TheVariants.{Silent}
-use Rattle.line_rules.specs.Rules.{Rules}
-use Rattle.line_rules.specs.declared.line_rules.LineRules.{Ghosts as LineRules}
-use Rattle.frame_ending.proofs.Dividing.{longer-line}
-use Rattle.spoiler.specs.declared.outlet.Outlet.{Outlet}
-use Rattle.spoiler.specs.Outlet.{Refuses, owed_by}
-use Rattle.burst_walk.specs.Laid.{tick_at}
-use Rattle.burst_walk.specs.Walk.{Walker, walked, emitted}
-use Rattle.burst_walk.specs.Causal.{IsCausal}
-use Rattle.burst_walk.specs.HasCome.{HasCome, waiting_part}
-use Rattle.burst_walk.specs.Answers.{told_notes, note_in}
 use Rattle.burst_walk.proofs.Coming.{come-waits, come-noted, note-now, note-later, answers-step}
-use Rattle.link_format.specs.Profile.{Profile}
-use Rattle.link_verdicts.specs.Verdicts.{CheckState, Verdict, checked}
-use Rattle.link_verdicts.specs.Verdicts.Verdict.{dropped}
-use Rattle.link_verdicts.specs.Emissions.{emission_by}
-use Rattle.link_verdicts.specs.Checking.{FullNote, checker, at_floor, state_by, note_by, note_tick}
-use Rattle.link_verdicts.specs.Checking.{brief_note}
-use Rattle.link_verdicts.specs.declared.note.CheckNote.{CheckNote}
-use Rattle.link_verdicts.specs.declared.note.CheckNote.TheVariants.{Dropped}
+use Rattle.burst_walk.specs.{Answers.told_notes, Answers.note_in, Causal.IsCausal, HasCome.HasCome}
+use Rattle.burst_walk.specs.{HasCome.waiting_part, Laid.tick_at, Walk.Walker, Walk.walked}
+use Rattle.{burst_walk.specs.Walk.emitted, frame_ending.proofs.Dividing.longer-line}
+use Rattle.line_rules.specs.{Rules.Rules, declared.line_rules.LineRules.Ghosts as LineRules}
+use Rattle.{link_format.specs.Profile.Profile, link_verdicts.proofs.Causality.checker-causal}
+use Rattle.link_verdicts.{proofs.Flow.Flows, specs.Checking.FullNote, specs.Checking.checker}
+use Rattle.link_verdicts.specs.Checking.{at_floor, state_by, note_by, note_tick, brief_note}
+use Rattle.link_verdicts.specs.{Emissions.emission_by, Going.Answers, Going.Goes, Holding.HasWalked}
+use Rattle.link_verdicts.specs.{Holding.Rests, Leaving.leaves, Timely.IsTimely}
+use Rattle.link_verdicts.specs.Verdicts.{CheckState, Verdict, checked, Verdict.dropped}
+use Rattle.link_verdicts.specs.declared.note.CheckNote.{CheckNote, TheVariants.Dropped}
 use Rattle.link_verdicts.specs.declared.note.DroppedWhy.{DroppedWhy}
-use Rattle.link_verdicts.specs.Timely.{IsTimely}
-use Rattle.link_verdicts.proofs.Causality.{checker-causal}
-use Rattle.link_verdicts.specs.Holding.{HasWalked, Rests}
-use Rattle.link_verdicts.specs.Going.{Answers, Goes}
-use Rattle.link_verdicts.specs.Leaving.{leaves}
-use Rattle.link_verdicts.proofs.Flow.{Flows}
+use Rattle.spoiler.specs.{Outlet.Refuses, Outlet.owed_by, declared.outlet.Outlet.Outlet}
+use Rattle.std.proofs.Common.{◌≡◌, ◌∙◌, ℕ, ◌+◌, ◌-◌, ◌<◌, ◌≤◌, Bool, false, List, [], ◌∷◌, ◌++◌}
+use Rattle.std.proofs.Common.{length, drop, get_or, sym, ap, arith, subst, Option, Some, None}
+use Rattle.std.proofs.Common.{IfSome}
+use Rattle.std.proofs.lemmas.List.{append-nil, length-drop, get_or-drop}
+use Rattle.yasir_ticks.specs.{Bursts.Burst, Bursts.bursts, Ticks.bytes_in}
+use Rattle.yasir_ticks.specs.declared.tick.Tick.{Tick, TheVariants.Silent}
 
 module _ {R : Type 0} (proto : LineRules R) (m earliest : ℕ) (emissions : List Burst)
     (passes : Bool) (left : List ℕ) (live : List Tick) (owed : ℕ) (old new : Outlet R)

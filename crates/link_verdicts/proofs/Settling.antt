@@ -1,38 +1,30 @@
 -- A burst that goes on after its note keeps its verdict.
-use Rattle.std.proofs.Common.{◌≡◌, ◌∙◌, ℕ, ◌+◌, ◌-◌, ◌<◌, ◌≤◌, nat_le, ◌||◌, Bool, true, false}
-use Rattle.std.proofs.Common.{List}
-use Rattle.std.proofs.Common.{[], ◌∷◌, ◌++◌, length, take, drop, min, sym, ap, subst, arith}
-use Rattle.std.proofs.Common.{⊎_elim, length-append}
-use Rattle.std.proofs.lemmas.Bool.{cases_Bool, cases_lt, or_parts, or_cases, eqb-true, ne_eqb}
-use Rattle.std.proofs.lemmas.Bool.{leb-false}
-use Rattle.std.proofs.lemmas.List.{drop-append-le, take-append-le, length-drop}
-use Rattle.std.proofs.Math.Seq.{drop-length}
-use Rattle.yasir_ticks.specs.Ticks.{bytes_in, silent}
-use Rattle.yasir_ticks.specs.Bursts.{Burst, end_of}
-use Rattle.yasir_ticks.specs.declared.tick.Tick.{Tick}
-use Rattle.yasir_ticks.specs.declared.tick.Tick.TheVariants.{Byte}
-use Rattle.line_rules.specs.Rules.{Rules, fills_room}
-use Rattle.line_rules.specs.RulesLaws.{IsLawful, IsHeaded}
-use Rattle.frame_ending.specs.LiveBytes.{before_pause, has_pause, up_to_byte, live_bytes}
-use Rattle.frame_ending.specs.LiveBytes.{live_ticks, live_end}
-use Rattle.frame_ending.proofs.LastBurst.{IsWithin}
-use Rattle.frame_ending.proofs.Pauses.{contiguous-ends, before_pause-whole, up_to_byte-append}
-use Rattle.frame_ending.proofs.Pauses.{up_to_byte-le}
-use Rattle.frame_ending.proofs.BurstSteps.{spelled-paused, spelled-open, live-le, live-over}
-use Rattle.frame_ending.proofs.BurstSteps.{live-more}
-use Rattle.frame_ending.proofs.BurstSteps.{end-more, longer-end, later}
-use Rattle.frame_ending.proofs.LiveTicks.{live_ticks-over, live_ticks-open}
 use Rattle.burst_walk.specs.Causal.{MayGoOn, going_on}
+use Rattle.frame_ending.proofs.BurstSteps.{spelled-paused, spelled-open, live-le, live-over}
+use Rattle.frame_ending.proofs.BurstSteps.{live-more, end-more, longer-end, later}
+use Rattle.frame_ending.proofs.LastBurst.{IsWithin}
+use Rattle.frame_ending.proofs.LiveTicks.{live_ticks-over, live_ticks-open}
+use Rattle.frame_ending.proofs.Pauses.{contiguous-ends, before_pause-whole, up_to_byte-append}
+use Rattle.frame_ending.{proofs.Pauses.up_to_byte-le, specs.LiveBytes.before_pause}
+use Rattle.frame_ending.specs.LiveBytes.{has_pause, up_to_byte, live_bytes, live_ticks, live_end}
+use Rattle.line_rules.specs.{Rules.Rules, Rules.fills_room, RulesLaws.IsLawful, RulesLaws.IsHeaded}
 use Rattle.link_format.specs.Profile.{Profile, pause_len, trailer_len, trailer_shape}
-use Rattle.link_verdicts.specs.Shapes.{kept}
-use Rattle.link_verdicts.specs.Verdicts.{CheckState, after_live, kept_after, trailer_of, verdict_of}
-use Rattle.link_verdicts.specs.Verdicts.{whole_verdict, checked}
-use Rattle.link_verdicts.specs.Checking.{trailer_tick, checker}
-use Rattle.link_verdicts.proofs.Keeping.{kept-le, kept-within, kept-broken, kept-over, kept-so_far}
-use Rattle.link_verdicts.proofs.Keeping.{kept-silence, length-shape, whole-stays}
 use Rattle.link_verdicts.proofs.Judging.{IsJudged, checked-busy, checked-short, checked-bad}
 use Rattle.link_verdicts.proofs.Judging.{checked-good, verdict-cut, verdict-whole, tick-busy}
 use Rattle.link_verdicts.proofs.Judging.{tick-short, tick-bad, tick-good}
+use Rattle.link_verdicts.proofs.Keeping.{kept-le, kept-within, kept-broken, kept-over, kept-so_far}
+use Rattle.link_verdicts.proofs.Keeping.{kept-silence, length-shape, whole-stays}
+use Rattle.link_verdicts.specs.{Checking.trailer_tick, Checking.checker, Shapes.kept}
+use Rattle.link_verdicts.specs.Verdicts.{CheckState, after_live, kept_after, trailer_of, verdict_of}
+use Rattle.link_verdicts.specs.Verdicts.{whole_verdict, checked}
+use Rattle.std.proofs.Common.{◌≡◌, ◌∙◌, ℕ, ◌+◌, ◌-◌, ◌<◌, ◌≤◌, nat_le, ◌||◌, Bool, true, false}
+use Rattle.std.proofs.Common.{List, [], ◌∷◌, ◌++◌, length, take, drop, min, sym, ap, subst, arith}
+use Rattle.std.proofs.Common.{⊎_elim, length-append}
+use Rattle.std.proofs.{Math.Seq.drop-length, lemmas.Bool.cases_Bool}
+use Rattle.std.proofs.lemmas.Bool.{cases_lt, or_parts, or_cases, eqb-true, ne_eqb, leb-false}
+use Rattle.std.proofs.lemmas.List.{drop-append-le, take-append-le, length-drop}
+use Rattle.yasir_ticks.specs.{Bursts.Burst, Bursts.end_of, Ticks.bytes_in, Ticks.silent}
+use Rattle.yasir_ticks.specs.declared.tick.Tick.{Tick, TheVariants.Byte}
 
 -- two bursts that begin so have the same verdict at the same tick, and where they leave the same
 -- live ticks

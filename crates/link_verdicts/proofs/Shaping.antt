@@ -1,11 +1,10 @@
 -- How ticks keep the shape of a pause and a trailer as they come.
+use Rattle.frame_ending.specs.LiveBytes.{before_pause, has_pause}
+use Rattle.link_verdicts.specs.Shapes.{kept}
 use Rattle.std.proofs.Common.{◌≡◌, ℕ, zero, suc, ◌+◌, ◌<◌, ◌≤◌, Bool, true, false, List, [], ◌∷◌}
 use Rattle.std.proofs.Common.{◌++◌, length, replicate, refl, arith}
 use Rattle.yasir_ticks.specs.Ticks.{silent}
-use Rattle.yasir_ticks.specs.declared.tick.Tick.{Tick}
-use Rattle.yasir_ticks.specs.declared.tick.Tick.TheVariants.{Silent, Byte}
-use Rattle.frame_ending.specs.LiveBytes.{before_pause, has_pause}
-use Rattle.link_verdicts.specs.Shapes.{kept}
+use Rattle.yasir_ticks.specs.declared.tick.Tick.{Tick, TheVariants.Silent, TheVariants.Byte}
 
 -- the shape of j silent ticks and n bytes
 abbrev pub shape : ℕ → ℕ → List Bool

@@ -1,24 +1,16 @@
 -- Ticks that are filled up or spoiled stay contiguous; spoiled ones are no frame, and differ in the
 -- last byte alone.
-use Rattle.std.proofs.Common.{◌≡◌, ◌∙◌, ℕ, zero, suc, ◌+◌, ◌<◌, ◌≤◌, false, List, [], ◌∷◌, ◌++◌}
-use Rattle.std.proofs.Common.{length}
-use Rattle.std.proofs.Common.{replicate, refl, sym, ap, subst, arith, append_assoc}
-use Rattle.std.proofs.Common.{length-append}
-use Rattle.std.proofs.lemmas.List.{append-nil, length-replicate}
-use Rattle.yasir_ticks.specs.Ticks.{bytes_in, silent}
-use Rattle.yasir_ticks.specs.Bursts.{Burst}
-use Rattle.yasir_ticks.specs.BurstsOf.{IsContiguous, one, more}
-use Rattle.yasir_ticks.specs.declared.tick.Tick.{Tick}
-use Rattle.yasir_ticks.specs.declared.tick.Tick.TheVariants.{Silent, Byte}
-use Rattle.yasir_ticks.proofs.BurstsOfLaws.{contiguous-more}
-use Rattle.yasir_ticks.proofs.SilenceLaws.{bytes_in-append}
-use Rattle.line_rules.specs.Rules.{Rules}
-use Rattle.line_rules.specs.RulesLaws.{IsLawful}
-use Rattle.line_rules.specs.Spoiling.{IsSpoiling}
-use Rattle.frame_ending.specs.LiveBytes.{live_ticks}
-use Rattle.frame_ending.proofs.Pauses.{ended, contiguous-ends}
-use Rattle.frame_ending.proofs.LiveTicks.{live_ticks-contiguous}
+use Rattle.frame_ending.proofs.{LiveTicks.live_ticks-contiguous, Pauses.ended}
+use Rattle.frame_ending.{proofs.Pauses.contiguous-ends, specs.LiveBytes.live_ticks}
+use Rattle.line_rules.specs.{Rules.Rules, RulesLaws.IsLawful, Spoiling.IsSpoiling}
 use Rattle.link_verdicts.specs.Emissions.{spoiled, owed, filled_ticks}
+use Rattle.std.proofs.Common.{◌≡◌, ◌∙◌, ℕ, zero, suc, ◌+◌, ◌<◌, ◌≤◌, false, List, [], ◌∷◌, ◌++◌}
+use Rattle.std.proofs.Common.{length, replicate, refl, sym, ap, subst, arith, append_assoc}
+use Rattle.std.proofs.{Common.length-append, lemmas.List.append-nil, lemmas.List.length-replicate}
+use Rattle.yasir_ticks.proofs.{BurstsOfLaws.contiguous-more, SilenceLaws.bytes_in-append}
+use Rattle.yasir_ticks.specs.{Bursts.Burst, BurstsOf.IsContiguous, BurstsOf.one, BurstsOf.more}
+use Rattle.yasir_ticks.specs.Ticks.{bytes_in, silent}
+use Rattle.yasir_ticks.specs.declared.tick.Tick.{Tick, TheVariants.Silent, TheVariants.Byte}
 
 -- ---- contiguous ticks
 

@@ -1,14 +1,11 @@
 -- The bytes of a trailer among the ticks behind the live ones.
+use Rattle.link_verdicts.{proofs.Shaping.shape, specs.Shapes.kept}
 use Rattle.std.proofs.Common.{◌≡◌, ◌∙◌, ℕ, zero, suc, ◌+◌, ◌-◌, ◌≤◌, true, List, [], ◌∷◌, ◌++◌}
-use Rattle.std.proofs.Common.{length}
-use Rattle.std.proofs.Common.{drop, replicate, refl, ap, arith}
+use Rattle.std.proofs.Common.{length, drop, replicate, refl, ap, arith}
 use Rattle.std.proofs.Math.Seq.{drop-nil}
-use Rattle.yasir_ticks.specs.Ticks.{silent, bytes_in}
-use Rattle.yasir_ticks.specs.declared.tick.Tick.{Tick}
-use Rattle.yasir_ticks.specs.declared.tick.Tick.TheVariants.{Silent, Byte}
 use Rattle.yasir_ticks.proofs.SilenceLaws.{bytes_in-append, bytes_in-silent}
-use Rattle.link_verdicts.specs.Shapes.{kept}
-use Rattle.link_verdicts.proofs.Shaping.{shape}
+use Rattle.yasir_ticks.specs.Ticks.{silent, bytes_in}
+use Rattle.yasir_ticks.specs.declared.tick.Tick.{Tick, TheVariants.Silent, TheVariants.Byte}
 
 bytes-all : (n : ℕ) (x : List Tick) → length x ≤ kept (replicate n true) x
     → length (bytes_in x) ≡ length x

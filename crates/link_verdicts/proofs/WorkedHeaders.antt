@@ -1,24 +1,20 @@
 -- The definitions of the receiver on small links of a protocol with headers: a frame is 5, its
 -- size, and bytes up to a last one of 0.
-use Rattle.std.proofs.Common.{◌≡◌, ℕ, ◌==◌, ◌&&◌, ◌-◌, nat_le, Bool, List, [], ◌∷◌, ◌++◌, length}
-use Rattle.std.proofs.Common.{get_or, cond, refl}
-use Rattle.yasir_ticks.specs.Ticks.{silent}
-use Rattle.yasir_ticks.specs.Bursts.{bursts_from, with_byte}
-use Rattle.yasir_ticks.specs.declared.tick.Tick.{Tick}
-use Rattle.line_rules.specs.Rules.{Rules}
-use Rattle.line_rules.specs.Spoiling.{spoil_by}
-use Rattle.frame_ending.specs.LiveBytes.{before_pause, up_to_byte}
-use Rattle.burst_walk.specs.Laid.{tick_at}
 use Rattle.burst_walk.proofs.Rows.{Row, row, noted_at, AreNotes, AreOthers}
-use Rattle.link_format.specs.Profile.{Profile}
-use Rattle.link_format.proofs.Worked.{on_line}
-use Rattle.link_verdicts.specs.Shapes.{kept}
-use Rattle.link_verdicts.specs.Verdicts.{verdict_of, checked}
-use Rattle.link_verdicts.specs.Emissions.{spoiled}
+use Rattle.burst_walk.specs.Laid.{tick_at}
+use Rattle.frame_ending.specs.LiveBytes.{before_pause, up_to_byte}
+use Rattle.line_rules.specs.{Rules.Rules, Spoiling.spoil_by}
+use Rattle.link_format.{proofs.Worked.on_line, specs.Profile.Profile}
 use Rattle.link_verdicts.specs.Checking.{FullNote, check_notes, received_line}
 use Rattle.link_verdicts.specs.Checking.FullNote.{passed_note, refused_note, dropped_note}
-use Rattle.link_verdicts.specs.declared.note.RefusedWhy.TheVariants.{Trailer, Form, Tag}
+use Rattle.link_verdicts.specs.{Emissions.spoiled, Shapes.kept}
+use Rattle.link_verdicts.specs.Verdicts.{verdict_of, checked}
 use Rattle.link_verdicts.specs.declared.note.DroppedWhy.TheVariants.{Busy, Head}
+use Rattle.link_verdicts.specs.declared.note.RefusedWhy.TheVariants.{Trailer, Form, Tag}
+use Rattle.std.proofs.Common.{◌≡◌, ℕ, ◌==◌, ◌&&◌, ◌-◌, nat_le, Bool, List, [], ◌∷◌, ◌++◌, length}
+use Rattle.std.proofs.Common.{get_or, cond, refl}
+use Rattle.yasir_ticks.specs.Bursts.{bursts_from, with_byte}
+use Rattle.yasir_ticks.specs.{Ticks.silent, declared.tick.Tick.Tick}
 
 abbrev is_header : List ℕ → Bool
 is_header x = nat_le 2 (length x) && get_or x 0 0 == 5 && nat_le 3 (get_or x 1 0)

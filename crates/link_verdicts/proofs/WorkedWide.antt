@@ -1,23 +1,20 @@
 -- The definitions of the receiver with words of four bytes and tags of sixteen, on small links of
 -- Modbus RTU frames, with a tag that is in for HMAC.
-use Rattle.std.proofs.Common.{◌≡◌, ℕ, List, [], ◌∷◌, ◌++◌, refl}
-use Rattle.yasir_ticks.specs.Ticks.{silent}
-use Rattle.yasir_ticks.specs.Bursts.{bursts_from, with_byte}
-use Rattle.yasir_ticks.specs.declared.tick.Tick.{Tick}
-use Rattle.line_rules.specs.Crc.{crc, byte_step, bit_steps, bit_step}
-use Rattle.frame_ending.specs.LiveBytes.{before_pause, up_to_byte}
-use Rattle.burst_walk.specs.Laid.{tick_at}
 use Rattle.burst_walk.proofs.Rows.{Row, row, noted_at, AreNotes, AreOthers}
-use Rattle.link_format.specs.Profile.{Profile, trailer}
+use Rattle.burst_walk.specs.Laid.{tick_at}
+use Rattle.frame_ending.specs.LiveBytes.{before_pause, up_to_byte}
+use Rattle.line_rules.specs.Crc.{crc, byte_step, bit_steps, bit_step}
 use Rattle.link_format.proofs.Worked.{rtu, profile_with, on_line, READ_TEN_REGISTERS}
 use Rattle.link_format.proofs.Worked.{SPOILED_REQUEST, READ_ONE_REGISTER}
-use Rattle.link_verdicts.specs.Shapes.{kept}
-use Rattle.link_verdicts.specs.Verdicts.{verdict_of, checked}
-use Rattle.link_verdicts.specs.Emissions.{spoiled}
+use Rattle.link_format.specs.Profile.{Profile, trailer}
 use Rattle.link_verdicts.specs.Checking.{FullNote, check_notes, received_line, passed}
 use Rattle.link_verdicts.specs.Checking.FullNote.{passed_note, refused_note, dropped_note}
+use Rattle.link_verdicts.specs.{Emissions.spoiled, Shapes.kept, Verdicts.verdict_of}
+use Rattle.link_verdicts.specs.{Verdicts.checked, declared.note.DroppedWhy.TheVariants.Busy}
 use Rattle.link_verdicts.specs.declared.note.RefusedWhy.TheVariants.{Trailer, Tag}
-use Rattle.link_verdicts.specs.declared.note.DroppedWhy.TheVariants.{Busy}
+use Rattle.std.proofs.Common.{◌≡◌, ℕ, List, [], ◌∷◌, ◌++◌, refl}
+use Rattle.yasir_ticks.specs.Bursts.{bursts_from, with_byte}
+use Rattle.yasir_ticks.specs.{Ticks.silent, declared.tick.Tick.Tick}
 
 abbrev profile : Profile
 profile = profile_with 4 16

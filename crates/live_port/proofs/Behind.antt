@@ -1,17 +1,14 @@
 -- A text behind whole lines.
-use Rattle.std.proofs.Common.{◌≡◌, ◌∙◌, ℕ, ◌+◌, ◌-◌, List, [], ◌∷◌, ◌++◌, length, Some}
-use Rattle.std.proofs.Common.{refl, ap, sym, subst, arith, append-nil, append_assoc, length-append}
-use Rattle.std.specs.Prelude.{unwrap_or}
-use Rattle.std.specs.List.{flat_map}
-use Rattle.std.proofs.lemmas.Grind.{flat_map-append}
-use Rattle.yasir_ticks.specs.Ticks.{Item, marks_in}
+use Rattle.live_port.specs.{Counted.capped, Lines.AreWholeLines}
+use Rattle.std.proofs.Common.{◌≡◌, ◌∙◌, ℕ, ◌+◌, ◌-◌, List, [], ◌∷◌, ◌++◌, length, Some, refl, ap}
+use Rattle.std.proofs.Common.{sym, subst, arith, append-nil, append_assoc, length-append}
+use Rattle.std.{proofs.lemmas.Grind.flat_map-append, specs.List.flat_map, specs.Prelude.unwrap_or}
+use Rattle.yasir_ticks.proofs.Items.{marks_in-append, all_items_both, all_items_parts}
+use Rattle.yasir_ticks.proofs.Lines.{behind, lines_of-append}
 use Rattle.yasir_ticks.specs.TickText.{Lines, lines_of, line_items, all_items, ended_items}
 use Rattle.yasir_ticks.specs.TickText.{IsTickText, BeginsTickText, IsRefusedAfter, line_after}
 use Rattle.yasir_ticks.specs.TickText.{fault_after, fault_at_end, fault_in_line}
-use Rattle.yasir_ticks.proofs.Lines.{behind, lines_of-append}
-use Rattle.yasir_ticks.proofs.Items.{marks_in-append, all_items_both, all_items_parts}
-use Rattle.live_port.specs.Counted.{capped}
-use Rattle.live_port.specs.Lines.{AreWholeLines}
+use Rattle.yasir_ticks.specs.Ticks.{Item, marks_in}
 
 joins : (l : Lines) (ls : List (List ℕ)) (last : List ℕ) → l.last ≡ []
     → behind l ls last ≡ record { ended = l.ended ++ ls; last = last }

@@ -1,20 +1,16 @@
 -- What calls add to a history, and what is handed on by them.
-use Rattle.std.proofs.Common.{◌≡◌, ◌∙◌, ◌⊎◌, ℕ, List, [], ◌∷◌, ◌++◌, Bool, true, false, Option, Some, None}
-use Rattle.std.proofs.Common.{refl, ap, sym, subst, append-nil, append_assoc, inl, inr}
-use Rattle.std.proofs.lemmas.Grind.{flat_map-append}
-use Rattle.yasir_ticks.specs.Ticks.{ticks_in}
-use Rattle.yasir_ticks.specs.TickText.{ended_items}
-use Rattle.yasir_ticks.specs.declared.tick.Tick.{Tick}
 use Rattle.line_texts.specs.Sending.{LineAndNotes, AnswersNoted}
+use Rattle.live_port.proofs.Texts.{text_then, text_as, text_nil}
 use Rattle.live_port.specs.History.{Event, told_then, bytes_read, read_by, written, written_by}
 use Rattle.live_port.specs.History.{is_flushed, flushed_from, flushed_by}
 use Rattle.live_port.specs.History.Event.{reads, writes, flushes}
-use Rattle.live_port.specs.LiveText.{IsTextOf}
-use Rattle.live_port.specs.Order.{MayCome, EachMayCome, IsInOrder, HasNoted, HasHandedOn, Handed}
-use Rattle.live_port.specs.Order.{HandedFronts}
-use Rattle.live_port.specs.declared.port.Output.{Output}
-use Rattle.live_port.specs.declared.port.Output.TheVariants.{Out, Log}
-use Rattle.live_port.proofs.Texts.{text_then, text_as, text_nil}
+use Rattle.live_port.specs.{LiveText.IsTextOf, Order.MayCome, Order.EachMayCome}
+use Rattle.live_port.specs.Order.{IsInOrder, HasNoted, HasHandedOn, Handed, HandedFronts}
+use Rattle.live_port.specs.declared.port.Output.{Output, TheVariants.Out, TheVariants.Log}
+use Rattle.std.proofs.Common.{◌≡◌, ◌∙◌, ◌⊎◌, ℕ, List, [], ◌∷◌, ◌++◌, Bool, true, false, Option}
+use Rattle.std.proofs.Common.{Some, None, refl, ap, sym, subst, append-nil, append_assoc, inl, inr}
+use Rattle.std.proofs.lemmas.Grind.{flat_map-append}
+use Rattle.yasir_ticks.specs.{TickText.ended_items, Ticks.ticks_in, declared.tick.Tick.Tick}
 
 -- ---- histories
 

@@ -1,27 +1,21 @@
 -- What a reader of lines has read, by some bytes more.
-use Rattle.std.proofs.Common.{◌≡◌, ◌≢◌, ◌∙◌, ℕ, ◌+◌, ◌-◌, ◌<◌, ◌≤◌, List, [], ◌∷◌, ◌++◌, length}
-use Rattle.std.proofs.Common.{take, get_or, true, false, refl, ap, sym, subst}
-use Rattle.std.proofs.Common.{arith, append-nil, append_assoc, length-append}
-use Rattle.std.proofs.lemmas.List.{length-take-le}
-use Rattle.yasir_ticks.specs.Ticks.{Item, marks_in, items_of_run}
-use Rattle.yasir_ticks.specs.TickText.{Lines, lines_of, ended_items, line_after, IsTickText}
-use Rattle.yasir_ticks.specs.TickText.{fault_at_end}
-use Rattle.yasir_ticks.specs.Reader.{StandsFor, items_of_content}
-use Rattle.yasir_ticks.specs.Slices.{TakesUpTo, StopsAt}
-use Rattle.yasir_ticks.specs.declared.fault.BadTicks.{BadTicks}
-use Rattle.yasir_ticks.specs.declared.place.Content.{Content}
-use Rattle.yasir_ticks.specs.declared.place.Content.TheVariants.{NoTick, KeptBytes, SilentTicks}
-use Rattle.yasir_ticks.specs.declared.place.Content.TheVariants.{OneMark}
-use Rattle.yasir_ticks.specs.declared.reader.TickReader.{TickReader}
-use Rattle.yasir_ticks.specs.declared.run.Run.{Run}
-use Rattle.yasir_ticks.proofs.Lines.{lines_of-lf, lines_of-more}
-use Rattle.tick_drive.proofs.Known.{text_last}
-use Rattle.live_port.specs.Counted.{capped}
-use Rattle.live_port.specs.Lines.{AreWholeLines, HasRead, ReadsLine, RefusesByte, RefusesText, lent}
-use Rattle.live_port.specs.Lines.{EndsNoLine}
-use Rattle.live_port.specs.declared.lines.LineReader.{LineReader}
 use Rattle.live_port.proofs.Behind.{items_in, whole_then, line_behind, capped_then, ended_behind}
-use Rattle.live_port.proofs.Behind.{refused_behind, fault_behind, text_behind, text_front, end_behind}
+use Rattle.live_port.proofs.Behind.{refused_behind, fault_behind, text_behind, text_front}
+use Rattle.live_port.{proofs.Behind.end_behind, specs.Counted.capped}
+use Rattle.live_port.specs.Lines.{AreWholeLines, HasRead, ReadsLine, RefusesByte, RefusesText, lent}
+use Rattle.live_port.specs.{Lines.EndsNoLine, declared.lines.LineReader.LineReader}
+use Rattle.std.proofs.Common.{◌≡◌, ◌≢◌, ◌∙◌, ℕ, ◌+◌, ◌-◌, ◌<◌, ◌≤◌, List, [], ◌∷◌, ◌++◌, length}
+use Rattle.std.proofs.Common.{take, get_or, true, false, refl, ap, sym, subst, arith, append-nil}
+use Rattle.std.proofs.{Common.append_assoc, Common.length-append, lemmas.List.length-take-le}
+use Rattle.{tick_drive.proofs.Known.text_last, yasir_ticks.proofs.Lines.lines_of-lf}
+use Rattle.yasir_ticks.{proofs.Lines.lines_of-more, specs.Reader.StandsFor}
+use Rattle.yasir_ticks.specs.{Reader.items_of_content, Slices.TakesUpTo, Slices.StopsAt}
+use Rattle.yasir_ticks.specs.TickText.{Lines, lines_of, ended_items, line_after, IsTickText}
+use Rattle.yasir_ticks.specs.{TickText.fault_at_end, Ticks.Item, Ticks.marks_in, Ticks.items_of_run}
+use Rattle.yasir_ticks.specs.declared.fault.BadTicks.{BadTicks}
+use Rattle.yasir_ticks.specs.declared.place.Content.{Content, TheVariants.NoTick}
+use Rattle.yasir_ticks.specs.declared.place.Content.TheVariants.{KeptBytes, SilentTicks, OneMark}
+use Rattle.yasir_ticks.specs.declared.{reader.TickReader.TickReader, run.Run.Run}
 
 nothing_whole : AreWholeLines []
 unfolding lines_of

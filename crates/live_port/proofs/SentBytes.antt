@@ -1,18 +1,14 @@
 -- What calls that write to a port do, one after the other.
-use Rattle.std.proofs.Common.{◌≡◌, ◌≢◌, ◌∙◌, ◌⊎◌, ℕ, List, [], ◌∷◌, ◌++◌, true, false, Result, Ok, Err}
-use Rattle.std.proofs.Common.{refl, ap, sym, subst, inl, inr, append-nil}
-use Rattle.yasir_io.specs.Causes.{HasCause, Rose}
-use Rattle.yasir_io.specs.declared.Failed.{Failed}
-use Rattle.yasir_ticks.specs.declared.tick.Tick.{Tick}
-use Rattle.live_port.specs.History.{Event, told_then, WritesFront, KeepsFaults}
-use Rattle.live_port.specs.History.Event.{writes, flushes}
-use Rattle.live_port.specs.LiveText.{IsTextOf}
-use Rattle.live_port.specs.Sent.{WritesCause, Sends, Hands}
-use Rattle.live_port.specs.declared.port.Output.{Output}
-use Rattle.live_port.specs.declared.port.Output.TheVariants.{Out, Log}
-use Rattle.live_port.specs.declared.port.Port.{Ghosts as Port}
 use Rattle.live_port.proofs.Handing.{told_twice, noted_none, noted_sent, noted_cut, text_cut}
-use Rattle.live_port.proofs.Handing.{text_sent}
+use Rattle.live_port.{proofs.Handing.text_sent, specs.History.Event, specs.History.told_then}
+use Rattle.live_port.specs.History.{WritesFront, KeepsFaults, Event.writes, Event.flushes}
+use Rattle.live_port.specs.{LiveText.IsTextOf, Sent.WritesCause, Sent.Sends, Sent.Hands}
+use Rattle.live_port.specs.declared.port.Output.{Output, TheVariants.Out, TheVariants.Log}
+use Rattle.live_port.specs.declared.port.Port.{Ghosts as Port}
+use Rattle.std.proofs.Common.{◌≡◌, ◌≢◌, ◌∙◌, ◌⊎◌, ℕ, List, [], ◌∷◌, ◌++◌, true, false, Result, Ok}
+use Rattle.std.proofs.Common.{Err, refl, ap, sym, subst, inl, inr, append-nil}
+use Rattle.yasir_io.specs.{Causes.HasCause, Causes.Rose, declared.Failed.Failed}
+use Rattle.yasir_ticks.specs.declared.tick.Tick.{Tick}
 
 is_output : (to other : Output) → (other ≡ to) ⊎ (other ≢ to)
 is_output Out Out = inl refl

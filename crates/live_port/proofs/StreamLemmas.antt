@@ -1,8 +1,7 @@
 -- A source and two sinks as a port.
+use Rattle.live_port.specs.{History.WritesFront, declared.port.Output.Output}
 use Rattle.std.proofs.Common.{ℕ, List, [], Result, Ok, Err, None, refl, sym, append-nil}
 use Rattle.yasir_io.specs.declared.Failed.{Failed}
-use Rattle.live_port.specs.History.{WritesFront}
-use Rattle.live_port.specs.declared.port.Output.{Output}
 
 pub wrote_untold : (to : Output) (piece : List ℕ) (result : Result (Unit {0}) Failed)
     → WritesFront None None to piece result

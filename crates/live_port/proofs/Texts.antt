@@ -1,16 +1,12 @@
 -- Texts of ticks, in pieces.
-use Rattle.std.proofs.Common.{◌≡◌, ◌∙◌, ℕ, ◌<◌, ◌≤◌, List, [], ◌∷◌, ◌++◌, length, map}
-use Rattle.std.proofs.Common.{refl, ap, sym, subst, arith, append-nil}
-use Rattle.std.specs.List.{flat_map}
-use Rattle.std.proofs.lemmas.Grind.{flat_map-append}
-use Rattle.std.proofs.lemmas.List.{map-append}
-use Rattle.yasir_ticks.specs.Ticks.{silent}
-use Rattle.yasir_ticks.specs.CanonicalText.{canonical_text, byte_line, silence_line}
-use Rattle.yasir_ticks.specs.declared.tick.Tick.{Tick}
-use Rattle.yasir_ticks.specs.declared.tick.Tick.TheVariants.{Byte}
-use Rattle.yasir_ticks.proofs.Writing.{leads-bytes, leads-silence}
-use Rattle.burst_walk.specs.Answered.{answered}
-use Rattle.live_port.specs.LiveText.{IsTextOf}
+use Rattle.{burst_walk.specs.Answered.answered, live_port.specs.LiveText.IsTextOf}
+use Rattle.std.proofs.Common.{◌≡◌, ◌∙◌, ℕ, ◌<◌, ◌≤◌, List, [], ◌∷◌, ◌++◌, length, map, refl, ap}
+use Rattle.std.proofs.Common.{sym, subst, arith, append-nil}
+use Rattle.std.proofs.lemmas.{Grind.flat_map-append, List.map-append}
+use Rattle.{std.specs.List.flat_map, yasir_ticks.proofs.Writing.leads-bytes}
+use Rattle.yasir_ticks.{proofs.Writing.leads-silence, specs.CanonicalText.canonical_text}
+use Rattle.yasir_ticks.specs.{CanonicalText.byte_line, CanonicalText.silence_line, Ticks.silent}
+use Rattle.yasir_ticks.specs.declared.tick.Tick.{Tick, TheVariants.Byte}
 
 pub text_nil : IsTextOf [] []
 text_nil = record { pieces = []; ticks_are = refl; text_is = refl }

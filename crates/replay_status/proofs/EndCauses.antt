@@ -1,16 +1,13 @@
 -- The causes of the status that a run over an input ends with.
 use Rattle.std.proofs.Common.{◌≡◌, ℕ, ◌⊎◌, inl, inr, false, List, refl, sym, subst, arith}
+use Rattle.tick_drive.specs.{Consumers.is_write_fault, Drive.answer_of}
 use Rattle.tick_drive.specs.Input.{IsReadCause, is_read_fault}
-use Rattle.tick_drive.specs.Consumers.{is_write_fault}
-use Rattle.tick_drive.specs.Drive.{answer_of}
 use Rattle.tick_drive.specs.declared.consumer.Stop.TheVariants as stops
-use Rattle.tick_drive.specs.declared.end.End.{End}
-use Rattle.tick_drive.specs.declared.end.End.TheVariants.{Whole, Refused, TooLong, ReadFault}
-use Rattle.tick_drive.specs.declared.end.End.TheVariants.{Stopped}
-use Rattle.replay_status.specs.Endings.{status_of}
 use Rattle.replay_status.specs.Causes.{InputCause, SinkCause}
-use Rattle.replay_status.specs.declared.status.Status.{Status}
+use Rattle.replay_status.specs.{Endings.status_of, declared.status.Status.Status}
 use Rattle.replay_status.specs.declared.status.Status.TheVariants.{Done, WriteFault, BadJournal}
+use Rattle.tick_drive.specs.declared.end.End.{End, TheVariants.Whole}
+use Rattle.tick_drive.specs.declared.end.End.TheVariants.{Refused, TooLong, ReadFault, Stopped}
 
 pub input_cause : (before now : ℕ) (end : End) → IsReadCause before now (is_read_fault end)
     → InputCause before now (status_of end)

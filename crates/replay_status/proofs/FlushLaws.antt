@@ -1,19 +1,14 @@
 -- When the two sinks are flushed, carried over what came before and behind.
 use Rattle.std.proofs.Common.{◌≡◌, inl, inr, refl, sym, subst, [], ◌∙◌}
-use Rattle.yasir_io.specs.Causes.{Rose}
-use Rattle.yasir_io.specs.Flushing.{one_more}
+use Rattle.yasir_io.{proofs.FlushLaws.none_flushed_then, specs.Causes.Rose}
 use Rattle.yasir_io.specs.Flushed.{IsFlushed, IsNotFlushed, NoneFlushed}
-use Rattle.yasir_io.specs.declared.sink.Sink.{Ghosts as Sink}
-use Rattle.yasir_io.proofs.FlushLaws.{none_flushed_then}
+use Rattle.yasir_io.specs.{Flushing.one_more, declared.sink.Sink.Ghosts as Sink}
 use Rattle.tick_drive.specs.declared.consumer.Stop.TheVariants as stops
-use Rattle.tick_drive.specs.declared.end.End.{End}
-use Rattle.tick_drive.specs.declared.end.End.TheVariants.{Whole, Refused, TooLong, ReadFault}
-use Rattle.tick_drive.specs.declared.end.End.TheVariants.{Stopped}
-use Rattle.replay_status.specs.Endings.{status_of}
-use Rattle.replay_status.specs.Flushes.{FlushesAtEnd}
-use Rattle.replay_status.specs.Statuses.{fault_line}
+use Rattle.replay_status.specs.{Endings.status_of, Flushes.FlushesAtEnd, Statuses.fault_line}
 use Rattle.replay_status.specs.declared.status.Status.{Status}
 use Rattle.replay_status.specs.declared.status.Status.TheVariants.{Done, WriteFault}
+use Rattle.tick_drive.specs.declared.end.End.{End, TheVariants.Whole}
+use Rattle.tick_drive.specs.declared.end.End.TheVariants.{Refused, TooLong, ReadFault, Stopped}
 
 -- a sink that was not flushed before, or is not flushed behind
 flushed_then : {S : Type 0} (sink : Sink S) (s0 s1 s2 : S) → IsNotFlushed sink s0 s1

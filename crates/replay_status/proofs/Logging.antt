@@ -1,10 +1,9 @@
 -- The fault line behind what a command has written to the log, and the sinks' counts with it.
+use Rattle.replay_status.specs.Causes.{SinkCause, GotLine, LogsFault}
+use Rattle.replay_status.specs.{Statuses.fault_line, declared.status.Status.Status}
+use Rattle.replay_status.specs.declared.status.Status.TheVariants.{Done, WriteFault}
 use Rattle.std.proofs.Common.{◌≡◌, ◌∙◌, ℕ, ◌≤◌, List, [], Option, inl, inr, refl, sym, subst, arith}
 use Rattle.yasir_io.specs.Causes.{Rose}
-use Rattle.replay_status.specs.Causes.{SinkCause, GotLine, LogsFault}
-use Rattle.replay_status.specs.Statuses.{fault_line}
-use Rattle.replay_status.specs.declared.status.Status.{Status}
-use Rattle.replay_status.specs.declared.status.Status.TheVariants.{Done, WriteFault}
 
 rose-from : (a b c : ℕ) → a ≤ b → Rose b c → Rose a c
 rose-from a b c le rose = omega arith

@@ -1,9 +1,8 @@
 -- A text that was written whole, whatever the flushes behind it gave.
+use Rattle.replay_status.specs.{PrintsText.PrintsText, declared.status.Status.Status}
+use Rattle.replay_status.specs.declared.status.Status.TheVariants.{Done, WriteFault}
 use Rattle.std.proofs.Common.{◌≡◌, ◌⊎◌, ℕ, List, [], Option, inl, inr, subst, sym, append-nil}
 use Rattle.std.specs.Io.KnownBytes.{append_known}
-use Rattle.replay_status.specs.PrintsText.{PrintsText}
-use Rattle.replay_status.specs.declared.status.Status.{Status}
-use Rattle.replay_status.specs.declared.status.Status.TheVariants.{Done, WriteFault}
 
 pub prints_whole : (text : List ℕ) (before now : Option (List ℕ)) (status : Status)
     → (status ≡ Done) ⊎ (status ≡ WriteFault) → now ≡ append_known before text

@@ -1,20 +1,16 @@
 -- A right text within the limits is refused by nothing but a fault outside.
-use Rattle.std.proofs.Common.{◌≡◌, ℕ, ◌+◌, ◌≤◌, inl, inr, List, [], ◌∷◌, ◌++◌, length}
-use Rattle.std.proofs.Common.{length-append, Option, Some, None, subst, sym, ap, ◌∙◌, append-nil}
-use Rattle.std.proofs.Common.{arith}
+use Rattle.{replay_status.specs.Readable.IsReadableWith, std.proofs.Common.◌≡◌}
+use Rattle.std.proofs.Common.{ℕ, ◌+◌, ◌≤◌, inl, inr, List, [], ◌∷◌, ◌++◌, length, length-append}
+use Rattle.std.proofs.Common.{Option, Some, None, subst, sym, ap, ◌∙◌, append-nil, arith}
 use Rattle.std.specs.Io.KnownBytes.{prepend_known, IsAtEnd}
-use Rattle.yasir_ticks.specs.Ticks.{Item, ticks_in}
-use Rattle.yasir_ticks.specs.TickText.{IsTickText}
-use Rattle.yasir_ticks.specs.Characters.{line_feed}
-use Rattle.yasir_ticks.specs.declared.fault.BadTicks.{BadTicks}
-use Rattle.yasir_ticks.proofs.TextLaws.{ended_items-begin, IsTickText-one}
+use Rattle.tick_drive.proofs.ItemLaws.{ticks_in-append}
 use Rattle.tick_drive.specs.Input.{Takes, AreFew, IsRefusedByte, IsRefusedEnd, IsRefused}
 use Rattle.tick_drive.specs.Input.{HasTooManyTicks, HasTooManyBytes, max_bytes}
 use Rattle.tick_drive.specs.declared.end.End.TheVariants.{Refused, TooLong}
-use Rattle.tick_drive.specs.declared.end.TooMuch.{TooMuch}
-use Rattle.tick_drive.specs.declared.end.TooMuch.TheVariants.{Ticks, Bytes}
-use Rattle.tick_drive.proofs.ItemLaws.{ticks_in-append}
-use Rattle.replay_status.specs.Readable.{IsReadableWith}
+use Rattle.tick_drive.specs.declared.end.TooMuch.{TooMuch, TheVariants.Ticks, TheVariants.Bytes}
+use Rattle.yasir_ticks.proofs.TextLaws.{ended_items-begin, IsTickText-one}
+use Rattle.yasir_ticks.specs.{Characters.line_feed, TickText.IsTickText, Ticks.Item, Ticks.ticks_in}
+use Rattle.yasir_ticks.specs.declared.fault.BadTicks.{BadTicks}
 
 -- what was met of a told text begins it
 pub met_of_told : (text met : List ℕ) (later : Option (List ℕ))

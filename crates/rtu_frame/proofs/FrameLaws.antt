@@ -1,15 +1,13 @@
 -- `has_right_ending` decides `HasRightEnding`, and `is_frame` decides `IsFrame`.
-use Rattle.std.proofs.Common.{◌≡◌, ℕ, ◌-◌, ◌/◌, ◌%◌, ◌<◌, ◌≤◌, ◌^◌, Bool, true, List, length}
-use Rattle.std.proofs.Common.{get_or, arith, sym, ◌∙◌, ap, nat_eq, IsTrue}
-use Rattle.std.proofs.lemmas.Bool.Decides.{same_from_decides}
-use Rattle.std.proofs.lemmas.Bool.{and_parts, and_from, eqb-true, eq-eqb, leb-true, le-leb}
-use Rattle.std.specs.Int.{to_le_bytes, w16}
-use Rattle.std.proofs.Math.Nat.{mod-eq_of_lt}
-use Rattle.line_rules.specs.Endings.{body_of}
 use Rattle.line_rules.proofs.EndingLaws.{ends_in_check-true, ends_in_check-from, EndsInCheck-has}
-use Rattle.line_rules.proofs.EndingLaws.{EndsInCheck-from}
+use Rattle.line_rules.{proofs.EndingLaws.EndsInCheck-from, specs.Endings.body_of}
 use Rattle.rtu_frame.specs.Crc.{crc_rtu}
 use Rattle.rtu_frame.specs.Frame.{IsFrame, HasRightEnding, is_frame, has_right_ending}
+use Rattle.std.proofs.Common.{◌≡◌, ℕ, ◌-◌, ◌/◌, ◌%◌, ◌<◌, ◌≤◌, ◌^◌, Bool, true, List, length}
+use Rattle.std.proofs.Common.{get_or, arith, sym, ◌∙◌, ap, nat_eq, IsTrue}
+use Rattle.std.proofs.{Math.Nat.mod-eq_of_lt, lemmas.Bool.and_parts, lemmas.Bool.and_from}
+use Rattle.std.proofs.lemmas.Bool.{eqb-true, eq-eqb, leb-true, le-leb, Decides.same_from_decides}
+use Rattle.std.specs.Int.{to_le_bytes, w16}
 
 pub has_right_ending-true : (f : List ℕ) → has_right_ending f ≡ true → HasRightEnding f
 unfolding has_right_ending

@@ -1,11 +1,9 @@
 -- The definitions, computed at known values: those of a query of Modbus over Serial Line V1.02, and
 -- the usual check text.
-use Rattle.std.proofs.Common.{◌≡◌, [], ◌∷◌, true, false, refl, codes}
 use Rattle.line_rules.specs.Crc.{bit_step, bit_steps, byte_step, crc}
 use Rattle.line_rules.specs.Endings.{ends_in_check}
-use Rattle.rtu_frame.specs.Crc.{crc_rtu}
-use Rattle.rtu_frame.specs.Frame.{is_frame, has_right_ending}
-use Rattle.rtu_frame.specs.Rules.{rtu_rules}
+use Rattle.rtu_frame.specs.{Crc.crc_rtu, Frame.is_frame, Frame.has_right_ending, Rules.rtu_rules}
+use Rattle.std.proofs.Common.{◌≡◌, [], ◌∷◌, true, false, refl, codes}
 
 pub crc_of_two_bytes : crc_rtu (0x01 ∷ 0x03 ∷ []) ≡ 0x2140
 unfolding bit_step bit_steps byte_step crc

@@ -1,26 +1,20 @@
 -- Bytes whose CRC is 0 end in the CRC of those before, and the other way round; so length and CRC
 -- tell a frame.
+use Rattle.line_rules.proofs.CrcLaws.{crc-nil, crc-parts}
+use Rattle.line_rules.proofs.CrcZero.{byte_step-zero, crc-zero, crc-own, crc-append}
+use Rattle.line_rules.{proofs.EndingLaws.apart, specs.Bytes.AreBytes}
+use Rattle.line_rules.specs.{Bytes.low_first, Crc.byte_step, Crc.crc, Endings.body_of}
+use Rattle.rtu_frame.proofs.FrameLaws.{is_frame-true, is_frame-from, has_right_ending-true}
+use Rattle.rtu_frame.{proofs.FrameLaws.has_right_ending-from, specs.Crc.crc_rtu}
+use Rattle.rtu_frame.specs.Frame.{HasRightEnding, is_frame, has_right_ending}
+use Rattle.rtu_frame.specs.{Rtu.RtuStandsFor, declared.rtu.Rtu.Rtu}
 use Rattle.std.proofs.Common.{◌≡◌, ℕ, ◌+◌, ◌-◌, ◌<◌, ◌≤◌, nat_eq, nat_le, IsTrue, ◌&&◌, List, []}
 use Rattle.std.proofs.Common.{◌∷◌, ◌++◌, length, take, get_or, arith, refl, sym, ◌∙◌, ap, subst}
 use Rattle.std.proofs.Common.{lit<, lit≤, length-append}
-use Rattle.std.proofs.lemmas.Bool.{and_parts, and_from, eqb-true, eq-eqb, leb-true, le-leb}
-use Rattle.std.proofs.lemmas.Bool.Decides.{same_from_decides}
-use Rattle.std.proofs.lemmas.List.Elements.{All-nil, All-push, All-take, All-get_or, All-head}
-use Rattle.std.proofs.lemmas.List.Elements.{All-append}
-use Rattle.std.proofs.lemmas.List.{length-take}
-use Rattle.std.proofs.Math.Seq.{take-append_seam}
-use Rattle.line_rules.specs.Bytes.{AreBytes, low_first}
-use Rattle.line_rules.specs.Crc.{byte_step, crc}
-use Rattle.line_rules.proofs.CrcLaws.{crc-nil, crc-parts}
-use Rattle.line_rules.proofs.CrcZero.{byte_step-zero, crc-zero, crc-own, crc-append}
-use Rattle.rtu_frame.specs.Crc.{crc_rtu}
-use Rattle.line_rules.specs.Endings.{body_of}
-use Rattle.rtu_frame.specs.Frame.{HasRightEnding, is_frame, has_right_ending}
-use Rattle.rtu_frame.specs.Rtu.{RtuStandsFor}
-use Rattle.rtu_frame.specs.declared.rtu.Rtu.{Rtu}
-use Rattle.line_rules.proofs.EndingLaws.{apart}
-use Rattle.rtu_frame.proofs.FrameLaws.{is_frame-true}
-use Rattle.rtu_frame.proofs.FrameLaws.{is_frame-from, has_right_ending-true, has_right_ending-from}
+use Rattle.std.proofs.{Math.Seq.take-append_seam, lemmas.Bool.and_parts, lemmas.Bool.and_from}
+use Rattle.std.proofs.lemmas.Bool.{eqb-true, eq-eqb, leb-true, le-leb, Decides.same_from_decides}
+use Rattle.std.proofs.lemmas.List.{length-take, Elements.All-nil}
+use Rattle.std.proofs.lemmas.List.Elements.{All-push, All-take, All-get_or, All-head, All-append}
 
 -- a byte alone, or none, never leaves the register 0
 crc_rtu-long : (x : List ℕ) → AreBytes x → crc_rtu x ≡ 0 → 2 ≤ length x

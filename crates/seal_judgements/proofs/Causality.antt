@@ -1,33 +1,23 @@
 -- The transmitter needs no tick of the device before its time.
+use Rattle.burst_walk.proofs.Emissions.{tick_at-none, tick_at-before, tick_at-from}
+use Rattle.burst_walk.proofs.{Longer.extends, Walks.adds_one_tick}
+use Rattle.burst_walk.specs.Causal.{IsCausal, MayGoOn, AddsOneTick, going_on}
+use Rattle.burst_walk.specs.{Laid.tick_at, Longer.Extends}
+use Rattle.frame_ending.proofs.{BurstSteps.longer-end, LastBurst.IsWithin}
+use Rattle.frame_ending.proofs.LiveTicks.{live_ticks-whole, live_ticks-before}
+use Rattle.frame_ending.specs.LiveBytes.{live_bytes, live_ticks, has_extra}
+use Rattle.line_rules.specs.{Rules.Rules, RulesLaws.IsLawful}
+use Rattle.link_format.specs.Profile.{Profile, trailer}
+use Rattle.seal_judgements.specs.Sealing.{SealState, Judgement, judged, forwarded, emission_by}
+use Rattle.seal_judgements.specs.Sealing.{sealer, Judgement.sealed_with, Judgement.unsealed}
+use Rattle.seal_judgements.specs.declared.note.UnsealedWhy.TheVariants.{Early, Form, Spent}
 use Rattle.std.proofs.Common.{◌≡◌, ◌∙◌, ◌==◌, ℕ, suc, ◌+◌, ◌-◌, ◌<◌, ◌≤◌, nat_lt, Bool, true, false}
 use Rattle.std.proofs.Common.{not, ◌||◌, cond, List, [], ◌∷◌, ◌++◌, length, map, refl, sym, ap}
 use Rattle.std.proofs.Common.{arith, get_or, ⊎_elim}
-use Rattle.std.proofs.lemmas.Bool.{cases_Bool, cases_lt}
-use Rattle.std.proofs.lemmas.List.{append-nil}
-use Rattle.yasir_ticks.specs.Ticks.{silent}
-use Rattle.yasir_ticks.specs.Bursts.{Burst, end_of}
-use Rattle.yasir_ticks.specs.BurstsOf.{IsContiguous}
-use Rattle.yasir_ticks.specs.declared.tick.Tick.{Tick}
-use Rattle.yasir_ticks.specs.declared.tick.Tick.TheVariants.{Silent, Byte}
-use Rattle.yasir_ticks.proofs.BurstsOfLaws.{contiguous-more}
-use Rattle.yasir_ticks.proofs.SilenceLaws.{get_or-silence}
-use Rattle.line_rules.specs.Rules.{Rules}
-use Rattle.line_rules.specs.RulesLaws.{IsLawful}
-use Rattle.frame_ending.specs.LiveBytes.{live_bytes, live_ticks, has_extra}
-use Rattle.frame_ending.proofs.LastBurst.{IsWithin}
-use Rattle.frame_ending.proofs.LiveTicks.{live_ticks-whole, live_ticks-before}
-use Rattle.frame_ending.proofs.BurstSteps.{longer-end}
-use Rattle.burst_walk.specs.Laid.{tick_at}
-use Rattle.burst_walk.specs.Causal.{IsCausal, MayGoOn, AddsOneTick, going_on}
-use Rattle.burst_walk.specs.Longer.{Extends}
-use Rattle.burst_walk.proofs.Emissions.{tick_at-none, tick_at-before, tick_at-from}
-use Rattle.burst_walk.proofs.Walks.{adds_one_tick}
-use Rattle.burst_walk.proofs.Longer.{extends}
-use Rattle.link_format.specs.Profile.{Profile, trailer}
-use Rattle.seal_judgements.specs.Sealing.{SealState, Judgement, judged, forwarded, emission_by}
-use Rattle.seal_judgements.specs.Sealing.{sealer}
-use Rattle.seal_judgements.specs.Sealing.Judgement.{sealed_with, unsealed}
-use Rattle.seal_judgements.specs.declared.note.UnsealedWhy.TheVariants.{Early, Form, Spent}
+use Rattle.std.proofs.lemmas.{Bool.cases_Bool, Bool.cases_lt, List.append-nil}
+use Rattle.yasir_ticks.proofs.{BurstsOfLaws.contiguous-more, SilenceLaws.get_or-silence}
+use Rattle.yasir_ticks.specs.{Bursts.Burst, Bursts.end_of, BurstsOf.IsContiguous, Ticks.silent}
+use Rattle.yasir_ticks.specs.declared.tick.Tick.{Tick, TheVariants.Silent, TheVariants.Byte}
 
 -- ---- judgements
 

@@ -1,27 +1,22 @@
 -- The sealed frames: their numbers rise by one from the floor, and those of a longer line begin
 -- with those of the line.
-use Rattle.std.proofs.Common.{◌≡◌, ◌∙◌, ◌==◌, ℕ, suc, ◌+◌, ◌≤◌, nat_lt, Bool, true, false, not}
-use Rattle.std.proofs.Common.{◌||◌, List, [], ◌∷◌, ◌++◌, length, map, refl, sym, ap, subst, arith}
-use Rattle.std.proofs.Common.{⊎_elim}
-use Rattle.std.specs.List.{filter_map, range_with_len}
-use Rattle.std.proofs.lemmas.Bool.{cases_lt}
-use Rattle.std.proofs.lemmas.List.Elements.{filter_map-append}
-use Rattle.yasir_ticks.specs.Bursts.{Burst, bursts, end_of}
-use Rattle.yasir_ticks.specs.declared.TheConstants.{T3_5_TICKS}
-use Rattle.yasir_ticks.specs.declared.tick.Tick.{Tick}
-use Rattle.line_rules.specs.Rules.{Rules}
-use Rattle.line_rules.specs.RulesLaws.{IsLawful}
-use Rattle.frame_ending.specs.LiveBytes.{live_bytes, has_extra}
-use Rattle.burst_walk.specs.Walk.{Noted, noted, walked, notes_before}
-use Rattle.burst_walk.specs.Longer.{Begins}
 use Rattle.burst_walk.proofs.Spread.{AreSpread, bursts-spread}
 use Rattle.burst_walk.proofs.Walks.{before-early, before-late, none_before}
+use Rattle.burst_walk.specs.{Longer.Begins, Walk.Noted, Walk.noted, Walk.walked, Walk.notes_before}
+use Rattle.frame_ending.specs.LiveBytes.{live_bytes, has_extra}
+use Rattle.line_rules.specs.{Rules.Rules, RulesLaws.IsLawful}
 use Rattle.link_format.specs.NumberedFrame.{NumberedFrame, AreNumberedFrom}
 use Rattle.link_format.specs.Profile.{Profile}
-use Rattle.seal_judgements.specs.Sealing.{SealState, FullNote, Judgement, judged, state_by}
-use Rattle.seal_judgements.specs.Sealing.{note_by, sealer, at_floor, sealed_in, seal_notes, sealed}
-use Rattle.seal_judgements.specs.Sealing.Judgement.{sealed_with, unsealed}
 use Rattle.seal_judgements.proofs.Causality.{judge_by, judged-is, sealer-causal, sealer-extends}
+use Rattle.seal_judgements.specs.Sealing.{SealState, FullNote, Judgement, judged, state_by, note_by}
+use Rattle.seal_judgements.specs.Sealing.{sealer, at_floor, sealed_in, seal_notes, sealed}
+use Rattle.seal_judgements.specs.Sealing.Judgement.{sealed_with, unsealed}
+use Rattle.std.proofs.Common.{◌≡◌, ◌∙◌, ◌==◌, ℕ, suc, ◌+◌, ◌≤◌, nat_lt, Bool, true, false, not}
+use Rattle.std.proofs.Common.{◌||◌, List, [], ◌∷◌, ◌++◌, length, map, refl, sym, ap, subst, arith}
+use Rattle.std.proofs.{Common.⊎_elim, lemmas.Bool.cases_lt, lemmas.List.Elements.filter_map-append}
+use Rattle.std.specs.List.{filter_map, range_with_len}
+use Rattle.yasir_ticks.specs.Bursts.{Burst, bursts, end_of}
+use Rattle.yasir_ticks.specs.declared.{TheConstants.T3_5_TICKS, tick.Tick.Tick}
 
 sealed-number : (early wrong last : Bool) (number n : ℕ)
     → judge_by early wrong last number ≡ sealed_with n → n ≡ number

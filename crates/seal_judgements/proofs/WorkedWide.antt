@@ -1,19 +1,17 @@
 -- The definitions of the transmitter with words of four bytes and tags of sixteen, on small lines
 -- of a Modbus RTU device, with a tag that is in for HMAC.
-use Rattle.std.proofs.Common.{◌≡◌, List, [], ◌∷◌, ◌++◌, refl}
-use Rattle.yasir_ticks.specs.Ticks.{silent}
-use Rattle.yasir_ticks.specs.Bursts.{bursts_from, with_byte}
-use Rattle.yasir_ticks.specs.declared.tick.Tick.{Tick}
-use Rattle.line_rules.specs.Crc.{crc, byte_step, bit_steps, bit_step}
-use Rattle.frame_ending.specs.LiveBytes.{before_pause, up_to_byte}
-use Rattle.burst_walk.specs.Laid.{tick_at}
 use Rattle.burst_walk.proofs.Rows.{Row, row, noted_at, AreNotes, AreOthers}
-use Rattle.link_format.specs.Profile.{Profile}
+use Rattle.burst_walk.specs.Laid.{tick_at}
+use Rattle.frame_ending.specs.LiveBytes.{before_pause, up_to_byte}
+use Rattle.line_rules.specs.Crc.{crc, byte_step, bit_steps, bit_step}
 use Rattle.link_format.proofs.Worked.{rtu, stand_in, profile_with, on_line, READ_TEN_REGISTERS}
-use Rattle.link_format.proofs.Worked.{READ_ONE_REGISTER}
+use Rattle.link_format.{proofs.Worked.READ_ONE_REGISTER, specs.Profile.Profile}
 use Rattle.seal_judgements.specs.Sealing.{FullNote, judged, seal_notes, link_line, sealed}
 use Rattle.seal_judgements.specs.Sealing.FullNote.{sealed_note, unsealed_note}
 use Rattle.seal_judgements.specs.declared.note.UnsealedWhy.TheVariants.{Early, Spent}
+use Rattle.std.proofs.Common.{◌≡◌, List, [], ◌∷◌, ◌++◌, refl}
+use Rattle.yasir_ticks.specs.Bursts.{bursts_from, with_byte}
+use Rattle.yasir_ticks.specs.{Ticks.silent, declared.tick.Tick.Tick}
 
 abbrev profile : Profile
 profile = profile_with 4 16

@@ -1,46 +1,37 @@
 -- One more tick of a transmitter, over the values that it has before and after.
-use Rattle.std.proofs.Common.{◌≡◌, ◌∙◌, ℕ, ◌+◌, ◌<◌, ◌≤◌, List, [], ◌∷◌, ◌++◌, length, drop}
-use Rattle.std.proofs.Common.{refl, sym, ap, subst, arith, ⊎_elim, Option, Some, None, IfSome}
-use Rattle.std.proofs.lemmas.Bool.{cases_lt}
-use Rattle.std.specs.Int.{w64, to_be_bytes, bytes_high_first}
-use Rattle.yasir_ticks.specs.Bursts.{Burst, bursts, end_of}
-use Rattle.yasir_ticks.specs.BurstsOf.{IsContiguous}
-use Rattle.yasir_ticks.specs.declared.tick.Tick.{Tick}
-use Rattle.yasir_ticks.specs.declared.tick.Tick.TheVariants.{Silent, Byte}
-use Rattle.yasir_ticks.proofs.BurstLaws.{alone, with_last}
-use Rattle.line_rules.specs.Rules.{Rules}
-use Rattle.line_rules.specs.declared.line_rules.LineRules.{Ghosts as LineRules}
-use Rattle.frame_ending.specs.declared.cut.Cut.{Cut}
-use Rattle.frame_ending.specs.declared.cut.Cut.TheVariants.{Start, Live, Extra, Closed}
-use Rattle.frame_ending.specs.LiveBytes.{live_bytes, live_end}
-use Rattle.frame_ending.specs.Cuts.{cut_of, IsPassing}
-use Rattle.frame_ending.specs.SoFar.{last_burst, start_so_far, start_in, live_bytes_so_far}
-use Rattle.frame_ending.specs.SoFar.{live_bytes_in}
+use Rattle.burst_walk.specs.declared.box_step.BoxStep.{BoxStep}
 use Rattle.frame_ending.proofs.LastBurst.{last_burst-silent, last_burst-within}
-use Rattle.frame_ending.proofs.LiveTicks.{live_end-whole}
-use Rattle.frame_ending.proofs.Running.{with_byte_at, IsRunning, divided-running, silent-open}
-use Rattle.frame_ending.proofs.Running.{Closes, silent-closes, last-next, byte-starts, start-bytes}
-use Rattle.frame_ending.proofs.Running.{start-end, byte-lives, byte-over, passing-open}
-use Rattle.frame_ending.proofs.Running.{passing-byte}
-use Rattle.hmac_tag.specs.declared.tag.Mac.{Ghosts as Mac}
-use Rattle.hmac_tag.specs.Tag.{tag_text}
-use Rattle.link_format.specs.NumberedFrame.{last_number}
-use Rattle.link_format.specs.Profile.{Profile, profile_of, HasTags, trailer}
-use Rattle.link_format.specs.Setup.{Setup}
-use Rattle.link_format.specs.Trailers.{first_of}
-use Rattle.sequence_journal.specs.declared.numbers.TheConstants.{LIMIT}
+use Rattle.frame_ending.proofs.{LiveTicks.live_end-whole, Running.with_byte_at, Running.IsRunning}
+use Rattle.frame_ending.proofs.Running.{divided-running, silent-open, Closes, silent-closes}
+use Rattle.frame_ending.proofs.Running.{last-next, byte-starts, start-bytes, start-end, byte-lives}
+use Rattle.frame_ending.proofs.Running.{byte-over, passing-open, passing-byte}
+use Rattle.frame_ending.specs.Cuts.{cut_of, IsPassing}
+use Rattle.frame_ending.specs.LiveBytes.{live_bytes, live_end}
+use Rattle.frame_ending.specs.SoFar.{last_burst, start_so_far, start_in, live_bytes_so_far}
+use Rattle.frame_ending.specs.{SoFar.live_bytes_in, declared.cut.Cut.Cut}
+use Rattle.frame_ending.specs.declared.cut.Cut.TheVariants.{Start, Live, Extra, Closed}
+use Rattle.hmac_tag.specs.{Tag.tag_text, declared.tag.Mac.Ghosts as Mac}
+use Rattle.line_rules.specs.{Rules.Rules, declared.line_rules.LineRules.Ghosts as LineRules}
+use Rattle.link_format.specs.{NumberedFrame.last_number, Profile.Profile, Profile.profile_of}
+use Rattle.link_format.specs.{Profile.HasTags, Profile.trailer, Setup.Setup, Trailers.first_of}
 use Rattle.seal_judgements.specs.Sealing.{SealState, Judgement, judged, start_after, sealed}
 use Rattle.seal_judgements.specs.Sealing.Judgement.{sealed_with, unsealed}
-use Rattle.seal_transmitter.specs.Answers.{AnswersTick, SealsWith}
-use Rattle.seal_transmitter.specs.Stands.{HasWalked, Walks}
-use Rattle.seal_transmitter.specs.Between.{IsJudged, noteless}
-use Rattle.seal_judgements.specs.declared.note.SealNote.TheVariants.{Sealed, Unsealed}
-use Rattle.burst_walk.specs.declared.box_step.BoxStep.{BoxStep}
 use Rattle.seal_judgements.specs.declared.note.SealNote.{SealNote}
+use Rattle.seal_judgements.specs.declared.note.SealNote.TheVariants.{Sealed, Unsealed}
 use Rattle.seal_judgements.specs.declared.note.UnsealedWhy.{UnsealedWhy}
 use Rattle.seal_transmitter.proofs.Steps.{walked-begun, walked-divided, walks-silent}
 use Rattle.seal_transmitter.proofs.Steps.{walks-unsealed, walks-sealed, walks-early, walks-live}
 use Rattle.seal_transmitter.proofs.Steps.{walks-extra, seals-late, seals-whole, walked-number}
+use Rattle.seal_transmitter.specs.{Answers.AnswersTick, Answers.SealsWith, Between.IsJudged}
+use Rattle.seal_transmitter.specs.{Between.noteless, Stands.HasWalked, Stands.Walks}
+use Rattle.sequence_journal.specs.declared.numbers.TheConstants.{LIMIT}
+use Rattle.std.proofs.Common.{◌≡◌, ◌∙◌, ℕ, ◌+◌, ◌<◌, ◌≤◌, List, [], ◌∷◌, ◌++◌, length, drop, refl}
+use Rattle.std.proofs.Common.{sym, ap, subst, arith, ⊎_elim, Option, Some, None, IfSome}
+use Rattle.std.proofs.lemmas.Bool.{cases_lt}
+use Rattle.std.specs.Int.{w64, to_be_bytes, bytes_high_first}
+use Rattle.yasir_ticks.proofs.BurstLaws.{alone, with_last}
+use Rattle.yasir_ticks.specs.{Bursts.Burst, Bursts.bursts, Bursts.end_of, BurstsOf.IsContiguous}
+use Rattle.yasir_ticks.specs.declared.tick.Tick.{Tick, TheVariants.Silent, TheVariants.Byte}
 
 -- The walk over a line goes on by a tick, with this answer.
 pub record WalksOn {R M : Type 0} (proto : LineRules R) (macs : Mac M) (word_len : ℕ)

@@ -1,30 +1,19 @@
 -- The first byte of a burst, forwarded as a run of one tick.
-use Rattle.std.proofs.Common.{◌≡◌, ℕ, ◌≤◌, List, [], ◌∷◌, ◌++◌, length, take, sym, arith}
-use Rattle.std.proofs.Common.{Some}
-use Rattle.std.specs.Prelude.{slice_get}
-use Rattle.yasir_ticks.specs.declared.tick.Tick.{Tick}
-use Rattle.yasir_ticks.specs.declared.tick.Tick.TheVariants.{Byte}
-use Rattle.line_rules.specs.declared.line_rules.LineRules.{Ghosts as LineRules}
-use Rattle.frame_ending.specs.declared.burst_cut.BurstCut.{BurstCut}
-use Rattle.frame_ending.specs.declared.cut.Cut.TheVariants.{Start}
-use Rattle.frame_ending.specs.Cuts.{cut_of}
-use Rattle.frame_ending.specs.SoFar.{start_so_far, quiet_so_far}
-use Rattle.frame_ending.specs.Stands.{StandsFor as CutStandsFor}
-use Rattle.frame_ending.proofs.Cutting.{cut-begin}
 use Rattle.burst_walk.proofs.Runs.{run-tick}
+use Rattle.frame_ending.{proofs.Cutting.cut-begin, specs.Cuts.cut_of, specs.SoFar.start_so_far}
+use Rattle.frame_ending.specs.{SoFar.quiet_so_far, Stands.StandsFor as CutStandsFor}
+use Rattle.frame_ending.specs.declared.{burst_cut.BurstCut.BurstCut, cut.Cut.TheVariants.Start}
 use Rattle.hmac_tag.specs.declared.tag.Mac.{Ghosts as Mac}
-use Rattle.link_format.specs.Profile.{profile_of}
-use Rattle.link_format.specs.Setup.{Setup}
-use Rattle.link_format.specs.Trailers.{bytes_left}
-use Rattle.sequence_journal.specs.declared.numbers.TheConstants.{LIMIT}
-use Rattle.seal_transmitter.specs.Answers.{brief_note}
-use Rattle.seal_transmitter.specs.Between.{IsBetween}
-use Rattle.seal_transmitter.specs.Runs.{HasTakenRun}
+use Rattle.line_rules.specs.declared.line_rules.LineRules.{Ghosts as LineRules}
+use Rattle.link_format.specs.{Profile.profile_of, Setup.Setup, Trailers.bytes_left}
 use Rattle.seal_judgements.specs.Sealing.{sealer, at_floor}
-use Rattle.seal_transmitter.specs.Stands.{StandsAt}
-use Rattle.seal_transmitter.specs.declared.sealer.Sealer.{Sealer}
-use Rattle.seal_transmitter.proofs.Advancing.{starts-now}
-use Rattle.seal_transmitter.proofs.Stepping.{begin-late}
+use Rattle.seal_transmitter.proofs.{Advancing.starts-now, Stepping.begin-late}
+use Rattle.seal_transmitter.specs.{Answers.brief_note, Between.IsBetween, Runs.HasTakenRun}
+use Rattle.seal_transmitter.specs.{Stands.StandsAt, declared.sealer.Sealer.Sealer}
+use Rattle.sequence_journal.specs.declared.numbers.TheConstants.{LIMIT}
+use Rattle.std.proofs.Common.{◌≡◌, ℕ, ◌≤◌, List, [], ◌∷◌, ◌++◌, length, take, sym, arith, Some}
+use Rattle.std.specs.Prelude.{slice_get}
+use Rattle.yasir_ticks.specs.declared.tick.Tick.{Tick, TheVariants.Byte}
 
 -- the first of these bytes
 pub first-of : (x : List ℕ) (b : ℕ) → Some b ≡ slice_get x 0 → take 1 x ≡ b ∷ []

@@ -1,43 +1,32 @@
 -- Ticks without a note, and runs that surely have none.
-use Rattle.std.proofs.Common.{◌≡◌, ◌∙◌, ◌⊎◌, ⊎_elim, inl, inr, ℕ, zero, suc, ◌+◌, ◌-◌, ◌<◌, ◌≤◌}
-use Rattle.std.proofs.Common.{◌==◌, true, false, not, List, [], ◌∷◌, ◌++◌, length, take, drop, map, get_or}
-use Rattle.std.proofs.Common.{refl, sym, ap, subst, arith, Option, None}
-use Rattle.std.specs.List.{All}
-use Rattle.std.proofs.lemmas.Bool.{cases_lt, not-true, eqb-false}
-use Rattle.std.proofs.lemmas.List.{length-replicate, length-take, length-take-le, length-map}
-use Rattle.yasir_ticks.specs.Ticks.{silent}
-use Rattle.yasir_ticks.specs.declared.TheConstants.{T3_5_TICKS}
-use Rattle.yasir_ticks.specs.declared.tick.Tick.{Tick}
-use Rattle.yasir_ticks.specs.declared.tick.Tick.TheVariants.{Silent, Byte}
-use Rattle.line_rules.specs.declared.line_rules.LineRules.{Ghosts as LineRules}
-use Rattle.frame_ending.specs.declared.burst_cut.BurstCut.{BurstCut}
-use Rattle.frame_ending.specs.declared.cut.Cut.{Cut}
-use Rattle.frame_ending.specs.declared.cut.Cut.TheVariants.{Closed, Extra, Pause, Quiet}
-use Rattle.frame_ending.specs.Cuts.{cut_of, cuts_after, IsPassing}
-use Rattle.frame_ending.specs.SoFar.{quiet_so_far}
-use Rattle.frame_ending.specs.Stands.{StandsFor as CutStandsFor}
-use Rattle.frame_ending.proofs.Cutting.{cut-rest, cut-wait}
-use Rattle.frame_ending.proofs.Running.{closed-tick}
-use Rattle.burst_walk.specs.Answered.{answered}
-use Rattle.burst_walk.specs.Answers.{AnswersTick as AnswersTickOf}
-use Rattle.burst_walk.specs.declared.box_step.BoxStep.{BoxStep}
 use Rattle.burst_walk.proofs.Runs.{run-tick}
+use Rattle.burst_walk.specs.{Answered.answered, Answers.AnswersTick as AnswersTickOf}
+use Rattle.burst_walk.specs.declared.box_step.BoxStep.{BoxStep}
+use Rattle.frame_ending.proofs.{Cutting.cut-rest, Cutting.cut-wait, Running.closed-tick}
+use Rattle.frame_ending.specs.Cuts.{cut_of, cuts_after, IsPassing}
+use Rattle.frame_ending.specs.{SoFar.quiet_so_far, Stands.StandsFor as CutStandsFor}
+use Rattle.frame_ending.specs.declared.{burst_cut.BurstCut.BurstCut, cut.Cut.Cut}
+use Rattle.frame_ending.specs.declared.cut.Cut.TheVariants.{Closed, Extra, Pause, Quiet}
 use Rattle.hmac_tag.specs.declared.tag.Mac.{Ghosts as Mac}
-use Rattle.link_box.specs.Noteless.{MayNoteAt}
+use Rattle.line_rules.specs.declared.line_rules.LineRules.{Ghosts as LineRules}
 use Rattle.link_box.proofs.Answered.{answered-all, answered-none}
-use Rattle.link_format.specs.Profile.{profile_of}
-use Rattle.link_format.specs.Setup.{Setup}
-use Rattle.link_format.specs.Trailers.{bytes_left}
-use Rattle.seal_judgements.specs.Sealing.{sealer, at_floor}
-use Rattle.seal_judgements.specs.declared.note.SealNote.{SealNote}
-use Rattle.sequence_journal.specs.declared.numbers.TheConstants.{LIMIT}
-use Rattle.seal_transmitter.specs.Answers.{brief_note}
-use Rattle.seal_transmitter.specs.Foretold.{closes_none, WaitsOpen, Forwards, Foretold}
-use Rattle.seal_transmitter.specs.Runs.{HasTakenRun}
-use Rattle.seal_transmitter.specs.Stands.{StandsAt, HasTaken}
-use Rattle.seal_transmitter.specs.declared.sealer.Sealer.{Sealer}
+use Rattle.link_box.specs.Noteless.{MayNoteAt}
+use Rattle.link_format.specs.{Profile.profile_of, Setup.Setup, Trailers.bytes_left}
+use Rattle.seal_judgements.specs.{Sealing.sealer, Sealing.at_floor, declared.note.SealNote.SealNote}
 use Rattle.seal_transmitter.proofs.OpenSilence.{rest-open, wait-open}
 use Rattle.seal_transmitter.proofs.RunSteps.{sent, sent-silent, sent-bytes, drop-none}
+use Rattle.seal_transmitter.specs.{Answers.brief_note, Foretold.closes_none, Foretold.WaitsOpen}
+use Rattle.seal_transmitter.specs.{Foretold.Forwards, Foretold.Foretold, Runs.HasTakenRun}
+use Rattle.seal_transmitter.specs.{Stands.StandsAt, Stands.HasTaken, declared.sealer.Sealer.Sealer}
+use Rattle.sequence_journal.specs.declared.numbers.TheConstants.{LIMIT}
+use Rattle.std.proofs.Common.{◌≡◌, ◌∙◌, ◌⊎◌, ⊎_elim, inl, inr, ℕ, zero, suc, ◌+◌, ◌-◌, ◌<◌, ◌≤◌}
+use Rattle.std.proofs.Common.{◌==◌, true, false, not, List, [], ◌∷◌, ◌++◌, length, take, drop, map}
+use Rattle.std.proofs.Common.{get_or, refl, sym, ap, subst, arith, Option, None}
+use Rattle.std.proofs.lemmas.Bool.{cases_lt, not-true, eqb-false}
+use Rattle.std.proofs.lemmas.List.{length-replicate, length-take, length-take-le, length-map}
+use Rattle.std.specs.List.{All}
+use Rattle.yasir_ticks.specs.{Ticks.silent, declared.TheConstants.T3_5_TICKS}
+use Rattle.yasir_ticks.specs.declared.tick.Tick.{Tick, TheVariants.Silent, TheVariants.Byte}
 
 -- ---- which ticks close a burst
 

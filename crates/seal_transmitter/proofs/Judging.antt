@@ -1,20 +1,17 @@
 -- How a burst is judged, by what is asked of it.
-use Rattle.std.proofs.Common.{◌≡◌, ◌∙◌, ℕ, suc, ◌+◌, ◌==◌, nat_lt, true, false, ◌||◌, not, List, ap}
-use Rattle.std.proofs.Common.{arith, Option, Some, None, IfSome}
-use Rattle.std.proofs.lemmas.Bool.{eq-eqb, ne_eqb}
-use Rattle.yasir_ticks.specs.Bursts.{Burst}
-use Rattle.yasir_ticks.specs.declared.tick.Tick.{Tick}
-use Rattle.line_rules.specs.Rules.{Rules}
 use Rattle.frame_ending.specs.LiveBytes.{live_bytes, has_extra}
 use Rattle.frame_ending.specs.SoFar.{last_burst, start_so_far, start_in, has_extra_so_far}
 use Rattle.frame_ending.specs.SoFar.{has_extra_in, live_bytes_so_far, live_bytes_in}
-use Rattle.link_format.specs.Profile.{Profile}
-use Rattle.seal_judgements.specs.Sealing.{SealState, judged}
-use Rattle.seal_judgements.specs.Sealing.Judgement.{sealed_with, unsealed}
-use Rattle.seal_transmitter.specs.Between.{IsJudged, judgement_of}
-use Rattle.seal_judgements.specs.declared.note.UnsealedWhy.{UnsealedWhy}
-use Rattle.seal_judgements.specs.declared.note.UnsealedWhy.TheVariants.{Early, Form, Spent}
+use Rattle.{line_rules.specs.Rules.Rules, link_format.specs.Profile.Profile}
 use Rattle.seal_judgements.proofs.Causality.{judge_by, judged-is}
+use Rattle.seal_judgements.specs.Sealing.{SealState, judged, Judgement.sealed_with}
+use Rattle.seal_judgements.specs.{Sealing.Judgement.unsealed, declared.note.UnsealedWhy.UnsealedWhy}
+use Rattle.seal_judgements.specs.declared.note.UnsealedWhy.TheVariants.{Early, Form, Spent}
+use Rattle.seal_transmitter.specs.Between.{IsJudged, judgement_of}
+use Rattle.std.proofs.Common.{◌≡◌, ◌∙◌, ℕ, suc, ◌+◌, ◌==◌, nat_lt, true, false, ◌||◌, not, List, ap}
+use Rattle.std.proofs.Common.{arith, Option, Some, None, IfSome}
+use Rattle.std.proofs.lemmas.Bool.{eq-eqb, ne_eqb}
+use Rattle.yasir_ticks.specs.{Bursts.Burst, declared.tick.Tick.Tick}
 
 module _ (profile : Profile) (rules : Rules) (last earliest : ℕ) where
   abbrev state : SealState

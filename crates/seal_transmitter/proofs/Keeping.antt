@@ -1,24 +1,18 @@
 -- What a step does to the journal and its disk, as a step of a box of a link; and runs as its runs.
-use Rattle.std.proofs.Common.{◌≡◌, ◌≤◌, ℕ, List, Ok, Err, Option, Some, None, ap, arith}
-use Rattle.yasir_ticks.specs.declared.tick.Tick.{Tick}
-use Rattle.yasir_io.specs.declared.disk.SlotDisk.{Ghosts as SlotDisk}
 use Rattle.burst_walk.specs.declared.box_step.BoxStep.{BoxStep}
-use Rattle.line_rules.specs.declared.line_rules.LineRules.{Ghosts as LineRules}
 use Rattle.hmac_tag.specs.declared.tag.Mac.{Ghosts as Mac}
-use Rattle.link_format.specs.Setup.{Setup}
-use Rattle.link_box.specs.Stepping.{KeepsJournal as KeepsBoxed}
-use Rattle.link_box.specs.Runs.{TakesRun}
+use Rattle.line_rules.specs.declared.line_rules.LineRules.{Ghosts as LineRules}
 use Rattle.link_box.proofs.TakenRuns.{takes-as}
-use Rattle.sequence_journal.specs.declared.journal.Journal.{Journal}
-use Rattle.sequence_journal.specs.declared.journal.JournalFault.{JournalFault}
-use Rattle.sequence_journal.specs.Journal.{journal_floor}
-use Rattle.seal_transmitter.specs.Answers.{CommitsNoted, KeepsJournal}
-use Rattle.seal_judgements.specs.declared.note.SealNote.{SealNote}
+use Rattle.link_box.specs.{Runs.TakesRun, Stepping.KeepsJournal as KeepsBoxed}
+use Rattle.{link_format.specs.Setup.Setup, seal_judgements.specs.declared.note.SealNote.SealNote}
 use Rattle.seal_judgements.specs.declared.note.SealNote.TheVariants.{Sealed, Unsealed}
-use Rattle.seal_transmitter.specs.Boxed.{seal_walking}
-use Rattle.seal_transmitter.specs.Runs.{HasTakenRun}
-use Rattle.seal_transmitter.specs.Stands.{StandsAt}
-use Rattle.seal_transmitter.specs.declared.sealer.Sealer.{Sealer}
+use Rattle.seal_transmitter.specs.{Answers.CommitsNoted, Answers.KeepsJournal, Boxed.seal_walking}
+use Rattle.seal_transmitter.specs.{Runs.HasTakenRun, Stands.StandsAt, declared.sealer.Sealer.Sealer}
+use Rattle.sequence_journal.specs.Journal.{journal_floor}
+use Rattle.sequence_journal.specs.declared.journal.{Journal.Journal, JournalFault.JournalFault}
+use Rattle.std.proofs.Common.{◌≡◌, ◌≤◌, ℕ, List, Ok, Err, Option, Some, None, ap, arith}
+use Rattle.yasir_io.specs.declared.disk.SlotDisk.{Ghosts as SlotDisk}
+use Rattle.yasir_ticks.specs.declared.tick.Tick.{Tick}
 
 -- a step doesn't lower the journal's floor
 pub commits-rise : {D : Type 0} (d : SlotDisk D) (old new : Journal) (disk_old disk_new : D)

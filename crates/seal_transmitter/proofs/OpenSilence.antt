@@ -1,20 +1,14 @@
 -- Silent ticks that close no burst, as a run.
+use Rattle.frame_ending.proofs.{Cutting.stands-wait, Cutting.cut-wait, Runs.cuts-silence}
+use Rattle.frame_ending.specs.Cuts.{cut_of, cuts_after, IsPassing}
+use Rattle.frame_ending.specs.{Stands.StandsFor, declared.burst_cut.BurstCut.BurstCut}
+use Rattle.frame_ending.specs.declared.cut.Cut.{Cut, TheVariants.Pause, TheVariants.Quiet}
+use Rattle.line_rules.specs.{Rules.Rules, declared.line_rules.LineRules.Ghosts as LineRules}
 use Rattle.std.proofs.Common.{◌≡◌, ℕ, zero, suc, ◌+◌, ◌<◌, ◌≤◌, List, [], ◌∷◌, ◌++◌, sym, subst}
 use Rattle.std.proofs.Common.{arith, replicate}
-use Rattle.std.specs.List.{All}
 use Rattle.std.proofs.lemmas.List.Elements.{All-nil, All-cons}
-use Rattle.yasir_ticks.specs.Ticks.{silent}
-use Rattle.yasir_ticks.specs.declared.tick.Tick.{Tick}
-use Rattle.yasir_ticks.specs.declared.tick.Tick.TheVariants.{Silent}
-use Rattle.line_rules.specs.Rules.{Rules}
-use Rattle.line_rules.specs.declared.line_rules.LineRules.{Ghosts as LineRules}
-use Rattle.frame_ending.specs.declared.burst_cut.BurstCut.{BurstCut}
-use Rattle.frame_ending.specs.declared.cut.Cut.{Cut}
-use Rattle.frame_ending.specs.declared.cut.Cut.TheVariants.{Pause, Quiet}
-use Rattle.frame_ending.specs.Cuts.{cut_of, cuts_after, IsPassing}
-use Rattle.frame_ending.specs.Stands.{StandsFor}
-use Rattle.frame_ending.proofs.Cutting.{stands-wait, cut-wait}
-use Rattle.frame_ending.proofs.Runs.{cuts-silence}
+use Rattle.{std.specs.List.All, yasir_ticks.specs.Ticks.silent}
+use Rattle.yasir_ticks.specs.declared.tick.Tick.{Tick, TheVariants.Silent}
 
 quiet-passing : (n : ℕ) → All IsPassing (replicate n Quiet)
 quiet-passing zero = All-nil IsPassing

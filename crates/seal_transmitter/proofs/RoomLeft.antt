@@ -1,24 +1,19 @@
 -- Room for further bytes of a burst, and bytes that are live since they have room.
+use Rattle.frame_ending.{proofs.Runs.cuts-bytes, specs.Cuts.cuts_after}
+use Rattle.frame_ending.specs.SoFar.{last_burst, quiet_in, quiet_so_far, has_paused_in, is_over_in}
+use Rattle.frame_ending.specs.SoFar.{is_over_so_far, live_bytes_in, live_bytes_so_far}
+use Rattle.frame_ending.specs.{Stands.StandsFor, declared.burst_cut.BurstCut.BurstCut}
+use Rattle.{frame_ending.specs.declared.cut.Cut.TheVariants.Live, line_rules.specs.Bytes.AreBytes}
+use Rattle.line_rules.specs.Rules.{Rules, fills_room, head_of, left_of, left_by}
+use Rattle.line_rules.specs.declared.line_rules.LineRules.{Ghosts as LineRules}
 use Rattle.std.proofs.Common.{◌≡◌, ◌∙◌, ⊎_elim, ℕ, zero, suc, ◌+◌, ◌-◌, ◌<◌, ◌≤◌, ◌==◌, ◌||◌, Bool}
 use Rattle.std.proofs.Common.{true, false, List, [], ◌∷◌, ◌++◌, length, take, map, refl, sym, ap}
 use Rattle.std.proofs.Common.{subst, arith, append-nil, append_assoc, length-append, Option, Some}
 use Rattle.std.proofs.Common.{None}
 use Rattle.std.proofs.lemmas.Bool.{cases_Bool, cases_lt, cond-true, lt-ltb, eqb-true, or_parts}
-use Rattle.std.proofs.lemmas.List.{take_all, length-take-le}
-use Rattle.std.proofs.lemmas.List.Elements.{All-append}
+use Rattle.std.proofs.lemmas.List.{take_all, length-take-le, Elements.All-append}
 use Rattle.yasir_ticks.specs.Bursts.{Burst}
-use Rattle.yasir_ticks.specs.declared.tick.Tick.{Tick}
-use Rattle.yasir_ticks.specs.declared.tick.Tick.TheVariants.{Byte}
-use Rattle.line_rules.specs.Bytes.{AreBytes}
-use Rattle.line_rules.specs.Rules.{Rules, fills_room, head_of, left_of, left_by}
-use Rattle.line_rules.specs.declared.line_rules.LineRules.{Ghosts as LineRules}
-use Rattle.frame_ending.specs.declared.burst_cut.BurstCut.{BurstCut}
-use Rattle.frame_ending.specs.declared.cut.Cut.TheVariants.{Live}
-use Rattle.frame_ending.specs.Cuts.{cuts_after}
-use Rattle.frame_ending.specs.SoFar.{last_burst, quiet_in, quiet_so_far, has_paused_in, is_over_in}
-use Rattle.frame_ending.specs.SoFar.{is_over_so_far, live_bytes_in, live_bytes_so_far}
-use Rattle.frame_ending.specs.Stands.{StandsFor}
-use Rattle.frame_ending.proofs.Runs.{cuts-bytes}
+use Rattle.yasir_ticks.specs.declared.tick.Tick.{Tick, TheVariants.Byte}
 
 -- ---- what a frame lacks has room
 

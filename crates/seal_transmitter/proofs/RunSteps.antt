@@ -1,40 +1,28 @@
 -- A run of ticks of a transmitter: bytes that are forwarded, and ticks over which what is left of
 -- the trailer is sent.
-use Rattle.std.proofs.Common.{◌≡◌, ◌∙◌, ℕ, zero, suc, ◌+◌, ◌<◌, ◌≤◌, List, [], ◌∷◌, ◌++◌, length}
-use Rattle.std.proofs.Common.{take, drop, map, refl, sym, ap, subst, arith}
-use Rattle.std.proofs.Common.{append-nil, append_assoc}
-use Rattle.std.specs.List.{All}
-use Rattle.std.proofs.lemmas.List.Elements.{All-head, All-tail}
-use Rattle.std.proofs.lemmas.List.{map-append, take-take, drop-take, take-append-drop}
-use Rattle.yasir_ticks.specs.Ticks.{silent}
-use Rattle.yasir_ticks.specs.declared.tick.Tick.{Tick}
-use Rattle.yasir_ticks.specs.declared.tick.Tick.TheVariants.{Silent, Byte}
-use Rattle.line_rules.specs.Rules.{Rules}
-use Rattle.line_rules.specs.declared.line_rules.LineRules.{Ghosts as LineRules}
-use Rattle.frame_ending.specs.declared.burst_cut.BurstCut.{BurstCut}
-use Rattle.frame_ending.specs.declared.cut.Cut.{Cut}
-use Rattle.frame_ending.specs.declared.cut.Cut.TheVariants.{Live, Extra}
-use Rattle.frame_ending.specs.Cuts.{cut_of, cuts_after, IsPassing}
-use Rattle.frame_ending.specs.SoFar.{start_so_far}
-use Rattle.frame_ending.specs.Stands.{StandsFor as CutStandsFor}
-use Rattle.frame_ending.proofs.Runs.{live-start}
-use Rattle.burst_walk.specs.Runs.{AnswersRun}
 use Rattle.burst_walk.proofs.Runs.{run-none, run-joined, run-tick}
+use Rattle.{burst_walk.specs.Runs.AnswersRun, frame_ending.proofs.Runs.live-start}
+use Rattle.frame_ending.specs.Cuts.{cut_of, cuts_after, IsPassing}
+use Rattle.frame_ending.specs.{SoFar.start_so_far, Stands.StandsFor as CutStandsFor}
+use Rattle.frame_ending.specs.declared.{burst_cut.BurstCut.BurstCut, cut.Cut.Cut}
+use Rattle.frame_ending.specs.declared.cut.Cut.TheVariants.{Live, Extra}
 use Rattle.hmac_tag.specs.declared.tag.Mac.{Ghosts as Mac}
-use Rattle.link_format.specs.declared.trailer.Trailer.{Trailer}
-use Rattle.link_format.specs.NumberedFrame.{last_number}
-use Rattle.link_format.specs.Profile.{profile_of}
-use Rattle.link_format.specs.Setup.{Setup}
+use Rattle.line_rules.specs.{Rules.Rules, declared.line_rules.LineRules.Ghosts as LineRules}
+use Rattle.link_format.specs.{NumberedFrame.last_number, Profile.profile_of, Setup.Setup}
 use Rattle.link_format.specs.Trailers.{bytes_left, first_of}
-use Rattle.sequence_journal.specs.declared.numbers.TheConstants.{LIMIT}
-use Rattle.seal_transmitter.specs.Answers.{brief_note}
-use Rattle.seal_transmitter.specs.Between.{noteless}
-use Rattle.seal_transmitter.specs.Runs.{HasTakenRun}
+use Rattle.link_format.specs.declared.trailer.Trailer.{Trailer}
 use Rattle.seal_judgements.specs.Sealing.{sealer, at_floor, sealed}
-use Rattle.seal_transmitter.specs.Stands.{Walks, StandsAt}
-use Rattle.seal_transmitter.specs.declared.sealer.Sealer.{Sealer}
 use Rattle.seal_transmitter.proofs.Advancing.{WalksOn, number-is, advance-live, advance-early}
 use Rattle.seal_transmitter.proofs.Advancing.{advance-passing}
+use Rattle.seal_transmitter.specs.{Answers.brief_note, Between.noteless, Runs.HasTakenRun}
+use Rattle.seal_transmitter.specs.{Stands.Walks, Stands.StandsAt, declared.sealer.Sealer.Sealer}
+use Rattle.{sequence_journal.specs.declared.numbers.TheConstants.LIMIT, std.proofs.Common.◌≡◌}
+use Rattle.std.proofs.Common.{◌∙◌, ℕ, zero, suc, ◌+◌, ◌<◌, ◌≤◌, List, [], ◌∷◌, ◌++◌, length, take}
+use Rattle.std.proofs.Common.{drop, map, refl, sym, ap, subst, arith, append-nil, append_assoc}
+use Rattle.std.proofs.lemmas.List.{map-append, take-take, drop-take, take-append-drop}
+use Rattle.std.proofs.lemmas.List.Elements.{All-head, All-tail}
+use Rattle.{std.specs.List.All, yasir_ticks.specs.Ticks.silent}
+use Rattle.yasir_ticks.specs.declared.tick.Tick.{Tick, TheVariants.Silent, TheVariants.Byte}
 
 -- what goes out in n ticks, of which none is forwarded: what is left of the trailer, then silence
 abbrev pub sent : ℕ → List ℕ → List Tick

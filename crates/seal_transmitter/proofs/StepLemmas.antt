@@ -1,30 +1,23 @@
 -- What is on the link where the line of the device goes on.
+use Rattle.burst_walk.proofs.Emissions.{tick_at-none, tick_at-from}
+use Rattle.burst_walk.specs.{HasCome.AreNoted, Laid.tick_at, Walk.Noted, Walk.walked, Walk.emitted}
+use Rattle.{burst_walk.specs.Walk.state_after, frame_ending.proofs.LiveTicks.live_end-within}
+use Rattle.frame_ending.specs.LiveBytes.{live_bytes, live_ticks, live_end}
+use Rattle.{line_rules.specs.Rules.Rules, link_format.specs.NumberedFrame.last_number}
+use Rattle.link_format.specs.{Profile.Profile, Profile.trailer, Trailers.first_of}
+use Rattle.seal_judgements.proofs.Numbers.{frames_in}
+use Rattle.seal_judgements.specs.Sealing.{SealState, FullNote, Judgement, judged, state_by, note_by}
+use Rattle.seal_judgements.specs.Sealing.{emission_by, forwarded, trailing, sealer}
+use Rattle.seal_judgements.specs.Sealing.Judgement.{sealed_with, unsealed}
+use Rattle.seal_judgements.specs.declared.note.UnsealedWhy.TheVariants.{Early, Form, Spent}
+use Rattle.seal_transmitter.specs.Stands.{sent_at}
 use Rattle.std.proofs.Common.{◌≡◌, ◌∙◌, ◌&&◌, ℕ, suc, ◌+◌, ◌-◌, ◌<◌, ◌≤◌, nat_lt, nat_le, true}
 use Rattle.std.proofs.Common.{false, List, [], ◌∷◌, ◌++◌, length, map, drop, refl, sym, ap, arith}
 use Rattle.std.proofs.Common.{append_assoc, length-append, get_or, ◌⊎◌, inl, inr, ⊎_elim}
 use Rattle.std.proofs.lemmas.Bool.{cases_lt}
 use Rattle.std.proofs.lemmas.List.{get_or_past, get_or-map, get_or-append_right, length-map}
-use Rattle.yasir_ticks.specs.Ticks.{silent}
-use Rattle.yasir_ticks.specs.Bursts.{Burst, end_of}
-use Rattle.yasir_ticks.specs.declared.tick.Tick.{Tick}
-use Rattle.yasir_ticks.specs.declared.tick.Tick.TheVariants.{Silent, Byte}
-use Rattle.line_rules.specs.Rules.{Rules}
-use Rattle.frame_ending.specs.LiveBytes.{live_bytes, live_ticks, live_end}
-use Rattle.frame_ending.proofs.LiveTicks.{live_end-within}
-use Rattle.burst_walk.specs.Laid.{tick_at}
-use Rattle.burst_walk.specs.Walk.{Noted, walked, emitted, state_after}
-use Rattle.burst_walk.specs.HasCome.{AreNoted}
-use Rattle.burst_walk.proofs.Emissions.{tick_at-none, tick_at-from}
-use Rattle.link_format.specs.NumberedFrame.{last_number}
-use Rattle.link_format.specs.Profile.{Profile, trailer}
-use Rattle.link_format.specs.Trailers.{first_of}
-use Rattle.seal_judgements.specs.Sealing.{SealState, FullNote, Judgement, judged, state_by}
-use Rattle.seal_judgements.specs.Sealing.{note_by}
-use Rattle.seal_judgements.specs.Sealing.{emission_by, forwarded, trailing, sealer}
-use Rattle.seal_judgements.specs.Sealing.Judgement.{sealed_with, unsealed}
-use Rattle.seal_transmitter.specs.Stands.{sent_at}
-use Rattle.seal_judgements.specs.declared.note.UnsealedWhy.TheVariants.{Early, Form, Spent}
-use Rattle.seal_judgements.proofs.Numbers.{frames_in}
+use Rattle.yasir_ticks.specs.{Bursts.Burst, Bursts.end_of, Ticks.silent}
+use Rattle.yasir_ticks.specs.declared.tick.Tick.{Tick, TheVariants.Silent, TheVariants.Byte}
 
 -- ---- ticks over one another
 

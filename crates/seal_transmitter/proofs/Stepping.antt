@@ -1,32 +1,25 @@
 -- The parts of a step of a transmitter, over the values that they leave.
-use Rattle.std.proofs.Common.{◌≡◌, ℕ, ◌+◌, ◌<◌, ◌≤◌, List, [], ◌∷◌, ◌++◌, length, drop, sym, subst}
-use Rattle.std.proofs.Common.{Some}
-use Rattle.std.specs.Int.{w64, to_be_bytes, bytes_high_first}
-use Rattle.yasir_ticks.specs.declared.tick.Tick.{Tick}
-use Rattle.yasir_ticks.specs.declared.tick.Tick.TheVariants.{Silent, Byte}
-use Rattle.line_rules.specs.declared.line_rules.LineRules.{Ghosts as LineRules}
-use Rattle.frame_ending.specs.declared.cut.Cut.{Cut}
-use Rattle.frame_ending.specs.declared.cut.Cut.TheVariants.{Start, Live, Closed}
-use Rattle.frame_ending.specs.Cuts.{cut_of, IsPassing}
-use Rattle.frame_ending.specs.SoFar.{start_so_far, live_bytes_so_far}
-use Rattle.frame_ending.specs.Stands.{StandsFor as CutStandsFor}
-use Rattle.frame_ending.proofs.Running.{start-tick, live-tick}
-use Rattle.hmac_tag.specs.declared.tag.Mac.{Ghosts as Mac}
-use Rattle.hmac_tag.specs.Tag.{direction_number}
-use Rattle.link_format.specs.declared.trailer.Trailer.{Trailer}
-use Rattle.link_format.specs.Setup.{Setup}
-use Rattle.link_format.specs.Trailers.{bytes_left, first_of}
-use Rattle.seal_judgements.specs.Sealing.Judgement.{sealed_with, unsealed}
-use Rattle.seal_transmitter.specs.Between.{IsBetween, Judges, noteless}
-use Rattle.seal_transmitter.specs.Stands.{HasTaken}
-use Rattle.seal_judgements.specs.declared.note.SealNote.TheVariants.{Sealed, Unsealed}
 use Rattle.burst_walk.specs.declared.box_step.BoxStep.{BoxStep}
+use Rattle.frame_ending.{proofs.Running.start-tick, proofs.Running.live-tick, specs.Cuts.cut_of}
+use Rattle.frame_ending.specs.{Cuts.IsPassing, SoFar.start_so_far, SoFar.live_bytes_so_far}
+use Rattle.frame_ending.specs.{Stands.StandsFor as CutStandsFor, declared.cut.Cut.Cut}
+use Rattle.frame_ending.specs.declared.cut.Cut.TheVariants.{Start, Live, Closed}
+use Rattle.hmac_tag.specs.{Tag.direction_number, declared.tag.Mac.Ghosts as Mac}
+use Rattle.line_rules.specs.declared.line_rules.LineRules.{Ghosts as LineRules}
+use Rattle.link_format.specs.{Setup.Setup, Trailers.bytes_left, Trailers.first_of}
+use Rattle.link_format.specs.declared.trailer.Trailer.{Trailer}
+use Rattle.seal_judgements.specs.Sealing.Judgement.{sealed_with, unsealed}
 use Rattle.seal_judgements.specs.declared.note.SealNote.{SealNote}
+use Rattle.seal_judgements.specs.declared.note.SealNote.TheVariants.{Sealed, Unsealed}
 use Rattle.seal_judgements.specs.declared.note.UnsealedWhy.{UnsealedWhy}
-use Rattle.seal_transmitter.specs.declared.sealer.Sealer.{Sealer}
 use Rattle.seal_transmitter.proofs.Advancing.{WalksOn, number-is, advance-passing, advance-early}
 use Rattle.seal_transmitter.proofs.Advancing.{advance-begin, advance-live, advance-unsealed}
-use Rattle.seal_transmitter.proofs.Advancing.{advance-sealed}
+use Rattle.seal_transmitter.{proofs.Advancing.advance-sealed, specs.Between.IsBetween}
+use Rattle.seal_transmitter.specs.{Between.Judges, Between.noteless, Stands.HasTaken}
+use Rattle.{seal_transmitter.specs.declared.sealer.Sealer.Sealer, std.proofs.Common.◌≡◌}
+use Rattle.std.proofs.Common.{ℕ, ◌+◌, ◌<◌, ◌≤◌, List, [], ◌∷◌, ◌++◌, length, drop, sym, subst, Some}
+use Rattle.std.specs.Int.{w64, to_be_bytes, bytes_high_first}
+use Rattle.yasir_ticks.specs.declared.tick.Tick.{Tick, TheVariants.Silent, TheVariants.Byte}
 
 -- where the next byte of the trailer was sent, or silence
 pub record HasSent {R M : Type 0} {B : ℕ} (old new : Sealer R M B) (step : BoxStep SealNote) :

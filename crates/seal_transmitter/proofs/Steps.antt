@@ -1,57 +1,44 @@
 -- One more tick of the device: how far the walk then has come, and what the step answers.
-use Rattle.std.proofs.Common.{◌≡◌, ◌∙◌, ◌==◌, ◌||◌, not, ℕ, suc, ◌+◌, ◌-◌, ◌<◌, ◌≤◌, nat_lt}
-use Rattle.std.proofs.Common.{Bool}
-use Rattle.std.proofs.Common.{true, false, List, [], ◌∷◌, ◌++◌, length, drop, refl, sym, ap, subst}
-use Rattle.std.proofs.Common.{arith}
-use Rattle.std.proofs.Common.{get_or, ⊎_elim, Option, Some, None, IfSome}
-use Rattle.std.proofs.lemmas.Bool.{cases_lt, lt-ltb, le-ltb}
-use Rattle.std.proofs.lemmas.List.{append-nil, get_or_past}
-use Rattle.std.specs.List.{filter_map}
-use Rattle.yasir_ticks.specs.Bursts.{Burst, bursts, bursts_from, end_of, AreClosed}
-use Rattle.yasir_ticks.specs.BurstsOf.{IsContiguous}
-use Rattle.yasir_ticks.specs.declared.TheConstants.{T3_5_TICKS}
-use Rattle.yasir_ticks.specs.declared.tick.Tick.{Tick}
-use Rattle.yasir_ticks.specs.declared.tick.Tick.TheVariants.{Silent, Byte}
-use Rattle.line_rules.specs.Rules.{Rules}
-use Rattle.line_rules.specs.RulesLaws.{IsLawful}
-use Rattle.frame_ending.specs.Divided.{IsDivided}
-use Rattle.frame_ending.specs.LiveBytes.{live_bytes, live_ticks, live_end, has_extra}
-use Rattle.frame_ending.proofs.Dividing.{longer-line, divided-within, byte-ends, byte-begun}
-use Rattle.frame_ending.proofs.Dividing.{byte-contiguous, byte-last}
-use Rattle.frame_ending.proofs.LiveTicks.{live_end-within, live_ticks-whole, up_to_byte-full}
-use Rattle.frame_ending.proofs.Running.{with_byte_at}
-use Rattle.burst_walk.specs.Laid.{tick_at}
-use Rattle.burst_walk.specs.Walk.{Walker, Noted, walked, emitted, notes_at}
-use Rattle.burst_walk.specs.HasCome.{HasCome, AreNoted, waiting_part}
-use Rattle.burst_walk.specs.Answers.{told_notes, note_in}
 use Rattle.burst_walk.proofs.Coming.{come-begun, come-waits, come-noted, come-silent, come-joined}
 use Rattle.burst_walk.proofs.Coming.{come-alone, notes_before-come, notes-step, answers-step}
 use Rattle.burst_walk.proofs.Coming.{note-now, note-later}
 use Rattle.burst_walk.proofs.Emissions.{tick_at-none, tick_at-from}
-use Rattle.link_format.specs.NumberedFrame.{last_number}
-use Rattle.link_format.specs.Profile.{Profile, HasTags, trailer, trailer_len}
-use Rattle.link_format.specs.Trailers.{first_of}
-use Rattle.link_format.proofs.Profiles.{length-trailer}
-use Rattle.seal_judgements.specs.Sealing.{SealState, FullNote, Judgement, judged, state_by}
-use Rattle.seal_judgements.specs.Sealing.{note_by, emission_by}
-use Rattle.seal_judgements.specs.Sealing.{forwarded, trailing, sealer, sealed_in, at_floor}
-use Rattle.seal_judgements.specs.Sealing.{seal_notes}
-use Rattle.seal_judgements.specs.Sealing.{start_after, sealed}
-use Rattle.seal_judgements.specs.Sealing.Judgement.{sealed_with, unsealed}
-use Rattle.seal_transmitter.specs.Answers.{AnswersTick, SealsWith, brief_note}
-use Rattle.seal_transmitter.specs.Between.{noteless}
-use Rattle.seal_transmitter.specs.Stands.{HasWalked, sent_at}
-use Rattle.seal_judgements.specs.declared.note.SealNote.TheVariants.{Sealed, Unsealed}
+use Rattle.burst_walk.specs.Answers.{told_notes, note_in}
+use Rattle.burst_walk.specs.{HasCome.HasCome, HasCome.AreNoted, HasCome.waiting_part, Laid.tick_at}
+use Rattle.burst_walk.specs.Walk.{Walker, Noted, walked, emitted, notes_at}
 use Rattle.burst_walk.specs.declared.box_step.BoxStep.{BoxStep}
+use Rattle.frame_ending.proofs.Dividing.{longer-line, divided-within, byte-ends, byte-begun}
+use Rattle.frame_ending.proofs.Dividing.{byte-contiguous, byte-last}
+use Rattle.frame_ending.proofs.LiveTicks.{live_end-within, live_ticks-whole, up_to_byte-full}
+use Rattle.frame_ending.{proofs.Running.with_byte_at, specs.Divided.IsDivided}
+use Rattle.frame_ending.specs.LiveBytes.{live_bytes, live_ticks, live_end, has_extra}
+use Rattle.line_rules.specs.{Rules.Rules, RulesLaws.IsLawful}
+use Rattle.link_format.{proofs.Profiles.length-trailer, specs.NumberedFrame.last_number}
+use Rattle.link_format.specs.Profile.{Profile, HasTags, trailer, trailer_len}
+use Rattle.{link_format.specs.Trailers.first_of, seal_judgements.proofs.Causality.judge_by}
+use Rattle.seal_judgements.proofs.Causality.{judged-is, sealed-right, no_extra, sealer-causal}
+use Rattle.seal_judgements.proofs.Causality.{emission-judged, emission-early, shown-from}
+use Rattle.seal_judgements.specs.Sealing.{SealState, FullNote, Judgement, judged, state_by, note_by}
+use Rattle.seal_judgements.specs.Sealing.{emission_by, forwarded, trailing, sealer, sealed_in}
+use Rattle.seal_judgements.specs.Sealing.{at_floor, seal_notes, start_after, sealed}
+use Rattle.seal_judgements.specs.Sealing.Judgement.{sealed_with, unsealed}
 use Rattle.seal_judgements.specs.declared.note.SealNote.{SealNote}
+use Rattle.seal_judgements.specs.declared.note.SealNote.TheVariants.{Sealed, Unsealed}
 use Rattle.seal_judgements.specs.declared.note.UnsealedWhy.{UnsealedWhy}
 use Rattle.seal_judgements.specs.declared.note.UnsealedWhy.TheVariants.{Early, Form, Spent}
-use Rattle.seal_judgements.proofs.Causality.{judge_by, judged-is, sealed-right, no_extra}
-use Rattle.seal_judgements.proofs.Causality.{sealer-causal, emission-judged, emission-early}
-use Rattle.seal_judgements.proofs.Causality.{shown-from}
 use Rattle.seal_transmitter.proofs.StepLemmas.{or_else, or_else-silent, sent-first, sent-later}
 use Rattle.seal_transmitter.proofs.StepLemmas.{noted-overlays, noted-number, sealed-from}
 use Rattle.seal_transmitter.proofs.StepLemmas.{forwarded-past}
+use Rattle.seal_transmitter.specs.Answers.{AnswersTick, SealsWith, brief_note}
+use Rattle.seal_transmitter.specs.{Between.noteless, Stands.HasWalked, Stands.sent_at}
+use Rattle.std.proofs.Common.{◌≡◌, ◌∙◌, ◌==◌, ◌||◌, not, ℕ, suc, ◌+◌, ◌-◌, ◌<◌, ◌≤◌, nat_lt, Bool}
+use Rattle.std.proofs.Common.{true, false, List, [], ◌∷◌, ◌++◌, length, drop, refl, sym, ap, subst}
+use Rattle.std.proofs.Common.{arith, get_or, ⊎_elim, Option, Some, None, IfSome}
+use Rattle.std.proofs.lemmas.{Bool.cases_lt, Bool.lt-ltb, Bool.le-ltb, List.append-nil}
+use Rattle.std.{proofs.lemmas.List.get_or_past, specs.List.filter_map}
+use Rattle.yasir_ticks.specs.Bursts.{Burst, bursts, bursts_from, end_of, AreClosed}
+use Rattle.yasir_ticks.specs.{BurstsOf.IsContiguous, declared.TheConstants.T3_5_TICKS}
+use Rattle.yasir_ticks.specs.declared.tick.Tick.{Tick, TheVariants.Silent, TheVariants.Byte}
 
 none_left : (left : List ℕ) (m earliest : ℕ) → (0 < length left → m + length left + 4 ≤ earliest)
     → earliest ≤ m

@@ -1,15 +1,13 @@
 -- The number of a step's note is the one that the step commits.
-use Rattle.std.proofs.Common.{ℕ, ◌+◌, Option, Some, None, Result, Ok, Err, IfOk, OnErr}
-use Rattle.yasir_io.specs.declared.disk.SlotDisk.{Ghosts as SlotDisk}
-use Rattle.sequence_journal.specs.declared.journal.Journal.{Journal}
-use Rattle.sequence_journal.specs.declared.journal.JournalFault.{JournalFault}
-use Rattle.sequence_journal.specs.Commits.{HasFailed}
-use Rattle.sequence_journal.specs.Journal.{journal_floor}
-use Rattle.sequence_journal.specs.Uptimes.{CommitsAnswered}
-use Rattle.seal_transmitter.specs.Answers.{CommitsNoted, KeepsJournal, numbers_noted}
+use Rattle.burst_walk.specs.declared.box_step.BoxStep.{BoxStep}
 use Rattle.seal_judgements.specs.declared.note.SealNote.{SealNote}
 use Rattle.seal_judgements.specs.declared.note.SealNote.TheVariants.{Sealed, Unsealed}
-use Rattle.burst_walk.specs.declared.box_step.BoxStep.{BoxStep}
+use Rattle.seal_transmitter.specs.Answers.{CommitsNoted, KeepsJournal, numbers_noted}
+use Rattle.sequence_journal.specs.{Commits.HasFailed, Journal.journal_floor}
+use Rattle.sequence_journal.specs.Uptimes.{CommitsAnswered}
+use Rattle.sequence_journal.specs.declared.journal.{Journal.Journal, JournalFault.JournalFault}
+use Rattle.std.proofs.Common.{ℕ, ◌+◌, Option, Some, None, Result, Ok, Err, IfOk, OnErr}
+use Rattle.yasir_io.specs.declared.disk.SlotDisk.{Ghosts as SlotDisk}
 
 module _ {D : Type 0} (d : SlotDisk D) (old new : Journal) (before after : D) where
   answered : (note : Option SealNote) → CommitsNoted d old new before after note

@@ -1,11 +1,9 @@
 -- Calls that fail take no image away.
-use Rattle.std.proofs.Common.{◌≡◌, List, [], ◌∷◌, length, inl, inr, refl}
-use Rattle.yasir_io.specs.declared.disk.Slot.{Slot}
-use Rattle.yasir_io.specs.declared.disk.Slot.TheVariants.{A, B}
-use Rattle.yasir_io.specs.declared.disk.TheConstants.{SLOT_LEN}
-use Rattle.yasir_io.specs.declared.disk.SlotDisk.{Ghosts as SlotDisk}
-use Rattle.yasir_io.specs.Disks.{Slots, slot_in, with_slot, Torn, Reaches}
 use Rattle.sequence_journal.specs.FailedCalls.{AreWhole, HasFailedCall, HaveFailedCalls, last_disk}
+use Rattle.std.proofs.Common.{◌≡◌, List, [], ◌∷◌, length, inl, inr, refl}
+use Rattle.yasir_io.specs.Disks.{Slots, slot_in, with_slot, Torn, Reaches}
+use Rattle.yasir_io.specs.declared.disk.Slot.{Slot, TheVariants.A, TheVariants.B}
+use Rattle.yasir_io.specs.declared.disk.{SlotDisk.Ghosts as SlotDisk, TheConstants.SLOT_LEN}
 
 -- a slot set to what it holds is the slot as it was
 set-as-is : (slots : Slots) (slot : Slot) → slots ≡ with_slot slots slot (slot_in slots slot)

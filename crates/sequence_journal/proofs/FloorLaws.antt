@@ -1,18 +1,15 @@
 -- Laws on the floor of slots.
-use Rattle.std.specs.Prelude.{◌≡◌, ℕ, ◌≤◌, max, nat_lt, List, Option, Some, None, IsSomeAnd}
-use Rattle.std.specs.Prelude.{refl, unwrap_or, if◌then◌else◌}
-use Rattle.std.proofs.Common.{◌∙◌, ap, sym, subst, inl, inr, arith}
-use Rattle.std.proofs.lemmas.Bool.{lt-ltb, le-ltb, cases_lt}
-use Rattle.yasir_io.specs.declared.disk.Slot.{Slot}
-use Rattle.yasir_io.specs.declared.disk.Slot.TheVariants.{A, B}
-use Rattle.yasir_io.specs.Disks.{Slots, slot_in, other_slot, with_slot, OneImage}
-use Rattle.sequence_journal.specs.declared.journal.Journal.{Journal}
-use Rattle.sequence_journal.specs.declared.link.LinkId.{LinkId}
+use Rattle.sequence_journal.specs.Journal.{journal_link, journal_floor, kept_slot, Fits, AreSameBut}
+use Rattle.sequence_journal.specs.Journal.{IsKept, HasFloorAtLeast, HasFloorFrom, IsCrashSafe}
 use Rattle.sequence_journal.specs.Slots.{number_held, greater, place_of_greater, own_floor}
 use Rattle.sequence_journal.specs.Slots.{any_floor, old_floor, floor_by, floor_of, floor_slot}
-use Rattle.sequence_journal.specs.Journal.{journal_link, journal_floor, kept_slot, Fits}
-use Rattle.sequence_journal.specs.Journal.{AreSameBut, IsKept, HasFloorAtLeast, HasFloorFrom}
-use Rattle.sequence_journal.specs.Journal.{IsCrashSafe}
+use Rattle.sequence_journal.specs.declared.{journal.Journal.Journal, link.LinkId.LinkId}
+use Rattle.std.proofs.Common.{◌∙◌, ap, sym, subst, inl, inr, arith}
+use Rattle.std.proofs.lemmas.Bool.{lt-ltb, le-ltb, cases_lt}
+use Rattle.std.specs.Prelude.{◌≡◌, ℕ, ◌≤◌, max, nat_lt, List, Option, Some, None, IsSomeAnd, refl}
+use Rattle.std.specs.Prelude.{unwrap_or, if◌then◌else◌}
+use Rattle.yasir_io.specs.Disks.{Slots, slot_in, other_slot, with_slot, OneImage}
+use Rattle.yasir_io.specs.declared.disk.Slot.{Slot, TheVariants.A, TheVariants.B}
 
 -- the one of two that is in a slot
 abbrev pub chosen : Option ℕ → Option ℕ → Slot → Option ℕ

@@ -1,26 +1,20 @@
 -- Lemmas on loading a journal, and on what a crash leaves while one is taken over.
-use Rattle.std.proofs.Common.{◌≡◌, ◌∙◌, ℕ, ◌≤◌, List, max, Option, Some, None, IfSome}
-use Rattle.std.proofs.Common.{IsSomeAnd, inl, inr, refl, sym, ap, subst, arith, unwrap_or, replicate}
-use Rattle.yasir_io.specs.declared.disk.Slot.{Slot}
-use Rattle.yasir_io.specs.declared.disk.Slot.TheVariants.{A}
-use Rattle.yasir_io.specs.declared.disk.TheConstants.{SLOT_LEN}
-use Rattle.yasir_io.specs.Disks.{Slots, with_slot, OneImage}
-use Rattle.yasir_io.specs.Steady.{blank_old}
-use Rattle.sequence_journal.specs.declared.link.LinkId.{LinkId}
-use Rattle.sequence_journal.specs.Links.{IsLink}
-use Rattle.sequence_journal.specs.Slots.{number_held, any_number_held, greater, place_of_greater}
-use Rattle.sequence_journal.specs.Slots.{link_held, old_number_held, old_slot_bytes}
-use Rattle.sequence_journal.specs.Slots.{own_floor, any_floor, old_floor, greatest, floor_by}
-use Rattle.sequence_journal.specs.Slots.{floor_of, wrong_by, wrong_slot}
-use Rattle.sequence_journal.specs.declared.journal.Journal.{Journal}
-use Rattle.sequence_journal.specs.Journal.{journal_floor, HasFloorAtLeast}
+use Rattle.sequence_journal.specs.{Journal.journal_floor, Journal.HasFloorAtLeast, Links.IsLink}
 use Rattle.sequence_journal.specs.Loading.{AreRead, IsOld, MayBegin, MayLeaveLoading, KeepsLoadable}
 use Rattle.sequence_journal.specs.Loading.{LeavesLoaded, IsLoaded, MayTakeOver, RefusesLoad}
-use Rattle.sequence_journal.specs.declared.journal.LoadError.{LoadError}
+use Rattle.sequence_journal.specs.Slots.{number_held, any_number_held, greater, place_of_greater}
+use Rattle.sequence_journal.specs.Slots.{link_held, old_number_held, old_slot_bytes, own_floor}
+use Rattle.sequence_journal.specs.Slots.{any_floor, old_floor, greatest, floor_by, floor_of}
+use Rattle.sequence_journal.specs.Slots.{wrong_by, wrong_slot}
+use Rattle.sequence_journal.specs.declared.journal.{Journal.Journal, LoadError.LoadError}
+use Rattle.sequence_journal.specs.declared.link.LinkId.{LinkId}
+use Rattle.std.proofs.Common.{◌≡◌, ◌∙◌, ℕ, ◌≤◌, List, max, Option, Some, None, IfSome, IsSomeAnd}
+use Rattle.std.proofs.Common.{inl, inr, refl, sym, ap, subst, arith, unwrap_or, replicate}
+use Rattle.yasir_io.specs.{Disks.Slots, Disks.with_slot, Disks.OneImage, Steady.blank_old}
+use Rattle.yasir_io.specs.declared.disk.{Slot.Slot, Slot.TheVariants.A, TheConstants.SLOT_LEN}
 use Rattle.sequence_journal.specs.declared.journal.LoadError.TheVariants as Load
-use Rattle.yasir_io.specs.Causes.{Rose}
 use Rattle.sequence_journal.proofs.SlotLemmas.{neither, no_own_floor, none_of_own, at_some}
-use Rattle.sequence_journal.proofs.SlotLemmas.{if_some_weaker}
+use Rattle.{sequence_journal.proofs.SlotLemmas.if_some_weaker, yasir_io.specs.Causes.Rose}
 
 -- blank slots hold no number
 pub blank_holds_none : greatest (record {

@@ -1,10 +1,9 @@
 -- The least number above a floor that has a word, of words that are numbers modulo any m.
-use Rattle.std.proofs.Common.{◌≡◌, ◌∙◌, ℕ, ◌+◌, ◌-◌, ◌*◌, ◌/◌, ◌%◌, ◌<◌, ◌≤◌, suc, ap, arith}
-use Rattle.std.proofs.Common.{inl, inr, ◌⊎◌, add-one}
-use Rattle.std.proofs.lemmas.Bool.{cases_lt}
-use Rattle.std.proofs.lemmas.Nat.{mod-mul-add}
-use Rattle.std.proofs.Math.Nat.{mod-add-div', mul-le-mul_right, suc-mul}
 use Rattle.sequence_journal.specs.Numbers.{IsLeastWith, least_with}
+use Rattle.std.proofs.Common.{◌≡◌, ◌∙◌, ℕ, ◌+◌, ◌-◌, ◌*◌, ◌/◌, ◌%◌, ◌<◌, ◌≤◌, suc, ap, arith, inl}
+use Rattle.std.proofs.Common.{inr, ◌⊎◌, add-one}
+use Rattle.std.proofs.Math.Nat.{mod-add-div', mul-le-mul_right, suc-mul}
+use Rattle.std.proofs.lemmas.{Bool.cases_lt, Nat.mod-mul-add}
 
 -- how far the next number of this rest is
 pub rest-is : (m word r : ℕ) → word < m → r < m

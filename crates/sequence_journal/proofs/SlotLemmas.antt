@@ -1,27 +1,20 @@
 -- Lemmas on numbers in slots.
-use Rattle.std.proofs.Common.{◌≡◌, ◌∙◌, ℕ, ◌≤◌, ◌<◌, List, ◌++◌, map, ◌-◌, max, Bool, true}
-use Rattle.std.proofs.Common.{false, nat_eq, Option, Some, None, IfSome, inl, inr, refl, ap}
-use Rattle.std.proofs.Common.{arith, option_map, unwrap_or}
-use Rattle.std.specs.Prelude.{nat_le, ◌&&◌, if◌then◌else◌}
-use Rattle.std.specs.Str.{bytes_eq}
-use Rattle.std.proofs.lemmas.Bool.{le-leb, lt-ltb, le-ltb, and_parts}
-use Rattle.std.specs.Cmp.Lexicographic.{pointwise}
-use Rattle.std.proofs.lemmas.Slice.Eq.{bytes_eq-Decides}
-use Rattle.byteorder.specs.Endian.{big_bytes, big_number}
-use Rattle.byteorder.specs.Numbers.{big_number-reads_back}
-use Rattle.yasir_io.specs.declared.disk.Slot.{Slot}
-use Rattle.yasir_io.specs.declared.disk.Slot.TheVariants.{A, B}
-use Rattle.yasir_io.specs.Disks.{Slots, slot_in, other_slot, with_slot}
-use Rattle.sequence_journal.specs.declared.numbers.TheConstants.{LIMIT}
-use Rattle.sequence_journal.specs.declared.link.LinkId.{LinkId}
-use Rattle.sequence_journal.specs.Links.{is_link, IsLink, link_bytes}
-use Rattle.sequence_journal.specs.Slots.{slot_bytes, old_slot_bytes, held_by}
-use Rattle.sequence_journal.specs.Slots.{number_held, link_named, link_held}
-use Rattle.sequence_journal.specs.Slots.{any_number_held, greater, own_floor, any_floor, old_floor}
-use Rattle.sequence_journal.specs.Slots.{floor_of, floor_slot}
-use Rattle.sequence_journal.specs.Journal.{IsEitherFloor, MaySet, told_with}
-use Rattle.sequence_journal.specs.Loading.{MayBegin}
+use Rattle.byteorder.specs.{Endian.big_bytes, Endian.big_number, Numbers.big_number-reads_back}
 use Rattle.sequence_journal.proofs.FloorLaws.{floor_is_held, floor_beside}
+use Rattle.sequence_journal.specs.Journal.{IsEitherFloor, MaySet, told_with}
+use Rattle.sequence_journal.specs.{Links.is_link, Links.IsLink, Links.link_bytes, Loading.MayBegin}
+use Rattle.sequence_journal.specs.Slots.{slot_bytes, old_slot_bytes, held_by, number_held}
+use Rattle.sequence_journal.specs.Slots.{link_named, link_held, any_number_held, greater, own_floor}
+use Rattle.sequence_journal.specs.Slots.{any_floor, old_floor, floor_of, floor_slot}
+use Rattle.sequence_journal.specs.declared.{link.LinkId.LinkId, numbers.TheConstants.LIMIT}
+use Rattle.std.proofs.Common.{◌≡◌, ◌∙◌, ℕ, ◌≤◌, ◌<◌, List, ◌++◌, map, ◌-◌, max, Bool, true, false}
+use Rattle.std.proofs.Common.{nat_eq, Option, Some, None, IfSome, inl, inr, refl, ap, arith}
+use Rattle.std.proofs.Common.{option_map, unwrap_or}
+use Rattle.std.proofs.lemmas.Bool.{le-leb, lt-ltb, le-ltb, and_parts}
+use Rattle.std.{proofs.lemmas.Slice.Eq.bytes_eq-Decides, specs.Cmp.Lexicographic.pointwise}
+use Rattle.std.specs.{Prelude.nat_le, Prelude.◌&&◌, Prelude.if◌then◌else◌, Str.bytes_eq}
+use Rattle.yasir_io.specs.Disks.{Slots, slot_in, other_slot, with_slot}
+use Rattle.yasir_io.specs.declared.disk.Slot.{Slot, TheVariants.A, TheVariants.B}
 
 number_first : (n : ℕ) (more : List ℕ) → n ≤ LIMIT → big_number 8 (big_bytes 8 n ++ more) ≡ n
 number_first n more within = big_number-reads_back 8 n more (omega arith)

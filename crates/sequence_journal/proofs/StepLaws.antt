@@ -1,12 +1,9 @@
 -- What a box commits by its answers makes its steps those of an uptime.
-use Rattle.std.proofs.Common.{◌≡◌, ℕ, List, [], ◌∷◌, Result, Ok, Err, IfOk, OnErr, ap, sym}
-use Rattle.yasir_io.specs.Disks.{LeavesOnly}
-use Rattle.yasir_io.specs.declared.disk.SlotDisk.{Ghosts as SlotDisk}
-use Rattle.sequence_journal.specs.declared.journal.Journal.{Journal}
-use Rattle.sequence_journal.specs.Commits.{HasFailed}
-use Rattle.sequence_journal.specs.Journal.{journal_floor, HasFloorFrom}
+use Rattle.sequence_journal.specs.{Commits.HasFailed, Journal.journal_floor, Journal.HasFloorFrom}
 use Rattle.sequence_journal.specs.Uptimes.{RiseFrom, last_from, IsStepOf, CommitsAnswered}
-use Rattle.sequence_journal.specs.Uptimes.{numbers_answered}
+use Rattle.sequence_journal.specs.{Uptimes.numbers_answered, declared.journal.Journal.Journal}
+use Rattle.std.proofs.Common.{◌≡◌, ℕ, List, [], ◌∷◌, Result, Ok, Err, IfOk, OnErr, ap, sym}
+use Rattle.yasir_io.specs.{Disks.LeavesOnly, declared.disk.SlotDisk.Ghosts as SlotDisk}
 
 module _ {D : Type 0} (disk : SlotDisk D) (old new : Journal) (before after : D) where
   rise : (numbers : List ℕ) → CommitsAnswered disk old new before after numbers

@@ -1,17 +1,14 @@
 -- The numbers of uptimes over one disk rise, whatever moments they end at.
-use Rattle.std.proofs.Common.{◌≡◌, ℕ, ◌<◌, ◌≤◌, List, [], ◌∷◌, ◌++◌, Option, Some, None}
-use Rattle.std.proofs.Common.{IsSomeAnd, IfSome, inl, inr, refl, sym, subst, arith}
-use Rattle.yasir_io.specs.declared.disk.Slot.TheVariants.{A}
-use Rattle.yasir_io.specs.Disks.{Slots}
-use Rattle.yasir_io.specs.declared.disk.SlotDisk.{Ghosts as SlotDisk}
-use Rattle.sequence_journal.specs.declared.link.LinkId.{LinkId}
-use Rattle.sequence_journal.specs.Slots.{floor_of}
-use Rattle.sequence_journal.specs.Journal.{HasFloorAtLeast}
-use Rattle.sequence_journal.specs.Loading.{KeepsLoadable}
 use Rattle.sequence_journal.proofs.LoadLemmas.{no_floor_of_others}
+use Rattle.sequence_journal.specs.{Journal.HasFloorAtLeast, Loading.KeepsLoadable, Slots.floor_of}
 use Rattle.sequence_journal.specs.Uptimes.{RiseFrom, last_from, IsUptime, IsIdle, HasNoFloorBelow}
-use Rattle.sequence_journal.specs.Uptimes.{Uptime, AreUptimes, all_numbers}
-use Rattle.sequence_journal.specs.Uptimes.{Step, answered, disk_after, IsStep, AreSteps, EndsInside}
+use Rattle.sequence_journal.specs.Uptimes.{Uptime, AreUptimes, all_numbers, Step, answered}
+use Rattle.sequence_journal.specs.Uptimes.{disk_after, IsStep, AreSteps, EndsInside}
+use Rattle.sequence_journal.specs.declared.link.LinkId.{LinkId}
+use Rattle.std.proofs.Common.{◌≡◌, ℕ, ◌<◌, ◌≤◌, List, [], ◌∷◌, ◌++◌, Option, Some, None, IsSomeAnd}
+use Rattle.std.proofs.Common.{IfSome, inl, inr, refl, sym, subst, arith}
+use Rattle.yasir_io.specs.Disks.{Slots}
+use Rattle.yasir_io.specs.declared.disk.{Slot.TheVariants.A, SlotDisk.Ghosts as SlotDisk}
 
 -- from a lower floor numbers rise too
 pub rise-lower : (low high : ℕ) (numbers : List ℕ) → low ≤ high → RiseFrom high numbers

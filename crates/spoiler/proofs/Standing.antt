@@ -1,8 +1,7 @@
 -- What an outlet stands for.
-use Rattle.std.proofs.Common.{◌≡◌, ℕ, List, arith}
 use Rattle.line_rules.specs.declared.line_rules.LineRules.{Ghosts as LineRules}
-use Rattle.spoiler.specs.Outlet.{StandsFor, owed_by}
-use Rattle.spoiler.specs.declared.outlet.Outlet.{Outlet}
+use Rattle.spoiler.specs.{Outlet.StandsFor, Outlet.owed_by, declared.outlet.Outlet.Outlet}
+use Rattle.std.proofs.Common.{◌≡◌, ℕ, List, arith}
 
 -- where no fill is owed, for any bytes
 pub stands-unowed : {R : Type 0} (proto : LineRules R) (value : Outlet R) (x : List ℕ)

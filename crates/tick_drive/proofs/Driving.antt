@@ -1,35 +1,24 @@
 -- How a drive over an input goes on by a byte and by a line, and how it ends.
-use Rattle.std.proofs.Common.{◌≡◌, ◌≢◌, ℕ, ◌+◌, ◌≤◌, inl, inr, List, [], ◌∷◌, ◌++◌, length}
-use Rattle.std.proofs.Common.{Option, Ok, Err, Bool, true, false, subst, sym, ap, refl, ◌∙◌, arith}
-use Rattle.std.proofs.Common.{append-nil, length-append}
-use Rattle.std.specs.Prelude.{unwrap_or}
-use Rattle.std.specs.List.{flat_map}
-use Rattle.std.proofs.lemmas.Bool.{cases_eq}
-use Rattle.std.proofs.lemmas.List.{nil_from_length}
-use Rattle.yasir_ticks.specs.Characters.{line_feed}
-use Rattle.yasir_ticks.specs.Ticks.{Item, ticks_in}
-use Rattle.yasir_ticks.specs.TickText.{IsTickText, BeginsTickText, ended_items, lines_of}
-use Rattle.yasir_ticks.specs.TickText.{line_items}
-use Rattle.yasir_ticks.specs.Reader.{items_of_content}
-use Rattle.yasir_ticks.specs.declared.place.Content.{Content}
-use Rattle.yasir_ticks.specs.declared.TheConstants.{MAX_TICKS}
-use Rattle.yasir_ticks.proofs.Lines.{lines_of-more}
-use Rattle.tick_drive.specs.Consumers.{Consuming, AreJoined, Gives}
-use Rattle.tick_drive.specs.Items.{silent_items}
-use Rattle.tick_drive.specs.Input.{IsMetOf, EndsLine, IsWhole, IsReadCause, max_ticks}
-use Rattle.tick_drive.specs.Input.{is_read_fault}
+use Rattle.std.proofs.Common.{◌≡◌, ◌≢◌, ℕ, ◌+◌, ◌≤◌, inl, inr, List, [], ◌∷◌, ◌++◌, length, Option}
+use Rattle.std.proofs.Common.{Ok, Err, Bool, true, false, subst, sym, ap, refl, ◌∙◌, arith}
+use Rattle.std.proofs.{Common.append-nil, Common.length-append, lemmas.Bool.cases_eq}
+use Rattle.std.{proofs.lemmas.List.nil_from_length, specs.List.flat_map, specs.Prelude.unwrap_or}
+use Rattle.tick_drive.proofs.{ItemLaws.ticks_with, Moving.gives_then, Moving.gives_front}
+use Rattle.tick_drive.{proofs.Moving.gives_items, specs.Consumers.Consuming}
+use Rattle.tick_drive.specs.{Consumers.AreJoined, Consumers.Gives, Drive.Drives, Drive.HandsOver}
+use Rattle.tick_drive.specs.{Drive.HandAnswer, Drive.halted_end, Input.IsMetOf}
+use Rattle.tick_drive.specs.Input.{EndsLine, IsWhole, IsReadCause, max_ticks, is_read_fault}
 use Rattle.tick_drive.specs.Intake.{HasMet, MeetsLine, MeetsEnd, StepAnswer, FinishAnswer, lent}
-use Rattle.tick_drive.specs.Drive.{Drives, HandsOver, HandAnswer, halted_end}
-use Rattle.tick_drive.specs.declared.input_loop.Halt.{Halt}
-use Rattle.tick_drive.specs.declared.input_loop.Halt.TheVariants.{TooMany, ByConsumer}
-use Rattle.tick_drive.proofs.ItemLaws.{ticks_with}
-use Rattle.tick_drive.proofs.Moving.{gives_then, gives_front, gives_items}
-use Rattle.tick_drive.specs.declared.consumer.Stop.{Stop}
-use Rattle.tick_drive.specs.declared.intake.Intake.{Intake}
-use Rattle.tick_drive.specs.declared.end.End.{End}
+use Rattle.tick_drive.specs.{Items.silent_items, declared.consumer.Stop.Stop, declared.end.End.End}
 use Rattle.tick_drive.specs.declared.end.End.TheVariants.{Whole, Refused, TooLong, ReadFault}
-use Rattle.tick_drive.specs.declared.end.End.TheVariants.{Stopped}
-use Rattle.tick_drive.specs.declared.end.TooMuch.TheVariants.{Ticks, Bytes}
+use Rattle.tick_drive.specs.declared.end.{End.TheVariants.Stopped, TooMuch.TheVariants.Ticks}
+use Rattle.tick_drive.specs.declared.{end.TooMuch.TheVariants.Bytes, input_loop.Halt.Halt}
+use Rattle.tick_drive.specs.declared.input_loop.Halt.TheVariants.{TooMany, ByConsumer}
+use Rattle.{tick_drive.specs.declared.intake.Intake.Intake, yasir_ticks.proofs.Lines.lines_of-more}
+use Rattle.yasir_ticks.specs.{Characters.line_feed, Reader.items_of_content, TickText.IsTickText}
+use Rattle.yasir_ticks.specs.TickText.{BeginsTickText, ended_items, lines_of, line_items}
+use Rattle.yasir_ticks.specs.Ticks.{Item, ticks_in}
+use Rattle.yasir_ticks.specs.declared.{TheConstants.MAX_TICKS, place.Content.Content}
 
 ended_items-nil : ended_items [] ≡ []
 unfolding lines_of

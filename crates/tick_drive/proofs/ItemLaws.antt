@@ -2,13 +2,11 @@
 use Rattle.std.proofs.Common.{◌≡◌, ℕ, suc, zero, ◌+◌, ◌≤◌, List, [], ◌∷◌, ◌++◌, length, take, drop}
 use Rattle.std.proofs.Common.{map, replicate, length-append, append-nil, refl, ap, sym, ◌∙◌}
 use Rattle.std.proofs.lemmas.List.{length-take-le, drop-map, take-map}
-use Rattle.yasir_ticks.specs.Ticks.{Item, ticks_in}
-use Rattle.yasir_ticks.specs.Ticks.Item.{tick, mark}
-use Rattle.yasir_ticks.specs.TickRun.{run_ticks, run_items}
-use Rattle.yasir_ticks.specs.declared.tick.Tick.{Tick}
-use Rattle.yasir_ticks.specs.declared.tick.Tick.TheVariants.{Silent, Byte}
-use Rattle.yasir_ticks.specs.declared.tick_run.TickRun.{TickRun}
 use Rattle.yasir_ticks.proofs.TickRuns.{items_of_ticks, ticks_in-ticks}
+use Rattle.yasir_ticks.specs.TickRun.{run_ticks, run_items}
+use Rattle.yasir_ticks.specs.Ticks.{Item, ticks_in, Item.tick, Item.mark}
+use Rattle.yasir_ticks.specs.declared.tick.Tick.{Tick, TheVariants.Silent, TheVariants.Byte}
+use Rattle.yasir_ticks.specs.declared.tick_run.TickRun.{TickRun}
 
 pub ticks_in-append : (a b : List Item) → ticks_in (a ++ b) ≡ ticks_in a ++ ticks_in b
 ticks_in-append [] b = refl

@@ -3,8 +3,7 @@ use Rattle.std.proofs.Common.{◌≡◌, ◌+◌, ◌-◌, ◌<◌, ◌≤◌, �
 use Rattle.std.proofs.Common.{get_or, Option, Some, None, ap, refl, ◌∙◌, sym, subst, append_assoc}
 use Rattle.std.proofs.Common.{arith}
 use Rattle.std.proofs.lemmas.List.{take_more, take-append-drop, take-take, length-take}
-use Rattle.std.specs.Io.KnownBytes.{prepend_known}
-use Rattle.tick_drive.specs.Input.{ComesFirst}
+use Rattle.{std.specs.Io.KnownBytes.prepend_known, tick_drive.specs.Input.ComesFirst}
 
 -- some bytes of those that are kept are met
 pub met_some : (before left : Option (List ℕ)) (text kept : List ℕ) (n : ℕ)

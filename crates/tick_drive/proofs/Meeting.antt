@@ -1,16 +1,12 @@
 -- A line that a reader took of the bytes that are kept is met.
 use Rattle.std.proofs.Common.{◌≡◌, ◌+◌, ◌-◌, ◌<◌, ◌≤◌, ℕ, List, ◌++◌, length, take, drop, get_or}
 use Rattle.std.proofs.Common.{Option, ap, ◌∙◌, sym, subst, arith, length-append}
-use Rattle.std.proofs.lemmas.List.{length-take}
-use Rattle.std.specs.Io.KnownBytes.{prepend_known}
+use Rattle.std.{proofs.lemmas.List.length-take, specs.Io.KnownBytes.prepend_known}
+use Rattle.tick_drive.{proofs.Known.text_last, proofs.Known.met_slice, specs.Intake.HasMet}
+use Rattle.tick_drive.specs.{Intake.MeetsLine, Intake.lent, declared.intake.Intake.Intake}
 use Rattle.yasir_io.specs.Pieces.{kept_bytes, has_ended}
-use Rattle.yasir_ticks.specs.TickText.{ended_items}
-use Rattle.yasir_ticks.specs.Reader.{items_of_content, lent_bytes}
-use Rattle.yasir_ticks.specs.Slices.{TakesUpTo}
-use Rattle.yasir_ticks.specs.declared.place.Content.{Content}
-use Rattle.tick_drive.specs.Intake.{HasMet, MeetsLine, lent}
-use Rattle.tick_drive.specs.declared.intake.Intake.{Intake}
-use Rattle.tick_drive.proofs.Known.{text_last, met_slice}
+use Rattle.yasir_ticks.specs.{Reader.items_of_content, Reader.lent_bytes, Slices.TakesUpTo}
+use Rattle.yasir_ticks.specs.{TickText.ended_items, declared.place.Content.Content}
 
 pub meets_line : (old new : Intake) (marks : ℕ) (before now : Option (List ℕ)) (text kept : List ℕ)
     (within n : ℕ) (content : Content)

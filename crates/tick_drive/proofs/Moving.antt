@@ -1,15 +1,12 @@
 -- What calls do to a consumer, one after the other.
-use Rattle.std.proofs.Common.{◌≡◌, ℕ, ◌+◌, List, [], ◌∷◌, ◌++◌, length, length-append, take}
-use Rattle.std.proofs.Common.{drop, append-nil, Result, Ok, Err, subst, sym, ap, refl, append_assoc}
-use Rattle.std.proofs.Common.{arith, ◌∙◌}
-use Rattle.std.proofs.Math.Seq.{take-append-add}
+use Rattle.std.proofs.Common.{◌≡◌, ℕ, ◌+◌, List, [], ◌∷◌, ◌++◌, length, length-append, take, drop}
+use Rattle.std.proofs.Common.{append-nil, Result, Ok, Err, subst, sym, ap, refl, append_assoc}
+use Rattle.std.proofs.{Common.arith, Common.◌∙◌, Math.Seq.take-append-add}
 use Rattle.std.proofs.lemmas.List.{take-append-le, take-append-drop}
-use Rattle.yasir_ticks.specs.Ticks.{Item, ticks_in}
-use Rattle.yasir_ticks.specs.Ticks.Item.{mark}
 use Rattle.tick_drive.proofs.ItemLaws.{ticks_with}
 use Rattle.tick_drive.specs.Consumers.{Consuming, IsNoneDone, AreJoined, MayTake, Moves, Stops}
-use Rattle.tick_drive.specs.Consumers.{Gives, GivesFirst}
-use Rattle.tick_drive.specs.declared.consumer.Stop.{Stop}
+use Rattle.tick_drive.specs.{Consumers.Gives, Consumers.GivesFirst, declared.consumer.Stop.Stop}
+use Rattle.yasir_ticks.specs.Ticks.{Item, ticks_in, Item.mark}
 
 module _ {C : Type 0} (meaning : Consuming C) where
   moves_then : (c0 c1 c2 : C) (a b : List Item) → Moves meaning c0 c1 a → Moves meaning c1 c2 b

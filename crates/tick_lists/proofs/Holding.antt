@@ -1,21 +1,16 @@
 -- The lists hold the parts of the items so far, and of one item more.
-use Rattle.std.proofs.Common.{◌≡◌, ◌∙◌, ℕ, zero, suc, ◌<◌, List, [], ◌∷◌, ◌++◌, length, take}
-use Rattle.std.proofs.Common.{Ok, Err, refl, sym, ap, arith}
-use Rattle.yasir_ticks.specs.Ticks.{Item, marks_in}
-use Rattle.yasir_ticks.specs.Ticks.Item.{tick, mark}
-use Rattle.yasir_ticks.specs.declared.tick.Tick.{Tick}
-use Rattle.tick_drive.specs.Consumers.{Gives, GivesFirst}
-use Rattle.tick_drive.specs.declared.consumer.Stop.TheVariants.{NoMemory}
-use Rattle.tick_drive.proofs.Moving.{gives_items}
-use Rattle.tick_lists.specs.Parts.{part}
-use Rattle.tick_lists.specs.Places.{place_behind, place_after}
-use Rattle.tick_lists.specs.TickLists.{HoldsParts, TakesTick, with_first, with_second, with_third}
-use Rattle.tick_lists.specs.TickLists.{ticks_first, ticks_second, ticks_third}
-use Rattle.tick_lists.specs.Listing.{listing}
-use Rattle.tick_lists.specs.declared.tick_lists.Place.{Place}
-use Rattle.tick_lists.specs.declared.tick_lists.TickLists.{TickLists}
+use Rattle.std.proofs.Common.{◌≡◌, ◌∙◌, ℕ, zero, suc, ◌<◌, List, [], ◌∷◌, ◌++◌, length, take, Ok}
+use Rattle.std.proofs.Common.{Err, refl, sym, ap, arith}
+use Rattle.tick_drive.{proofs.Moving.gives_items, specs.Consumers.Gives}
+use Rattle.tick_drive.specs.{Consumers.GivesFirst, declared.consumer.Stop.TheVariants.NoMemory}
 use Rattle.tick_lists.proofs.Parting.{marks-tick, marks-mark, part-here, part-there, part-mark}
 use Rattle.tick_lists.proofs.Parting.{place-none}
+use Rattle.tick_lists.specs.{Listing.listing, Parts.part, Places.place_behind, Places.place_after}
+use Rattle.tick_lists.specs.TickLists.{HoldsParts, TakesTick, with_first, with_second, with_third}
+use Rattle.tick_lists.specs.TickLists.{ticks_first, ticks_second, ticks_third}
+use Rattle.tick_lists.specs.declared.tick_lists.{Place.Place, TickLists.TickLists}
+use Rattle.yasir_ticks.specs.Ticks.{Item, marks_in, Item.tick, Item.mark}
+use Rattle.yasir_ticks.specs.declared.tick.Tick.{Tick}
 
 -- a list with one tick more, by how many marks there were
 first-with : (m : ℕ) (items : List Item) (t : Tick) → marks_in items ≡ m

@@ -1,10 +1,8 @@
 -- The parts of some items, with one item more.
 use Rattle.std.proofs.Common.{◌≡◌, ℕ, zero, suc, List, [], ◌∷◌, ◌++◌, refl, ap, arith}
-use Rattle.yasir_ticks.specs.Ticks.{Item, marks_in}
-use Rattle.yasir_ticks.specs.Ticks.Item.{tick, mark}
+use Rattle.tick_lists.specs.{Parts.part, Places.place_behind, Places.place_after}
+use Rattle.yasir_ticks.specs.Ticks.{Item, marks_in, Item.tick, Item.mark}
 use Rattle.yasir_ticks.specs.declared.tick.Tick.{Tick}
-use Rattle.tick_lists.specs.Parts.{part}
-use Rattle.tick_lists.specs.Places.{place_behind, place_after}
 use Rattle.tick_lists.specs.declared.tick_lists.Place.TheVariants as place
 
 pub marks-tick : (items : List Item) (t : Tick) → marks_in (items ++ tick t ∷ []) ≡ marks_in items

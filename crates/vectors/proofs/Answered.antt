@@ -1,16 +1,13 @@
 -- The answer to a table as a function is the answer as a relation.
 use Rattle.std.proofs.Common.{◌≡◌, ℕ, ◌+◌, List, [], ◌∷◌, ◌++◌, length, Bool, Decides, true, false}
 use Rattle.std.proofs.Common.{not, refl, ap, sym, ◌∙◌, subst, append_assoc}
-use Rattle.std.specs.Prelude.{Result, Option, Some, None, All}
-use Rattle.std.specs.List.{position_from}
-use Rattle.std.proofs.lemmas.Iterator.Adapters.{position_from-zero}
+use Rattle.std.proofs.lemmas.{Bool.false≢true, Iterator.Adapters.position_from-zero}
 use Rattle.std.proofs.lemmas.List.{append-nil, length_push}
 use Rattle.std.proofs.lemmas.List.Elements.{All-nil, All-cons, All-append}
-use Rattle.std.proofs.lemmas.Bool.{false≢true}
-use Rattle.std.proofs.lemmas.Slice.Eq.{bytes_eq-Decides}
-use Rattle.vectors.specs.declared.case.Case.{Case}
-use Rattle.vectors.specs.declared.table.Miss.{Miss}
+use Rattle.std.{proofs.lemmas.Slice.Eq.bytes_eq-Decides, specs.List.position_from}
+use Rattle.std.specs.Prelude.{Result, Option, Some, None, All}
 use Rattle.vectors.specs.Cases.{value_of, has_bytes, IsRight, is_right, IsAnswer, answer_at, answer}
+use Rattle.vectors.specs.declared.{case.Case.Case, table.Miss.Miss}
 
 -- the answer to the cases from the n-th on
 abbrev answer_from : ℕ → List Case → Result (Unit {0}) Miss

@@ -1,14 +1,13 @@
 -- The definitions, computed at the tables: every case is right.
-use Rattle.std.proofs.Common.{◌≡◌, Ok, length, refl}
+use Rattle.dnp_link_frame.specs.Beginnings.{user_in_blocks}
 use Rattle.rtu_frame.specs.Crc.{bit_step, bit_steps, byte_step, crc}
 use Rattle.rtu_frame.specs.Frame.{is_frame, has_right_ending}
-use Rattle.dnp_link_frame.specs.Beginnings.{user_in_blocks}
+use Rattle.std.proofs.Common.{◌≡◌, Ok, length, refl}
 use Rattle.dnp_link_frame.specs.Blocks as dnp
-use Rattle.line_rules.specs.Endings.{ends_in_check}
 use Rattle.hmac_tag.proofs.StandardFacts.{hmac_of_hi_there, hmac_of_jefe, hmac_of_fifty_bytes}
 use Rattle.hmac_tag.proofs.StandardFacts.{tag_of_test_with_truncation, hmac_under_a_long_key}
 use Rattle.hmac_tag.proofs.StandardFacts.{hmac_256_of_hi_there, hmac_256_of_jefe}
-use Rattle.vectors.specs.Cases.{answer}
+use Rattle.{line_rules.specs.Endings.ends_in_check, vectors.specs.Cases.answer}
 use Rattle.vectors.specs.Tables.{crc_cases, hmac_cases, frames_cases, user_cases}
 
 pub crc_rows : (length crc_cases ≡ 4) × (answer crc_cases ≡ Ok tt)

@@ -1,14 +1,11 @@
 -- `user_of` is the user data of which bytes are the frame.
-use Rattle.std.proofs.Common.{◌≡◌, ℕ, ◌≤◌, List, length, Some, None, arith, ◌∙◌, ap, subst}
-use Rattle.std.proofs.Common.{⊎_elim}
-use Rattle.std.proofs.lemmas.Bool.{cases_Bool, cond-true, cond-false, false_from_ne_true}
-use Rattle.line_rules.specs.Bytes.{AreBytes}
-use Rattle.dnp_link_frame.specs.Beginnings.{user_in}
-use Rattle.dnp_link_frame.specs.Blocks.{is_frame}
-use Rattle.dnp_link_frame.specs.Frame.{IsFrame, IsFrameOf}
-use Rattle.dnp_link_frame.specs.declared.header.Header.{Header}
 use Rattle.dnp_link_frame.proofs.FrameLaws.{is_frame-frame, frame-is_frame}
 use Rattle.dnp_link_frame.proofs.FrameParts.{length-frame_of, user_in-frame_of}
+use Rattle.dnp_link_frame.specs.{Beginnings.user_in, Blocks.is_frame, Frame.IsFrame}
+use Rattle.dnp_link_frame.specs.{Frame.IsFrameOf, declared.header.Header.Header}
+use Rattle.line_rules.specs.Bytes.{AreBytes}
+use Rattle.std.proofs.Common.{◌≡◌, ℕ, ◌≤◌, List, length, Some, None, arith, ◌∙◌, ap, subst, ⊎_elim}
+use Rattle.std.proofs.lemmas.Bool.{cases_Bool, cond-true, cond-false, false_from_ne_true}
 use Rattle.vectors.specs.Cases.{user_of}
 
 pub user_of-frame : (header : Header) (user text : List ℕ) → IsFrameOf header user text

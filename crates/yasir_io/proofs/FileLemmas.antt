@@ -1,14 +1,11 @@
 -- Lemmas on bytes that are read into a buffer, part by part.
-use Rattle.std.proofs.Common.{◌≡◌, ℕ, ◌+◌, ◌-◌, ◌<◌, ◌≤◌, List, ◌++◌, Option, Result, Ok, Err}
-use Rattle.std.proofs.Common.{IfOk, length, take, drop, replicate, slice_range, OnOk, sym}
-use Rattle.std.proofs.Common.{ap, ◌∙◌, subst, arith, le_refl, drop_at, length-take-le}
-use Rattle.std.proofs.lemmas.List.{drop-replicate}
-use Rattle.std.proofs.lemmas.Slice.{take-put_mid_below}
-use Rattle.std.proofs.KnownBytes.{Consumes-trans}
-use Rattle.std.specs.Io.KnownBytes.{Consumes, IsAtEnd}
-use Rattle.std.specs.declared.io.Read.{Ghosts as Read}
-use Rattle.yasir_io.specs.SlotFiles.{ReadsNext}
-use Rattle.yasir_io.specs.Disks.{Elapses}
+use Rattle.std.proofs.Common.{◌≡◌, ℕ, ◌+◌, ◌-◌, ◌<◌, ◌≤◌, List, ◌++◌, Option, Result, Ok, Err, IfOk}
+use Rattle.std.proofs.Common.{length, take, drop, replicate, slice_range, OnOk, sym, ap, ◌∙◌, subst}
+use Rattle.std.proofs.Common.{arith, le_refl, drop_at, length-take-le}
+use Rattle.std.proofs.{KnownBytes.Consumes-trans, lemmas.List.drop-replicate}
+use Rattle.std.{proofs.lemmas.Slice.take-put_mid_below, specs.Io.KnownBytes.Consumes}
+use Rattle.std.specs.{Io.KnownBytes.IsAtEnd, declared.io.Read.Ghosts as Read}
+use Rattle.yasir_io.specs.{Disks.Elapses, SlotFiles.ReadsNext}
 use borrow.Rule.Slice.PartMut.{put_mid, post_of}
 use lib.Seq.{take-add, take-append-le}
 

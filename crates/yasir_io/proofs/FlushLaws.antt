@@ -1,7 +1,6 @@
 -- Sinks that several calls in a row did not flush.
 use Rattle.std.proofs.Common.{refl, ◌∙◌}
-use Rattle.yasir_io.specs.declared.sink.Sink.{Ghosts as Sink}
-use Rattle.yasir_io.specs.Flushed.{NoneFlushed}
+use Rattle.yasir_io.specs.{Flushed.NoneFlushed, declared.sink.Sink.Ghosts as Sink}
 
 module _ {O L : Type 0} (o : Sink O) (l : Sink L) where
   -- no call

@@ -2,14 +2,11 @@
 use Rattle.std.proofs.Common.{◌≡◌, ◌∙◌, ℕ, ◌≤◌, ◌⊎◌, List, [], ◌∷◌, ◌++◌, Some, length, drop, true}
 use Rattle.std.proofs.Common.{false, refl, sym, ap, subst, inl, inr, arith, length-append}
 use Rattle.std.proofs.lemmas.List.{drop-append-le}
-use Rattle.yasir_io.specs.declared.disk.Slot.{Slot}
-use Rattle.yasir_io.specs.declared.disk.TheConstants.{SLOT_LEN}
-use Rattle.yasir_io.specs.declared.disk.Slot.TheVariants.{A, B}
-use Rattle.yasir_io.specs.declared.mem_slots.Moment.{Moment}
-use Rattle.yasir_io.specs.Disks.{Slots, slot_in, other_slot, with_slot, Torn}
-use Rattle.yasir_io.specs.Disks.{Elapses}
+use Rattle.yasir_io.specs.Disks.{Slots, slot_in, other_slot, with_slot, Torn, Elapses}
 use Rattle.yasir_io.specs.MemSlots.{IsImage, IsImageOfAny, MayAdd, old_slots_at, slots_at}
 use Rattle.yasir_io.specs.MemSlots.{is_written}
+use Rattle.yasir_io.specs.declared.disk.Slot.{Slot, TheVariants.A, TheVariants.B}
+use Rattle.yasir_io.specs.declared.{disk.TheConstants.SLOT_LEN, mem_slots.Moment.Moment}
 
 -- what a crash since t might have left, the moments before being past and the present one this
 abbrev pub Left : List Moment → Moment → ℕ → Slots → Type 0

@@ -1,7 +1,6 @@
 -- Pieces of a text behind those that wait in a room.
 use Rattle.std.proofs.Common.{◌≡◌, ◌∙◌, ℕ, ◌+◌, ◌≤◌, List, ◌++◌, length, take, sym, ap, arith}
-use Rattle.std.proofs.Common.{append_assoc}
-use Rattle.std.proofs.Math.Seq.{take-append-add}
+use Rattle.std.proofs.{Common.append_assoc, Math.Seq.take-append-add}
 use Rattle.std.proofs.lemmas.List.{take-append-le, take-take, length-take-le}
 
 -- the first bytes of a piece that was written behind the first ones of a room

@@ -1,14 +1,12 @@
 -- `bursts_from` gives the bursts of a line, and nothing else is its bursts.
 use Rattle.std.proofs.Common.{◌≡◌, ℕ, zero, suc, ◌+◌, ◌-◌, ◌<◌, List, [], ◌∷◌, ◌++◌, length, refl}
 use Rattle.std.proofs.Common.{arith, sym, ◌∙◌, ap, subst, ⊎_elim, length-append, add-zero}
-use Rattle.std.proofs.lemmas.Bool.{cases_lt}
-use Rattle.std.proofs.lemmas.List.{append_assoc, length-replicate}
-use Rattle.yasir_ticks.specs.Ticks.{silent}
+use Rattle.std.proofs.lemmas.{Bool.cases_lt, List.append_assoc, List.length-replicate}
+use Rattle.yasir_ticks.proofs.BurstLaws.{alone, with_first, with_byte-near, with_byte-far}
 use Rattle.yasir_ticks.specs.Bursts.{Burst, with_byte, bursts_from, end_of}
 use Rattle.yasir_ticks.specs.BurstsOf.{IsContiguous, one, more, StartsFrom, AreBursts}
-use Rattle.yasir_ticks.specs.declared.tick.Tick.{Tick}
-use Rattle.yasir_ticks.specs.declared.tick.Tick.TheVariants.{Silent, Byte}
-use Rattle.yasir_ticks.proofs.BurstLaws.{alone, with_first, with_byte-near, with_byte-far}
+use Rattle.yasir_ticks.specs.Ticks.{silent}
+use Rattle.yasir_ticks.specs.declared.tick.Tick.{Tick, TheVariants.Silent, TheVariants.Byte}
 
 module _ (cut : ℕ) where
   pub bursts_from-cons : (n b : ℕ) (l : List Tick)

@@ -1,33 +1,25 @@
 -- The canonical text of ticks stands for them, and for nothing else.
-use Rattle.std.proofs.Common.{◌≡◌, ◌∙◌, ℕ, zero, suc, ◌+◌, ◌-◌, ◌/◌, ◌%◌, ◌^◌, ◌<◌, ◌≤◌}
-use Rattle.std.proofs.Common.{true, List, [], ◌∷◌, ◌++◌, length, map, take, drop}
-use Rattle.std.proofs.Common.{replicate, Some, refl, sym, ap, subst, arith, append_assoc}
-use Rattle.std.proofs.Common.{inl, inr}
-use Rattle.std.specs.List.{flat_map, All}
-use Rattle.std.specs.Fmt.{decimal}
-use Rattle.std.proofs.lemmas.Bool.{cases_lt}
-use Rattle.std.proofs.lemmas.Fmt.{decimal_by_steps}
-use Rattle.std.proofs.lemmas.List.{append-nil, map-append, length-take, get_or_past, take-append-drop}
-use Rattle.std.proofs.lemmas.List.{length-drop, replicate-append-replicate}
+use Rattle.hex.{proofs.HexLemmas.decode_of-encode_lower, specs.Hex.encode_lower, specs.Hex.IsBytes}
+use Rattle.std.proofs.Common.{◌≡◌, ◌∙◌, ℕ, zero, suc, ◌+◌, ◌-◌, ◌/◌, ◌%◌, ◌^◌, ◌<◌, ◌≤◌, true, List}
+use Rattle.std.proofs.Common.{[], ◌∷◌, ◌++◌, length, map, take, drop, replicate, Some, refl, sym}
+use Rattle.std.proofs.Common.{ap, subst, arith, append_assoc, inl, inr}
+use Rattle.std.proofs.lemmas.{Bool.cases_lt, Fmt.decimal_by_steps}
+use Rattle.std.proofs.lemmas.List.{append-nil, map-append, length-take, get_or_past}
+use Rattle.std.proofs.lemmas.List.{take-append-drop, length-drop, replicate-append-replicate}
 use Rattle.std.proofs.lemmas.List.Elements.{All-nil, All-cons, All-take, All-drop, All-get_or}
-use Rattle.hex.specs.Hex.{encode_lower, IsBytes}
-use Rattle.hex.proofs.HexLemmas.{decode_of-encode_lower}
-use Rattle.yasir_ticks.specs.Ticks.{Item, IsTick, AreTicks, marks_in, ticks_in}
-use Rattle.yasir_ticks.specs.Ticks.Item.{tick}
-use Rattle.yasir_ticks.specs.TickText.{lines_of, line_items, all_items, is_decimal_digit}
-use Rattle.yasir_ticks.specs.TickText.{is_plain_decimal, number_after}
-use Rattle.yasir_ticks.specs.TickText.{IsTickText}
+use Rattle.std.specs.{Fmt.decimal, List.flat_map, List.All}
+use Rattle.yasir_ticks.proofs.Digits.{is_plain_decimal-more, number_after-append}
+use Rattle.yasir_ticks.proofs.{Items.all_items_cons, Lines.all_lines, Lines.all_lines-line}
+use Rattle.yasir_ticks.proofs.Steps.{IsRightLine, pairs_right, number_right}
+use Rattle.yasir_ticks.proofs.TickRuns.{ticks_in-ticks}
+use Rattle.yasir_ticks.proofs.Writing.{full_bytes, last_bytes, full_silence, last_silence}
 use Rattle.yasir_ticks.specs.CanonicalText.{Stretch, stretches, with_tick, stretch_lines, byte_line}
 use Rattle.yasir_ticks.specs.CanonicalText.{silence_line, canonical_text}
 use Rattle.yasir_ticks.specs.CanonicalText.Stretch.{bytes, silence}
-use Rattle.yasir_ticks.specs.declared.tick.Tick.{Tick}
-use Rattle.yasir_ticks.specs.declared.tick.Tick.TheVariants.{Silent, Byte}
-use Rattle.yasir_ticks.proofs.Lines.{all_lines, all_lines-line}
-use Rattle.yasir_ticks.proofs.Steps.{IsRightLine, pairs_right, number_right}
-use Rattle.yasir_ticks.proofs.Items.{all_items_cons}
-use Rattle.yasir_ticks.proofs.TickRuns.{ticks_in-ticks}
-use Rattle.yasir_ticks.proofs.Writing.{full_bytes, last_bytes, full_silence, last_silence}
-use Rattle.yasir_ticks.proofs.Digits.{is_plain_decimal-more, number_after-append}
+use Rattle.yasir_ticks.specs.TickText.{lines_of, line_items, all_items, is_decimal_digit}
+use Rattle.yasir_ticks.specs.TickText.{is_plain_decimal, number_after, IsTickText}
+use Rattle.yasir_ticks.specs.Ticks.{Item, IsTick, AreTicks, marks_in, ticks_in, Item.tick}
+use Rattle.yasir_ticks.specs.declared.tick.Tick.{Tick, TheVariants.Silent, TheVariants.Byte}
 
 -- ---- one line
 

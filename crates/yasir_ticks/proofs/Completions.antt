@@ -1,23 +1,20 @@
 -- How a text goes on that no byte of is refused.
 use Rattle.std.proofs.Common.{◌≡◌, ◌∙◌, ℕ, ◌+◌, ◌*◌, ◌<◌, List, [], ◌∷◌, ◌++◌, length, replicate}
 use Rattle.std.proofs.Common.{Some, refl, ap, sym, arith, append_assoc, append-nil}
-use Rattle.yasir_ticks.specs.Ticks.{Item, marks_in}
-use Rattle.yasir_ticks.specs.TickText.{lines_of, line_items, all_items, ended_items, BeginsTickText}
-use Rattle.yasir_ticks.specs.Reader.{Reads, items_of_content, marks_at, IsAt}
-use Rattle.yasir_ticks.specs.ReaderStep.{Closes}
-use Rattle.yasir_ticks.specs.declared.place.Content.{Content}
-use Rattle.yasir_ticks.specs.declared.place.Content.TheVariants.{NoTick, KeptBytes, SilentTicks}
-use Rattle.yasir_ticks.specs.declared.place.Content.TheVariants.{OneMark}
-use Rattle.yasir_ticks.specs.declared.place.Place.{Place}
-use Rattle.yasir_ticks.specs.declared.place.Place.TheVariants.{Start, Comment, Pairs, HalfPair}
-use Rattle.yasir_ticks.specs.declared.place.Place.TheVariants.{Minus, Number, Percent, Returned}
-use Rattle.yasir_ticks.specs.declared.place.Place.TheVariants.{Refused}
-use Rattle.yasir_ticks.proofs.Lines.{all_lines, joined, all_lines-append, mark_lines}
-use Rattle.yasir_ticks.proofs.Lines.{all_lines-marks}
-use Rattle.yasir_ticks.proofs.Items.{marks_in-append, marks_in-content}
-use Rattle.yasir_ticks.proofs.Items.{all_items_both, all_items_cons, all_items-marks}
+use Rattle.yasir_ticks.proofs.Items.{marks_in-append, marks_in-content, all_items_both}
+use Rattle.yasir_ticks.proofs.{Items.all_items_cons, Items.all_items-marks, Lines.all_lines}
+use Rattle.yasir_ticks.proofs.Lines.{joined, all_lines-append, mark_lines, all_lines-marks}
 use Rattle.yasir_ticks.proofs.Steps.{closes_start, closes_comment, closes_pairs, closes_number}
 use Rattle.yasir_ticks.proofs.Steps.{closes_percent, closes_returned, accepts_high, accepts_low}
+use Rattle.yasir_ticks.specs.Reader.{Reads, items_of_content, marks_at, IsAt}
+use Rattle.yasir_ticks.specs.ReaderStep.{Closes}
+use Rattle.yasir_ticks.specs.TickText.{lines_of, line_items, all_items, ended_items, BeginsTickText}
+use Rattle.yasir_ticks.specs.Ticks.{Item, marks_in}
+use Rattle.yasir_ticks.specs.declared.place.Content.{Content, TheVariants.NoTick}
+use Rattle.yasir_ticks.specs.declared.place.Content.TheVariants.{KeptBytes, SilentTicks, OneMark}
+use Rattle.yasir_ticks.specs.declared.place.Place.{Place, TheVariants.Start}
+use Rattle.yasir_ticks.specs.declared.place.Place.TheVariants.{Comment, Pairs, HalfPair, Minus}
+use Rattle.yasir_ticks.specs.declared.place.Place.TheVariants.{Number, Percent, Returned, Refused}
 
 -- how a line goes on to one of a right form, with this many marks
 pub record Completion (marks : ℕ) (line : List ℕ) : Type 0 where

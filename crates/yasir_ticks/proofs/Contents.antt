@@ -1,11 +1,10 @@
 -- Lines apart from comments: a CR at the end, bytes that may not come in a content.
 use Rattle.std.proofs.Common.{◌≡◌, ◌≢◌, ◌∙◌, ◌==◌, ℕ, suc, Bool, true, false, List, [], ◌∷◌, ◌++◌}
 use Rattle.std.proofs.Common.{length, Option, Some, None, refl, ap, cond, arith, append-nil}
-use Rattle.yasir_ticks.specs.Ticks.{Item}
-use Rattle.yasir_ticks.specs.Ticks.Item.{mark}
-use Rattle.yasir_ticks.specs.TickText.{line_items, content_items, without_return, ends_in_return}
-use Rattle.yasir_ticks.specs.Reader.{starts_comment}
 use Rattle.yasir_ticks.proofs.Digits.{byte_items-bad, silence_items-bad}
+use Rattle.yasir_ticks.specs.Reader.{starts_comment}
+use Rattle.yasir_ticks.specs.TickText.{line_items, content_items, without_return, ends_in_return}
+use Rattle.yasir_ticks.specs.Ticks.{Item, Item.mark}
 
 pub test_of : (a b : ℕ) → a ≢ b → (a == b) ≡ false
 test_of a b h = grind arith

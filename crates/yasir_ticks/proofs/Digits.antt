@@ -1,20 +1,16 @@
 -- Digits of `+` and `-` lines: one digit more, and bytes that are no digits.
+use Rattle.hex.proofs.HexLemmas.{decode_of-odd}
+use Rattle.hex.specs.{Hex.decode_of, Hex.is_hex_digit, declared.error.FromHexError.FromHexError}
 use Rattle.std.proofs.Common.{◌≡◌, ◌∙◌, ◌==◌, ◌&&◌, ℕ, ◌+◌, ◌*◌, ◌-◌, ◌%◌, ◌≤◌, ◌<◌, Bool, true}
 use Rattle.std.proofs.Common.{false, not, List, [], ◌∷◌, ◌++◌, length, map, replicate, Option, Some}
 use Rattle.std.proofs.Common.{None, Result, Ok, Err, refl, sym, cond, arith, option_map, leb}
-use Rattle.std.specs.List.{list_all}
-use Rattle.std.specs.Result.{result_ok}
-use Rattle.std.proofs.lemmas.Bool.{both_ways, and_parts}
-use Rattle.std.proofs.lemmas.List.Folds.{list_all-append}
-use Rattle.hex.specs.Hex.{decode_of, is_hex_digit}
-use Rattle.hex.specs.declared.error.FromHexError.{FromHexError}
-use Rattle.hex.proofs.HexLemmas.{decode_of-odd}
+use Rattle.std.proofs.lemmas.{Bool.both_ways, Bool.and_parts, List.Folds.list_all-append}
+use Rattle.std.specs.{List.list_all, Result.result_ok}
 use Rattle.yasir_ticks.proofs.hex_digits.Decoding.{hex_digits, hex_length}
-use Rattle.yasir_ticks.specs.Ticks.{Item}
-use Rattle.yasir_ticks.specs.Ticks.Item.{tick}
-use Rattle.yasir_ticks.specs.declared.tick.Tick.TheVariants.{Silent, Byte}
 use Rattle.yasir_ticks.specs.TickText.{byte_items, silence_items, is_plain_decimal}
 use Rattle.yasir_ticks.specs.TickText.{is_decimal_digit, number_after}
+use Rattle.yasir_ticks.specs.Ticks.{Item, Item.tick}
+use Rattle.yasir_ticks.specs.declared.tick.Tick.TheVariants.{Silent, Byte}
 
 and_false : (p q : Bool) → q ≡ false → (p && q) ≡ false
 and_false true q h = h

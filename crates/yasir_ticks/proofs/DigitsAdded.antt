@@ -1,11 +1,10 @@
 -- Digits behind a line: those of the first 32 bytes of what is left, and those of the last bytes.
-use Rattle.std.proofs.Common.{◌≡◌, ◌∙◌, ℕ, ◌+◌, ◌*◌, ◌≤◌, List, [], ◌∷◌, ◌++◌, length, take, drop}
-use Rattle.std.proofs.Common.{sym, ap, arith}
-use Rattle.std.specs.Prelude.{IsOk, OnOk, Result, Ok, Err}
-use Rattle.std.proofs.Math.Seq.{take-append_seam}
-use Rattle.std.proofs.lemmas.List.{append_assoc, append-nil, length-append, take-append-drop}
-use Rattle.hex.specs.Hex.{encode_lower, encode_with, lower_digits}
 use Rattle.hex.proofs.HexLemmas.{length-encode_with}
+use Rattle.hex.specs.Hex.{encode_lower, encode_with, lower_digits}
+use Rattle.std.proofs.Common.{◌≡◌, ◌∙◌, ℕ, ◌+◌, ◌*◌, ◌≤◌, List, [], ◌∷◌, ◌++◌, length, take, drop}
+use Rattle.std.proofs.{Common.sym, Common.ap, Common.arith, Math.Seq.take-append_seam}
+use Rattle.std.proofs.lemmas.List.{append_assoc, append-nil, length-append, take-append-drop}
+use Rattle.std.specs.Prelude.{IsOk, OnOk, Result, Ok, Err}
 use Rattle.yasir_ticks.proofs.hex_digits.DigitEncoding.{encode-append, encode-take}
 
 -- what holds of an answer that isn't an error

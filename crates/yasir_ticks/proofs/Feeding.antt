@@ -1,31 +1,23 @@
 -- One byte more at a place of a text, and its end.
 use Rattle.std.proofs.Common.{◌≡◌, ◌≢◌, ◌≤◌, inl, inr, ◌∙◌, ◌==◌, ℕ, ◌+◌, List, [], ◌∷◌, ◌++◌, Some}
 use Rattle.std.proofs.Common.{None, Result, Ok, Err, refl, ap, sym, arith, append_assoc, append-nil}
-use Rattle.std.proofs.Common.{unwrap_or, length-append}
+use Rattle.std.proofs.{Common.unwrap_or, Common.length-append, lemmas.Bool.cases_eq}
+use Rattle.std.{proofs.lemmas.Grind.flat_map-append, specs.List.flat_map}
 use Rattle.std.specs.Prelude.{OnOk, OnErr, IfOk, IfErr}
-use Rattle.std.specs.List.{flat_map}
-use Rattle.std.proofs.lemmas.Bool.{cases_eq}
-use Rattle.std.proofs.lemmas.Grind.{flat_map-append}
-use Rattle.yasir_ticks.specs.Ticks.{Item, items_of_run, marks_in}
+use Rattle.yasir_ticks.proofs.{Completions.begins_at, Contents.test_of, Items.marks_in-append}
+use Rattle.yasir_ticks.proofs.Items.{marks_in-content, all_items_parts, line_items_parts}
+use Rattle.yasir_ticks.proofs.{Items.all_items_both, Items.all_items_cons, Lines.all_lines}
+use Rattle.yasir_ticks.proofs.Lines.{joined, lines_of-lf, lines_of-more, all_lines-append}
+use Rattle.yasir_ticks.proofs.Lines.{all_lines-lf, all_lines-byte, all_lines-first}
+use Rattle.yasir_ticks.specs.Reader.{items_of_content, marks_at, IsAt, StandsFor}
+use Rattle.yasir_ticks.specs.ReaderStep.{Accepts, Refuses, LacksMark, Steps, Stops, line_with}
 use Rattle.yasir_ticks.specs.TickText.{Lines, lines_of, line_items, all_items, ended_items}
 use Rattle.yasir_ticks.specs.TickText.{line_after, fault_after, fault_at_end, IsTickText}
 use Rattle.yasir_ticks.specs.TickText.{BeginsTickText, IsRefusedAfter}
-use Rattle.yasir_ticks.specs.Reader.{items_of_content, marks_at, IsAt, StandsFor}
-use Rattle.yasir_ticks.specs.ReaderStep.{Accepts, Refuses, LacksMark, Steps, Stops, line_with}
-use Rattle.yasir_ticks.specs.declared.fault.BadTicks.{BadTicks}
-use Rattle.yasir_ticks.specs.declared.fault.TickFault.{TickFault}
-use Rattle.yasir_ticks.specs.declared.run.Run.{Run}
-use Rattle.yasir_ticks.specs.declared.place.Place.{Place}
-use Rattle.yasir_ticks.specs.declared.place.Place.TheVariants.{Start}
-use Rattle.yasir_ticks.specs.declared.reader.TickReader.{TickReader}
-use Rattle.yasir_ticks.proofs.Lines.{all_lines, joined, lines_of-lf, lines_of-more}
-use Rattle.yasir_ticks.proofs.Lines.{all_lines-append, all_lines-lf, all_lines-byte}
-use Rattle.yasir_ticks.proofs.Lines.{all_lines-first}
-use Rattle.yasir_ticks.proofs.Items.{marks_in-append, marks_in-content}
-use Rattle.yasir_ticks.proofs.Items.{all_items_parts, line_items_parts}
-use Rattle.yasir_ticks.proofs.Items.{all_items_both, all_items_cons}
-use Rattle.yasir_ticks.proofs.Contents.{test_of}
-use Rattle.yasir_ticks.proofs.Completions.{begins_at}
+use Rattle.yasir_ticks.specs.Ticks.{Item, items_of_run, marks_in}
+use Rattle.yasir_ticks.specs.declared.fault.{BadTicks.BadTicks, TickFault.TickFault}
+use Rattle.yasir_ticks.specs.declared.place.Place.{Place, TheVariants.Start}
+use Rattle.yasir_ticks.specs.declared.{reader.TickReader.TickReader, run.Run.Run}
 
 module _ (text : List ℕ) where
   -- the last line goes on, or ends

@@ -1,14 +1,11 @@
 -- The items of lines, and how many marks stand among them.
 use Rattle.std.proofs.Common.{◌≡◌, ◌∙◌, ℕ, ◌+◌, zero, suc, List, [], ◌∷◌, ◌++◌, map, replicate}
 use Rattle.std.proofs.Common.{Option, Some, None, refl, ap, sym, arith, append_assoc, option_map}
-use Rattle.std.specs.Option.{option_and_then}
-use Rattle.yasir_ticks.specs.Ticks.{Item, marks_in}
-use Rattle.yasir_ticks.specs.Ticks.Item.{tick, mark}
-use Rattle.yasir_ticks.specs.TickText.{line_items, all_items}
-use Rattle.yasir_ticks.specs.Reader.{items_of_content, marks_of_content}
-use Rattle.yasir_ticks.specs.declared.place.Content.{Content}
-use Rattle.yasir_ticks.specs.declared.place.Content.TheVariants.{NoTick, KeptBytes, SilentTicks}
-use Rattle.yasir_ticks.specs.declared.place.Content.TheVariants.{OneMark}
+use Rattle.{std.specs.Option.option_and_then, yasir_ticks.specs.Reader.items_of_content}
+use Rattle.yasir_ticks.specs.{Reader.marks_of_content, TickText.line_items, TickText.all_items}
+use Rattle.yasir_ticks.specs.Ticks.{Item, marks_in, Item.tick, Item.mark}
+use Rattle.yasir_ticks.specs.declared.place.Content.{Content, TheVariants.NoTick}
+use Rattle.yasir_ticks.specs.declared.place.Content.TheVariants.{KeptBytes, SilentTicks, OneMark}
 use Rattle.yasir_ticks.specs.declared.tick.Tick.TheVariants.{Silent, Byte}
 
 pub marks_in-append : (a b : List Item) → marks_in (a ++ b) ≡ marks_in a + marks_in b

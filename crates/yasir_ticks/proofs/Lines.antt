@@ -1,9 +1,8 @@
 -- The lines of a text, and of a text with more behind it.
 use Rattle.std.proofs.Common.{◌≡◌, ◌≢◌, ◌∙◌, ◌==◌, ℕ, zero, suc, Bool, true, false, List, [], ◌∷◌}
 use Rattle.std.proofs.Common.{◌++◌, ◌<◌, replicate, length, get_or, refl, ap, cond, arith}
-use Rattle.std.proofs.Common.{append_assoc, append-nil}
+use Rattle.std.proofs.{Common.append_assoc, Common.append-nil, lemmas.Bool.and_parts}
 use Rattle.std.specs.List.{list_all}
-use Rattle.std.proofs.lemmas.Bool.{and_parts}
 use Rattle.yasir_ticks.specs.TickText.{Lines, lines_of, with_front}
 
 -- all lines of a text, the last one too

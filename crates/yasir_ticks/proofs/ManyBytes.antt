@@ -1,22 +1,17 @@
 -- Several bytes of a text, one after the other.
+use Rattle.{hex.specs.Hex.hex_digit_value, memchr.specs.Find.IsFirstByte, memchr.specs.Find.is_byte}
 use Rattle.std.proofs.Common.{◌≡◌, ◌≢◌, ◌∙◌, ℕ, ◌+◌, ◌-◌, ◌*◌, ◌<◌, ◌≤◌, List, [], ◌∷◌, ◌++◌}
 use Rattle.std.proofs.Common.{length, take, drop, get_or, unwrap_or, Option, Some, None, is_some}
 use Rattle.std.proofs.Common.{refl, ap, sym, subst, arith, append_assoc, append-nil, length-append}
-use Rattle.std.proofs.Common.{length-drop}
-use Rattle.hex.specs.Hex.{hex_digit_value}
-use Rattle.std.proofs.lemmas.List.{take_more, get_or-take, length-take, take_all}
+use Rattle.std.proofs.{Common.length-drop, Math.Seq.take-add}
 use Rattle.std.proofs.lemmas.Bool.{eq-eqb, eqb-true}
-use Rattle.std.proofs.Math.Seq.{take-add}
-use Rattle.memchr.specs.Find.{IsFirstByte, is_byte}
-use Rattle.yasir_ticks.specs.TickText.{ended_items}
-use Rattle.yasir_ticks.specs.Reader.{IsAt, StandsFor}
-use Rattle.yasir_ticks.specs.ReaderStep.{Accepts}
-use Rattle.yasir_ticks.specs.Slices.{GoesOn}
+use Rattle.std.proofs.lemmas.List.{take_more, get_or-take, length-take, take_all}
+use Rattle.yasir_ticks.proofs.{Feeding.at_more, Lines.IsFree, Lines.lines_of-more}
+use Rattle.yasir_ticks.proofs.{Lines.lines_of-free, Steps.accepts_high, Steps.accepts_low}
+use Rattle.yasir_ticks.{proofs.Steps.hex_not_lf, specs.Reader.IsAt, specs.Reader.StandsFor}
+use Rattle.yasir_ticks.specs.{ReaderStep.Accepts, Slices.GoesOn, TickText.ended_items}
 use Rattle.yasir_ticks.specs.declared.place.Place.TheVariants.{Comment, Pairs, HalfPair}
 use Rattle.yasir_ticks.specs.declared.reader.TickReader.{TickReader}
-use Rattle.yasir_ticks.proofs.Lines.{IsFree, lines_of-more, lines_of-free}
-use Rattle.yasir_ticks.proofs.Feeding.{at_more}
-use Rattle.yasir_ticks.proofs.Steps.{accepts_high, accepts_low, hex_not_lf}
 
 -- and then some more
 pub goes_on_then : (a b c : TickReader) (x y : List ℕ) → GoesOn a x b → GoesOn b y c

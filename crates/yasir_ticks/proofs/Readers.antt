@@ -1,18 +1,13 @@
 -- Steps of a reader from what its parts do.
-use Rattle.std.proofs.Common.{◌≡◌, ◌≢◌, ℕ, List, [], Option, Some, None, Result, Ok, Err}
-use Rattle.std.proofs.Common.{◌∙◌, ap, sym, refl}
-use Rattle.yasir_ticks.specs.Ticks.{items_of_run, marks_in}
-use Rattle.yasir_ticks.specs.Reader.{items_of_content}
+use Rattle.std.proofs.Common.{◌≡◌, ◌≢◌, ℕ, List, [], Option, Some, None, Result, Ok, Err, ◌∙◌, ap}
+use Rattle.{std.proofs.Common.sym, std.proofs.Common.refl, yasir_ticks.proofs.Contents.test_of}
+use Rattle.yasir_ticks.{proofs.Items.marks_in-content, specs.Reader.items_of_content}
 use Rattle.yasir_ticks.specs.ReaderStep.{Accepts, Refuses, Advances, Closes, Stops}
-use Rattle.yasir_ticks.specs.declared.run.Run.{Run}
-use Rattle.yasir_ticks.specs.declared.run.Run.TheVariants.{Nothing}
-use Rattle.yasir_ticks.specs.declared.fault.TickFault.{TickFault}
-use Rattle.yasir_ticks.specs.declared.place.Content.{Content}
-use Rattle.yasir_ticks.specs.declared.place.Place.{Place}
-use Rattle.yasir_ticks.specs.declared.place.Place.TheVariants.{Refused}
+use Rattle.yasir_ticks.specs.Ticks.{items_of_run, marks_in}
+use Rattle.yasir_ticks.specs.declared.{fault.TickFault.TickFault, place.Content.Content}
+use Rattle.yasir_ticks.specs.declared.place.Place.{Place, TheVariants.Refused}
 use Rattle.yasir_ticks.specs.declared.reader.TickReader.{TickReader}
-use Rattle.yasir_ticks.proofs.Contents.{test_of}
-use Rattle.yasir_ticks.proofs.Items.{marks_in-content}
+use Rattle.yasir_ticks.specs.declared.run.Run.{Run, TheVariants.Nothing}
 
 -- a byte that goes on with the line
 pub step_on : (old new : TickReader) (b : ℕ) (result : Result (Option Content) TickFault)

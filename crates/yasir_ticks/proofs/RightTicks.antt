@@ -1,7 +1,6 @@
 -- Lists of ticks whose bytes are bytes.
 use Rattle.std.proofs.Common.{ℕ, zero, suc, ◌<◌, List, [], ◌∷◌, get_or, map, take}
-use Rattle.yasir_ticks.specs.Ticks.{AreTicks, silent}
-use Rattle.yasir_ticks.specs.declared.tick.Tick.TheVariants.{Byte}
+use Rattle.yasir_ticks.specs.{Ticks.AreTicks, Ticks.silent, declared.tick.Tick.TheVariants.Byte}
 
 pub are_bytes : (n : ℕ) (bytes : List ℕ) → ((i : ℕ) → get_or bytes i 0 < 256)
     → AreTicks (map Byte (take n bytes))

@@ -1,9 +1,7 @@
 -- The first ticks of a run, by its kind.
 use Rattle.std.proofs.Common.{◌≡◌, ◌∙◌, ℕ, ◌≤◌, List, map, take, ap}
-use Rattle.std.proofs.lemmas.List.{take-map, take-replicate}
-use Rattle.std.specs.Borrow.{Bor}
-use Rattle.yasir_ticks.specs.Ticks.{silent}
-use Rattle.yasir_ticks.specs.TickRun.{run_ticks}
+use Rattle.std.{proofs.lemmas.List.take-map, proofs.lemmas.List.take-replicate, specs.Borrow.Bor}
+use Rattle.yasir_ticks.specs.{TickRun.run_ticks, Ticks.silent}
 use Rattle.yasir_ticks.specs.declared.tick.Tick.TheVariants.{Silent, Byte}
 use Rattle.yasir_ticks.specs.declared.tick_run.TickRun.{TickRun}
 use Rattle.yasir_ticks.specs.declared.tick_run.TickRun.TheVariants.{Bytes, Silence}

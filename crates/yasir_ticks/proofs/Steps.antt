@@ -1,42 +1,34 @@
 -- What each byte does at each place of a line.
+use Rattle.hex.specs.Hex.{decode_of, decode_pairs, is_hex_digit, hex_digit_value}
 use Rattle.std.proofs.Common.{◌≡◌, ◌≢◌, ◌∙◌, ◌==◌, ◌&&◌, ◌||◌, ℕ, ◌+◌, ◌*◌, ◌-◌, ◌%◌, ◌≤◌, ◌<◌, suc}
 use Rattle.std.proofs.Common.{Bool, true, false, not, List, [], ◌∷◌, ◌++◌, length, Option, Some}
 use Rattle.std.proofs.Common.{None, Ok, is_some, refl, ap, sym, cond, arith, append_assoc, leb}
-use Rattle.std.specs.List.{list_all}
-use Rattle.std.specs.Option.{option_map_or}
 use Rattle.std.proofs.lemmas.Bool.{both_ways, and_parts}
-use Rattle.std.proofs.lemmas.List.{length-append}
-use Rattle.std.proofs.lemmas.List.Folds.{list_all-append}
-use Rattle.hex.specs.Hex.{decode_of, decode_pairs, is_hex_digit, hex_digit_value}
-use Rattle.yasir_ticks.specs.Ticks.{Item, marks_in}
-use Rattle.yasir_ticks.specs.Ticks.Item.{mark}
-use Rattle.yasir_ticks.specs.TickText.{line_items, content_items, without_return, ends_in_return}
-use Rattle.yasir_ticks.specs.TickText.{byte_items, is_plain_decimal, is_decimal_digit, number_after}
-use Rattle.yasir_ticks.specs.TickText.{fault_in_line, ends_content}
-use Rattle.yasir_ticks.specs.Place.{is_foreign}
-use Rattle.yasir_ticks.specs.Reader.{Reads, starts_comment, items_of_content}
-use Rattle.yasir_ticks.specs.Reader.{marks_at}
-use Rattle.yasir_ticks.specs.ReaderStep.{Accepts, Refuses, Closes, IsOpen}
-use Rattle.yasir_ticks.specs.declared.fault.TickFault.{TickFault}
-use Rattle.yasir_ticks.specs.declared.fault.TickFault.TheVariants.{Char, Odd, Long, Count, Empty}
-use Rattle.yasir_ticks.specs.declared.place.Content.{Content}
-use Rattle.yasir_ticks.specs.declared.place.Content.TheVariants.{NoTick, KeptBytes, SilentTicks}
-use Rattle.yasir_ticks.specs.declared.place.Content.TheVariants.{OneMark}
-use Rattle.yasir_ticks.specs.declared.place.Place.{Place}
-use Rattle.yasir_ticks.specs.declared.place.Place.TheVariants.{Start, Comment, Pairs, HalfPair}
-use Rattle.yasir_ticks.specs.declared.place.Place.TheVariants.{Minus, Number, Percent, Returned}
-use Rattle.yasir_ticks.specs.declared.place.Place.TheVariants.{Refused}
+use Rattle.std.proofs.lemmas.List.{length-append, Folds.list_all-append}
+use Rattle.std.specs.{List.list_all, Option.option_map_or}
 use Rattle.yasir_ticks.proofs.Contents.{test_of, line_items-plain, without_return-same}
 use Rattle.yasir_ticks.proofs.Contents.{line_items-byte, line_items-return, line_items-return_open}
 use Rattle.yasir_ticks.proofs.Contents.{line_items-return_inside, mark_items-bad}
+use Rattle.yasir_ticks.proofs.Digits.{byte_items-bad, byte_items-odd, byte_items-long}
+use Rattle.yasir_ticks.proofs.Digits.{byte_items-right, silence_items-bad, silence_items-right}
+use Rattle.yasir_ticks.proofs.Digits.{silence_items-big, silence_items-zero, number_after-append}
+use Rattle.yasir_ticks.proofs.Digits.{number_after-grows, is_plain_decimal-more}
 use Rattle.yasir_ticks.proofs.Items.{marks_in-content}
 use Rattle.yasir_ticks.proofs.Lines.{IsFree, free_behind, free_passing}
-use Rattle.yasir_ticks.proofs.Digits.{byte_items-bad, byte_items-odd}
-use Rattle.yasir_ticks.proofs.Digits.{byte_items-long, byte_items-right}
 use Rattle.yasir_ticks.proofs.hex_digits.Decoding.{hex_digits, hex_length, decode_of-more}
-use Rattle.yasir_ticks.proofs.Digits.{silence_items-bad, silence_items-right, silence_items-big}
-use Rattle.yasir_ticks.proofs.Digits.{silence_items-zero, number_after-append, number_after-grows}
-use Rattle.yasir_ticks.proofs.Digits.{is_plain_decimal-more}
+use Rattle.yasir_ticks.specs.Place.{is_foreign}
+use Rattle.yasir_ticks.specs.Reader.{Reads, starts_comment, items_of_content, marks_at}
+use Rattle.yasir_ticks.specs.ReaderStep.{Accepts, Refuses, Closes, IsOpen}
+use Rattle.yasir_ticks.specs.TickText.{line_items, content_items, without_return, ends_in_return}
+use Rattle.yasir_ticks.specs.TickText.{byte_items, is_plain_decimal, is_decimal_digit, number_after}
+use Rattle.yasir_ticks.specs.{TickText.fault_in_line, TickText.ends_content, Ticks.Item}
+use Rattle.yasir_ticks.specs.{Ticks.marks_in, Ticks.Item.mark, declared.fault.TickFault.TickFault}
+use Rattle.yasir_ticks.specs.declared.fault.TickFault.TheVariants.{Char, Odd, Long, Count, Empty}
+use Rattle.yasir_ticks.specs.declared.place.Content.{Content, TheVariants.NoTick}
+use Rattle.yasir_ticks.specs.declared.place.Content.TheVariants.{KeptBytes, SilentTicks, OneMark}
+use Rattle.yasir_ticks.specs.declared.place.Place.{Place, TheVariants.Start}
+use Rattle.yasir_ticks.specs.declared.place.Place.TheVariants.{Comment, Pairs, HalfPair, Minus}
+use Rattle.yasir_ticks.specs.declared.place.Place.TheVariants.{Number, Percent, Returned, Refused}
 
 -- ---- bytes that aren't LF or CR
 

@@ -1,11 +1,10 @@
 -- A right text stands for one list of items, and begins with the items of its beginnings.
 use Rattle.std.proofs.Common.{◌≡◌, ◌∙◌, ℕ, List, [], ◌∷◌, ◌++◌, Some, ap, sym}
-use Rattle.std.specs.Prelude.{unwrap_or}
-use Rattle.std.specs.List.{flat_map}
-use Rattle.yasir_ticks.specs.Ticks.{Item}
-use Rattle.yasir_ticks.specs.TickText.{lines_of, line_items, all_items, ended_items, IsTickText}
-use Rattle.yasir_ticks.proofs.Lines.{joined, all_lines, all_lines-append}
+use Rattle.std.specs.{List.flat_map, Prelude.unwrap_or}
 use Rattle.yasir_ticks.proofs.Items.{all_items_parts, line_items_parts}
+use Rattle.yasir_ticks.proofs.Lines.{joined, all_lines, all_lines-append}
+use Rattle.yasir_ticks.specs.TickText.{lines_of, line_items, all_items, ended_items, IsTickText}
+use Rattle.yasir_ticks.specs.Ticks.{Item}
 
 -- lines that all have a right form stand for the items of each
 flat-all_items : (ls : List (List ℕ)) (items : List Item) → all_items ls ≡ Some items

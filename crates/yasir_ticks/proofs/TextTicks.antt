@@ -1,23 +1,17 @@
 -- The ticks that a right text stands for have bytes below 256.
-use Rattle.std.proofs.Common.{◌≡◌, ℕ, suc, ◌==◌, ◌&&◌, List, [], ◌∷◌, ◌++◌, length, map}
-use Rattle.std.proofs.Common.{replicate, Option, Some, None, Result, Ok, Err, refl, sym, subst, leb}
-use Rattle.std.proofs.Common.{option_map, IfSome}
-use Rattle.std.specs.Option.{option_and_then}
-use Rattle.std.specs.Result.{result_ok}
-use Rattle.std.proofs.lemmas.Bool.{cond_both}
-use Rattle.hex.specs.Hex.{decode_of, IsBytes}
-use Rattle.hex.specs.declared.error.FromHexError.{FromHexError}
 use Rattle.hex.proofs.HexLemmas.{decode_of-ok}
-use Rattle.yasir_ticks.specs.Ticks.{Item, AreTicks, ticks_in}
-use Rattle.yasir_ticks.specs.Ticks.Item.{tick, mark}
+use Rattle.hex.specs.{Hex.decode_of, Hex.IsBytes, declared.error.FromHexError.FromHexError}
+use Rattle.std.proofs.Common.{◌≡◌, ℕ, suc, ◌==◌, ◌&&◌, List, [], ◌∷◌, ◌++◌, length, map, replicate}
+use Rattle.std.proofs.Common.{Option, Some, None, Result, Ok, Err, refl, sym, subst, leb}
+use Rattle.std.proofs.{Common.option_map, Common.IfSome, lemmas.Bool.cond_both}
+use Rattle.std.specs.{Option.option_and_then, Result.result_ok}
+use Rattle.yasir_ticks.proofs.{Lines.all_lines, RightTicks.are_silent, TickRuns.ticks_in-run}
 use Rattle.yasir_ticks.specs.TickText.{byte_items, silence_items, content_items, line_items}
 use Rattle.yasir_ticks.specs.TickText.{all_items, without_return, is_plain_decimal, number_after}
 use Rattle.yasir_ticks.specs.TickText.{IsTickText}
+use Rattle.yasir_ticks.specs.Ticks.{Item, AreTicks, ticks_in, Item.tick, Item.mark}
 use Rattle.yasir_ticks.specs.declared.tick.Tick.TheVariants.{Silent, Byte}
 use Rattle.yasir_ticks.specs.declared.tick_run.TickRun.TheVariants.{Silence}
-use Rattle.yasir_ticks.proofs.Lines.{all_lines}
-use Rattle.yasir_ticks.proofs.TickRuns.{ticks_in-run}
-use Rattle.yasir_ticks.proofs.RightTicks.{are_silent}
 
 -- ---- items
 

@@ -1,37 +1,29 @@
 -- Whole lines of a text, each at once.
-use Rattle.std.proofs.Common.{◌≡◌, ◌∙◌, ℕ, suc, zero, ◌+◌, ◌-◌, ◌<◌, ◌≤◌, true}
-use Rattle.std.proofs.Common.{List, [], ◌∷◌, ◌++◌, length, take, get_or, Some, None, Ok, Err}
-use Rattle.std.proofs.Common.{Option, Result, inl, inr, refl, ap, sym, subst, arith, append_assoc}
-use Rattle.std.proofs.Common.{append-nil, length-append, drop, ◌*◌}
-use Rattle.std.proofs.lemmas.Bool.{cases_eq, lt-ltb}
-use Rattle.std.proofs.lemmas.List.{take_more, take_all, length-take}
 use Rattle.hex.specs.Hex.{decode_of, decode_pairs, hex_digit_value}
-use Rattle.yasir_ticks.specs.Ticks.{Item, marks_in}
-use Rattle.yasir_ticks.specs.TickText.{lines_of, line_items, ended_items}
-use Rattle.yasir_ticks.specs.TickText.{is_decimal_digit, is_plain_decimal}
-use Rattle.yasir_ticks.specs.TickText.{number_after}
+use Rattle.std.proofs.Common.{◌≡◌, ◌∙◌, ℕ, suc, zero, ◌+◌, ◌-◌, ◌<◌, ◌≤◌, true, List, [], ◌∷◌, ◌++◌}
+use Rattle.std.proofs.Common.{length, take, get_or, Some, None, Ok, Err, Option, Result, inl, inr}
+use Rattle.std.proofs.Common.{refl, ap, sym, subst, arith, append_assoc, append-nil, length-append}
+use Rattle.std.proofs.{Common.drop, Common.◌*◌, lemmas.Bool.cases_eq, lemmas.Bool.lt-ltb}
+use Rattle.std.proofs.lemmas.List.{take_more, take_all, length-take}
+use Rattle.yasir_ticks.proofs.Completions.{begins_at}
+use Rattle.yasir_ticks.proofs.Digits.{is_plain_decimal-more, number_after-append}
+use Rattle.yasir_ticks.proofs.Feeding.{items_lf, line_ends, accepted_at, accepted_items, refused_at}
+use Rattle.yasir_ticks.proofs.{Items.marks_in-content, Lines.IsFree, Lines.lines_of-free}
+use Rattle.yasir_ticks.proofs.{Lines.free_behind, ManyBytes.goes_on_fed, ManyBytes.text_more}
+use Rattle.yasir_ticks.proofs.Steps.{IsRightLine, pairs_right, number_right, closes_comment}
+use Rattle.yasir_ticks.proofs.hex_digits.Decoding.{decode_of-more, take_pair}
 use Rattle.yasir_ticks.specs.Place.{has_ticks}
 use Rattle.yasir_ticks.specs.Reader.{IsAt, StandsFor, items_of_content, marks_of_content}
 use Rattle.yasir_ticks.specs.ReaderStep.{Advances, line_with}
 use Rattle.yasir_ticks.specs.Slices.{GoesOn, TakesLine, EndsLine, TakesUpTo, StopsAt, FeedsLine}
 use Rattle.yasir_ticks.specs.Slices.{FeedsByte, TakesWhole, IsFewPairs}
-use Rattle.yasir_ticks.specs.declared.whole_lines.Whole.{Whole}
-use Rattle.yasir_ticks.specs.declared.fault.BadTicks.{BadTicks}
-use Rattle.yasir_ticks.specs.declared.fault.TickFault.{TickFault}
-use Rattle.yasir_ticks.specs.declared.place.Content.{Content}
+use Rattle.yasir_ticks.specs.TickText.{lines_of, line_items, ended_items, is_decimal_digit}
+use Rattle.yasir_ticks.specs.TickText.{is_plain_decimal, number_after}
+use Rattle.yasir_ticks.specs.{Ticks.Item, Ticks.marks_in, declared.fault.BadTicks.BadTicks}
+use Rattle.yasir_ticks.specs.declared.{fault.TickFault.TickFault, place.Content.Content}
 use Rattle.yasir_ticks.specs.declared.place.Content.TheVariants.{NoTick, KeptBytes, SilentTicks}
-use Rattle.yasir_ticks.specs.declared.place.Content.TheVariants.{OneMark}
-use Rattle.yasir_ticks.specs.declared.place.Place.TheVariants.{Start}
-use Rattle.yasir_ticks.specs.declared.reader.TickReader.{TickReader}
-use Rattle.yasir_ticks.proofs.Digits.{is_plain_decimal-more, number_after-append}
-use Rattle.yasir_ticks.proofs.hex_digits.Decoding.{decode_of-more, take_pair}
-use Rattle.yasir_ticks.proofs.Lines.{IsFree, lines_of-free, free_behind}
-use Rattle.yasir_ticks.proofs.Items.{marks_in-content}
-use Rattle.yasir_ticks.proofs.Feeding.{items_lf, line_ends, accepted_at, accepted_items}
-use Rattle.yasir_ticks.proofs.Feeding.{refused_at}
-use Rattle.yasir_ticks.proofs.Steps.{IsRightLine, pairs_right, number_right, closes_comment}
-use Rattle.yasir_ticks.proofs.Completions.{begins_at}
-use Rattle.yasir_ticks.proofs.ManyBytes.{goes_on_fed, text_more}
+use Rattle.yasir_ticks.specs.declared.place.{Content.TheVariants.OneMark, Place.TheVariants.Start}
+use Rattle.yasir_ticks.specs.declared.{reader.TickReader.TickReader, whole_lines.Whole.Whole}
 
 module _ (text line : List ℕ) (before : (lines_of text).last ≡ []) (free : IsFree line) where
   cut : lines_of (text ++ line) ≡ record { ended = (lines_of text).ended; last = line }

@@ -1,16 +1,14 @@
 -- The definitions of tick text at small texts.
+use Rattle.hex.specs.Hex.{decode_pairs, encode_with}
 use Rattle.std.proofs.Common.{◌≡◌, [], ◌∷◌, ◌++◌, replicate, codes, Some, None, refl, arith}
 use Rattle.std.specs.Fmt.{digits}
-use Rattle.hex.specs.Hex.{decode_pairs, encode_with}
-use Rattle.yasir_ticks.specs.Ticks.Item.{tick, mark}
-use Rattle.yasir_ticks.specs.TickText.{lines_of, line_items, silence_items, IsTickText, fault_after}
-use Rattle.yasir_ticks.specs.TickText.{fault_at_end, line_after}
-use Rattle.yasir_ticks.specs.CanonicalText.{canonical_text, stretch_lines}
-use Rattle.yasir_ticks.specs.CanonicalText.Stretch.{silence}
-use Rattle.yasir_ticks.specs.declared.fault.TickFault.TheVariants.{Char, Odd, Long, Count, Empty}
-use Rattle.yasir_ticks.specs.declared.fault.TickFault.TheVariants.{Mark}
-use Rattle.yasir_ticks.specs.declared.tick.Tick.TheVariants.{Silent, Byte}
 use Rattle.yasir_ticks.proofs.Digits.{silence_items-right, silence_items-big}
+use Rattle.yasir_ticks.specs.CanonicalText.{canonical_text, stretch_lines, Stretch.silence}
+use Rattle.yasir_ticks.specs.TickText.{lines_of, line_items, silence_items, IsTickText, fault_after}
+use Rattle.yasir_ticks.specs.{TickText.fault_at_end, TickText.line_after, Ticks.Item.tick}
+use Rattle.yasir_ticks.specs.{Ticks.Item.mark, declared.fault.TickFault.TheVariants.Char}
+use Rattle.yasir_ticks.specs.declared.fault.TickFault.TheVariants.{Odd, Long, Count, Empty, Mark}
+use Rattle.yasir_ticks.specs.declared.tick.Tick.TheVariants.{Silent, Byte}
 
 -- a last line without LF, and each kind of line, with LF or with CR and LF
 accepts_each_kind : IsTickText 1 (codes "+0aF5" ++ 13 ∷ 10 ∷ 10 ∷ codes "# a" ++ 13 ∷ 10 ∷ 13 ∷ 10

@@ -1,19 +1,16 @@
 -- The canonical text of ticks begins with the line that their first ones fill, or that the next one
 -- ends.
 use Rattle.std.proofs.Common.{◌≡◌, ◌∙◌, ℕ, zero, suc, ◌+◌, ◌*◌, ◌/◌, ◌%◌, ◌==◌, ◌<◌, ◌≤◌, cond}
-use Rattle.std.proofs.Common.{List, [], ◌∷◌, ◌++◌, length, map, take, drop, replicate, refl}
-use Rattle.std.proofs.Common.{sym, ap, arith, inl, inr}
+use Rattle.std.proofs.Common.{List, [], ◌∷◌, ◌++◌, length, map, take, drop, replicate, refl, sym}
+use Rattle.std.proofs.{Common.ap, Common.arith, Common.inl, Common.inr, Math.Seq.drop-append-add}
+use Rattle.std.proofs.lemmas.{Bool.cond-false, Bool.cases_lt, List.append-nil}
+use Rattle.std.proofs.lemmas.List.{append_assoc, length-append, take_all, take-append-le}
 use Rattle.std.specs.List.{flat_map, range_with_len}
-use Rattle.std.proofs.Math.Seq.{drop-append-add}
-use Rattle.std.proofs.lemmas.Bool.{cond-false, cases_lt}
-use Rattle.std.proofs.lemmas.List.{append-nil, append_assoc, length-append, take_all, take-append-le}
-use Rattle.yasir_ticks.specs.Ticks.{silent}
-use Rattle.yasir_ticks.specs.CanonicalText.{Stretch, stretches, with_tick, stretch_lines, byte_line}
-use Rattle.yasir_ticks.specs.CanonicalText.{silence_line, canonical_text}
-use Rattle.yasir_ticks.specs.CanonicalText.Stretch.{bytes, silence}
-use Rattle.yasir_ticks.specs.declared.tick.Tick.{Tick}
-use Rattle.yasir_ticks.specs.declared.tick.Tick.TheVariants.{Silent, Byte}
 use Rattle.yasir_ticks.proofs.Contents.{test_of}
+use Rattle.yasir_ticks.specs.CanonicalText.{Stretch, stretches, with_tick, stretch_lines, byte_line}
+use Rattle.yasir_ticks.specs.CanonicalText.{silence_line, canonical_text, Stretch.bytes}
+use Rattle.yasir_ticks.specs.{CanonicalText.Stretch.silence, Ticks.silent}
+use Rattle.yasir_ticks.specs.declared.tick.Tick.{Tick, TheVariants.Silent, TheVariants.Byte}
 
 abbrev text_of : List Stretch → List ℕ
 text_of parts = flat_map stretch_lines parts

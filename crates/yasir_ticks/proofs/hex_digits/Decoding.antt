@@ -1,14 +1,12 @@
 -- Pairs of hex digits that decode: the digits of all, and one pair more.
-use Rattle.std.proofs.Common.{◌≡◌, ◌∙◌, ℕ, ◌+◌, ◌*◌, ◌%◌, ◌<◌, true, List, [], ◌∷◌, ◌++◌, length}
-use Rattle.std.proofs.Common.{take, get_or, Some, Result, Ok, Err, refl, ap, sym, arith, append_assoc}
-use Rattle.std.specs.List.{list_all}
-use Rattle.std.proofs.lemmas.List.{length-append, take_more}
-use Rattle.std.proofs.lemmas.List.Sums.{list_all-from_AllPass}
-use Rattle.hex.specs.Hex.{decode_of, decode_pairs, is_hex_digit, hex_digit_value, digit_or_error}
-use Rattle.hex.specs.Hex.{pair_value, value_at, ◌>>=◌}
-use Rattle.hex.proofs.Pairs.{decode_pairs-ok_pair, cons_byte}
-use Rattle.hex.specs.declared.error.FromHexError.{FromHexError}
 use Rattle.hex.proofs.HexLemmas.{decode_of-ok, decode_of-even}
+use Rattle.hex.{proofs.Pairs.decode_pairs-ok_pair, proofs.Pairs.cons_byte, specs.Hex.decode_of}
+use Rattle.hex.specs.Hex.{decode_pairs, is_hex_digit, hex_digit_value, digit_or_error, pair_value}
+use Rattle.hex.specs.{Hex.value_at, Hex.◌>>=◌, declared.error.FromHexError.FromHexError}
+use Rattle.std.proofs.Common.{◌≡◌, ◌∙◌, ℕ, ◌+◌, ◌*◌, ◌%◌, ◌<◌, true, List, [], ◌∷◌, ◌++◌, length}
+use Rattle.std.proofs.Common.{take, get_or, Some, Result, Ok, Err, refl, ap, sym, arith}
+use Rattle.std.proofs.{Common.append_assoc, lemmas.List.length-append, lemmas.List.take_more}
+use Rattle.std.{proofs.lemmas.List.Sums.list_all-from_AllPass, specs.List.list_all}
 
 -- digits that decode are hex digits, all of them
 pub hex_digits : (x bytes : List ℕ) → decode_of x ≡ Ok bytes → list_all is_hex_digit x ≡ true

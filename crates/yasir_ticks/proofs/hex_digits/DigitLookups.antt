@@ -1,13 +1,11 @@
 -- A table of sixteen that stands twice in 32 lanes, read at each lane.
 use Rattle.std.proofs.Common.{◌≡◌, ◌∙◌, ℕ, ◌+◌, ◌*◌, ◌/◌, ◌%◌, ◌^◌, ◌<◌, List, map, length, get_or}
 use Rattle.std.proofs.Common.{replicate, bit_and, refl, sym, ap, arith, w8, Fits, true, [], ◌∷◌}
-use Rattle.std.proofs.Common.{nat_eq}
-use Rattle.std.proofs.lemmas.List.{get_or-map, length-map, ext_get_or}
-use Rattle.std.proofs.lemmas.Nat.{and_le_r, and_mask}
-use Rattle.std.proofs.lemmas.Bool.{agree_below_at, eqb-true}
-use Rattle.std.proofs.lemmas.Simd.{Each1-all, Each1-weaker, Each1-zip2, Each1-get_or, Each2-splat}
-use Rattle.std.proofs.lemmas.Simd.{below_from_Fits, length-zip2, swz_l, SwzOk, SwzOk-from_below}
-use Rattle.std.proofs.lemmas.Simd.{length-swz_l, get_or-swz_l_below}
+use Rattle.std.proofs.{Common.nat_eq, lemmas.Bool.agree_below_at, lemmas.Bool.eqb-true}
+use Rattle.std.proofs.lemmas.{List.get_or-map, List.length-map, List.ext_get_or, Nat.and_le_r}
+use Rattle.std.proofs.lemmas.{Nat.and_mask, Simd.Each1-all, Simd.Each1-weaker, Simd.Each1-zip2}
+use Rattle.std.proofs.lemmas.Simd.{Each1-get_or, Each2-splat, below_from_Fits, length-zip2, swz_l}
+use Rattle.std.proofs.lemmas.Simd.{SwzOk, SwzOk-from_below, length-swz_l, get_or-swz_l_below}
 use lib.Lanes.{zip2, Each1}
 use Rattle.hex.specs.Hex.{lower_digits}
 use Rattle.yasir_ticks.specs.declared.hex_digits.digit_lanes.TheConstants.{DIGITS}

@@ -1,15 +1,13 @@
 -- Vectors that decode 64 hex digits whose values stand side by side.
-use Rattle.std.proofs.Common.{◌≡◌, ◌∙◌, ℕ, zero, suc, ◌+◌, ◌*◌, ◌-◌, ◌/◌, ◌%◌, ◌<◌, ◌≤◌, ◌++◌}
-use Rattle.std.proofs.Common.{inl, inr, List, [], ◌∷◌, length, get_or, take, Ok, ap, map, refl, arith, min}
-use Rattle.std.proofs.lemmas.Bool.{cases_lt}
-use Rattle.std.proofs.lemmas.List.{get_or_append_left, get_or-append_right, take_all, length-append}
-use Rattle.std.proofs.lemmas.List.{get_or-map}
-use Rattle.std.proofs.lemmas.Simd.{get_or_wider, pick_l_whole}
-use Rattle.std.specs.List.{range_with_len}
+use Rattle.{hex.specs.Hex.decode_of, hex.specs.Hex.hex_digit_value, std.proofs.Common.◌≡◌}
+use Rattle.std.proofs.Common.{◌∙◌, ℕ, zero, suc, ◌+◌, ◌*◌, ◌-◌, ◌/◌, ◌%◌, ◌<◌, ◌≤◌, ◌++◌, inl, inr}
+use Rattle.std.proofs.Common.{List, [], ◌∷◌, length, get_or, take, Ok, ap, map, refl, arith, min}
+use Rattle.std.proofs.lemmas.{Bool.cases_lt, List.get_or_append_left, List.get_or-append_right}
+use Rattle.std.proofs.lemmas.{List.take_all, List.length-append, List.get_or-map, Simd.get_or_wider}
+use Rattle.std.{proofs.lemmas.Simd.pick_l_whole, specs.List.range_with_len}
 use Rattle.std.specs.Simd.Lanes.{chunk, number_l, digits_l, pick_l, Each1}
-use Rattle.hex.specs.Hex.{decode_of, hex_digit_value}
-use Rattle.yasir_ticks.specs.HexDigits.{lane_value}
 use Rattle.yasir_ticks.proofs.hex_digits.PairLanes.{IsPair, found, pairs_decoded}
+use Rattle.yasir_ticks.specs.HexDigits.{lane_value}
 
 -- two bytes as one word
 pub word_of_pair : (v : List ℕ) (i : ℕ) → i + 1 < length v

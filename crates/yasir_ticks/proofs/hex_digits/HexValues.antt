@@ -1,10 +1,8 @@
 -- The table of hex digits' values.
-use Rattle.std.proofs.Common.{◌≡◌, ◌∙◌, ◌==◌, ℕ, ◌≤◌, ◌<◌, true}
-use Rattle.std.proofs.Common.{get_or, Option, Some, None, unwrap_or, refl, ap}
-use Rattle.std.proofs.Common.{arith}
-use Rattle.std.proofs.lemmas.Bool.{agree_below_at, eqb-true}
-use Rattle.std.proofs.lemmas.List.{get_or_default}
 use Rattle.hex.specs.Hex.{hex_digit_value}
+use Rattle.std.proofs.Common.{◌≡◌, ◌∙◌, ◌==◌, ℕ, ◌≤◌, ◌<◌, true, get_or, Option, Some, None}
+use Rattle.std.proofs.Common.{unwrap_or, refl, ap, arith}
+use Rattle.std.proofs.lemmas.{Bool.agree_below_at, Bool.eqb-true, List.get_or_default}
 use Rattle.yasir_ticks.specs.declared.hex_digits.digit.TheConstants.{HEX_VALUES}
 
 -- the value of a digit, and 16 of what is none

@@ -1,21 +1,18 @@
 -- Vectors that decode pairs of hex digits, lane by lane.
-use Rattle.std.proofs.Common.{◌≡◌, ◌↔◌, ◌∙◌, ◌==◌, ℕ, zero, suc, ◌+◌, ◌*◌, ◌-◌, ◌%◌, ◌<◌, ◌≤◌}
-use Rattle.std.proofs.Common.{◌++◌}
+use Rattle.hex.specs.Hex.{decode_of, decode_pairs, hex_digit_value}
+use Rattle.memchr.{proofs.lemmas.LaneLemmas.HasLanes-zip2, specs.Lanes.HasLanes}
+use Rattle.std.proofs.Common.{◌≡◌, ◌↔◌, ◌∙◌, ◌==◌, ℕ, zero, suc, ◌+◌, ◌*◌, ◌-◌, ◌%◌, ◌<◌, ◌≤◌, ◌++◌}
 use Rattle.std.proofs.Common.{inl, inr, Bool, true, false, List, [], ◌∷◌, length, get_or, take, map}
 use Rattle.std.proofs.Common.{replicate, Option, Some, None, unwrap_or, Ok, refl, ap, sym, cond}
-use Rattle.std.proofs.Common.{w64}
-use Rattle.std.proofs.Common.{subst, arith, bit_and, ltb, ◌^◌, min, ◌⊎◌}
+use Rattle.std.proofs.Common.{w64, subst, arith, bit_and, ltb, ◌^◌, min, ◌⊎◌}
 use Rattle.std.proofs.lemmas.Bool.{agree_below_at, eqb-true, cases_lt, lt-ltb, le-ltb}
 use Rattle.std.proofs.lemmas.List.{take_more, get_or-map, length-map, get_or_past}
 use Rattle.std.proofs.lemmas.List.{get_or_append_left, get_or-append_right}
 use Rattle.std.proofs.lemmas.Nat.Bits.{bit_at-zero, bit_at-trailing_zeros}
 use Rattle.std.specs.Int.{bit_at, trailing_zeros}
 use Rattle.std.specs.Simd.Lanes.{zip2, sel_l, top}
-use Rattle.hex.specs.Hex.{decode_of, decode_pairs, hex_digit_value}
-use Rattle.memchr.specs.Lanes.{HasLanes}
-use Rattle.memchr.proofs.lemmas.LaneLemmas.{HasLanes-zip2}
-use Rattle.yasir_ticks.specs.HexDigits.{HasValues, lane_value, lane_pair, lane_greater, lane_raised}
 use Rattle.yasir_ticks.proofs.hex_digits.Decoding.{decode_of-more, take_pair}
+use Rattle.yasir_ticks.specs.HexDigits.{HasValues, lane_value, lane_pair, lane_greater, lane_raised}
 
 -- ---- the values of digits
 

@@ -1,5 +1,4 @@
-use Rattle.std.proofs.Common.{◌≡◌}
-use Rattle.frame_ending.specs.Stands.{ticks_taken}
+use Rattle.{frame_ending.specs.Stands.ticks_taken, std.proofs.Common.◌≡◌}
 use Rattle.base_tests.proofs.bursts.cuts.Given as goal
 
 abbrev pub invariant-loop-tick : goal.invariant-loop-tick

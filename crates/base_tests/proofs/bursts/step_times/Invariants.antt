@@ -1,5 +1,4 @@
-use Rattle.std.proofs.Common.{◌≡◌, ◌+◌}
-use Rattle.frame_ending.specs.Stands.{ticks_taken}
+use Rattle.{frame_ending.specs.Stands.ticks_taken, std.proofs.Common.◌≡◌, std.proofs.Common.◌+◌}
 use Rattle.base_tests.proofs.bursts.step_times.Given as goal
 
 abbrev pub invariant-loop-taken : goal.invariant-loop-taken

@@ -1,8 +1,6 @@
-use Rattle.std.proofs.Common.{ℕ, List, true, sym, subst, arith, ◌++◌}
 use Rattle.capture_pcap.proofs.Written.{written_packet, written_front}
-use Rattle.capture_pcap.specs.Writing.{written_clock}
-use Rattle.capture_pcap.specs.Pcap.{IsPacket}
-use Rattle.capture_pcap.specs.Record.{seen_bytes}
+use Rattle.capture_pcap.specs.{Pcap.IsPacket, Record.seen_bytes, Writing.written_clock}
+use Rattle.std.proofs.Common.{ℕ, List, true, sym, subst, arith, ◌++◌}
 use Rattle.capture_pcap.proofs.writer.packet_header.Goals as goal
 
 pub returns : goal.returns

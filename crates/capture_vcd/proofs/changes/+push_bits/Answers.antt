@@ -1,9 +1,7 @@
-use Rattle.std.proofs.Common.{◌∙◌, ◌++◌, sym, ap}
-use Rattle.std.specs.List.{flat_map}
-use Rattle.std.proofs.lemmas.List.{append-nil}
-use Rattle.capture_vcd.specs.Dump.{change_text}
 use Rattle.capture_vcd.proofs.ChangeLaws.{none_of_a, none_of_b}
-use Rattle.capture_vcd.proofs.TextLaws.{bits_text}
+use Rattle.capture_vcd.{proofs.TextLaws.bits_text, specs.Dump.change_text}
+use Rattle.std.proofs.Common.{◌∙◌, ◌++◌, sym, ap}
+use Rattle.std.{proofs.lemmas.List.append-nil, specs.List.flat_map}
 use Rattle.capture_vcd.proofs.changes.+push_bits.Goals as goal
 
 pub returns-in_default : goal.returns-in_default

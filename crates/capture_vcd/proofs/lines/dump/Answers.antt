@@ -1,8 +1,6 @@
-use Rattle.std.proofs.Common.{◌≡◌, ◌∙◌, ◌<◌, ◌++◌, length, max, take, ap, arith}
-use Rattle.capture_vcd.specs.Changes.{padded}
-use Rattle.capture_vcd.specs.Dump.{wires_for}
-use Rattle.capture_vcd.specs.Writer.{rate_of, wires_of}
 use Rattle.capture_vcd.proofs.DumpLines.{tick_more, lines_end}
+use Rattle.capture_vcd.specs.{Changes.padded, Dump.wires_for, Writer.rate_of, Writer.wires_of}
+use Rattle.std.proofs.Common.{◌≡◌, ◌∙◌, ◌<◌, ◌++◌, length, max, take, ap, arith}
 use Rattle.capture_vcd.proofs.lines.dump.Goals as goal
 
 pub loop-n-preserved : goal.loop-n-preserved

@@ -1,7 +1,6 @@
-use Rattle.std.proofs.Common.{◌≡◌, take}
-use Rattle.capture_vcd.specs.Changes.{padded}
-use Rattle.capture_vcd.specs.Dump.{wires_for}
+use Rattle.capture_vcd.specs.{Changes.padded, Dump.wires_for}
 use Rattle.capture_vcd.specs.Writer.{HasWritten, rate_of, wires_of, ticks_of}
+use Rattle.std.proofs.Common.{◌≡◌, take}
 use Rattle.capture_vcd.proofs.lines.dump.Given as goal
 
 -- the ticks so far were written

@@ -1,8 +1,6 @@
+use Rattle.memchr.{proofs.lemmas.LaneLemmas.HasLanes-select, specs.Lanes.HasLanes}
 use Rattle.std.proofs.Common.{cond, eqb, get_or, replicate, sym, subst, w8}
-use Rattle.memchr.proofs.lemmas.LaneLemmas.{HasLanes-select}
-use Rattle.memchr.specs.Lanes.{HasLanes}
-use Rattle.std.proofs.lemmas.Simd.{tops_compared}
-use Rattle.std.specs.Simd.Lanes.{sel_l}
+use Rattle.std.{proofs.lemmas.Simd.tops_compared, specs.Simd.Lanes.sel_l}
 use Rattle.delay_ring.proofs.lanes.byte_lanes.Goals as goal
 
 pub returns : goal.returns

@@ -1,5 +1,4 @@
-use Rattle.std.proofs.Common.{◌≡◌, ◌<◌, ℕ}
-use Rattle.std.specs.Prelude.{slice_index_or}
+use Rattle.std.{proofs.Common.◌≡◌, proofs.Common.◌<◌, proofs.Common.ℕ, specs.Prelude.slice_index_or}
 use Rattle.delay_ring.proofs.mark_runs.silence_in_front.Given as goal
 
 abbrev pub invariant-loop-at : goal.invariant-loop-at

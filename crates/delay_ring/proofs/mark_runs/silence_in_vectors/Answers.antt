@@ -1,5 +1,4 @@
-use Rattle.std.proofs.Common.{arith}
-use Rattle.delay_ring.proofs.Silence.{silence-more}
+use Rattle.{delay_ring.proofs.Silence.silence-more, std.proofs.Common.arith}
 use Rattle.delay_ring.proofs.mark_runs.silence_in_vectors.Goals as goal
 
 pub loop-at-preserved : goal.loop-at-preserved

@@ -1,6 +1,5 @@
+use Rattle.dnp_link_frame.proofs.Loops.{next_is_right, next_is_wrong, all_are_right, none_are_right}
 use Rattle.std.proofs.Common.{arith}
-use Rattle.dnp_link_frame.proofs.Loops.{next_is_right, next_is_wrong, all_are_right}
-use Rattle.dnp_link_frame.proofs.Loops.{none_are_right}
 use Rattle.dnp_link_frame.proofs.parsing.right_in_blocks.Goals as goal
 
 pub loop-n-init : goal.loop-n-init

@@ -1,8 +1,7 @@
+use Rattle.dnp_link_frame.proofs.FrameParts.{right_is_longest, refused_is_no_frame, judged_frame}
+use Rattle.{dnp_link_frame.specs.Frame.IsLongestBeginning, line_rules.specs.Bytes.AreBytes}
 use Rattle.std.proofs.Common.{arith, sym, ◌<◌, subst, ℕ, refl}
 use Rattle.std.proofs.lemmas.List.Elements.{All-from_get_or}
-use Rattle.line_rules.specs.Bytes.{AreBytes}
-use Rattle.dnp_link_frame.specs.Frame.{IsLongestBeginning}
-use Rattle.dnp_link_frame.proofs.FrameParts.{right_is_longest, refused_is_no_frame, judged_frame}
 use Rattle.dnp_link_frame.proofs.parsing.user_data.Goals as goal
 
 pub returns-then-not-is_whole-clause-cause : goal.returns-then-not-is_whole-clause-cause

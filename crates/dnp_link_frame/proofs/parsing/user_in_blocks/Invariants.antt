@@ -1,5 +1,4 @@
-use Rattle.std.proofs.Common.{◌≡◌}
-use Rattle.dnp_link_frame.specs.Beginnings.{user_in_blocks}
+use Rattle.{dnp_link_frame.specs.Beginnings.user_in_blocks, std.proofs.Common.◌≡◌}
 use Rattle.dnp_link_frame.proofs.parsing.user_in_blocks.Given as goal
 
 abbrev pub invariant-loop-n : goal.invariant-loop-n

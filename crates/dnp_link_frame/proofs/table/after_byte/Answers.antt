@@ -1,6 +1,5 @@
+use Rattle.{dnp_link_frame.proofs.Tables.dnp_tables, line_rules.proofs.CrcLaws.crc-one}
 use Rattle.std.proofs.Common.{◌∙◌}
-use Rattle.line_rules.proofs.CrcLaws.{crc-one}
-use Rattle.dnp_link_frame.proofs.Tables.{dnp_tables}
 use Rattle.dnp_link_frame.proofs.table.after_byte.Goals as goal
 
 pub step_by_table-requires : goal.step_by_table-requires

@@ -1,9 +1,7 @@
-use Rattle.std.proofs.Common.{◌≡◌, ◌∙◌, ℕ, ◌+◌, [], ◌∷◌, Some, refl, sym, subst, ap}
-use Rattle.std.proofs.Common.{unwrap_or}
-use Rattle.sequence_journal.specs.Journal.{journal_link, journal_floor}
-use Rattle.sequence_journal.specs.Slots.{floor_of}
-use Rattle.sequence_journal.specs.Uptimes.{Step, IsStep, numbers_answered}
 use Rattle.sequence_journal.proofs.SlotLemmas.{at_some}
+use Rattle.sequence_journal.specs.{Journal.journal_link, Journal.journal_floor, Slots.floor_of}
+use Rattle.sequence_journal.specs.Uptimes.{Step, IsStep, numbers_answered}
+use Rattle.std.proofs.Common.{◌≡◌, ◌∙◌, ℕ, ◌+◌, [], ◌∷◌, Some, refl, sym, subst, ap, unwrap_or}
 use Rattle.edge_tests.proofs.journals.answer_one.Goals as goal
 
 pub returns-clause-ends : goal.returns-clause-ends

@@ -1,10 +1,9 @@
-use Rattle.std.proofs.Common.{◌≡◌, ℕ, [], ◌∷◌, List, Some, inl, subst}
-use Rattle.yasir_io.specs.Disks.{Slots}
-use Rattle.yasir_io.specs.declared.disk.SlotDisk.{Ghosts as SlotDisk}
-use Rattle.sequence_journal.specs.declared.link.LinkId.{LinkId}
+use Rattle.sequence_journal.proofs.UptimeLaws.{ends-inside, next_floor}
 use Rattle.sequence_journal.specs.Slots.{floor_of}
 use Rattle.sequence_journal.specs.Uptimes.{Step, answered, EndsInside, IsUptime, last_from}
-use Rattle.sequence_journal.proofs.UptimeLaws.{ends-inside, next_floor}
+use Rattle.sequence_journal.specs.declared.link.LinkId.{LinkId}
+use Rattle.std.proofs.Common.{◌≡◌, ℕ, [], ◌∷◌, List, Some, inl, subst}
+use Rattle.yasir_io.specs.{Disks.Slots, declared.disk.SlotDisk.Ghosts as SlotDisk}
 use Rattle.edge_tests.proofs.journals.answer_twice.Goals as goal
 
 answered-one : {D : Type 0} (d : SlotDisk D) (link : LinkId) (begins : Slots) (floor n : ℕ)

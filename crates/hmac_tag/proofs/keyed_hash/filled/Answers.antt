@@ -1,5 +1,4 @@
-use Rattle.std.proofs.Common.{ℕ, List, ◌++◌, ap}
-use Rattle.std.proofs.lemmas.List.{drop-replicate}
+use Rattle.std.proofs.{Common.ℕ, Common.List, Common.◌++◌, Common.ap, lemmas.List.drop-replicate}
 use Rattle.hmac_tag.proofs.keyed_hash.filled.Goals as goal
 
 pub returns : goal.returns

@@ -1,6 +1,5 @@
+use Rattle.{hmac_tag.specs.Sha1Words.AreKeyed, sha1.specs.Sha1.rounds}
 use Rattle.std.proofs.Common.{◌≡◌, ◌+◌, ◌*◌, ℕ, List}
-use Rattle.sha1.specs.Sha1.{rounds}
-use Rattle.hmac_tag.specs.Sha1Words.{AreKeyed}
 use Rattle.hmac_tag.proofs.sha1_block.first_rounds.Given as goal
 
 abbrev pub invariant-choose : goal.invariant-choose

@@ -1,7 +1,6 @@
-use Rattle.std.proofs.Common.{ℕ, List, ◌+◌, ◌*◌, arith}
-use Rattle.sha1.specs.Sha1.{schedule}
-use Rattle.hmac_tag.specs.Sha1Words.{AreBytes}
 use Rattle.hmac_tag.proofs.Sha1Blocks.{keyed_none, AreKeyed_at, IsFour_at, eight_on}
+use Rattle.{hmac_tag.specs.Sha1Words.AreBytes, sha1.specs.Sha1.schedule}
+use Rattle.std.proofs.Common.{ℕ, List, ◌+◌, ◌*◌, arith}
 use Rattle.hmac_tag.proofs.sha1_block.keyed_schedule.Goals as goal
 
 pub loop-i-init : goal.loop-i-init

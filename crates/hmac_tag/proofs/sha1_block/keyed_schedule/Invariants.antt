@@ -1,7 +1,5 @@
-use Rattle.std.proofs.Common.{◌+◌, ◌*◌}
-use Rattle.sha1.specs.Sha1.{schedule}
-use Rattle.hmac_tag.specs.Sha1Words.{AreKeyed}
-use Rattle.hmac_tag.proofs.Sha1Blocks.{AreEight}
+use Rattle.hmac_tag.{proofs.Sha1Blocks.AreEight, specs.Sha1Words.AreKeyed}
+use Rattle.{sha1.specs.Sha1.schedule, std.proofs.Common.◌+◌, std.proofs.Common.◌*◌}
 use Rattle.hmac_tag.proofs.sha1_block.keyed_schedule.Given as goal
 
 abbrev pub invariant-loop-i : goal.invariant-loop-i

@@ -1,7 +1,6 @@
-use Rattle.std.proofs.Common.{◌∙◌, slice_index, sym, arith}
-use Rattle.sha1.specs.Sha1.{round_constant}
-use Rattle.sha1.proofs.Schedule.{round_fn_last}
 use Rattle.hmac_tag.proofs.Sha1Blocks.{rounds_step}
+use Rattle.sha1.{proofs.Schedule.round_fn_last, specs.Sha1.round_constant}
+use Rattle.std.proofs.Common.{◌∙◌, slice_index, sym, arith}
 use Rattle.hmac_tag.proofs.sha1_block.last_step.Goals as goal
 
 pub returns : goal.returns

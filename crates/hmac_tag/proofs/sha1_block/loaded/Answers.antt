@@ -1,6 +1,5 @@
+use Rattle.{hmac_tag.proofs.Sha1Blocks.same_four, sha1.proofs.Schedule.slice_index-schedule_first}
 use Rattle.std.proofs.Common.{◌+◌, ◌∙◌, sym, arith}
-use Rattle.sha1.proofs.Schedule.{slice_index-schedule_first}
-use Rattle.hmac_tag.proofs.Sha1Blocks.{same_four}
 use Rattle.hmac_tag.proofs.sha1_block.loaded.Goals as goal
 
 pub returns : goal.returns

@@ -1,5 +1,4 @@
-use Rattle.std.proofs.Common.{◌∙◌}
-use Rattle.hmac_tag.proofs.Sha1Blocks.{near_four}
+use Rattle.{hmac_tag.proofs.Sha1Blocks.near_four, std.proofs.Common.◌∙◌}
 use Rattle.hmac_tag.proofs.sha1_block.next_four.Goals as goal
 
 pub returns : goal.returns

@@ -1,5 +1,4 @@
-use Rattle.std.proofs.Common.{ap}
-use Rattle.sha1.specs.Sha1.{add_state}
+use Rattle.{sha1.specs.Sha1.add_state, std.proofs.Common.ap}
 use Rattle.hmac_tag.proofs.sha1_block.run_rounds.Goals as goal
 
 pub returns : goal.returns

@@ -1,8 +1,6 @@
+use Rattle.sha1.{proofs.Absorbing.digest_more, specs.Sha1.digest_bytes}
 use Rattle.std.proofs.Common.{rules, ◌≡◌, arith, sym, ◌∙◌}
-use Rattle.std.proofs.lemmas.List.{take_all}
-use Rattle.std.proofs.lemmas.Slice.{overwrites}
-use Rattle.sha1.specs.Sha1.{digest_bytes}
-use Rattle.sha1.proofs.Absorbing.{digest_more}
+use Rattle.std.proofs.lemmas.{List.take_all, Slice.overwrites}
 use Rattle.hmac_tag.proofs.sha1_hasher.digest_of_words.Goals as goal
 
 pub words-init : goal.words-init

@@ -1,6 +1,4 @@
-use Rattle.std.proofs.Common.{take}
-use Rattle.std.specs.List.{AllPass}
-use Rattle.hex.specs.Hex.{is_hex_digit}
+use Rattle.{hex.specs.Hex.is_hex_digit, std.proofs.Common.take, std.specs.List.AllPass}
 use Rattle.key_text.proofs.key_text.digit_count.Given as goal
 
 abbrev pub invariant-loop-place : goal.invariant-loop-place

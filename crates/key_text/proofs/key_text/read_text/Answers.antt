@@ -1,5 +1,4 @@
-use Rattle.std.proofs.Common.{◌∙◌, arith}
-use Rattle.key_text.proofs.KeyLemmas.{taken_more}
+use Rattle.{key_text.proofs.KeyLemmas.taken_more, std.proofs.Common.◌∙◌, std.proofs.Common.arith}
 use Rattle.key_text.proofs.key_text.read_text.Goals as goal
 
 pub loop-len-preserved : goal.loop-len-preserved

@@ -1,7 +1,6 @@
-use Rattle.std.proofs.Common.{refl, arith, take, rules}
-use Rattle.std.proofs.lemmas.List.{take_all}
 use Rattle.line_capture.proofs.CollectedBytes.{collects_more, stops_at, taken_items, ends_whole}
 use Rattle.line_capture.proofs.CollectedBytes.{length-front}
+use Rattle.std.proofs.{Common.refl, Common.arith, Common.take, Common.rules, lemmas.List.take_all}
 use Rattle.line_capture.proofs.collect.collect.Goals as goal
 
 pub loop-b-init : goal.loop-b-init

@@ -1,5 +1,4 @@
-use Rattle.std.proofs.Common.{◌≡◌, take}
-use Rattle.line_capture.specs.Collecting.{Collecting}
+use Rattle.{line_capture.specs.Collecting.Collecting, std.proofs.Common.◌≡◌, std.proofs.Common.take}
 use Rattle.line_capture.proofs.collect.collect.Given as goal
 
 -- the bytes so far were read, and what they are is kept

@@ -1,5 +1,4 @@
-use Rattle.line_capture.proofs.CollectedBytes.{collects_none, collects_one}
-use Rattle.line_capture.proofs.CollectedBytes.{collects_refused}
+use Rattle.line_capture.proofs.CollectedBytes.{collects_none, collects_one, collects_refused}
 use Rattle.line_capture.proofs.collect.collect_byte.Goals as goal
 
 pub returns-in-Ok-None-clause-collects : goal.returns-in-Ok-None-clause-collects

@@ -1,7 +1,6 @@
-use Rattle.std.proofs.Common.{◌∙◌, sym, arith}
-use Rattle.std.proofs.lemmas.List.{take_all}
-use Rattle.line_capture.specs.Captures.{tells_of}
 use Rattle.line_capture.proofs.Keeping.{last_wrong, last_right}
+use Rattle.line_capture.specs.Captures.{tells_of}
+use Rattle.std.proofs.{Common.◌∙◌, Common.sym, Common.arith, lemmas.List.take_all}
 use Rattle.line_capture.proofs.collect.right_len.Goals as goal
 
 pub returns-then-tells_of : goal.returns-then-tells_of

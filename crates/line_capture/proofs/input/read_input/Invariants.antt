@@ -1,6 +1,5 @@
 use Rattle.std.proofs.Common.{◌≡◌, ◌≤◌, ◌-◌, length}
-use Rattle.std.specs.Io.KnownBytes.{prepend_known}
-use Rattle.tick_drive.specs.Input.{max_bytes}
+use Rattle.{std.specs.Io.KnownBytes.prepend_known, tick_drive.specs.Input.max_bytes}
 use Rattle.line_capture.proofs.input.read_input.Given as goal
 
 -- the bytes that were read came first, and no read has failed

@@ -1,5 +1,4 @@
-use Rattle.std.proofs.Common.{take}
-use Rattle.line_capture.proofs.PlacedBytes.{counts_stop}
+use Rattle.{line_capture.proofs.PlacedBytes.counts_stop, std.proofs.Common.take}
 use Rattle.line_capture.proofs.placing.count_overlaps.Goals as goal
 
 pub returns-then-not-count_next : goal.returns-then-not-count_next

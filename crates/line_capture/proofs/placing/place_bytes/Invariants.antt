@@ -1,6 +1,5 @@
+use Rattle.{line_capture.proofs.PlacedBytes.SoFar, line_texts.specs.Texts.writing}
 use Rattle.std.proofs.Common.{◌≡◌, take}
-use Rattle.line_texts.specs.Texts.{writing}
-use Rattle.line_capture.proofs.PlacedBytes.{SoFar}
 use Rattle.line_capture.proofs.placing.place_bytes.Given as goal
 
 -- the bytes so far were placed, and their ticks added

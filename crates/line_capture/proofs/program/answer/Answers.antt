@@ -1,7 +1,6 @@
-use Rattle.std.proofs.Common.{Some, subst, map}
-use Rattle.std.specs.String.{string_bytes}
-use Rattle.line_capture.specs.Words.{IsCommand}
-use Rattle.line_capture.specs.declared.words.Command.TheVariants.{Take, Give}
+use Rattle.line_capture.specs.{Words.IsCommand, declared.words.Command.TheVariants.Take}
+use Rattle.{line_capture.specs.declared.words.Command.TheVariants.Give, std.proofs.Common.Some}
+use Rattle.std.{proofs.Common.subst, proofs.Common.map, specs.String.string_bytes}
 use Rattle.line_capture.proofs.program.answer.Goals as goal
 
 pub returns-in-Take-clause-answers : goal.returns-in-Take-clause-answers

@@ -1,6 +1,5 @@
+use Rattle.line_capture.proofs.{RunAble.able_after, RunEnds.causes_after, RunEnds.flushes_with_line}
 use Rattle.std.proofs.Common.{ap}
-use Rattle.line_capture.proofs.RunAble.{able_after}
-use Rattle.line_capture.proofs.RunEnds.{causes_after, flushes_with_line}
 use Rattle.line_capture.proofs.program.run.Goals as goal
 
 pub returns-clause-causes : goal.returns-clause-causes

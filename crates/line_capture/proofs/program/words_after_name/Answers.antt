@@ -1,8 +1,7 @@
 use Rattle.std.proofs.Common.{rules, ◌≡◌, ◌∙◌, ap, length}
-use Rattle.std.specs.Prelude.{vec_len}
-use Rattle.std.specs.Vec.Iter.{into_iter_items, into_iter_len}
 use Rattle.std.proofs.lemmas.Iterator.Adapters.{fact_from_collect, YieldsList-from_skip}
-use Rattle.std.proofs.lemmas.Iterator.Adapters.{YieldsList-from_vec}
+use Rattle.std.{proofs.lemmas.Iterator.Adapters.YieldsList-from_vec, specs.Prelude.vec_len}
+use Rattle.std.specs.Vec.Iter.{into_iter_items, into_iter_len}
 use Rattle.line_capture.proofs.program.words_after_name.Goals as goal
 
 pub returns : goal.returns

@@ -1,5 +1,4 @@
-use Rattle.std.proofs.Common.{◌-◌, ◌≤◌}
-use Rattle.line_capture.proofs.RecordBytes.{Leads}
+use Rattle.{line_capture.proofs.RecordBytes.Leads, std.proofs.Common.◌-◌, std.proofs.Common.◌≤◌}
 use Rattle.line_capture.proofs.records.record_len.Given as goal
 
 -- the ticks so far are bytes

@@ -1,6 +1,5 @@
+use Rattle.line_capture.specs.{RecordWalk.walked, Records.records_text, Records.file_front}
 use Rattle.std.proofs.Common.{◌≡◌, ◌-◌, ◌++◌, drop}
-use Rattle.line_capture.specs.Records.{records_text, file_front}
-use Rattle.line_capture.specs.RecordWalk.{walked}
 use Rattle.line_capture.proofs.records.recorded.Given as goal
 
 -- the records that begin in the ticks so far were added

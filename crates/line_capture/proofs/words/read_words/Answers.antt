@@ -1,8 +1,6 @@
-use Rattle.std.proofs.Common.{◌≡◌, ℕ, ◌<◌, ◌≤◌, List, [], ◌∷◌, length, get_or, map, OnErr}
-use Rattle.std.proofs.Common.{subst, sym, arith}
-use Rattle.std.specs.String.{string_bytes}
-use Rattle.line_capture.specs.declared.words.Command.{Command}
-use Rattle.line_capture.specs.Words.{IsCommand}
+use Rattle.line_capture.specs.{Words.IsCommand, declared.words.Command.Command}
+use Rattle.std.proofs.Common.{◌≡◌, ℕ, ◌<◌, ◌≤◌, List, [], ◌∷◌, length, get_or, map, OnErr, subst}
+use Rattle.std.{proofs.Common.sym, proofs.Common.arith, specs.String.string_bytes}
 use Rattle.line_capture.proofs.words.read_words.Goals as goal
 
 -- a list of five by its items

@@ -1,5 +1,4 @@
-use Rattle.std.proofs.Common.{arith}
-use Rattle.line_rules.proofs.CrcLaws.{bit_step-masked}
+use Rattle.{line_rules.proofs.CrcLaws.bit_step-masked, std.proofs.Common.arith}
 use Rattle.line_rules.proofs.crc_bits.after_bit.Goals as goal
 
 pub returns : goal.returns

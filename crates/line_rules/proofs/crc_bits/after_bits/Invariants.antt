@@ -1,5 +1,4 @@
-use Rattle.std.proofs.Common.{◌≡◌, ◌-◌}
-use Rattle.line_rules.specs.Crc.{bit_steps}
+use Rattle.{line_rules.specs.Crc.bit_steps, std.proofs.Common.◌≡◌, std.proofs.Common.◌-◌}
 use Rattle.line_rules.proofs.crc_bits.after_bits.Given as goal
 
 abbrev pub invariant-loop : goal.invariant-loop

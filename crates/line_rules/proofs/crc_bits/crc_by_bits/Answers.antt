@@ -1,7 +1,6 @@
-use Rattle.std.proofs.Common.{◌∙◌, sym, ap, arith}
-use Rattle.std.specs.Prelude.{bit_xor}
-use Rattle.line_rules.specs.Crc.{bit_steps}
 use Rattle.line_rules.proofs.CrcLaws.{byte_step_lem, crc-more, crc-all}
+use Rattle.{line_rules.specs.Crc.bit_steps, std.proofs.Common.◌∙◌}
+use Rattle.std.{proofs.Common.sym, proofs.Common.ap, proofs.Common.arith, specs.Prelude.bit_xor}
 use Rattle.line_rules.proofs.crc_bits.crc_by_bits.Goals as goal
 
 pub loop-byte-preserved : goal.loop-byte-preserved

@@ -1,5 +1,4 @@
-use Rattle.std.proofs.Common.{◌≡◌, drop}
-use Rattle.line_rules.specs.Crc.{crc}
+use Rattle.{line_rules.specs.Crc.crc, std.proofs.Common.◌≡◌, std.proofs.Common.drop}
 use Rattle.line_rules.proofs.crc_bits.crc_by_bits.Given as goal
 
 abbrev pub invariant-loop-byte : goal.invariant-loop-byte

@@ -1,6 +1,5 @@
-use Rattle.std.proofs.Common.{◌≡◌, drop}
-use Rattle.std.specs.Prelude.{bit_xor}
 use Rattle.line_rules.specs.Crc.{crc}
+use Rattle.std.{proofs.Common.◌≡◌, proofs.Common.drop, specs.Prelude.bit_xor}
 use Rattle.line_rules.proofs.crc_tables.crc_at_once.Given as goal
 
 abbrev pub invariant-loop-place : goal.invariant-loop-place

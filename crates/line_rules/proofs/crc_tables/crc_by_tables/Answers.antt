@@ -1,7 +1,6 @@
+use Rattle.line_rules.{proofs.CrcLaws.crc-nil, proofs.CrcLaws.crc-later, specs.Crc.crc}
 use Rattle.std.proofs.Common.{◌≡◌, [], arith, sym, ◌∙◌, ap}
 use Rattle.std.proofs.lemmas.List.{nil_from_length}
-use Rattle.line_rules.specs.Crc.{crc}
-use Rattle.line_rules.proofs.CrcLaws.{crc-nil, crc-later}
 use Rattle.line_rules.proofs.crc_tables.crc_by_tables.Goals as goal
 
 pub loop-together-preserved : goal.loop-together-preserved

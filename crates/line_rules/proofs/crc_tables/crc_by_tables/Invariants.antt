@@ -1,5 +1,4 @@
-use Rattle.std.proofs.Common.{◌≡◌, length}
-use Rattle.line_rules.specs.Crc.{crc}
+use Rattle.{line_rules.specs.Crc.crc, std.proofs.Common.◌≡◌, std.proofs.Common.length}
 use Rattle.line_rules.proofs.crc_tables.crc_by_tables.Given as goal
 
 abbrev pub invariant-loop-together : goal.invariant-loop-together

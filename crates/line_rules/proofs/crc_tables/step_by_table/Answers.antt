@@ -1,8 +1,7 @@
+use Rattle.line_rules.proofs.CrcLaws.{crc-nil, crc-cons}
+use Rattle.line_rules.{proofs.CrcLinear.byte_step-split, specs.Crc.byte_step}
 use Rattle.std.proofs.Common.{◌/◌, [], sym, ◌∙◌, ap, arith}
 use Rattle.std.specs.Prelude.{bit_xor}
-use Rattle.line_rules.proofs.CrcLaws.{crc-nil, crc-cons}
-use Rattle.line_rules.proofs.CrcLinear.{byte_step-split}
-use Rattle.line_rules.specs.Crc.{byte_step}
 use Rattle.line_rules.proofs.crc_tables.step_by_table.Goals as goal
 
 pub returns : goal.returns

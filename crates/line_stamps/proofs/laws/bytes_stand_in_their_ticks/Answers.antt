@@ -1,5 +1,4 @@
-use Rattle.std.proofs.Common.{None}
-use Rattle.line_stamps.proofs.Clocks.{in-their-ticks}
+use Rattle.{line_stamps.proofs.Clocks.in-their-ticks, std.proofs.Common.None}
 use Rattle.line_stamps.proofs.laws.bytes_stand_in_their_ticks.Goals as goal
 
 pub returns : goal.returns

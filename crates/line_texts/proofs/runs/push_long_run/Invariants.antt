@@ -1,7 +1,5 @@
-use Rattle.std.proofs.Common.{length}
-use Rattle.yasir_ticks.specs.TickRun.{run_ticks}
-use Rattle.line_texts.specs.Texts.{writing}
-use Rattle.line_texts.proofs.PushedRuns.{HasPushed}
+use Rattle.line_texts.{proofs.PushedRuns.HasPushed, specs.Texts.writing}
+use Rattle.{std.proofs.Common.length, yasir_ticks.specs.TickRun.run_ticks}
 use Rattle.line_texts.proofs.runs.push_long_run.Given as goal
 
 abbrev pub invariant-loop-left : goal.invariant-loop-left

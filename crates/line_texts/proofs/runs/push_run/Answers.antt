@@ -1,5 +1,4 @@
-use Rattle.line_texts.specs.Texts.{writing}
-use Rattle.line_texts.proofs.PushedRuns.{pushed_joined}
+use Rattle.line_texts.{proofs.PushedRuns.pushed_joined, specs.Texts.writing}
 use Rattle.line_texts.proofs.runs.push_run.Goals as goal
 
 pub returns-then-join : goal.returns-then-join

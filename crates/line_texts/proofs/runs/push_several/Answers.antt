@@ -1,7 +1,6 @@
-use Rattle.std.proofs.Common.{[], subst}
-use Rattle.yasir_ticks.specs.TickRun.{run_ticks}
-use Rattle.line_texts.specs.Texts.{writing, Pushes}
 use Rattle.line_texts.proofs.PushedRuns.{run_begun, run_goes_on, run_ends, pushed_joined}
+use Rattle.line_texts.specs.Texts.{writing, Pushes}
+use Rattle.{std.proofs.Common.[], std.proofs.Common.subst, yasir_ticks.specs.TickRun.run_ticks}
 use Rattle.line_texts.proofs.runs.push_several.Goals as goal
 
 pub returns-then-join : goal.returns-then-join

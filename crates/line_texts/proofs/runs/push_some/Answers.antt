@@ -1,8 +1,7 @@
-use Rattle.std.proofs.Common.{◌∙◌, take, Ok, ap, sym, arith}
-use Rattle.std.proofs.Math.Seq.{take-length}
-use Rattle.yasir_ticks.specs.TickRun.{run_ticks}
-use Rattle.line_texts.specs.Texts.{writing}
 use Rattle.line_texts.proofs.PushedRuns.{pushed_as, pushed_joined}
+use Rattle.line_texts.specs.Texts.{writing}
+use Rattle.std.proofs.Common.{◌∙◌, take, Ok, ap, sym, arith}
+use Rattle.{std.proofs.Math.Seq.take-length, yasir_ticks.specs.TickRun.run_ticks}
 use Rattle.line_texts.proofs.runs.push_some.Goals as goal
 
 pub returns-then-join : goal.returns-then-join

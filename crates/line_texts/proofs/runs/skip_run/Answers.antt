@@ -1,8 +1,7 @@
-use Rattle.std.proofs.Common.{◌∙◌, ◌++◌, take, ap, subst}
-use Rattle.std.proofs.lemmas.List.{take-append-drop}
-use Rattle.yasir_ticks.specs.TickRun.{run_ticks}
-use Rattle.line_texts.specs.Writer.{Takes}
 use Rattle.line_texts.proofs.PushedRuns.{skipped_none, skipped_line, skipped_all}
+use Rattle.line_texts.specs.Writer.{Takes}
+use Rattle.std.proofs.Common.{◌∙◌, ◌++◌, take, ap, subst}
+use Rattle.{std.proofs.lemmas.List.take-append-drop, yasir_ticks.specs.TickRun.run_ticks}
 use Rattle.line_texts.proofs.runs.skip_run.Goals as goal
 
 pub loop-left-init : goal.loop-left-init

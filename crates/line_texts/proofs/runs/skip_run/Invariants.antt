@@ -1,6 +1,5 @@
-use Rattle.std.proofs.Common.{length}
+use Rattle.{line_texts.proofs.PushedRuns.HasSkipped, std.proofs.Common.length}
 use Rattle.yasir_ticks.specs.TickRun.{run_ticks}
-use Rattle.line_texts.proofs.PushedRuns.{HasSkipped}
 use Rattle.line_texts.proofs.runs.skip_run.Given as goal
 
 abbrev pub invariant-loop-left : goal.invariant-loop-left

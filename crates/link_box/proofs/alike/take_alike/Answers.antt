@@ -1,6 +1,5 @@
-use Rattle.std.proofs.Common.{◌≡◌, ap, arith, take}
-use Rattle.yasir_ticks.specs.TickRun.{run_ticks}
-use Rattle.link_box.proofs.TakenRuns.{takes-behind}
+use Rattle.{link_box.proofs.TakenRuns.takes-behind, std.proofs.Common.◌≡◌, std.proofs.Common.ap}
+use Rattle.{std.proofs.Common.arith, std.proofs.Common.take, yasir_ticks.specs.TickRun.run_ticks}
 use Rattle.link_box.proofs.alike.take_alike.Goals as goal
 
 pub returns-clause-run : goal.returns-clause-run

@@ -1,6 +1,5 @@
-use Rattle.std.proofs.Common.{arith}
-use Rattle.std.proofs.lemmas.List.{nil_from_length}
 use Rattle.live_port.proofs.SentBytes.{hands_text, hands_note, hands_both}
+use Rattle.std.proofs.{Common.arith, lemmas.List.nil_from_length}
 use Rattle.live_port.proofs.sending.hand_on.Goals as goal
 
 pub returns-then-is_empty : goal.returns-then-is_empty

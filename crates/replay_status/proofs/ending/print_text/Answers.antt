@@ -1,7 +1,6 @@
-use Rattle.std.proofs.Common.{◌∙◌, refl}
-use Rattle.replay_status.proofs.EndCauses.{sink_cause_of_whole}
-use Rattle.replay_status.proofs.FlushLaws.{flushes_of_whole}
+use Rattle.replay_status.proofs.{EndCauses.sink_cause_of_whole, FlushLaws.flushes_of_whole}
 use Rattle.replay_status.proofs.Printed.{prints_whole}
+use Rattle.std.proofs.Common.{◌∙◌, refl}
 use Rattle.replay_status.proofs.ending.print_text.Goals as goal
 
 pub returns-clause-out : goal.returns-clause-out

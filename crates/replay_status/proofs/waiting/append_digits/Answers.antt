@@ -1,6 +1,5 @@
+use Rattle.hex.{proofs.HexLemmas.length-encode_with, specs.Hex.lower_digits}
 use Rattle.std.proofs.Common.{◌∙◌, ◌-◌, ◌++◌, ap, arith, length}
-use Rattle.hex.specs.Hex.{lower_digits}
-use Rattle.hex.proofs.HexLemmas.{length-encode_with}
 use Rattle.yasir_ticks.proofs.DigitsAdded.{long, goes_on}
 use Rattle.replay_status.proofs.waiting.append_digits.Goals as goal
 

@@ -1,8 +1,7 @@
+use Rattle.line_rules.specs.Bytes.{AreBytes}
+use Rattle.rtu_frame.{proofs.RtuLaws.right_ending_by_crc, specs.Frame.HasRightEnding}
 use Rattle.std.proofs.Common.{◌<◌, sym, subst, ℕ, nat_eq, IsTrue, arith}
 use Rattle.std.proofs.lemmas.List.Elements.{All-from_get_or}
-use Rattle.line_rules.specs.Bytes.{AreBytes}
-use Rattle.rtu_frame.specs.Frame.{HasRightEnding}
-use Rattle.rtu_frame.proofs.RtuLaws.{right_ending_by_crc}
 use Rattle.rtu_frame.proofs.frame.has_right_ending.Goals as goal
 
 pub returns : goal.returns

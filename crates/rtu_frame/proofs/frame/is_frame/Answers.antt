@@ -1,5 +1,4 @@
-use Rattle.std.proofs.Common.{arith}
-use Rattle.rtu_frame.proofs.FrameLaws.{last_byte_decides}
+use Rattle.{rtu_frame.proofs.FrameLaws.last_byte_decides, std.proofs.Common.arith}
 use Rattle.rtu_frame.proofs.frame.is_frame.Goals as goal
 
 pub returns-then-bytes-length : goal.returns-then-bytes-length

@@ -1,6 +1,5 @@
+use Rattle.{line_rules.proofs.CrcLaws.crc-one, rtu_frame.proofs.Tables.rtu_tables}
 use Rattle.std.proofs.Common.{◌∙◌}
-use Rattle.line_rules.proofs.CrcLaws.{crc-one}
-use Rattle.rtu_frame.proofs.Tables.{rtu_tables}
 use Rattle.rtu_frame.proofs.table.after_byte.Goals as goal
 
 pub step_by_table-requires : goal.step_by_table-requires

@@ -1,7 +1,6 @@
 use Rattle.link_format.specs.Profile.{profile_of}
-use Rattle.seal_judgements.specs.Sealing.{at_floor}
-use Rattle.seal_judgements.proofs.Causality.{sealer-extends}
-use Rattle.seal_judgements.proofs.Numbers.{sealed-numbered, sealed-extends}
+use Rattle.seal_judgements.proofs.{Causality.sealer-extends, Numbers.sealed-numbered}
+use Rattle.seal_judgements.{proofs.Numbers.sealed-extends, specs.Sealing.at_floor}
 use Rattle.seal_transmitter.proofs.laws.longer_lines.Goals as goal
 
 pub returns-clause-extends : goal.returns-clause-extends

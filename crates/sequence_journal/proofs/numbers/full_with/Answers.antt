@@ -1,5 +1,4 @@
-use Rattle.std.proofs.Common.{arith}
-use Rattle.sequence_journal.proofs.NumberLaws.{least-is}
+use Rattle.{sequence_journal.proofs.NumberLaws.least-is, std.proofs.Common.arith}
 use Rattle.sequence_journal.proofs.numbers.full_with.Goals as goal
 
 pub returns-then-n-limit-clause-found : goal.returns-then-n-limit-clause-found

@@ -1,6 +1,5 @@
+use Rattle.sequence_journal.{proofs.SlotLemmas.link_holds, specs.Slots.link_held}
 use Rattle.std.proofs.Common.{◌≡◌, ◌∙◌, None, Some, rules}
-use Rattle.sequence_journal.specs.Slots.{link_held}
-use Rattle.sequence_journal.proofs.SlotLemmas.{link_holds}
 use Rattle.sequence_journal.proofs.numbers.link_in.Goals as goal
 
 pub returns-then-not-is_known-clause-only : goal.returns-then-not-is_known-clause-only

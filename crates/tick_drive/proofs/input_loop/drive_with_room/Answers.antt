@@ -1,8 +1,7 @@
 use Rattle.std.proofs.Common.{◌∙◌, refl}
-use Rattle.tick_drive.proofs.Moving.{gives_none}
 use Rattle.tick_drive.proofs.Driving.{progress_start, progress_quiet, progress_line, step_ends}
 use Rattle.tick_drive.proofs.Driving.{line_lent, finish_ends, line_ends, last_ends, last_line_ends}
-use Rattle.tick_drive.proofs.Driving.{read_same, progress_same}
+use Rattle.tick_drive.proofs.{Driving.read_same, Driving.progress_same, Moving.gives_none}
 use Rattle.tick_drive.proofs.input_loop.drive_with_room.Goals as goal
 
 pub loop-content-init : goal.loop-content-init

@@ -1,5 +1,4 @@
-use Rattle.std.proofs.Common.{◌≡◌}
-use Rattle.tick_drive.proofs.Driving.{Progress}
+use Rattle.{std.proofs.Common.◌≡◌, tick_drive.proofs.Driving.Progress}
 use Rattle.tick_drive.proofs.input_loop.drive_with_room.Given as goal
 
 abbrev pub invariant-loop-content : goal.invariant-loop-content

@@ -1,6 +1,5 @@
-use Rattle.std.proofs.Common.{length}
+use Rattle.{std.proofs.Common.length, tick_drive.proofs.Moving.HasGiven}
 use Rattle.yasir_ticks.specs.TickRun.{run_ticks, run_items}
-use Rattle.tick_drive.proofs.Moving.{HasGiven}
 use Rattle.tick_drive.proofs.input_loop.give_run.Given as goal
 
 abbrev pub invariant-loop-left : goal.invariant-loop-left

@@ -1,5 +1,4 @@
-use Rattle.std.proofs.Common.{sym, ◌∙◌}
-use Rattle.vectors.proofs.FullRoom.{no_frame-beyond}
+use Rattle.{std.proofs.Common.sym, std.proofs.Common.◌∙◌, vectors.proofs.FullRoom.no_frame-beyond}
 use Rattle.vectors.proofs.frame.is_frame.Goals as goal
 
 pub returns-then-take_some-bytes : goal.returns-then-take_some-bytes

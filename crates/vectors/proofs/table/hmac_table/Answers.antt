@@ -1,6 +1,5 @@
 use Rattle.std.proofs.Common.{◌≡◌, [], ◌∷◌, ap, ◌∙◌}
-use Rattle.vectors.specs.Cases.{answer}
-use Rattle.vectors.specs.Tables.{hmac_cases}
+use Rattle.vectors.specs.{Cases.answer, Tables.hmac_cases}
 use Rattle.vectors.proofs.table.hmac_table.Goals as goal
 
 pub returns-clause-answer : goal.returns-clause-answer

@@ -1,6 +1,5 @@
-use Rattle.std.proofs.Common.{ap}
+use Rattle.{std.proofs.Common.ap, vectors.proofs.Answered.is_answer}
 use Rattle.vectors.specs.Cases.{answer_at, answer}
-use Rattle.vectors.proofs.Answered.{is_answer}
 use Rattle.vectors.proofs.table.run_table.Goals as goal
 
 pub returns-in-None-clause-first : goal.returns-in-None-clause-first

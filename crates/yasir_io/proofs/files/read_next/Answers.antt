@@ -1,5 +1,4 @@
-use Rattle.std.proofs.Common.{rules}
-use Rattle.yasir_io.proofs.FileLemmas.{read_and_zeros}
+use Rattle.{std.proofs.Common.rules, yasir_io.proofs.FileLemmas.read_and_zeros}
 use Rattle.yasir_io.proofs.files.read_next.Goals as goal
 
 pub returns : goal.returns

@@ -1,5 +1,4 @@
-use Rattle.std.proofs.Common.{◌∙◌}
-use Rattle.yasir_io.proofs.OutputLemmas.{some_written_of_slice}
+use Rattle.{std.proofs.Common.◌∙◌, yasir_io.proofs.OutputLemmas.some_written_of_slice}
 use Rattle.yasir_io.proofs.sink.write_all.Goals as goal
 
 pub loop-rest-preserved : goal.loop-rest-preserved

@@ -1,5 +1,4 @@
-use Rattle.std.proofs.Common.{◌≡◌, length}
-use Rattle.yasir_io.specs.Output.{Buffered}
+use Rattle.{std.proofs.Common.◌≡◌, std.proofs.Common.length, yasir_io.specs.Output.Buffered}
 use Rattle.yasir_io.proofs.sink.write_all.Given as goal
 
 -- what is left of the piece waits, no call has failed, and nothing was flushed

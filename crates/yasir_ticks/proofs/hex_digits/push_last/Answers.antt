@@ -1,7 +1,6 @@
+use Rattle.hex.{proofs.HexLemmas.length-encode_with, specs.Hex.lower_digits}
 use Rattle.std.proofs.Common.{◌∙◌, ◌++◌, ap, arith, length, sym}
 use Rattle.std.proofs.lemmas.Bool.{eqb-true}
-use Rattle.hex.specs.Hex.{lower_digits}
-use Rattle.hex.proofs.HexLemmas.{length-encode_with}
 use Rattle.yasir_ticks.proofs.DigitsAdded.{of-ok, front-digits, none-left}
 use Rattle.yasir_ticks.proofs.hex_digits.push_last.Goals as goal
 

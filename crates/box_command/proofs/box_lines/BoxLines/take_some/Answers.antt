@@ -2,8 +2,7 @@ use Rattle.box_command.proofs.Turns.{may_again, again_stopped, again_given, may_
 use Rattle.box_command.{proofs.Turns.stopped_one, specs.BoxLines.driving, specs.BoxLines.state_of}
 use Rattle.{box_command.specs.BoxLinesLaws.drives-then, std.proofs.Common.arith}
 use Rattle.tick_drive.proofs.{Fronts.some_given, ItemLaws.run_items-first}
-use Rattle.tick_drive.specs.Consumers.{GivesUpTo}
-use Rattle.yasir_ticks.specs.TickRun.{run_items}
+use Rattle.{tick_drive.specs.Consumers.GivesUpTo, yasir_ticks.specs.TickRun.run_items}
 use Rattle.box_command.proofs.box_lines.BoxLines.take_some.Goals as goal
 use Rattle.box_command.proofs.box_lines.BoxLines.take_some.Goals.{In-Ok-pass}
 

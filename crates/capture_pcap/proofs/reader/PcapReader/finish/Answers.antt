@@ -1,6 +1,5 @@
+use Rattle.capture_pcap.{proofs.Reading.file_right, proofs.Reading.file_open, specs.Reader.spot_of}
 use Rattle.std.proofs.Common.{sym, ◌∙◌, refl}
-use Rattle.capture_pcap.specs.Reader.{spot_of}
-use Rattle.capture_pcap.proofs.Reading.{file_right, file_open}
 use Rattle.capture_pcap.proofs.reader.PcapReader.finish.Goals as goal
 
 pub returns-then-may_end-clause-right : goal.returns-then-may_end-clause-right

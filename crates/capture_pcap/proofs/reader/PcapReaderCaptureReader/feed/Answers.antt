@@ -1,10 +1,8 @@
-use Rattle.std.proofs.Common.{ℕ, List, [], ◌∷◌, ◌++◌, Result, Ok, Err, IfErr, Some, sym, subst}
-use Rattle.byte_walk.specs.Walks.{BeginsNone}
-use Rattle.byte_walk.specs.Fields.{RefusesField}
-use Rattle.line_stamps.specs.declared.seen.Seen.{Seen}
+use Rattle.byte_walk.specs.{Fields.RefusesField, Walks.BeginsNone}
 use Rattle.capture_pcap.specs.Pcap.{IsCapture, IsCause}
-use Rattle.capture_pcap.specs.Reader.{Refuses}
-use Rattle.capture_pcap.specs.declared.fault.BadPcap.{BadPcap}
+use Rattle.capture_pcap.specs.{Reader.Refuses, declared.fault.BadPcap.BadPcap}
+use Rattle.line_stamps.specs.declared.seen.Seen.{Seen}
+use Rattle.std.proofs.Common.{ℕ, List, [], ◌∷◌, ◌++◌, Result, Ok, Err, IfErr, Some, sym, subst}
 use Rattle.capture_pcap.proofs.reader.PcapReaderCaptureReader.feed.Goals as goal
 
 -- a refusal with its field is one of the byte

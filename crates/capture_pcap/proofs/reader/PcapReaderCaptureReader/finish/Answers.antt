@@ -1,9 +1,7 @@
-use Rattle.std.proofs.Common.{◌≡◌, ℕ, List, length, Result, Ok, Err, IfErr, None}
+use Rattle.capture_pcap.specs.{Pcap.IsCapture, Reader.Refuses}
+use Rattle.capture_pcap.specs.declared.fault.{BadPcap.BadPcap, PcapFault.TheVariants.End}
 use Rattle.line_stamps.specs.declared.seen.Seen.{Seen}
-use Rattle.capture_pcap.specs.Pcap.{IsCapture}
-use Rattle.capture_pcap.specs.Reader.{Refuses}
-use Rattle.capture_pcap.specs.declared.fault.BadPcap.{BadPcap}
-use Rattle.capture_pcap.specs.declared.fault.PcapFault.TheVariants.{End}
+use Rattle.std.proofs.Common.{◌≡◌, ℕ, List, length, Result, Ok, Err, IfErr, None}
 use Rattle.capture_pcap.proofs.reader.PcapReaderCaptureReader.finish.Goals as goal
 
 refused : {A : Type 0} (file : List ℕ) (items : List Seen) (r : Result A BadPcap)

@@ -1,10 +1,8 @@
-use Rattle.std.proofs.Common.{◌∙◌, ◌+◌, [], ◌∷◌, length, Ok, None, refl, ap, sym}
-use Rattle.std.proofs.Common.{arith}
-use Rattle.std.proofs.lemmas.Bool.{eq-eqb, ne_eqb, cond-true, cond-false}
-use Rattle.std.proofs.lemmas.List.{length-append}
-use Rattle.yasir_ticks.specs.Characters.{line_feed}
-use Rattle.capture_rows.specs.Reader.{state_of}
 use Rattle.capture_rows.proofs.RowLaws.{lf_ends, long_stops, plain_step}
+use Rattle.capture_rows.specs.Reader.{state_of}
+use Rattle.std.proofs.Common.{◌∙◌, ◌+◌, [], ◌∷◌, length, Ok, None, refl, ap, sym, arith}
+use Rattle.std.proofs.lemmas.Bool.{eq-eqb, ne_eqb, cond-true, cond-false}
+use Rattle.{std.proofs.lemmas.List.length-append, yasir_ticks.specs.Characters.line_feed}
 use Rattle.capture_rows.proofs.row_reader.RowReader.step.Goals as goal
 
 pub returns-in-Err : goal.returns-in-Err

@@ -1,7 +1,6 @@
-use Rattle.std.proofs.Common.{◌∙◌, None, sym}
+use Rattle.capture_rows.proofs.{Refusals.refuses_line, RowLaws.rows_right, RowLaws.rows_open}
 use Rattle.capture_rows.specs.Reader.{place_of}
-use Rattle.capture_rows.proofs.RowLaws.{rows_right, rows_open}
-use Rattle.capture_rows.proofs.Refusals.{refuses_line}
+use Rattle.std.proofs.Common.{◌∙◌, None, sym}
 use Rattle.capture_rows.proofs.row_reader.RowReaderCaptureReader.finish.Goals as goal
 
 pub returns-then-may_end-clause-right : goal.returns-then-may_end-clause-right

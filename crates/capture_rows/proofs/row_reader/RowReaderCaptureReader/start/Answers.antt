@@ -1,7 +1,6 @@
-use Rattle.std.proofs.Common.{◌∙◌, length, refl, ap, arith}
-use Rattle.capture_rows.specs.Rows.{first_state}
-use Rattle.capture_rows.specs.declared.row.Stage.TheVariants.{Start}
 use Rattle.capture_rows.proofs.RowLaws.{nothing_walks}
+use Rattle.capture_rows.specs.{Rows.first_state, declared.row.Stage.TheVariants.Start}
+use Rattle.std.proofs.Common.{◌∙◌, length, refl, ap, arith}
 use Rattle.capture_rows.proofs.row_reader.RowReaderCaptureReader.start.Goals as goal
 
 pub returns-clause-stands : goal.returns-clause-stands

@@ -1,7 +1,6 @@
-use Rattle.std.proofs.Common.{[], ◌∷◌, arith}
-use Rattle.std.proofs.lemmas.List.{length-append}
-use Rattle.capture_text.proofs.Reading.{text_more, text_begins, text_none, text_cause}
 use Rattle.capture_text.proofs.Reached.{lines_ended-more}
+use Rattle.capture_text.proofs.Reading.{text_more, text_begins, text_none, text_cause}
+use Rattle.std.proofs.{Common.[], Common.◌∷◌, Common.arith, lemmas.List.length-append}
 use Rattle.capture_text.proofs.reader.TextReader.feed.Goals as goal
 
 pub returns-then-b-eq10-clause-stands : goal.returns-then-b-eq10-clause-stands

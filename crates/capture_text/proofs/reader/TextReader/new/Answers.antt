@@ -1,7 +1,6 @@
-use Rattle.std.proofs.Common.{refl, []}
 use Rattle.byte_walk.specs.Walks.{walk}
-use Rattle.capture_text.specs.declared.place.Place.TheVariants.{Start}
-use Rattle.capture_text.proofs.Reading.{text_begins}
+use Rattle.capture_text.{proofs.Reading.text_begins, specs.declared.place.Place.TheVariants.Start}
+use Rattle.std.proofs.Common.{refl, []}
 use Rattle.capture_text.proofs.reader.TextReader.new.Goals as goal
 
 pub returns-clause-stands : goal.returns-clause-stands

@@ -1,10 +1,8 @@
-use Rattle.std.proofs.Common.{ℕ, List, Result, Ok, Err, IfErr, OnOk, None}
-use Rattle.line_stamps.specs.declared.capture.CaptureByte.{CaptureByte}
-use Rattle.line_stamps.specs.declared.seen.Seen.{Seen}
 use Rattle.capture_text.specs.CaptureText.{IsTextCapture, IsCause}
 use Rattle.capture_text.specs.Reader.{IsSeenText, HasSeen, IsPlaceOf, Refuses}
-use Rattle.capture_text.specs.declared.fault.BadText.{BadText}
-use Rattle.capture_text.specs.declared.reader.TextReader.{TextReader}
+use Rattle.capture_text.specs.declared.{fault.BadText.BadText, reader.TextReader.TextReader}
+use Rattle.line_stamps.specs.declared.{capture.CaptureByte.CaptureByte, seen.Seen.Seen}
+use Rattle.std.proofs.Common.{ℕ, List, Result, Ok, Err, IfErr, OnOk, None}
 use Rattle.capture_text.proofs.reader.TextReaderCaptureReader.finish.Goals as goal
 
 right : {A : Type 0} (text : List ℕ) (items : List Seen) (reader : TextReader) (r : Result A BadText)

@@ -1,9 +1,7 @@
-use Rattle.std.proofs.Common.{◌∙◌, [], ◌++◌, refl, sym, ap}
-use Rattle.std.specs.List.{flat_map}
-use Rattle.std.proofs.lemmas.List.{append-nil}
-use Rattle.capture_vcd.specs.Changes.{quiet}
-use Rattle.capture_vcd.specs.Dump.{dump_front, change_text}
 use Rattle.capture_vcd.proofs.ChangeLaws.{changes_none}
+use Rattle.capture_vcd.specs.{Changes.quiet, Dump.dump_front, Dump.change_text}
+use Rattle.std.proofs.Common.{◌∙◌, [], ◌++◌, refl, sym, ap}
+use Rattle.std.{proofs.lemmas.List.append-nil, specs.List.flat_map}
 use Rattle.capture_vcd.proofs.writer.DumpWriter.new.Goals as goal
 
 pub returns-clause-begins : goal.returns-clause-begins

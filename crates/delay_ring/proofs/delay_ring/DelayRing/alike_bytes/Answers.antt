@@ -1,10 +1,9 @@
-use Rattle.std.proofs.Common.{◌≡◌, ◌∙◌, ◌+◌, ◌-◌, sym, ap, arith, length, take, drop, map, ℕ, List, []}
-use Rattle.std.proofs.Common.{slice_index_or, refl}
+use Rattle.delay_ring.proofs.{Marks.marked-silent, Windows.alike-bytes, Windows.ring-at}
+use Rattle.delay_ring.specs.DelayRing.{ring_ticks}
+use Rattle.std.proofs.Common.{◌≡◌, ◌∙◌, ◌+◌, ◌-◌, sym, ap, arith, length, take, drop, map, ℕ, List}
+use Rattle.std.proofs.Common.{[], slice_index_or, refl}
 use Rattle.std.proofs.lemmas.List.{length-take-le, length-drop}
 use Rattle.yasir_ticks.specs.declared.tick.Tick.TheVariants.{Silent, Byte}
-use Rattle.delay_ring.specs.DelayRing.{ring_ticks}
-use Rattle.delay_ring.proofs.Marks.{marked-silent}
-use Rattle.delay_ring.proofs.Windows.{alike-bytes, ring-at}
 use Rattle.delay_ring.proofs.delay_ring.DelayRing.alike_bytes.Goals as goal
 
 pub returns-then-self-oldest-eq0-clause-bytes : goal.returns-then-self-oldest-eq0-clause-bytes

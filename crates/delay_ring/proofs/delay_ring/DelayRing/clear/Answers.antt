@@ -1,9 +1,7 @@
+use Rattle.delay_ring.{proofs.Windows.cleared, specs.DelayRing.marked_ticks}
 use Rattle.std.proofs.Common.{◌≡◌, ◌∙◌, ◌+◌, ◌++◌, sym, ap, arith, subst, length, take, drop}
-use Rattle.std.proofs.Common.{replicate, List, ℕ}
-use Rattle.std.proofs.lemmas.List.{take-replicate, length-take-le}
-use Rattle.yasir_ticks.specs.Ticks.{silent}
-use Rattle.delay_ring.specs.DelayRing.{marked_ticks}
-use Rattle.delay_ring.proofs.Windows.{cleared}
+use Rattle.std.proofs.{Common.replicate, Common.List, Common.ℕ, lemmas.List.take-replicate}
+use Rattle.{std.proofs.lemmas.List.length-take-le, yasir_ticks.specs.Ticks.silent}
 use Rattle.delay_ring.proofs.delay_ring.DelayRing.clear.Goals as goal
 
 pub returns : goal.returns

@@ -1,10 +1,8 @@
-use Rattle.std.proofs.Common.{◌≡◌, ◌∙◌, ◌+◌, ◌-◌, sym, ap, arith, length, take, drop, map, ℕ}
-use Rattle.std.proofs.Common.{slice_index_or}
-use Rattle.std.proofs.lemmas.List.{length-take-le, length-drop}
-use Rattle.yasir_ticks.specs.declared.tick.Tick.TheVariants.{Silent, Byte}
+use Rattle.delay_ring.proofs.{Marks.marked-silent, Windows.front-bytes, Windows.ring-at}
 use Rattle.delay_ring.specs.DelayRing.{ring_ticks}
-use Rattle.delay_ring.proofs.Marks.{marked-silent}
-use Rattle.delay_ring.proofs.Windows.{front-bytes, ring-at}
+use Rattle.std.proofs.Common.{◌≡◌, ◌∙◌, ◌+◌, ◌-◌, sym, ap, arith, length, take, drop, map, ℕ}
+use Rattle.std.proofs.{Common.slice_index_or, lemmas.List.length-take-le, lemmas.List.length-drop}
+use Rattle.yasir_ticks.specs.declared.tick.Tick.TheVariants.{Silent, Byte}
 use Rattle.delay_ring.proofs.delay_ring.DelayRing.front_bytes.Goals as goal
 
 pub returns-clause-bytes : goal.returns-clause-bytes

@@ -1,7 +1,6 @@
+use Rattle.delay_ring.proofs.{Marks.marked-byte, Windows.front-silent, Windows.ring-at}
 use Rattle.std.proofs.Common.{◌≡◌, ◌∙◌, ◌+◌, sym, subst, arith, slice_index_or, ℕ}
 use Rattle.yasir_ticks.specs.declared.tick.Tick.TheVariants.{Silent, Byte}
-use Rattle.delay_ring.proofs.Marks.{marked-byte}
-use Rattle.delay_ring.proofs.Windows.{front-silent, ring-at}
 use Rattle.delay_ring.proofs.delay_ring.DelayRing.front_silence.Goals as goal
 
 pub returns-then-self-n-ne0-clause-silent : goal.returns-then-self-n-ne0-clause-silent

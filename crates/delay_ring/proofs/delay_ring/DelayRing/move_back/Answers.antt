@@ -1,6 +1,5 @@
+use Rattle.delay_ring.{proofs.Windows.moved, specs.DelayRing.marked_ticks}
 use Rattle.std.proofs.Common.{◌∙◌, ◌++◌, sym, ap, arith, take, drop}
-use Rattle.delay_ring.specs.DelayRing.{marked_ticks}
-use Rattle.delay_ring.proofs.Windows.{moved}
 use Rattle.delay_ring.proofs.delay_ring.DelayRing.move_back.Goals as goal
 
 pub returns-clause-ticks : goal.returns-clause-ticks

@@ -1,5 +1,4 @@
-use Rattle.std.proofs.Common.{arith}
-use Rattle.delay_ring.proofs.Windows.{ring-begun}
+use Rattle.{delay_ring.proofs.Windows.ring-begun, std.proofs.Common.arith}
 use Rattle.delay_ring.proofs.delay_ring.DelayRing.new.Goals as goal
 
 pub returns : goal.returns

@@ -1,9 +1,8 @@
+use Rattle.delay_ring.{proofs.Windows.bytes-come, specs.DelayRing.marked_ticks}
 use Rattle.std.proofs.Common.{◌≡◌, ◌∙◌, ◌+◌, ◌-◌, ◌++◌, sym, ap, arith, length, take, drop, map}
 use Rattle.std.proofs.Common.{append_assoc, replicate, List, ℕ}
 use Rattle.std.proofs.lemmas.List.{replicate-append-replicate}
 use Rattle.yasir_ticks.specs.declared.tick.Tick.TheVariants.{Byte}
-use Rattle.delay_ring.specs.DelayRing.{marked_ticks}
-use Rattle.delay_ring.proofs.Windows.{bytes-come}
 use Rattle.delay_ring.proofs.delay_ring.DelayRing.pass_bytes.Goals as goal
 
 pub returns : goal.returns

@@ -1,6 +1,5 @@
-use Rattle.std.proofs.Common.{◌<◌, refl, arith}
-use Rattle.std.proofs.lemmas.List.Elements.{All-from_get_or}
 use Rattle.dnp_link_frame.proofs.DnpRuns.{dnp_begin_block}
+use Rattle.std.proofs.{Common.◌<◌, Common.refl, Common.arith, lemmas.List.Elements.All-from_get_or}
 use Rattle.dnp_link_frame.proofs.dnp.Dnp.begin_block.Goals as goal
 
 pub returns-clause-appends : goal.returns-clause-appends

@@ -1,9 +1,6 @@
+use Rattle.dnp_link_frame.{proofs.DnpRuns.dnp_go_on, proofs.DnpRuns.appends-none, specs.Dnp.Appends}
 use Rattle.std.proofs.Common.{◌≡◌, ◌<◌, [], refl, arith, sym, ◌∙◌, subst}
-use Rattle.std.proofs.lemmas.Bool.{eqb-true}
-use Rattle.std.proofs.lemmas.List.{nil_from_length}
-use Rattle.std.proofs.lemmas.List.Elements.{All-from_get_or}
-use Rattle.dnp_link_frame.specs.Dnp.{Appends}
-use Rattle.dnp_link_frame.proofs.DnpRuns.{dnp_go_on, appends-none}
+use Rattle.std.proofs.lemmas.{Bool.eqb-true, List.nil_from_length, List.Elements.All-from_get_or}
 use Rattle.dnp_link_frame.proofs.dnp.Dnp.go_on.Goals as goal
 
 pub returns-then-is_empty-clause-appends : goal.returns-then-is_empty-clause-appends

@@ -1,12 +1,10 @@
-use Rattle.std.proofs.Common.{◌≡◌, ◌+◌, ◌<◌, refl, arith, sym, ◌∙◌, ap, subst, min, length, []}
-use Rattle.std.proofs.lemmas.Bool.{eqb-true}
-use Rattle.std.proofs.lemmas.List.{nil_from_length}
-use Rattle.std.proofs.lemmas.List.Elements.{All-from_get_or, All-take}
-use Rattle.line_rules.specs.Bytes.{AreBytes}
-use Rattle.dnp_link_frame.specs.Dnp.{Appends}
-use Rattle.dnp_link_frame.specs.declared.dnp.Dnp.{Dnp}
 use Rattle.dnp_link_frame.proofs.DnpRuns.{IsBefore, is_before-first, is_before-next, appends-none}
 use Rattle.dnp_link_frame.proofs.DnpRuns.{dnp_begin_block, take_rest}
+use Rattle.dnp_link_frame.specs.{Dnp.Appends, declared.dnp.Dnp.Dnp}
+use Rattle.line_rules.specs.Bytes.{AreBytes}
+use Rattle.std.proofs.Common.{◌≡◌, ◌+◌, ◌<◌, refl, arith, sym, ◌∙◌, ap, subst, min, length, []}
+use Rattle.std.proofs.lemmas.{Bool.eqb-true, List.nil_from_length}
+use Rattle.std.proofs.lemmas.List.Elements.{All-from_get_or, All-take}
 use Rattle.dnp_link_frame.proofs.dnp.Dnp.take_blocks.Goals as goal
 
 pub loop-block-init : goal.loop-block-init

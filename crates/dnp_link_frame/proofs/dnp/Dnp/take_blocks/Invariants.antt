@@ -1,5 +1,4 @@
-use Rattle.std.proofs.Common.{length}
-use Rattle.dnp_link_frame.proofs.DnpRuns.{IsBefore}
+use Rattle.{dnp_link_frame.proofs.DnpRuns.IsBefore, std.proofs.Common.length}
 use Rattle.dnp_link_frame.proofs.dnp.Dnp.take_blocks.Given as goal
 
 abbrev pub invariant-loop-block : goal.invariant-loop-block

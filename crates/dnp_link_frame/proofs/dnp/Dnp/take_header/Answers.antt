@@ -1,6 +1,5 @@
-use Rattle.std.proofs.Common.{◌<◌, refl, arith}
-use Rattle.std.proofs.lemmas.List.Elements.{All-from_get_or}
 use Rattle.dnp_link_frame.proofs.DnpRuns.{dnp_take_header}
+use Rattle.std.proofs.{Common.◌<◌, Common.refl, Common.arith, lemmas.List.Elements.All-from_get_or}
 use Rattle.dnp_link_frame.proofs.dnp.Dnp.take_header.Goals as goal
 
 pub returns : goal.returns

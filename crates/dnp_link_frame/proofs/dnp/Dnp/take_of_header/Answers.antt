@@ -1,6 +1,5 @@
-use Rattle.std.proofs.Common.{arith, take}
-use Rattle.std.proofs.lemmas.List.{length-take}
 use Rattle.dnp_link_frame.proofs.DnpRuns.{header_has_room}
+use Rattle.std.proofs.{Common.arith, Common.take, lemmas.List.length-take}
 use Rattle.dnp_link_frame.proofs.dnp.Dnp.take_of_header.Goals as goal
 
 pub returns-in-Some-clause-room : goal.returns-in-Some-clause-room

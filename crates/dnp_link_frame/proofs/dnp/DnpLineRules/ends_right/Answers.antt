@@ -1,5 +1,4 @@
-use Rattle.std.proofs.Common.{◌∙◌}
-use Rattle.dnp_link_frame.proofs.DnpLaws.{dnp_ends_right}
+use Rattle.{dnp_link_frame.proofs.DnpLaws.dnp_ends_right, std.proofs.Common.◌∙◌}
 use Rattle.dnp_link_frame.proofs.dnp.DnpLineRules.ends_right.Goals as goal
 
 pub returns : goal.returns

@@ -1,5 +1,4 @@
-use Rattle.std.proofs.Common.{◌∙◌}
-use Rattle.dnp_link_frame.proofs.DnpLaws.{dnp_good}
+use Rattle.{dnp_link_frame.proofs.DnpLaws.dnp_good, std.proofs.Common.◌∙◌}
 use Rattle.dnp_link_frame.proofs.dnp.DnpLineRules.good.Goals as goal
 
 pub returns : goal.returns

@@ -1,5 +1,4 @@
-use Rattle.std.proofs.Common.{◌∙◌}
-use Rattle.dnp_link_frame.proofs.DnpLaws.{dnp_head}
+use Rattle.{dnp_link_frame.proofs.DnpLaws.dnp_head, std.proofs.Common.◌∙◌}
 use Rattle.dnp_link_frame.proofs.dnp.DnpLineRules.head.Goals as goal
 
 pub returns : goal.returns

@@ -1,9 +1,6 @@
-use Rattle.std.proofs.Common.{◌+◌, arith, ap, length}
-use Rattle.std.proofs.lemmas.List.{length-drop}
+use Rattle.dnp_link_frame.{proofs.DnpRuns.take_rest, specs.Dnp.DnpStandsFor, specs.Rules.dnp_rules}
 use Rattle.line_rules.proofs.Taking.{HasTaken, taken-none, taken-more}
-use Rattle.dnp_link_frame.specs.Rules.{dnp_rules}
-use Rattle.dnp_link_frame.specs.Dnp.{DnpStandsFor}
-use Rattle.dnp_link_frame.proofs.DnpRuns.{take_rest}
+use Rattle.std.proofs.{Common.◌+◌, Common.arith, Common.ap, Common.length, lemmas.List.length-drop}
 use Rattle.dnp_link_frame.proofs.dnp.DnpLineRules.take_some.Goals as goal
 
 pub loop-taken-init : goal.loop-taken-init

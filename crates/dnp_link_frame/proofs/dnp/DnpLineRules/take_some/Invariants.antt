@@ -1,7 +1,6 @@
-use Rattle.std.proofs.Common.{length, ◌-◌, ◌≤◌}
+use Rattle.dnp_link_frame.specs.{Dnp.DnpStandsFor, Rules.dnp_rules}
 use Rattle.line_rules.proofs.Taking.{HasTaken}
-use Rattle.dnp_link_frame.specs.Rules.{dnp_rules}
-use Rattle.dnp_link_frame.specs.Dnp.{DnpStandsFor}
+use Rattle.std.proofs.Common.{length, ◌-◌, ◌≤◌}
 use Rattle.dnp_link_frame.proofs.dnp.DnpLineRules.take_some.Given as goal
 
 abbrev pub invariant-loop-taken : goal.invariant-loop-taken

@@ -1,6 +1,5 @@
-use Rattle.std.proofs.Common.{arith}
-use Rattle.std.proofs.lemmas.Bool.{or_left, or_right}
 use Rattle.frame_ending.proofs.Runs.{stands-bytes, cuts-bytes, quiet-not_live, over-not_live}
+use Rattle.std.proofs.{Common.arith, lemmas.Bool.or_left, lemmas.Bool.or_right}
 use Rattle.frame_ending.proofs.burst_cut.BurstCut.go_on_some.Goals as goal
 
 pub returns-then-self-ge-T3_5_TICKS-clause-all : goal.returns-then-self-ge-T3_5_TICKS-clause-all

@@ -1,12 +1,9 @@
-use Rattle.std.proofs.Common.{◌≡◌, ◌∙◌, ◌+◌, ◌<◌, ◌++◌, sym, subst, arith, length, map}
-use Rattle.std.proofs.Common.{List, ℕ, refl, false, ◌||◌}
-use Rattle.std.proofs.lemmas.Bool.{or_parts}
-use Rattle.std.proofs.lemmas.List.{take_all}
-use Rattle.yasir_ticks.specs.declared.tick.Tick.TheVariants.{Byte}
-use Rattle.frame_ending.specs.declared.cut.Cut.TheVariants.{Extra}
-use Rattle.frame_ending.specs.Stands.{StandsFor}
-use Rattle.frame_ending.specs.Cuts.{cuts_after}
 use Rattle.frame_ending.proofs.Passing.{passes-over, passed_over, quiet-not_extra, open-not_extra}
+use Rattle.frame_ending.specs.{Cuts.cuts_after, Stands.StandsFor}
+use Rattle.{frame_ending.specs.declared.cut.Cut.TheVariants.Extra, std.proofs.Common.◌≡◌}
+use Rattle.std.proofs.Common.{◌∙◌, ◌+◌, ◌<◌, ◌++◌, sym, subst, arith, length, map, List, ℕ, refl}
+use Rattle.std.proofs.{Common.false, Common.◌||◌, lemmas.Bool.or_parts, lemmas.List.take_all}
+use Rattle.yasir_ticks.specs.declared.tick.Tick.TheVariants.{Byte}
 use Rattle.frame_ending.proofs.burst_cut.BurstCut.pass_over_some.Goals as goal
 
 pub returns-then-self-ge-T3_5_TICKS-clause-all : goal.returns-then-self-ge-T3_5_TICKS-clause-all

@@ -1,7 +1,6 @@
-use Rattle.std.proofs.Common.{◌≡◌, ◌+◌, ◌++◌, List}
-use Rattle.yasir_ticks.specs.Ticks.{silent}
-use Rattle.yasir_ticks.specs.declared.tick.Tick.{Tick}
 use Rattle.frame_ending.specs.Stands.{StandsFor}
+use Rattle.std.proofs.Common.{◌≡◌, ◌+◌, ◌++◌, List}
+use Rattle.yasir_ticks.specs.{Ticks.silent, declared.tick.Tick.Tick}
 use Rattle.frame_ending.proofs.burst_cut.BurstCut.wait_some.Given as goal
 
 abbrev pub invariant-loop-waited : goal.invariant-loop-waited

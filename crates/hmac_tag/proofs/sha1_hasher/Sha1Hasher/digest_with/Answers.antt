@@ -1,6 +1,5 @@
+use Rattle.{hmac_tag.proofs.Hashing.nested, sha1.specs.Sha1.sha1, sha1.specs.Sha1.digest_bytes}
 use Rattle.std.proofs.Common.{◌∙◌, ap, refl, arith}
-use Rattle.sha1.specs.Sha1.{sha1, digest_bytes}
-use Rattle.hmac_tag.proofs.Hashing.{nested}
 use Rattle.hmac_tag.proofs.sha1_hasher.Sha1Hasher.digest_with.Goals as goal
 
 pub returns : goal.returns

@@ -1,5 +1,4 @@
-use Rattle.std.proofs.Common.{refl, arith}
-use Rattle.hmac_tag.proofs.Hashing.{taken_short}
+use Rattle.{hmac_tag.proofs.Hashing.taken_short, std.proofs.Common.refl, std.proofs.Common.arith}
 use Rattle.hmac_tag.proofs.sha1_hasher.Sha1Hasher.extend.Goals as goal
 
 pub returns : goal.returns

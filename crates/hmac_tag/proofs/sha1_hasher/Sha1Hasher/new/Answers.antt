@@ -1,5 +1,4 @@
-use Rattle.std.proofs.Common.{refl}
-use Rattle.sha1.specs.Sha1.{hash_after}
+use Rattle.{sha1.specs.Sha1.hash_after, std.proofs.Common.refl}
 use Rattle.hmac_tag.proofs.sha1_hasher.Sha1Hasher.new.Goals as goal
 
 pub returns : goal.returns

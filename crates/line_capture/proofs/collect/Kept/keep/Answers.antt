@@ -1,6 +1,5 @@
-use Rattle.std.proofs.Common.{◌∙◌, sym, refl}
-use Rattle.std.proofs.lemmas.Result.{on_ok_weaker}
 use Rattle.line_capture.proofs.Keeping.{passes_byte, takes_a, takes_b}
+use Rattle.std.proofs.{Common.◌∙◌, Common.sym, Common.refl, lemmas.Result.on_ok_weaker}
 use Rattle.line_capture.proofs.collect.Kept.keep.Goals as goal
 
 pub returns-then-not-takes : goal.returns-then-not-takes

@@ -1,6 +1,5 @@
-use Rattle.std.proofs.Common.{take}
-use Rattle.yasir_ticks.specs.Ticks.{bytes_in}
 use Rattle.line_capture.specs.RecordWalk.{data_text, Adds}
+use Rattle.{std.proofs.Common.take, yasir_ticks.specs.Ticks.bytes_in}
 use Rattle.line_capture.proofs.records.RecordTexts.push_bytes.Given as goal
 
 -- the bytes so far were added

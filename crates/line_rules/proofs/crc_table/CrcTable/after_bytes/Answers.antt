@@ -1,9 +1,7 @@
-use Rattle.std.proofs.Common.{◌*◌, ◌∙◌, sym, ap, arith, ⊎_elim, slice_index}
-use Rattle.std.specs.Prelude.{slice_set}
-use Rattle.std.proofs.Math.ListN.{length-set}
-use Rattle.std.proofs.lemmas.Bool.{cases_eq}
-use Rattle.std.proofs.lemmas.List.{get_or-set_same, get_or-set_other}
 use Rattle.line_rules.specs.Crc.{bit_steps}
+use Rattle.std.proofs.Common.{◌*◌, ◌∙◌, sym, ap, arith, ⊎_elim, slice_index}
+use Rattle.std.proofs.{Math.ListN.length-set, lemmas.Bool.cases_eq, lemmas.List.get_or-set_same}
+use Rattle.std.{proofs.lemmas.List.get_or-set_other, specs.Prelude.slice_set}
 use Rattle.line_rules.proofs.crc_table.CrcTable.after_bytes.Goals as goal
 
 pub loop-byte-preserved : goal.loop-byte-preserved

@@ -1,5 +1,4 @@
-use Rattle.std.proofs.Common.{◌≡◌}
-use Rattle.line_rules.proofs.Taking.{HasTaken}
+use Rattle.{line_rules.proofs.Taking.HasTaken, std.proofs.Common.◌≡◌}
 use Rattle.line_rules.proofs.line_rules.LineRules.take_some.Given as goal
 
 abbrev pub invariant-loop-byte : goal.invariant-loop-byte

@@ -1,6 +1,5 @@
+use Rattle.line_stamps.{proofs.Clocks.line-length, specs.Places.next_tick}
 use Rattle.std.proofs.Common.{◌∙◌, None, ap, arith}
-use Rattle.line_stamps.specs.Places.{next_tick}
-use Rattle.line_stamps.proofs.Clocks.{line-length}
 use Rattle.line_stamps.proofs.placer.Placer.ticks.Goals as goal
 
 pub returns : goal.returns

@@ -1,5 +1,4 @@
-use Rattle.std.proofs.lemmas.Fmt.{decimal_digit}
-use Rattle.line_texts.proofs.LineRooms.{two_digits}
+use Rattle.{line_texts.proofs.LineRooms.two_digits, std.proofs.lemmas.Fmt.decimal_digit}
 use Rattle.line_texts.proofs.line_room.LineRoom.push_silence_line.Goals as goal
 
 pub returns-then-ticks-lt10 : goal.returns-then-ticks-lt10

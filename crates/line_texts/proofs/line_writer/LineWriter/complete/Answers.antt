@@ -1,6 +1,5 @@
-use Rattle.std.proofs.Common.{sym, subst}
+use Rattle.{line_texts.specs.Writer.TakesInto, std.proofs.Common.sym, std.proofs.Common.subst}
 use Rattle.yasir_ticks.proofs.RunFronts.{front_bytes, front_silence}
-use Rattle.line_texts.specs.Writer.{TakesInto}
 use Rattle.line_texts.proofs.line_writer.LineWriter.complete.Goals as goal
 
 pub returns-in-Bytes-clause-taken : goal.returns-in-Bytes-clause-taken

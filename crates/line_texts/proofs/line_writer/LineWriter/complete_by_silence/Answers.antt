@@ -1,6 +1,5 @@
-use Rattle.std.proofs.Common.{refl, arith}
-use Rattle.yasir_ticks.specs.CanonicalText.{silence_line}
-use Rattle.line_texts.proofs.LineWriters.{silence_filled}
+use Rattle.{line_texts.proofs.LineWriters.silence_filled, std.proofs.Common.refl}
+use Rattle.{std.proofs.Common.arith, yasir_ticks.specs.CanonicalText.silence_line}
 use Rattle.line_texts.proofs.line_writer.LineWriter.complete_by_silence.Goals as goal
 
 pub returns-clause-taken : goal.returns-clause-taken

@@ -1,8 +1,7 @@
+use Rattle.line_texts.proofs.LineWriters.{silence_ended}
 use Rattle.std.proofs.Common.{◌∙◌, length, take, refl, ap, arith}
 use Rattle.std.proofs.lemmas.List.{take_at, length-take-le}
-use Rattle.yasir_ticks.specs.CanonicalText.{silence_line}
-use Rattle.yasir_ticks.proofs.RightTicks.{are_bytes}
-use Rattle.line_texts.proofs.LineWriters.{silence_ended}
+use Rattle.yasir_ticks.{proofs.RightTicks.are_bytes, specs.CanonicalText.silence_line}
 use Rattle.line_texts.proofs.line_writer.LineWriter.end_silence.Goals as goal
 
 pub returns-clause-taken : goal.returns-clause-taken

@@ -1,9 +1,7 @@
-use Rattle.std.proofs.Common.{◌∙◌, ◌-◌, ◌++◌, length, take, refl, ap, arith}
-use Rattle.std.proofs.lemmas.List.{length-append, length-take-le}
-use Rattle.std.proofs.lemmas.Slice.{take-put_mid}
-use Rattle.yasir_ticks.specs.CanonicalText.{byte_line}
-use Rattle.yasir_ticks.proofs.RightTicks.{are_bytes}
 use Rattle.line_texts.proofs.LineWriters.{bytes_filled}
+use Rattle.std.proofs.Common.{◌∙◌, ◌-◌, ◌++◌, length, take, refl, ap, arith}
+use Rattle.std.proofs.lemmas.{List.length-append, List.length-take-le, Slice.take-put_mid}
+use Rattle.yasir_ticks.{proofs.RightTicks.are_bytes, specs.CanonicalText.byte_line}
 use Rattle.line_texts.proofs.line_writer.LineWriter.fill.Goals as goal
 
 pub returns-clause-taken : goal.returns-clause-taken

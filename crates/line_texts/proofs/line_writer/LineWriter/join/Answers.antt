@@ -1,6 +1,5 @@
-use Rattle.std.proofs.Common.{[], sym, subst}
-use Rattle.yasir_ticks.specs.TickRun.{run_ticks}
-use Rattle.line_texts.specs.Writer.{Takes}
+use Rattle.{line_texts.specs.Writer.Takes, std.proofs.Common.[], std.proofs.Common.sym}
+use Rattle.{std.proofs.Common.subst, yasir_ticks.specs.TickRun.run_ticks}
 use Rattle.line_texts.proofs.line_writer.LineWriter.join.Goals as goal
 
 pub returns-in-Bytes-clause-joined : goal.returns-in-Bytes-clause-joined

@@ -1,8 +1,7 @@
+use Rattle.line_texts.proofs.LineWriters.{bytes_filled}
 use Rattle.std.proofs.Common.{◌≡◌, ◌∙◌, ◌++◌, length, take, sym, ap, arith}
 use Rattle.std.proofs.lemmas.List.{take_all, length-take-le}
-use Rattle.yasir_ticks.specs.CanonicalText.{byte_line}
-use Rattle.yasir_ticks.proofs.RightTicks.{are_bytes}
-use Rattle.line_texts.proofs.LineWriters.{bytes_filled}
+use Rattle.yasir_ticks.{proofs.RightTicks.are_bytes, specs.CanonicalText.byte_line}
 use Rattle.line_texts.proofs.line_writer.LineWriter.write_whole.Goals as goal
 
 pub returns-clause-taken : goal.returns-clause-taken

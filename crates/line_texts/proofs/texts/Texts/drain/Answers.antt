@@ -1,10 +1,8 @@
+use Rattle.line_texts.proofs.Sending.{always_on_ok, on_ok_both, front_of_nothing}
 use Rattle.std.proofs.Common.{rules, refl, sym, ap, subst, arith, length, inl, inr}
 use Rattle.std.proofs.lemmas.Result.{on_ok_weaker, on_err_weaker}
-use Rattle.yasir_io.proofs.OutputLemmas.{always_on_err, nothing_written}
-use Rattle.yasir_io.specs.Output.{Buffered}
-use Rattle.yasir_io.specs.TextBuffer.{waiting_bytes}
-use Rattle.yasir_io.proofs.OutputLemmas.{printed, front_of_buffered}
-use Rattle.line_texts.proofs.Sending.{always_on_ok, on_ok_both, front_of_nothing}
+use Rattle.yasir_io.proofs.OutputLemmas.{always_on_err, nothing_written, printed, front_of_buffered}
+use Rattle.yasir_io.specs.{Output.Buffered, TextBuffer.waiting_bytes}
 use Rattle.line_texts.proofs.texts.Texts.drain.Goals as goal
 
 pub returns-in_err-drain : goal.returns-in_err-drain

@@ -1,13 +1,10 @@
+use Rattle.line_texts.proofs.{LineWriters.ended, Sending.finish_sends}
+use Rattle.line_texts.proofs.Sending.{finish_keeps, finish_stops, part_before, buffered_more}
+use Rattle.line_texts.specs.{Texts.waiting_in, Writer.unfilled}
 use Rattle.std.proofs.Common.{◌++◌, [], refl}
 use Rattle.std.proofs.lemmas.Result.{on_ok_weaker, on_err_weaker}
 use Rattle.yasir_io.proofs.OutputLemmas.{always_on_err, nothing_written}
-use Rattle.yasir_io.specs.TextBuffer.{waiting_bytes}
-use Rattle.yasir_ticks.specs.CanonicalText.{canonical_text}
-use Rattle.line_texts.specs.Texts.{waiting_in}
-use Rattle.line_texts.specs.Writer.{unfilled}
-use Rattle.line_texts.proofs.LineWriters.{ended}
-use Rattle.line_texts.proofs.Sending.{finish_sends, finish_keeps, finish_stops, part_before}
-use Rattle.line_texts.proofs.Sending.{buffered_more}
+use Rattle.{yasir_io.specs.TextBuffer.waiting_bytes, yasir_ticks.specs.CanonicalText.canonical_text}
 use Rattle.line_texts.proofs.texts.Texts.finish.Goals as goal
 
 pub returns-in_err-drain-clause-err : goal.returns-in_err-drain-clause-err

@@ -1,5 +1,4 @@
-use Rattle.line_texts.specs.Texts.{writing}
-use Rattle.line_texts.proofs.PushedRuns.{room_stands}
+use Rattle.line_texts.{proofs.PushedRuns.room_stands, specs.Texts.writing}
 use Rattle.line_texts.proofs.texts.Texts.make_room.Goals as goal
 
 pub returns-then-takes_a_line : goal.returns-then-takes_a_line

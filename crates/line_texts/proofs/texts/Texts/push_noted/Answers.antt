@@ -1,7 +1,6 @@
-use Rattle.yasir_io.specs.TextBuffer.{waiting_bytes}
-use Rattle.yasir_io.proofs.OutputLemmas.{nothing_written}
-use Rattle.line_texts.specs.Texts.{writing}
 use Rattle.line_texts.proofs.PushedRuns.{pushed_noted, note_lost}
+use Rattle.line_texts.specs.Texts.{writing}
+use Rattle.yasir_io.{proofs.OutputLemmas.nothing_written, specs.TextBuffer.waiting_bytes}
 use Rattle.line_texts.proofs.texts.Texts.push_noted.Goals as goal
 
 pub returns-in-Ok : goal.returns-in-Ok

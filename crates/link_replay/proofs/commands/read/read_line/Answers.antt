@@ -1,7 +1,6 @@
 use Rattle.device_model.specs.{DnpReads.dnp_reads, RtuReads.rtu_reads}
 use Rattle.link_replay.proofs.Flushing.{input-causes, disk-of-frames}
-use Rattle.link_replay.specs.declared.words.Command.TheVariants.{Read}
-use Rattle.std.proofs.Common.{refl}
+use Rattle.{link_replay.specs.declared.words.Command.TheVariants.Read, std.proofs.Common.refl}
 use Rattle.link_replay.proofs.commands.read.read_line.Goals as goal
 
 pub returns-in-Rtu-clause-reads : goal.returns-in-Rtu-clause-reads

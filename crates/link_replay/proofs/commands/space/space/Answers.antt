@@ -1,6 +1,5 @@
 use Rattle.link_replay.proofs.{Flushing.input-causes, Flushing.disk-of-spacing, Spaced.spaces-of}
-use Rattle.link_replay.specs.SpaceCommand.{spaced_by}
-use Rattle.link_replay.specs.declared.words.Command.TheVariants.{Space}
+use Rattle.link_replay.specs.{SpaceCommand.spaced_by, declared.words.Command.TheVariants.Space}
 use Rattle.link_words.specs.declared.words.Profile.TheVariants.{Y18, Y24}
 use Rattle.link_words.specs.declared.words.Proto.TheVariants.{Rtu, Dnp3}
 use Rattle.link_replay.proofs.commands.space.space.Goals as goal

@@ -1,5 +1,4 @@
-use Rattle.std.proofs.Common.{refl}
-use Rattle.live_port.proofs.Reading.{read_none}
+use Rattle.{live_port.proofs.Reading.read_none, std.proofs.Common.refl}
 use Rattle.live_port.proofs.lines.LineReader.new.Goals as goal
 
 pub returns : goal.returns

@@ -1,5 +1,4 @@
-use Rattle.std.proofs.Common.{refl, arith}
-use Rattle.live_port.proofs.Reading.{renewed}
+use Rattle.{live_port.proofs.Reading.renewed, std.proofs.Common.refl, std.proofs.Common.arith}
 use Rattle.live_port.proofs.lines.LineReader.renew.Goals as goal
 
 pub returns-clause-read : goal.returns-clause-read

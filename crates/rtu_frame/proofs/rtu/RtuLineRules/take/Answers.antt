@@ -1,6 +1,5 @@
-use Rattle.std.proofs.Common.{arith}
-use Rattle.std.proofs.lemmas.Bool.{leb-false}
 use Rattle.rtu_frame.proofs.RtuLaws.{rtu_take}
+use Rattle.std.proofs.{Common.arith, lemmas.Bool.leb-false}
 use Rattle.rtu_frame.proofs.rtu.RtuLineRules.take.Goals as goal
 
 pub returns : goal.returns

@@ -1,6 +1,5 @@
-use Rattle.std.proofs.Common.{◌<◌, arith}
-use Rattle.std.proofs.lemmas.List.Elements.{All-from_get_or}
 use Rattle.rtu_frame.proofs.RtuLaws.{rtu_take_some}
+use Rattle.std.proofs.{Common.◌<◌, Common.arith, lemmas.List.Elements.All-from_get_or}
 use Rattle.rtu_frame.proofs.rtu.RtuLineRules.take_some.Goals as goal
 
 pub returns-clause-stands : goal.returns-clause-stands

@@ -1,7 +1,6 @@
-use Rattle.std.proofs.Common.{ap, refl}
-use Rattle.yasir_ticks.specs.TickRun.{run_ticks}
 use Rattle.link_box.proofs.Answered.{run-bytes, run-silence}
-use Rattle.seal_transmitter.proofs.Keeping.{takes-run}
+use Rattle.{seal_transmitter.proofs.Keeping.takes-run, std.proofs.Common.ap, std.proofs.Common.refl}
+use Rattle.yasir_ticks.specs.TickRun.{run_ticks}
 use Rattle.seal_transmitter.proofs.boxed.SealerLinkBox.pass.Goals as goal
 
 pub returns-in-Bytes-clause-run : goal.returns-in-Bytes-clause-run

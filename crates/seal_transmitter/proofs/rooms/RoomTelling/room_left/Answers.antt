@@ -1,5 +1,4 @@
-use Rattle.std.proofs.Common.{arith}
-use Rattle.seal_transmitter.proofs.RoomLeft.{lacking-fits}
+use Rattle.{seal_transmitter.proofs.RoomLeft.lacking-fits, std.proofs.Common.arith}
 use Rattle.seal_transmitter.proofs.rooms.RoomTelling.room_left.Goals as goal
 
 pub returns : goal.returns

@@ -1,8 +1,7 @@
+use Rattle.seal_transmitter.proofs.Beginning.{first-of, begun-taken}
+use Rattle.seal_transmitter.{proofs.RunSteps.nothing-taken, specs.Runs.HasTakenRun}
 use Rattle.std.proofs.Common.{◌≡◌, ◌∙◌, ℕ, List, [], ◌∷◌, map, take, sym, subst, arith}
 use Rattle.yasir_ticks.specs.declared.tick.Tick.TheVariants.{Byte}
-use Rattle.seal_transmitter.specs.Runs.{HasTakenRun}
-use Rattle.seal_transmitter.proofs.Beginning.{first-of, begun-taken}
-use Rattle.seal_transmitter.proofs.RunSteps.{nothing-taken}
 use Rattle.seal_transmitter.proofs.sealer.Sealer.begin_some.Goals as goal
 
 pub returns-then-quiet-lt-T3_5_TICKS-clause-run : goal.returns-then-quiet-lt-T3_5_TICKS-clause-run

@@ -1,14 +1,10 @@
+use Rattle.link_format.specs.Trailers.{bytes_left}
+use Rattle.seal_judgements.specs.{Sealing.Judgement.sealed_with, declared.note.SealNote.SealNote}
+use Rattle.seal_transmitter.proofs.Advancing.{seals-with}
+use Rattle.seal_transmitter.specs.{Answers.CommitsNoted, Between.Judges, Stands.HasTaken}
+use Rattle.sequence_journal.specs.{Commits.HasFailed, Journal.journal_floor}
 use Rattle.std.proofs.Common.{ℕ, ◌≡◌, ◌+◌, [], ◌∷◌, ◌++◌, rules, sym, ap, subst, Option}
 use Rattle.yasir_ticks.specs.declared.tick.Tick.TheVariants.{Silent}
-use Rattle.link_format.specs.Trailers.{bytes_left}
-use Rattle.sequence_journal.specs.Commits.{HasFailed}
-use Rattle.sequence_journal.specs.Journal.{journal_floor}
-use Rattle.seal_transmitter.specs.Answers.{CommitsNoted}
-use Rattle.seal_judgements.specs.declared.note.SealNote.{SealNote}
-use Rattle.seal_judgements.specs.Sealing.Judgement.{sealed_with}
-use Rattle.seal_transmitter.specs.Between.{Judges}
-use Rattle.seal_transmitter.specs.Stands.{HasTaken}
-use Rattle.seal_transmitter.proofs.Advancing.{seals-with}
 use Rattle.seal_transmitter.proofs.sealer.Sealer.close.Goals as goal
 
 pub returns-in_default-clause-err_seals : goal.returns-in_default-clause-err_seals

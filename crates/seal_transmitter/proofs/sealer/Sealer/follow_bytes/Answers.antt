@@ -1,18 +1,12 @@
-use Rattle.std.proofs.Common.{◌≡◌, ◌∙◌, ◌+◌, ◌<◌, ℕ, List, [], ◌∷◌, map, length, get_or, refl, sym}
-use Rattle.std.proofs.Common.{ap, subst, arith}
-use Rattle.std.proofs.lemmas.Bool.{eqb-true, eqb-false}
-use Rattle.std.proofs.lemmas.List.{nil_from_length}
-use Rattle.std.proofs.lemmas.List.Elements.{All-from_get_or}
-use Rattle.line_rules.specs.Bytes.{AreBytes}
-use Rattle.yasir_ticks.specs.declared.tick.Tick.{Tick}
-use Rattle.yasir_ticks.specs.declared.tick.Tick.TheVariants.{Byte}
-use Rattle.burst_walk.specs.Answered.{answered}
+use Rattle.{burst_walk.specs.Answered.answered, line_rules.specs.Bytes.AreBytes}
 use Rattle.link_box.proofs.Answered.{answered-all}
-use Rattle.seal_transmitter.specs.Foretold.{Forwards}
-use Rattle.seal_transmitter.specs.Runs.{HasTakenRun}
-use Rattle.seal_transmitter.proofs.Foretelling.{single-byte, foretold-bytes}
-use Rattle.seal_transmitter.proofs.Foretelling.{foretold-few}
+use Rattle.seal_transmitter.proofs.Foretelling.{single-byte, foretold-bytes, foretold-few}
 use Rattle.seal_transmitter.proofs.RunSteps.{nothing-taken, forward-taken}
+use Rattle.seal_transmitter.specs.{Foretold.Forwards, Runs.HasTakenRun}
+use Rattle.std.proofs.Common.{◌≡◌, ◌∙◌, ◌+◌, ◌<◌, ℕ, List, [], ◌∷◌, map, length, get_or, refl, sym}
+use Rattle.std.proofs.{Common.ap, Common.subst, Common.arith, lemmas.Bool.eqb-true}
+use Rattle.std.proofs.lemmas.{Bool.eqb-false, List.nil_from_length, List.Elements.All-from_get_or}
+use Rattle.yasir_ticks.specs.declared.tick.Tick.{Tick, TheVariants.Byte}
 use Rattle.seal_transmitter.proofs.sealer.Sealer.follow_bytes.Goals as goal
 
 pub returns-then-bytes-eq1-clause-run : goal.returns-then-bytes-eq1-clause-run

@@ -1,9 +1,7 @@
+use Rattle.{frame_ending.specs.SoFar.start_so_far, seal_transmitter.proofs.RunSteps.nothing-taken}
+use Rattle.seal_transmitter.{proofs.RunSteps.forward-taken, specs.Runs.HasTakenRun}
 use Rattle.std.proofs.Common.{◌≡◌, ◌∙◌, ◌++◌, ℕ, List, sym, subst, take, map, ap, arith, append-nil}
-use Rattle.std.proofs.lemmas.Bool.{ltb-false}
-use Rattle.frame_ending.specs.SoFar.{start_so_far}
-use Rattle.yasir_ticks.specs.declared.tick.Tick.TheVariants.{Byte}
-use Rattle.seal_transmitter.specs.Runs.{HasTakenRun}
-use Rattle.seal_transmitter.proofs.RunSteps.{nothing-taken, forward-taken}
+use Rattle.{std.proofs.lemmas.Bool.ltb-false, yasir_ticks.specs.declared.tick.Tick.TheVariants.Byte}
 use Rattle.seal_transmitter.proofs.sealer.Sealer.go_on_some.Goals as goal
 
 pub returns-then-is_early-clause-run : goal.returns-then-is_early-clause-run

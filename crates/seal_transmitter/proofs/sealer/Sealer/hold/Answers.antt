@@ -1,11 +1,9 @@
-use Rattle.std.proofs.Common.{◌≡◌, ◌∙◌, [], sym, ap, take, arith}
-use Rattle.std.proofs.lemmas.Bool.{ltb-true}
-use Rattle.std.proofs.lemmas.List.{length-take-le, nil_from_length}
-use Rattle.frame_ending.specs.SoFar.{start_so_far}
-use Rattle.yasir_ticks.specs.Ticks.{silent}
-use Rattle.link_format.specs.Trailers.{bytes_left}
+use Rattle.{frame_ending.specs.SoFar.start_so_far, link_format.specs.Trailers.bytes_left}
 use Rattle.seal_transmitter.proofs.RunSteps.{sent, sent-silent, drop-none, nothing-taken}
 use Rattle.seal_transmitter.proofs.RunSteps.{early-taken}
+use Rattle.std.proofs.Common.{◌≡◌, ◌∙◌, [], sym, ap, take, arith}
+use Rattle.std.proofs.lemmas.{Bool.ltb-true, List.length-take-le, List.nil_from_length}
+use Rattle.yasir_ticks.specs.Ticks.{silent}
 use Rattle.seal_transmitter.proofs.sealer.Sealer.hold.Goals as goal
 
 pub returns-then-left-gt0-clause-run : goal.returns-then-left-gt0-clause-run

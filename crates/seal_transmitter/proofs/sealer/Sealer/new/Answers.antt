@@ -1,7 +1,6 @@
-use Rattle.std.proofs.Common.{refl, sym, subst, List, [], ℕ}
 use Rattle.link_format.specs.Setup.{Setup, setup_of}
-use Rattle.seal_transmitter.specs.Stands.{Walks}
-use Rattle.seal_transmitter.proofs.Advancing.{walks-begun}
+use Rattle.seal_transmitter.{proofs.Advancing.walks-begun, specs.Stands.Walks}
+use Rattle.std.proofs.Common.{refl, sym, subst, List, [], ℕ}
 use Rattle.seal_transmitter.proofs.sealer.Sealer.new.Goals as goal
 
 pub returns-clause-stands : goal.returns-clause-stands

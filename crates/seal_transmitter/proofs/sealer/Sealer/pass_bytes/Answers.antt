@@ -1,9 +1,7 @@
-use Rattle.std.proofs.Common.{◌≡◌, ap, arith, map, take, sym, subst, List}
-use Rattle.yasir_ticks.specs.declared.tick.Tick.{Tick}
-use Rattle.yasir_ticks.specs.declared.tick.Tick.TheVariants.{Byte}
-use Rattle.seal_transmitter.specs.Runs.{HasTakenRun}
 use Rattle.link_box.proofs.Answered.{answered-all, answered-none}
-use Rattle.seal_transmitter.proofs.RunSteps.{run-behind}
+use Rattle.seal_transmitter.{proofs.RunSteps.run-behind, specs.Runs.HasTakenRun}
+use Rattle.std.proofs.Common.{◌≡◌, ap, arith, map, take, sym, subst, List}
+use Rattle.yasir_ticks.specs.declared.tick.Tick.{Tick, TheVariants.Byte}
 use Rattle.seal_transmitter.proofs.sealer.Sealer.pass_bytes.Goals as goal
 
 pub returns-then-held-gt0-clause-run : goal.returns-then-held-gt0-clause-run

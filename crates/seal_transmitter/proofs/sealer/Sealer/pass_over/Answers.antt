@@ -1,9 +1,8 @@
+use Rattle.{link_format.specs.Trailers.bytes_left, seal_transmitter.proofs.RunSteps.sent}
+use Rattle.seal_transmitter.proofs.RunSteps.{sent-silent, drop-none, nothing-taken, extra-taken}
 use Rattle.std.proofs.Common.{◌≡◌, ◌∙◌, [], sym, ap, take, arith}
 use Rattle.std.proofs.lemmas.List.{length-take-le, nil_from_length}
 use Rattle.yasir_ticks.specs.Ticks.{silent}
-use Rattle.link_format.specs.Trailers.{bytes_left}
-use Rattle.seal_transmitter.proofs.RunSteps.{sent, sent-silent, drop-none, nothing-taken}
-use Rattle.seal_transmitter.proofs.RunSteps.{extra-taken}
 use Rattle.seal_transmitter.proofs.sealer.Sealer.pass_over.Goals as goal
 
 pub returns-then-left-gt0-clause-run : goal.returns-then-left-gt0-clause-run

@@ -1,10 +1,8 @@
+use Rattle.link_box.proofs.Answered.{answered-all, answered-none}
+use Rattle.seal_transmitter.{proofs.RunSteps.nothing-taken, specs.Runs.HasTakenRun}
 use Rattle.std.proofs.Common.{map, sym, subst, List}
 use Rattle.yasir_ticks.specs.Ticks.{silent}
-use Rattle.yasir_ticks.specs.declared.tick.Tick.{Tick}
-use Rattle.yasir_ticks.specs.declared.tick.Tick.TheVariants.{Byte}
-use Rattle.seal_transmitter.specs.Runs.{HasTakenRun}
-use Rattle.link_box.proofs.Answered.{answered-all, answered-none}
-use Rattle.seal_transmitter.proofs.RunSteps.{nothing-taken}
+use Rattle.yasir_ticks.specs.declared.tick.Tick.{Tick, TheVariants.Byte}
 use Rattle.seal_transmitter.proofs.sealer.Sealer.pass_silence.Goals as goal
 
 pub returns-then-left-eq0-clause-run : goal.returns-then-left-eq0-clause-run

@@ -1,9 +1,7 @@
+use Rattle.{link_format.specs.Trailers.bytes_left, seal_transmitter.proofs.RunSteps.sent}
+use Rattle.seal_transmitter.proofs.RunSteps.{sent-silent, drop-none, nothing-taken, open-taken}
 use Rattle.std.proofs.Common.{◌≡◌, ◌∙◌, [], sym, ap, arith}
-use Rattle.std.proofs.lemmas.List.{nil_from_length}
-use Rattle.yasir_ticks.specs.Ticks.{silent}
-use Rattle.link_format.specs.Trailers.{bytes_left}
-use Rattle.seal_transmitter.proofs.RunSteps.{sent, sent-silent, drop-none, nothing-taken}
-use Rattle.seal_transmitter.proofs.RunSteps.{open-taken}
+use Rattle.{std.proofs.lemmas.List.nil_from_length, yasir_ticks.specs.Ticks.silent}
 use Rattle.seal_transmitter.proofs.sealer.Sealer.rest.Goals as goal
 
 pub returns-then-left-gt0-clause-run : goal.returns-then-left-gt0-clause-run

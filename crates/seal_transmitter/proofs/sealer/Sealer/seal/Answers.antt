@@ -1,10 +1,8 @@
+use Rattle.{frame_ending.specs.SoFar.live_bytes_so_far, link_format.specs.Trailers.bytes_left}
+use Rattle.seal_transmitter.proofs.Stepping.{seal-taken}
 use Rattle.std.proofs.Common.{List, [], ◌∷◌, ◌++◌, ◌+◌, ◌≡◌, ◌∙◌, ap, arith, length, length-append}
 use Rattle.std.specs.Int.{w64, to_be_bytes, bytes_high_first}
-use Rattle.yasir_ticks.specs.declared.tick.Tick.{Tick}
-use Rattle.yasir_ticks.specs.declared.tick.Tick.TheVariants.{Silent}
-use Rattle.frame_ending.specs.SoFar.{live_bytes_so_far}
-use Rattle.link_format.specs.Trailers.{bytes_left}
-use Rattle.seal_transmitter.proofs.Stepping.{seal-taken}
+use Rattle.yasir_ticks.specs.declared.tick.Tick.{Tick, TheVariants.Silent}
 use Rattle.seal_transmitter.proofs.sealer.Sealer.seal.Goals as goal
 
 pub returns-clause-step : goal.returns-clause-step

@@ -1,11 +1,9 @@
-use Rattle.std.proofs.Common.{◌≡◌, ◌∙◌, ◌≤◌, ℕ, List, sym, ap, subst, take, map, length, arith}
-use Rattle.std.proofs.lemmas.Bool.{ltb-true}
-use Rattle.std.proofs.lemmas.List.{length-take-le, take-take}
-use Rattle.yasir_ticks.specs.declared.tick.Tick.TheVariants.{Byte}
-use Rattle.frame_ending.specs.SoFar.{start_so_far}
-use Rattle.link_format.specs.Trailers.{bytes_left}
-use Rattle.seal_transmitter.specs.Runs.{HasTakenRun}
+use Rattle.{frame_ending.specs.SoFar.start_so_far, link_format.specs.Trailers.bytes_left}
 use Rattle.seal_transmitter.proofs.RunSteps.{sent-bytes, nothing-taken, early-taken}
+use Rattle.seal_transmitter.specs.Runs.{HasTakenRun}
+use Rattle.std.proofs.Common.{◌≡◌, ◌∙◌, ◌≤◌, ℕ, List, sym, ap, subst, take, map, length, arith}
+use Rattle.std.proofs.lemmas.{Bool.ltb-true, List.length-take-le, List.take-take}
+use Rattle.yasir_ticks.specs.declared.tick.Tick.TheVariants.{Byte}
 use Rattle.seal_transmitter.proofs.sealer.Sealer.send_over.Goals as goal
 
 pub returns-then-not-is_early-clause-run : goal.returns-then-not-is_early-clause-run

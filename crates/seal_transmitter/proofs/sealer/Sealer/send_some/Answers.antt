@@ -1,10 +1,8 @@
+use Rattle.{link_format.specs.Trailers.bytes_left, seal_transmitter.proofs.RunSteps.sent-bytes}
+use Rattle.seal_transmitter.{proofs.RunSteps.open-taken, specs.Runs.HasTakenRun}
 use Rattle.std.proofs.Common.{◌≡◌, ◌∙◌, ◌≤◌, ℕ, List, sym, ap, subst, map, length, arith}
 use Rattle.std.proofs.lemmas.List.{length-take-le}
-use Rattle.yasir_ticks.specs.Ticks.{silent}
-use Rattle.yasir_ticks.specs.declared.tick.Tick.TheVariants.{Byte}
-use Rattle.link_format.specs.Trailers.{bytes_left}
-use Rattle.seal_transmitter.specs.Runs.{HasTakenRun}
-use Rattle.seal_transmitter.proofs.RunSteps.{sent-bytes, open-taken}
+use Rattle.yasir_ticks.specs.{Ticks.silent, declared.tick.Tick.TheVariants.Byte}
 use Rattle.seal_transmitter.proofs.sealer.Sealer.send_some.Goals as goal
 
 pub returns-clause-run : goal.returns-clause-run

@@ -1,7 +1,6 @@
-use Rattle.std.proofs.Common.{refl}
-use Rattle.sequence_journal.specs.Journal.{journal_floor}
 use Rattle.frame_ending.proofs.Running.{passing-is}
 use Rattle.seal_transmitter.proofs.WholeSteps.{taken-then, taken-closed, seals-closed}
+use Rattle.{sequence_journal.specs.Journal.journal_floor, std.proofs.Common.refl}
 use Rattle.seal_transmitter.proofs.sealer.Sealer.step.Goals as goal
 
 pub returns-in-Start-clause-step : goal.returns-in-Start-clause-step

@@ -1,10 +1,8 @@
-use Rattle.std.proofs.Common.{sym, ◌∙◌}
-use Rattle.frame_ending.specs.SoFar.{live_bytes_so_far}
-use Rattle.sequence_journal.specs.declared.numbers.TheConstants.{LIMIT}
-use Rattle.sequence_journal.specs.Journal.{journal_floor}
-use Rattle.link_format.specs.Profile.{profile_of}
+use Rattle.{frame_ending.specs.SoFar.live_bytes_so_far, link_format.specs.Profile.profile_of}
 use Rattle.seal_transmitter.proofs.Judging.{early-judged, extra-judged, no_frame-judged}
 use Rattle.seal_transmitter.proofs.Judging.{spent-judged, sealed-judged}
+use Rattle.sequence_journal.specs.{Journal.journal_floor, declared.numbers.TheConstants.LIMIT}
+use Rattle.std.proofs.Common.{sym, ◌∙◌}
 use Rattle.seal_transmitter.proofs.sealer.Sealer.unsealed_why.Goals as goal
 
 pub returns-then-is_early-clause-judged : goal.returns-then-is_early-clause-judged

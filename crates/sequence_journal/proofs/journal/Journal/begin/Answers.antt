@@ -1,5 +1,4 @@
-use Rattle.std.proofs.Common.{refl}
-use Rattle.sequence_journal.proofs.SlotLemmas.{floor_begins}
+use Rattle.{sequence_journal.proofs.SlotLemmas.floor_begins, std.proofs.Common.refl}
 use Rattle.sequence_journal.proofs.journal.Journal.begin.Goals as goal
 
 pub returns-clause-fits : goal.returns-clause-fits

@@ -1,7 +1,6 @@
-use Rattle.std.proofs.Common.{rules, ◌≡◌, None, IfSome, subst, sym}
-use Rattle.sequence_journal.specs.Slots.{greatest}
-use Rattle.sequence_journal.specs.Loading.{MayBegin, slots_read}
 use Rattle.sequence_journal.proofs.LoadLemmas.{may_begin_anew}
+use Rattle.sequence_journal.specs.{Loading.MayBegin, Loading.slots_read, Slots.greatest}
+use Rattle.std.proofs.Common.{rules, ◌≡◌, None, IfSome, subst, sym}
 use Rattle.sequence_journal.proofs.journal.Journal.init.Goals as goal
 
 pub begin-requires-clause-free : goal.begin-requires-clause-free

@@ -1,10 +1,8 @@
-use Rattle.std.proofs.Common.{◌≡◌, ◌∷◌, ◌++◌, [], length, length-append, take}
-use Rattle.std.proofs.Common.{get_or, ap, sym, subst, arith}
-use Rattle.std.proofs.lemmas.List.{length-take}
+use Rattle.std.proofs.Common.{◌≡◌, ◌∷◌, ◌++◌, [], length, length-append, take, get_or, ap, sym}
+use Rattle.std.proofs.{Common.subst, Common.arith, lemmas.List.length-take}
 use Rattle.std.specs.Io.KnownBytes.{prepend_known}
+use Rattle.tick_drive.proofs.{Known.met_slice_more, Known.met_first, Meeting.meets_line}
 use Rattle.yasir_io.specs.Pieces.{kept_bytes}
-use Rattle.tick_drive.proofs.Known.{met_slice_more, met_first}
-use Rattle.tick_drive.proofs.Meeting.{meets_line}
 use Rattle.tick_drive.proofs.intake.Intake.feed_kept.Goals as goal
 
 pub returns-then-self-eq0-clause-answer : goal.returns-then-self-eq0-clause-answer

@@ -1,6 +1,5 @@
 use Rattle.std.proofs.Common.{ap, length, arith}
-use Rattle.std.proofs.lemmas.List.{length-take}
-use Rattle.tick_drive.proofs.Meeting.{meets_line}
+use Rattle.{std.proofs.lemmas.List.length-take, tick_drive.proofs.Meeting.meets_line}
 use Rattle.tick_drive.proofs.intake.Intake.usual_line.Goals as goal
 
 pub take_usual-requires : goal.take_usual-requires

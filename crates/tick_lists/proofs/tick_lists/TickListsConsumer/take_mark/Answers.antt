@@ -1,5 +1,4 @@
-use Rattle.std.proofs.Common.{arith}
-use Rattle.tick_lists.proofs.Holding.{holds-mark}
+use Rattle.{std.proofs.Common.arith, tick_lists.proofs.Holding.holds-mark}
 use Rattle.tick_lists.proofs.tick_lists.TickListsConsumer.take_mark.Goals as goal
 
 pub returns : goal.returns

@@ -1,7 +1,6 @@
 use Rattle.std.proofs.Common.{arith, ap, length}
+use Rattle.{tick_drive.proofs.ItemLaws.run_items-first, tick_lists.proofs.Holding.gives-first}
 use Rattle.yasir_ticks.proofs.TickRuns.{ticks_in-run}
-use Rattle.tick_drive.proofs.ItemLaws.{run_items-first}
-use Rattle.tick_lists.proofs.Holding.{gives-first}
 use Rattle.tick_lists.proofs.tick_lists.TickListsConsumer.take_some.Goals as goal
 
 pub take_tick-requires : goal.take_tick-requires

@@ -1,7 +1,6 @@
 use Rattle.std.proofs.Common.{◌≡◌, ◌∙◌, ◌++◌, ap, arith, drop, length, take}
 use Rattle.std.proofs.lemmas.List.{take-append-le, take_all}
-use Rattle.trial_session.specs.DrawLaws.{length-bytes_drawn}
-use Rattle.trial_session.specs.Draws.{state_after, bytes_drawn}
+use Rattle.trial_session.specs.{DrawLaws.length-bytes_drawn, Draws.state_after, Draws.bytes_drawn}
 use Rattle.trial_session.proofs.draws.Draws.draw_bytes.Goals as goal
 
 pub returns : goal.returns

@@ -1,7 +1,6 @@
 use Rattle.std.proofs.Common.{◌∙◌, ◌++◌, ap, subst, arith, length, sym, take}
 use Rattle.std.proofs.lemmas.List.{take_all, length-drop, append-nil}
-use Rattle.trial_session.proofs.SentRuns.{run-more}
-use Rattle.trial_session.specs.{Links.link_sent, Sides.HasSent}
+use Rattle.trial_session.{proofs.SentRuns.run-more, specs.Links.link_sent, specs.Sides.HasSent}
 use Rattle.yasir_ticks.specs.TickRun.{run_ticks}
 use Rattle.trial_session.proofs.side.Side.forward.Goals as goal
 

@@ -1,7 +1,6 @@
 use Rattle.sequence_journal.specs.Journal.{journal_floor}
 use Rattle.std.proofs.Common.{◌≡◌, ◌∙◌, ◌++◌, List, ap, arith, length, refl, take}
-use Rattle.std.proofs.lemmas.List.{length-take-le}
-use Rattle.trial_session.proofs.Counting.{counts-run}
+use Rattle.{std.proofs.lemmas.List.length-take-le, trial_session.proofs.Counting.counts-run}
 use Rattle.trial_session.proofs.SentRuns.{passes-as, passes-none, passes-run, sends-run}
 use Rattle.trial_session.specs.{Boxes.trial_setup, Links.link_sent, Sides.HasTaken}
 use Rattle.yasir_ticks.specs.{TickRun.run_ticks, declared.tick.Tick.Tick}

@@ -1,6 +1,5 @@
 use Rattle.std.proofs.Common.{refl}
-use Rattle.yasir_io.proofs.FileLemmas.{always_ok}
-use Rattle.yasir_io.proofs.OutputLemmas.{always_on_err}
+use Rattle.yasir_io.proofs.{FileLemmas.always_ok, OutputLemmas.always_on_err}
 use Rattle.yasir_io.proofs.files.FileSourceSource.TheImpl.Goals as goal
 
 pub read-tells : goal.read-tells

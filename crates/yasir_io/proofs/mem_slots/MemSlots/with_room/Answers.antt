@@ -1,5 +1,4 @@
-use Rattle.std.proofs.Common.{refl}
-use Rattle.yasir_io.proofs.Images.{only_image_unmarked}
+use Rattle.{std.proofs.Common.refl, yasir_io.proofs.Images.only_image_unmarked}
 use Rattle.yasir_io.proofs.mem_slots.MemSlots.with_room.Goals as goal
 
 pub returns-clause-synced : goal.returns-clause-synced

@@ -1,6 +1,5 @@
 use Rattle.std.proofs.Common.{◌≤◌, length, ap, refl, sym, arith}
-use Rattle.std.proofs.lemmas.List.{length-take-le}
-use Rattle.yasir_io.proofs.TextRooms.{front_held}
+use Rattle.{std.proofs.lemmas.List.length-take-le, yasir_io.proofs.TextRooms.front_held}
 use Rattle.yasir_io.proofs.text_room.TextRoom.append_front.Goals as goal
 
 pub returns : goal.returns

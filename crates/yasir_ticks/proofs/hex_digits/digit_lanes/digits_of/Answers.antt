@@ -1,5 +1,4 @@
-use Rattle.std.proofs.Common.{arith}
-use Rattle.yasir_ticks.proofs.hex_digits.DigitEncoding.{all_digits}
+use Rattle.{std.proofs.Common.arith, yasir_ticks.proofs.hex_digits.DigitEncoding.all_digits}
 use Rattle.yasir_ticks.proofs.hex_digits.digit_lanes.digits_of.Goals as goal
 
 pub returns : goal.returns

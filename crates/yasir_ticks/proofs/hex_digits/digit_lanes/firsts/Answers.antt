@@ -1,8 +1,7 @@
-use Rattle.std.proofs.Common.{◌/◌, arith}
-use Rattle.std.proofs.lemmas.Simd.{zip2_splat}
 use Rattle.hex.specs.Hex.{lower_digits}
-use Rattle.yasir_ticks.specs.declared.hex_digits.digit_lanes.TheConstants.{DIGITS}
+use Rattle.std.proofs.{Common.◌/◌, Common.arith, lemmas.Simd.zip2_splat}
 use Rattle.yasir_ticks.proofs.hex_digits.DigitLookups.{down, high_ok, looked_up, copied}
+use Rattle.yasir_ticks.specs.declared.hex_digits.digit_lanes.TheConstants.{DIGITS}
 use Rattle.yasir_ticks.proofs.hex_digits.digit_lanes.firsts.Goals as goal
 
 pub swizzle : goal.swizzle

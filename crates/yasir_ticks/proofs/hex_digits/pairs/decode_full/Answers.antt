@@ -1,6 +1,5 @@
 use Rattle.std.proofs.Common.{◌∙◌, ap, Ok, sym}
-use Rattle.yasir_ticks.specs.HexDigits.{lane_value}
-use Rattle.yasir_ticks.proofs.hex_digits.FullLanes.{full_decoded}
+use Rattle.yasir_ticks.{proofs.hex_digits.FullLanes.full_decoded, specs.HexDigits.lane_value}
 use Rattle.yasir_ticks.proofs.hex_digits.pairs.decode_full.Goals as goal
 
 pub returns : goal.returns

@@ -1,5 +1,4 @@
-use Rattle.std.proofs.Common.{w8}
-use Rattle.std.proofs.lemmas.Simd.{below_from_Fits}
+use Rattle.std.proofs.{Common.w8, lemmas.Simd.below_from_Fits}
 use Rattle.yasir_ticks.proofs.hex_digits.FullLanes.{words_joined}
 use Rattle.yasir_ticks.proofs.hex_digits.pairs.paired.Goals as goal
 

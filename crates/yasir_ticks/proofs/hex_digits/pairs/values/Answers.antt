@@ -1,5 +1,4 @@
-use Rattle.std.proofs.Common.{w8, Fits, arith}
-use Rattle.std.proofs.lemmas.Simd.{Each1-get_or}
+use Rattle.std.proofs.{Common.w8, Common.Fits, Common.arith, lemmas.Simd.Each1-get_or}
 use Rattle.yasir_ticks.proofs.hex_digits.PairLanes.{lanes_values}
 use Rattle.yasir_ticks.proofs.hex_digits.pairs.values.Goals as goal
 

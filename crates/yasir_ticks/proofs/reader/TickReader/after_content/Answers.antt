@@ -1,6 +1,5 @@
 use Rattle.std.proofs.Common.{refl, arith}
-use Rattle.yasir_ticks.proofs.Readers.{step_refused}
-use Rattle.yasir_ticks.proofs.Steps.{refuses_foreign}
+use Rattle.yasir_ticks.proofs.{Readers.step_refused, Steps.refuses_foreign}
 use Rattle.yasir_ticks.proofs.reader.TickReader.after_content.Goals as goal
 
 pub returns-in_default : goal.returns-in_default

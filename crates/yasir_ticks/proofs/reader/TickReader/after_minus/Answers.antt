@@ -1,5 +1,4 @@
-use Rattle.yasir_ticks.proofs.Readers.{step_refused}
-use Rattle.yasir_ticks.proofs.Steps.{refuses_zero}
+use Rattle.yasir_ticks.proofs.{Readers.step_refused, Steps.refuses_zero}
 use Rattle.yasir_ticks.proofs.reader.TickReader.after_minus.Goals as goal
 
 pub returns-in-48 : goal.returns-in-48

@@ -1,5 +1,4 @@
-use Rattle.yasir_ticks.proofs.Readers.{step_refused}
-use Rattle.yasir_ticks.proofs.Steps.{refuses_after_return}
+use Rattle.yasir_ticks.proofs.{Readers.step_refused, Steps.refuses_after_return}
 use Rattle.yasir_ticks.proofs.reader.TickReader.after_return.Goals as goal
 
 pub returns-else-b-eq10 : goal.returns-else-b-eq10

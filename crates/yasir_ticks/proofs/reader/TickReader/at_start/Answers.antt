@@ -1,6 +1,5 @@
 use Rattle.std.proofs.Common.{◌∙◌, arith}
-use Rattle.yasir_ticks.proofs.Readers.{step_on}
-use Rattle.yasir_ticks.proofs.Steps.{accepts_plus}
+use Rattle.yasir_ticks.proofs.{Readers.step_on, Steps.accepts_plus}
 use Rattle.yasir_ticks.proofs.reader.TickReader.at_start.Goals as goal
 
 pub returns-in-43 : goal.returns-in-43

@@ -1,6 +1,5 @@
 use Rattle.std.proofs.Common.{arith}
-use Rattle.yasir_ticks.proofs.Readers.{step_refused}
-use Rattle.yasir_ticks.proofs.Steps.{refuses_percent}
+use Rattle.yasir_ticks.proofs.{Readers.step_refused, Steps.refuses_percent}
 use Rattle.yasir_ticks.proofs.reader.TickReader.begin_mark.Goals as goal
 
 pub returns-else-self-gt0 : goal.returns-else-self-gt0

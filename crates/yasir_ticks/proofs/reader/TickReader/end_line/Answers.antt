@@ -1,5 +1,4 @@
-use Rattle.std.proofs.Common.{refl}
-use Rattle.yasir_ticks.proofs.Steps.{accepts_lf}
+use Rattle.{std.proofs.Common.refl, yasir_ticks.proofs.Steps.accepts_lf}
 use Rattle.yasir_ticks.proofs.reader.TickReader.end_line.Goals as goal
 
 pub returns-in-Ok : goal.returns-in-Ok

@@ -1,7 +1,5 @@
 use Rattle.std.proofs.Common.{◌≡◌, ◌≤◌, ◌-◌, length, take}
-use Rattle.yasir_ticks.specs.Reader.{HasRefused}
-use Rattle.yasir_ticks.specs.Slices.{GoesOn}
-use Rattle.yasir_ticks.specs.declared.fault.BadTicks.{BadTicks}
+use Rattle.yasir_ticks.specs.{Reader.HasRefused, Slices.GoesOn, declared.fault.BadTicks.BadTicks}
 use Rattle.yasir_ticks.proofs.reader.TickReader.feed_rest.Given as goal
 
 abbrev pub invariant-loop-taken : goal.invariant-loop-taken

@@ -1,5 +1,4 @@
-use Rattle.yasir_ticks.proofs.Readers.{step_refused}
-use Rattle.yasir_ticks.proofs.Steps.{refuses_comment}
+use Rattle.yasir_ticks.proofs.{Readers.step_refused, Steps.refuses_comment}
 use Rattle.yasir_ticks.proofs.reader.TickReader.in_comment.Goals as goal
 
 pub returns-else-length-lt-MAX_COMMENT : goal.returns-else-length-lt-MAX_COMMENT

@@ -1,6 +1,5 @@
 use Rattle.std.proofs.Common.{is_some, refl, ap, sym}
-use Rattle.yasir_ticks.proofs.Readers.{step_on}
-use Rattle.yasir_ticks.proofs.Steps.{accepts_low, hex_not_lf}
+use Rattle.yasir_ticks.proofs.{Readers.step_on, Steps.accepts_low, Steps.hex_not_lf}
 use Rattle.yasir_ticks.proofs.reader.TickReader.in_half_pair.Goals as goal
 
 pub returns-in-Some : goal.returns-in-Some

@@ -1,6 +1,5 @@
 use Rattle.std.proofs.Common.{is_some, ap, sym, arith}
-use Rattle.yasir_ticks.proofs.Readers.{step_refused}
-use Rattle.yasir_ticks.proofs.Steps.{refuses_long}
+use Rattle.yasir_ticks.proofs.{Readers.step_refused, Steps.refuses_long}
 use Rattle.yasir_ticks.proofs.reader.TickReader.in_pairs.Goals as goal
 
 pub returns-then-is_full : goal.returns-then-is_full

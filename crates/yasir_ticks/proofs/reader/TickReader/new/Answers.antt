@@ -1,6 +1,5 @@
 use Rattle.std.proofs.Common.{[]}
-use Rattle.yasir_ticks.proofs.Completions.{begins_at}
-use Rattle.yasir_ticks.proofs.Feeding.{at_first}
+use Rattle.yasir_ticks.proofs.{Completions.begins_at, Feeding.at_first}
 use Rattle.yasir_ticks.proofs.reader.TickReader.new.Goals as goal
 
 pub returns-clause-stands : goal.returns-clause-stands

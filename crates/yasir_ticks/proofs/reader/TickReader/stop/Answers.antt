@@ -1,5 +1,4 @@
-use Rattle.std.proofs.Common.{arith}
-use Rattle.yasir_ticks.proofs.Readers.{stops_right}
+use Rattle.{std.proofs.Common.arith, yasir_ticks.proofs.Readers.stops_right}
 use Rattle.yasir_ticks.proofs.reader.TickReader.stop.Goals as goal
 
 pub returns-in-Ok-2-clause-stop : goal.returns-in-Ok-2-clause-stop

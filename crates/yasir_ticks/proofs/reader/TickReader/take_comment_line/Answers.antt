@@ -1,7 +1,5 @@
-use Rattle.std.proofs.Common.{Some, refl, arith}
-use Rattle.std.proofs.lemmas.List.{length-take}
-use Rattle.yasir_ticks.proofs.ManyBytes.{free_front, feed_found}
-use Rattle.yasir_ticks.proofs.WholeLines.{takes_comment}
+use Rattle.std.proofs.{Common.Some, Common.refl, Common.arith, lemmas.List.length-take}
+use Rattle.yasir_ticks.proofs.{ManyBytes.free_front, ManyBytes.feed_found, WholeLines.takes_comment}
 use Rattle.yasir_ticks.proofs.reader.TickReader.take_comment_line.Goals as goal
 
 pub returns-clause-whole : goal.returns-clause-whole

@@ -1,5 +1,4 @@
-use Rattle.std.proofs.Common.{refl, arith}
-use Rattle.std.proofs.lemmas.List.{length-take}
+use Rattle.std.proofs.{Common.refl, Common.arith, lemmas.List.length-take}
 use Rattle.yasir_ticks.proofs.WholeLines.{takes_pairs}
 use Rattle.yasir_ticks.proofs.reader.TickReader.take_long_line.Goals as goal
 

@@ -1,6 +1,5 @@
 use Rattle.std.proofs.Common.{◌≡◌, ◌≤◌, ◌-◌, length, take}
-use Rattle.yasir_ticks.specs.Slices.{GoesOn}
-use Rattle.yasir_ticks.specs.declared.place.Place.TheVariants.{Pairs}
+use Rattle.yasir_ticks.specs.{Slices.GoesOn, declared.place.Place.TheVariants.Pairs}
 use Rattle.yasir_ticks.proofs.reader.TickReader.take_pairs.Given as goal
 
 abbrev pub invariant-loop-taken : goal.invariant-loop-taken

@@ -1,5 +1,4 @@
-use Rattle.std.proofs.Common.{refl}
-use Rattle.yasir_ticks.proofs.WholeLines.{takes_number}
+use Rattle.{std.proofs.Common.refl, yasir_ticks.proofs.WholeLines.takes_number}
 use Rattle.yasir_ticks.proofs.reader.TickReader.take_silence_line.Goals as goal
 
 pub returns-clause-whole : goal.returns-clause-whole

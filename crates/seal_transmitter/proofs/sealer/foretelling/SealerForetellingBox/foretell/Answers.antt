@@ -1,15 +1,9 @@
+use Rattle.{link_box.specs.Noteless.MayNoteAt, seal_transmitter.proofs.Foretelling.no-byte-noted}
+use Rattle.seal_transmitter.specs.{Foretold.Foretold, Foretold.closes_none, Stands.StandsAt}
 use Rattle.std.proofs.Common.{◌≡◌, ◌<◌, ◌≤◌, ℕ, List, ⊎_elim, sym, subst, arith, take, length}
-use Rattle.std.proofs.lemmas.Bool.{cases_lt}
-use Rattle.std.proofs.lemmas.List.{take-replicate}
-use Rattle.yasir_ticks.specs.TickRun.{run_ticks}
-use Rattle.yasir_ticks.specs.Ticks.{silent}
-use Rattle.yasir_ticks.specs.declared.tick.Tick.{Tick}
-use Rattle.yasir_ticks.specs.declared.tick.Tick.TheVariants.{Silent}
-use Rattle.yasir_ticks.specs.declared.tick_run.TickRun.{TickRun}
-use Rattle.link_box.specs.Noteless.{MayNoteAt}
-use Rattle.seal_transmitter.specs.Foretold.{Foretold, closes_none}
-use Rattle.seal_transmitter.specs.Stands.{StandsAt}
-use Rattle.seal_transmitter.proofs.Foretelling.{no-byte-noted}
+use Rattle.std.proofs.lemmas.{Bool.cases_lt, List.take-replicate}
+use Rattle.yasir_ticks.specs.{TickRun.run_ticks, Ticks.silent, declared.tick.Tick.Tick}
+use Rattle.yasir_ticks.specs.declared.{tick.Tick.TheVariants.Silent, tick_run.TickRun.TickRun}
 use Rattle.seal_transmitter.proofs.sealer.foretelling.SealerForetellingBox.foretell.Goals as goal
 
 pub returns-in-Bytes-clause-each : goal.returns-in-Bytes-clause-each

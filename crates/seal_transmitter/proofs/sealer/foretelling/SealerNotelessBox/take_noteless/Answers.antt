@@ -1,5 +1,4 @@
-use Rattle.std.proofs.Common.{refl}
-use Rattle.seal_transmitter.proofs.Keeping.{takes-run}
+use Rattle.{seal_transmitter.proofs.Keeping.takes-run, std.proofs.Common.refl}
 use Rattle.seal_transmitter.proofs.sealer.foretelling.SealerNotelessBox.take_noteless.Goals as goal
 
 pub returns-clause-run : goal.returns-clause-run

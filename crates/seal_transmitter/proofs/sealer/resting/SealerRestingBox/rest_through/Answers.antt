@@ -1,11 +1,9 @@
-use Rattle.std.proofs.Common.{◌≡◌, ◌∙◌, ◌≤◌, [], sym, ap, arith}
-use Rattle.std.proofs.lemmas.Bool.{and_parts, leb-true, eqb-true}
-use Rattle.std.proofs.lemmas.List.{nil_from_length}
-use Rattle.yasir_ticks.specs.Ticks.{silent}
-use Rattle.frame_ending.specs.SoFar.{quiet_so_far}
-use Rattle.link_format.specs.Trailers.{bytes_left}
+use Rattle.{frame_ending.specs.SoFar.quiet_so_far, link_format.specs.Trailers.bytes_left}
 use Rattle.seal_transmitter.proofs.OpenSilence.{rest-open}
 use Rattle.seal_transmitter.proofs.RunSteps.{sent, sent-silent, drop-none, open-taken}
+use Rattle.std.proofs.Common.{◌≡◌, ◌∙◌, ◌≤◌, [], sym, ap, arith}
+use Rattle.std.proofs.lemmas.{Bool.and_parts, Bool.leb-true, Bool.eqb-true, List.nil_from_length}
+use Rattle.yasir_ticks.specs.Ticks.{silent}
 use Rattle.seal_transmitter.proofs.sealer.resting.SealerRestingBox.rest_through.Goals as goal
 
 pub returns-clause-run : goal.returns-clause-run
