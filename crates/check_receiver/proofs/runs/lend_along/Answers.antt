@@ -15,9 +15,14 @@ alike_bytes-front-requires g c =
     let sum = length-append Q E in
     let capped = c.min.ensures in
     let few = c.requires.within in
-    let within : c.min.result ≤ g.row.D = omega arith in
-    (omega arith, (within, ring-alike Q E c.min.result c.args.count (omega arith) (omega arith)
-    (omega arith) c.requires.alike))
+    let within : c.min.result ≤ g.row.D = omega arith in (
+      omega arith,
+      (
+        within,
+        ring-alike Q E c.min.result c.args.count (omega arith) (omega arith)
+            (omega arith) c.requires.alike,
+      ),
+    )
 
 pub returns-then-front : goal.returns-then-front
 returns-then-front g c =

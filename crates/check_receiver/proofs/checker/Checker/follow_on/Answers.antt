@@ -34,9 +34,20 @@ lend_along-requires g c =
     length-take-le count c.args.bytes.now (omega arith) in
     let all = bytes-long c.args.bytes.now in
     let sum = length-append Q E in
-    let most = c.alike_along-count.ensures.most in
-    (omega arith, (omega arith, (omega arith, (less-alike c.go_on_some-taken.result count (Q ++ E)
-    (omega arith) (omega arith) c.alike_along-count.ensures.alike, c.requires.empty))))
+    let most = c.alike_along-count.ensures.most in (
+      omega arith,
+      (
+        omega arith,
+        (
+          omega arith,
+          (
+            less-alike c.go_on_some-taken.result count (Q ++ E)
+                (omega arith) (omega arith) c.alike_along-count.ensures.alike,
+            c.requires.empty,
+          ),
+        ),
+      ),
+    )
 
 pub returns-clause-run : goal.returns-clause-run
 returns-clause-run g c = λ last setup line stands waits keeps.

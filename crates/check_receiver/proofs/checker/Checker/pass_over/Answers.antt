@@ -21,10 +21,18 @@ lend-requires g c =
     let few = c.cut_some-taken.ensures.within in
     let long : length (take count c.args.bytes.now) ≡ count =
     length-take-le count c.args.bytes.now (omega arith) in
-    let whole = ring-whole c.args.self.now.ring in
-    (omega arith, (omega arith, (less-alike c.cut_some-taken.result count
-    (ring_ticks c.args.self.now.ring) (omega arith) (omega arith)
-    c.front_alike-count.ensures.alike, c.requires.empty)))
+    let whole = ring-whole c.args.self.now.ring in (
+      omega arith,
+      (
+        omega arith,
+        (
+          less-alike c.cut_some-taken.result count
+              (ring_ticks c.args.self.now.ring) (omega arith) (omega arith)
+              c.front_alike-count.ensures.alike,
+          c.requires.empty,
+        ),
+      ),
+    )
 
 pub returns-clause-run : goal.returns-clause-run
 returns-clause-run g c = λ last setup line stands.
