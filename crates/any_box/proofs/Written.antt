@@ -1,5 +1,5 @@
 -- What a caller writes: slots that are again those of the box, and no floor that is lost.
-use Rattle.any_box.{proofs.Places.fits_back, specs.Commits.Owes, specs.Commits.IsOwed}
+use Rattle.any_box.{proofs.Places.fits_back, specs.Commits.OwesDisk, specs.Commits.IsOwed}
 use Rattle.any_box.specs.Held.{slots_held, link_held, floor_held, StepsHeld}
 use Rattle.any_box.specs.declared.held_box.{HeldBox.HeldBox, HeldStep.HeldStep}
 use Rattle.{any_box.specs.declared.owed.Commit.Commit, dnp_link_frame.specs.declared.dnp.Dnp.Dnp}
@@ -26,7 +26,7 @@ module _ (rtu : LineRules Rtu) (dnp : LineRules Dnp) (short : Mac (Hmac Sha1Hash
     (commit : Commit) (steps : StepsHeld rtu dnp short long old new t step)
     (is : step.commit ≡ Some commit) where
   owed : IsOwed old.journal new.journal old.disk new.disk commit
-  owed = subst (λ c. Owes old.journal new.journal old.disk new.disk c) is steps.owes
+  owed = subst (λ c. OwesDisk old.journal new.journal old.disk new.disk c) is steps.owes
 
   pub written-slots : with_slot (slots_held old) commit.slot commit.bytes ≡ slots_held new
   written-slots = ap (λ slot. with_slot (slots_held old) slot commit.bytes) owed.slot_is

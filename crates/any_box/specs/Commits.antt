@@ -30,6 +30,6 @@ pub record IsOwed (old new : Journal) (disk_old disk_new : SteadySlots) (commit 
   pub bytes_are : commit.bytes ≡ slot_bytes (journal_floor new) (journal_link old)
 
 -- and where there is nothing to write, journal and slots are as they were
-abbrev pub Owes : Journal → Journal → SteadySlots → SteadySlots → Option Commit → Type 0
-Owes old new disk_old disk_new None = (new ≡ old) × (disk_new ≡ disk_old)
-Owes old new disk_old disk_new (Some commit) = IsOwed old new disk_old disk_new commit
+abbrev pub OwesDisk : Journal → Journal → SteadySlots → SteadySlots → Option Commit → Type 0
+OwesDisk old new disk_old disk_new None = (new ≡ old) × (disk_new ≡ disk_old)
+OwesDisk old new disk_old disk_new (Some commit) = IsOwed old new disk_old disk_new commit

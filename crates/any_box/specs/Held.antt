@@ -16,7 +16,7 @@ use Rattle.sequence_journal.specs.Journal.{journal_link, journal_floor}
 use Rattle.sequence_journal.specs.Slots.{floor_of}
 use Rattle.sequence_journal.specs.declared.link.LinkId.{LinkId}
 use Rattle.any_box.specs.Kinds.{link_for}
-use Rattle.any_box.specs.Commits.{Owes}
+use Rattle.any_box.specs.Commits.{OwesDisk}
 use Rattle.any_box.specs.Boxes.{kind_of, StandsAt, Steps, TakesRun}
 use Rattle.any_box.specs.declared.held_box.HeldBox.{HeldBox}
 use Rattle.any_box.specs.declared.held_box.HeldStep.{HeldStep}
@@ -66,7 +66,7 @@ module _ (rtu : LineRules Rtu) (dnp : LineRules Dnp) (short : Mac (Hmac Sha1Hash
     pub steps : Steps rtu dnp short long old.line_box (floor_held old) new.line_box
         (floor_held new) t step.tick step.note
     pub link : link_held new ≡ link_held old
-    pub owes : Owes old.journal new.journal old.disk new.disk step.commit
+    pub owes : OwesDisk old.journal new.journal old.disk new.disk step.commit
 
   -- A run is taken with these ticks of the other line, without a note and with nothing to write.
   pub record TakesHeld (old new : HeldBox) (run answer : List Tick) : Type 0 where

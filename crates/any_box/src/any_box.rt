@@ -110,15 +110,15 @@ impl AnyBox {
 
     /// Takes the first of these ticks, as far as the box answers all of them with silence or all of
     /// them with bytes, without a note and without a number, and answers how many. Puts the bytes
-    /// of the answer into `left`, one for each tick, or none for silence. With 0 the caller goes on
+    /// of the answer into `sent`, one for each tick, or none for silence. With 0 the caller goes on
     /// by `step`. At most `MAX_TICKS` ticks are taken then.
-    pub(crate) fn take_alike(&mut self, run: TickRun<'_>, left: &mut RunBytes) -> usize
+    pub(crate) fn take_alike(&mut self, run: TickRun<'_>, sent: &mut RunBytes) -> usize
         requires room { ticks_in self.old + length (run_ticks run) ≤ MAX_TICKS }
         ensures within { result ≤ length (run_ticks run.entry) }
         ensures run { TakesRun ⟦<Rtu as LineRules>⟧ ⟦<Dnp as LineRules>⟧
             ⟦<HmacSha1 as Mac>⟧ ⟦<HmacSha256 as Mac>⟧
-            self.old self.new (take result (run_ticks run.entry)) (answered result left.new.items) }
+            self.old self.new (take result (run_ticks run.entry)) (answered result sent.new.items) }
     {
-        with_box!(self, line_box => take_any(line_box, run, left))
+        with_box!(self, line_box => take_any(line_box, run, sent))
     }
 }

@@ -126,7 +126,7 @@ pub(crate) fn step_any<X: CommittingBox>(
 pub(crate) fn take_any<X: CommittingBox>(
     line_box: &mut X,
     run: TickRun<'_>,
-    left: &mut RunBytes,
+    sent: &mut RunBytes,
 ) -> usize
     requires { X.taken line_box.old + length (run_ticks run) ≤ MAX_TICKS }
     ensures within { result ≤ length (run_ticks run.entry) }
@@ -135,7 +135,7 @@ pub(crate) fn take_any<X: CommittingBox>(
     ensures link_of { X.link_of line_box.new ≡ X.link_of line_box.old }
     ensures takes { TakesOn (defined_by X.walking X.noted) (X.stands line_box.old)
         (X.stands line_box.new)
-        (take result (run_ticks run.entry)) (answered result left.new.items) }
+        (take result (run_ticks run.entry)) (answered result sent.new.items) }
 {
-    take_alike(line_box, run, left)
+    take_alike(line_box, run, sent)
 }

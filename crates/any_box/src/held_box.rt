@@ -120,18 +120,18 @@ impl HeldBox {
 
     /// Takes the first of these ticks, as far as the box answers all of them with silence or all of
     /// them with bytes, without a note and with nothing to write, and answers how many. Puts the
-    /// bytes of the answer into `left`, one for each tick, or none for silence. With 0 the caller
+    /// bytes of the answer into `sent`, one for each tick, or none for silence. With 0 the caller
     /// goes on by `step`.
     #[tactic(auto, using(crate::proofs::Places::label_kept, crate::proofs::Places::dir_kept, crate::proofs::Places::profile_kept, crate::proofs::Taking::within_whole, crate::proofs::Taking::takes_front, crate::proofs::Taking::taken_counted, crate::proofs::Taking::counted_taken))]
-    pub fn take_alike(&mut self, run: TickRun<'_>, left: &mut RunBytes) -> usize
+    pub fn take_alike(&mut self, run: TickRun<'_>, sent: &mut RunBytes) -> usize
         ensures within { result ≤ length (run_ticks run.entry) }
         ensures takes { TakesHeld ⟦<Rtu as LineRules>⟧ ⟦<Dnp as LineRules>⟧
             ⟦<HmacSha1 as Mac>⟧ ⟦<HmacSha256 as Mac>⟧ self.old self.new
-            (take result (run_ticks run.entry)) (answered result left.new.items) }
+            (take result (run_ticks run.entry)) (answered result sent.new.items) }
     {
         let room = MAX_TICKS - self.ticks;
         let most = run.len().min(room as usize);
-        let count = self.line_box.take_alike(run.front(most), left);
+        let count = self.line_box.take_alike(run.front(most), sent);
         self.ticks += count as u64;
         count
     }

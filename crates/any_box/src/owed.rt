@@ -16,14 +16,14 @@ pub struct Commit {
 }
 
 impl Commit {
-    ghost use Rattle.any_box.specs.Commits.{CommitsOneOrNone, Owes};
+    ghost use Rattle.any_box.specs.Commits.{CommitsOneOrNone, OwesDisk};
 
     /// What a step has committed to these slots, which were `a` and `b` before it.
     pub(crate) fn between(a: &SlotBytes, b: &SlotBytes, disk: &SteadySlots) -> Option<Commit>
         ensures { (old new : Journal) (disk_old : SteadySlots)
             → a.now ≡ disk_old.a → b.now ≡ disk_old.b
             → Fits old (Some (steady_slots disk_old)) → Fits new (Some (steady_slots disk.now))
-            → CommitsOneOrNone old new disk_old disk.now → Owes old new disk_old disk.now result }
+            → CommitsOneOrNone old new disk_old disk.now → OwesDisk old new disk_old disk.now result }
     {
         let new_a = disk.slot(Slot::A);
         if new_a != *a {

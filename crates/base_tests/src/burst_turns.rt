@@ -80,8 +80,8 @@ impl<R: LineRules> LineRules for Counted<R> {
         self.inner.head()
     }
 
-    fn left(&self) -> u16 {
-        self.inner.left()
+    fn lacking(&self) -> u16 {
+        self.inner.lacking()
     }
 
     fn ends_right(&self) -> bool {
@@ -115,6 +115,6 @@ fn a_run_of_silence_takes_no_longer_than_a_tick(rt: HostRuntime) {
         let mut cut: BurstCut<FourBytes> = BurstCut::new();
         cut.step(Tick::Byte(7));
         cut.wait_some(u32::MAX);
-        assert!(rt; cut.rest(u32::MAX) == u32::MAX);
+        assert!(rt; cut.rest_through(u32::MAX) == u32::MAX);
     }
 }

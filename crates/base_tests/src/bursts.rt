@@ -309,7 +309,7 @@ fn runs_of_silence_are_silent_ticks(rt: HostRuntime) -> Result<(), Fail> {
             let mut cut = begun(2, silence);
             let start = cut.ticks();
             let told = burst_told(&cut);
-            assert_eq!(rt; cut.rest(ticks), taken);
+            assert_eq!(rt; cut.rest_through(ticks), taken);
             assert_eq!(rt; cut.ticks(), start + u64::from(taken));
             assert_eq!(rt; burst_told(&cut), told);
         }

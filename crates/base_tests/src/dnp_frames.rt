@@ -70,7 +70,7 @@ fn judged<R: LineRules>(bytes: &[u8]) -> (u16, bool, bool, Head, u16) {
         rules.full(),
         rules.good(),
         rules.head(),
-        rules.left(),
+        rules.lacking(),
     )
 }
 
@@ -115,13 +115,16 @@ fn largest_frame_cut_at_every_length(rt: HostRuntime) {
     let mut rules = Dnp::fresh();
     for (k, byte) in LARGEST.iter().enumerate() {
         let head = if k < 10 { Head::Short } else { Head::Good };
-        let left = if k < 10 { 0 } else { LARGEST.len() - k };
+        let lacking = if k < 10 { 0 } else { LARGEST.len() - k };
         assert!(rt; !rules.full() && !rules.good());
-        assert_eq!(rt; (rules.head(), usize::from(rules.left())), (head, left));
+        assert_eq!(rt;
+            (rules.head(), usize::from(rules.lacking())),
+            (head, lacking)
+        );
         rules.take(*byte);
     }
     assert!(rt; rules.full() && rules.good());
-    assert_eq!(rt; (rules.head(), rules.left()), (Head::Good, 0));
+    assert_eq!(rt; (rules.head(), rules.lacking()), (Head::Good, 0));
 }
 
 // What is sent for a last byte after these bytes, where all are to be no frame.
@@ -137,7 +140,7 @@ fn last_after<R: LineRules>(rules: &R, last: u8) -> u8 {
 fn filled<R: LineRules>(bytes: &[u8]) -> R {
     let mut rules = R::fresh();
     rules.take_some(bytes);
-    for after in (0..rules.left()).rev() {
+    for after in (0..rules.lacking()).rev() {
         if rules.full() {
             break;
         }
@@ -311,8 +314,8 @@ fn same_in_runs<R: LineRules>(bytes: &[u8], cut: usize) -> bool
     let first = runs.take_some(&bytes[..cut]);
     let second = runs.take_some(&bytes[cut..]);
     first + second == usize::from(single.len())
-        && (runs.len(), runs.full(), runs.good(), runs.left())
-            == (single.len(), single.full(), single.good(), single.left())
+        && (runs.len(), runs.full(), runs.good(), runs.lacking())
+            == (single.len(), single.full(), single.good(), single.lacking())
         && runs.head() == single.head()
 }
 

@@ -102,14 +102,14 @@ impl<B: LineBox> BoxLines<B> {
             (state_of self.old out.old log.old disk.now)
             (state_of self.new out.new log.new disk.now) (run_items run.entry) result }
     {
-        let mut left = RunBytes::new();
+        let mut sent = RunBytes::new();
         let most = run.len().min(MAX_RUN);
         let front = run.front(most);
-        let count = self.line_box.pass(front, &mut left);
+        let count = self.line_box.pass(front, &mut sent);
         if count == 0 {
             return Ok(count);
         }
-        let answer = answer_run(count as u32, left.as_slice());
+        let answer = answer_run(count as u32, sent.as_slice());
         match push_run(&mut self.texts, out, log, answer) {
             Ok(()) => Ok(count),
             Err(Failed) => Err(Stop::WriteFault),

@@ -73,9 +73,9 @@ impl<X: LinkBox> LinkBox for Counted<X> {
         self.inner.forward(run)
     }
 
-    fn pass(&mut self, run: TickRun<'_>, left: &mut RunBytes) -> usize {
+    fn pass(&mut self, run: TickRun<'_>, sent: &mut RunBytes) -> usize {
         self.calls.pass = self.calls.pass.saturating_add(1);
-        self.inner.pass(run, left)
+        self.inner.pass(run, sent)
     }
 }
 

@@ -145,11 +145,11 @@ impl<B: LineBox> KeptBox<B> {
         ensures { IfOk result (λ n. KeepsUpTo B.LinkBox B.line_of self.old self.new
             (run_ticks run.entry) n) }
     {
-        let mut left = RunBytes::new();
+        let mut sent = RunBytes::new();
         let most = run.len().min(MAX_RUN);
         let front = run.front(most);
-        let count = take_alike(&mut self.line_box, front, &mut left);
-        let answer = answer_run(count as u32, left.as_slice());
+        let count = take_alike(&mut self.line_box, front, &mut sent);
+        let answer = answer_run(count as u32, sent.as_slice());
         let Ok(()) = push_run(&mut self.texts, &mut self.text, &mut self.log, answer) else {
             return Err(NoMemory);
         };

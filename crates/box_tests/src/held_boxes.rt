@@ -225,26 +225,26 @@ fn slots_without_a_journal_are_refused(rt: HostRuntime) -> Result<(), Fail> {
     Ok(())
 }
 
-// Gives a box these ticks: what it takes at once as a run, and the rest by steps. Adds the ticks of
+// Gives a box these ticks: what it takes at once as a run, and the others by steps. Adds the ticks of
 // the other line to `other`, and returns how many runs and steps it took.
 fn take_run(held: &mut HeldBox, run: TickRun<'_>, other: &mut Vec<Tick>) -> Result<usize, Fail> {
-    let mut left = RunBytes::new();
-    let mut rest = run;
+    let mut sent = RunBytes::new();
+    let mut following = run;
     for turns in 0..100 {
-        if rest.is_empty() {
+        if following.is_empty() {
             return Ok(turns);
         }
-        let taken = held.take_alike(rest, &mut left);
+        let taken = held.take_alike(following, &mut sent);
         if taken > 0 {
-            add(other, left.as_slice(), taken.saturating_sub(left.len()))?;
-            rest = rest.behind(taken);
+            add(other, sent.as_slice(), taken.saturating_sub(sent.len()))?;
+            following = following.behind(taken);
             continue;
         }
-        let Ok(step) = held.step(rest.first()) else {
+        let Ok(step) = held.step(following.first()) else {
             return Err("a box is full".into());
         };
         other.push(step.tick)?;
-        rest = rest.behind(1);
+        following = following.behind(1);
     }
     Err("a run has more than 100 parts".into())
 }

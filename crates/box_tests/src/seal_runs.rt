@@ -26,11 +26,11 @@ fn add(link: &mut Vec<Tick>, tick: Tick, times: usize) -> Result<(), AllocError>
 }
 
 // What a run is answered with: these bytes, or this many silent ticks.
-fn add_answered(link: &mut Vec<Tick>, count: usize, left: &[u8]) -> Result<(), AllocError> {
-    if left.is_empty() {
+fn add_answered(link: &mut Vec<Tick>, count: usize, sent: &[u8]) -> Result<(), AllocError> {
+    if sent.is_empty() {
         return add(link, Tick::Silent, count);
     }
-    for byte in left {
+    for byte in sent {
         link.push(Tick::Byte(*byte))?;
     }
     Ok(())
@@ -96,12 +96,12 @@ fn wait<D: SlotDisk>(
     if !by_runs {
         return step_times(sealer, journal, disk, Tick::Silent, ticks, link);
     }
-    let mut left = RunBytes::new();
-    let sent = sealer.pass_silence(ticks, &mut left);
-    add_answered(link, sent as usize, left.as_slice())?;
-    let rested = sealer.rest(ticks - sent);
-    add(link, Tick::Silent, rested as usize)?;
-    let others = ticks - sent - rested;
+    let mut sent = RunBytes::new();
+    let passed = sealer.pass_silence(ticks, &mut sent);
+    add_answered(link, passed as usize, sent.as_slice())?;
+    let kept = sealer.keep_silent(ticks - passed);
+    add(link, Tick::Silent, kept as usize)?;
+    let others = ticks - passed - kept;
     step_times(sealer, journal, disk, Tick::Silent, others, link)
 }
 
@@ -136,12 +136,12 @@ fn hear<D: SlotDisk>(
     }
     let bytes = [BYTE; 8];
     let bytes = &bytes[..count as usize];
-    let sent = sealer.forward(bytes);
-    add(link, Tick::Byte(BYTE), sent)?;
-    let mut left = RunBytes::new();
-    let passed = sealer.pass_bytes(&bytes[sent..], &mut left);
-    add_answered(link, passed, left.as_slice())?;
-    let others = count - (sent + passed) as u32;
+    let forwarded = sealer.forward(bytes);
+    add(link, Tick::Byte(BYTE), forwarded)?;
+    let mut sent = RunBytes::new();
+    let passed = sealer.pass_bytes(&bytes[forwarded..], &mut sent);
+    add_answered(link, passed, sent.as_slice())?;
+    let others = count - (forwarded + passed) as u32;
     step_times(sealer, journal, disk, Tick::Byte(BYTE), others, link)
 }
 

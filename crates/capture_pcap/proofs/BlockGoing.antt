@@ -3,7 +3,7 @@ use Rattle.byte_walk.specs.{Fields.before_field, Walks.walk}
 use Rattle.byteorder.specs.Endian.{big_bytes, little_bytes}
 use Rattle.byteorder.specs.Numbers.{big_number-reads_back, little_number-reads_back}
 use Rattle.byteorder.specs.Numbers.{length-bytes_high_first, length-bytes_low_first}
-use Rattle.capture_pcap.specs.BlockStep.{rest_or_end, is_size, next_option_at, block_field_at}
+use Rattle.capture_pcap.specs.BlockStep.{unread_or_end, is_size, next_option_at, block_field_at}
 use Rattle.capture_pcap.specs.Blocks.{section_with, fresh, padded}
 use Rattle.capture_pcap.specs.BodyStep.{body_field_at, body_byte_at, has_more}
 use Rattle.capture_pcap.specs.PcapStep.{takes_bytes, field_at}
@@ -20,7 +20,7 @@ use Rattle.std.proofs.lemmas.Bool.{eq-eqb, le-leb, and_parts, ltb-true}
 use Rattle.std.proofs.lemmas.List.{length-replicate}
 use Rattle.capture_pcap.specs.declared.block.Block.TheVariants as b
 use Rattle.capture_pcap.proofs.BlockLive.{HasField, HasBoth, Live}
-use Rattle.capture_pcap.proofs.BlockSpelled.{rest_walk, blocks_or}
+use Rattle.capture_pcap.proofs.BlockSpelled.{unread_walk, blocks_or}
 use Rattle.capture_pcap.proofs.Going.{GoesOn, on_walk, on_field, on_body}
 use Rattle.capture_pcap.specs.declared.stage.Stage.TheVariants.{Blocks}
 
@@ -46,12 +46,12 @@ on_end s size f =
     (rw (eq-eqb (number s.order f.field) size f.is) refl) (on_kind s)
 
 on_rest : (s : Section) (size left : ℕ) → HasField s.order size
-    → GoesOn (Blocks (rest_or_end s size left))
+    → GoesOn (Blocks (unread_or_end s size left))
 on_rest s size left f =
     let long : length (replicate left 0) ≡ left = length-replicate left 0 in
-    let Q : ℕ → Type 0 = λ n. GoesOn (Blocks (rest_or_end s size n)) in
-    subst Q long (on_walk (Blocks (rest_or_end s size (length (replicate left 0))))
-    (Blocks (b.End s size)) (replicate left 0) [] (rest_walk s size (replicate left 0))
+    let Q : ℕ → Type 0 = λ n. GoesOn (Blocks (unread_or_end s size n)) in
+    subst Q long (on_walk (Blocks (unread_or_end s size (length (replicate left 0))))
+    (Blocks (b.End s size)) (replicate left 0) [] (unread_walk s size (replicate left 0))
     (on_end s size f))
 
 -- ---- options
@@ -61,7 +61,7 @@ on_option : (s : Section) (size left counts : ℕ) → HasField s.order size
 unfolding block_field_at
 on_option s size left counts f =
     let after : Section = section_with s counts in
-    on_one (b.Option s size left counts) (rest_or_end after size (4 * (left - 1)))
+    on_one (b.Option s size left counts) (unread_or_end after size (4 * (left - 1)))
     (0 ∷ 0 ∷ 0 ∷ 0 ∷ []) refl refl (rw (nought s.order) refl) (on_rest after size (4 * (left - 1)) f)
   where
     nought : (order : Order) → short_number order (0 ∷ 0 ∷ 0 ∷ 0 ∷ []) ≡ 0
@@ -76,7 +76,7 @@ record NextOn (s : Section) (size left counts : ℕ) : Type 0 where
 
 next_on : (s : Section) (size left counts : ℕ) → HasField s.order size → NextOn s size left counts
 next_on s size zero counts f = record {
-  place = rest_or_end (section_with s counts) size (4 * 0);
+  place = unread_or_end (section_with s counts) size (4 * 0);
   is = refl;
   on = on_rest (section_with s counts) size (4 * 0) f;
 }
@@ -139,11 +139,11 @@ on_packet : (s : Section) (size left : ℕ) (body : Body) → HasField s.order s
     → has_more body ≡ true → GoesOn (Blocks (b.Packet s size left body))
 unfolding field_at block_field_at
 on_packet s size left body f h =
-    on_body (λ x. Blocks (b.Packet s size left x)) (Blocks (rest_or_end s size left)) (λ x. refl)
+    on_body (λ x. Blocks (b.Packet s size left x)) (Blocks (unread_or_end s size left)) (λ x. refl)
     (λ x field. ap (λ y. Ok (y, (body_field_at x field).1))
-    (blocks_or (b.Packet s size left) (rest_or_end s size left) (body_field_at x field).0))
+    (blocks_or (b.Packet s size left) (unread_or_end s size left) (body_field_at x field).0))
     (λ x byte. ap (λ y. Ok (y, (body_byte_at x byte).1))
-    (blocks_or (b.Packet s size left) (rest_or_end s size left) (body_byte_at x byte).0))
+    (blocks_or (b.Packet s size left) (unread_or_end s size left) (body_byte_at x byte).0))
     (on_rest s size left f) body h
 
 on_original : (s : Section) (size start captured : ℕ) → HasField s.order size
@@ -241,12 +241,12 @@ on_section_order big little h e = by_tests (is_size big 28) (is_size little 28) 
     by_tests : (t u : Bool) → is_size big 28 ≡ t → is_size little 28 ≡ u → (t || u) ≡ true
         → GoesOn (Blocks (b.SectionOrder big little))
     by_tests true u f g k =
-        on_one (b.SectionOrder big little) (rest_or_end (fresh Big) big (big - 16))
+        on_one (b.SectionOrder big little) (unread_or_end (fresh Big) big (big - 16))
         (0x1A ∷ 0x2B ∷ 0x3C ∷ 0x4D ∷ []) refl refl (rw f refl)
         (on_rest (fresh Big) big (big - 16)
         (record { field = h.field; long = h.long; is = h.is_big }))
     by_tests false true f g k =
-        on_one (b.SectionOrder big little) (rest_or_end (fresh Little) little (little - 16))
+        on_one (b.SectionOrder big little) (unread_or_end (fresh Little) little (little - 16))
         (0x4D ∷ 0x3C ∷ 0x2B ∷ 0x1A ∷ []) refl refl (rw g refl)
         (on_rest (fresh Little) little (little - 16)
         (record { field = h.field; long = h.long; is = h.is_little }))
@@ -285,9 +285,9 @@ on_block (b.Low s size high) l = on_low s size high l.0 l.1 l.2
 on_block (b.Captured s size start) l = on_captured s size start l.0 l.1
 on_block (b.Original s size start captured) l = on_original s size start captured l.0 l.1
 on_block (b.Packet s size left body) l = on_packet s size left body l.0 l.1
-on_block (b.Rest s size left) l =
+on_block (b.Unread s size left) l =
     let f : HasField s.order size = l.0 in
     let Q : Block → Type 0 = λ x. GoesOn (Blocks x) in
-    let here : rest_or_end s size left ≡ b.Rest s size left = rw (lt-ltb 0 left l.1) refl in
+    let here : unread_or_end s size left ≡ b.Unread s size left = rw (lt-ltb 0 left l.1) refl in
     subst Q here (on_rest s size left f)
 on_block (b.End s size) l = on_end s size l

@@ -1,5 +1,5 @@
 -- A pcapng file so far can still come to a right end: what its reader's place has to say for that.
-use Rattle.capture_pcap.specs.BlockStep.{Stepped, takes_bytes, rest_or_end, is_size, in_section}
+use Rattle.capture_pcap.specs.BlockStep.{Stepped, takes_bytes, unread_or_end, is_size, in_section}
 use Rattle.capture_pcap.specs.BlockStep.{after_order, after_kind, after_size, after_options}
 use Rattle.capture_pcap.specs.BlockStep.{next_option_at, over_fields, has_room, after_option}
 use Rattle.capture_pcap.specs.BlockStep.{after_value, at_resolution, block_field_at, block_byte_at}
@@ -57,16 +57,16 @@ Live (b.Low s size high) =
 Live (b.Captured s size start) = HasField s.order size × (44 ≤ size)
 Live (b.Original s size start captured) = HasField s.order size × HasField s.order captured
 Live (b.Packet s size left body) = HasField s.order size × (has_more body ≡ true)
-Live (b.Rest s size left) = HasField s.order size × (0 < left)
+Live (b.Unread s size left) = HasField s.order size × (0 < left)
 Live (b.End s size) = HasField s.order size
 
 abbrev pub LiveStep : Stepped → Type 0
 LiveStep (Ok next) = Live next.0
 LiveStep (Err why) = Unit {0}
 
-live_rest : (s : Section) (size left : ℕ) → HasField s.order size → Live (rest_or_end s size left)
+live_rest : (s : Section) (size left : ℕ) → HasField s.order size → Live (unread_or_end s size left)
 live_rest s size left f =
-    cond_both (nat_lt 0 left) (b.Rest s size left) (b.End s size) Live
+    cond_both (nat_lt 0 left) (b.Unread s size left) (b.End s size) Live
     (λ e. (f, ltb-true 0 left e)) (λ e. f)
 
 live_next : (s : Section) (size left counts : ℕ) → HasField s.order size
@@ -117,7 +117,7 @@ live_resolution s size left None f = tt
 
 live_in : (order : Order) (size : ℕ) → HasField order size → LiveStep (in_section order size)
 live_in order size f =
-    cond_both (is_size size 28) (Ok (rest_or_end (fresh order) size (size - 16), None)) (Err WrongSize)
+    cond_both (is_size size 28) (Ok (unread_or_end (fresh order) size (size - 16), None)) (Err WrongSize)
     LiveStep (λ e. live_rest (fresh order) size (size - 16) f) (λ e. tt)
 
 live_order : (big little : ℕ) (field : List ℕ) → HasBoth big little
@@ -160,7 +160,7 @@ live_size s PacketKind field h four =
     (λ e. tt)
 live_size s OtherKind field h four =
     let size : ℕ = number s.order field in
-    cond_both (is_size size 12) (Ok (rest_or_end s size (size - 12), None)) (Err WrongSize) LiveStep
+    cond_both (is_size size 12) (Ok (unread_or_end s size (size - 12), None)) (Err WrongSize) LiveStep
     (λ e. live_rest s size (size - 12) (record { field = field; long = four; is = refl })) (λ e. tt)
 
 -- where a packet goes on, some of it is left
@@ -169,7 +169,7 @@ MoreIn (Some body) = has_more body ≡ true
 MoreIn None = Unit {0}
 
 live_body : (s : Section) (size left : ℕ) (o : Option Body) → HasField s.order size
-    → MoreIn o → Live (body_or (b.Packet s size left) (rest_or_end s size left) o)
+    → MoreIn o → Live (body_or (b.Packet s size left) (unread_or_end s size left) o)
 live_body s size left (Some body) f h = (f, h)
 live_body s size left None f h = live_rest s size left f
 
@@ -236,7 +236,7 @@ live_field (b.Original s size start captured) field l h four =
     (λ e. (l.0, refl)) (λ e. tt)
 live_field (b.Packet s size left body) field l h four =
     live_body s size left (body_field_at body field).0 l.0 (field_more body field h)
-live_field (b.Rest s size left) field l h four = tt
+live_field (b.Unread s size left) field l h four = tt
 live_field (b.End s size) field l h four =
     cond_both (number s.order field == size) (Ok (b.Kind s, None)) (Err WrongSize) LiveStep
     (λ e. tt) (λ e. tt)
@@ -245,7 +245,7 @@ pub live_byte : (block : Block) (byte : ℕ) → Live block → takes_bytes bloc
     → LiveStep (block_byte_at block byte)
 live_byte (b.Packet s size left body) byte l h =
     live_body s size left (body_byte_at body byte).0 l.0 (byte_more body byte h)
-live_byte (b.Rest s size left) byte l h = live_rest s size (left - 1) l.0
+live_byte (b.Unread s size left) byte l h = live_rest s size (left - 1) l.0
 live_byte b.SectionSize byte l h = tt
 live_byte (b.SectionOrder big little) byte l h = tt
 live_byte (b.Kind s) byte l h = tt

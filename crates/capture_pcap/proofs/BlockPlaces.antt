@@ -1,5 +1,5 @@
 -- What a field or a byte makes of a pcapng file so far, at each place of its reader.
-use Rattle.capture_pcap.specs.BlockStep.{Stepped, takes_bytes, rest_or_end, is_size, in_section}
+use Rattle.capture_pcap.specs.BlockStep.{Stepped, takes_bytes, unread_or_end, is_size, in_section}
 use Rattle.capture_pcap.specs.BlockStep.{after_order, of_kind, after_kind, after_size, after_link}
 use Rattle.capture_pcap.specs.BlockStep.{after_options, next_option_at, over_fields, after_option}
 use Rattle.capture_pcap.specs.BlockStep.{after_value, at_resolution, after_resolution, after_low}
@@ -44,9 +44,9 @@ use Rattle.capture_pcap.proofs.{Bodies.AtBody.seconds as rtac_seconds, FieldFact
 -- ---- the rest of a block
 
 rest_goes : (s : Section) (size left : ℕ) (text : List ℕ) (items : List Seen)
-    → RestsAs s size left text items → AtBlock (rest_or_end s size left) text items
+    → RestsAs s size left text items → AtBlock (unread_or_end s size left) text items
 rest_goes s size left text items whole =
-    cond_both (nat_lt 0 left) (b.Rest s size left) (b.End s size) (λ x. AtBlock x text items)
+    cond_both (nat_lt 0 left) (b.Unread s size left) (b.End s size) (λ x. AtBlock x text items)
     (λ e. (ltb-true 0 left e, whole))
     (λ e. λ again long is.
     let none : left ≡ 0 = omega (arith, ltb-false 0 left e) in
@@ -59,7 +59,7 @@ options_done : (s : Section) (size left counts : ℕ) (text : List ℕ) (items :
     → RestsAs (section_with s counts) size (4 * left) text items
     → BlockGoes text items (after_options s size left counts)
 options_done s size left counts text items whole =
-    same (rest_or_end (section_with s counts) size (4 * left)) text items
+    same (unread_or_end (section_with s counts) size (4 * left)) text items
     (rest_goes (section_with s counts) size (4 * left) text items whole)
 
 next_goes : (s : Section) (size left counts : ℕ) (text : List ℕ) (items : List Seen)
@@ -297,7 +297,7 @@ original_goes s size start captured text field items whole four =
 packet_goes : (s : Section) (size left start count : ℕ) (front bytes : List ℕ)
     (before these : List Seen) (next : Option Body)
     → BodyAs s size left start count front before → BodyGoes start count bytes these next
-    → AtBlock (body_or (b.Packet s size left) (rest_or_end s size left) next) (front ++ bytes)
+    → AtBlock (body_or (b.Packet s size left) (unread_or_end s size left) next) (front ++ bytes)
     (before ++ these)
 packet_goes s size left start count front bytes before these (Some body) whole goes = record {
   start = start;
@@ -329,7 +329,7 @@ packet_field_goes : (s : Section) (size left : ℕ) (body : Body) (text field : 
     → length field ≡ 4
     → BlockGoes (text ++ field) items (after_body s size left (body_field_at body field))
 packet_field_goes s size left body text field items p h four =
-    moved (body_or (b.Packet s size left) (rest_or_end s size left) (body_field_at body field).0) text
+    moved (body_or (b.Packet s size left) (unread_or_end s size left) (body_field_at body field).0) text
     p.front p.bytes field items p.before p.these (option_to_list (body_field_at body field).1)
     p.text_is p.items_are
     (packet_goes s size left p.start p.count p.front (p.bytes ++ field) p.before
@@ -340,7 +340,7 @@ packet_byte_goes : (s : Section) (size left : ℕ) (body : Body) (text : List �
     (byte : ℕ) → AtPacket s size left body text items → takes_data body ≡ true
     → BlockGoes (text ++ byte ∷ []) items (after_body s size left (body_byte_at body byte))
 packet_byte_goes s size left body text items byte p h =
-    moved (body_or (b.Packet s size left) (rest_or_end s size left) (body_byte_at body byte).0) text
+    moved (body_or (b.Packet s size left) (unread_or_end s size left) (body_byte_at body byte).0) text
     p.front p.bytes (byte ∷ []) items p.before p.these (option_to_list (body_byte_at body byte).1)
     p.text_is p.items_are
     (packet_goes s size left p.start p.count p.front (p.bytes ++ byte ∷ []) p.before
@@ -349,9 +349,9 @@ packet_byte_goes s size left body text items byte p h =
 
 rest_byte_goes : (s : Section) (size left : ℕ) (text : List ℕ) (items : List Seen) (byte : ℕ)
     → 0 < left → RestsAs s size left text items
-    → BlockGoes (text ++ byte ∷ []) items (Ok (rest_or_end s size (left - 1), None))
+    → BlockGoes (text ++ byte ∷ []) items (Ok (unread_or_end s size (left - 1), None))
 rest_byte_goes s size left text items byte some whole =
-    same (rest_or_end s size (left - 1)) (text ++ byte ∷ []) items
+    same (unread_or_end s size (left - 1)) (text ++ byte ∷ []) items
     (rest_goes s size (left - 1) (text ++ byte ∷ []) items (λ rest long again four is.
     assoc_again s text (byte ∷ []) rest again items
     (whole (byte ∷ rest) (omega (arith, long, some)) again four is)))
@@ -419,9 +419,9 @@ size_goes s PacketKind text field items whole four =
     (λ e. same (b.Interface s size) (text ++ field) items (whole field four e)) (λ e. tt)
 size_goes s OtherKind text field items whole four =
     let size : ℕ = number s.order field in
-    cond_both (is_size size 12) (Ok (rest_or_end s size (size - 12), None)) (Err WrongSize)
+    cond_both (is_size size 12) (Ok (unread_or_end s size (size - 12), None)) (Err WrongSize)
     (BlockGoes (text ++ field) items)
-    (λ e. same (rest_or_end s size (size - 12)) (text ++ field) items
+    (λ e. same (unread_or_end s size (size - 12)) (text ++ field) items
     (rest_goes s size (size - 12) (text ++ field) items (whole field four e)))
     (λ e. tt)
 
@@ -445,9 +445,9 @@ order_goes big_size little_size text field items whole four =
         → (is_size size 28 ≡ true → RestsAs (fresh order) size (size - 16) (text ++ field) items)
         → BlockGoes (text ++ field) items (in_section order size)
     in_goes order size h =
-        cond_both (is_size size 28) (Ok (rest_or_end (fresh order) size (size - 16), None))
+        cond_both (is_size size 28) (Ok (unread_or_end (fresh order) size (size - 16), None))
         (Err WrongSize) (BlockGoes (text ++ field) items)
-        (λ ok. same (rest_or_end (fresh order) size (size - 16)) (text ++ field) items
+        (λ ok. same (unread_or_end (fresh order) size (size - 16)) (text ++ field) items
         (rest_goes (fresh order) size (size - 16) (text ++ field) items (h ok)))
         (λ ok. tt)
 
@@ -533,7 +533,7 @@ block_field_goes (b.Original s size start captured) text field items at h four =
     original_goes s size start captured text field items at four
 block_field_goes (b.Packet s size left body) text field items at h four =
     packet_field_goes s size left body text field items at h four
-block_field_goes (b.Rest s size left) text field items at h four = tt
+block_field_goes (b.Unread s size left) text field items at h four = tt
 block_field_goes (b.End s size) text field items at h four =
     end_goes s size text field items at four
 
@@ -542,7 +542,7 @@ pub block_byte_goes : (block : Block) (text : List ℕ) (items : List Seen) (byt
     → BlockGoes (text ++ byte ∷ []) items (block_byte_at block byte)
 block_byte_goes (b.Packet s size left body) text items byte at h =
     packet_byte_goes s size left body text items byte at h
-block_byte_goes (b.Rest s size left) text items byte at h =
+block_byte_goes (b.Unread s size left) text items byte at h =
     rest_byte_goes s size left text items byte at.0 at.1
 block_byte_goes b.SectionSize text items byte at h = tt
 block_byte_goes (b.SectionOrder big_size little_size) text items byte at h = tt

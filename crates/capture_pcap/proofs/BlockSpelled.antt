@@ -1,6 +1,6 @@
 -- What a reader comes to over the blocks of a right pcapng file.
 use Rattle.byte_walk.{proofs.FieldLaws.single_walk, specs.Walks.walk}
-use Rattle.capture_pcap.specs.BlockStep.{Stepped, rest_or_end, is_size, after_order, after_kind}
+use Rattle.capture_pcap.specs.BlockStep.{Stepped, unread_or_end, is_size, after_order, after_kind}
 use Rattle.capture_pcap.specs.BlockStep.{after_options, next_option_at, over_fields, after_option}
 use Rattle.capture_pcap.specs.BlockStep.{after_value, after_captured, after_original}
 use Rattle.capture_pcap.specs.BlockStep.{block_field_at, after_section_size, has_room}
@@ -56,24 +56,24 @@ followed from through to first second v w =
 
 -- ---- the end of a block
 
-pub rest_walk : (s : Section) (size : ℕ) (rest : List ℕ)
-    → Walks (Blocks (rest_or_end s size (length rest))) rest (Blocks (b.End s size)) []
-rest_walk s size [] = stays (Blocks (b.End s size))
-rest_walk s size (byte ∷ rest) =
+pub unread_walk : (s : Section) (size : ℕ) (rest : List ℕ)
+    → Walks (Blocks (unread_or_end s size (length rest))) rest (Blocks (b.End s size)) []
+unread_walk s size [] = stays (Blocks (b.End s size))
+unread_walk s size (byte ∷ rest) =
     let left : length (byte ∷ rest) - 1 ≡ length rest = omega arith in
     let some : nat_lt 0 (length (byte ∷ rest)) ≡ true =
     lt-ltb 0 (length (byte ∷ rest)) (omega arith) in
-    let next : Block = rest_or_end s size (length rest) in
-    let from : Block = b.Rest s size (length (byte ∷ rest)) in
+    let next : Block = unread_or_end s size (length rest) in
+    let from : Block = b.Unread s size (length (byte ∷ rest)) in
     let Q : Block → Type 0 = λ x. Walks (Blocks x) (byte ∷ rest) (Blocks (b.End s size)) [] in
-    let here : rest_or_end s size (length (byte ∷ rest)) ≡ from = rw some refl in
+    let here : unread_or_end s size (length (byte ∷ rest)) ≡ from = rw some refl in
     subst Q (sym here)
     (both (Blocks from) (Blocks next) (Blocks (b.End s size)) (byte ∷ []) rest [] []
     (record {
       is = single_walk takes_bytes field_at byte_at (Blocks from) (Blocks next) byte None refl
-          (ap (λ n. Ok (Blocks (rest_or_end s size n), None)) left);
+          (ap (λ n. Ok (Blocks (unread_or_end s size n), None)) left);
     })
-    (rest_walk s size rest))
+    (unread_walk s size rest))
 
 pub end_walk : (s : Section) (size : ℕ) (again : List ℕ) → length again ≡ 4
     → number s.order again ≡ size → Walks (Blocks (b.End s size)) again (Blocks (b.Kind s)) []
@@ -84,13 +84,13 @@ end_walk s size again four e =
 -- this many bytes, and the length again
 close_walk : (s : Section) (size left : ℕ) (rest again : List ℕ) → length rest ≡ left
     → length again ≡ 4 → number s.order again ≡ size
-    → Walks (Blocks (rest_or_end s size left)) (rest ++ again) (Blocks (b.Kind s)) []
+    → Walks (Blocks (unread_or_end s size left)) (rest ++ again) (Blocks (b.Kind s)) []
 close_walk s size left rest again long four e =
-    let Q : ℕ → Type 0 = λ n. Walks (Blocks (rest_or_end s size n)) (rest ++ again)
+    let Q : ℕ → Type 0 = λ n. Walks (Blocks (unread_or_end s size n)) (rest ++ again)
     (Blocks (b.Kind s)) [] in
     subst Q long
-    (followed (rest_or_end s size (length rest)) (b.End s size) (b.Kind s) rest again
-    (rest_walk s size rest) (end_walk s size again four e))
+    (followed (unread_or_end s size (length rest)) (b.End s size) (b.Kind s) rest again
+    (unread_walk s size rest) (end_walk s size again four e))
 
 is_size_of : (size least : ℕ) → least ≤ size → size % 4 ≡ 0 → is_size size least ≡ true
 is_size_of size least h e = rw (le-leb least size h, eq-eqb (size % 4) 0 e) refl
@@ -115,7 +115,7 @@ section_sized Little size ok =
 marked : (order : Order) (size mark : List ℕ) → IsOrderMark order mark
     → is_size (number order size) 28 ≡ true
     → after_order mark (number Big size) (number Little size)
-    ≡ Ok (rest_or_end (fresh order) (number order size) (number order size - 16), None)
+    ≡ Ok (unread_or_end (fresh order) (number order size) (number order size - 16), None)
 marked order size mark big ok = rw ok refl
 marked order size mark little ok = rw ok refl
 
@@ -144,9 +144,9 @@ section_walk order size mark rest again size_long m whole four size_is again_is 
     (one b.SectionSize (b.SectionOrder (number Big size) (number Little size)) size refl size_long
     (section_sized order size ok))
     (followed (b.SectionOrder (number Big size) (number Little size))
-    (rest_or_end (fresh order) n (n - 16)) (b.Kind (fresh order)) mark (rest ++ again)
+    (unread_or_end (fresh order) n (n - 16)) (b.Kind (fresh order)) mark (rest ++ again)
     (one (b.SectionOrder (number Big size) (number Little size))
-    (rest_or_end (fresh order) n (n - 16)) mark refl long (marked order size mark m ok))
+    (unread_or_end (fresh order) n (n - 16)) mark refl long (marked order size mark m ok))
     (close_walk (fresh order) n (n - 16) rest again (omega (arith, sum)) four
     (again_is ∙ sym size_is))))
 
@@ -207,15 +207,15 @@ options_ended s size left counts head rest four code long =
     let some : 0 < left = omega (arith, sum, four, long) in
     let rest_long : length rest ≡ 4 * (left - 1) = omega (arith, sum, four, long) in
     let after : Section = section_with s counts in
-    let next : Block = rest_or_end after size (4 * (left - 1)) in
+    let next : Block = unread_or_end after size (4 * (left - 1)) in
     let Q : ℕ → Type 0 = λ n.
-    Walks (Blocks (rest_or_end after size n)) rest (Blocks (b.End after size)) [] in
+    Walks (Blocks (unread_or_end after size n)) rest (Blocks (b.End after size)) [] in
     record {
       place = b.Option s size left counts;
       stepped = some_left s size left counts some;
       walks = followed (b.Option s size left counts) next (b.End after size) head rest
           (one (b.Option s size left counts) next head refl four (rw (eq-eqb _ 0 code) refl))
-          (subst Q rest_long (rest_walk after size rest));
+          (subst Q rest_long (unread_walk after size rest));
     }
 
 -- what an option that says nothing of times comes to
@@ -338,7 +338,7 @@ options_walk : (s : Section) (size left counts to : ℕ) (options : List ℕ)
 options_walk s size left counts to options (no_option _) long =
     let none : left ≡ 0 = omega (arith, long) in
     record {
-      place = rest_or_end (section_with s counts) size (4 * left);
+      place = unread_or_end (section_with s counts) size (4 * left);
       stepped = rw none refl;
       walks = rw none (stays (Blocks (b.End (section_with s counts) size)));
     }
@@ -431,7 +431,7 @@ other_walk s bytes o =
     let k = o.block in
     let n : ℕ = number s.order k.size in
     let ok = sized s.order k.size 12 (length o.body) k.size_is k.even (omega arith) in
-    let next : Block = rest_or_end s n (n - 12) in
+    let next : Block = unread_or_end s n (n - 12) in
     let Q : List ℕ → Type 0 = λ x. Walks (Blocks (b.Kind s)) x (Blocks (b.Kind s)) [] in
     subst Q (sym (k.is ∙ append_assoc (o.kind ++ k.size) o.body k.again))
     (followed (b.Kind s) next (b.Kind s) (o.kind ++ k.size) (o.body ++ k.again)
@@ -500,15 +500,15 @@ blocks_or within behind None = refl
 record_over : (s : Section) (size left start count : ℕ) (packet : List ℕ) (items : List Seen)
     → IsRecord start count packet items
     → Walks (Blocks (b.Packet s size left (RtacSeconds start count))) packet
-    (Blocks (rest_or_end s size left)) items
+    (Blocks (unread_or_end s size left)) items
 unfolding field_at block_field_at
 record_over s size left start count packet items r = record {
   is = record_walk takes_bytes field_at byte_at (λ body. Blocks (b.Packet s size left body))
-      (Blocks (rest_or_end s size left)) (λ body. refl)
+      (Blocks (unread_or_end s size left)) (λ body. refl)
       (λ body field. ap (λ x. Ok (x, (body_field_at body field).1))
-      (blocks_or (b.Packet s size left) (rest_or_end s size left) (body_field_at body field).0))
+      (blocks_or (b.Packet s size left) (unread_or_end s size left) (body_field_at body field).0))
       (λ body byte. ap (λ x. Ok (x, (body_byte_at body byte).1))
-      (blocks_or (b.Packet s size left) (rest_or_end s size left) (body_byte_at body byte).0))
+      (blocks_or (b.Packet s size left) (unread_or_end s size left) (body_byte_at body byte).0))
       start count packet items r;
 }
 
@@ -615,7 +615,7 @@ packet_walk s bytes items e =
     let ok = sized s.order k.size 44 (length ((front ++ e.packet) ++ e.rest)) k.size_is k.even
     (omega (arith, body_long)) in
     let packet : Block = b.Packet s n left (RtacSeconds e.start e.count) in
-    let next : Block = rest_or_end s n left in
+    let next : Block = unread_or_end s n left in
     let Q : List ℕ → Type 0 = λ x. Walks (Blocks (b.Kind s)) x (Blocks (b.Kind s)) items in
     let R : List Seen → Type 0 = λ x. Walks (Blocks (b.Kind s))
     (((e.kind ++ k.size) ++ (front ++ e.packet)) ++ (e.rest ++ k.again)) (Blocks (b.Kind s)) x in

@@ -130,7 +130,7 @@ AtBlock (b.Low s size high) text items = LowAs s size high text items
 AtBlock (b.Captured s size start) text items = CapturedAs s size start text items
 AtBlock (b.Original s size start captured) text items = OriginalAs s size start captured text items
 AtBlock (b.Packet s size left body) text items = AtPacket s size left body text items
-AtBlock (b.Rest s size left) text items = (0 < left) × RestsAs s size left text items
+AtBlock (b.Unread s size left) text items = (0 < left) × RestsAs s size left text items
 AtBlock (b.End s size) text items = EndsAs s size text items
 
 -- what a field makes of a file so far; a refusal is no end of it

@@ -64,7 +64,7 @@ block_ends (b.Low s size high) file items at m = cc
 block_ends (b.Captured s size start) file items at m = cc
 block_ends (b.Original s size start taken) file items at m = cc
 block_ends (b.Packet s size left body) file items at m = cc
-block_ends (b.Rest s size left) file items at m = cc
+block_ends (b.Unread s size left) file items at m = cc
 block_ends (b.End s size) file items at m = cc
 
 -- where a file may end, it is one

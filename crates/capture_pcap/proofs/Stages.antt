@@ -402,7 +402,7 @@ byte_goes stage front items b (blocks block bytes _ at live) h =
 block_byte_taken : (block : Block) (byte : ℕ) (why : PcapFault) → block_takes_bytes block ≡ true
     → block_byte_at block byte ≡ Err why → ⊥
 block_byte_taken (b.Packet s size left body) byte why h e = cc
-block_byte_taken (b.Rest s size left) byte why h e = cc
+block_byte_taken (b.Unread s size left) byte why h e = cc
 block_byte_taken b.SectionSize byte why h e = cc
 block_byte_taken (b.SectionOrder big_size little_size) byte why h e = cc
 block_byte_taken (b.Kind s) byte why h e = cc

@@ -32,7 +32,7 @@ Stepped = Result (Block × Option Seen) PcapFault
 -- whether single bytes come next, and no field of four
 abbrev pub takes_bytes : Block → Bool
 takes_bytes (b.Packet section size left body) = takes_data body
-takes_bytes (b.Rest section size left) = true
+takes_bytes (b.Unread section size left) = true
 takes_bytes _ = false
 
 -- whether a block of at least this many bytes may have this length
@@ -79,7 +79,7 @@ is_sound (b.Captured section size start) = nat_le 44 size
 is_sound (b.Original section size start captured) =
     nat_le 12 captured && nat_le (captured + 32) size
 is_sound (b.Packet section size left body) = has_more body
-is_sound (b.Rest section size left) = nat_lt 0 left
+is_sound (b.Unread section size left) = nat_lt 0 left
 is_sound b.SectionSize = true
 is_sound (b.SectionOrder big little) = is_size big 28 || is_size little 28
 is_sound (b.Kind section) = true
@@ -90,15 +90,15 @@ IsSoundStep (Ok next) = is_sound next.0 ≡ true
 IsSoundStep (Err why) = Unit {0}
 
 -- this many bytes that say nothing here, and the end of the block
-abbrev pub rest_or_end : Section → ℕ → ℕ → Block
-rest_or_end section size left =
-    if nat_lt 0 left then b.Rest section size left else b.End section size
+abbrev pub unread_or_end : Section → ℕ → ℕ → Block
+unread_or_end section size left =
+    if nat_lt 0 left then b.Unread section size left else b.End section size
 
 abbrev pub in_section : Order → ℕ → Stepped
 in_section order size =
     if is_size size 28
     then Ok (
-      rest_or_end (fresh order) size (size - 16),
+      unread_or_end (fresh order) size (size - 16),
       None,
     )
     else Err WrongSize
@@ -130,7 +130,7 @@ after_size section InterfaceKind size =
 after_size section PacketKind size =
     if is_size size 44 then Ok (b.Interface section size, None) else Err WrongSize
 after_size section OtherKind size =
-    if is_size size 12 then Ok (rest_or_end section size (size - 12), None) else Err WrongSize
+    if is_size size 12 then Ok (unread_or_end section size (size - 12), None) else Err WrongSize
 
 abbrev pub after_link : Section → ℕ → ℕ → Stepped
 after_link section size link =
@@ -138,7 +138,7 @@ after_link section size link =
 
 abbrev pub after_options : Section → ℕ → ℕ → ℕ → Stepped
 after_options section size left counts =
-    Ok (rest_or_end (section_with section counts) size (4 * left), None)
+    Ok (unread_or_end (section_with section counts) size (4 * left), None)
 
 abbrev pub next_option_at : Section → ℕ → ℕ → ℕ → Stepped
 next_option_at section size left counts =
@@ -194,7 +194,7 @@ after_original section size start captured original =
 -- after a field or a byte of a packet
 abbrev pub after_body : Section → ℕ → ℕ → Next → Stepped
 after_body section size left next =
-    Ok (body_or (b.Packet section size left) (rest_or_end section size left) next.0, next.1)
+    Ok (body_or (b.Packet section size left) (unread_or_end section size left) next.0, next.1)
 
 abbrev pub after_interface : Section → ℕ → ℕ → Stepped
 after_interface section size interface =
@@ -241,14 +241,14 @@ block_field_at (b.Original section size start captured) field =
     after_original section size start captured (number section.order field)
 block_field_at (b.Packet section size left body) field =
     after_body section size left (body_field_at body field)
-block_field_at (b.Rest section size left) field = Err NoMagic
+block_field_at (b.Unread section size left) field = Err NoMagic
 block_field_at (b.End section size) field =
     after_end section size (number section.order field)
 
 abbrev pub block_byte_at : Block → ℕ → Stepped
 block_byte_at (b.Packet section size left body) byte =
     after_body section size left (body_byte_at body byte)
-block_byte_at (b.Rest section size left) byte = Ok (rest_or_end section size (left - 1), None)
+block_byte_at (b.Unread section size left) byte = Ok (unread_or_end section size (left - 1), None)
 block_byte_at _ byte = Err NoMagic
 
 -- a file may end before a block

@@ -3,7 +3,7 @@
 
 ghost use Rattle.std.specs.Prelude.{◌≡◌, ◌+◌, ◌*◌, ◌<◌, ◌≤◌, ◌^◌, length, true, false, Some, None};
 ghost use Rattle.capture_pcap.specs.BlockStep.{block_field_at, block_byte_at, takes_bytes};
-ghost use Rattle.capture_pcap.specs.BlockStep.{is_sound, IsSoundStep, is_head, rest_or_end, is_size};
+ghost use Rattle.capture_pcap.specs.BlockStep.{is_sound, IsSoundStep, is_head, unread_or_end, is_size};
 ghost use Rattle.capture_pcap.specs.BlockStep.{after_order, after_kind, after_size, after_link};
 ghost use Rattle.capture_pcap.specs.BlockStep.{after_options, next_option_at};
 ghost use Rattle.capture_pcap.specs.BlockStep.{after_option, after_value, after_resolution};
@@ -75,7 +75,7 @@ pub enum Block {
     /// The packet itself, and then this many bytes.
     Packet(Section, u32, u32, Body),
     /// This many bytes that say nothing here.
-    Rest(Section, u32, u32),
+    Unread(Section, u32, u32),
     /// The length of the block again.
     End(Section, u32),
 }
@@ -85,12 +85,12 @@ pub type Step = Result<(Block, Option<Seen>), PcapFault>;
 
 /// This many bytes that say nothing here, and the end of the block.
 #[inline]
-fn rest(section: Section, size: u32, left: u32) -> Block
-    ensures rest { result ≡ rest_or_end section size left }
+fn unread(section: Section, size: u32, left: u32) -> Block
+    ensures unread { result ≡ unread_or_end section size left }
     ensures sound { is_sound result ≡ true }
 {
     if left > 0 {
-        Block::Rest(section, size, left)
+        Block::Unread(section, size, left)
     } else {
         Block::End(section, size)
     }
@@ -135,7 +135,7 @@ fn after_order(word: &[u8], big: u32, little: u32) -> Step
         interfaces: 0,
         counts: 1000,
     };
-    Ok((rest(section, size, size - 16), None))
+    Ok((unread(section, size, size - 16), None))
 }
 
 /// What comes after the kind of a block.
@@ -165,7 +165,7 @@ fn after_size(section: Section, kind: Kind, size: u32) -> Step
     match kind {
         Kind::Interface if is_size(size, 20) => Ok((Block::Link(section, size), None)),
         Kind::Packet if is_size(size, 44) => Ok((Block::Interface(section, size), None)),
-        Kind::Other if is_size(size, 12) => Ok((rest(section, size, size - 12), None)),
+        Kind::Other if is_size(size, 12) => Ok((unread(section, size, size - 12), None)),
         _ => Err(PcapFault::Size),
     }
 }
@@ -194,7 +194,10 @@ fn after_options(section: Section, size: u32, left: u32, counts: u32) -> Step
     ensures step { result ≡ after_options section size left counts }
     ensures sound { IsSoundStep result }
 {
-    Ok((rest(with_interface(section, counts), size, 4 * left), None))
+    Ok((
+        unread(with_interface(section, counts), size, 4 * left),
+        None,
+    ))
 }
 
 /// What comes after an option, with this many fields left.
@@ -353,7 +356,7 @@ fn behind(section: Section, size: u32, left: u32, next: Next) -> Step
 {
     match next.0 {
         Some(body) => Ok((Block::Packet(section, size, left, body), next.1)),
-        None => Ok((rest(section, size, left), next.1)),
+        None => Ok((unread(section, size, left), next.1)),
     }
 }
 
@@ -394,7 +397,7 @@ impl Block {
     {
         match self {
             Block::Packet(_, _, _, body) => body.is_data(),
-            Block::Rest(..) => true,
+            Block::Unread(..) => true,
             _ => false,
         }
     }
@@ -409,7 +412,7 @@ impl Block {
     {
         match self {
             Block::Packet(section, size, left, body) => behind(section, size, left, body.byte(b)),
-            Block::Rest(section, size, left) => Ok((rest(section, size, left - 1), None)),
+            Block::Unread(section, size, left) => Ok((unread(section, size, left - 1), None)),
             _ => unreachable!(),
         }
     }
@@ -471,7 +474,7 @@ impl Block {
             Block::Packet(section, size, left, body) => {
                 behind(section, size, left, body.field(word))
             }
-            Block::Rest(..) => unreachable!(),
+            Block::Unread(..) => unreachable!(),
             Block::End(section, size) => {
                 if section.order.number(word) == size {
                     Ok((Block::Kind(section), None))

@@ -30,12 +30,12 @@ fn number_from(value: u64, digits: &[u8]) -> Option<u64>
 {
     match digits {
         [] => Some(value),
-        [digit, rest @ ..] => {
+        [digit, following @ ..] => {
             if !is_digit(*digit) {
                 return None;
             }
             match with_digit(value, *digit) {
-                Some(value) => number_from(value, rest),
+                Some(value) => number_from(value, following),
                 None => None,
             }
         }
@@ -49,12 +49,12 @@ fn fraction_from(time: u64, counts: u64, digits: &[u8]) -> Option<u64>
 {
     match digits {
         [] => Some(time),
-        [digit, rest @ ..] => {
+        [digit, following @ ..] => {
             if !is_digit(*digit) {
                 return None;
             }
             match with_fraction(time, counts, *digit) {
-                Some(time) => fraction_from(time, counts / 10, rest),
+                Some(time) => fraction_from(time, counts / 10, following),
                 None => None,
             }
         }

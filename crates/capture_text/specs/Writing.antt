@@ -7,8 +7,8 @@ use Rattle.capture_text.specs.CaptureText.{point}
 
 -- the digits of a number that counts of these sizes make
 abbrev pub digits_by : List ℕ → ℕ → List ℕ
-digits_by [] rest = []
-digits_by (counts ∷ more) rest = (48 + rest / counts) ∷ digits_by more (rest % counts)
+digits_by [] remainder = []
+digits_by (counts ∷ more) remainder = (48 + remainder / counts) ∷ digits_by more (remainder % counts)
 
 -- nine digits of nanoseconds
 abbrev pub fraction_digits : ℕ → List ℕ

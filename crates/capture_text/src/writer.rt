@@ -16,15 +16,15 @@ const SECOND: u64 = 1_000_000_000;
 pub type LineFront = ArrayVec<u8, 32>;
 
 /// Appends the digit that counts how often `counts` fits, and returns the remainder.
-fn push_digit(front: &mut LineFront, rest: u32, counts: u32) -> u32
+fn push_digit(front: &mut LineFront, remainder: u32, counts: u32) -> u32
     requires room { length front.old.items < 32 }
     requires some { 0 < counts }
-    requires digit { rest < 10 * counts }
-    ensures digit { front.new.items ≡ front.old.items ++ (48 + rest / counts) ∷ [] }
-    ensures rest { result ≡ rest % counts }
+    requires digit { remainder < 10 * counts }
+    ensures digit { front.new.items ≡ front.old.items ++ (48 + remainder / counts) ∷ [] }
+    ensures remainder { result ≡ remainder % counts }
 {
-    front.push(b'0' + (rest / counts) as u8);
-    rest % counts
+    front.push(b'0' + (remainder / counts) as u8);
+    remainder % counts
 }
 
 /// Appends the nine digits of nanoseconds behind a point.
@@ -33,15 +33,15 @@ fn push_fraction(front: &mut LineFront, nanoseconds: u32)
     requires digits { nanoseconds < 1000000000 }
     ensures { front.new.items ≡ front.old.items ++ fraction_digits nanoseconds }
 {
-    let rest = push_digit(front, nanoseconds, 100_000_000);
-    let rest = push_digit(front, rest, 10_000_000);
-    let rest = push_digit(front, rest, 1_000_000);
-    let rest = push_digit(front, rest, 100_000);
-    let rest = push_digit(front, rest, 10_000);
-    let rest = push_digit(front, rest, 1_000);
-    let rest = push_digit(front, rest, 100);
-    let rest = push_digit(front, rest, 10);
-    push_digit(front, rest, 1);
+    let remainder = push_digit(front, nanoseconds, 100_000_000);
+    let remainder = push_digit(front, remainder, 10_000_000);
+    let remainder = push_digit(front, remainder, 1_000_000);
+    let remainder = push_digit(front, remainder, 100_000);
+    let remainder = push_digit(front, remainder, 10_000);
+    let remainder = push_digit(front, remainder, 1_000);
+    let remainder = push_digit(front, remainder, 100);
+    let remainder = push_digit(front, remainder, 10);
+    push_digit(front, remainder, 1);
 }
 
 /// Appends a number.

@@ -10,7 +10,7 @@ use Rattle.frame_ending.specs.LiveBytes.{live_bytes}
 use Rattle.frame_ending.specs.SoFar.{last_burst, live_bytes_so_far, start_so_far}
 use Rattle.frame_ending.specs.Stands.{StandsFor as CutStandsFor, ticks_taken as ticks_cut}
 use Rattle.{hmac_tag.specs.declared.tag.Mac.Ghosts as Mac, line_rules.specs.Rules.Rules}
-use Rattle.line_rules.specs.{Rules.left_of, declared.line_rules.LineRules.Ghosts as LineRules}
+use Rattle.line_rules.specs.{Rules.lacking_of, declared.line_rules.LineRules.Ghosts as LineRules}
 use Rattle.link_format.specs.{Profile.Profile, Profile.profile_of, Setup.Setup}
 use Rattle.link_verdicts.specs.{Holding.trailer_so_far, Verdicts.trailer_of, Verdicts.whole_verdict}
 use Rattle.link_verdicts.specs.declared.note.CheckNote.{CheckNote, TheVariants.Passed}
@@ -92,7 +92,7 @@ module _ {R M : Type 0} (proto : LineRules R) (macs : Mac M) {B D : ℕ} (old : 
       → TurnedRefused proto told new step.tick
       → ((link : List Tick) → CutStandsFor proto told.cut link
       → new.earliest_start ≡ length link + told.until
-      + left_of rules (live_bytes_so_far rules link))
+      + lacking_of rules (live_bytes_so_far rules link))
       → ((link : List Tick) → CutStandsFor proto told.cut link
       → step.note ≡ Some (Refused (start_so_far link) why))
       → HasTaken proto macs new last setup line t step
@@ -100,7 +100,7 @@ module _ {R M : Type 0} (proto : LineRules R) (macs : Mac M) {B D : ℕ} (old : 
       let link : List Tick = line ++ t ∷ [] in
       let T : Checker R M B D → Type 0 = λ v. TurnedRefused proto v new step.tick in
       let E : Checker R M B D → Type 0 = λ v. CutStandsFor proto v.cut link
-      → new.earliest_start ≡ length link + v.until + left_of rules (live_bytes_so_far rules link) in
+      → new.earliest_start ≡ length link + v.until + lacking_of rules (live_bytes_so_far rules link) in
       let N : Checker R M B D → Type 0 = λ v. CutStandsFor proto v.cut link
       → step.note ≡ Some (Refused (start_so_far link) why) in
       refuse-taken proto macs after last setup line t whole.byte hears-after new step

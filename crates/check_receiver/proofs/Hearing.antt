@@ -17,7 +17,7 @@ use Rattle.frame_ending.specs.SoFar.{last_burst, live_bytes_in, live_bytes_so_fa
 use Rattle.frame_ending.specs.{SoFar.start_so_far, Stands.StandsFor as CutStandsFor}
 use Rattle.frame_ending.specs.{Stands.ticks_taken as ticks_cut, declared.cut.Cut.TheVariants.Extra}
 use Rattle.hmac_tag.specs.{Tag.direction_number, declared.tag.Mac.Ghosts as Mac}
-use Rattle.line_rules.specs.Rules.{Rules, left_of}
+use Rattle.line_rules.specs.Rules.{Rules, lacking_of}
 use Rattle.line_rules.specs.declared.line_rules.LineRules.{Ghosts as LineRules}
 use Rattle.link_format.specs.Profile.{Profile, profile_of, IsWordLen, delay, pause_len, trailer_len}
 use Rattle.{link_format.specs.Setup.Setup, link_verdicts.proofs.Opened.IsOpen}
@@ -270,7 +270,7 @@ module _ {R M : Type 0} (proto : LineRules R) (macs : Mac M) {B D : ℕ} (old : 
   module _ (new : Checker R M B D) (step : BoxStep CheckNote)
       (refuses : TurnedRefused proto old new step.tick)
       (earliest : new.earliest_start ≡ length (line ++ t ∷ []) + old.until
-      + left_of rules (live_bytes_so_far rules (line ++ t ∷ [])))
+      + lacking_of rules (live_bytes_so_far rules (line ++ t ∷ [])))
       (why : RefusedWhy)
       (noted : step.note ≡ Some (Refused (start_so_far (line ++ t ∷ [])) why)) where
     refused-taken : Goes profile rules setup.floor line (Byte b)
@@ -284,7 +284,7 @@ module _ {R M : Type 0} (proto : LineRules R) (macs : Mac M) {B D : ℕ} (old : 
         let base : Checker R M B D = refused_with old refuses.outlet new.earliest_start in
         let turned = refuses.turned in
         let turn' = turn base new step.tick turned refuses.owed refl refl in
-        let lacks = ap (λ o. left_of rules (live_bytes_in rules o)) next-last in
+        let lacks = ap (λ o. lacking_of rules (live_bytes_in rules o)) next-last in
         let line_long = longer-line line t in
         let long = until-long in
         let end = extra-end it b is-extra in

@@ -121,7 +121,7 @@ module _ {R M : Type 0} (proto : LineRules R) (macs : Mac M) {B D : ℕ} where
         let after : I new.phase = subst I (sym turned.phase)
         (settles proto profile setup.floor (length (line ++ t ∷ [])) ds state base.until left live
         new.outlet waiting base.phase goes.walked knows waits_is until_is stays) in
-        subst P (sym turned.rest)
+        subst P (sym turned.others)
         (record {
           stands = record {
             word_is = word_is;

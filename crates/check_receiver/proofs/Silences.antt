@@ -9,7 +9,7 @@ use Rattle.frame_ending.proofs.{Dividing.longer-line, LastBurst.last_burst-silen
 use Rattle.frame_ending.specs.{LiveBytes.live_bytes, LiveBytes.live_end, SoFar.last_burst}
 use Rattle.frame_ending.specs.SoFar.{start_in, start_so_far, live_bytes_in, live_bytes_so_far}
 use Rattle.{frame_ending.specs.declared.cut.Cut.Cut, hmac_tag.specs.declared.tag.Mac.Ghosts as Mac}
-use Rattle.line_rules.specs.{Rules.left_of, declared.line_rules.LineRules.Ghosts as LineRules}
+use Rattle.line_rules.specs.{Rules.lacking_of, declared.line_rules.LineRules.Ghosts as LineRules}
 use Rattle.link_format.specs.{Profile.Profile, Profile.profile_of, Profile.delay, Setup.Setup}
 use Rattle.link_verdicts.proofs.Opened.{opens-of, last-of, long-of, more-of, unowed-of, bytes-of}
 use Rattle.link_verdicts.proofs.Opened.{goes-as, bytes-next, silent-goes, silent-breaks}
@@ -101,7 +101,7 @@ module _ {R M : Type 0} (proto : LineRules R) (macs : Mac M) {B D : ℕ} (old : 
     (step : BoxStep CheckNote)
     (refuses : TurnedRefused proto old new step.tick)
     (earliest : new.earliest_start ≡ length (line ++ Silent ∷ []) + old.until
-    + left_of proto.rules (live_bytes_so_far proto.rules (line ++ Silent ∷ [])))
+    + lacking_of proto.rules (live_bytes_so_far proto.rules (line ++ Silent ∷ [])))
     (noted : step.note ≡ Some (Refused (start_so_far (line ++ Silent ∷ [])) Trailer)) where
   abbrev refusing : Profile
   refusing = profile_of proto macs B LIMIT setup
@@ -124,7 +124,7 @@ module _ {R M : Type 0} (proto : LineRules R) (macs : Mac M) {B D : ℕ} (old : 
       (stands-unowed proto refuses.outlet left none) between.walks.ring_is none
       (not-last proto macs old last setup line Silent cut between more) more in
       let whose = waits-last proto macs old last setup line cut between d is in
-      let lacks = ap (λ o. left_of proto.rules (live_bytes_in proto.rules o)) whose in
+      let lacks = ap (λ o. lacking_of proto.rules (live_bytes_in proto.rules o)) whose in
       let line_long = longer-line line Silent in
       let one = between.one_less in
       let until_is = between.walks.until_is in

@@ -9,7 +9,7 @@ is_open Idle = false
 is_open Open = true
 is_open (Leaving passed) = false
 
--- whether what leaves is the rest of a burst that passes
+-- whether a burst that passes is leaving, behind its verdict
 abbrev pub passes_in : Phase → Bool
 passes_in Idle = false
 passes_in Open = false
@@ -22,7 +22,7 @@ is_idle Open = false
 is_idle (Leaving passed) = false
 
 -- What is left to leave: live ticks, the last of them so many steps from now, and so many bytes of
--- a fill. Nothing while the receiver is idle, and something while the rest of a burst leaves.
+-- a fill. Nothing while the receiver is idle, and something while a noted burst still leaves.
 abbrev pub LeftIn : Phase → ℕ → ℕ → Type 0
 LeftIn Idle until owed = (until ≡ 0) × (owed ≡ 0)
 LeftIn Open until owed = Unit {0}

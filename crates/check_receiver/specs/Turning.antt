@@ -16,11 +16,11 @@ use Rattle.check_receiver.specs.Phases.{passes_in, settled}
 use Rattle.check_receiver.specs.declared.checker.Checker.{Checker}
 use Rattle.check_receiver.specs.declared.phase.Phase.TheVariants.{Idle, Leaving}
 
--- A tick has entered the ring, and this one has left. Where the rest of a burst has left then, the
+-- A tick has entered the ring, and this one has left. Where all of a burst has left then, the
 -- receiver is idle; all else is as it was.
 pub record Turned {R M : Type 0} {B D : ℕ} (proto : LineRules R) (old new : Checker R M B D)
     (entering answer : Tick) : Type 0 where
-  pub rest : new ≡ record old { ring = new.ring; outlet = new.outlet; phase = new.phase }
+  pub others : new ≡ record old { ring = new.ring; outlet = new.outlet; phase = new.phase }
   pub ring : ring_ticks new.ring ≡ drop 1 (ring_ticks old.ring) ++ entering ∷ []
   pub out : (x : List ℕ) → OutletStandsFor proto old.outlet x
       → HasTurned proto old.outlet new.outlet (old.until == 0) (passes_in old.phase) x answer
@@ -42,8 +42,8 @@ pub record TurnedClear {R M : Type 0} {B D : ℕ} (proto : LineRules R) (old new
 abbrev pub with_until : {R M : Type 0} {B D : ℕ} → ℕ → Checker R M B D → Checker R M B D
 with_until n old = record old { until = n }
 
--- with this outlet, the rest of a burst that doesn't pass leaves, and the next burst may start from
--- this tick on
+-- with this outlet, what follows of a burst that doesn't pass leaves, and the next burst may start
+-- from this tick on
 abbrev pub refused : {R M : Type 0} {B D : ℕ} → Checker R M B D → Outlet R → ℕ → Checker R M B D
 refused old outlet earliest = record old {
   phase = Leaving false;

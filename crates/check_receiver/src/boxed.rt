@@ -56,10 +56,10 @@ impl<R: LineRules, M: Mac, const B: usize, const D: usize> LinkBox for Checker<R
     }
 
     #[inline(always)]
-    fn pass(&mut self, run: TickRun<'_>, left: &mut RunBytes) -> usize {
+    fn pass(&mut self, run: TickRun<'_>, sent: &mut RunBytes) -> usize {
         match run {
-            TickRun::Bytes(bytes) => self.pass_bytes(bytes, left),
-            TickRun::Silence(ticks) => self.pass_silence(ticks, left) as usize,
+            TickRun::Bytes(bytes) => self.pass_bytes(bytes, sent),
+            TickRun::Silence(ticks) => self.pass_silence(ticks, sent) as usize,
         }
     }
 }

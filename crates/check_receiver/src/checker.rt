@@ -146,54 +146,54 @@ impl<R: LineRules, M: Mac, const B: usize, const D: usize> Checker<R, M, B, D> {
     }
 
     /// Takes the first of these bytes, one a tick, as far as no note falls into their steps and
-    /// what leaves is alike, all bytes or all silence. Returns how many; `left` gets the bytes that
+    /// what leaves is alike, all bytes or all silence. Returns how many; `sent` gets the bytes that
     /// leave, one for each, or none where silence leaves. With 0 the caller goes on by `step`.
     #[inline(never)]
-    pub fn pass_bytes(&mut self, bytes: &[u8], left: &mut RunBytes) -> usize
+    pub fn pass_bytes(&mut self, bytes: &[u8], sent: &mut RunBytes) -> usize
         requires { ticks_taken self.old + length bytes.now ≤ MAX_TICKS }
         ensures within { result ≤ length bytes.now }
         ensures taken { ticks_taken self.new ≡ ticks_taken self.old + result }
         ensures run { (last : ℕ) (setup : Setup) (line : List Tick)
             → StandsAt R.LineRules M.Mac self.old last setup line
             → HasTakenRun R.LineRules M.Mac self.new last setup line
-            (map Byte (take result bytes.now)) (answered result left.new.items) }
+            (map Byte (take result bytes.now)) (answered result sent.new.items) }
         ensures direction { direction_of self.new ≡ direction_of self.old }
     {
-        left.clear();
+        sent.clear();
         match self.phase {
-            Phase::Idle => self.start_some(bytes, left),
+            Phase::Idle => self.start_some(bytes, sent),
             Phase::Open => {
                 if self.cut.live_over() {
-                    return self.hear_trailer(bytes, left);
+                    return self.hear_trailer(bytes, sent);
                 }
-                self.follow(bytes, left)
+                self.follow(bytes, sent)
             }
-            Phase::Leaving { .. } => self.pass_over(bytes, left),
+            Phase::Leaving { .. } => self.pass_over(bytes, sent),
         }
     }
 
     /// Takes the first of this many silent ticks, as far as no note falls into their steps and what
-    /// leaves is alike, all bytes or all silence. Returns how many; `left` gets the bytes that
+    /// leaves is alike, all bytes or all silence. Returns how many; `sent` gets the bytes that
     /// leave, one for each, or none where silence leaves. With 0 the caller goes on by `step`.
     #[inline(never)]
-    pub fn pass_silence(&mut self, ticks: u32, left: &mut RunBytes) -> u32
+    pub fn pass_silence(&mut self, ticks: u32, sent: &mut RunBytes) -> u32
         requires { ticks_taken self.old + ticks ≤ MAX_TICKS }
         ensures within { result ≤ ticks }
         ensures taken { ticks_taken self.new ≡ ticks_taken self.old + result }
         ensures run { (last : ℕ) (setup : Setup) (line : List Tick)
             → StandsAt R.LineRules M.Mac self.old last setup line
             → HasTakenRun R.LineRules M.Mac self.new last setup line
-            (silent result) (answered result left.new.items) }
+            (silent result) (answered result sent.new.items) }
         ensures direction { direction_of self.new ≡ direction_of self.old }
     {
-        left.clear();
+        sent.clear();
         match self.phase {
             Phase::Idle => {
                 self.cut.wait_some(ticks);
                 ticks
             }
-            Phase::Open => self.pause_some(ticks, left),
-            Phase::Leaving { .. } => self.rest_some(ticks, left),
+            Phase::Open => self.pause_some(ticks, sent),
+            Phase::Leaving { .. } => self.rest_some(ticks, sent),
         }
     }
 
@@ -209,8 +209,8 @@ impl<R: LineRules, M: Mac, const B: usize, const D: usize> Checker<R, M, B, D> {
         }
     }
 
-    // What leaves in this step, where the tick `t` enters the ring. The receiver is idle once the
-    // rest of a burst has left.
+    // What leaves in this step, where the tick `t` enters the ring. The receiver is idle once all
+    // of a burst has left.
     #[inline]
     fn turn(&mut self, t: Tick) -> Tick
         ensures { Turned R.LineRules self.old self.new t result }
@@ -223,7 +223,7 @@ impl<R: LineRules, M: Mac, const B: usize, const D: usize> Checker<R, M, B, D> {
     // What leaves, through the outlet.
     #[inline]
     fn let_out(&mut self, t: Tick) -> Tick
-        ensures rest { self.new
+        ensures others { self.new
             ≡ record self.old { ring = self.new.ring; outlet = self.new.outlet } }
         ensures ring { ring_ticks self.new.ring ≡ drop 1 (ring_ticks self.old.ring) ++ t ∷ [] }
         ensures out { (x : List ℕ) → OutletStandsFor R.LineRules self.old.outlet x

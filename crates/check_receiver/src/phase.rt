@@ -3,16 +3,16 @@ ghost use Rattle.std.specs.Prelude.{◌≡◌};
 ghost use Rattle.check_receiver.specs.Phases.{is_idle, is_open, passes_in, settled};
 
 /// What a receiver is in. The first byte of a burst that isn't too soon opens it, and the burst's
-/// note ends that. The receiver then is idle at once where nothing of the burst leaves, and else as
-/// soon as its rest has left.
+/// note ends that. The receiver is then idle as soon as all of the burst that leaves has left,
+/// which is at once where nothing of it does.
 #[derive(Clone, Copy)]
 pub enum Phase {
     /// No verdict is open, and nothing is left to leave.
     Idle,
     /// The verdict on a burst is open.
     Open,
-    /// The verdict on a burst is known, whether it passes or is refused, and its rest still leaves:
-    /// live ticks, and behind those of a refused one a fill.
+    /// The verdict on a burst is known, whether it passes or is refused, and live ticks of it are
+    /// still leaving, or the fill behind those of a refused one.
     Leaving { passed: bool },
 }
 
@@ -39,7 +39,7 @@ impl Phase {
         }
     }
 
-    /// Whether what leaves is the rest of a burst that passes.
+    /// Whether a burst that passes is leaving, behind its verdict.
     #[inline]
     pub fn passes(self) -> bool
         ensures { result ≡ passes_in self }
@@ -51,7 +51,7 @@ impl Phase {
     }
 
     /// What it is in where the last live tick leaves so many steps from now, and a fill is owed or
-    /// none: once the rest of a burst has left, it is idle.
+    /// none: once all of a burst has left, it is idle.
     #[inline]
     pub fn settled(self, until: u8, owes: bool) -> Phase
         ensures { result ≡ settled self until owes }

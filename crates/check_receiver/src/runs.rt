@@ -73,13 +73,13 @@ pub fn begin_well<R: LineRules>(bytes: &[u8]) -> bool
 // Lends the bytes that leave in the next ticks, this many and none of them a burst's last one. The
 // ticks are alike, and where they are silent it lends none.
 #[inline]
-pub fn lend<const D: usize>(ring: &DelayRing<D>, count: usize, left: &mut RunBytes)
+pub fn lend<const D: usize>(ring: &DelayRing<D>, count: usize, sent: &mut RunBytes)
     requires within { count ≤ D }
     requires alike { AreAlike (take count (ring_ticks ring.now)) }
-    requires empty { left.old.items ≡ [] }
-    ensures { IsFront (ring_ticks ring.now) count left.new.items }
+    requires empty { sent.old.items ≡ [] }
+    ensures { IsFront (ring_ticks ring.now) count sent.new.items }
 {
-    let _ = left.try_extend_from_slice(ring.alike_bytes(count));
+    let _ = sent.try_extend_from_slice(ring.alike_bytes(count));
 }
 
 // How many bytes a run has at most.
@@ -112,19 +112,19 @@ pub fn lend_along<const D: usize>(
     ring: &DelayRing<D>,
     bytes: &[u8],
     count: usize,
-    left: &mut RunBytes,
+    sent: &mut RunBytes,
 )
     requires within { count ≤ length bytes.now }
     requires most { count ≤ 64 }
     requires alike { AreAlike (take count (ring_ticks ring.now ++ map Byte bytes.now)) }
-    requires empty { left.old.items ≡ [] }
-    ensures { IsFront (ring_ticks ring.now ++ map Byte bytes.now) count left.new.items }
+    requires empty { sent.old.items ≡ [] }
+    ensures { IsFront (ring_ticks ring.now ++ map Byte bytes.now) count sent.new.items }
 {
     let front = ring.alike_bytes(count.min(D));
-    let _ = left.try_extend_from_slice(front);
+    let _ = sent.try_extend_from_slice(front);
     if front.len() < D {
         return;
     }
     let behind = &bytes[..count - D];
-    let _ = left.try_extend_from_slice(behind);
+    let _ = sent.try_extend_from_slice(behind);
 }

@@ -305,7 +305,7 @@ module _ {R : Type 0} (proto : LineRules R) (first second cut : ℕ) where
       -- or after which the device has lost what it had taken
       module _ (hunted : IsHunted first second its)
           (parts : old.silence.quiet + 1 == old.silence.cut ≡ true)
-          (empty : held_by new.device ≡ []) (left : new.device.left ≡ 0) where
+          (empty : held_by new.device ≡ []) (lacking : new.device.lacking ≡ 0) where
         abbrev all_frames : List FrameRead
         all_frames = heard.frames ++ hunt first second its 0 heard.since
 
@@ -336,7 +336,7 @@ module _ {R : Type 0} (proto : LineRules R) (first second cut : ℕ) where
                 since = [];
                 is = subst P (sym parted-quiet) since-anew;
                 heard = nothing-held proto first second hunted new.device []
-                    (nothing-goes proto first second hunted) empty left;
+                    (nothing-goes proto first second hunted) empty lacking;
               };
               is = still cut all_frames [] since-anew
                   (sym (append-nil all_frames)

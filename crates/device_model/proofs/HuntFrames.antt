@@ -11,7 +11,7 @@ use Rattle.device_model.specs.{Hunt.bytes_taken, Hunt.header_in, HuntLaws.IsHunt
 use Rattle.device_model.specs.HuntingDevice.{header_begun, StartsAt, HeardBy, TakesRun, frame_at}
 use Rattle.device_model.specs.HuntingDevice.{HasRoom, GoesBehind, held_by}
 use Rattle.device_model.specs.declared.hunting.HuntingDevice.{HuntingDevice}
-use Rattle.line_rules.specs.Rules.{Rules, head_of, left_of, left_by}
+use Rattle.line_rules.specs.Rules.{Rules, head_of, lacking_of, lacking_by}
 use Rattle.line_rules.specs.declared.head.Head.{Head}
 use Rattle.line_rules.specs.declared.head.Head.TheVariants.{Short, Good, Bad}
 use Rattle.line_rules.specs.declared.line_rules.LineRules.{Ghosts as LineRules}
@@ -20,10 +20,10 @@ use Rattle.std.proofs.Common.{length, refl, sym, ap, subst, arith, length-append
 use Rattle.std.proofs.lemmas.Bool.{cases_lt, cases_Bool, cond-true, cond-false, false≢true}
 use Rattle.std.proofs.lemmas.List.{take_all, length-take-le}
 
-left-good : (head : Head) (n : ℕ) → 0 < left_by head n → head ≡ Good
-left-good Good n some = refl
-left-good Short n some = absurd (omega arith)
-left-good Bad n some = absurd (omega arith)
+lacking-good : (head : Head) (n : ℕ) → 0 < lacking_by head n → head ≡ Good
+lacking-good Good n some = refl
+lacking-good Short n some = absurd (omega arith)
+lacking-good Bad n some = absurd (omega arith)
 
 module _ {R : Type 0} (proto : LineRules R) (first second : ℕ)
     (hunted : IsHunted first second proto.rules) where
@@ -38,14 +38,14 @@ module _ {R : Type 0} (proto : LineRules R) (first second : ℕ)
 
   -- ---- bytes behind a header that has begun
 
-  module _ (old : HuntingDevice R) (some : 0 < old.left) (x : List Timed)
+  module _ (old : HuntingDevice R) (some : 0 < old.lacking) (x : List Timed)
       (heard : Heard old x) where
     begun : begins first second (held_by old) ≡ true
     begun =
         ⊎_elim
         (λ is. is)
         (λ none.
-        let is : old.left ≡ 0 = heard.lacks ∙ cond-false _ _ _ none in absurd (omega arith))
+        let is : old.lacking ≡ 0 = heard.lacks ∙ cond-false _ _ _ none in absurd (omega arith))
         (cases_Bool (begins first second (held_by old)))
 
     unlent : old.lends ≡ false
@@ -63,7 +63,7 @@ module _ {R : Type 0} (proto : LineRules R) (first second : ℕ)
     pub items-begin : begins first second old.bytes.items ≡ true
     items-begin = ap (begins first second) (sym items-held) ∙ begun
 
-    pub items-lack : old.left ≡ bytes_taken first second its old.bytes.items
+    pub items-lack : old.lacking ≡ bytes_taken first second its old.bytes.items
         - length old.bytes.items
     items-lack =
         heard.lacks
@@ -98,8 +98,8 @@ module _ {R : Type 0} (proto : LineRules R) (first second : ℕ)
         (cases_lt (length b) its.header_len)
 
   -- Of bytes behind a header that has begun at most as many as are lacking are held, too.
-  module _ (old mid : HuntingDevice R) (y : List ℕ) (some : 0 < old.left)
-      (within : length y ≤ old.left) (lends : mid.lends ≡ old.lends)
+  module _ (old mid : HuntingDevice R) (y : List ℕ) (some : 0 < old.lacking)
+      (within : length y ≤ old.lacking) (lends : mid.lends ≡ old.lends)
       (bytes : length old.bytes.items + length y ≤ 292
       → mid.bytes.items ≡ old.bytes.items ++ y) where
     module _ (x : List Timed) (heard : Heard old x) where
@@ -132,7 +132,7 @@ module _ {R : Type 0} (proto : LineRules R) (first second : ℕ)
 
     -- some are lacking still
     pub lacking-run : (at : ℕ) → mid.ticks ≡ old.ticks → mid.start ≡ old.start
-        → mid.rules ≡ old.rules → mid.left + length y ≡ old.left → 0 < mid.left
+        → mid.rules ≡ old.rules → mid.lacking + length y ≡ old.lacking → 0 < mid.lacking
         → Takes old mid at y []
     lacking-run at ticks start rules less more =
         held-run proto first second hunted old mid at old.bytes.items y [] ticks (λ x heard.
@@ -145,13 +145,13 @@ module _ {R : Type 0} (proto : LineRules R) (first second : ℕ)
         let same = taken-stays first second its proto.headed hunted b y starts few in
         let still : begins first second w ≡ true = grown-begins x heard in
         let taken : length w < bytes_taken first second its w = omega arith in
-        let left : mid.left ≡ bytes_taken first second its w - length w = omega arith in
+        let lacking : mid.lacking ≡ bytes_taken first second its w - length w = omega arith in
         record {
           was = items-held old some x heard;
           fronts = fronts-of proto first second hunted b y still (omega arith);
           undecided = header_begun w still taken;
           bytes = grown-held x heard;
-          left = left ∙ sym (cond-true _ _ _ still);
+          lacking = lacking ∙ sym (cond-true _ _ _ still);
           stands = λ long.
               ⊎_elim
               (λ short.
@@ -168,11 +168,11 @@ module _ {R : Type 0} (proto : LineRules R) (first second : ℕ)
 
     -- None is lacking any more, and they are more than a header: the frame is whole.
     module _ (new : HuntingDevice R) (frames : List FrameRead) (start : mid.start ≡ old.start)
-        (rules : mid.rules ≡ old.rules) (all : length y ≡ old.left)
+        (rules : mid.rules ≡ old.rules) (all : length y ≡ old.lacking)
         (behind : length mid.bytes.items ≡ its.header_len → ⊥)
         (goes : its.header_len ≤ length mid.bytes.items
         → proto.stands mid.rules (header_in its mid.bytes.items) → HasRoom its mid.bytes.items
-        → (held_by new ≡ []) × (new.left ≡ 0) × (frames ≡ frame_at its mid.start mid.bytes.items))
+        → (held_by new ≡ []) × (new.lacking ≡ 0) × (frames ≡ frame_at its mid.start mid.bytes.items))
       where
         module _ (x : List Timed) (heard : Heard old x) where
           frame-long : its.header_len ≤ length old.bytes.items
@@ -213,7 +213,7 @@ module _ {R : Type 0} (proto : LineRules R) (first second : ℕ)
               ∙ header-more its old.bytes.items y frame-long))
               (items-stand old some x heard frame-long))
 
-          frame-gone : (held_by new ≡ []) × (new.left ≡ 0)
+          frame-gone : (held_by new ≡ []) × (new.lacking ≡ 0)
               × (frames ≡ frame_at its mid.start mid.bytes.items)
           frame-gone =
               let sum = length-append old.bytes.items y in
@@ -230,14 +230,14 @@ module _ {R : Type 0} (proto : LineRules R) (first second : ℕ)
               starts = grown-begins x heard;
               all = frame-taken x heard;
               none = (frame-gone x heard).0;
-              left = (frame-gone x heard).1;
+              lacking = (frame-gone x heard).1;
               gives = (frame-gone x heard).2
                   ∙ (ap (λ s. frame_at its s mid.bytes.items) start
                   ∙ ap (frame_at its old.start) (grown x heard));
             })
 
     -- None is lacking any more of a header.
-    module _ (start : mid.start ≡ old.start) (all : length y ≡ old.left)
+    module _ (start : mid.start ≡ old.start) (all : length y ≡ old.lacking)
         (whole : length mid.bytes.items ≡ its.header_len) where
       module _ (x : List Timed) (heard : Heard old x) where
         header-within : length (old.bytes.items ++ y)
@@ -257,7 +257,7 @@ module _ {R : Type 0} (proto : LineRules R) (first second : ℕ)
 
       -- more follows
       module _ (new : HuntingDevice R) (frames : Bool → List FrameRead)
-          (none : frames false ≡ []) (reads : Bool) (more : 0 < left_of its mid.bytes.items)
+          (none : frames false ≡ []) (reads : Bool) (more : 0 < lacking_of its mid.bytes.items)
           (goes : HasRoom its mid.bytes.items → GoesBehind proto mid new reads) where
         module _ (x : List Timed) (heard : Heard old x) where
           behind-is : GoesBehind proto mid new reads
@@ -265,17 +265,17 @@ module _ {R : Type 0} (proto : LineRules R) (first second : ℕ)
 
           behind-lacks : (bytes_taken first second its mid.bytes.items
               ≡ its.size mid.bytes.items)
-              × (left_of its mid.bytes.items ≡ its.size mid.bytes.items - length mid.bytes.items)
+              × (lacking_of its mid.bytes.items ≡ its.size mid.bytes.items - length mid.bytes.items)
           behind-lacks =
               let m : List ℕ = mid.bytes.items in
               let starts : begins first second m ≡ true =
               ap (begins first second) (grown x heard) ∙ grown-begins x heard in
               let good : head_of its m ≡ Good =
-              left-good (head_of its m) (its.size m - length m) more in (
+              lacking-good (head_of its m) (its.size m - length m) more in (
                 taken-is first second its Good m starts good
                     ∙ sym (good-size first second its proto.headed hunted m (omega arith)
                     (good-header its m good)),
-                ap (λ h. left_by h (its.size m - length m)) good,
+                ap (λ h. lacking_by h (its.size m - length m)) good,
               )
 
         pub header-run : (at : ℕ) → new.ticks ≡ old.ticks → Takes old new at y (frames reads)
@@ -293,8 +293,8 @@ module _ {R : Type 0} (proto : LineRules R) (first second : ℕ)
             ap (bytes_taken first second its) (sym same) in
             let still : begins first second w ≡ true = grown-begins x heard in
             let few : length w < bytes_taken first second its w = omega arith in
-            let left : new.left ≡ bytes_taken first second its w - length w =
-            is.left ∙ (omega arith) in
+            let lacking : new.lacking ≡ bytes_taken first second its w - length w =
+            is.lacking ∙ (omega arith) in
             record {
               was = items-held old some x heard;
               fronts = fronts-of proto first second hunted old.bytes.items y still
@@ -302,7 +302,7 @@ module _ {R : Type 0} (proto : LineRules R) (first second : ℕ)
               undecided = header_begun w still few;
               bytes = cond-false _ _ _ (is.lends ∙ (lends ∙ unlent old some x heard))
                   ∙ (is.bytes ∙ same);
-              left = left ∙ sym (cond-true _ _ _ still);
+              lacking = lacking ∙ sym (cond-true _ _ _ still);
               stands = λ long.
                   subst (proto.stands new.rules)
                   (same ∙ sym (take_all its.header_len w (omega arith))) is.stands;
@@ -314,12 +314,12 @@ module _ {R : Type 0} (proto : LineRules R) (first second : ℕ)
 
       -- or none does
       module _ (new : HuntingDevice R) (frames : List FrameRead)
-          (none : left_of its mid.bytes.items ≡ 0)
+          (none : lacking_of its mid.bytes.items ≡ 0)
           (goes : HasRoom its mid.bytes.items
-          → (held_by new ≡ []) × (new.left ≡ 0)
+          → (held_by new ≡ []) × (new.lacking ≡ 0)
           × (frames ≡ frame_at its mid.start mid.bytes.items)) where
         bare-by : (head : Head) (w : List ℕ) → head_of its w ≡ head
-            → begins first second w ≡ true → length w ≡ its.header_len → left_of its w ≡ 0
+            → begins first second w ≡ true → length w ≡ its.header_len → lacking_of its w ≡ 0
             → bytes_taken first second its w ≡ length w
         bare-by Good w is starts size lacks =
             let taken = taken-is first second its Good w starts is in
@@ -327,7 +327,7 @@ module _ {R : Type 0} (proto : LineRules R) (first second : ℕ)
             let long : its.header_len ≤ length w = omega arith in
             let says = good-size first second its proto.headed hunted w long
             (good-header its w is) in
-            let by = ap (λ h. left_by h (its.size w - length w)) is in
+            let by = ap (λ h. lacking_by h (its.size w - length w)) is in
             omega arith
         bare-by Short w is starts size lacks =
             let short = short-short its w is in absurd (omega arith)
@@ -346,9 +346,9 @@ module _ {R : Type 0} (proto : LineRules R) (first second : ℕ)
               some = grown-some x heard;
               starts = grown-begins x heard;
               all = bare-by (head_of its w) w refl (grown-begins x heard)
-                  (ap length (sym same) ∙ whole) (ap (left_of its) (sym same) ∙ none);
+                  (ap length (sym same) ∙ whole) (ap (lacking_of its) (sym same) ∙ none);
               none = gone.0;
-              left = gone.1;
+              lacking = gone.1;
               gives = gone.2
                   ∙ (ap (λ s. frame_at its s mid.bytes.items) start
                   ∙ ap (frame_at its old.start) same);

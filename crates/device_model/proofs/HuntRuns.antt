@@ -172,36 +172,36 @@ module _ {R : Type 0} (proto : LineRules R) (first second : ℕ)
   -- ---- bytes where no header begins
 
   -- a byte with which none begins
-  pub passed-byte : (old new : HuntingDevice R) (at b : ℕ) → new.ticks ≡ old.ticks → old.left ≡ 0
+  pub passed-byte : (old new : HuntingDevice R) (at b : ℕ) → new.ticks ≡ old.ticks → old.lacking ≡ 0
       → (length (held_by old) ≡ 1 → b ≡ second → ⊥) → (b ≡ first → ⊥)
-      → held_by new ≡ [] → new.left ≡ 0 → Takes old new at (b ∷ []) []
-  passed-byte old new at b ticks unbegun other not_first empty left =
+      → held_by new ≡ [] → new.lacking ≡ 0 → Takes old new at (b ∷ []) []
+  passed-byte old new at b ticks unbegun other not_first empty lacking =
       byte-run old new at b [] ticks
       (λ x heard. passes-hears proto first second hunted old (record { tick = at; byte = b }) x
-      heard unbegun other not_first new empty left)
+      heard unbegun other not_first new empty lacking)
       (λ x heard. passes-reads proto first second hunted old (record { tick = at; byte = b }) x
       heard unbegun other not_first)
 
-  pub begun-byte : (old new : HuntingDevice R) (at b : ℕ) → new.ticks ≡ old.ticks → old.left ≡ 0
+  pub begun-byte : (old new : HuntingDevice R) (at b : ℕ) → new.ticks ≡ old.ticks → old.lacking ≡ 0
       → (length (held_by old) ≡ 1 → b ≡ second → ⊥) → b ≡ first
-      → held_by new ≡ b ∷ [] → new.left ≡ 0 → new.start ≡ at → Takes old new at (b ∷ []) []
-  begun-byte old new at b ticks unbegun other is_first is left start =
+      → held_by new ≡ b ∷ [] → new.lacking ≡ 0 → new.start ≡ at → Takes old new at (b ∷ []) []
+  begun-byte old new at b ticks unbegun other is_first is lacking start =
       byte-run old new at b [] ticks
       (λ x heard. begins-hears proto first second hunted old (record { tick = at; byte = b }) x
-      heard unbegun other is_first new is left start)
+      heard unbegun other is_first new is lacking start)
       (λ x heard. begins-reads proto first second hunted old (record { tick = at; byte = b }) x
       heard unbegun other is_first)
 
   pub passes-run : (value : HuntingDevice R) (at : ℕ) (y : List ℕ) → held_by value ≡ []
-      → value.left ≡ 0 → ((k : ℕ) → k < length y → get_or y k 0 ≡ first → ⊥)
+      → value.lacking ≡ 0 → ((k : ℕ) → k < length y → get_or y k 0 ≡ first → ⊥)
       → Takes value value at y []
-  passes-run value at [] empty left other = no-run value at
-  passes-run value at (b ∷ y) empty left other =
+  passes-run value at [] empty lacking other = no-run value at
+  passes-run value at (b ∷ y) empty lacking other =
       let none = ap length empty in
       joined-run value value value at (at + 1) (b ∷ []) y [] (omega arith)
-      (passed-byte value value at b refl left (λ one. absurd (omega arith))
-      (λ is. other 0 (omega arith) is) empty left)
-      (passes-run value (at + 1) y empty left (λ k below is. other (suc k) (omega arith) is))
+      (passed-byte value value at b refl lacking (λ one. absurd (omega arith))
+      (λ is. other 0 (omega arith) is) empty lacking)
+      (passes-run value (at + 1) y empty lacking (λ k below is. other (suc k) (omega arith) is))
 
   -- ---- bytes that are held with those before them
 
@@ -212,7 +212,7 @@ module _ {R : Type 0} (proto : LineRules R) (first second : ℕ)
     pub fronts : (n : ℕ) → n < length y → Undecided (b ++ take n y)
     pub undecided : Undecided (b ++ y)
     pub bytes : held_by new ≡ b ++ y
-    pub left : new.left ≡ bytes_lacking first second its (b ++ y)
+    pub lacking : new.lacking ≡ bytes_lacking first second its (b ++ y)
     pub stands : its.header_len ≤ length (b ++ y)
         → proto.stands new.rules (header_in its (b ++ y))
     pub starts : (held : List Timed) → timed_bytes held ≡ b → StartsAt old.start held
@@ -251,7 +251,7 @@ module _ {R : Type 0} (proto : LineRules R) (first second : ℕ)
           held = heard.held ++ run at y;
           goes_on = front-goes old at b is.was x heard y is.undecided;
           bytes_are = is.bytes ∙ sym (bytes-all old at b is.was x heard y);
-          lacks = is.left ∙ sym (ap (bytes_lacking first second its) is.bytes);
+          lacks = is.lacking ∙ sym (ap (bytes_lacking first second its) is.bytes);
           stands = λ long.
               let same = ap length is.bytes in
               subst (λ u. proto.stands new.rules (header_in its u)) (sym is.bytes)
@@ -298,16 +298,16 @@ module _ {R : Type 0} (proto : LineRules R) (first second : ℕ)
 
   pub begun-run : (old new : HuntingDevice R) (at : ℕ) → held_by old ≡ []
       → new.ticks ≡ old.ticks → held_by new ≡ first ∷ second ∷ []
-      → new.left ≡ its.header_len - 2 → new.start ≡ at
+      → new.lacking ≡ its.header_len - 2 → new.start ≡ at
       → Takes old new at (first ∷ second ∷ []) []
-  begun-run old new at empty ticks bytes left start =
+  begun-run old new at empty ticks bytes lacking start =
       let within = hunted.start_within in
       held-run old new at [] (first ∷ second ∷ []) [] ticks (λ x heard. record {
         was = empty;
         fronts = fronts-two;
         undecided = two-undecided proto first second hunted;
         bytes = bytes;
-        left = left ∙ sym (two-lack proto first second hunted);
+        lacking = lacking ∙ sym (two-lack proto first second hunted);
         stands = λ long. absurd (omega arith);
         starts = λ held none before.
             starts-there new.start at (second ∷ []) first start held none;
@@ -317,8 +317,8 @@ module _ {R : Type 0} (proto : LineRules R) (first second : ℕ)
   -- the second one after the first
   pub second-run : (old new : HuntingDevice R) (at b : ℕ) → b ≡ second → new.ticks ≡ old.ticks
       → length (held_by old) ≡ 1 → held_by new ≡ held_by old ++ b ∷ []
-      → new.left ≡ its.header_len - 2 → new.start ≡ old.start → Takes old new at (b ∷ []) []
-  second-run old new at b is ticks one bytes left start =
+      → new.lacking ≡ its.header_len - 2 → new.start ≡ old.start → Takes old new at (b ∷ []) []
+  second-run old new at b is ticks one bytes lacking start =
       let within = hunted.start_within in
       subst (λ c. Takes old new at (c ∷ []) []) (sym is)
       (held-run old new at (first ∷ []) (second ∷ []) [] ticks (λ x heard.
@@ -330,7 +330,7 @@ module _ {R : Type 0} (proto : LineRules R) (first second : ℕ)
             subst (λ k. Undecided (first ∷ take k (second ∷ []))) (sym none) first_byte;
         undecided = two-undecided proto first second hunted;
         bytes = bytes ∙ (ap (λ u. u ++ b ∷ []) was ∙ ap (λ c. first ∷ c ∷ []) is);
-        left = left ∙ sym (two-lack proto first second hunted);
+        lacking = lacking ∙ sym (two-lack proto first second hunted);
         stands = λ long. absurd (omega arith);
         starts = λ held same before.
             let count = ap length same in
@@ -363,7 +363,7 @@ module _ {R : Type 0} (proto : LineRules R) (first second : ℕ)
     pub starts : begins first second (b ++ y) ≡ true
     pub all : bytes_taken first second its (b ++ y) ≡ length (b ++ y)
     pub none : held_by new ≡ []
-    pub left : new.left ≡ 0
+    pub lacking : new.lacking ≡ 0
     pub gives : frames ≡ frame_at its old.start (b ++ y)
 
   module _ (old new : HuntingDevice R) (at : ℕ) (b y : List ℕ) (frames : List FrameRead)
@@ -393,7 +393,7 @@ module _ {R : Type 0} (proto : LineRules R) (first second : ℕ)
         let is = ends x heard in
         nothing-held proto first second hunted new (x ++ run at y)
         (goes-after proto first second hunted x heard.held [] (run at y) frames heard.goes_on
-        nothing (end-steps old new at b y frames x heard is)) is.none is.left;
+        nothing (end-steps old new at b y frames x heard is)) is.none is.lacking;
     reads = λ x heard.
         let is = ends x heard in
         reads-after proto first second hunted x heard.held [] (run at y) frames heard.goes_on
@@ -417,9 +417,9 @@ module _ {R : Type 0} (proto : LineRules R) (first second : ℕ)
         timed-append 0 old.ticks line (bytes_of z) (omega arith)
 
     pub run-stands : (after : HuntingDevice R) → after.ticks ≡ old.ticks + length y
-        → after.rules ≡ new.rules → held_by after ≡ held_by new → after.left ≡ new.left
+        → after.rules ≡ new.rules → held_by after ≡ held_by new → after.lacking ≡ new.lacking
         → after.start ≡ new.start → HuntStandsFor proto first second after (line ++ bytes_of y)
-    run-stands after ticks rules bytes left start =
+    run-stands after ticks rules bytes lacking start =
         let sum = length-append line (bytes_of y) in
         let long = length-map {A = ℕ} {B = Tick} y (λ b. Byte b) in
         let count = heard.count in
@@ -427,7 +427,7 @@ module _ {R : Type 0} (proto : LineRules R) (first second : ℕ)
           count = omega arith;
           heard = subst (λ u. HeardBy proto first second after u) (sym (line-run y))
               (same-heard proto first second hunted new after (timed 0 line ++ run old.ticks y)
-              rules bytes left start (takes.hears (timed 0 line) heard.heard));
+              rules bytes lacking start (takes.hears (timed 0 line) heard.heard));
         }
 
     pub run-reads : hunts (timed 0 (line ++ bytes_of y)) ≡ hunts (timed 0 line) ++ frames

@@ -160,26 +160,26 @@ module _ {R : Type 0} (proto : LineRules R) (first second : ℕ)
 
   -- a device that holds the same has heard the same
   pub same-heard : (old new : HuntingDevice R) (x : List Timed) → new.rules ≡ old.rules
-      → held_by new ≡ held_by old → new.left ≡ old.left → new.start ≡ old.start
+      → held_by new ≡ held_by old → new.lacking ≡ old.lacking → new.start ≡ old.start
       → Heard old x → Heard new x
-  same-heard old new x rules bytes left start heard =
-      subst (λ r. HasHeard proto first second r (held_by new) new.left new.start x) (sym rules)
-      (subst (λ b. HasHeard proto first second old.rules b new.left new.start x) (sym bytes)
-      (subst (λ n. HasHeard proto first second old.rules (held_by old) n new.start x) (sym left)
-      (subst (λ s. HasHeard proto first second old.rules (held_by old) old.left s x) (sym start)
+  same-heard old new x rules bytes lacking start heard =
+      subst (λ r. HasHeard proto first second r (held_by new) new.lacking new.start x) (sym rules)
+      (subst (λ b. HasHeard proto first second old.rules b new.lacking new.start x) (sym bytes)
+      (subst (λ n. HasHeard proto first second old.rules (held_by old) n new.start x) (sym lacking)
+      (subst (λ s. HasHeard proto first second old.rules (held_by old) old.lacking s x) (sym start)
       heard)))
 
   -- nothing is held, whatever the rules have taken
   pub nothing-held : (value : HuntingDevice R) (x : List Timed) → GoesOn first second its x []
-      → held_by value ≡ [] → value.left ≡ 0 → Heard value x
-  nothing-held value x goes empty left =
+      → held_by value ≡ [] → value.lacking ≡ 0 → Heard value x
+  nothing-held value x goes empty lacking =
       let none = ap length empty in
       let within = hunted.start_within in
       record {
         held = [];
         goes_on = goes;
         bytes_are = empty;
-        lacks = left ∙ sym (ap (bytes_lacking first second its) empty);
+        lacks = lacking ∙ sym (ap (bytes_lacking first second its) empty);
         stands = λ long. absurd (omega arith);
         starts = tt;
       }
@@ -194,11 +194,11 @@ module _ {R : Type 0} (proto : LineRules R) (first second : ℕ)
       cond-true _ _ _ starts in
       absurd (omega arith)
 
-  pub held-few : (old : HuntingDevice R) (x : List Timed) → Heard old x → old.left ≡ 0
+  pub held-few : (old : HuntingDevice R) (x : List Timed) → Heard old x → old.lacking ≡ 0
       → length (held_by old) < 2
-  held-few old x heard left =
+  held-few old x heard lacking =
       unbegun-few (held_by old) (subst Undecided (sym heard.bytes_are) heard.goes_on.undecided)
-      (sym heard.lacks ∙ left)
+      (sym heard.lacks ∙ lacking)
 
   one-held : (y : List ℕ) → Undecided y → length y ≡ 1 → y ≡ first ∷ []
   one-held y nothing one = cc
@@ -234,7 +234,7 @@ module _ {R : Type 0} (proto : LineRules R) (first second : ℕ)
   -- ---- what is held goes, and the byte may be a first one
 
   module _ (old : HuntingDevice R) (t : Timed) (x : List Timed) (heard : Heard old x)
-      (unbegun : old.left ≡ 0)
+      (unbegun : old.lacking ≡ 0)
       (other : length (held_by old) ≡ 1 → t.byte ≡ second → ⊥) where
     forgets : (held : List Timed) → held_by old ≡ timed_bytes held → (z : List Timed)
         → hunts (held ++ t ∷ z) ≡ hunts (t ∷ z)
@@ -257,11 +257,11 @@ module _ {R : Type 0} (proto : LineRules R) (first second : ℕ)
           ∙ hunt-no_start first second its t z
           (begins-other first second t.byte (timed_bytes z) not_first)
 
-      pub passes-hears : (rest : HuntingDevice R) → held_by rest ≡ [] → rest.left ≡ 0
+      pub passes-hears : (rest : HuntingDevice R) → held_by rest ≡ [] → rest.lacking ≡ 0
           → Heard rest (x ++ t ∷ [])
-      passes-hears rest empty left =
+      passes-hears rest empty lacking =
           nothing-held rest (x ++ t ∷ [])
-          (goes-after x heard.held [] (t ∷ []) [] heard.goes_on nothing steps-out) empty left
+          (goes-after x heard.held [] (t ∷ []) [] heard.goes_on nothing steps-out) empty lacking
 
       pub passes-reads : hunts (x ++ t ∷ []) ≡ hunts x ++ []
       passes-reads = reads-after x heard.held [] (t ∷ []) [] heard.goes_on nothing steps-out
@@ -274,9 +274,9 @@ module _ {R : Type 0} (proto : LineRules R) (first second : ℕ)
       steps-in : (z : List Timed) → hunts (heard.held ++ t ∷ z) ≡ [] ++ hunts (t ∷ [] ++ z)
       steps-in z = forgets heard.held heard.bytes_are z
 
-      pub begins-hears : (rest : HuntingDevice R) → held_by rest ≡ t.byte ∷ [] → rest.left ≡ 0
+      pub begins-hears : (rest : HuntingDevice R) → held_by rest ≡ t.byte ∷ [] → rest.lacking ≡ 0
           → rest.start ≡ t.tick → Heard rest (x ++ t ∷ [])
-      begins-hears rest is left at =
+      begins-hears rest is lacking at =
           let one = ap length is in
           let within = hunted.start_within in
           record {
@@ -284,7 +284,7 @@ module _ {R : Type 0} (proto : LineRules R) (first second : ℕ)
             goes_on = goes-after x heard.held (t ∷ [])
                 (t ∷ []) [] heard.goes_on one-undecided steps-in;
             bytes_are = is;
-            lacks = left ∙ sym (ap (bytes_lacking first second its) is);
+            lacks = lacking ∙ sym (ap (bytes_lacking first second its) is);
             stands = λ long. absurd (omega arith);
             starts = at;
           }
@@ -301,11 +301,11 @@ module _ {R : Type 0} (proto : LineRules R) (first second : ℕ)
     undecided = nothing;
   }
 
-  pub heard-nothing : (value : HuntingDevice R) → held_by value ≡ [] → value.left ≡ 0
+  pub heard-nothing : (value : HuntingDevice R) → held_by value ≡ [] → value.lacking ≡ 0
       → value.ticks ≡ 0 → HuntStandsFor proto first second value []
-  heard-nothing value empty left count = record {
+  heard-nothing value empty lacking count = record {
     count = count;
-    heard = nothing-held value [] nothing-goes empty left;
+    heard = nothing-held value [] nothing-goes empty lacking;
   }
 
   abbrev Stands : HuntingDevice R → List Tick → Type 0

@@ -1,7 +1,7 @@
 -- The device that hunts, and what it has heard.
 use Rattle.std.specs.Prelude.{◌≡◌, ℕ, ◌-◌, ◌<◌, Bool, true, false, List, [], ◌∷◌, ◌++◌, length}
 use Rattle.std.specs.Prelude.{if◌then◌else◌, ◌≤◌, map, take}
-use Rattle.line_rules.specs.Rules.{Rules, fills_room, left_of}
+use Rattle.line_rules.specs.Rules.{Rules, fills_room, lacking_of}
 use Rattle.line_rules.specs.declared.line_rules.LineRules.{Ghosts as LineRules}
 use Rattle.yasir_ticks.specs.declared.tick.Tick.{Tick}
 use Rattle.yasir_ticks.specs.declared.tick.Tick.TheVariants.{Byte}
@@ -44,17 +44,17 @@ held_by value = if value.lends then [] else value.bytes.items
 module _ {R : Type 0} (proto : LineRules R) (first second : ℕ) where
   -- A device that holds these bytes, from this tick on, and lacks so many, has heard such bytes.
   -- The rules have taken the header, once that is whole.
-  pub record HasHeard (rules : R) (bytes : List ℕ) (left start : ℕ) (x : List Timed) : Type 0 where
+  pub record HasHeard (rules : R) (bytes : List ℕ) (lacking start : ℕ) (x : List Timed) : Type 0 where
     pub held : List Timed
     pub goes_on : GoesOn first second proto.rules x held
     pub bytes_are : bytes ≡ timed_bytes held
-    pub lacks : left ≡ bytes_lacking first second proto.rules bytes
+    pub lacks : lacking ≡ bytes_lacking first second proto.rules bytes
     pub stands : proto.rules.header_len ≤ length bytes
         → proto.stands rules (header_in proto.rules bytes)
     pub starts : StartsAt start held
 
   abbrev pub HeardBy : HuntingDevice R → List Timed → Type 0
-  HeardBy value x = HasHeard value.rules (held_by value) value.left value.start x
+  HeardBy value x = HasHeard value.rules (held_by value) value.lacking value.start x
 
   -- it has heard this line
   pub record HuntStandsFor (value : HuntingDevice R) (line : List Tick) : Type 0 where
@@ -95,7 +95,7 @@ HasRoom rules x = (n : ℕ) → n < length x → fills_room rules (take n x) ≡
 pub record LetsGo {R : Type 0} (rules : Rules) (start : ℕ) (x : List ℕ) (new : HuntingDevice R)
     (reads : Bool) : Type 0 where
   pub none : held_by new ≡ []
-  pub left : new.left ≡ 0
+  pub lacking : new.lacking ≡ 0
   pub frames : frames_told reads new.start new.bytes.items ≡ frame_at rules start x
 
 -- It goes on with a header, which the rules have taken.
@@ -104,6 +104,6 @@ pub record GoesBehind {R : Type 0} (proto : LineRules R) (old new : HuntingDevic
   pub start : new.start ≡ old.start
   pub bytes : new.bytes.items ≡ old.bytes.items
   pub lends : new.lends ≡ old.lends
-  pub left : new.left ≡ left_of proto.rules old.bytes.items
+  pub lacking : new.lacking ≡ lacking_of proto.rules old.bytes.items
   pub stands : proto.stands new.rules old.bytes.items
   pub none : reads ≡ false

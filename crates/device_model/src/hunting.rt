@@ -30,7 +30,7 @@ pub struct HuntingDevice<R> {
     start: u64,
     lends: bool,
     // how many bytes are lacking of a header that has begun, or of the frame behind it; else 0
-    left: u16,
+    lacking: u16,
     // the header by the rules, once it is whole: what follows they take when all of it is there
     rules: R,
 }
@@ -53,7 +53,7 @@ fn bytes_before(byte: u8, bytes: &[u8]) -> usize
 
 impl<R: Hunted> HuntingDevice<R> {
     ghost use Rattle.std.specs.Prelude.{◌+◌, ◌-◌, false, List, [], ◌∷◌, ◌++◌, take};
-    ghost use Rattle.line_rules.specs.Rules.{left_of};
+    ghost use Rattle.line_rules.specs.Rules.{lacking_of};
     ghost use Rattle.device_model.specs.Frames.{frames_lent};
     ghost use Rattle.device_model.specs.Hunt.{Timed, header_in};
     ghost use Rattle.device_model.specs.HuntingDevice.{HeardBy, TakesRun, frames_told};
@@ -73,7 +73,7 @@ impl<R: Hunted> HuntingDevice<R> {
         ensures ticks { self.new.ticks ≡ self.old.ticks }
         ensures start { self.new.start ≡ self.old.start }
         ensures lends { self.new.lends ≡ self.old.lends }
-        ensures left { self.new.left ≡ self.old.left }
+        ensures lacking { self.new.lacking ≡ self.old.lacking }
         ensures rules { self.new.rules ≡ self.old.rules }
         ensures bytes { length self.old.bytes.items + length bytes.now ≤ 292
             → self.new.bytes.items ≡ self.old.bytes.items ++ bytes.now }
@@ -89,22 +89,22 @@ impl<R: Hunted> HuntingDevice<R> {
         ensures rules { self.new.rules ≡ self.old.rules }
         ensures bytes { self.new.bytes.items ≡ [] }
         ensures lends { self.new.lends ≡ false }
-        ensures left { self.new.left ≡ 0 }
+        ensures lacking { self.new.lacking ≡ 0 }
     {
         self.bytes.clear();
         self.lends = false;
-        self.left = 0;
+        self.lacking = 0;
     }
 
     // Lends a frame no longer.
     #[inline]
     fn let_go(&mut self)
-        requires { self.old.left ≡ 0 }
+        requires { self.old.lacking ≡ 0 }
         ensures ticks { self.new.ticks ≡ self.old.ticks }
         ensures hears { (x : List Timed) → HeardBy R.LineRules R.FIRST R.SECOND self.old x
             → HeardBy R.LineRules R.FIRST R.SECOND self.new x }
         ensures lends { self.new.lends ≡ false }
-        ensures left { self.new.left ≡ 0 }
+        ensures lacking { self.new.lacking ≡ 0 }
     {
         if self.lends {
             self.lose();
@@ -116,7 +116,7 @@ impl<R: Hunted> HuntingDevice<R> {
     #[inline]
     fn end(&mut self) -> bool
         ensures ticks { self.new.ticks ≡ self.old.ticks }
-        ensures goes { self.old.left ≡ 0 → R.rules.header_len ≤ length self.old.bytes.items
+        ensures goes { self.old.lacking ≡ 0 → R.rules.header_len ≤ length self.old.bytes.items
             → R.stands self.old.rules (header_in R.rules self.old.bytes.items)
             → HasRoom R.rules self.old.bytes.items
             → LetsGo R.rules self.old.start self.old.bytes.items self.new result }
@@ -137,17 +137,17 @@ impl<R: Hunted> HuntingDevice<R> {
     fn meet_header(&mut self) -> bool
         ensures ticks { self.new.ticks ≡ self.old.ticks }
         ensures behind { HasRoom R.rules self.old.bytes.items
-            → 0 < left_of R.rules self.old.bytes.items
+            → 0 < lacking_of R.rules self.old.bytes.items
             → GoesBehind R.LineRules self.old self.new result }
         ensures goes { HasRoom R.rules self.old.bytes.items
             → length self.old.bytes.items ≡ R.rules.header_len
-            → left_of R.rules self.old.bytes.items ≡ 0
+            → lacking_of R.rules self.old.bytes.items ≡ 0
             → LetsGo R.rules self.old.start self.old.bytes.items self.new result }
     {
         self.rules.restart();
         self.rules.take_some(self.bytes.as_slice());
-        self.left = self.rules.left();
-        if self.left == 0 {
+        self.lacking = self.rules.lacking();
+        if self.lacking == 0 {
             return self.end();
         }
         false
@@ -156,18 +156,18 @@ impl<R: Hunted> HuntingDevice<R> {
     // The first of these bytes where a header has begun: as many as are lacking of it, or of the
     // frame behind it.
     #[inline]
-    fn go_on(&mut self, rest: &[u8]) -> Part
-        requires { 0 < self.old.left }
-        ensures some { 0 < length rest.now → 0 < result.taken }
-        ensures within { result.taken ≤ length rest.now }
+    fn go_on(&mut self, following: &[u8]) -> Part
+        requires { 0 < self.old.lacking }
+        ensures some { 0 < length following.now → 0 < result.taken }
+        ensures within { result.taken ≤ length following.now }
         ensures takes { (at : ℕ) → TakesRun R.LineRules R.FIRST R.SECOND self.old self.new at
-            (take result.taken rest.now)
+            (take result.taken following.now)
             (frames_told result.reads self.new.start self.new.bytes.items) }
     {
-        let taken = rest.len().min(usize::from(self.left));
-        self.keep(&rest[..taken]);
-        self.left -= taken as u16;
-        if self.left > 0 {
+        let taken = following.len().min(usize::from(self.lacking));
+        self.keep(&following[..taken]);
+        self.lacking -= taken as u16;
+        if self.lacking > 0 {
             return Part {
                 taken,
                 reads: false,
@@ -183,23 +183,23 @@ impl<R: Hunted> HuntingDevice<R> {
 
     // A header begins with the first two of these bytes.
     #[inline]
-    fn begin_header(&mut self, at: u64, rest: &[u8]) -> Part
+    fn begin_header(&mut self, at: u64, following: &[u8]) -> Part
         requires none { self.old.bytes.items ≡ [] }
         requires lends { self.old.lends ≡ false }
-        requires two { 2 ≤ length rest.now }
-        requires first { slice_index rest.now 0 ≡ R.FIRST }
-        requires second { slice_index rest.now 1 ≡ R.SECOND }
+        requires two { 2 ≤ length following.now }
+        requires first { slice_index following.now 0 ≡ R.FIRST }
+        requires second { slice_index following.now 1 ≡ R.SECOND }
         ensures some { 0 < result.taken }
-        ensures within { result.taken ≤ length rest.now }
+        ensures within { result.taken ≤ length following.now }
         ensures takes { TakesRun R.LineRules R.FIRST R.SECOND self.old self.new at
-            (take result.taken rest.now)
+            (take result.taken following.now)
             (frames_told result.reads self.new.start self.new.bytes.items) }
     {
         let mark = usize::from(MARK_LEN);
         self.start = at;
-        self.keep(&rest[..mark]);
-        self.left = Self::behind_mark();
-        let part = self.go_on(&rest[mark..]);
+        self.keep(&following[..mark]);
+        self.lacking = Self::behind_mark();
+        let part = self.go_on(&following[mark..]);
         Part {
             taken: mark + part.taken,
             reads: part.reads,
@@ -210,7 +210,7 @@ impl<R: Hunted> HuntingDevice<R> {
     #[inline]
     fn begin(&mut self, at: u64, byte: u8)
         requires lends { self.old.lends ≡ false }
-        requires left { self.old.left ≡ 0 }
+        requires lacking { self.old.lacking ≡ 0 }
         requires other { length self.old.bytes.items ≡ 1 → byte ≡ R.SECOND → ⊥ }
         ensures { TakesRun R.LineRules R.FIRST R.SECOND self.old self.new at (byte ∷ []) [] }
     {
@@ -225,12 +225,12 @@ impl<R: Hunted> HuntingDevice<R> {
     #[inline]
     fn look(&mut self, at: u64, byte: u8)
         requires lends { self.old.lends ≡ false }
-        requires left { self.old.left ≡ 0 }
+        requires lacking { self.old.lacking ≡ 0 }
         ensures { TakesRun R.LineRules R.FIRST R.SECOND self.old self.new at (byte ∷ []) [] }
     {
         if self.bytes.len() == 1 && byte == R::SECOND {
             self.keep(&[byte]);
-            self.left = Self::behind_mark();
+            self.lacking = Self::behind_mark();
         } else {
             self.begin(at, byte);
         }
@@ -239,29 +239,29 @@ impl<R: Hunted> HuntingDevice<R> {
     // The first of these bytes where no header has begun yet: those where none begins, or what one
     // that begins takes, or a single byte.
     #[inline]
-    fn seek(&mut self, at: u64, rest: &[u8]) -> Part
-        requires some { 0 < length rest.now }
+    fn seek(&mut self, at: u64, following: &[u8]) -> Part
+        requires some { 0 < length following.now }
         requires lends { self.old.lends ≡ false }
-        requires left { self.old.left ≡ 0 }
+        requires lacking { self.old.lacking ≡ 0 }
         ensures some { 0 < result.taken }
-        ensures within { result.taken ≤ length rest.now }
+        ensures within { result.taken ≤ length following.now }
         ensures takes { TakesRun R.LineRules R.FIRST R.SECOND self.old self.new at
-            (take result.taken rest.now)
+            (take result.taken following.now)
             (frames_told result.reads self.new.start self.new.bytes.items) }
     {
         if self.bytes.is_empty() {
-            let passed = bytes_before(R::FIRST, rest);
+            let passed = bytes_before(R::FIRST, following);
             if passed > 0 {
                 return Part {
                     taken: passed,
                     reads: false,
                 };
             }
-            if rest.len() > 1 && rest[1] == R::SECOND {
-                return self.begin_header(at, rest);
+            if following.len() > 1 && following[1] == R::SECOND {
+                return self.begin_header(at, following);
             }
         }
-        self.look(at, rest[0]);
+        self.look(at, following[0]);
         Part {
             taken: 1,
             reads: false,
@@ -270,19 +270,19 @@ impl<R: Hunted> HuntingDevice<R> {
 
     // The first of these bytes, as far as one step takes them.
     #[inline]
-    fn hear_part(&mut self, at: u64, rest: &[u8]) -> Part
-        requires { 0 < length rest.now }
+    fn hear_part(&mut self, at: u64, following: &[u8]) -> Part
+        requires { 0 < length following.now }
         ensures some { 0 < result.taken }
-        ensures within { result.taken ≤ length rest.now }
+        ensures within { result.taken ≤ length following.now }
         ensures takes { TakesRun R.LineRules R.FIRST R.SECOND self.old self.new at
-            (take result.taken rest.now)
+            (take result.taken following.now)
             (frames_told result.reads self.new.start self.new.bytes.items) }
     {
-        if self.left > 0 {
-            return self.go_on(rest);
+        if self.lacking > 0 {
+            return self.go_on(following);
         }
         self.let_go();
-        self.seek(at, rest)
+        self.seek(at, following)
     }
 
     // The next byte of the line.
@@ -317,7 +317,7 @@ impl<R: Hunted> Device for HuntingDevice<R> {
             bytes: ArrayVec::new(),
             start: 0,
             lends: false,
-            left: 0,
+            lacking: 0,
             rules: R::fresh(),
         }
     }

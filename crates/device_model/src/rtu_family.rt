@@ -216,7 +216,7 @@ impl RtuFamily {
 
     // Silent ticks with which the silence doesn't come to part the line.
     #[inline]
-    fn rest(&mut self, ticks: usize)
+    fn wait_some(&mut self, ticks: usize)
         requires some { ticks_heard self.old + ticks ≤ MAX_TICKS }
         requires parts { (self.old.silence.cut ≤ self.old.silence.quiet)
             ⊎ (self.old.silence.quiet + ticks < self.old.silence.cut) }
@@ -230,7 +230,7 @@ impl RtuFamily {
             → RtuFamilyStandsFor cut gap self.new (line ++ silent ticks) }
     {
         self.ticks += ticks as u64;
-        self.silence.rest(ticks);
+        self.silence.wait_some(ticks);
     }
 
     // Bytes behind silence. It is kept separate from those that go on with a burst, which are more.
@@ -246,11 +246,11 @@ impl RtuFamily {
             → rtu_family_reads cut gap (line ++ map Byte (take n bytes.now))
             ≡ rtu_family_reads cut gap line }
     {
-        let Some((first, rest)) = bytes.split_first() else {
+        let Some((first, wait_some)) = bytes.split_first() else {
             return;
         };
         self.hear_byte(*first);
-        self.go_on_some(rest);
+        self.go_on_some(wait_some);
     }
 
     /// Takes the next ticks, which have these bytes. A frame is read in none of them. At most
@@ -295,27 +295,27 @@ impl RtuFamily {
     {
         let left = usize::from(self.silence.left());
         if left == 0 {
-            self.rest(ticks);
+            self.wait_some(ticks);
             return Met {
                 taken: ticks,
                 start: None,
             };
         }
         if ticks < left {
-            self.rest(ticks);
+            self.wait_some(ticks);
             return Met {
                 taken: ticks,
                 start: None,
             };
         }
-        self.rest(left - 1);
+        self.wait_some(left - 1);
         if let Some(start) = self.wait_tick() {
             return Met {
                 taken: left,
                 start: Some(start),
             };
         }
-        self.rest(ticks - left);
+        self.wait_some(ticks - left);
         Met {
             taken: ticks,
             start: None,

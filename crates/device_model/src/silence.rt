@@ -62,7 +62,7 @@ impl Silence {
 
     // This many silent ticks more, with which the silence doesn't come to part the line.
     #[inline]
-    pub(crate) fn rest(&mut self, ticks: usize)
+    pub(crate) fn wait_some(&mut self, ticks: usize)
         requires { (self.old.cut ≤ self.old.quiet) ⊎ (self.old.quiet + ticks < self.old.cut) }
         ensures cut { self.new.cut ≡ self.old.cut }
         ensures quiet { self.new.quiet

@@ -98,11 +98,11 @@ fn hear_run<B: Spaces>(
     ensures { OnOk result (B.taken spacer.new
         ≡ B.taken spacer.old + length (run_ticks run.entry)) }
 {
-    let mut rest = run;
-    while !rest.is_empty() {
-        let size = pieces.heard.max(1).min(rest.len());
-        let taken = hear_piece(spacer, rest.front(size), pieces.owed, given)?;
-        rest = rest.behind(taken);
+    let mut following = run;
+    while !following.is_empty() {
+        let size = pieces.heard.max(1).min(following.len());
+        let taken = hear_piece(spacer, following.front(size), pieces.owed, given)?;
+        following = following.behind(taken);
     }
     Ok(())
 }
@@ -258,7 +258,7 @@ fn resets_leave(
 ) -> Result<(), Fail>
     requires { silence < 100 }
 {
-    let (sure, gap, rest) = want;
+    let (sure, gap, following) = want;
     let mut spacer = Spacer::<DnpDevice, 21>::new(alloc, 64)?;
     let (queued, ticks) = second_reset(rt, alloc, &mut spacer, silence)?;
     assert_eq!(rt; queued, sure);
@@ -267,7 +267,7 @@ fn resets_leave(
         Bytes(RESET_LINK),
         Silence(gap),
         Bytes(RESET_LINK),
-        Silence(rest),
+        Silence(following),
     ];
     assert_eq!(rt; ticks, line_of(alloc, &leaves)?);
     Ok(())

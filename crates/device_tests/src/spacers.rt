@@ -339,11 +339,11 @@ fn frames_wait(rt: HostRuntime) -> Result<(), Fail> {
 }
 
 // What leaves in a run is added to the other line.
-pub fn add_run(line: &mut Vec<Tick>, run: &SpaceRun, left: &[u8]) -> Result<(), AllocError> {
-    if left.is_empty() {
+pub fn add_run(line: &mut Vec<Tick>, run: &SpaceRun, sent: &[u8]) -> Result<(), AllocError> {
+    if sent.is_empty() {
         return add_part(line, &Silence(run.taken));
     }
-    for byte in left {
+    for byte in sent {
         line.push(Tick::Byte(*byte))?;
     }
     Ok(())
@@ -359,12 +359,12 @@ fn take_all<B: Spaces>(
     ensures { OnOk result (B.taken spacer.new
         ≡ B.taken spacer.old + length (run_ticks run.entry)) }
 {
-    let mut rest = run;
+    let mut following = run;
     let mut runs: u32 = 0;
-    while !rest.is_empty() {
-        let some = spacer.take_some(rest);
+    while !following.is_empty() {
+        let some = spacer.take_some(following);
         add_run(line, &some, spacer.left_bytes())?;
-        rest = rest.behind(some.taken);
+        following = following.behind(some.taken);
         runs = runs.saturating_add(1);
     }
     Ok(runs)

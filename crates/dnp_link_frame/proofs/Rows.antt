@@ -5,7 +5,7 @@ use Rattle.dnp_link_frame.specs.Blocks.{end_in_crcs, block_start, is_frame, has_
 use Rattle.dnp_link_frame.specs.Crc.{register_of, crc_dnp}
 use Rattle.dnp_link_frame.specs.{Frame.frame_of, Frame.in_blocks, Rules.dnp_rules}
 use Rattle.line_rules.specs.Crc.{bit_step, bit_steps, byte_step, crc}
-use Rattle.line_rules.specs.{Endings.ends_in_check, Rules.head_of, Rules.left_of}
+use Rattle.line_rules.specs.{Endings.ends_in_check, Rules.head_of, Rules.lacking_of}
 use Rattle.line_rules.specs.declared.head.Head.TheVariants.{Short, Good, Bad}
 use Rattle.std.proofs.Common.{◌≡◌, ℕ, List, [], ◌∷◌, ◌++◌, true, false, refl, codes}
 
@@ -89,7 +89,7 @@ spoiled_bytes = (refl, refl, refl, refl, refl)
 pub heads : (head_of dnp_rules reset_link ≡ Good)
     × (head_of dnp_rules (0x05 ∷ 0x64 ∷ 0x05 ∷ []) ≡ Short)
     × (head_of dnp_rules wrong_reset ≡ Bad)
-    × (left_of dnp_rules cut_before_zeros ≡ 2)
-    × (left_of dnp_rules (0x05 ∷ 0x64 ∷ 0x07 ∷ []) ≡ 0)
+    × (lacking_of dnp_rules cut_before_zeros ≡ 2)
+    × (lacking_of dnp_rules (0x05 ∷ 0x64 ∷ 0x07 ∷ []) ≡ 0)
 unfolding bit_step bit_steps byte_step crc ends_in_check begins_right is_good_header
 heads = (refl, refl, refl, refl, refl)

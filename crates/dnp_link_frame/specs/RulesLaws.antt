@@ -9,7 +9,7 @@ use Rattle.std.proofs.lemmas.Bool.{and_parts, and_right, eqb-true, leb-true, cas
 use Rattle.std.proofs.lemmas.Bool.{cases_Bool, cond-true, cond-false, le-ltb, lt-ltb}
 use Rattle.std.proofs.lemmas.Bool.{false_from_ne_true, false≢true}
 use Rattle.line_rules.specs.Bytes.{AreBytes}
-use Rattle.line_rules.specs.Rules.{head_of, left_by, left_of}
+use Rattle.line_rules.specs.Rules.{head_of, lacking_by, lacking_of}
 use Rattle.line_rules.specs.RulesLaws.{IsLawful, IsHeaded, IsFramed, IsFilling, HasNumbers}
 use Rattle.line_rules.specs.Spoiling.{IsSpoiling, spoiling_by_ending}
 use Rattle.line_rules.specs.declared.head.Head.TheVariants.{Short, Good, Bad}
@@ -104,50 +104,50 @@ dnp_framed = record {
 
 -- ---- what a frame still lacks
 
-left_of-good : (x : List ℕ) → is_good_header (take 10 x) ≡ true
-    → left_of dnp_rules x ≡ size_by (length_byte x) - length x
-left_of-good x good = ap (λ h. left_by h (size_by (length_byte x) - length x)) (head_of-good x good)
+lacking_of-good : (x : List ℕ) → is_good_header (take 10 x) ≡ true
+    → lacking_of dnp_rules x ≡ size_by (length_byte x) - length x
+lacking_of-good x good = ap (λ h. lacking_by h (size_by (length_byte x) - length x)) (head_of-good x good)
 
-left_of-short : (x : List ℕ) → length x < 10 → left_of dnp_rules x ≡ 0
-left_of-short x few = ap (λ h. left_by h (size_by (length_byte x) - length x)) (head_of-short x few)
+lacking_of-short : (x : List ℕ) → length x < 10 → lacking_of dnp_rules x ≡ 0
+lacking_of-short x few = ap (λ h. lacking_by h (size_by (length_byte x) - length x)) (head_of-short x few)
 
-left_of-bad : (x : List ℕ) → 10 ≤ length x → is_good_header (take 10 x) ≡ false
-    → left_of dnp_rules x ≡ 0
-left_of-bad x whole bad =
-    ap (λ h. left_by h (size_by (length_byte x) - length x)) (head_of-bad x whole bad)
+lacking_of-bad : (x : List ℕ) → 10 ≤ length x → is_good_header (take 10 x) ≡ false
+    → lacking_of dnp_rules x ≡ 0
+lacking_of-bad x whole bad =
+    ap (λ h. lacking_by h (size_by (length_byte x) - length x)) (head_of-bad x whole bad)
 
-left_of-fits : (x : List ℕ) → length x ≤ room_of x → length x + left_of dnp_rules x ≤ room_of x
-left_of-fits x short =
+lacking_of-fits : (x : List ℕ) → length x ≤ room_of x → length x + lacking_of dnp_rules x ≤ room_of x
+lacking_of-fits x short =
     ⊎_elim
-    (λ few. let none = left_of-short x few in omega arith)
+    (λ few. let none = lacking_of-short x few in omega arith)
     (λ whole. ⊎_elim
     (λ good.
     let room = room_by-right (length_byte x) (length_byte-good x good).1 in
-    let left = left_of-good x good in
+    let left = lacking_of-good x good in
     omega arith)
-    (λ bad. let none = left_of-bad x whole bad in omega arith)
+    (λ bad. let none = lacking_of-bad x whole bad in omega arith)
     (cases_Bool (is_good_header (take 10 x))))
     (cases_lt (length x) 10)
 
-left_of-append : (x more : List ℕ) → 10 ≤ length x
-    → left_of dnp_rules (x ++ more) ≡ left_of dnp_rules x - length more
-left_of-append x more whole =
+lacking_of-append : (x more : List ℕ) → 10 ≤ length x
+    → lacking_of dnp_rules (x ++ more) ≡ lacking_of dnp_rules x - length more
+lacking_of-append x more whole =
     let front = take-append-le 10 x more whole in
     let longer : length (x ++ more) ≡ length x + length more = length-append x more in
     let size = ap size_by (length_byte-append x more (omega arith)) in
     ⊎_elim
     (λ good.
-    let before = left_of-good x good in
-    let after = left_of-good (x ++ more) (ap is_good_header front ∙ good) in
+    let before = lacking_of-good x good in
+    let after = lacking_of-good (x ++ more) (ap is_good_header front ∙ good) in
     omega arith)
     (λ bad.
-    let before = left_of-bad x whole bad in
-    let after = left_of-bad (x ++ more) (omega arith) (ap is_good_header front ∙ bad) in
+    let before = lacking_of-bad x whole bad in
+    let after = lacking_of-bad (x ++ more) (omega arith) (ap is_good_header front ∙ bad) in
     omega arith)
     (cases_Bool (is_good_header (take 10 x)))
 
 pub dnp_filling : IsFilling dnp_rules
-dnp_filling = record { has_room = left_of-fits; lessens = left_of-append }
+dnp_filling = record { has_room = lacking_of-fits; lessens = lacking_of-append }
 
 -- ---- right endings
 

@@ -107,65 +107,65 @@ impl Dnp {
     {
         let first = run.len().min(usize::from(self.block_left));
         self.go_on(&run[..first]);
-        let mut rest = &run[first..];
+        let mut following = &run[first..];
         let (mut len, mut register, mut right) = (self.len, self.register, self.blocks_right);
-        while let Some((block, more)) = rest.split_first_chunk::<WHOLE_BLOCK>() {
+        while let Some((block, more)) = following.split_first_chunk::<WHOLE_BLOCK>() {
             right = blocks_at_beginning(len, right, register);
             register = of_bytes(block);
             len += BLOCK_LEN;
-            rest = more;
+            following = more;
         }
         self.len = len;
         self.register = register;
         self.blocks_right = right;
-        if !rest.is_empty() {
-            self.begin_block(rest);
+        if !following.is_empty() {
+            self.begin_block(following);
         }
     }
 
     // Appends the next bytes of a header: all of it, the next byte, or as many as are between LEN
     // and its last byte; says how many.
     #[inline]
-    fn take_of_header(&mut self, rest: &[u8]) -> usize
+    fn take_of_header(&mut self, following: &[u8]) -> usize
         requires short { self.old.len < 10 }
         requires room { is_full_dnp self.old ≡ false }
-        requires some { 0 < length rest.now }
+        requires some { 0 < length following.now }
         ensures some { 0 < result }
-        ensures within { result ≤ length rest.now }
+        ensures within { result ≤ length following.now }
         ensures stands { (x : List ℕ) → DnpStandsFor self.old x
-            → DnpStandsFor self.new (x ++ take result rest.now) }
+            → DnpStandsFor self.new (x ++ take result following.now) }
         ensures room { (x : List ℕ) (n : ℕ) → DnpStandsFor self.old x → n < result
-            → fills_room dnp_rules (x ++ take n rest.now) ≡ false }
+            → fills_room dnp_rules (x ++ take n following.now) ≡ false }
     {
         if self.len == 0 {
-            if let Some((header, _)) = rest.split_first_chunk::<WHOLE_HEADER>() {
+            if let Some((header, _)) = following.split_first_chunk::<WHOLE_HEADER>() {
                 self.take_header(header);
                 return header.len();
             }
         }
         if self.len < 3 || self.len >= HEADER_LEN - 1 {
-            self.take(rest[0]);
+            self.take(following[0]);
             return 1;
         }
-        let run = rest.len().min(usize::from(HEADER_LEN - 1 - self.len));
-        self.take_in_header(&rest[..run]);
+        let run = following.len().min(usize::from(HEADER_LEN - 1 - self.len));
+        self.take_in_header(&following[..run]);
         run
     }
 
     // Appends bytes behind the header, as many as there is room for; says how many.
     #[inline]
-    fn take_user(&mut self, rest: &[u8]) -> usize
+    fn take_user(&mut self, following: &[u8]) -> usize
         requires behind { 10 ≤ self.old.len }
         requires room { is_full_dnp self.old ≡ false }
-        ensures within { result ≤ length rest.now }
+        ensures within { result ≤ length following.now }
         ensures stands { (x : List ℕ) → DnpStandsFor self.old x
-            → DnpStandsFor self.new (x ++ take result rest.now) }
-        ensures all { result < length rest.now → is_full_dnp self.new ≡ true }
+            → DnpStandsFor self.new (x ++ take result following.now) }
+        ensures all { result < length following.now → is_full_dnp self.new ≡ true }
         ensures room { (x : List ℕ) (n : ℕ) → DnpStandsFor self.old x → n < result
-            → fills_room dnp_rules (x ++ take n rest.now) ≡ false }
+            → fills_room dnp_rules (x ++ take n following.now) ≡ false }
     {
-        let run = rest.len().min(usize::from(self.room - self.len));
-        self.take_blocks(&rest[..run]);
+        let run = following.len().min(usize::from(self.room - self.len));
+        self.take_blocks(&following[..run]);
         run
     }
 }
@@ -286,7 +286,7 @@ impl LineRules for Dnp {
     }
 
     #[inline]
-    fn left(&self) -> u16 {
+    fn lacking(&self) -> u16 {
         match self.head() {
             Head::Good => size_by(self.len_byte).saturating_sub(self.len),
             Head::Short | Head::Bad => 0,

@@ -202,7 +202,7 @@ impl<R: LineRules> BurstCut<R> {
 
     /// Takes this many silent ticks, if no burst runs, and says how many: all or none.
     #[inline]
-    pub fn rest(&mut self, ticks: u32) -> u32
+    pub fn rest_through(&mut self, ticks: u32) -> u32
         requires { ticks_taken self.old + ticks ≤ MAX_TICKS }
         ensures within { result ≤ ticks }
         ensures taken { ticks_taken self.new ≡ ticks_taken self.old + result }

@@ -82,35 +82,35 @@ fn digit_count(text: &[u8]) -> usize
 }
 
 // How many bytes of an ending are at the front of these.
-fn begun_ending(rest: &[u8]) -> usize
-    ensures { IsLongestFront BeginsEnding rest.now result }
+fn begun_ending(following: &[u8]) -> usize
+    ensures { IsLongestFront BeginsEnding following.now result }
 {
-    if rest.is_empty() {
+    if following.is_empty() {
         return 0;
     }
-    if rest[0] == b'\n' {
+    if following[0] == b'\n' {
         return 1;
     }
-    if rest[0] != b'\r' {
+    if following[0] != b'\r' {
         return 0;
     }
-    if rest.len() == 1 {
+    if following.len() == 1 {
         return 1;
     }
-    if rest[1] == b'\n' { 2 } else { 1 }
+    if following[1] == b'\n' { 2 } else { 1 }
 }
 
-fn is_ending(rest: &[u8]) -> bool
-    ensures yes { result ≡ true → IsKeyEnding rest.now }
-    ensures no { result ≡ false → IsKeyEnding rest.now → ⊥ }
+fn is_ending(following: &[u8]) -> bool
+    ensures yes { result ≡ true → IsKeyEnding following.now }
+    ensures no { result ≡ false → IsKeyEnding following.now → ⊥ }
 {
-    if rest.is_empty() {
+    if following.is_empty() {
         return true;
     }
-    if rest == b"\n".as_slice() {
+    if following == b"\n".as_slice() {
         return true;
     }
-    rest == b"\r\n".as_slice()
+    following == b"\r\n".as_slice()
 }
 
 // The bytes that the digits of a key spell.
@@ -135,12 +135,12 @@ fn key_of(text: &[u8]) -> Result<Key, u32>
     ensures bad { IfErr result (λ place. IsNoKey text.now place) }
 {
     let count = digit_count(text);
-    let (digits, rest) = text.split_at(count);
+    let (digits, following) = text.split_at(count);
     if count < MIN_DIGITS || count % 2 == 1 {
         return Err(count as u32);
     }
-    if !is_ending(rest) {
-        return Err((count + begun_ending(rest)) as u32);
+    if !is_ending(following) {
+        return Err((count + begun_ending(following)) as u32);
     }
     Ok(decode(digits))
 }

@@ -2,7 +2,7 @@
 use Rattle.std.specs.Prelude.{◌≡◌, ℕ, ◌<◌, ◌≤◌, nat_lt, Bool, true, List, ◌++◌, length, refl}
 use Rattle.std.proofs.Common.{arith}
 use Rattle.std.proofs.lemmas.Bool.{cond-false, le-ltb}
-use Rattle.line_rules.specs.Rules.{Rules, head_of, left_of}
+use Rattle.line_rules.specs.Rules.{Rules, head_of, lacking_of}
 use Rattle.line_rules.specs.RulesLaws.{IsLawful, IsHeaded, IsFramed, IsFilling}
 use Rattle.line_rules.specs.Spoiling.{spoil_by}
 use Rattle.line_rules.specs.declared.head.Head.TheVariants.{Good}
@@ -30,8 +30,8 @@ module _ (label longest : ℕ) (is_frame has_right_ending : List ℕ → Bool) w
   headerless-head x = cond-false (nat_lt (length x) 0) _ _ (le-ltb (length x) 0 (omega arith))
 
   -- and no byte is lacking
-  pub headerless-left : (x : List ℕ) → left_of its x ≡ 0
-  headerless-left x = rw (headerless-head x) (omega arith)
+  pub headerless-lacking : (x : List ℕ) → lacking_of its x ≡ 0
+  headerless-lacking x = rw (headerless-head x) (omega arith)
 
   pub headerless-lawful : 0 < longest → IsLawful its
   headerless-lawful some = record {
@@ -55,9 +55,9 @@ module _ (label longest : ℕ) (is_frame has_right_ending : List ℕ → Bool) w
 
   pub headerless-filling : IsFilling its
   headerless-filling = record {
-    has_room = λ x short. let none = headerless-left x in omega arith;
+    has_room = λ x short. let none = headerless-lacking x in omega arith;
     lessens = λ x more long.
-        let none = headerless-left x in
-        let still_none = headerless-left (x ++ more) in
+        let none = headerless-lacking x in
+        let still_none = headerless-lacking (x ++ more) in
         omega arith;
   }

@@ -43,11 +43,11 @@ head_of rules x =
     else Bad
 
 -- of this many bytes, as many as are left by this header
-abbrev pub left_by : Head → ℕ → ℕ
-left_by Good n = n
-left_by Short n = 0
-left_by Bad n = 0
+abbrev pub lacking_by : Head → ℕ → ℕ
+lacking_by Good n = n
+lacking_by Short n = 0
+lacking_by Bad n = 0
 
 -- how many bytes are still lacking
-abbrev pub left_of : Rules → List ℕ → ℕ
-left_of rules x = left_by (head_of rules x) (rules.size x - length x)
+abbrev pub lacking_of : Rules → List ℕ → ℕ
+lacking_of rules x = lacking_by (head_of rules x) (rules.size x - length x)

@@ -1,7 +1,7 @@
 -- The laws that each protocol's rules keep.
 use Rattle.std.specs.Prelude.{◌≡◌, ℕ, ◌+◌, ◌-◌, ◌<◌, ◌≤◌, true, List, [], ◌∷◌, ◌++◌, length}
 use Rattle.line_rules.specs.Bytes.{AreBytes}
-use Rattle.line_rules.specs.Rules.{Rules, head_of, left_of}
+use Rattle.line_rules.specs.Rules.{Rules, head_of, lacking_of}
 use Rattle.line_rules.specs.declared.head.Head.TheVariants.{Good}
 
 -- There is room for a first byte; as long as the room isn't full, one more byte fits into the room
@@ -30,9 +30,9 @@ pub record IsFramed (rules : Rules) : Type 0 where
 -- lessens by each byte that comes.
 pub record IsFilling (rules : Rules) : Type 0 where
   pub has_room : (x : List ℕ) → length x ≤ rules.room x
-      → length x + left_of rules x ≤ rules.room x
+      → length x + lacking_of rules x ≤ rules.room x
   pub lessens : (x more : List ℕ) → rules.header_len ≤ length x
-      → left_of rules (x ++ more) ≡ left_of rules x - length more
+      → lacking_of rules (x ++ more) ≡ lacking_of rules x - length more
 
 -- The numbers of the protocol: its longest frame and its label.
 pub record HasNumbers (rules : Rules) (longest label : ℕ) : Type 0 where

@@ -82,7 +82,7 @@ impl LineRules for FourBytes {
         Head::Good
     }
 
-    fn left(&self) -> u16 {
+    fn lacking(&self) -> u16 {
         0
     }
 

@@ -2,7 +2,7 @@
 ghost use Rattle.std.specs.Prelude.{◌≡◌, ℕ, ◌<◌, ◌≤◌, Bool, true, false, List, [], ◌∷◌, ◌++◌};
 ghost use Rattle.std.specs.Prelude.{length, take};
 ghost use Rattle.line_rules.specs.Bytes.{AreBytes};
-ghost use Rattle.line_rules.specs.Rules.{Rules, fills_room, is_frame_of, head_of, left_of};
+ghost use Rattle.line_rules.specs.Rules.{Rules, fills_room, is_frame_of, head_of, lacking_of};
 ghost use Rattle.line_rules.specs.Rules.{has_right_ending_of};
 ghost use Rattle.line_rules.specs.RulesLaws.{IsLawful, IsHeaded, IsFramed, IsFilling, HasNumbers};
 ghost use Rattle.line_rules.specs.Spoiling.{IsSpoiling};
@@ -102,8 +102,8 @@ pub trait LineRules: Drop {
         ensures { (x : List ℕ) → stands self.now x → result ≡ head_of rules x };
 
     /// How many bytes the frame still lacks that begins with a good header; 0 where there is none.
-    fn left(&self) -> u16
-        ensures { (x : List ℕ) → stands self.now x → result ≡ left_of rules x };
+    fn lacking(&self) -> u16
+        ensures { (x : List ℕ) → stands self.now x → result ≡ lacking_of rules x };
 
     /// Whether the bytes end as a frame's do, in the check of what comes before it. Where they do
     /// and are to be no frame, the last of them is sent with its lowest bit turned.

@@ -111,32 +111,32 @@ module _ (gap cap step : ℕ) (s : Spaced) (frame : FrameRead) where
       }
 
   -- the queue has room for it
-  module _ (left : List ℕ) (rest : ℕ) (queued : List (List ℕ))
-      (has : HasSent gap (step + 1) s.accepted left rest queued) where
+  module _ (unsent : List ℕ) (pause : ℕ) (queued : List (List ℕ))
+      (has : HasSent gap (step + 1) s.accepted unsent pause queued) where
     few-wait : length queued < cap → count_from (step + 1) s.accepted < cap
     few-wait few =
-        let count = waiting-count gap (step + 1) s.accepted left rest queued has in omega arith
+        let count = waiting-count gap (step + 1) s.accepted unsent pause queued has in omega arith
 
     pub kept-sent : length queued < cap
-        → HasSent gap (step + 1) (taken_in gap cap step s (frame ∷ [])).accepted left rest
+        → HasSent gap (step + 1) (taken_in gap cap step s (frame ∷ [])).accepted unsent pause
         (queued ++ frame.frame ∷ [])
     kept-sent few =
         let P : Spaced → Type 0 = λ x.
-        HasSent gap (step + 1) x.accepted left rest (queued ++ frame.frame ∷ []) in
+        HasSent gap (step + 1) x.accepted unsent pause (queued ++ frame.frame ∷ []) in
         subst P (sym (accepts (few-wait few)))
-        (frame-waits gap (step + 1) s.accepted left rest queued frame.frame has)
+        (frame-waits gap (step + 1) s.accepted unsent pause queued frame.frame has)
 
     pub kept-takes : length queued < cap → TakesIn gap cap step s (frame ∷ []) []
     kept-takes few = accepted-takes (few-wait few)
 
     many-wait : cap ≤ length queued → cap ≤ count_from (step + 1) s.accepted
     many-wait many =
-        let count = waiting-count gap (step + 1) s.accepted left rest queued has in omega arith
+        let count = waiting-count gap (step + 1) s.accepted unsent pause queued has in omega arith
 
     pub lost-sent : cap ≤ length queued
-        → HasSent gap (step + 1) (taken_in gap cap step s (frame ∷ [])).accepted left rest queued
+        → HasSent gap (step + 1) (taken_in gap cap step s (frame ∷ [])).accepted unsent pause queued
     lost-sent many =
-        let P : Spaced → Type 0 = λ x. HasSent gap (step + 1) x.accepted left rest queued in
+        let P : Spaced → Type 0 = λ x. HasSent gap (step + 1) x.accepted unsent pause queued in
         subst P (sym (loses (many-wait many))) has
 
     pub lost-takes : cap ≤ length queued → TakesIn gap cap step s (frame ∷ []) (frame ∷ [])

@@ -19,7 +19,7 @@ cut-bytes (n ∷ lengths) bytes are =
     let within : n ≤ length bytes = are.1 in
     let more = cut-bytes lengths (drop n bytes) are.2 in
     let front : length (take n bytes) ≡ n = length-take-le n bytes within in
-    let rest = length-drop n bytes in
+    let pause = length-drop n bytes in
     omega arith
 
 few-bytes : (lengths bytes : List ℕ) → AreCut lengths bytes → length bytes ≤ length lengths * 292
@@ -86,7 +86,7 @@ pub filled : (capacity room : ℕ) (lengths bytes frame : List ℕ)
     → (n : ℕ) → n ≡ min (length frame) (room - length bytes)
     → (n ≡ length frame) × (bytes ++ take n frame ≡ bytes ++ frame)
 filled capacity room lengths bytes frame frames few longest n is =
-    let left = room-left capacity room lengths bytes frames few in
+    let unsent = room-left capacity room lengths bytes frames few in
     let all : n ≡ length frame = grind (arith, is) in
     (all, ap (λ x. bytes ++ x) (take_all n frame (omega arith)))
 

@@ -4,7 +4,7 @@ use Rattle.line_spacer.proofs.Arriving.{accepts, accepted-takes}
 use Rattle.line_spacer.proofs.Sending.{earliest, frame-waits, on_line, waiting-count}
 use Rattle.line_spacer.specs.{FrameQueue.bytes_of, Owing.ArePending, Owing.ticks_for}
 use Rattle.line_spacer.specs.Spacing.{Spaced, count_from, free_from, sent_from}
-use Rattle.line_spacer.specs.Stands.{AreDue, HasSent, TakesIn, left_of, taken_in, with_next}
+use Rattle.line_spacer.specs.Stands.{AreDue, HasSent, TakesIn, unsent_of, taken_in, with_next}
 use Rattle.std.proofs.Common.{◌≡◌, ◌∙◌, ℕ, ◌+◌, ◌-◌, ◌*◌, ◌<◌, ◌≤◌, List, [], ◌∷◌, ◌++◌, length}
 use Rattle.std.proofs.Common.{map, take, max, sym, ap, subst, arith, Bool, true, false, length-drop}
 use Rattle.std.proofs.{Common.nat_le, Common.⊎_elim, Math.Nat.suc-mul, lemmas.Bool.cases_lt}
@@ -22,13 +22,13 @@ ticks-are gap (frame ∷ queue) =
     let times = suc-mul (length queue) gap in
     omega arith
 
-module _ (gap size sent rest : ℕ) (room : List ℕ) (queue : List (List ℕ)) (bytes gaps : ℕ)
+module _ (gap size sent pause : ℕ) (room : List ℕ) (queue : List (List ℕ)) (bytes gaps : ℕ)
     (fits : size ≤ length room) (bytes_are : bytes ≡ bytes_of queue)
     (few : gaps ≤ length queue * gap) where
   -- a frame is the next to begin
   pub busy-next : (ready : Bool) → ready ≡ true
-      → bytes + gaps + rest + (size + gap)
-      ≤ length (left_of ready sent (take size room)) + rest
+      → bytes + gaps + pause + (size + gap)
+      ≤ length (unsent_of ready sent (take size room)) + pause
       + ticks_for gap (with_next ready (take size room) queue)
   busy-next true is =
       let long : length (take size room) ≡ size = length-take-le size room fits in
@@ -38,13 +38,13 @@ module _ (gap size sent rest : ℕ) (room : List ℕ) (queue : List (List ℕ)) 
 
   -- a frame has begun
   pub busy-begun : (ready : Bool) → ready ≡ false
-      → bytes + gaps + rest + (size - sent)
-      ≤ length (left_of ready sent (take size room)) + rest
+      → bytes + gaps + pause + (size - sent)
+      ≤ length (unsent_of ready sent (take size room)) + pause
       + ticks_for gap (with_next ready (take size room) queue)
   busy-begun true is = cc
   busy-begun false is =
       let long : length (take size room) ≡ size = length-take-le size room fits in
-      let left = length-drop sent (take size room) in
+      let unsent = length-drop sent (take size room) in
       let sum = ticks-are gap queue in
       omega arith
 
@@ -88,33 +88,33 @@ count-later m k (d ∷ ds) later =
     rw (yes, one) (omega arith))
     (cases_lt d.start k)
 
-module _ (gap cap m step : ℕ) (s : Spaced) (frame : FrameRead) (left : List ℕ) (rest : ℕ)
-    (queued : List (List ℕ)) (has : HasSent gap m s.accepted left rest queued)
+module _ (gap cap m step : ℕ) (s : Spaced) (frame : FrameRead) (unsent : List ℕ) (pause : ℕ)
+    (queued : List (List ℕ)) (has : HasSent gap m s.accepted unsent pause queued)
     (early : m ≤ step) (few : length queued < cap)
-    (busy : step + 1 ≤ m + (length left + rest + ticks_for gap queued)) where
+    (busy : step + 1 ≤ m + (length unsent + pause + ticks_for gap queued)) where
   finds-room : count_from (step + 1) s.accepted < cap
   finds-room =
-      let count = waiting-count gap m s.accepted left rest queued has in
+      let count = waiting-count gap m s.accepted unsent pause queued has in
       let fewer = count-later m (step + 1) s.accepted (omega arith) in
       omega arith
 
   begins-behind : max m (free_from gap 0 s.accepted) ≡ max (step + 1) (free_from gap 0 s.accepted)
   begins-behind =
       let first : max m (free_from gap 0 s.accepted)
-      ≡ free_from gap (m + length left + rest) has.waiting =
+      ≡ free_from gap (m + length unsent + pause) has.waiting =
       ap (λ x. max m (free_from gap 0 x)) has.is
-      ∙ earliest gap m s.accepted left rest queued has.begun has.waiting has.free has.due in
-      let end = due-end gap (m + length left + rest) has.waiting queued has.due has.queue in
+      ∙ earliest gap m s.accepted unsent pause queued has.begun has.waiting has.free has.due in
+      let end = due-end gap (m + length unsent + pause) has.waiting queued has.due has.queue in
       grind arith
 
-  pub early-sent : HasSent gap m (taken_in gap cap step s (frame ∷ [])).accepted left rest
+  pub early-sent : HasSent gap m (taken_in gap cap step s (frame ∷ [])).accepted unsent pause
       (queued ++ frame.frame ∷ [])
   early-sent =
-      subst (λ x. HasSent gap m x.accepted left rest (queued ++ frame.frame ∷ []))
+      subst (λ x. HasSent gap m x.accepted unsent pause (queued ++ frame.frame ∷ []))
       (sym (accepts gap cap step s frame finds-room))
-      (subst (λ k. HasSent gap m (s.accepted ++ sent_from k frame.frame ∷ []) left rest
+      (subst (λ k. HasSent gap m (s.accepted ++ sent_from k frame.frame ∷ []) unsent pause
       (queued ++ frame.frame ∷ [])) begins-behind
-      (frame-waits gap m s.accepted left rest queued frame.frame has))
+      (frame-waits gap m s.accepted unsent pause queued frame.frame has))
 
   pub early-takes : TakesIn gap cap step s (frame ∷ []) []
   early-takes = accepted-takes gap cap step s frame finds-room

@@ -1,7 +1,7 @@
 -- A frame that is read, and waits as the next to begin or in the queue.
 use Rattle.device_model.specs.Frames.{FrameRead}
 use Rattle.line_spacer.{proofs.Arriving.kept-sent, specs.Spacing.Spaced}
-use Rattle.line_spacer.specs.Stands.{HasSent, taken_in, left_of, with_next}
+use Rattle.line_spacer.specs.Stands.{HasSent, taken_in, unsent_of, with_next}
 use Rattle.std.proofs.Common.{◌≡◌, ◌∙◌, ℕ, ◌+◌, ◌-◌, ◌<◌, ◌≤◌, List, [], ◌∷◌, ◌++◌, length}
 use Rattle.std.proofs.Common.{take, drop, refl, sym, ap, subst, arith, Bool, true, false}
 use Rattle.std.proofs.lemmas.List.{drop_all, length-take-le, nil_from_length}
@@ -27,46 +27,46 @@ none-next : (ready : Bool) (frame : List ℕ) (queue : List (List ℕ))
 none-next true frame queue none = absurd (omega arith)
 none-next false frame queue none = (refl, nil_from_length queue (omega arith))
 
-module _ (gap cap step : ℕ) (s : Spaced) (read : FrameRead) (ready : Bool) (size sent rest : ℕ)
+module _ (gap cap step : ℕ) (s : Spaced) (read : FrameRead) (ready : Bool) (size sent pause : ℕ)
     (room : List ℕ) (queue : List (List ℕ)) (fits : size ≤ length room)
-    (has : HasSent gap (step + 1) s.accepted (left_of ready sent (take size room)) rest
+    (has : HasSent gap (step + 1) s.accepted (unsent_of ready sent (take size room)) pause
     (with_next ready (take size room) queue)) where
   -- in the queue
   pub queued-sent : length (with_next ready (take size room) queue) < cap
       → (new : List (List ℕ)) → new ≡ queue ++ read.frame ∷ []
       → HasSent gap (step + 1) (taken_in gap cap step s (read ∷ [])).accepted
-      (left_of ready sent (take size room)) rest (with_next ready (take size room) new)
+      (unsent_of ready sent (take size room)) pause (with_next ready (take size room) new)
   queued-sent few new is =
       subst (λ x. HasSent gap (step + 1) (taken_in gap cap step s (read ∷ [])).accepted
-      (left_of ready sent (take size room)) rest x)
+      (unsent_of ready sent (take size room)) pause x)
       (sym (ap (λ q. with_next ready (take size room) q) is
       ∙ next-append ready (take size room) read.frame queue))
-      (kept-sent gap cap step s read (left_of ready sent (take size room)) rest
+      (kept-sent gap cap step s read (unsent_of ready sent (take size room)) pause
       (with_next ready (take size room) queue) has few)
 
   -- as the next to begin
   pub held-sent : length (with_next ready (take size room) queue) < cap
       → length (with_next ready (take size room) queue) ≤ 0 → size ≤ sent
       → (new : List ℕ) → new ≡ read.frame
-      → HasSent gap (step + 1) (taken_in gap cap step s (read ∷ [])).accepted [] rest
+      → HasSent gap (step + 1) (taken_in gap cap step s (read ∷ [])).accepted [] pause
       (new ∷ queue)
   held-sent few none over new is =
       let frame : List ℕ = take size room in
       let long : length frame ≡ size = length-take-le size room fits in
       let empty = none-next ready frame queue none in
       let gone : drop sent frame ≡ [] = drop_all sent frame (omega arith) in
-      let start : HasSent gap (step + 1) s.accepted (drop sent frame) rest queue =
-      subst (λ r. HasSent gap (step + 1) s.accepted (left_of r sent frame) rest
+      let start : HasSent gap (step + 1) s.accepted (drop sent frame) pause queue =
+      subst (λ r. HasSent gap (step + 1) s.accepted (unsent_of r sent frame) pause
       (with_next r frame queue)) empty.0 has in
-      let bare : HasSent gap (step + 1) s.accepted [] rest [] =
-      subst (λ q. HasSent gap (step + 1) s.accepted [] rest q) empty.1
-      (subst (λ x. HasSent gap (step + 1) s.accepted x rest queue) gone start) in
+      let bare : HasSent gap (step + 1) s.accepted [] pause [] =
+      subst (λ q. HasSent gap (step + 1) s.accepted [] pause q) empty.1
+      (subst (λ x. HasSent gap (step + 1) s.accepted x pause queue) gone start) in
       let some : length (with_next ready frame queue) < cap = few in
-      let two : HasSent gap (step + 1) (taken_in gap cap step s (read ∷ [])).accepted [] rest
-      (read.frame ∷ []) = kept-sent gap cap step s read [] rest [] bare (omega arith) in
-      subst (λ x. HasSent gap (step + 1) (taken_in gap cap step s (read ∷ [])).accepted [] rest
+      let two : HasSent gap (step + 1) (taken_in gap cap step s (read ∷ [])).accepted [] pause
+      (read.frame ∷ []) = kept-sent gap cap step s read [] pause [] bare (omega arith) in
+      subst (λ x. HasSent gap (step + 1) (taken_in gap cap step s (read ∷ [])).accepted [] pause
       (x ∷ queue)) (sym is)
-      (subst (λ q. HasSent gap (step + 1) (taken_in gap cap step s (read ∷ [])).accepted [] rest
+      (subst (λ q. HasSent gap (step + 1) (taken_in gap cap step s (read ∷ [])).accepted [] pause
       (read.frame ∷ q)) (sym empty.1) two)
 
 -- nothing left in the last ticks, and nothing does

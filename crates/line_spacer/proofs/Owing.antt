@@ -109,7 +109,7 @@ module _ (reads : List Tick → List FrameRead) (gap cap : ℕ) where
     part-pending : n < length owed
         → ArePending reads gap cap (line ++ take n owed) (drop n owed) made frames
     part-pending less =
-        let rest = length-drop n owed in
+        let pause = length-drop n owed in
         let few : length (take n owed) ≡ n = length-take-le n owed (omega arith) in
         let long = length-append line (take n owed) in
         let last : length line + (length owed - 1)
@@ -205,19 +205,19 @@ module _ (reads : List Tick → List FrameRead) (gap cap : ℕ) where
         omega arith
 
     -- what the spacer has sent, and the frames that it has taken in
-    pub given-sent : (accepted : List Burst) (left : List ℕ) (rest : ℕ) (queued : List (List ℕ))
-        → HasSent gap (last_step + 1) accepted left rest queued
-        → HasSent gap (length (line ++ take n owed)) accepted left rest queued
-    given-sent accepted left rest queued has =
-        subst (λ k. HasSent gap k accepted left rest queued) (sym long) has
+    pub given-sent : (accepted : List Burst) (unsent : List ℕ) (pause : ℕ) (queued : List (List ℕ))
+        → HasSent gap (last_step + 1) accepted unsent pause queued
+        → HasSent gap (length (line ++ take n owed)) accepted unsent pause queued
+    given-sent accepted unsent pause queued has =
+        subst (λ k. HasSent gap k accepted unsent pause queued) (sym long) has
 
-    pub given-before : (accepted : List Burst) (left : List ℕ) (rest : ℕ) (queued : List (List ℕ))
+    pub given-before : (accepted : List Burst) (unsent : List ℕ) (pause : ℕ) (queued : List (List ℕ))
         (answer : List Tick) → length answer ≡ n
-        → HasSent gap (length line + length answer) accepted left rest queued
-        → HasSent gap (last_step + 1) accepted left rest queued
-    given-before accepted left rest queued answer same has =
+        → HasSent gap (length line + length answer) accepted unsent pause queued
+        → HasSent gap (last_step + 1) accepted unsent pause queued
+    given-before accepted unsent pause queued answer same has =
         let sum : length line + length answer ≡ last_step + 1 = omega arith in
-        subst (λ k. HasSent gap k accepted left rest queued) sum has
+        subst (λ k. HasSent gap k accepted unsent pause queued) sum has
 
     abbrev after : Spaced
     after = taken_in gap room last_step made front
@@ -225,7 +225,7 @@ module _ (reads : List Tick → List FrameRead) (gap cap : ℕ) where
     if-part : n < length owed → ArePending reads gap cap (line ++ take n owed) (drop n owed) after
         (still_read (drop n owed) frames)
     if-part less =
-        let rest = length-drop n owed in
+        let pause = length-drop n owed in
         let there : 0 < length (drop n owed) = omega arith in
         subst (λ f. ArePending reads gap cap (line ++ take n owed) (drop n owed)
         (taken_in gap room last_step made f) (still_read (drop n owed) frames))

@@ -2,7 +2,7 @@
 -- were sent, and whether it is still to begin.
 use Rattle.{burst_walk.specs.Answered.answered, line_spacer.proofs.Runs.bytes-leave}
 use Rattle.line_spacer.{proofs.Runs.silence-leaves, proofs.Runs.frame-leaves, specs.Runs.SendsRun}
-use Rattle.line_spacer.specs.Stands.{HasSent, left_of, with_next, rest_behind, tick_of}
+use Rattle.line_spacer.specs.Stands.{HasSent, unsent_of, with_next, rest_behind, tick_of}
 use Rattle.std.proofs.Common.{◌≡◌, ◌∙◌, ℕ, ◌+◌, ◌-◌, ◌<◌, ◌≤◌, List, [], ◌∷◌, length, take}
 use Rattle.std.proofs.Common.{drop, min, max, refl, sym, ap, subst, arith, length-drop, Bool, true}
 use Rattle.std.proofs.{Common.false, Common.⊎_elim, lemmas.Bool.cases_lt}
@@ -77,71 +77,71 @@ front-behind n size room fits =
 
 -- ---- a run
 
-module _ (gap m : ℕ) (accepted : List Burst) (ready : Bool) (size sent rest n : ℕ)
+module _ (gap m : ℕ) (accepted : List Burst) (ready : Bool) (size sent pause n : ℕ)
     (room : List ℕ) (queued : List (List ℕ)) (some : 0 < n) (fits : size ≤ length room)
-    (has : HasSent gap m accepted (left_of ready sent (take size room)) rest
+    (has : HasSent gap m accepted (unsent_of ready sent (take size room)) pause
     (with_next ready (take size room) queued)) where
   abbrev frame : List ℕ
   frame = take size room
 
-  begun : ready ≡ false → HasSent gap m accepted (drop sent frame) rest queued
-  begun is = subst (λ r. HasSent gap m accepted (left_of r sent frame) rest
+  begun : ready ≡ false → HasSent gap m accepted (drop sent frame) pause queued
+  begun is = subst (λ r. HasSent gap m accepted (unsent_of r sent frame) pause
       (with_next r frame queued)) is has
 
-  waits : ready ≡ true → HasSent gap m accepted [] rest (frame ∷ queued)
-  waits is = subst (λ r. HasSent gap m accepted (left_of r sent frame) rest
+  waits : ready ≡ true → HasSent gap m accepted [] pause (frame ∷ queued)
+  waits is = subst (λ r. HasSent gap m accepted (unsent_of r sent frame) pause
       (with_next r frame queued)) is has
 
   -- bytes of the frame that has begun
   pub bytes-go-on : ready ≡ false → sent + n ≤ size
-      → SendsRun gap m accepted (left_of ready (sent + n) frame) rest
+      → SendsRun gap m accepted (unsent_of ready (sent + n) frame) pause
       (with_next ready frame queued) (answered n (take (sent + n - sent) (drop sent room)))
   bytes-go-on is within =
       let long : length frame ≡ size = length-take-le size room fits in
       let count = length-drop sent frame in
-      subst (λ r. SendsRun gap m accepted (left_of r (sent + n) frame) rest
+      subst (λ r. SendsRun gap m accepted (unsent_of r (sent + n) frame) pause
       (with_next r frame queued) (answered n (take (sent + n - sent) (drop sent room)))) (sym is)
-      (subst (λ x. SendsRun gap m accepted (drop (sent + n) frame) rest queued (answered n x))
+      (subst (λ x. SendsRun gap m accepted (drop (sent + n) frame) pause queued (answered n x))
       (sym (some-between sent n size room within))
-      (subst (λ x. SendsRun gap m accepted x rest queued (answered n (take n (drop sent frame))))
+      (subst (λ x. SendsRun gap m accepted x pause queued (answered n (take n (drop sent frame))))
       (drop-drop n sent frame)
-      (bytes-leave gap m accepted n (drop sent frame) rest queued some (omega arith) (begun is))))
+      (bytes-leave gap m accepted n (drop sent frame) pause queued some (omega arith) (begun is))))
 
   -- silence behind it, or where no frame waits
-  pub rest-goes-on : ready ≡ false → size ≤ sent → (0 < rest → n ≤ rest)
-      → (rest ≤ 0 → queued ≡ [])
-      → SendsRun gap m accepted (left_of ready sent frame) (rest - n)
+  pub rest-goes-on : ready ≡ false → size ≤ sent → (0 < pause → n ≤ pause)
+      → (pause ≤ 0 → queued ≡ [])
+      → SendsRun gap m accepted (unsent_of ready sent frame) (pause - n)
       (with_next ready frame queued) (answered n (take (sent - sent) (drop sent room)))
   rest-goes-on is over quiet idle =
       let long : length frame ≡ size = length-take-le size room fits in
       let none : drop sent frame ≡ [] = drop_all sent frame (omega arith) in
-      subst (λ r. SendsRun gap m accepted (left_of r sent frame) (rest - n)
+      subst (λ r. SendsRun gap m accepted (unsent_of r sent frame) (pause - n)
       (with_next r frame queued) (answered n (take (sent - sent) (drop sent room)))) (sym is)
-      (subst (λ x. SendsRun gap m accepted (drop sent frame) (rest - n) queued (answered n x))
+      (subst (λ x. SendsRun gap m accepted (drop sent frame) (pause - n) queued (answered n x))
       (sym (none-between sent room))
-      (subst (λ x. SendsRun gap m accepted x (rest - n) queued (answered n [])) (sym none)
-      (silence-leaves gap m accepted n rest queued some quiet idle
-      (subst (λ x. HasSent gap m accepted x rest queued) none (begun is)))))
+      (subst (λ x. SendsRun gap m accepted x (pause - n) queued (answered n [])) (sym none)
+      (silence-leaves gap m accepted n pause queued some quiet idle
+      (subst (λ x. HasSent gap m accepted x pause queued) none (begun is)))))
 
   -- silence before the next frame
-  pub next-waits : ready ≡ true → 0 < rest → n ≤ rest
-      → SendsRun gap m accepted (left_of ready sent frame) (rest - n)
+  pub next-waits : ready ≡ true → 0 < pause → n ≤ pause
+      → SendsRun gap m accepted (unsent_of ready sent frame) (pause - n)
       (with_next ready frame queued) (answered n (take (sent - sent) (drop sent room)))
   next-waits is more quiet =
-      subst (λ r. SendsRun gap m accepted (left_of r sent frame) (rest - n)
+      subst (λ r. SendsRun gap m accepted (unsent_of r sent frame) (pause - n)
       (with_next r frame queued) (answered n (take (sent - sent) (drop sent room)))) (sym is)
-      (subst (λ x. SendsRun gap m accepted [] (rest - n) (frame ∷ queued) (answered n x))
+      (subst (λ x. SendsRun gap m accepted [] (pause - n) (frame ∷ queued) (answered n x))
       (sym (none-between sent room))
-      (silence-leaves gap m accepted n rest (frame ∷ queued) some (λ _. quiet)
+      (silence-leaves gap m accepted n pause (frame ∷ queued) some (λ _. quiet)
       (λ none. absurd (omega arith)) (waits is)))
 
   -- the first bytes of the next frame
-  next-begins : ready ≡ true → rest ≤ 0 → n ≤ max size 1
+  next-begins : ready ≡ true → pause ≤ 0 → n ≤ max size 1
       → SendsRun gap m accepted (drop (min n size) frame) (rest_behind gap frame) queued
       (answered n (take (min n size - 0) (drop 0 room)))
   next-begins is done within =
       let long : length frame ≡ size = length-take-le size room fits in
-      let none : rest ≡ 0 = omega arith in
+      let none : pause ≡ 0 = omega arith in
       subst (λ x. SendsRun gap m accepted (drop (min n size) frame) (rest_behind gap frame) queued
       (answered n x)) (sym (front-between n size room fits))
       (subst (λ x. SendsRun gap m accepted x (rest_behind gap frame) queued
@@ -158,7 +158,7 @@ module _ (gap m : ℕ) (accepted : List Burst) (ready : Bool) (size sent rest n 
   rest-none [] none = refl
   rest-none (b ∷ x) none = absurd (omega arith)
 
-  pub some-begin : ready ≡ true → rest ≤ 0 → n ≤ max size 1 → 0 < size → (k : ℕ) → k ≡ min n size
+  pub some-begin : ready ≡ true → pause ≤ 0 → n ≤ max size 1 → 0 < size → (k : ℕ) → k ≡ min n size
       → SendsRun gap m accepted (drop k frame) gap queued (answered n (take (k - 0) (drop 0 room)))
   some-begin is done within there k sum =
       let long : length frame ≡ size = length-take-le size room fits in
@@ -168,7 +168,7 @@ module _ (gap m : ℕ) (accepted : List Burst) (ready : Bool) (size sent rest n 
       (answered n (take (min n size - 0) (drop 0 room)))) (rest-some frame (omega arith))
       (next-begins is done within))
 
-  pub none-begin : ready ≡ true → rest ≤ 0 → n ≤ max size 1 → size ≤ 0 → (k : ℕ) → k ≡ min n size
+  pub none-begin : ready ≡ true → pause ≤ 0 → n ≤ max size 1 → size ≤ 0 → (k : ℕ) → k ≡ min n size
       → SendsRun gap m accepted (drop k frame) (gap - 1) queued
       (answered n (take (k - 0) (drop 0 room)))
   none-begin is done within there k sum =

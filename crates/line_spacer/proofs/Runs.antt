@@ -19,20 +19,20 @@ use Rattle.yasir_ticks.specs.declared.tick.Tick.{Tick, TheVariants.Silent, TheVa
 -- ---- what leaves
 
 module _ (gap : ℕ) (accepted : List Burst) where
-  run-none : (m : ℕ) (left : List ℕ) (rest : ℕ) (queued : List (List ℕ))
-      → HasSent gap m accepted left rest queued → SendsRun gap m accepted left rest queued []
-  run-none m left rest queued has =
+  run-none : (m : ℕ) (unsent : List ℕ) (pause : ℕ) (queued : List (List ℕ))
+      → HasSent gap m accepted unsent pause queued → SendsRun gap m accepted unsent pause queued []
+  run-none m unsent pause queued has =
       let same : m ≡ m + 0 = omega arith in
       record {
         leave = ap (λ k. laid k accepted) (sym same) ∙ sym (append-nil (laid m accepted));
-        sent = subst (λ k. HasSent gap k accepted left rest queued) same has;
+        sent = subst (λ k. HasSent gap k accepted unsent pause queued) same has;
       }
 
-  run-more : (m : ℕ) (left : List ℕ) (rest : ℕ) (queued : List (List ℕ)) (u : Tick)
+  run-more : (m : ℕ) (unsent : List ℕ) (pause : ℕ) (queued : List (List ℕ)) (u : Tick)
       (answer : List Tick) → tick_at accepted m ≡ u
-      → SendsRun gap (m + 1) accepted left rest queued answer
-      → SendsRun gap m accepted left rest queued (u ∷ answer)
-  run-more m left rest queued u answer leaves others =
+      → SendsRun gap (m + 1) accepted unsent pause queued answer
+      → SendsRun gap m accepted unsent pause queued (u ∷ answer)
+  run-more m unsent pause queued u answer leaves others =
       let same : m + 1 + length answer ≡ m + length (u ∷ answer) = omega arith in
       record {
         leave = ap (λ k. laid k accepted) (sym same)
@@ -40,32 +40,32 @@ module _ (gap : ℕ) (accepted : List Burst) where
             ∙ (ap (λ x. x ++ answer) (laid-more m accepted
             ∙ ap (λ v. laid m accepted ++ v ∷ []) leaves)
             ∙ append_assoc (laid m accepted) (u ∷ []) answer));
-        sent = subst (λ k. HasSent gap k accepted left rest queued) same others.sent;
+        sent = subst (λ k. HasSent gap k accepted unsent pause queued) same others.sent;
       }
 
-  bytes-run : (n m : ℕ) (left : List ℕ) (rest : ℕ) (queued : List (List ℕ)) → n ≤ length left
-      → HasSent gap m accepted left rest queued
-      → SendsRun gap m accepted (drop n left) rest queued (on_line (take n left))
-  bytes-run zero m left rest queued fits has = run-none m left rest queued has
-  bytes-run (suc n) m [] rest queued fits has = absurd (omega arith)
-  bytes-run (suc n) m (b ∷ left) rest queued fits has =
-      let one = byte-sent gap m accepted b left rest queued has in
-      run-more m (drop n left) rest queued (Byte b) (on_line (take n left)) one.leaves
-      (bytes-run n (m + 1) left rest queued (omega arith) one.sent)
+  bytes-run : (n m : ℕ) (unsent : List ℕ) (pause : ℕ) (queued : List (List ℕ)) → n ≤ length unsent
+      → HasSent gap m accepted unsent pause queued
+      → SendsRun gap m accepted (drop n unsent) pause queued (on_line (take n unsent))
+  bytes-run zero m unsent pause queued fits has = run-none m unsent pause queued has
+  bytes-run (suc n) m [] pause queued fits has = absurd (omega arith)
+  bytes-run (suc n) m (b ∷ unsent) pause queued fits has =
+      let one = byte-sent gap m accepted b unsent pause queued has in
+      run-more m (drop n unsent) pause queued (Byte b) (on_line (take n unsent)) one.leaves
+      (bytes-run n (m + 1) unsent pause queued (omega arith) one.sent)
 
-  rest-run : (n m rest : ℕ) (queued : List (List ℕ)) → n ≤ rest
-      → HasSent gap m accepted [] rest queued
-      → SendsRun gap m accepted [] (rest - n) queued (silent n)
-  rest-run zero m rest queued fits has =
-      let same : rest ≡ rest - 0 = omega arith in
-      subst (λ k. SendsRun gap m accepted [] k queued []) same (run-none m [] rest queued has)
+  rest-run : (n m pause : ℕ) (queued : List (List ℕ)) → n ≤ pause
+      → HasSent gap m accepted [] pause queued
+      → SendsRun gap m accepted [] (pause - n) queued (silent n)
+  rest-run zero m pause queued fits has =
+      let same : pause ≡ pause - 0 = omega arith in
+      subst (λ k. SendsRun gap m accepted [] k queued []) same (run-none m [] pause queued has)
   rest-run (suc n) m zero queued fits has = absurd (omega arith)
-  rest-run (suc n) m (suc rest) queued fits has =
-      let one = rest-passes gap m accepted rest queued has in
-      let same : rest - n ≡ suc rest - suc n = omega arith in
+  rest-run (suc n) m (suc pause) queued fits has =
+      let one = rest-passes gap m accepted pause queued has in
+      let same : pause - n ≡ suc pause - suc n = omega arith in
       subst (λ k. SendsRun gap m accepted [] k queued (silent (suc n))) same
-      (run-more m [] (rest - n) queued Silent (silent n) one.leaves
-      (rest-run n (m + 1) rest queued (omega arith) one.sent))
+      (run-more m [] (pause - n) queued Silent (silent n) one.leaves
+      (rest-run n (m + 1) pause queued (omega arith) one.sent))
 
   idle-run : (n m : ℕ) → HasSent gap m accepted [] 0 [] → SendsRun gap m accepted [] 0 [] (silent n)
   idle-run zero m has = run-none m [] 0 [] has
@@ -130,23 +130,23 @@ module _ (reads : List Tick → List FrameRead) where
     length-run answer same = let long = length-append line x in omega arith
 
     -- before the frames of its last step are taken in
-    pub run-before : (accepted : List Burst) (left : List ℕ) (rest : ℕ) (queued : List (List ℕ))
+    pub run-before : (accepted : List Burst) (unsent : List ℕ) (pause : ℕ) (queued : List (List ℕ))
         (answer : List Tick) → length answer ≡ length x
-        → HasSent gap (length line + length answer) accepted left rest queued
-        → HasSent gap (last + 1) accepted left rest queued
-    run-before accepted left rest queued answer same has =
+        → HasSent gap (length line + length answer) accepted unsent pause queued
+        → HasSent gap (last + 1) accepted unsent pause queued
+    run-before accepted unsent pause queued answer same has =
         let end : length line + length answer ≡ last + 1 = omega arith in
-        subst (λ k. HasSent gap k accepted left rest queued) end has
+        subst (λ k. HasSent gap k accepted unsent pause queued) end has
 
-    pub run-sent : (left : List ℕ) (rest : ℕ) (queued : List (List ℕ))
+    pub run-sent : (unsent : List ℕ) (pause : ℕ) (queued : List (List ℕ))
         → HasSent gap (last + 1)
-        (taken_in gap room last (spaced reads gap cap line) frames).accepted left rest queued
-        → HasSent gap (length (line ++ x)) (accepted_of reads gap cap (line ++ x)) left rest queued
-    run-sent left rest queued has =
+        (taken_in gap room last (spaced reads gap cap line) frames).accepted unsent pause queued
+        → HasSent gap (length (line ++ x)) (accepted_of reads gap cap (line ++ x)) unsent pause queued
+    run-sent unsent pause queued has =
         let long = length-append line x in
         let end : last + 1 ≡ length (line ++ x) = omega arith in
-        subst (λ k. HasSent gap k (accepted_of reads gap cap (line ++ x)) left rest queued) end
-        (subst (λ s. HasSent gap (last + 1) s.accepted left rest queued) (sym spaced-run) has)
+        subst (λ k. HasSent gap k (accepted_of reads gap cap (line ++ x)) unsent pause queued) end
+        (subst (λ s. HasSent gap (last + 1) s.accepted unsent pause queued) (sym spaced-run) has)
 
     pub run-answers : (answer : List Tick) (lost : List FrameRead) → length answer ≡ length x
         → laid (length line + length answer) (accepted_of reads gap cap line)
@@ -174,32 +174,32 @@ answered-bytes n (b ∷ x) some = refl
 
 module _ (gap m : ℕ) (accepted : List Burst) where
   -- bytes of the frame that has begun
-  pub bytes-leave : (n : ℕ) (left : List ℕ) (rest : ℕ) (queued : List (List ℕ)) → 0 < n
-      → n ≤ length left → HasSent gap m accepted left rest queued
-      → SendsRun gap m accepted (drop n left) rest queued (answered n (take n left))
-  bytes-leave n left rest queued some within has =
-      let few : length (take n left) ≡ n = length-take-le n left within in
-      subst (λ x. SendsRun gap m accepted (drop n left) rest queued x)
-      (sym (answered-bytes n (take n left) (omega arith)))
-      (bytes-run gap accepted n m left rest queued within has)
+  pub bytes-leave : (n : ℕ) (unsent : List ℕ) (pause : ℕ) (queued : List (List ℕ)) → 0 < n
+      → n ≤ length unsent → HasSent gap m accepted unsent pause queued
+      → SendsRun gap m accepted (drop n unsent) pause queued (answered n (take n unsent))
+  bytes-leave n unsent pause queued some within has =
+      let few : length (take n unsent) ≡ n = length-take-le n unsent within in
+      subst (λ x. SendsRun gap m accepted (drop n unsent) pause queued x)
+      (sym (answered-bytes n (take n unsent) (omega arith)))
+      (bytes-run gap accepted n m unsent pause queued within has)
 
   -- silence behind a frame, or where no frame waits
-  pub silence-leaves : (n rest : ℕ) (queued : List (List ℕ)) → 0 < n → (0 < rest → n ≤ rest)
-      → (rest ≤ 0 → queued ≡ []) → HasSent gap m accepted [] rest queued
-      → SendsRun gap m accepted [] (rest - n) queued (silent n)
-  silence-leaves n rest queued some quiet idle has =
+  pub silence-leaves : (n pause : ℕ) (queued : List (List ℕ)) → 0 < n → (0 < pause → n ≤ pause)
+      → (pause ≤ 0 → queued ≡ []) → HasSent gap m accepted [] pause queued
+      → SendsRun gap m accepted [] (pause - n) queued (silent n)
+  silence-leaves n pause queued some quiet idle has =
       ⊎_elim
-      (λ some_rest. rest-run gap accepted n m rest queued (quiet some_rest) has)
+      (λ some_rest. rest-run gap accepted n m pause queued (quiet some_rest) has)
       (λ no_rest.
       let nothing : queued ≡ [] = idle no_rest in
-      let zero_rest : rest ≡ 0 = omega arith in
-      let less : 0 ≡ rest - n = omega arith in
+      let zero_rest : pause ≡ 0 = omega arith in
+      let less : 0 ≡ pause - n = omega arith in
       let P : ℕ → Type 0 = λ k. HasSent gap m accepted [] k queued in
       let Q : List (List ℕ) → Type 0 = λ q. HasSent gap m accepted [] 0 q in
-      subst (λ q. SendsRun gap m accepted [] (rest - n) q (silent n)) (sym nothing)
+      subst (λ q. SendsRun gap m accepted [] (pause - n) q (silent n)) (sym nothing)
       (subst (λ k. SendsRun gap m accepted [] k [] (silent n)) less
       (idle-run gap accepted n m (subst Q nothing (subst P zero_rest has)))))
-      (cases_lt 0 rest)
+      (cases_lt 0 pause)
 
   -- the first bytes of the next frame
   pub frame-leaves : (n : ℕ) (frame : List ℕ) (queued : List (List ℕ)) → 0 < n

@@ -90,19 +90,19 @@ due-append gap n (d ∷ ds) e due start = (due.0, due-append gap (end_of d + gap
 
 module _ (gap m : ℕ) (accepted : List Burst) where
   -- the frame that has begun goes on
-  pub byte-sent : (b : ℕ) (more : List ℕ) (rest : ℕ) (queued : List (List ℕ))
-      → HasSent gap m accepted (b ∷ more) rest queued
-      → Sends gap m accepted more rest queued (Byte b)
-  byte-sent b more rest queued has =
+  pub byte-sent : (b : ℕ) (more : List ℕ) (pause : ℕ) (queued : List (List ℕ))
+      → HasSent gap m accepted (b ∷ more) pause queued
+      → Sends gap m accepted more pause queued (Byte b)
+  byte-sent b more pause queued has =
       let from : m ≤ m = omega arith in
       let here : m - m ≡ 0 = omega arith in
       let free = has.free in
-      let late : m < m + length (b ∷ more) + rest = omega arith in
-      let due : AreDue gap (m + length (b ∷ more) + rest) has.waiting = has.due in
-      let same : m + length (b ∷ more) + rest ≡ m + 1 + length more + rest = omega arith in
+      let late : m < m + length (b ∷ more) + pause = omega arith in
+      let due : AreDue gap (m + length (b ∷ more) + pause) has.waiting = has.due in
+      let same : m + length (b ∷ more) + pause ≡ m + 1 + length more + pause = omega arith in
       record {
         leaves = ap (λ x. tick_at x m) has.is
-            ∙ (due-hidden gap (m + length (b ∷ more) + rest) has.begun has.waiting m due late
+            ∙ (due-hidden gap (m + length (b ∷ more) + pause) has.begun has.waiting m due late
             ∙ (has.sends m from ∙ ap (λ k. get_or (on_line (b ∷ more)) k Silent) here));
         sent = record {
           wide = has.wide;
@@ -122,18 +122,18 @@ module _ (gap m : ℕ) (accepted : List Burst) where
       }
 
   -- the silence behind it goes on
-  pub rest-passes : (rest : ℕ) (queued : List (List ℕ)) → HasSent gap m accepted []
-      (suc rest) queued
-      → Sends gap m accepted [] rest queued Silent
-  rest-passes rest queued has =
+  pub rest-passes : (pause : ℕ) (queued : List (List ℕ)) → HasSent gap m accepted []
+      (suc pause) queued
+      → Sends gap m accepted [] pause queued Silent
+  rest-passes pause queued has =
       let from : m ≤ m = omega arith in
       let free = has.free in
-      let late : m < m + 0 + suc rest = omega arith in
-      let due : AreDue gap (m + 0 + suc rest) has.waiting = has.due in
-      let same : m + 0 + suc rest ≡ m + 1 + 0 + rest = omega arith in
+      let late : m < m + 0 + suc pause = omega arith in
+      let due : AreDue gap (m + 0 + suc pause) has.waiting = has.due in
+      let same : m + 0 + suc pause ≡ m + 1 + 0 + pause = omega arith in
       record {
         leaves = ap (λ x. tick_at x m) has.is
-            ∙ (due-hidden gap (m + 0 + suc rest) has.begun has.waiting m due late
+            ∙ (due-hidden gap (m + 0 + suc pause) has.begun has.waiting m due late
             ∙ has.sends m from);
         sent = record {
           wide = has.wide;
@@ -280,30 +280,30 @@ module _ (gap m : ℕ) (accepted : List Burst) where
 
 -- ---- a frame that is read
 
-module _ (gap m : ℕ) (accepted : List Burst) (left : List ℕ) (rest : ℕ)
+module _ (gap m : ℕ) (accepted : List Burst) (unsent : List ℕ) (pause : ℕ)
     (queued : List (List ℕ)) where
   -- where it may begin
-  pub earliest : (begun waiting : List Burst) → free_from gap 0 begun - m ≡ length left + rest
-      → AreDue gap (m + length left + rest) waiting
+  pub earliest : (begun waiting : List Burst) → free_from gap 0 begun - m ≡ length unsent + pause
+      → AreDue gap (m + length unsent + pause) waiting
       → max m (free_from gap 0 (begun ++ waiting))
-      ≡ free_from gap (m + length left + rest) waiting
+      ≡ free_from gap (m + length unsent + pause) waiting
   earliest begun [] free due =
       ap (λ x. max m (free_from gap 0 x)) (append-nil begun) ∙ grind arith
   earliest begun (d ∷ ds) free due =
-      let start : d.start ≡ m + length left + rest = due.0 in
+      let start : d.start ≡ m + length unsent + pause = due.0 in
       let more = due-grows gap (end_of d + gap) ds due.1 in
       ap (λ n. max m n) (free_from-append gap 0 begun (d ∷ ds))
       ∙ omega arith
 
   -- it waits behind the others
-  pub frame-waits : (frame : List ℕ) → HasSent gap m accepted left rest queued
+  pub frame-waits : (frame : List ℕ) → HasSent gap m accepted unsent pause queued
       → HasSent gap m
-      (accepted ++ sent_from (max m (free_from gap 0 accepted)) frame ∷ []) left rest
+      (accepted ++ sent_from (max m (free_from gap 0 accepted)) frame ∷ []) unsent pause
       (queued ++ frame ∷ [])
   frame-waits frame has =
       let at : ℕ = max m (free_from gap 0 accepted) in
       let d : Burst = sent_from at frame in
-      let due : AreDue gap (m + length left + rest) has.waiting = has.due in
+      let due : AreDue gap (m + length unsent + pause) has.waiting = has.due in
       record {
         wide = has.wide;
         begun = has.begun;
@@ -312,7 +312,7 @@ module _ (gap m : ℕ) (accepted : List Burst) (left : List ℕ) (rest : ℕ)
         have_begun = has.have_begun;
         sends = has.sends;
         free = has.free;
-        due = due-append gap (m + length left + rest) has.waiting d due
+        due = due-append gap (m + length unsent + pause) has.waiting d due
             (ap (λ x. max m (free_from gap 0 x)) has.is
             ∙ earliest has.begun has.waiting has.free due);
         queue = map-append (λ e. e.body) has.waiting (d ∷ [])
@@ -337,14 +337,14 @@ module _ (gap m : ℕ) (accepted : List Burst) (left : List ℕ) (rest : ℕ)
       rw yes (ap (λ x. d ∷ x) (all-from (end_of d + gap) ds later due.1))
 
   -- as many wait as are queued
-  pub waiting-count : HasSent gap m accepted left rest queued → count_from m accepted
+  pub waiting-count : HasSent gap m accepted unsent pause queued → count_from m accepted
       ≡ length queued
   waiting-count has =
-      let from : m ≤ m + length left + rest = omega arith in
+      let from : m ≤ m + length unsent + pause = omega arith in
       ap (λ x. length (filter (λ d. nat_le m d.start) x)) has.is
       ∙ (ap length (filter-append (λ d. nat_le m d.start) has.begun has.waiting)
       ∙ (ap (λ x. length (x ++ filter (λ d. nat_le m d.start) has.waiting))
-      (none-from (m + length left) has.begun has.have_begun)
-      ∙ (ap length (all-from (m + length left + rest) has.waiting from has.due)
+      (none-from (m + length unsent) has.begun has.have_begun)
+      ∙ (ap length (all-from (m + length unsent + pause) has.waiting from has.due)
       ∙ (sym (length-map has.waiting (λ d. d.body))
       ∙ (ap length has.queue ∙ length-map queued on_line)))))

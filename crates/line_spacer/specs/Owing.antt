@@ -5,7 +5,7 @@ use Rattle.burst_walk.specs.Laid.{tick_at}
 use Rattle.device_model.specs.Frames.{FrameRead}
 use Rattle.device_model.specs.declared.device.Device.{Ghosts as Device}
 use Rattle.line_spacer.specs.Spacing.{Spaced, spaced, accepted_of, lost_of}
-use Rattle.line_spacer.specs.Stands.{SentBy, frame_at, frames_waiting, left_of, taken_in}
+use Rattle.line_spacer.specs.Stands.{SentBy, frame_at, frames_waiting, unsent_of, taken_in}
 use Rattle.line_spacer.specs.declared.spacer.Spacer.{Spacer}
 
 -- Behind a line these ticks come. Of all of them this was made so far, all but what is made of these
@@ -33,7 +33,7 @@ still_read (t ∷ ticks) frames = frames
 
 -- For how many ticks the other line is busy with a frame that has begun, and those that wait.
 abbrev pub busy_ticks : {V : Type 0} {GAP : ℕ} → Spacer V GAP → ℕ
-busy_ticks {V} {GAP} value = length (left_of value.ready value.sent (frame_at value)) + value.rest
+busy_ticks {V} {GAP} value = length (unsent_of value.ready value.sent (frame_at value)) + value.pause
     + ticks_for GAP (frames_waiting value)
 
 module _ {V : Type 0} (device : Device V) where

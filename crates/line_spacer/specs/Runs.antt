@@ -3,32 +3,32 @@ use Rattle.std.specs.Prelude.{◌≡◌, ℕ, ◌+◌, ◌<◌, ◌≤◌, List,
 use Rattle.yasir_ticks.specs.Bursts.{Burst}
 use Rattle.yasir_ticks.specs.declared.tick.Tick.{Tick}
 use Rattle.burst_walk.specs.Laid.{laid}
-use Rattle.line_spacer.specs.Stands.{HasSent, left_of, frame_at, frames_waiting}
+use Rattle.line_spacer.specs.Stands.{HasSent, unsent_of, frame_at, frames_waiting}
 use Rattle.line_spacer.specs.declared.spacer.Spacer.{Spacer}
 
 -- It has sent so before tick m. In the ticks from m on these leave, and it has sent so behind them.
-pub record SendsRun (gap m : ℕ) (accepted : List Burst) (left : List ℕ) (rest : ℕ)
+pub record SendsRun (gap m : ℕ) (accepted : List Burst) (unsent : List ℕ) (pause : ℕ)
     (queued : List (List ℕ)) (answer : List Tick) : Type 0 where
   pub leave : laid (m + length answer) accepted ≡ laid m accepted ++ answer
-  pub sent : HasSent gap (m + length answer) accepted left rest queued
+  pub sent : HasSent gap (m + length answer) accepted unsent pause queued
 
 abbrev pub SendsRunBy : {V : Type 0} {GAP : ℕ} → Spacer V GAP → ℕ → List Burst → List Tick → Type 0
 SendsRunBy {V} {GAP} value m accepted answer =
-    SendsRun GAP m accepted (left_of value.ready value.sent (frame_at value)) value.rest
+    SendsRun GAP m accepted (unsent_of value.ready value.sent (frame_at value)) value.pause
     (frames_waiting value) answer
 
 -- Where nothing is left of a frame and of the silence behind it, the next frame is ready to begin,
 -- or none waits.
 abbrev pub IsMade : {V : Type 0} {GAP : ℕ} → Spacer V GAP → Type 0
-IsMade value = value.rest ≤ 0 → value.ready ≡ false → value.size ≤ value.sent
+IsMade value = value.pause ≤ 0 → value.ready ≡ false → value.size ≤ value.sent
     → value.queue.frames ≡ []
 
 -- In this many ticks only bytes of a frame leave, of the one that is ready to begin or of the one
 -- that has begun, or only silence: that behind a frame, or any where no frame waits.
 pub record StaysAlike {V : Type 0} {GAP : ℕ} (value : Spacer V GAP) (n : ℕ) : Type 0 where
-  pub begins : value.ready ≡ true → value.rest ≤ 0 → n ≤ max value.size 1
-  pub waits : value.ready ≡ true → 0 < value.rest → n ≤ value.rest
+  pub begins : value.ready ≡ true → value.pause ≤ 0 → n ≤ max value.size 1
+  pub waits : value.ready ≡ true → 0 < value.pause → n ≤ value.pause
   pub bytes : value.ready ≡ false → value.sent < value.size → value.sent + n ≤ value.size
-  pub quiet : value.ready ≡ false → value.size ≤ value.sent → 0 < value.rest → n ≤ value.rest
-  pub idle : value.ready ≡ false → value.size ≤ value.sent → value.rest ≤ 0
+  pub quiet : value.ready ≡ false → value.size ≤ value.sent → 0 < value.pause → n ≤ value.pause
+  pub idle : value.ready ≡ false → value.size ≤ value.sent → value.pause ≤ 0
       → value.queue.frames ≡ []

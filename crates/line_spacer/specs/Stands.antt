@@ -14,7 +14,7 @@ use Rattle.line_spacer.specs.declared.spacer.Spacer.{Spacer}
 
 -- tick i of the other line, where these bytes are sent from tick m on
 abbrev pub tick_of : ℕ → List ℕ → ℕ → Tick
-tick_of m left i = slice_index_or (map (λ b. Byte b) left) (i - m) Silent
+tick_of m unsent i = slice_index_or (map (λ b. Byte b) unsent) (i - m) Silent
 
 -- Each of these bursts begins before tick m and ends by tick n.
 abbrev pub HaveBegun : ℕ → ℕ → List Burst → Type 0
@@ -28,16 +28,16 @@ AreDue gap n (d ∷ ds) = (d.start ≡ n) × AreDue gap (end_of d + gap) ds
 
 -- Before tick m, of these accepted frames some have begun, of the last of which these bytes are
 -- still to be sent, and behind them this many silent ticks are still to pass. The others wait.
-pub record HasSent (gap m : ℕ) (accepted : List Burst) (left : List ℕ) (rest : ℕ)
+pub record HasSent (gap m : ℕ) (accepted : List Burst) (unsent : List ℕ) (pause : ℕ)
     (queued : List (List ℕ)) : Type 0 where
   pub wide : 0 < gap
   pub begun : List Burst
   pub waiting : List Burst
   pub is : accepted ≡ begun ++ waiting
-  pub have_begun : HaveBegun m (m + length left) begun
-  pub sends : (i : ℕ) → m ≤ i → tick_at begun i ≡ tick_of m left i
-  pub free : free_from gap 0 begun - m ≡ length left + rest
-  pub due : AreDue gap (m + length left + rest) waiting
+  pub have_begun : HaveBegun m (m + length unsent) begun
+  pub sends : (i : ℕ) → m ≤ i → tick_at begun i ≡ tick_of m unsent i
+  pub free : free_from gap 0 begun - m ≡ length unsent + pause
+  pub due : AreDue gap (m + length unsent + pause) waiting
   pub queue : map (λ d. d.body) waiting ≡ map (λ x. map (λ b. Byte b) x) queued
 
 -- Of a frame that has begun: the silent ticks that are still to pass behind its last byte.
@@ -46,15 +46,15 @@ rest_behind gap [] = gap - 1
 rest_behind gap (b ∷ frame) = gap
 
 -- It has sent so before the tick behind tick m, in which this leaves.
-pub record Sends (gap m : ℕ) (accepted : List Burst) (left : List ℕ) (rest : ℕ)
+pub record Sends (gap m : ℕ) (accepted : List Burst) (unsent : List ℕ) (pause : ℕ)
     (queued : List (List ℕ)) (t : Tick) : Type 0 where
   pub leaves : tick_at accepted m ≡ t
-  pub sent : HasSent gap (m + 1) accepted left rest queued
+  pub sent : HasSent gap (m + 1) accepted unsent pause queued
 
 -- of a frame of which so many bytes were sent: those that are still to be sent, if it has begun
-abbrev pub left_of : Bool → ℕ → List ℕ → List ℕ
-left_of true sent frame = []
-left_of false sent frame = drop sent frame
+abbrev pub unsent_of : Bool → ℕ → List ℕ → List ℕ
+unsent_of true sent frame = []
+unsent_of false sent frame = drop sent frame
 
 -- the frames that wait: this one, if it is still to begin, and those of the queue
 abbrev pub with_next : Bool → List ℕ → List (List ℕ) → List (List ℕ)
@@ -70,13 +70,13 @@ abbrev pub frames_waiting : {V : Type 0} {GAP : ℕ} → Spacer V GAP → List (
 frames_waiting value = with_next value.ready (frame_at value) value.queue.frames
 
 -- the bytes that left in the last ticks that were taken
-abbrev pub bytes_left : {V : Type 0} {GAP : ℕ} → Spacer V GAP → List ℕ
-bytes_left value = take (value.sent - value.before) (drop value.before value.room)
+abbrev pub bytes_sent : {V : Type 0} {GAP : ℕ} → Spacer V GAP → List ℕ
+bytes_sent value = take (value.sent - value.before) (drop value.before value.room)
 
 -- Before tick m the spacer has sent so.
 abbrev pub SentBy : {V : Type 0} {GAP : ℕ} → Spacer V GAP → ℕ → List Burst → Type 0
 SentBy {V} {GAP} value m accepted =
-    HasSent GAP m accepted (left_of value.ready value.sent (frame_at value)) value.rest
+    HasSent GAP m accepted (unsent_of value.ready value.sent (frame_at value)) value.pause
     (frames_waiting value)
 
 module _ {V : Type 0} (device : Device V) where

@@ -58,7 +58,7 @@ pub struct Spacer<V, const GAP: usize> {
     before: usize,
     sent: usize,
     // the silent ticks that are still to pass behind the frame that was begun last
-    rest: usize,
+    pause: usize,
     ghost grows: { before ≤ sent },
     ghost within: { sent ≤ size },
     ghost fits: { size ≤ 292 },
@@ -76,7 +76,7 @@ impl<V: Device, const GAP: usize> Spacer<V, GAP> {
     ghost use Rattle.device_model.specs.Frames.{frames_lent};
     ghost use Rattle.line_spacer.specs.Spacing.{Spaced, waiting_of};
     ghost use Rattle.line_spacer.specs.Stands.{StandsFor, AnswersSpaced, ticks_taken, bytes_lent};
-    ghost use Rattle.line_spacer.specs.Stands.{SentBy, TakesIn, taken_in, bytes_left};
+    ghost use Rattle.line_spacer.specs.Stands.{SentBy, TakesIn, taken_in, bytes_sent};
     ghost use Rattle.line_spacer.specs.Stands.{frames_waiting, tick_of};
 
     /// A spacer that has taken no tick, with room for `cap` frames to wait. It takes its memory
@@ -96,7 +96,7 @@ impl<V: Device, const GAP: usize> Spacer<V, GAP> {
             ready: false,
             before: 0,
             sent: 0,
-            rest: 0,
+            pause: 0,
         })
     }
 
@@ -130,7 +130,7 @@ impl<V: Device, const GAP: usize> Spacer<V, GAP> {
         ensures sent { (m : ℕ) (accepted : List Burst) → SentBy self.old m accepted
             → SentBy self.new m accepted }
     {
-        if self.rest > 0 {
+        if self.pause > 0 {
             return;
         }
         if self.ready {
@@ -153,16 +153,16 @@ impl<V: Device, const GAP: usize> Spacer<V, GAP> {
         ensures alike { StaysAlike self.now result }
     {
         if self.ready {
-            if self.rest > 0 {
-                return self.rest;
+            if self.pause > 0 {
+                return self.pause;
             }
             return self.size.max(1);
         }
         if self.sent < self.size {
             return self.size - self.sent;
         }
-        if self.rest > 0 {
-            return self.rest;
+        if self.pause > 0 {
+            return self.pause;
         }
         usize::MAX
     }
@@ -177,22 +177,22 @@ impl<V: Device, const GAP: usize> Spacer<V, GAP> {
         ensures device { self.new.device ≡ self.old.device }
         ensures room { self.new.queue.capacity ≡ self.old.queue.capacity }
         ensures sends { (m : ℕ) (accepted : List Burst) → SentBy self.old m accepted
-            → SendsRunBy self.new m accepted (answered ticks (bytes_left self.new)) }
-        ensures long { length (answered ticks (bytes_left self.new)) ≡ ticks }
+            → SendsRunBy self.new m accepted (answered ticks (bytes_sent self.new)) }
+        ensures long { length (answered ticks (bytes_sent self.new)) ≡ ticks }
     {
-        if self.rest > 0 {
+        if self.pause > 0 {
             self.before = self.sent;
-            self.rest = self.rest.saturating_sub(ticks);
+            self.pause = self.pause.saturating_sub(ticks);
             return;
         }
         self.ready = false;
         self.before = 0;
         self.sent = ticks.min(self.size);
         if self.size == 0 {
-            self.rest = GAP.saturating_sub(1);
+            self.pause = GAP.saturating_sub(1);
             return;
         }
-        self.rest = GAP;
+        self.pause = GAP;
     }
 
     // The next ticks of the other line, in which it stays alike.
@@ -203,8 +203,8 @@ impl<V: Device, const GAP: usize> Spacer<V, GAP> {
         ensures device { self.new.device ≡ self.old.device }
         ensures room { self.new.queue.capacity ≡ self.old.queue.capacity }
         ensures sends { (m : ℕ) (accepted : List Burst) → SentBy self.old m accepted
-            → SendsRunBy self.new m accepted (answered ticks (bytes_left self.new)) }
-        ensures long { length (answered ticks (bytes_left self.new)) ≡ ticks }
+            → SendsRunBy self.new m accepted (answered ticks (bytes_sent self.new)) }
+        ensures long { length (answered ticks (bytes_sent self.new)) ≡ ticks }
     {
         if self.ready {
             return self.send_next(ticks);
@@ -215,7 +215,7 @@ impl<V: Device, const GAP: usize> Spacer<V, GAP> {
             return;
         }
         self.before = self.sent;
-        self.rest = self.rest.saturating_sub(ticks);
+        self.pause = self.pause.saturating_sub(ticks);
     }
 
     // Adds the frame that the device lends to the queue.
@@ -223,7 +223,7 @@ impl<V: Device, const GAP: usize> Spacer<V, GAP> {
         requires few { length (frames_waiting self.old) < self.old.queue.capacity }
         ensures device { self.new.device ≡ self.old.device }
         ensures room { self.new.queue.capacity ≡ self.old.queue.capacity }
-        ensures left { bytes_left self.new ≡ bytes_left self.old }
+        ensures sent { bytes_sent self.new ≡ bytes_sent self.old }
         ensures sent { (start step : ℕ) (s : Spaced) → SentBy self.old (step + 1) s.accepted
             → SentBy self.new (step + 1) (taken_in GAP self.old.queue.capacity step s
             (frames_lent (Some start) (bytes_lent V.lent self.old))).accepted }
@@ -238,7 +238,7 @@ impl<V: Device, const GAP: usize> Spacer<V, GAP> {
         requires free { self.old.size ≤ self.old.before }
         ensures device { self.new.device ≡ self.old.device }
         ensures room { self.new.queue.capacity ≡ self.old.queue.capacity }
-        ensures left { bytes_left self.new ≡ bytes_left self.old }
+        ensures sent { bytes_sent self.new ≡ bytes_sent self.old }
         ensures sent { (start step : ℕ) (s : Spaced) → SentBy self.old (step + 1) s.accepted
             → SentBy self.new (step + 1) (taken_in GAP self.old.queue.capacity step s
             (frames_lent (Some start) (bytes_lent V.lent self.old))).accepted }
@@ -257,7 +257,7 @@ impl<V: Device, const GAP: usize> Spacer<V, GAP> {
     fn keep_frame(&mut self, start: u64) -> Option<u64>
         ensures device { self.new.device ≡ self.old.device }
         ensures room { self.new.queue.capacity ≡ self.old.queue.capacity }
-        ensures left { bytes_left self.new ≡ bytes_left self.old }
+        ensures sent { bytes_sent self.new ≡ bytes_sent self.old }
         ensures sent { (step : ℕ) (s : Spaced) → SentBy self.old (step + 1) s.accepted
             → SentBy self.new (step + 1) (taken_in GAP self.old.queue.capacity step s
             (frames_lent (Some start) (bytes_lent V.lent self.old))).accepted }
@@ -283,7 +283,7 @@ impl<V: Device, const GAP: usize> Spacer<V, GAP> {
     fn keep(&mut self, read: Option<u64>) -> Option<u64>
         ensures device { self.new.device ≡ self.old.device }
         ensures room { self.new.queue.capacity ≡ self.old.queue.capacity }
-        ensures left { bytes_left self.new ≡ bytes_left self.old }
+        ensures sent { bytes_sent self.new ≡ bytes_sent self.old }
         ensures sent { (step : ℕ) (s : Spaced) → SentBy self.old (step + 1) s.accepted
             → SentBy self.new (step + 1)
             (taken_in GAP self.old.queue.capacity step s
@@ -310,13 +310,13 @@ impl<V: Device, const GAP: usize> Spacer<V, GAP> {
         ensures within { result.taken ≤ length (run_ticks run.entry) }
         ensures taken { ticks_taken V.Device self.new
             ≡ ticks_taken V.Device self.old + result.taken }
-        ensures long { length (answered result.taken (bytes_left self.new)) ≡ result.taken }
+        ensures long { length (answered result.taken (bytes_sent self.new)) ≡ result.taken }
         ensures stands { (cap : ℕ) (line : List Tick) → StandsFor V.Device cap self.old line
             → StandsFor V.Device cap self.new
             (line ++ take result.taken (run_ticks run.entry)) }
         ensures answer { (cap : ℕ) (line : List Tick) → StandsFor V.Device cap self.old line
             → AnswersSpaced V.reads GAP cap line (take result.taken (run_ticks run.entry))
-            (answered result.taken (bytes_left self.new)) (length line + (result.taken - 1))
+            (answered result.taken (bytes_sent self.new)) (length line + (result.taken - 1))
             (frames_lent result.lost (bytes_lent V.lent self.new)) }
     {
         self.make_ready();
@@ -352,7 +352,7 @@ impl<V: Device, const GAP: usize> Spacer<V, GAP> {
     {
         let gaps = self.queue.len().saturating_mul(GAP);
         let queued = self.queue.bytes_waiting().saturating_add(gaps);
-        let behind = queued.saturating_add(self.rest);
+        let behind = queued.saturating_add(self.pause);
         if self.ready {
             let next = self.size.saturating_add(GAP);
             return behind.saturating_add(next);
@@ -396,7 +396,7 @@ impl<V: Device, const GAP: usize> Spacer<V, GAP> {
         ensures short { result.taken < 2 ^ 32 }
         ensures taken { ticks_taken V.Device self.new ≡ ticks_taken V.Device self.old }
         ensures lent { bytes_lent V.lent self.new ≡ bytes_lent V.lent self.old }
-        ensures long { length (answered result.taken (bytes_left self.new)) ≡ result.taken }
+        ensures long { length (answered result.taken (bytes_sent self.new)) ≡ result.taken }
         ensures owes { (cap : ℕ) (line ticks : List Tick) → length ticks ≡ owed
             → Owes V.Device cap self.old line ticks (frames_lent read (bytes_lent V.lent self.old))
             → Owes V.Device cap self.new (line ++ take result.taken ticks)
@@ -405,7 +405,7 @@ impl<V: Device, const GAP: usize> Spacer<V, GAP> {
         ensures answer { (cap : ℕ) (line ticks : List Tick) → length ticks ≡ owed
             → Owes V.Device cap self.old line ticks (frames_lent read (bytes_lent V.lent self.old))
             → AnswersSpaced V.reads GAP cap line (take result.taken ticks)
-            (answered result.taken (bytes_left self.new)) (length line + (result.taken - 1))
+            (answered result.taken (bytes_sent self.new)) (length line + (result.taken - 1))
             (frames_lent result.lost (bytes_lent V.lent self.new)) }
     {
         self.make_ready();
@@ -422,7 +422,7 @@ impl<V: Device, const GAP: usize> Spacer<V, GAP> {
 
     // The first tick in which bytes left, or none.
     fn tick_left(&self) -> Tick
-        ensures { result ≡ tick_of 0 (bytes_left self.now) 0 }
+        ensures { result ≡ tick_of 0 (bytes_sent self.now) 0 }
     {
         match self.left_bytes().first() {
             Some(byte) => Tick::Byte(*byte),
@@ -466,7 +466,7 @@ impl<V: Device, const GAP: usize> Spacer<V, GAP> {
     /// The bytes that left in the last ticks taken, one in each; none where silence left.
     #[inline(always)]
     pub fn left_bytes(&self) -> &[u8]
-        ensures { result.now ≡ bytes_left self.now }
+        ensures { result.now ≡ bytes_sent self.now }
     {
         &self.room[self.before..self.sent]
     }

@@ -149,11 +149,11 @@ pub fn push_run<O: Sink, L: Sink>(
 
 /// What is answered to a run of ticks: these bytes, or this many silent ticks where there is none.
 #[inline]
-pub fn answer_run(count: u32, left: &[u8]) -> TickRun<'_>
-    ensures { run_ticks result ≡ answered count left.now }
+pub fn answer_run(count: u32, sent: &[u8]) -> TickRun<'_>
+    ensures { run_ticks result ≡ answered count sent.now }
 {
-    match left {
+    match sent {
         [] => TickRun::Silence(count),
-        [_, ..] => TickRun::Bytes(left),
+        [_, ..] => TickRun::Bytes(sent),
     }
 }

@@ -11,49 +11,49 @@ use yasir_ticks::{MAX_TICKS, Tick, TickRun};
 /// How many bytes are forwarded at once at most: as many as `RunBytes` has room for.
 const MAX_RUN: usize = 64;
 
-/// Puts these bytes, 64 at most, into `left` in place of what is there.
+/// Puts these bytes, 64 at most, into `sent` in place of what is there.
 #[inline]
-pub fn put_bytes(left: &mut RunBytes, bytes: &[u8])
+pub fn put_bytes(sent: &mut RunBytes, bytes: &[u8])
     requires { length bytes.now ≤ 64 }
-    ensures { left.new.items ≡ bytes.now }
+    ensures { sent.new.items ≡ bytes.now }
 {
-    left.clear();
-    let _ = left.try_extend_from_slice(bytes);
+    sent.clear();
+    let _ = sent.try_extend_from_slice(bytes);
 }
 
-/// Puts the answer to a single tick into `left`, in place of what is there: its byte, or nothing
+/// Puts the answer to a single tick into `sent`, in place of what is there: its byte, or nothing
 /// where it is silent.
 #[inline]
-pub fn put_tick(left: &mut RunBytes, tick: Tick)
-    ensures { answered 1 left.new.items ≡ tick ∷ [] }
+pub fn put_tick(sent: &mut RunBytes, tick: Tick)
+    ensures { answered 1 sent.new.items ≡ tick ∷ [] }
 {
-    left.clear();
+    sent.clear();
     if let Tick::Byte(byte) = tick {
-        let _ = left.try_push(byte);
+        let _ = sent.try_push(byte);
     }
 }
 
 // Takes what the box forwards of the first of these ticks, and puts the bytes among them into
-// `left`.
+// `sent`.
 #[inline]
-fn forward_alike<X: LinkBox>(line_box: &mut X, run: TickRun<'_>, left: &mut RunBytes) -> usize
+fn forward_alike<X: LinkBox>(line_box: &mut X, run: TickRun<'_>, sent: &mut RunBytes) -> usize
     requires { X.taken line_box.old + length (run_ticks run) ≤ MAX_TICKS }
     ensures within { result ≤ length (run_ticks run.entry) }
     ensures taken { X.taken line_box.new ≡ X.taken line_box.old + result }
     ensures link { X.link_of line_box.new ≡ X.link_of line_box.old }
     ensures run { TakesRun X.walking X.stands line_box.old line_box.new
-        (take result (run_ticks run.entry)) (answered result left.new.items) }
+        (take result (run_ticks run.entry)) (answered result sent.new.items) }
 {
     match run {
         TickRun::Bytes(bytes) => {
             let front = &bytes[..bytes.len().min(MAX_RUN)];
             let count = line_box.forward(TickRun::Bytes(front));
-            put_bytes(left, &front[..count]);
+            put_bytes(sent, &front[..count]);
             count
         }
         TickRun::Silence(ticks) => {
             let count = line_box.forward(TickRun::Silence(ticks));
-            left.clear();
+            sent.clear();
             count
         }
     }
@@ -61,21 +61,21 @@ fn forward_alike<X: LinkBox>(line_box: &mut X, run: TickRun<'_>, left: &mut RunB
 
 /// Takes the first of these ticks, as far as the box answers all of them with silence or all of
 /// them with bytes, without a note and without a number, and returns how many: what it forwards
-/// comes first, then what it doesn't. Puts the bytes of the answer into `left`, one for each tick,
+/// comes first, then what it doesn't. Puts the bytes of the answer into `sent`, one for each tick,
 /// or none for silence. With 0 the caller goes on by `step`. At most `MAX_TICKS` ticks are taken
 /// then.
 #[inline]
-pub fn take_alike<X: LinkBox>(line_box: &mut X, run: TickRun<'_>, left: &mut RunBytes) -> usize
+pub fn take_alike<X: LinkBox>(line_box: &mut X, run: TickRun<'_>, sent: &mut RunBytes) -> usize
     requires { X.taken line_box.old + length (run_ticks run) ≤ MAX_TICKS }
     ensures within { result ≤ length (run_ticks run.entry) }
     ensures taken { X.taken line_box.new ≡ X.taken line_box.old + result }
     ensures link { X.link_of line_box.new ≡ X.link_of line_box.old }
     ensures run { TakesRun X.walking X.stands line_box.old line_box.new
-        (take result (run_ticks run.entry)) (answered result left.new.items) }
+        (take result (run_ticks run.entry)) (answered result sent.new.items) }
 {
-    let forwarded = forward_alike(line_box, run, left);
+    let forwarded = forward_alike(line_box, run, sent);
     if forwarded > 0 {
         return forwarded;
     }
-    line_box.pass(run, left)
+    line_box.pass(run, sent)
 }

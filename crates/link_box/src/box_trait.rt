@@ -93,17 +93,17 @@ pub trait LinkBox: Drop {
 
     /// Takes the first of these ticks, as far as the box answers all of them with silence or all of
     /// them with bytes, without a note and without a number, and returns how many. Puts the bytes
-    /// of the answer into `left`, one for each tick, or none for silence. With 0 the caller goes on
+    /// of the answer into `sent`, one for each tick, or none for silence. With 0 the caller goes on
     /// by another call. At most `MAX_TICKS` ticks are taken then.
-    fn pass(&mut self, _run: TickRun<'_>, left: &mut RunBytes) -> usize
+    fn pass(&mut self, _run: TickRun<'_>, sent: &mut RunBytes) -> usize
         requires { taken self.old + length (run_ticks _run) ≤ MAX_TICKS }
         ensures within { result ≤ length (run_ticks _run.entry) }
         ensures taken { taken self.new ≡ taken self.old + result }
         ensures link { link_of self.new ≡ link_of self.old }
         ensures run { TakesRun walking stands self.old self.new
-            (take result (run_ticks _run.entry)) (answered result left.new.items) }
+            (take result (run_ticks _run.entry)) (answered result sent.new.items) }
     {
-        left.clear();
+        sent.clear();
         0
     }
 }

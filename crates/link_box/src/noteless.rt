@@ -50,13 +50,13 @@ pub trait ForetellingBox: NotelessBox {
             → MayNoteAt Self.stands Self.noteless self.now (run_ticks run.entry) };
 
     /// Takes these ticks, all of them, which the box has foretold. No note falls into them, and no
-    /// number is used. Puts the bytes of the answer into `left`, one for each tick, or none for
+    /// number is used. Puts the bytes of the answer into `sent`, one for each tick, or none for
     /// silence. At most `MAX_TICKS` ticks are taken then.
-    fn follow(&mut self, run: TickRun<'_>, left: &mut RunBytes)
+    fn follow(&mut self, run: TickRun<'_>, sent: &mut RunBytes)
         requires foretold { foretold self.old (run_ticks run) }
         requires room { Self.taken self.old + length (run_ticks run) ≤ MAX_TICKS }
         ensures taken { Self.taken self.new ≡ Self.taken self.old + length (run_ticks run.entry) }
         ensures link { Self.link_of self.new ≡ Self.link_of self.old }
         ensures run { TakesRun Self.walking Self.stands self.old self.new (run_ticks run.entry)
-            (answered (length (run_ticks run.entry)) left.new.items) };
+            (answered (length (run_ticks run.entry)) sent.new.items) };
 }

@@ -5,10 +5,10 @@ use Rattle.yasir_ticks.specs.declared.tick.Tick.TheVariants.{Silent, Byte}
 use Rattle.link_format.specs.declared.trailer.Trailer.{Trailer}
 
 -- the bytes that aren't sent yet
-abbrev pub bytes_left : {B : ℕ} → Trailer B → List ℕ
-bytes_left trailer = drop trailer.sent trailer.bytes.items
+abbrev pub bytes_unsent : {B : ℕ} → Trailer B → List ℕ
+bytes_unsent trailer = drop trailer.sent trailer.bytes.items
 
 -- the first of some bytes as a tick, or silence
 abbrev pub first_of : List ℕ → Tick
 first_of [] = Silent
-first_of (b ∷ left) = Byte b
+first_of (b ∷ unsent) = Byte b

@@ -24,12 +24,12 @@ impl<const B: usize> Trailer<B> {
     ghost use Rattle.std.specs.Prelude.{◌≡◌, ◌≤◌, [], ◌∷◌, ◌++◌, drop, take, length, IfSome};
     ghost use Rattle.std.specs.Prelude.{IfNone};
     ghost use Rattle.std.specs.Int.{bytes_high_first};
-    ghost use Rattle.link_format.specs.Trailers.{bytes_left, first_of};
+    ghost use Rattle.link_format.specs.Trailers.{bytes_unsent, first_of};
 
     /// No trailer: nothing is left to be sent.
     pub fn none() -> Trailer<B>
         requires word { IsWordLen B }
-        ensures { bytes_left result ≡ [] }
+        ensures { bytes_unsent result ≡ [] }
     {
         Trailer {
             bytes: ArrayVec::new(),
@@ -39,7 +39,7 @@ impl<const B: usize> Trailer<B> {
 
     /// Makes it the trailer of a number and its tag, all of which is left to be sent.
     pub fn load(&mut self, number: u64, tag: &TagBytes)
-        ensures { bytes_left self.new ≡ bytes_high_first B number ++ tag.now.items }
+        ensures { bytes_unsent self.new ≡ bytes_high_first B number ++ tag.now.items }
     {
         let digits = number.to_be_bytes();
         self.sent = 0;
@@ -51,9 +51,9 @@ impl<const B: usize> Trailer<B> {
     // The next byte to be sent; none where all are.
     #[inline]
     fn next(&mut self) -> Option<u8>
-        ensures some { IfSome result (λ b. bytes_left self.old ≡ b ∷ bytes_left self.new) }
-        ensures none { IfNone result (bytes_left self.old ≡ []) }
-        ensures same { IfNone result (bytes_left self.new ≡ []) }
+        ensures some { IfSome result (λ b. bytes_unsent self.old ≡ b ∷ bytes_unsent self.new) }
+        ensures none { IfNone result (bytes_unsent self.old ≡ []) }
+        ensures same { IfNone result (bytes_unsent self.new ≡ []) }
     {
         let next = self.bytes.as_slice().get(self.sent).copied();
         if next.is_some() {
@@ -64,8 +64,8 @@ impl<const B: usize> Trailer<B> {
 
     /// The bytes that are still to be sent.
     #[inline]
-    pub fn left(&self) -> &[u8]
-        ensures left { result.now ≡ bytes_left self.now }
+    pub fn unsent(&self) -> &[u8]
+        ensures unsent { result.now ≡ bytes_unsent self.now }
         ensures within { length result.now ≤ 20 }
     {
         let bytes = self.bytes.as_slice();
@@ -75,14 +75,14 @@ impl<const B: usize> Trailer<B> {
     /// Sends the next `count` bytes, one a tick. That many are left.
     #[inline]
     pub fn send_some(&mut self, count: usize) -> LineBytes
-        requires { count ≤ length (bytes_left self.old) }
-        ensures sent { result.items ≡ take count (bytes_left self.old) }
-        ensures left { bytes_left self.new ≡ drop count (bytes_left self.old) }
+        requires { count ≤ length (bytes_unsent self.old) }
+        ensures sent { result.items ≡ take count (bytes_unsent self.old) }
+        ensures unsent { bytes_unsent self.new ≡ drop count (bytes_unsent self.old) }
     {
-        let left = self.left();
+        let unsent = self.unsent();
         let mut sent = LineBytes::new();
-        let _ = sent.try_extend_from_slice(&left[..count]);
-        let behind = left.len() - count;
+        let _ = sent.try_extend_from_slice(&unsent[..count]);
+        let behind = unsent.len() - count;
         self.sent = self.bytes.len() - behind;
         sent
     }
@@ -90,8 +90,8 @@ impl<const B: usize> Trailer<B> {
     /// The tick of the next byte to be sent; silence where all are.
     #[inline]
     pub fn next_tick(&mut self) -> Tick
-        ensures tick { result ≡ first_of (bytes_left self.old) }
-        ensures left { bytes_left self.new ≡ drop 1 (bytes_left self.old) }
+        ensures tick { result ≡ first_of (bytes_unsent self.old) }
+        ensures unsent { bytes_unsent self.new ≡ drop 1 (bytes_unsent self.old) }
     {
         match self.next() {
             Some(byte) => Tick::Byte(byte),

@@ -84,14 +84,14 @@ impl<B: LineBox> Filter<B> {
             (outside self.old port.old disk.now) (outside self.new port.new disk.now)
             (run_items run.entry) result }
     {
-        let mut left = RunBytes::new();
+        let mut sent = RunBytes::new();
         let most = run.len().min(MAX_RUN);
         let front = run.front(most);
-        let count = take_alike(&mut self.line_box, front, &mut left);
+        let count = take_alike(&mut self.line_box, front, &mut sent);
         if count == 0 {
             return Ok(count);
         }
-        let text = text_of_answer(count as u32, left.as_slice());
+        let text = text_of_answer(count as u32, sent.as_slice());
         match hand_on(port, &[], text.as_slice()) {
             Ok(()) => Ok(count),
             Err(Failed) => Err(Stop::WriteFault),

@@ -5,7 +5,7 @@ use Rattle.burst_walk.specs.{Causal.MayGoOn, Causal.AddsOneTick, Causal.going_on
 use Rattle.{burst_walk.specs.Longer.Extends, frame_ending.proofs.LastBurst.IsWithin}
 use Rattle.frame_ending.proofs.{LiveTicks.live_ticks-before, Pauses.up_to_byte-le}
 use Rattle.frame_ending.specs.LiveBytes.{live_bytes, live_ticks, live_end}
-use Rattle.line_rules.specs.{Rules.Rules, Rules.left_of, RulesLaws.IsLawful, RulesLaws.IsHeaded}
+use Rattle.line_rules.specs.{Rules.Rules, Rules.lacking_of, RulesLaws.IsLawful, RulesLaws.IsHeaded}
 use Rattle.link_format.specs.Profile.{Profile, delay}
 use Rattle.link_verdicts.proofs.HeadTicks.{before_pause-le, short-pause}
 use Rattle.link_verdicts.proofs.Judging.{IsJudged, judged-verdict, checked-good, tick-busy}
@@ -98,7 +98,7 @@ module _ (profile : Profile) (rules : Rules) where
         } in t) (ticks tt)
         ∙ ap (λ x. let t : CheckState = record {
           floor = s.floor;
-          earliest_start = live_end rules d + delay profile + left_of rules x;
+          earliest_start = live_end rules d + delay profile + lacking_of rules x;
         } in t) (bytes tt)
     same-state s (dropped why) bytes ticks = refl
 
@@ -112,7 +112,7 @@ module _ (profile : Profile) (rules : Rules) where
         ap (λ x. delayed profile d (spoiled rules [] (x ++ replicate (owed rules longer) (Byte 0)))
         ∷ []) (ticks tt)
         ∙ ap (λ x. delayed profile d
-        (spoiled rules [] (live_ticks rules d ++ replicate (left_of rules x) (Byte 0))) ∷ [])
+        (spoiled rules [] (live_ticks rules d ++ replicate (lacking_of rules x) (Byte 0))) ∷ [])
         (bytes tt)
     same-emission (dropped why) bytes ticks = refl
 

@@ -1,5 +1,5 @@
 -- What leaves of a burst that passes, and of one that doesn't.
-use Rattle.line_rules.specs.Rules.{Rules, left_of, spoil_of}
+use Rattle.line_rules.specs.Rules.{Rules, lacking_of, spoil_of}
 use Rattle.link_verdicts.specs.Emissions.{spoiled}
 use Rattle.link_verdicts.specs.Leaving.{is_none, fill_byte, fill_out, leaves}
 use Rattle.spoiler.specs.Outlet.{emitted, owed_after}
@@ -69,19 +69,19 @@ module _ (rules : Rules) where
   pub leaves-spoiled : (left : List ℕ) (w : List Tick) (b : ℕ)
       → leaves rules false left (w ++ Byte b ∷ []) 0
       ≡ spoiled rules left ((w ++ Byte b ∷ [])
-      ++ replicate (left_of rules (left ++ bytes_in (w ++ Byte b ∷ []))) (Byte 0))
+      ++ replicate (lacking_of rules (left ++ bytes_in (w ++ Byte b ∷ []))) (Byte 0))
   unfolding leaves spoiled
-  leaves-spoiled left [] b = last-spoiled left b (left_of rules (left ++ b ∷ []))
+  leaves-spoiled left [] b = last-spoiled left b (lacking_of rules (left ++ b ∷ []))
   leaves-spoiled left (Silent ∷ w) b = ap (λ l. Silent ∷ l) (leaves-spoiled left w b)
   leaves-spoiled left (Byte c ∷ []) b =
       ap (λ l. Byte c ∷ l) (leaves-spoiled (left ++ c ∷ []) [] b
       ∙ ap (λ x. spoiled rules (left ++ c ∷ [])
-      ((Byte b ∷ []) ++ replicate (left_of rules x) (Byte 0)))
+      ((Byte b ∷ []) ++ replicate (lacking_of rules x) (Byte 0)))
       (append_assoc left (c ∷ []) (b ∷ [])))
   leaves-spoiled left (Byte c ∷ t ∷ w) b =
       ap (λ l. Byte c ∷ l) (leaves-spoiled (left ++ c ∷ []) (t ∷ w) b
       ∙ ap (λ x. spoiled rules (left ++ c ∷ [])
-      (((t ∷ w) ++ Byte b ∷ []) ++ replicate (left_of rules x) (Byte 0)))
+      (((t ∷ w) ++ Byte b ∷ []) ++ replicate (lacking_of rules x) (Byte 0)))
       (append_assoc left (c ∷ []) (bytes_in ((t ∷ w) ++ Byte b ∷ []))))
 
   -- what is still to leave after k ticks, the last one not among them

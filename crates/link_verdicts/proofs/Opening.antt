@@ -4,7 +4,7 @@ use Rattle.burst_walk.specs.{HasCome.HasCome, Laid.tick_at}
 use Rattle.frame_ending.proofs.LiveTicks.{live_ticks-bytes, live_ticks-contiguous}
 use Rattle.frame_ending.{proofs.Pauses.contiguous-ends, specs.LiveBytes.before_pause}
 use Rattle.frame_ending.specs.LiveBytes.{up_to_byte, spelled, live_bytes, live_ticks, live_end}
-use Rattle.line_rules.specs.Rules.{Rules, left_of}
+use Rattle.line_rules.specs.Rules.{Rules, lacking_of}
 use Rattle.line_rules.specs.{RulesLaws.IsHeaded, declared.line_rules.LineRules.Ghosts as LineRules}
 use Rattle.link_format.specs.Profile.{Profile, delay}
 use Rattle.link_verdicts.proofs.Causality.{emission-dark, emission-shown}
@@ -324,12 +324,12 @@ module _ {R : Type 0} (proto : LineRules R) (profile : Profile)
         let last = contiguous-ends 2 (live_ticks rules e)
         (live_ticks-contiguous rules proto.lawful e contiguous) in
         let L : List Tick → Type 0 = λ y. leaves rules false [] y 0
-        ≡ spoiled rules [] (y ++ replicate (left_of rules (bytes_in y)) (Byte 0)) in
+        ≡ spoiled rules [] (y ++ replicate (lacking_of rules (bytes_in y)) (Byte 0)) in
         let leave : L (live_ticks rules e) =
         subst L (sym last.2) (leaves-spoiled rules [] last.0 last.1) in
         let owes : leaves rules false [] (live_ticks rules e) 0 ≡ x =
         leave ∙ ap (λ y. spoiled rules []
-        (live_ticks rules e ++ replicate (left_of rules y) (Byte 0))) (live_ticks-bytes rules e) in
+        (live_ticks rules e ++ replicate (lacking_of rules y) (Byte 0))) (live_ticks-bytes rules e) in
         let end : e.start + (delay profile + length x)
         ≡ live_end rules e + delay profile + owed rules e = omega arith in
         let P : ℕ → Type 0 = λ n. Rests rules false (m + 1) n left live 0

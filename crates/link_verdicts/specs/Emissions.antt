@@ -3,7 +3,7 @@ use Rattle.std.specs.Prelude.{ℕ, List, [], ◌∷◌, ◌++◌, replicate}
 use Rattle.yasir_ticks.specs.Bursts.{Burst}
 use Rattle.yasir_ticks.specs.declared.tick.Tick.{Tick}
 use Rattle.yasir_ticks.specs.declared.tick.Tick.TheVariants.{Silent, Byte}
-use Rattle.line_rules.specs.Rules.{Rules, left_of}
+use Rattle.line_rules.specs.Rules.{Rules, lacking_of}
 use Rattle.frame_ending.specs.LiveBytes.{live_bytes, live_ticks}
 use Rattle.burst_walk.specs.Laid.{later}
 use Rattle.link_format.specs.Profile.{Profile, delay}
@@ -19,7 +19,7 @@ spoiled rules h (Byte b ∷ t ∷ ticks) = Byte b ∷ spoiled rules (h ++ b ∷ 
 
 -- how many bytes a burst still lacks, by its header
 abbrev pub owed : Rules → Burst → ℕ
-owed rules d = left_of rules (live_bytes rules d)
+owed rules d = lacking_of rules (live_bytes rules d)
 
 -- the live ticks of a burst, and a byte 0 for each one that it lacks: a device that took its header
 -- then waits for nothing more

@@ -40,24 +40,24 @@ fn push_silence(text: &mut AnswerText, ticks: u32)
 
 /// The text of what is answered to a run: these bytes, or this many silent ticks where there is
 /// none.
-pub fn text_of_answer(count: u32, left: &[u8]) -> AnswerText
+pub fn text_of_answer(count: u32, sent: &[u8]) -> AnswerText
     requires some { 0 < count }
     requires short { count ≤ 1000000 }
-    requires few { length left.now ≤ 64 }
-    ensures { IsTextOf result.items (answered count left.now) }
+    requires few { length sent.now ≤ 64 }
+    ensures { IsTextOf result.items (answered count sent.now) }
 {
     let mut text = AnswerText::new();
-    if left.is_empty() {
+    if sent.is_empty() {
         push_silence(&mut text, count);
         return text;
     }
-    if left.len() <= MAX_BYTES {
-        push_bytes(&mut text, left);
+    if sent.len() <= MAX_BYTES {
+        push_bytes(&mut text, sent);
         return text;
     }
-    let (front, rest) = left.split_at(MAX_BYTES);
+    let (front, others) = sent.split_at(MAX_BYTES);
     push_bytes(&mut text, front);
-    push_bytes(&mut text, rest);
+    push_bytes(&mut text, others);
     text
 }
 

@@ -10,7 +10,7 @@ use Rattle.device_model.specs.Hunt.{timed, header_in, begins, hunt, hunt_line}
 use Rattle.{device_model.specs.HuntLaws.IsHunted, frame_ending.proofs.LiveTicks.live_ticks-bytes}
 use Rattle.frame_ending.proofs.{Pauses.contiguous-ends, Rooms.within_room-fit}
 use Rattle.frame_ending.specs.LiveBytes.{live_bytes, live_ticks, spelled}
-use Rattle.line_rules.specs.Rules.{Rules, head_of, left_of, left_by}
+use Rattle.line_rules.specs.Rules.{Rules, head_of, lacking_of, lacking_by}
 use Rattle.line_rules.specs.RulesLaws.{IsLawful, IsHeaded, IsFramed}
 use Rattle.line_rules.specs.{Spoiling.IsSpoiling, declared.head.Head.TheVariants.Good}
 use Rattle.{line_rules.specs.declared.head.Head.TheVariants.Bad, link_format.specs.Profile.Profile}
@@ -66,7 +66,7 @@ module _ (first second : ℕ) (rules : Rules) (headed : IsHeaded rules) (framed 
   -- a good header, filled up to its size, with its last byte spoiled
   module _ (x zeros h : List ℕ) (a : ℕ) (head : head_of rules x ≡ Good)
       (fits : length x ≤ rules.room x) (all : h ++ a ∷ [] ≡ x ++ zeros)
-      (count : length zeros ≡ left_of rules x) where
+      (count : length zeros ≡ lacking_of rules x) where
     abbrev last : ℕ
     last = rules.spoil h a
 
@@ -82,9 +82,9 @@ module _ (first second : ℕ) (rules : Rules) (headed : IsHeaded rules) (framed 
     room-is : rules.room x ≡ size
     room-is = good-room first second rules headed hunted x long good
 
-    left-is : left_of rules x ≡ size - length x
+    left-is : lacking_of rules x ≡ size - length x
     left-is =
-        ap (λ k. left_by k (rules.size x - length x)) head
+        ap (λ k. lacking_by k (rules.size x - length x)) head
         ∙ ap (λ n. n - length x) (good-size first second rules headed hunted x long good)
 
     length-is : suc (length h) ≡ size

@@ -4,7 +4,7 @@ use Rattle.burst_walk.proofs.{Spread.AreSpread, Walks.before-early}
 use Rattle.burst_walk.specs.Walk.{Noted, walked, emitted, notes_before, state_after}
 use Rattle.frame_ending.{proofs.LiveTicks.live_end-whole, specs.LiveBytes.live_bytes}
 use Rattle.{frame_ending.specs.LiveBytes.has_extra, line_rules.specs.Rules.Rules}
-use Rattle.line_rules.specs.{Rules.left_of, Rules.left_by, RulesLaws.IsLawful, RulesLaws.IsFramed}
+use Rattle.line_rules.specs.{Rules.lacking_of, Rules.lacking_by, RulesLaws.IsLawful, RulesLaws.IsFramed}
 use Rattle.link_format.proofs.Profiles.{length-trailer, word_of-trailer}
 use Rattle.link_format.specs.{NumberedFrame.last_number, Profile.Profile}
 use Rattle.link_format.specs.Profile.{HasTags, pause_len, trailer_len, trailer, words, word_of}
@@ -173,10 +173,10 @@ module _ (profile : Profile) (tags : HasTags profile) (some : 1 ≤ profile.word
       omega arith
 
   -- no byte of a frame is lacking
-  frame-whole : (frame : List ℕ) → rules.is_frame frame ≡ true → left_of rules frame ≡ 0
+  frame-whole : (frame : List ℕ) → rules.is_frame frame ≡ true → lacking_of rules frame ≡ 0
   frame-whole frame framed =
       let size = framing.whole frame framed in
-      ap (λ h. left_by h (rules.size frame - length frame)) (framing.good_header frame framed)
+      ap (λ h. lacking_by h (rules.size frame - length frame)) (framing.good_header frame framed)
       ∙ omega arith
 
   module _ (late : ℕ) where
@@ -203,7 +203,7 @@ module _ (profile : Profile) (tags : HasTags profile) (some : 1 ≤ profile.word
         let ticks = ap length
         (packet-ticks profile tags some rules lawful framing n d whole none) in
         let end = live_end-whole rules lawful d whole none in
-        let lacks = ap (λ x. left_of rules x)
+        let lacks = ap (λ x. lacking_of rules x)
         (packet-bytes profile tags some rules lawful framing n d whole none)
         ∙ frame-whole (live_bytes rules d) its.framed in
         record { below = omega arith; free = λ x from after. omega arith }

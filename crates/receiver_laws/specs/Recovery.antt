@@ -8,7 +8,7 @@ use Rattle.yasir_ticks.specs.declared.TheConstants.{T3_5_TICKS}
 use Rattle.yasir_ticks.specs.declared.tick.Tick.{Tick}
 use Rattle.yasir_ticks.specs.declared.tick.Tick.TheVariants.{Silent}
 use Rattle.line_rules.specs.Bytes.{AreBytes}
-use Rattle.line_rules.specs.Rules.{Rules, left_of}
+use Rattle.line_rules.specs.Rules.{Rules, lacking_of}
 use Rattle.link_format.specs.NumberedFrame.{NumberedFrame, last_number}
 use Rattle.link_format.specs.Profile.{Profile, words, delay}
 use Rattle.seal_judgements.specs.Sealing.{link_line, sealed}
@@ -52,7 +52,7 @@ pub record IsLeftAlone (profile : Profile) (rules : Rules) (seal_floor check_flo
 
 -- No bytes for which there is room lack more than this many that their header says.
 pub record LackAtMost (rules : Rules) (most : ℕ) : Type 0 where
-  pub lack : (x : List ℕ) → AreBytes x → length x ≤ rules.room x → left_of rules x ≤ most
+  pub lack : (x : List ℕ) → AreBytes x → length x ≤ rules.room x → lacking_of rules x ≤ most
 
 -- A packet is due: it starts when all has left of a burst that was cut off before the first of the
 -- silent ticks, it is on the link whole, and its number is near enough to the receiver's floor

@@ -37,7 +37,7 @@ module _ {S C V : Type 0} (s : FrameBox S) (c : FrameBox C) (v : Device V)
         record {
           sealer = able;
           checker = rw checker ready.checker;
-          level = rw (checker, device) ready.level;
+          taken = rw (checker, device) ready.taken;
         }
 
     -- the line of the device goes on

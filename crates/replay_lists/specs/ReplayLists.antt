@@ -63,7 +63,7 @@ module _ {S C V : Type 0} (s : FrameBox S) (c : FrameBox C) (v : Device V) where
   pub record IsReady (lists : ReplayLists S C V) : Type 0 where
     pub sealer : s.able lists.sealer
     pub checker : c.able lists.checker
-    pub level : v.taken lists.device ≡ c.taken lists.checker
+    pub taken : v.taken lists.device ≡ c.taken lists.checker
 
   -- The boxes have taken these items: the ticks before the mark, and those behind it.
   pub record ListsItems (lists : ReplayLists S C V) (setup : Setup) (items : List Item) :

@@ -74,9 +74,9 @@ pub trait FrameBox: Drop {
 
     /// Takes the first of these bytes, one a tick, as far as the box answers all of them with
     /// silence or all of them with bytes, and seals or passes no frame; returns how many it took.
-    /// Puts the bytes of the answer into `left`, or none for silence. With 0 the caller goes on by
+    /// Puts the bytes of the answer into `sent`, or none for silence. With 0 the caller goes on by
     /// `step`.
-    fn pass_bytes(&mut self, _bytes: &[u8], left: &mut RunBytes) -> usize
+    fn pass_bytes(&mut self, _bytes: &[u8], sent: &mut RunBytes) -> usize
         requires room { taken self.old + length _bytes.now ≤ MAX_TICKS }
         requires able { able self.old }
         ensures within { result ≤ length _bytes.now }
@@ -86,17 +86,17 @@ pub trait FrameBox: Drop {
             → stands self.new setup (line ++ map Byte (take result _bytes.now)) }
         ensures answers { (setup : Setup) (line : List Tick) → stands self.old setup line
             → AnswersFrameRun (numbering setup) line (map Byte (take result _bytes.now))
-            (answered result left.new.items) }
+            (answered result sent.new.items) }
     {
-        left.clear();
+        sent.clear();
         0
     }
 
     /// Takes the first of this many silent ticks, as far as the box answers all of them with
     /// silence or all of them with bytes, and seals or passes no frame; returns how many it took.
-    /// Puts the bytes of the answer into `left`, or none for silence. With 0 the caller goes on by
+    /// Puts the bytes of the answer into `sent`, or none for silence. With 0 the caller goes on by
     /// `step`.
-    fn pass_silence(&mut self, _ticks: u32, left: &mut RunBytes) -> u32
+    fn pass_silence(&mut self, _ticks: u32, sent: &mut RunBytes) -> u32
         requires room { taken self.old + _ticks ≤ MAX_TICKS }
         requires able { able self.old }
         ensures within { result ≤ _ticks }
@@ -106,9 +106,9 @@ pub trait FrameBox: Drop {
             → stands self.new setup (line ++ silent result) }
         ensures answers { (setup : Setup) (line : List Tick) → stands self.old setup line
             → AnswersFrameRun (numbering setup) line (silent result)
-            (answered result left.new.items) }
+            (answered result sent.new.items) }
     {
-        left.clear();
+        sent.clear();
         0
     }
 

@@ -51,8 +51,8 @@ pub(crate) fn take_front<B: FrameBox>(
     ensures takes { IfOk result (λ n. TakesOn B.FrameBox line_box.old line_box.new frames.old
         frames.new (take n (run_ticks run.entry))) }
 {
-    let mut left = RunBytes::new();
-    let count = pass_run(line_box, run, &mut left);
+    let mut sent = RunBytes::new();
+    let count = pass_run(line_box, run, &mut sent);
     if count > 0 {
         return Ok(count);
     }

@@ -130,16 +130,16 @@ fn hear_run<V: Device>(
     device: &mut V,
     frames: &mut FrameList<u64>,
     count: usize,
-    left: &[u8],
+    sent: &[u8],
 ) -> Result<(), NoMemory>
     requires { V.taken device.old + count ≤ MAX_TICKS }
     ensures taken { OnOk result (V.taken device.new ≡ V.taken device.old + count) }
-    ensures ok { OnOk result ((line : List Tick) → length (answered count left.now) ≡ count
+    ensures ok { OnOk result ((line : List Tick) → length (answered count sent.now) ≡ count
         → Listens V.Device device.old frames.old line
-        → Listens V.Device device.new frames.new (line ++ answered count left.now)) }
+        → Listens V.Device device.new frames.new (line ++ answered count sent.now)) }
 {
-    let heard = left.len().min(count);
-    match hear_bytes(device, frames, &left[..heard]) {
+    let heard = sent.len().min(count);
+    match hear_bytes(device, frames, &sent[..heard]) {
         Ok(()) => hear_silence(device, frames, count - heard),
         Err(NoMemory) => Err(NoMemory),
     }
@@ -151,16 +151,16 @@ pub(crate) fn hear_answered<V: Device>(
     device: &mut V,
     frames: &mut FrameList<u64>,
     count: usize,
-    left: &[u8],
+    sent: &[u8],
 ) -> Result<(), NoMemory>
     requires { V.taken device.old + count ≤ MAX_TICKS }
     ensures taken { OnOk result (V.taken device.new ≡ V.taken device.old + count) }
-    ensures ok { OnOk result ((line : List Tick) → length (answered count left.now) ≡ count
+    ensures ok { OnOk result ((line : List Tick) → length (answered count sent.now) ≡ count
         → Listens V.Device device.old frames.old line
-        → Listens V.Device device.new frames.new (line ++ answered count left.now)) }
+        → Listens V.Device device.new frames.new (line ++ answered count sent.now)) }
 {
-    if left.is_empty() {
+    if sent.is_empty() {
         return hear_silence(device, frames, count);
     }
-    hear_run(device, frames, count, left)
+    hear_run(device, frames, count, sent)
 }

@@ -54,12 +54,12 @@ pub(crate) fn step_into<B: FrameBox>(
 }
 
 // A box takes the first ticks of this run at once. Returns how many, and puts the bytes of the
-// answer into `left`, or none for silence.
+// answer into `sent`, or none for silence.
 #[inline(always)]
 pub(crate) fn pass_run<B: FrameBox>(
     line_box: &mut B,
     run: TickRun<'_>,
-    left: &mut RunBytes,
+    sent: &mut RunBytes,
 ) -> usize
     requires room { B.taken line_box.old + length (run_ticks run) ≤ MAX_TICKS }
     requires able { B.able line_box.old }
@@ -70,11 +70,11 @@ pub(crate) fn pass_run<B: FrameBox>(
         → B.stands line_box.new setup (line ++ take result (run_ticks run.entry)) }
     ensures answers { (setup : Setup) (line : List Tick) → B.stands line_box.old setup line
         → AnswersFrameRun (B.numbering setup) line (take result (run_ticks run.entry))
-        (answered result left.new.items) }
+        (answered result sent.new.items) }
 {
     match run {
-        TickRun::Bytes(bytes) => line_box.pass_bytes(bytes, left),
-        TickRun::Silence(ticks) => line_box.pass_silence(ticks, left) as usize,
+        TickRun::Bytes(bytes) => line_box.pass_bytes(bytes, sent),
+        TickRun::Silence(ticks) => line_box.pass_silence(ticks, sent) as usize,
     }
 }
 
@@ -199,8 +199,8 @@ impl<S: FrameBox, C: FrameBox, V: Device + Drop> ReplayLists<S, C, V> {
             → KeepsFrames S.FrameBox self.new.sealer self.new.sealed setup
             (line ++ take result (run_ticks run.entry)) }
     {
-        let mut left = RunBytes::new();
-        pass_run(&mut self.sealer, run, &mut left)
+        let mut sent = RunBytes::new();
+        pass_run(&mut self.sealer, run, &mut sent)
     }
 
     // Gives the first ticks of this run to the receiver at once, and what it answers to the device.
@@ -224,9 +224,9 @@ impl<S: FrameBox, C: FrameBox, V: Device + Drop> ReplayLists<S, C, V> {
             → Checks S.FrameBox C.FrameBox V.Device self.new setup
             (link ++ take n (run_ticks run.entry))) }
     {
-        let mut left = RunBytes::new();
-        let count = pass_run(&mut self.checker, run, &mut left);
-        match hear_answered(&mut self.device, &mut self.read, count, left.as_slice()) {
+        let mut sent = RunBytes::new();
+        let count = pass_run(&mut self.checker, run, &mut sent);
+        match hear_answered(&mut self.device, &mut self.read, count, sent.as_slice()) {
             Ok(()) => Ok(count),
             Err(NoMemory) => Err(NoMemory),
         }

@@ -94,8 +94,8 @@ impl<B: LineBox> Turning for Journaled<B> {
         if count > 0 {
             return Ok(count);
         }
-        let mut left = RunBytes::new();
-        let count = self.line_box.pass(run, &mut left);
+        let mut sent = RunBytes::new();
+        let count = self.line_box.pass(run, &mut sent);
         if count > 0 {
             return Ok(count);
         }
@@ -112,8 +112,8 @@ impl<B: LineBox> Turning for Journaled<B> {
         if count > 0 {
             return Ok(count);
         }
-        let mut left = RunBytes::new();
-        let count = self.line_box.pass(run, &mut left).min(ticks as usize) as u32;
+        let mut sent = RunBytes::new();
+        let count = self.line_box.pass(run, &mut sent).min(ticks as usize) as u32;
         if count > 0 {
             return Ok(count);
         }

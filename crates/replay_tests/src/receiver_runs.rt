@@ -45,7 +45,7 @@ pub fn alike(link: &[u8], most: usize) -> usize
 fn pass<R: LineRules, M: Mac, const B: usize, const D: usize>(
     checker: &mut Checker<R, M, B, D>,
     part: &[u8],
-    left: &mut RunBytes,
+    sent: &mut RunBytes,
 ) -> usize
     requires room { ticks_taken checker.old + length part.now ≤ 1000 }
     ensures within { result ≤ length part.now }
@@ -53,18 +53,18 @@ fn pass<R: LineRules, M: Mac, const B: usize, const D: usize>(
     ensures direction { direction_of checker.new ≡ direction_of checker.old }
 {
     match part.first() {
-        Some(b'.') => checker.pass_silence(part.len() as u32, left) as usize,
-        _ => checker.pass_bytes(part, left),
+        Some(b'.') => checker.pass_silence(part.len() as u32, sent) as usize,
+        _ => checker.pass_bytes(part, sent),
     }
 }
 
 // Whether this many ticks have no note, and are these bytes, or silence where there are none.
-fn are_answered(wanted: &[BoxStep<CheckNote>], count: usize, left: &[u8]) -> bool {
-    if !left.is_empty() && left.len() != count {
+fn are_answered(wanted: &[BoxStep<CheckNote>], count: usize, sent: &[u8]) -> bool {
+    if !sent.is_empty() && sent.len() != count {
         return false;
     }
     for at in 0..count {
-        let tick = match left.get(at) {
+        let tick = match sent.get(at) {
             Some(byte) => Tick::Byte(*byte),
             None => Tick::Silent,
         };
@@ -99,10 +99,10 @@ fn take<R: LineRules, M: Mac, S: SlotDisk, const B: usize, const D: usize>(
         ≡ link_by R.LineRules M.Mac B (direction_of checker.new)) }
     ensures fits { OnOk result (Fits journal.new (S.told disk.new)) }
 {
-    let mut left = RunBytes::new();
-    let count = pass(checker, part, &mut left);
+    let mut sent = RunBytes::new();
+    let count = pass(checker, part, &mut sent);
     if count > 0 {
-        assert!(rt; are_answered(wanted, count, left.as_slice()));
+        assert!(rt; are_answered(wanted, count, sent.as_slice()));
         return Ok(count);
     }
     let step = checker.step(tick_of(part[0]), journal, disk)?;

@@ -70,7 +70,7 @@ mod tests {
             rules.full(),
             rules.good(),
             rules.head(),
-            rules.left(),
+            rules.lacking(),
         )
     }
 

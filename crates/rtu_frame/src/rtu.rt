@@ -102,7 +102,7 @@ impl LineRules for Rtu {
     }
 
     #[inline]
-    fn left(&self) -> u16 {
+    fn lacking(&self) -> u16 {
         0
     }
 

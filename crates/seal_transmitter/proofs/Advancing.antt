@@ -36,8 +36,8 @@ use Rattle.yasir_ticks.specs.declared.tick.Tick.{Tick, TheVariants.Silent, TheVa
 -- The walk over a line goes on by a tick, with this answer.
 pub record WalksOn {R M : Type 0} (proto : LineRules R) (macs : Mac M) (word_len : ℕ)
     (setup : Setup) (last earliest : ℕ)
-    (left : List ℕ) (mac : M) (line : List Tick) (t : Tick) (step : BoxStep SealNote) : Type 0 where
-  pub walks : Walks proto macs word_len last earliest left mac setup (line ++ t ∷ [])
+    (unsent : List ℕ) (mac : M) (line : List Tick) (t : Tick) (step : BoxStep SealNote) : Type 0 where
+  pub walks : Walks proto macs word_len last earliest unsent mac setup (line ++ t ∷ [])
   pub answers : AnswersTick (profile_of proto macs word_len LIMIT setup) proto.rules setup.floor
       line t step
 
@@ -64,8 +64,8 @@ module _ {R M : Type 0} (proto : LineRules R) (macs : Mac M) (word_len : ℕ) (s
     text_is = tt;
   }
 
-  module _ (line : List Tick) (last earliest : ℕ) (left : List ℕ) (mac : M)
-      (old : Walks proto macs word_len last earliest left mac setup line) where
+  module _ (line : List Tick) (last earliest : ℕ) (unsent : List ℕ) (mac : M)
+      (old : Walks proto macs word_len last earliest unsent mac setup line) where
     abbrev state : SealState
     state = record { floor = last; earliest_start = earliest }
 
@@ -77,7 +77,7 @@ module _ {R M : Type 0} (proto : LineRules R) (macs : Mac M) (word_len : ℕ) (s
         WalksOn proto macs word_len setup number next to_send new line t step
 
     abbrev WalkedBy : Option Burst → Type 0
-    WalkedBy running = HasWalked profile rules setup.floor m (bursts line) state left running
+    WalkedBy running = HasWalked profile rules setup.floor m (bursts line) state unsent running
 
     abbrev WalkedThen : Tick → SealState → List ℕ → Option Burst → Type 0
     WalkedThen t next to_send running =
@@ -86,21 +86,21 @@ module _ {R M : Type 0} (proto : LineRules R) (macs : Mac M) (word_len : ℕ) (s
 
     runs : IsRunning line old.running
     runs = divided-running line old.walked.come.settled old.running
-        (walked-divided profile rules proto.lawful tags setup.floor line state left old.running
+        (walked-divided profile rules proto.lawful tags setup.floor line state unsent old.running
         old.walked)
 
     -- the last number used is that of the last sealed frame
     pub number-is : last ≡ last_number setup.floor (sealed profile rules setup.floor line)
-    number-is = walked-number profile rules proto.lawful tags setup.floor line state left
+    number-is = walked-number profile rules proto.lawful tags setup.floor line state unsent
         old.running old.walked
 
     -- ---- silence
 
     -- silence that closes no burst
     pub advance-open : (cut_of rules line Silent ≡ Closed → ⊥)
-        → On last earliest (drop 1 left) mac Silent (noteless (first_of left))
+        → On last earliest (drop 1 unsent) mac Silent (noteless (first_of unsent))
     advance-open unclosed =
-        let step = walks-silent profile rules proto.lawful tags setup.floor line state left
+        let step = walks-silent profile rules proto.lawful tags setup.floor line state unsent
         old.running old.walked
         (silent-open rules line old.running runs unclosed) in
         record {
@@ -145,20 +145,20 @@ module _ {R M : Type 0} (proto : LineRules R) (macs : Mac M) (word_len : ℕ) (s
 
     pub advance-unsealed : (why : UnsealedWhy) → cut_of rules line Silent ≡ Closed
         → IsJudged profile rules last earliest (line ++ Silent ∷ []) (unsealed why)
-        → On last earliest (drop 1 left) mac Silent
+        → On last earliest (drop 1 unsent) mac Silent
         (record {
-          tick = first_of left;
+          tick = first_of unsent;
           note = Some (Unsealed (start_so_far (line ++ Silent ∷ [])) why);
         })
     advance-unsealed why closed judge =
         let d : Burst = (closes closed).burst in
-        let step = walks-unsealed profile rules proto.lawful tags setup.floor line state left d why
+        let step = walks-unsealed profile rules proto.lawful tags setup.floor line state unsent d why
         (closed-walked closed) (closes closed).at
         (closed-judged closed (unsealed why) judge) in
         let start : d.start ≡ start_so_far (line ++ Silent ∷ []) =
         sym (ap start_in (closed-last closed)) in
         let P : ℕ → Type 0 = λ n. AnswersTick profile rules setup.floor line Silent
-        (record { tick = first_of left; note = Some (Unsealed n why) }) in
+        (record { tick = first_of unsent; note = Some (Unsealed n why) }) in
         record {
           walks = record {
             running = None;
@@ -197,7 +197,7 @@ module _ {R M : Type 0} (proto : LineRules R) (macs : Mac M) (word_len : ℕ) (s
         })
         × SealsWith profile rules setup.floor line Silent number
     sealing number closed judge bytes is =
-        walks-sealed profile rules proto.lawful tags setup.floor line state left
+        walks-sealed profile rules proto.lawful tags setup.floor line state unsent
         (closes closed).burst number bytes (closed-walked closed) (closes closed).at
         (closed-judged closed (sealed_with number) judge) is
 
@@ -225,9 +225,9 @@ module _ {R M : Type 0} (proto : LineRules R) (macs : Mac M) (word_len : ℕ) (s
     advance-sealed number next bytes new closed judge next_is tagged begun =
         let d : Burst = (closes closed).burst in
         let is_sealed = closed-judged closed (sealed_with number) judge in
-        let late = seals-late profile rules proto.lawful tags setup.floor line state left d number
+        let late = seals-late profile rules proto.lawful tags setup.floor line state unsent d number
         is_sealed in
-        let whole = seals-whole profile rules proto.lawful tags setup.floor line state left d number
+        let whole = seals-whole profile rules proto.lawful tags setup.floor line state unsent d number
         is_sealed in
         let text = text-of d (closes closed).is late in
         let is : bytes ≡ trailer profile number (live_bytes rules d) =
@@ -275,10 +275,10 @@ module _ {R M : Type 0} (proto : LineRules R) (macs : Mac M) (word_len : ℕ) (s
 
     -- a byte of an early burst
     pub advance-early : (b : ℕ) → start_so_far (line ++ Byte b ∷ []) < earliest
-        → On last earliest (drop 1 left) mac (Byte b) (noteless (first_of left))
+        → On last earliest (drop 1 unsent) mac (Byte b) (noteless (first_of unsent))
     advance-early b early =
         let start = next-start b in
-        let step = walks-early profile rules proto.lawful tags setup.floor line state left
+        let step = walks-early profile rules proto.lawful tags setup.floor line state unsent
         old.running b old.walked (omega arith) in
         record {
           walks = record {
@@ -296,10 +296,10 @@ module _ {R M : Type 0} (proto : LineRules R) (macs : Mac M) (word_len : ℕ) (s
         → live_end rules (next_burst b) ≡ m + 1
         → macs.stands new setup.key text
         → text ≡ rules.label ∷ setup.direction ∷ live_bytes rules (next_burst b)
-        → On last earliest left new (Byte b) (noteless (Byte b))
+        → On last earliest unsent new (Byte b) (noteless (Byte b))
     live-on b new text late end mac_is is =
         let start = next-start b in
-        let step = walks-live profile rules proto.lawful tags setup.floor line state left
+        let step = walks-live profile rules proto.lawful tags setup.floor line state unsent
         old.running b old.walked (omega arith) end in
         let P : List ℕ → Type 0 = λ l. WalkedThen (Byte b) state l (Some (next_burst b)) in
         record {
@@ -316,7 +316,7 @@ module _ {R M : Type 0} (proto : LineRules R) (macs : Mac M) (word_len : ℕ) (s
     pub advance-begin : (b : ℕ) (new : M) → cut_of rules line (Byte b) ≡ Start b
         → earliest ≤ start_so_far (line ++ Byte b ∷ [])
         → macs.stands new setup.key (rules.label ∷ setup.direction ∷ b ∷ [])
-        → On last earliest left new (Byte b) (noteless (Byte b))
+        → On last earliest unsent new (Byte b) (noteless (Byte b))
     advance-begin b new starts late mac_is =
         let none = byte-starts rules proto.lawful line b old.running runs starts in
         let is : next_burst b ≡ alone m b = ap (λ o. with_byte_at m b o) none in
@@ -331,7 +331,7 @@ module _ {R M : Type 0} (proto : LineRules R) (macs : Mac M) (word_len : ℕ) (s
         → earliest ≤ start_so_far (line ++ Byte b ∷ [])
         → ((text : List ℕ) → macs.stands mac setup.key text
         → macs.stands new setup.key (text ++ b ∷ []))
-        → On last earliest left new (Byte b) (noteless (Byte b))
+        → On last earliest unsent new (Byte b) (noteless (Byte b))
     advance-live b new lives late more =
         let on = byte-lives rules proto.lawful line b old.running runs lives in
         let is : next_burst b ≡ with_last on.burst m b = ap (λ o. with_byte_at m b o) on.is in
@@ -346,7 +346,7 @@ module _ {R M : Type 0} (proto : LineRules R) (macs : Mac M) (word_len : ℕ) (s
     -- a byte of it that isn't live
     pub advance-extra : (b : ℕ) → cut_of rules line (Byte b) ≡ Extra b
         → earliest ≤ start_so_far (line ++ Byte b ∷ [])
-        → On last earliest (drop 1 left) mac (Byte b) (noteless (first_of left))
+        → On last earliest (drop 1 unsent) mac (Byte b) (noteless (first_of unsent))
     advance-extra b extra late =
         let on = byte-over rules proto.lawful line b old.running runs extra in
         let is : next_burst b ≡ with_last on.burst m b = ap (λ o. with_byte_at m b o) on.is in
@@ -356,7 +356,7 @@ module _ {R M : Type 0} (proto : LineRules R) (macs : Mac M) (word_len : ℕ) (s
         let text = text-of on.burst on.is (omega arith) in
         let end : live_end rules (next_burst b) ≤ m = let e = ap (λ d. live_end rules d) is in
         let le = on.end in omega arith in
-        let step = walks-extra profile rules proto.lawful tags setup.floor line state left
+        let step = walks-extra profile rules proto.lawful tags setup.floor line state unsent
         old.running b old.walked (omega arith) end in
         let P : List ℕ → Type 0 = λ l. WalkedThen (Byte b) state (drop 1 l) (Some (next_burst b)) in
         let Q : List ℕ → Type 0 = λ l. AnswersTick profile rules setup.floor line (Byte b)
@@ -375,7 +375,7 @@ module _ {R M : Type 0} (proto : LineRules R) (macs : Mac M) (word_len : ℕ) (s
 
     -- any tick that is neither forwarded nor closes a burst
     pub advance-passing : (t : Tick) (cut : Cut) → cut_of rules line t ≡ cut → IsPassing cut
-        → On last earliest (drop 1 left) mac t (noteless (first_of left))
+        → On last earliest (drop 1 unsent) mac t (noteless (first_of unsent))
     advance-passing Silent cut is passing =
         advance-open (λ closed. absurd (passing-open rules line cut passing (sym is ∙ closed)))
     advance-passing (Byte b) cut is passing =

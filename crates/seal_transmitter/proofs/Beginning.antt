@@ -5,7 +5,7 @@ use Rattle.frame_ending.specs.{SoFar.quiet_so_far, Stands.StandsFor as CutStands
 use Rattle.frame_ending.specs.declared.{burst_cut.BurstCut.BurstCut, cut.Cut.TheVariants.Start}
 use Rattle.hmac_tag.specs.declared.tag.Mac.{Ghosts as Mac}
 use Rattle.line_rules.specs.declared.line_rules.LineRules.{Ghosts as LineRules}
-use Rattle.link_format.specs.{Profile.profile_of, Setup.Setup, Trailers.bytes_left}
+use Rattle.link_format.specs.{Profile.profile_of, Setup.Setup, Trailers.bytes_unsent}
 use Rattle.seal_judgements.specs.Sealing.{sealer, at_floor}
 use Rattle.seal_transmitter.proofs.{Advancing.starts-now, Stepping.begin-late}
 use Rattle.seal_transmitter.specs.{Answers.brief_note, Between.IsBetween, Runs.HasTakenRun}
@@ -33,7 +33,7 @@ begun-taken proto macs {B} old last setup line stands cut mac b quiet late cuts 
     let starts : cut_of proto.rules line (Byte b) ≡ Start b =
     sym (cut-begin proto old.cut line stands.cuts b (omega arith)) in
     let now : start_so_far (line ++ Byte b ∷ []) ≡ length line =
-    starts-now proto macs B setup line last old.earliest_start (bytes_left old.trailer) old.mac
+    starts-now proto macs B setup line last old.earliest_start (bytes_unsent old.trailer) old.mac
     stands.walks b starts in
     let between : IsBetween proto macs (record old { cut = cut }) last setup line (Byte b)
     (Start b) = record {

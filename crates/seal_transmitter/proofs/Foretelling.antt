@@ -11,7 +11,7 @@ use Rattle.hmac_tag.specs.declared.tag.Mac.{Ghosts as Mac}
 use Rattle.line_rules.specs.declared.line_rules.LineRules.{Ghosts as LineRules}
 use Rattle.link_box.proofs.Answered.{answered-all, answered-none}
 use Rattle.link_box.specs.Noteless.{MayNoteAt}
-use Rattle.link_format.specs.{Profile.profile_of, Setup.Setup, Trailers.bytes_left}
+use Rattle.link_format.specs.{Profile.profile_of, Setup.Setup, Trailers.bytes_unsent}
 use Rattle.seal_judgements.specs.{Sealing.sealer, Sealing.at_floor, declared.note.SealNote.SealNote}
 use Rattle.seal_transmitter.proofs.OpenSilence.{rest-open, wait-open}
 use Rattle.seal_transmitter.proofs.RunSteps.{sent, sent-silent, sent-bytes, drop-none}
@@ -109,7 +109,7 @@ module _ {R M : Type 0} (proto : LineRules R) {B : ℕ} (value : Sealer R M B) w
   pub fewer-open : (most n : ℕ) → n ≤ most
       → ((line : List Tick) → CutStandsFor proto value.cut line
       → (T3_5_TICKS ≤ quiet_so_far line) ⊎ (quiet_so_far line + most < T3_5_TICKS))
-      → (bytes_left value.trailer ≡ []) ⊎ (n ≤ length (bytes_left value.trailer))
+      → (bytes_unsent value.trailer ≡ []) ⊎ (n ≤ length (bytes_unsent value.trailer))
       → WaitsOpen proto value n
   fewer-open most n few open' alike' = record {
     closes_none_yet = λ line cuts. ⊎_elim
@@ -137,27 +137,27 @@ module _ {R M : Type 0} (proto : LineRules R) {B : ℕ} (value : Sealer R M B) w
       fourth-closes line (fourth (omega arith) line stands.cuts)
 
 -- what goes out in n ticks, where this many bytes go out and nothing is left then, or a byte a tick
-module _ (n count : ℕ) (left items : List ℕ) (items_are : items ≡ take count left) where
-  nothing-left : left ≡ [] → count ≡ 0
-      → (drop count left ≡ drop n left) × (sent n left ≡ answered n items)
+module _ (n count : ℕ) (unsent items : List ℕ) (items_are : items ≡ take count unsent) where
+  nothing-left : unsent ≡ [] → count ≡ 0
+      → (drop count unsent ≡ drop n unsent) × (sent n unsent ≡ answered n items)
   nothing-left none zero_is =
-      let empty : items ≡ [] = items_are ∙ ap (λ k. take k left) zero_is in (
-        drop-none count left none ∙ sym (drop-none n left none),
+      let empty : items ≡ [] = items_are ∙ ap (λ k. take k unsent) zero_is in (
+        drop-none count unsent none ∙ sym (drop-none n unsent none),
         ap (λ l. sent n l) none ∙ (sent-silent n ∙ answered-none n items empty),
       )
 
-  one-each : n ≤ length left → count ≡ n
-      → (drop count left ≡ drop n left) × (sent n left ≡ answered n items)
+  one-each : n ≤ length unsent → count ≡ n
+      → (drop count unsent ≡ drop n unsent) × (sent n unsent ≡ answered n items)
   one-each few same = (
-    ap (λ k. drop k left) same,
-    sent-bytes n left few
-        ∙ answered-all n (take n left) items (sym (length-take-le n left few))
-        (items_are ∙ ap (λ k. take k left) same),
+    ap (λ k. drop k unsent) same,
+    sent-bytes n unsent few
+        ∙ answered-all n (take n unsent) items (sym (length-take-le n unsent few))
+        (items_are ∙ ap (λ k. take k unsent) same),
   )
 
-  pub sent-alike : (left ≡ []) ⊎ (n ≤ length left) → (left ≡ [] → count ≡ 0)
-      → (n ≤ length left → count ≡ n)
-      → (drop count left ≡ drop n left) × (sent n left ≡ answered n items)
+  pub sent-alike : (unsent ≡ []) ⊎ (n ≤ length unsent) → (unsent ≡ [] → count ≡ 0)
+      → (n ≤ length unsent → count ≡ n)
+      → (drop count unsent ≡ drop n unsent) × (sent n unsent ≡ answered n items)
   sent-alike which zero_is same =
       ⊎_elim (λ none. nothing-left none (zero_is none)) (λ few. one-each few (same few)) which
 

@@ -74,10 +74,10 @@ module _ (profile : Profile) (rules : Rules) (last earliest : ℕ) where
       → has_extra_in rules o ≡ false
       → rules.is_frame (live_bytes_in rules o) ≡ true → (last == profile.limit) ≡ false
       → IsJudgedIn o None
-  judge-sealed None late whole good left = tt
-  judge-sealed (Some d) late whole good left =
+  judge-sealed None late whole good unsent = tt
+  judge-sealed (Some d) late whole good unsent =
       let next : suc last ≡ last + 1 = omega arith in
-      judge-right d late whole good ∙ (ap (λ f. judge_by false false f (suc last)) left
+      judge-right d late whole good ∙ (ap (λ f. judge_by false false f (suc last)) unsent
       ∙ ap sealed_with next)
 
   module _ (line : List Tick) where
@@ -107,5 +107,5 @@ module _ (profile : Profile) (rules : Rules) (last earliest : ℕ) where
         → has_extra_so_far rules line ≡ false
         → rules.is_frame (live_bytes_so_far rules line) ≡ true → (last ≡ profile.limit → ⊥)
         → IsJudged profile rules last earliest line (judgement_of None (last + 1))
-    sealed-judged late whole good left =
-        judge-sealed (last_burst line) late whole good (ne_eqb last profile.limit left)
+    sealed-judged late whole good unsent =
+        judge-sealed (last_burst line) late whole good (ne_eqb last profile.limit unsent)

@@ -4,7 +4,7 @@ use Rattle.frame_ending.specs.SoFar.{last_burst, quiet_in, quiet_so_far, has_pau
 use Rattle.frame_ending.specs.SoFar.{is_over_so_far, live_bytes_in, live_bytes_so_far}
 use Rattle.frame_ending.specs.{Stands.StandsFor, declared.burst_cut.BurstCut.BurstCut}
 use Rattle.{frame_ending.specs.declared.cut.Cut.TheVariants.Live, line_rules.specs.Bytes.AreBytes}
-use Rattle.line_rules.specs.Rules.{Rules, fills_room, head_of, left_of, left_by}
+use Rattle.line_rules.specs.Rules.{Rules, fills_room, head_of, lacking_of, lacking_by}
 use Rattle.line_rules.specs.declared.line_rules.LineRules.{Ghosts as LineRules}
 use Rattle.std.proofs.Common.{◌≡◌, ◌∙◌, ⊎_elim, ℕ, zero, suc, ◌+◌, ◌-◌, ◌<◌, ◌≤◌, ◌==◌, ◌||◌, Bool}
 use Rattle.std.proofs.Common.{true, false, List, [], ◌∷◌, ◌++◌, length, take, map, refl, sym, ap}
@@ -22,17 +22,17 @@ module _ {R : Type 0} (proto : LineRules R) where
   rules = proto.rules
 
   -- bytes lack behind a whole header alone
-  lacks-whole : (x : List ℕ) → 0 < left_of rules x → rules.header_len ≤ length x
+  lacks-whole : (x : List ℕ) → 0 < lacking_of rules x → rules.header_len ≤ length x
   lacks-whole x some =
       ⊎_elim
       (λ short.
-      let none : left_of rules x ≡ 0 =
-      ap (λ h. left_by h (rules.size x - length x)) (cond-true _ _ _ (lt-ltb _ _ short)) in
+      let none : lacking_of rules x ≡ 0 =
+      ap (λ h. lacking_by h (rules.size x - length x)) (cond-true _ _ _ (lt-ltb _ _ short)) in
       absurd (omega arith))
       (λ long. long)
       (cases_lt (length x) rules.header_len)
 
-  pub lacking-fits : (more x : List ℕ) → length x ≤ rules.room x → length more ≤ left_of rules x
+  pub lacking-fits : (more x : List ℕ) → length x ≤ rules.room x → length more ≤ lacking_of rules x
       → length (x ++ more) ≤ rules.room (x ++ more)
   lacking-fits [] x within few =
       let P : List ℕ → Type 0 = λ y. length y ≤ rules.room y in

@@ -9,7 +9,7 @@ use Rattle.frame_ending.specs.declared.cut.Cut.TheVariants.{Live, Extra}
 use Rattle.hmac_tag.specs.declared.tag.Mac.{Ghosts as Mac}
 use Rattle.line_rules.specs.{Rules.Rules, declared.line_rules.LineRules.Ghosts as LineRules}
 use Rattle.link_format.specs.{NumberedFrame.last_number, Profile.profile_of, Setup.Setup}
-use Rattle.link_format.specs.Trailers.{bytes_left, first_of}
+use Rattle.link_format.specs.Trailers.{bytes_unsent, first_of}
 use Rattle.link_format.specs.declared.trailer.Trailer.{Trailer}
 use Rattle.seal_judgements.specs.Sealing.{sealer, at_floor, sealed}
 use Rattle.seal_transmitter.proofs.Advancing.{WalksOn, number-is, advance-live, advance-early}
@@ -26,17 +26,17 @@ use Rattle.yasir_ticks.specs.declared.tick.Tick.{Tick, TheVariants.Silent, TheVa
 
 -- what goes out in n ticks, of which none is forwarded: what is left of the trailer, then silence
 abbrev pub sent : ℕ → List ℕ → List Tick
-sent zero left = []
-sent (suc n) left = first_of left ∷ sent n (drop 1 left)
+sent zero unsent = []
+sent (suc n) unsent = first_of unsent ∷ sent n (drop 1 unsent)
 
 pub sent-silent : (n : ℕ) → sent n [] ≡ silent n
 sent-silent zero = refl
 sent-silent (suc n) = ap (λ l. Silent ∷ l) (sent-silent n)
 
-pub sent-bytes : (n : ℕ) (left : List ℕ) → n ≤ length left → sent n left ≡ map Byte (take n left)
-sent-bytes zero left few = refl
+pub sent-bytes : (n : ℕ) (unsent : List ℕ) → n ≤ length unsent → sent n unsent ≡ map Byte (take n unsent)
+sent-bytes zero unsent few = refl
 sent-bytes (suc n) [] few = absurd (omega arith)
-sent-bytes (suc n) (b ∷ left) few = ap (λ l. Byte b ∷ l) (sent-bytes n left (omega arith))
+sent-bytes (suc n) (b ∷ unsent) few = ap (λ l. Byte b ∷ l) (sent-bytes n unsent (omega arith))
 
 drop-one : (n : ℕ) (l : List ℕ) → drop n (drop 1 l) ≡ drop (suc n) l
 drop-one zero [] = refl
@@ -64,13 +64,13 @@ module _ {R M : Type 0} (proto : LineRules R) (macs : Mac M) (word_len : ℕ) (s
   }
 
   abbrev TextWalks : ℕ → ℕ → List ℕ → List ℕ → List Tick → Type 0
-  TextWalks last earliest left text line =
-      Walks proto as_text word_len last earliest left text setup line
+  TextWalks last earliest unsent text line =
+      Walks proto as_text word_len last earliest unsent text setup line
 
-  pub to-text : (last earliest : ℕ) (left : List ℕ) (mac : M) (line : List Tick)
-      (w : Walks proto macs word_len last earliest left mac setup line)
-      → TextWalks last earliest left w.text line
-  to-text last earliest left mac line w = record {
+  pub to-text : (last earliest : ℕ) (unsent : List ℕ) (mac : M) (line : List Tick)
+      (w : Walks proto macs word_len last earliest unsent mac setup line)
+      → TextWalks last earliest unsent w.text line
+  to-text last earliest unsent mac line w = record {
     running = w.running;
     walked = w.walked;
     text = w.text;
@@ -78,10 +78,10 @@ module _ {R M : Type 0} (proto : LineRules R) (macs : Mac M) (word_len : ℕ) (s
     text_is = w.text_is;
   }
 
-  pub of-text : (last earliest : ℕ) (left text : List ℕ) (mac : M) (line : List Tick)
-      → macs.stands mac setup.key text → TextWalks last earliest left text line
-      → Walks proto macs word_len last earliest left mac setup line
-  of-text last earliest left text mac line mac_is w =
+  pub of-text : (last earliest : ℕ) (unsent text : List ℕ) (mac : M) (line : List Tick)
+      → macs.stands mac setup.key text → TextWalks last earliest unsent text line
+      → Walks proto macs word_len last earliest unsent mac setup line
+  of-text last earliest unsent text mac line mac_is w =
       let P : List ℕ → Type 0 = λ x. macs.stands mac setup.key x in
       record {
         running = w.running;
@@ -92,30 +92,30 @@ module _ {R M : Type 0} (proto : LineRules R) (macs : Mac M) (word_len : ℕ) (s
       }
 
   -- The walk over a line goes on by a run, with this answer.
-  pub record RunsOn (last earliest : ℕ) (left text : List ℕ) (line run answer : List Tick) :
+  pub record RunsOn (last earliest : ℕ) (unsent text : List ℕ) (line run answer : List Tick) :
       Type 0 where
-    pub walks : TextWalks last earliest left text (line ++ run)
+    pub walks : TextWalks last earliest unsent text (line ++ run)
     pub answers : AnswersRun (sealer (profile_of proto macs word_len LIMIT setup) rules) brief_note
         (at_floor setup.floor) line run answer
 
   module _ (last earliest : ℕ) where
-    pub none-on : (left text : List ℕ) (line : List Tick) → TextWalks last earliest left text line
-        → RunsOn last earliest left text line [] []
-    none-on left text line w =
-        let P : List Tick → Type 0 = λ l. TextWalks last earliest left text l in
+    pub none-on : (unsent text : List ℕ) (line : List Tick) → TextWalks last earliest unsent text line
+        → RunsOn last earliest unsent text line [] []
+    none-on unsent text line w =
+        let P : List Tick → Type 0 = λ l. TextWalks last earliest unsent text l in
         record {
           walks = subst P (sym (append-nil line)) w;
           answers = run-none (sealer (profile_of proto macs word_len LIMIT setup) rules) brief_note
               (at_floor setup.floor) line;
         }
 
-    more-on : (left text next to_be : List ℕ) (line : List Tick) (t u : Tick)
+    more-on : (unsent text next to_be : List ℕ) (line : List Tick) (t u : Tick)
         (run answer : List Tick)
         → WalksOn proto as_text word_len setup last earliest next to_be line t (noteless u)
-        → RunsOn last earliest left text (line ++ t ∷ []) run answer
-        → RunsOn last earliest left text line (t ∷ run) (u ∷ answer)
-    more-on left text next to_be line t u run answer on rest =
-        let P : List Tick → Type 0 = λ l. TextWalks last earliest left text l in
+        → RunsOn last earliest unsent text (line ++ t ∷ []) run answer
+        → RunsOn last earliest unsent text line (t ∷ run) (u ∷ answer)
+    more-on unsent text next to_be line t u run answer on rest =
+        let P : List Tick → Type 0 = λ l. TextWalks last earliest unsent text l in
         record {
           walks = subst P (append_assoc line (t ∷ []) run) rest.walks;
           answers = run-joined (sealer (profile_of proto macs word_len LIMIT setup) rules)
@@ -125,83 +125,83 @@ module _ {R M : Type 0} (proto : LineRules R) (macs : Mac M) (word_len : ℕ) (s
         }
 
     -- live bytes of a burst that isn't early are forwarded
-    pub forwards : (x : List ℕ) (left text : List ℕ) (line : List Tick)
-        → TextWalks last earliest left text line
+    pub forwards : (x : List ℕ) (unsent text : List ℕ) (line : List Tick)
+        → TextWalks last earliest unsent text line
         → cuts_after rules line (map Byte x) ≡ map Live x → earliest ≤ start_so_far line
-        → RunsOn last earliest left (text ++ x) line (map Byte x) (map Byte x)
-    forwards [] left text line w live late =
-        let P : List ℕ → Type 0 = λ y. RunsOn last earliest left y line [] [] in
-        subst P (sym (append-nil text)) (none-on left text line w)
-    forwards (b ∷ x) left text line w live late =
+        → RunsOn last earliest unsent (text ++ x) line (map Byte x) (map Byte x)
+    forwards [] unsent text line w live late =
+        let P : List ℕ → Type 0 = λ y. RunsOn last earliest unsent y line [] [] in
+        subst P (sym (append-nil text)) (none-on unsent text line w)
+    forwards (b ∷ x) unsent text line w live late =
         let first : cut_of rules line (Byte b) ≡ Live b = cc in
         let others : cuts_after rules (line ++ Byte b ∷ []) (map Byte x) ≡ map Live x = cc in
         let start = live-start rules line b first in
         let from : earliest ≤ start_so_far (line ++ Byte b ∷ []) = omega arith in
-        let on = advance-live proto as_text word_len setup line last earliest left text w b
+        let on = advance-live proto as_text word_len setup line last earliest unsent text w b
         (text ++ b ∷ []) first from (λ y is. ap (λ z. z ++ b ∷ []) is) in
-        let P : List ℕ → Type 0 = λ y. RunsOn last earliest left y line (map Byte (b ∷ x))
+        let P : List ℕ → Type 0 = λ y. RunsOn last earliest unsent y line (map Byte (b ∷ x))
         (map Byte (b ∷ x)) in
         subst P (append_assoc text (b ∷ []) x)
-        (more-on left ((text ++ b ∷ []) ++ x) left (text ++ b ∷ []) line (Byte b) (Byte b)
+        (more-on unsent ((text ++ b ∷ []) ++ x) unsent (text ++ b ∷ []) line (Byte b) (Byte b)
         (map Byte x) (map Byte x) on
-        (forwards x left (text ++ b ∷ []) (line ++ Byte b ∷ []) on.walks others from))
+        (forwards x unsent (text ++ b ∷ []) (line ++ Byte b ∷ []) on.walks others from))
 
     -- over silence that closes no burst, what is left of the trailer is sent
-    pub sends-open : (n : ℕ) (left text : List ℕ) (line : List Tick)
-        → TextWalks last earliest left text line
+    pub sends-open : (n : ℕ) (unsent text : List ℕ) (line : List Tick)
+        → TextWalks last earliest unsent text line
         → All IsPassing (cuts_after rules line (silent n))
-        → RunsOn last earliest (drop n left) text line (silent n) (sent n left)
-    sends-open zero left text line w open' = none-on left text line w
-    sends-open (suc n) left text line w open' =
+        → RunsOn last earliest (drop n unsent) text line (silent n) (sent n unsent)
+    sends-open zero unsent text line w open' = none-on unsent text line w
+    sends-open (suc n) unsent text line w open' =
         let first : Cut = cut_of rules line Silent in
         let others : List Cut = cuts_after rules (line ++ Silent ∷ []) (silent n) in
-        let on = advance-passing proto as_text word_len setup line last earliest left text w Silent
+        let on = advance-passing proto as_text word_len setup line last earliest unsent text w Silent
         first refl (All-head IsPassing first others open') in
         let P : List ℕ → Type 0 = λ y. RunsOn last earliest y text line (silent (suc n))
-        (sent (suc n) left) in
-        subst P (drop-one n left)
-        (more-on (drop n (drop 1 left)) text (drop 1 left) text line Silent (first_of left)
-        (silent n) (sent n (drop 1 left)) on
-        (sends-open n (drop 1 left) text (line ++ Silent ∷ []) on.walks
+        (sent (suc n) unsent) in
+        subst P (drop-one n unsent)
+        (more-on (drop n (drop 1 unsent)) text (drop 1 unsent) text line Silent (first_of unsent)
+        (silent n) (sent n (drop 1 unsent)) on
+        (sends-open n (drop 1 unsent) text (line ++ Silent ∷ []) on.walks
         (All-tail IsPassing first others open')))
 
     -- so it is while bytes come that aren't live
-    pub sends-extra : (x : List ℕ) (left text : List ℕ) (line : List Tick)
-        → TextWalks last earliest left text line
+    pub sends-extra : (x : List ℕ) (unsent text : List ℕ) (line : List Tick)
+        → TextWalks last earliest unsent text line
         → cuts_after rules line (map Byte x) ≡ map Extra x
-        → RunsOn last earliest (drop (length x) left) text line (map Byte x) (sent (length x) left)
-    sends-extra [] left text line w extra = none-on left text line w
-    sends-extra (b ∷ x) left text line w extra =
+        → RunsOn last earliest (drop (length x) unsent) text line (map Byte x) (sent (length x) unsent)
+    sends-extra [] unsent text line w extra = none-on unsent text line w
+    sends-extra (b ∷ x) unsent text line w extra =
         let first : cut_of rules line (Byte b) ≡ Extra b = cc in
         let others : cuts_after rules (line ++ Byte b ∷ []) (map Byte x) ≡ map Extra x = cc in
-        let on = advance-passing proto as_text word_len setup line last earliest left text w
+        let on = advance-passing proto as_text word_len setup line last earliest unsent text w
         (Byte b) (Extra b) first tt in
         let P : List ℕ → Type 0 = λ y. RunsOn last earliest y text line (map Byte (b ∷ x))
-        (sent (length (b ∷ x)) left) in
-        subst P (drop-one (length x) left)
-        (more-on (drop (length x) (drop 1 left)) text (drop 1 left) text line (Byte b)
-        (first_of left) (map Byte x) (sent (length x) (drop 1 left)) on
-        (sends-extra x (drop 1 left) text (line ++ Byte b ∷ []) on.walks others))
+        (sent (length (b ∷ x)) unsent) in
+        subst P (drop-one (length x) unsent)
+        (more-on (drop (length x) (drop 1 unsent)) text (drop 1 unsent) text line (Byte b)
+        (first_of unsent) (map Byte x) (sent (length x) (drop 1 unsent)) on
+        (sends-extra x (drop 1 unsent) text (line ++ Byte b ∷ []) on.walks others))
 
     -- and while an early burst goes on
-    pub sends-early : (x : List ℕ) (left text : List ℕ) (line : List Tick)
-        → TextWalks last earliest left text line
+    pub sends-early : (x : List ℕ) (unsent text : List ℕ) (line : List Tick)
+        → TextWalks last earliest unsent text line
         → cuts_after rules line (map Byte x) ≡ map Live x → start_so_far line < earliest
-        → RunsOn last earliest (drop (length x) left) text line (map Byte x) (sent (length x) left)
-    sends-early [] left text line w live early = none-on left text line w
-    sends-early (b ∷ x) left text line w live early =
+        → RunsOn last earliest (drop (length x) unsent) text line (map Byte x) (sent (length x) unsent)
+    sends-early [] unsent text line w live early = none-on unsent text line w
+    sends-early (b ∷ x) unsent text line w live early =
         let first : cut_of rules line (Byte b) ≡ Live b = cc in
         let others : cuts_after rules (line ++ Byte b ∷ []) (map Byte x) ≡ map Live x = cc in
         let start = live-start rules line b first in
         let soon : start_so_far (line ++ Byte b ∷ []) < earliest = omega arith in
-        let on = advance-early proto as_text word_len setup line last earliest left text w b
+        let on = advance-early proto as_text word_len setup line last earliest unsent text w b
         soon in
         let P : List ℕ → Type 0 = λ y. RunsOn last earliest y text line (map Byte (b ∷ x))
-        (sent (length (b ∷ x)) left) in
-        subst P (drop-one (length x) left)
-        (more-on (drop (length x) (drop 1 left)) text (drop 1 left) text line (Byte b)
-        (first_of left) (map Byte x) (sent (length x) (drop 1 left)) on
-        (sends-early x (drop 1 left) text (line ++ Byte b ∷ []) on.walks others soon))
+        (sent (length (b ∷ x)) unsent) in
+        subst P (drop-one (length x) unsent)
+        (more-on (drop (length x) (drop 1 unsent)) text (drop 1 unsent) text line (Byte b)
+        (first_of unsent) (map Byte x) (sent (length x) (drop 1 unsent)) on
+        (sends-early x (drop 1 unsent) text (line ++ Byte b ∷ []) on.walks others soon))
 
 -- ---- the transmitter after a run
 
@@ -210,26 +210,26 @@ module _ {R M : Type 0} (proto : LineRules R) (macs : Mac M) {B : ℕ} (old : Se
   abbrev Takes : Sealer R M B → List Tick → List Tick → Type 0
   Takes new run answer = HasTakenRun proto macs new last setup line run answer
 
-  abbrev left : List ℕ
-  left = bytes_left old.trailer
+  abbrev unsent : List ℕ
+  unsent = bytes_unsent old.trailer
 
-  walks-text : Walks proto (as_text proto macs B setup) B last old.earliest_start left
+  walks-text : Walks proto (as_text proto macs B setup) B last old.earliest_start unsent
       stands.walks.text setup line
-  walks-text = to-text proto macs B setup last old.earliest_start left old.mac line stands.walks
+  walks-text = to-text proto macs B setup last old.earliest_start unsent old.mac line stands.walks
 
   taken : (cut : BurstCut R) (mac : M) (trailer : Trailer B) (text : List ℕ)
       (run answer : List Tick) → CutStandsFor proto cut (line ++ run)
       → macs.stands mac setup.key text
-      → RunsOn proto macs B setup last old.earliest_start (bytes_left trailer) text line run answer
+      → RunsOn proto macs B setup last old.earliest_start (bytes_unsent trailer) text line run answer
       → Takes (record old { cut = cut; mac = mac; trailer = trailer }) run answer
   taken cut mac trailer text run answer cuts mac_is on =
-      let walks : Walks proto macs B last old.earliest_start (bytes_left trailer) mac setup
-      (line ++ run) = of-text proto macs B setup last old.earliest_start (bytes_left trailer) text
+      let walks : Walks proto macs B last old.earliest_start (bytes_unsent trailer) mac setup
+      (line ++ run) = of-text proto macs B setup last old.earliest_start (bytes_unsent trailer) text
       mac (line ++ run) mac_is on.walks in
       record {
         stands = record { direction_is = stands.direction_is; cuts = cuts; walks = walks };
         floor = number-is proto macs B setup (line ++ run) last old.earliest_start
-            (bytes_left trailer) mac walks;
+            (bytes_unsent trailer) mac walks;
         answers = on.answers;
       }
 
@@ -238,7 +238,7 @@ module _ {R M : Type 0} (proto : LineRules R) (macs : Mac M) {B : ℕ} (old : Se
       let P : List Tick → Type 0 = λ l. CutStandsFor proto old.cut l in
       taken old.cut old.mac old.trailer stands.walks.text [] []
       (subst P (sym (append-nil line)) stands.cuts) stands.walks.mac_is
-      (none-on proto macs B setup last old.earliest_start left stands.walks.text line walks-text)
+      (none-on proto macs B setup last old.earliest_start unsent stands.walks.text line walks-text)
 
   pub forward-taken : (cut : BurstCut R) (mac : M) (x : List ℕ)
       → CutStandsFor proto cut (line ++ map Byte x)
@@ -250,54 +250,54 @@ module _ {R M : Type 0} (proto : LineRules R) (macs : Mac M) {B : ℕ} (old : Se
   forward-taken cut mac x cuts live late more =
       taken cut mac old.trailer (stands.walks.text ++ x) (map Byte x) (map Byte x) cuts
       (more stands.walks.text stands.walks.mac_is)
-      (forwards proto macs B setup last old.earliest_start x left stands.walks.text line walks-text
+      (forwards proto macs B setup last old.earliest_start x unsent stands.walks.text line walks-text
       live late)
 
   -- what goes out is told by the bytes that were left
   module _ (cut : BurstCut R) (trailer : Trailer B) where
     sends : (n : ℕ) (run answer : List Tick) → CutStandsFor proto cut (line ++ run)
-        → bytes_left trailer ≡ drop n left → sent n left ≡ answer
-        → RunsOn proto macs B setup last old.earliest_start (drop n left) stands.walks.text line
-        run (sent n left)
+        → bytes_unsent trailer ≡ drop n unsent → sent n unsent ≡ answer
+        → RunsOn proto macs B setup last old.earliest_start (drop n unsent) stands.walks.text line
+        run (sent n unsent)
         → Takes (record old { cut = cut; trailer = trailer }) run answer
     sends n run answer cuts left_is answer_is on =
         let P : List ℕ → Type 0 = λ y. RunsOn proto macs B setup last old.earliest_start y
         stands.walks.text line run answer in
         let Q : List Tick → Type 0 = λ y. RunsOn proto macs B setup last old.earliest_start
-        (drop n left) stands.walks.text line run y in
+        (drop n unsent) stands.walks.text line run y in
         taken cut old.mac trailer stands.walks.text run answer cuts stands.walks.mac_is
         (subst P (sym left_is) (subst Q answer_is on))
 
     pub open-taken : (n : ℕ) (answer : List Tick) → CutStandsFor proto cut (line ++ silent n)
         → All IsPassing (cuts_after proto.rules line (silent n))
-        → bytes_left trailer ≡ drop n left → sent n left ≡ answer
+        → bytes_unsent trailer ≡ drop n unsent → sent n unsent ≡ answer
         → Takes (record old { cut = cut; trailer = trailer }) (silent n) answer
     open-taken n answer cuts open' left_is answer_is =
         sends n (silent n) answer cuts left_is answer_is
-        (sends-open proto macs B setup last old.earliest_start n left stands.walks.text line
+        (sends-open proto macs B setup last old.earliest_start n unsent stands.walks.text line
         walks-text open')
 
     pub early-taken : (n : ℕ) (x : List ℕ) (answer : List Tick) → length x ≡ n
         → CutStandsFor proto cut (line ++ map Byte x)
         → cuts_after proto.rules line (map Byte x) ≡ map Live x
         → start_so_far line < old.earliest_start
-        → bytes_left trailer ≡ drop n left → sent n left ≡ answer
+        → bytes_unsent trailer ≡ drop n unsent → sent n unsent ≡ answer
         → Takes (record old { cut = cut; trailer = trailer }) (map Byte x) answer
     early-taken n x answer long cuts live early left_is answer_is =
-        sends (length x) (map Byte x) answer cuts (left_is ∙ ap (λ k. drop k left) (sym long))
-        (ap (λ k. sent k left) long ∙ answer_is)
-        (sends-early proto macs B setup last old.earliest_start x left stands.walks.text line
+        sends (length x) (map Byte x) answer cuts (left_is ∙ ap (λ k. drop k unsent) (sym long))
+        (ap (λ k. sent k unsent) long ∙ answer_is)
+        (sends-early proto macs B setup last old.earliest_start x unsent stands.walks.text line
         walks-text live early)
 
     pub extra-taken : (n : ℕ) (x : List ℕ) (answer : List Tick) → length x ≡ n
         → CutStandsFor proto cut (line ++ map Byte x)
         → cuts_after proto.rules line (map Byte x) ≡ map Extra x
-        → bytes_left trailer ≡ drop n left → sent n left ≡ answer
+        → bytes_unsent trailer ≡ drop n unsent → sent n unsent ≡ answer
         → Takes (record old { cut = cut; trailer = trailer }) (map Byte x) answer
     extra-taken n x answer long cuts extra left_is answer_is =
-        sends (length x) (map Byte x) answer cuts (left_is ∙ ap (λ k. drop k left) (sym long))
-        (ap (λ k. sent k left) long ∙ answer_is)
-        (sends-extra proto macs B setup last old.earliest_start x left stands.walks.text line
+        sends (length x) (map Byte x) answer cuts (left_is ∙ ap (λ k. drop k unsent) (sym long))
+        (ap (λ k. sent k unsent) long ∙ answer_is)
+        (sends-extra proto macs B setup last old.earliest_start x unsent stands.walks.text line
         walks-text extra)
 
 -- ---- runs that follow one another

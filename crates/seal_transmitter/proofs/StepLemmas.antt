@@ -81,17 +81,17 @@ overlays-append a b i first second more =
 
 -- ---- bytes that are sent
 
-pub sent-first : (m : ℕ) (left : List ℕ) → sent_at m left m ≡ first_of left
+pub sent-first : (m : ℕ) (unsent : List ℕ) → sent_at m unsent m ≡ first_of unsent
 sent-first m [] = refl
-sent-first m (b ∷ left) = let none : m - m ≡ 0 = omega arith in
-    ap (λ k. get_or (map (λ x. Byte x) (b ∷ left)) k Silent) none
+sent-first m (b ∷ unsent) = let none : m - m ≡ 0 = omega arith in
+    ap (λ k. get_or (map (λ x. Byte x) (b ∷ unsent)) k Silent) none
 
-pub sent-later : (m : ℕ) (left : List ℕ) (i : ℕ) → m + 1 ≤ i
-    → sent_at m left i ≡ sent_at (m + 1) (drop 1 left) i
+pub sent-later : (m : ℕ) (unsent : List ℕ) (i : ℕ) → m + 1 ≤ i
+    → sent_at m unsent i ≡ sent_at (m + 1) (drop 1 unsent) i
 sent-later m [] i later = refl
-sent-later m (b ∷ left) i later =
+sent-later m (b ∷ unsent) i later =
     let one_less : i - m ≡ suc (i - (m + 1)) = omega arith in
-    ap (λ k. get_or (map (λ x. Byte x) (b ∷ left)) k Silent) one_less
+    ap (λ k. get_or (map (λ x. Byte x) (b ∷ unsent)) k Silent) one_less
 
 -- ---- emissions of closed bursts
 

@@ -6,7 +6,7 @@ use Rattle.frame_ending.specs.{Stands.StandsFor as CutStandsFor, declared.cut.Cu
 use Rattle.frame_ending.specs.declared.cut.Cut.TheVariants.{Start, Live, Closed}
 use Rattle.hmac_tag.specs.{Tag.direction_number, declared.tag.Mac.Ghosts as Mac}
 use Rattle.line_rules.specs.declared.line_rules.LineRules.{Ghosts as LineRules}
-use Rattle.link_format.specs.{Setup.Setup, Trailers.bytes_left, Trailers.first_of}
+use Rattle.link_format.specs.{Setup.Setup, Trailers.bytes_unsent, Trailers.first_of}
 use Rattle.link_format.specs.declared.trailer.Trailer.{Trailer}
 use Rattle.seal_judgements.specs.Sealing.Judgement.{sealed_with, unsealed}
 use Rattle.seal_judgements.specs.declared.note.SealNote.{SealNote}
@@ -25,8 +25,8 @@ use Rattle.yasir_ticks.specs.declared.tick.Tick.{Tick, TheVariants.Silent, TheVa
 pub record HasSent {R M : Type 0} {B : ℕ} (old new : Sealer R M B) (step : BoxStep SealNote) :
     Type 0 where
   pub rest : new ≡ record old { trailer = new.trailer }
-  pub left : bytes_left new.trailer ≡ drop 1 (bytes_left old.trailer)
-  pub answer : step ≡ noteless (first_of (bytes_left old.trailer))
+  pub unsent : bytes_unsent new.trailer ≡ drop 1 (bytes_unsent old.trailer)
+  pub answer : step ≡ noteless (first_of (bytes_unsent old.trailer))
 
 module _ {R M : Type 0} (proto : LineRules R) (macs : Mac M) {B : ℕ} (old : Sealer R M B) (last : ℕ)
     (setup : Setup)
@@ -38,42 +38,42 @@ module _ {R M : Type 0} (proto : LineRules R) (macs : Mac M) {B : ℕ} (old : Se
   Taken new number t step = HasTaken proto macs new number setup line t step
 
   abbrev On : ℕ → ℕ → List ℕ → M → Tick → BoxStep SealNote → Type 0
-  On number earliest left mac t step = WalksOn proto macs B setup number earliest left mac line t
+  On number earliest unsent mac t step = WalksOn proto macs B setup number earliest unsent mac line t
       step
 
   -- the walk goes on, and all else has taken the tick
   taken : (new : Sealer R M B) (number : ℕ) (t : Tick) (step : BoxStep SealNote)
       → direction_number new.direction ≡ setup.direction
       → CutStandsFor proto new.cut (line ++ t ∷ [])
-      → On number new.earliest_start (bytes_left new.trailer) new.mac t step
+      → On number new.earliest_start (bytes_unsent new.trailer) new.mac t step
       → Taken new number t step
   taken new number t step direction_is cuts on = record {
     stands = record { direction_is = direction_is; cuts = cuts; walks = on.walks };
     floor = number-is proto macs B setup (line ++ t ∷ []) number new.earliest_start
-        (bytes_left new.trailer) new.mac on.walks;
+        (bytes_unsent new.trailer) new.mac on.walks;
     answers = on.answers;
   }
 
   sent : (new : Sealer R M B) (step : BoxStep SealNote) (t : Tick) (cut : Cut)
       → HasSent old new step
       → Between t cut
-      → On last old.earliest_start (drop 1 (bytes_left old.trailer)) old.mac t
-      (noteless (first_of (bytes_left old.trailer)))
+      → On last old.earliest_start (drop 1 (bytes_unsent old.trailer)) old.mac t
+      (noteless (first_of (bytes_unsent old.trailer)))
       → Taken new last t step
   sent new step t cut has between on =
       let P : Sealer R M B → Type 0 = λ v. Taken v last t step in
       let Q : BoxStep SealNote → Type 0 = λ s. On last old.earliest_start
-      (drop 1 (bytes_left old.trailer)) old.mac t s in
+      (drop 1 (bytes_unsent old.trailer)) old.mac t s in
       let L : List ℕ → Type 0 = λ l. On last old.earliest_start l old.mac t step in
       subst P (sym has.rest)
       (taken (record old { trailer = new.trailer }) last t step between.direction_is between.cuts
-      (subst L (sym has.left) (subst Q (sym has.answer) on)))
+      (subst L (sym has.unsent) (subst Q (sym has.answer) on)))
 
   pub pass-taken : (new : Sealer R M B) (step : BoxStep SealNote) → HasSent old new step
       → (t : Tick) (cut : Cut) → IsPassing cut → Between t cut → Taken new last t step
   pass-taken new step has t cut passing between =
       sent new step t cut has between
-      (advance-passing proto macs B setup line last old.earliest_start (bytes_left old.trailer)
+      (advance-passing proto macs B setup line last old.earliest_start (bytes_unsent old.trailer)
       old.mac between.walks
       t cut between.is_cut passing)
 
@@ -82,12 +82,12 @@ module _ {R M : Type 0} (proto : LineRules R) (macs : Mac M) {B : ℕ} (old : Se
       → start_so_far (line ++ t ∷ []) < old.earliest_start → Taken new last t step
   early-taken new step has t b cut is between early =
       let P : Tick → Type 0 = λ u. start_so_far (line ++ u ∷ []) < old.earliest_start
-      → On last old.earliest_start (drop 1 (bytes_left old.trailer)) old.mac u
-      (noteless (first_of (bytes_left old.trailer))) in
+      → On last old.earliest_start (drop 1 (bytes_unsent old.trailer)) old.mac u
+      (noteless (first_of (bytes_unsent old.trailer))) in
       sent new step t cut has between
       (subst P (sym is)
       (λ soon. advance-early proto macs B setup line last old.earliest_start
-      (bytes_left old.trailer) old.mac between.walks b soon)
+      (bytes_unsent old.trailer) old.mac between.walks b soon)
       early)
 
   -- ---- a byte that starts a burst, and a further live one
@@ -113,11 +113,11 @@ module _ {R M : Type 0} (proto : LineRules R) (macs : Mac M) {B : ℕ} (old : Se
   begin-late mac t b between late mac_is =
       let P : Tick → Type 0 = λ u. cut_of proto.rules line u ≡ Start b
       → old.earliest_start ≤ start_so_far (line ++ u ∷ [])
-      → On last old.earliest_start (bytes_left old.trailer) mac u (noteless (Byte b)) in
+      → On last old.earliest_start (bytes_unsent old.trailer) mac u (noteless (Byte b)) in
       taken (record old { mac = mac }) last t (noteless (Byte b)) between.direction_is between.cuts
       (subst P (sym (start-tick proto.rules line t b between.is_cut))
       (λ starts from. advance-begin proto macs B setup line last old.earliest_start
-      (bytes_left old.trailer) old.mac
+      (bytes_unsent old.trailer) old.mac
       between.walks b mac starts from mac_is)
       between.is_cut late)
 
@@ -129,42 +129,42 @@ module _ {R M : Type 0} (proto : LineRules R) (macs : Mac M) {B : ℕ} (old : Se
   go_on-late mac t b between late more =
       let P : Tick → Type 0 = λ u. cut_of proto.rules line u ≡ Live b
       → old.earliest_start ≤ start_so_far (line ++ u ∷ [])
-      → On last old.earliest_start (bytes_left old.trailer) mac u (noteless (Byte b)) in
+      → On last old.earliest_start (bytes_unsent old.trailer) mac u (noteless (Byte b)) in
       taken (record old { mac = mac }) last t (noteless (Byte b)) between.direction_is between.cuts
       (subst P (sym (live-tick proto.rules line t b between.is_cut))
       (λ lives from. advance-live proto macs B setup line last old.earliest_start
-      (bytes_left old.trailer) old.mac
+      (bytes_unsent old.trailer) old.mac
       between.walks b mac lives from more)
       between.is_cut late)
 
   -- ---- the tick that closes a burst
 
   pub leave-taken : (trailer : Trailer B) (tick : Tick) (start : ℕ) (why : UnsealedWhy)
-      → bytes_left trailer ≡ drop 1 (bytes_left old.trailer)
-      → tick ≡ first_of (bytes_left old.trailer)
+      → bytes_unsent trailer ≡ drop 1 (bytes_unsent old.trailer)
+      → tick ≡ first_of (bytes_unsent old.trailer)
       → Between Silent Closed → start ≡ start_so_far (line ++ Silent ∷ [])
       → Judges proto macs old last setup (line ++ Silent ∷ []) (unsealed why)
       → Taken (record old { trailer = trailer }) last Silent
       (record { tick = tick; note = Some (Unsealed start why) })
-  leave-taken trailer tick start why left answer between start_is judge =
+  leave-taken trailer tick start why unsent answer between start_is judge =
       let earliest : ℕ = old.earliest_start in
       let L : List ℕ → Type 0 = λ l. On last earliest l old.mac Silent
       (record { tick = tick; note = Some (Unsealed start why) }) in
-      let T : Tick → Type 0 = λ u. On last earliest (drop 1 (bytes_left old.trailer)) old.mac Silent
+      let T : Tick → Type 0 = λ u. On last earliest (drop 1 (bytes_unsent old.trailer)) old.mac Silent
       (record { tick = u; note = Some (Unsealed start why) }) in
-      let N : ℕ → Type 0 = λ n. On last earliest (drop 1 (bytes_left old.trailer)) old.mac Silent
-      (record { tick = first_of (bytes_left old.trailer); note = Some (Unsealed n why) }) in
+      let N : ℕ → Type 0 = λ n. On last earliest (drop 1 (bytes_unsent old.trailer)) old.mac Silent
+      (record { tick = first_of (bytes_unsent old.trailer); note = Some (Unsealed n why) }) in
       taken (record old { trailer = trailer }) last Silent
       (record { tick = tick; note = Some (Unsealed start why) })
       between.direction_is between.cuts
-      (subst L (sym left) (subst T (sym answer) (subst N (sym start_is)
-      (advance-unsealed proto macs B setup line last earliest (bytes_left old.trailer) old.mac
+      (subst L (sym unsent) (subst T (sym answer) (subst N (sym start_is)
+      (advance-unsealed proto macs B setup line last earliest (bytes_unsent old.trailer) old.mac
       between.walks
       why between.is_cut judge))))
 
   pub seal-taken : (mac : M) (trailer : Trailer B) (tick : Tick) (earliest number start len : ℕ)
       (bytes : List ℕ)
-      → bytes_left trailer ≡ drop 1 bytes → tick ≡ first_of bytes
+      → bytes_unsent trailer ≡ drop 1 bytes → tick ≡ first_of bytes
       → Between Silent Closed → start ≡ start_so_far (line ++ Silent ∷ [])
       → len ≡ length (live_bytes_so_far proto.rules (line ++ Silent ∷ []))
       → Judges proto macs old last setup (line ++ Silent ∷ []) (sealed_with number)
@@ -174,7 +174,7 @@ module _ {R M : Type 0} (proto : LineRules R) (macs : Mac M) {B : ℕ} (old : Se
       → ((text : List ℕ) → macs.stands old.mac setup.key text → macs.stands mac setup.key [])
       → Taken (record old { mac = mac; earliest_start = earliest; trailer = trailer }) number Silent
       (record { tick = tick; note = Some (Sealed number start len) })
-  seal-taken mac trailer tick earliest number start len bytes left answer between start_is len_is
+  seal-taken mac trailer tick earliest number start len bytes unsent answer between start_is len_is
       judge earliest_is tagged begun =
       let line' : List Tick = line ++ Silent ∷ [] in
       let L : List ℕ → Type 0 = λ l. On number earliest l mac Silent
@@ -188,7 +188,7 @@ module _ {R M : Type 0} (proto : LineRules R) (macs : Mac M) {B : ℕ} (old : Se
       taken (record old { mac = mac; earliest_start = earliest; trailer = trailer }) number Silent
       (record { tick = tick; note = Some (Sealed number start len) }) between.direction_is
       between.cuts
-      (subst L (sym left) (subst T (sym answer) (subst N (sym start_is) (subst K (sym len_is)
-      (advance-sealed proto macs B setup line last old.earliest_start (bytes_left old.trailer)
+      (subst L (sym unsent) (subst T (sym answer) (subst N (sym start_is) (subst K (sym len_is)
+      (advance-sealed proto macs B setup line last old.earliest_start (bytes_unsent old.trailer)
       old.mac between.walks
       number earliest bytes mac between.is_cut judge earliest_is tagged begun)))))

@@ -40,20 +40,20 @@ use Rattle.yasir_ticks.specs.Bursts.{Burst, bursts, bursts_from, end_of, AreClos
 use Rattle.yasir_ticks.specs.{BurstsOf.IsContiguous, declared.TheConstants.T3_5_TICKS}
 use Rattle.yasir_ticks.specs.declared.tick.Tick.{Tick, TheVariants.Silent, TheVariants.Byte}
 
-none_left : (left : List ℕ) (m earliest : ℕ) → (0 < length left → m + length left + 4 ≤ earliest)
+none_left : (unsent : List ℕ) (m earliest : ℕ) → (0 < length unsent → m + length unsent + 4 ≤ earliest)
     → earliest ≤ m
-    → left ≡ []
+    → unsent ≡ []
 none_left [] m earliest in_time late = refl
-none_left (b ∷ left) m earliest in_time late =
-    let some : 0 < length (b ∷ left) = omega arith in
+none_left (b ∷ unsent) m earliest in_time late =
+    let some : 0 < length (b ∷ unsent) = omega arith in
     let soon = in_time some in
     absurd (omega arith)
 
-left-in_time : (left : List ℕ) (m earliest : ℕ) → (0 < length left → m + length left + 4 ≤ earliest)
-    → 0 < length (drop 1 left) → m + 1 + length (drop 1 left) + 4 ≤ earliest
-left-in_time [] m earliest in_time some = absurd (omega arith)
-left-in_time (b ∷ left) m earliest in_time some =
-    let now : 0 < length (b ∷ left) = omega arith in
+unsent-in_time : (unsent : List ℕ) (m earliest : ℕ) → (0 < length unsent → m + length unsent + 4 ≤ earliest)
+    → 0 < length (drop 1 unsent) → m + 1 + length (drop 1 unsent) + 4 ≤ earliest
+unsent-in_time [] m earliest in_time some = absurd (omega arith)
+unsent-in_time (b ∷ unsent) m earliest in_time some =
+    let now : 0 < length (b ∷ unsent) = omega arith in
     let soon = in_time now in
     omega arith
 
@@ -100,7 +100,7 @@ module _ (profile : Profile) (rules : Rules) (floor : ℕ) where
 
 module _ (profile : Profile) (rules : Rules) (lawful : IsLawful rules) (tags : HasTags profile)
     (floor : ℕ)
-    (line : List Tick) (s : SealState) (left : List ℕ) where
+    (line : List Tick) (s : SealState) (unsent : List ℕ) where
   abbrev walker : Walker SealState FullNote
   walker = sealer profile rules
 
@@ -108,7 +108,7 @@ module _ (profile : Profile) (rules : Rules) (lawful : IsLawful rules) (tags : H
   m = length line
 
   abbrev Walked : Option Burst → Type 0
-  Walked running = HasWalked profile rules floor m (bursts line) s left running
+  Walked running = HasWalked profile rules floor m (bursts line) s unsent running
 
   -- the walk after a further tick, with this state, these bytes to send and this running burst
   abbrev WalkedThen : Tick → SealState → List ℕ → Option Burst → Type 0
@@ -160,7 +160,7 @@ module _ (profile : Profile) (rules : Rules) (lawful : IsLawful rules) (tags : H
 
   -- the link from here on: what is still to be sent, and what else is emitted
   link-more : (running : Option Burst) (so_far : Walked running) (more : List Burst) (i : ℕ) → m ≤ i
-      → tick_at (so_far.emissions ++ more) i ≡ or_else (sent_at m left i) (tick_at more i)
+      → tick_at (so_far.emissions ++ more) i ≡ or_else (sent_at m unsent i) (tick_at more i)
   link-more running so_far more i from =
       let come = so_far.come in
       ap (λ x. tick_at (x ++ more) i) (sym come.emits)
@@ -171,25 +171,25 @@ module _ (profile : Profile) (rules : Rules) (lawful : IsLawful rules) (tags : H
   -- a step that notes nothing
   walks-on : (running now : Option Burst) (so_far : Walked running) (t : Tick)
       → Taken running now so_far t
-      → IfSome now (λ d. m + 1 ≤ end_of d + 3) → WalkedThen t s (drop 1 left) now
+      → IfSome now (λ d. m + 1 ≤ end_of d + 3) → WalkedThen t s (drop 1 unsent) now
   walks-on running now so_far t taken later =
       let P : ℕ → Type 0 = λ k. HasWalked profile rules floor k (bursts (line ++ t ∷ [])) s
-      (drop 1 left) now in
+      (drop 1 unsent) now in
       subst P (sym (longer-line line t))
       (record {
         emissions = so_far.emissions;
         come = come-waits walker (at_floor floor) m (bursts (line ++ t ∷ [])) s so_far.emissions now
             taken later;
         sends = λ i from. let before : m ≤ i = omega arith in
-            so_far.sends i before ∙ sent-later m left i from;
-        in_time = left-in_time left m s.earliest_start so_far.in_time;
+            so_far.sends i before ∙ sent-later m unsent i from;
+        in_time = unsent-in_time unsent m s.earliest_start so_far.in_time;
       })
 
   -- what a step answers, by the burst that runs
   answers : (running now : Option Burst) (so_far : Walked running) (t : Tick)
       (step : BoxStep SealNote)
       → Taken running now so_far t
-      → or_else (sent_at m left m) (tick_at (emitted walker s (waiting_part now)) m) ≡ step.tick
+      → or_else (sent_at m unsent m) (tick_at (emitted walker s (waiting_part now)) m) ≡ step.tick
       → told_notes brief_note (notes_at m (walked walker s (waiting_part now)))
       ≡ note_in m step.note
       → AnswersTick profile rules floor line t step
@@ -245,18 +245,18 @@ module _ (profile : Profile) (rules : Rules) (lawful : IsLawful rules) (tags : H
 
   -- where the link is silent but for what is still to be sent
   only-sent : (dark : List Burst) → tick_at dark m ≡ Silent
-      → or_else (sent_at m left m) (tick_at dark m) ≡ first_of left
+      → or_else (sent_at m unsent m) (tick_at dark m) ≡ first_of unsent
   only-sent dark is =
-      ap (λ t. or_else (sent_at m left m) t) is
-      ∙ (or_else-silent (sent_at m left m) ∙ sent-first m left)
+      ap (λ t. or_else (sent_at m unsent m) t) is
+      ∙ (or_else-silent (sent_at m unsent m) ∙ sent-first m unsent)
 
   -- ---- a silent tick that closes no burst
 
   quiet-answers : (running : Option Burst) → Walked running
       → IfSome running (λ d. m + 1 < end_of d + T3_5_TICKS)
-      → AnswersTick profile rules floor line Silent (noteless (first_of left))
+      → AnswersTick profile rules floor line Silent (noteless (first_of unsent))
   quiet-answers None so_far near =
-      answers None None so_far Silent (noteless (first_of left)) (take-silent None so_far)
+      answers None None so_far Silent (noteless (first_of unsent)) (take-silent None so_far)
       (only-sent [] (tick_at-none m)) refl
   quiet-answers (Some d) so_far near =
       let within = divided-within line so_far.come.settled d (walked-divided (Some d) so_far) in
@@ -265,7 +265,7 @@ module _ (profile : Profile) (rules : Rules) (lawful : IsLawful rules) (tags : H
       let live = live_end-within rules d in
       let later : m + 1 ≤ end_of d + 3 = omega arith in
       let dark = emission-past d m within.contiguous (omega arith) (omega arith) (omega arith) in
-      answers (Some d) (Some d) so_far Silent (noteless (first_of left))
+      answers (Some d) (Some d) so_far Silent (noteless (first_of unsent))
       (take-silent (Some d) so_far)
       (only-sent (emitted walker s (d ∷ [])) (emission-alone d m ∙ dark))
       (ap (λ x. told_notes brief_note x) (note-later walker s m (Some d) later))
@@ -277,8 +277,8 @@ module _ (profile : Profile) (rules : Rules) (lawful : IsLawful rules) (tags : H
 
   pub walks-silent : (running : Option Burst) → Walked running
       → IfSome running (λ d. m + 1 < end_of d + T3_5_TICKS)
-      → WalkedThen Silent s (drop 1 left) running
-      × AnswersTick profile rules floor line Silent (noteless (first_of left))
+      → WalkedThen Silent s (drop 1 unsent) running
+      × AnswersTick profile rules floor line Silent (noteless (first_of unsent))
   walks-silent running so_far near = (
     walks-on running running so_far Silent (take-silent running so_far) (open-later running near),
     quiet-answers running so_far near,
@@ -288,7 +288,7 @@ module _ (profile : Profile) (rules : Rules) (lawful : IsLawful rules) (tags : H
 
   abbrev SendsThen : Burst → List ℕ → Type 0
   SendsThen d to_send = (i : ℕ) → m ≤ i
-      → or_else (sent_at m left i) (tick_at (emission_by profile rules d (judgement_now d)) i)
+      → or_else (sent_at m unsent i) (tick_at (emission_by profile rules d (judgement_now d)) i)
       ≡ sent_at m to_send i
 
   closes : (d : Burst) (next : SealState) (to_send : List ℕ) → Walked (Some d)
@@ -312,39 +312,39 @@ module _ (profile : Profile) (rules : Rules) (lawful : IsLawful rules) (tags : H
         sends = λ i from. let before : m ≤ i = omega arith in
             link-more (Some d) so_far emission i before
             ∙ (sends i before ∙ sent-later m to_send i from);
-        in_time = left-in_time to_send m next.earliest_start in_time;
+        in_time = unsent-in_time to_send m next.earliest_start in_time;
       })
 
   close-answers : (d : Burst) (step : BoxStep SealNote) → Walked (Some d)
       → m + 1 ≡ end_of d + T3_5_TICKS
-      → or_else (sent_at m left m) (tick_at (emission_by profile rules d (judgement_now d)) m)
+      → or_else (sent_at m unsent m) (tick_at (emission_by profile rules d (judgement_now d)) m)
       ≡ step.tick
       → Some (brief_note (note_by rules d (judgement_now d))) ≡ step.note
       → AnswersTick profile rules floor line Silent step
   close-answers d step so_far closing tick note =
       let now : end_of d + 3 ≡ m = omega arith in
       answers (Some d) (Some d) so_far Silent step (take-silent (Some d) so_far)
-      (ap (λ t. or_else (sent_at m left m) t) (emission-alone d m) ∙ tick)
+      (ap (λ t. or_else (sent_at m unsent m) t) (emission-alone d m) ∙ tick)
       (ap (λ x. told_notes brief_note x) (note-now walker s m d now) ∙ ap (λ o. note_in m o) note)
 
   pub walks-unsealed : (d : Burst) (why : UnsealedWhy) → Walked (Some d)
       → m + 1 ≡ end_of d + T3_5_TICKS
       → judgement_now d ≡ unsealed why
-      → WalkedThen Silent s (drop 1 left) None
+      → WalkedThen Silent s (drop 1 unsent) None
       × AnswersTick profile rules floor line Silent
-      (record { tick = first_of left; note = Some (Unsealed d.start why) })
+      (record { tick = first_of unsent; note = Some (Unsealed d.start why) })
   walks-unsealed d why so_far closing is =
-      let dark : SendsThen d left = λ i from.
+      let dark : SendsThen d unsent = λ i from.
       let past : end_of d ≤ i = omega arith in
-      ap (λ t. or_else (sent_at m left i) t)
+      ap (λ t. or_else (sent_at m unsent i) t)
       (ap (λ j. tick_at (emission_by profile rules d j) i) is ∙ emission-unsealed d why i past)
-      ∙ or_else-silent (sent_at m left i) in
+      ∙ or_else-silent (sent_at m unsent i) in
       let here : m ≤ m = omega arith in (
-        closes d s left so_far closing (ap (λ j. state_by profile rules s d j) is) dark
+        closes d s unsent so_far closing (ap (λ j. state_by profile rules s d j) is) dark
             so_far.in_time,
-        close-answers d (record { tick = first_of left; note = Some (Unsealed d.start why) }) so_far
+        close-answers d (record { tick = first_of unsent; note = Some (Unsealed d.start why) }) so_far
             closing
-            (dark m here ∙ sent-first m left)
+            (dark m here ∙ sent-first m unsent)
             (ap (λ j. Some (brief_note (note_by rules d j))) is),
       )
 
@@ -377,7 +377,7 @@ module _ (profile : Profile) (rules : Rules) (lawful : IsLawful rules) (tags : H
       → SendsThen d bytes
   sealed-sends d number bytes so_far end is trailer_is i from =
       let late = seals-late d number is in
-      let none : left ≡ [] = none_left left m s.earliest_start so_far.in_time (omega arith) in
+      let none : unsent ≡ [] = none_left unsent m s.earliest_start so_far.in_time (omega arith) in
       let begun : d.start ≤ i = omega arith in
       let past : live_end rules d + 3 ≤ i = omega arith in
       let sent : List ℕ = trailer profile number (live_bytes rules d) in
@@ -460,38 +460,38 @@ module _ (profile : Profile) (rules : Rules) (lawful : IsLawful rules) (tags : H
     whole : IsContiguous 4 d.body
     whole = byte-contiguous line closed b running (walked-divided running so_far)
 
-    walks-byte : WalkedThen (Byte b) s (drop 1 left) (Some d)
+    walks-byte : WalkedThen (Byte b) s (drop 1 unsent) (Some d)
     walks-byte =
         let end = ends in
         let later : m + 1 ≤ end_of d + 3 = omega arith in
         walks-on running (Some d) so_far (Byte b) (take-byte running b so_far) later
 
-    byte-answers : (t : Tick) → or_else (sent_at m left m)
+    byte-answers : (t : Tick) → or_else (sent_at m unsent m)
         (tick_at (emission_by profile rules d (judgement_now d)) m) ≡ t
         → AnswersTick profile rules floor line (Byte b) (noteless t)
     byte-answers t is =
         let end = ends in
         let later : m + 1 ≤ end_of d + 3 = omega arith in
         answers running (Some d) so_far (Byte b) (noteless t) (take-byte running b so_far)
-        (ap (λ x. or_else (sent_at m left m) x) (emission-alone d m) ∙ is)
+        (ap (λ x. or_else (sent_at m unsent m) x) (emission-alone d m) ∙ is)
         (ap (λ x. told_notes brief_note x) (note-later walker s m (Some d) later))
 
     -- a byte of an early burst isn't forwarded
     pub walks-early : d.start < s.earliest_start
-        → WalkedThen (Byte b) s (drop 1 left) (Some d)
-        × AnswersTick profile rules floor line (Byte b) (noteless (first_of left))
+        → WalkedThen (Byte b) s (drop 1 unsent) (Some d)
+        × AnswersTick profile rules floor line (Byte b) (noteless (first_of unsent))
     walks-early early = (
       walks-byte,
-      byte-answers (first_of left)
-          (ap (λ x. or_else (sent_at m left m) x) (emission-nothing d m early)
-          ∙ (or_else-silent (sent_at m left m) ∙ sent-first m left)),
+      byte-answers (first_of unsent)
+          (ap (λ x. or_else (sent_at m unsent m) x) (emission-nothing d m early)
+          ∙ (or_else-silent (sent_at m unsent m) ∙ sent-first m unsent)),
     )
 
     -- where the burst isn't early, nothing is left to be sent
-    byte-none_left : s.earliest_start ≤ d.start → left ≡ []
+    byte-none_left : s.earliest_start ≤ d.start → unsent ≡ []
     byte-none_left late =
         let begun = byte-begun line closed b running (walked-divided running so_far) in
-        none_left left m s.earliest_start so_far.in_time (omega arith)
+        none_left unsent m s.earliest_start so_far.in_time (omega arith)
 
     walks-late : s.earliest_start ≤ d.start → WalkedThen (Byte b) s [] (Some d)
     walks-late late =
@@ -508,7 +508,7 @@ module _ (profile : Profile) (rules : Rules) (lawful : IsLawful rules) (tags : H
         ∙ is)
 
     pub walks-live : s.earliest_start ≤ d.start → live_end rules d ≡ m + 1
-        → (left ≡ []) × WalkedThen (Byte b) s [] (Some d)
+        → (unsent ≡ []) × WalkedThen (Byte b) s [] (Some d)
         × AnswersTick profile rules floor line (Byte b) (noteless (Byte b))
     walks-live late live =
         let end = ends in
@@ -526,7 +526,7 @@ module _ (profile : Profile) (rules : Rules) (lawful : IsLawful rules) (tags : H
         )
 
     pub walks-extra : s.earliest_start ≤ d.start → live_end rules d ≤ m
-        → (left ≡ []) × WalkedThen (Byte b) s [] (Some d)
+        → (unsent ≡ []) × WalkedThen (Byte b) s [] (Some d)
         × AnswersTick profile rules floor line (Byte b) (noteless Silent)
     walks-extra late extra =
         let end = ends in

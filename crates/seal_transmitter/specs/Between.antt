@@ -12,7 +12,7 @@ use Rattle.hmac_tag.specs.declared.tag.Mac.{Ghosts as Mac}
 use Rattle.hmac_tag.specs.Tag.{direction_number}
 use Rattle.link_format.specs.Profile.{Profile, profile_of}
 use Rattle.link_format.specs.Setup.{Setup}
-use Rattle.link_format.specs.Trailers.{bytes_left}
+use Rattle.link_format.specs.Trailers.{bytes_unsent}
 use Rattle.sequence_journal.specs.declared.numbers.TheConstants.{LIMIT}
 use Rattle.seal_judgements.specs.Sealing.{Judgement, judged}
 use Rattle.seal_judgements.specs.Sealing.Judgement.{sealed_with, unsealed}
@@ -38,7 +38,7 @@ module _ {R M : Type 0} (proto : LineRules R) (macs : Mac M) {B : ℕ} (value : 
     pub direction_is : direction_number value.direction ≡ setup.direction
     pub cuts : CutStandsFor proto value.cut (line ++ t ∷ [])
     pub is_cut : cut_of proto.rules line t ≡ cut
-    pub walks : Walks proto macs B last value.earliest_start (bytes_left value.trailer) value.mac
+    pub walks : Walks proto macs B last value.earliest_start (bytes_unsent value.trailer) value.mac
         setup line
 
   -- so is the last burst judged, as far as the value knows

@@ -11,7 +11,7 @@ use Rattle.frame_ending.specs.declared.cut.Cut.TheVariants.{Live}
 use Rattle.frame_ending.specs.Cuts.{cuts_after}
 use Rattle.frame_ending.specs.SoFar.{quiet_so_far, start_so_far}
 use Rattle.frame_ending.specs.Stands.{StandsFor as CutStandsFor}
-use Rattle.link_format.specs.Trailers.{bytes_left}
+use Rattle.link_format.specs.Trailers.{bytes_unsent}
 use Rattle.seal_transmitter.specs.declared.sealer.Sealer.{Sealer}
 
 -- Whether a tick closes no burst of the line before it: each burst is noted in the step that closes
@@ -26,7 +26,7 @@ module _ {R M : Type 0} (proto : LineRules R) {B : ℕ} (value : Sealer R M B) w
   pub record WaitsOpen (n : ℕ) : Type 0 where
     pub closes_none_yet : (line : List Tick) → CutStandsFor proto value.cut line
         → (T3_5_TICKS ≤ quiet_so_far line) ⊎ (quiet_so_far line + n < T3_5_TICKS)
-    pub alike : (bytes_left value.trailer ≡ []) ⊎ (n ≤ length (bytes_left value.trailer))
+    pub alike : (bytes_unsent value.trailer ≡ []) ⊎ (n ≤ length (bytes_unsent value.trailer))
 
   -- So many bytes are forwarded, whatever they are: each is a further live one of a burst that
   -- isn't early.

@@ -16,7 +16,7 @@ use Rattle.hmac_tag.specs.Tag.{direction_number}
 use Rattle.link_format.specs.NumberedFrame.{last_number}
 use Rattle.link_format.specs.Profile.{Profile, profile_of}
 use Rattle.link_format.specs.Setup.{Setup}
-use Rattle.link_format.specs.Trailers.{bytes_left}
+use Rattle.link_format.specs.Trailers.{bytes_unsent}
 use Rattle.sequence_journal.specs.declared.journal.Journal.{Journal}
 use Rattle.sequence_journal.specs.declared.numbers.TheConstants.{LIMIT}
 use Rattle.sequence_journal.specs.Journal.{journal_floor}
@@ -28,27 +28,27 @@ use Rattle.seal_transmitter.specs.declared.sealer.Sealer.{Sealer}
 
 -- tick i of the link, where these bytes are sent from tick m on
 abbrev pub sent_at : ℕ → List ℕ → ℕ → Tick
-sent_at m left i = slice_index_or (map (λ b. Byte b) left) (i - m) Silent
+sent_at m unsent i = slice_index_or (map (λ b. Byte b) unsent) (i - m) Silent
 
 -- Before tick m the walk over these bursts has come so far. Of what the closed ones emit these
 -- bytes are still to come, whose sending ends four ticks before a burst may be sealed again.
 pub record HasWalked (profile : Profile) (rules : Rules) (floor m : ℕ) (ds : List Burst)
     (s : SealState)
-    (left : List ℕ) (running : Option Burst) : Type 0 where
+    (unsent : List ℕ) (running : Option Burst) : Type 0 where
   pub emissions : List Burst
   pub come : HasCome (sealer profile rules) (at_floor floor) m ds s emissions running
-  pub sends : (i : ℕ) → m ≤ i → tick_at emissions i ≡ sent_at m left i
-  pub in_time : 0 < length left → m + length left + T3_5_TICKS ≤ s.earliest_start
+  pub sends : (i : ℕ) → m ≤ i → tick_at emissions i ≡ sent_at m unsent i
+  pub in_time : 0 < length unsent → m + length unsent + T3_5_TICKS ≤ s.earliest_start
 
 module _ {R M : Type 0} (proto : LineRules R) (macs : Mac M) where
   -- A transmitter with words of this many bytes has come so far over a line: the last number that
   -- it used, the first tick at which a burst isn't early, the bytes that are still to be sent, and
   -- the MAC of the running burst.
-  pub record Walks (word_len last earliest : ℕ) (left : List ℕ) (mac : M) (setup : Setup)
+  pub record Walks (word_len last earliest : ℕ) (unsent : List ℕ) (mac : M) (setup : Setup)
       (line : List Tick) : Type 0 where
     pub running : Option Burst
     pub walked : HasWalked (profile_of proto macs word_len LIMIT setup) proto.rules setup.floor
-        (length line) (bursts line) (record { floor = last; earliest_start = earliest }) left
+        (length line) (bursts line) (record { floor = last; earliest_start = earliest }) unsent
         running
     -- the text of the tag so far, where the running burst may be sealed
     pub text : List ℕ
@@ -61,7 +61,7 @@ module _ {R M : Type 0} (proto : LineRules R) (macs : Mac M) where
       Type 0 where
     pub direction_is : direction_number value.direction ≡ setup.direction
     pub cuts : CutStandsFor proto value.cut line
-    pub walks : Walks B last value.earliest_start (bytes_left value.trailer) value.mac setup line
+    pub walks : Walks B last value.earliest_start (bytes_unsent value.trailer) value.mac setup line
 
   -- set up so, it has taken these ticks, and its journal is this one
   abbrev pub StandsFor : {B : ℕ} → Sealer R M B → Journal → Setup → List Tick → Type 0

@@ -59,15 +59,15 @@ impl<R: LineRules, M: Mac, const B: usize> LinkBox for Sealer<R, M, B> {
     fn forward(&mut self, run: TickRun<'_>) -> usize {
         match run {
             TickRun::Bytes(bytes) => Sealer::forward(self, bytes),
-            TickRun::Silence(ticks) => self.rest(ticks) as usize,
+            TickRun::Silence(ticks) => self.keep_silent(ticks) as usize,
         }
     }
 
     #[inline(always)]
-    fn pass(&mut self, run: TickRun<'_>, left: &mut RunBytes) -> usize {
+    fn pass(&mut self, run: TickRun<'_>, sent: &mut RunBytes) -> usize {
         match run {
-            TickRun::Bytes(bytes) => self.pass_bytes(bytes, left),
-            TickRun::Silence(ticks) => self.pass_silence(ticks, left) as usize,
+            TickRun::Bytes(bytes) => self.pass_bytes(bytes, sent),
+            TickRun::Silence(ticks) => self.pass_silence(ticks, sent) as usize,
         }
     }
 }

@@ -30,14 +30,14 @@ pub struct Sealer<R, M, const B: usize> {
     trailer: Trailer<B>,
 }
 
-// Puts these bytes into `left` in place of what is there, and says how many they are.
+// Puts these bytes into `sent` in place of what is there, and says how many they are.
 #[inline]
-fn put(left: &mut RunBytes, sent: &LineBytes) -> usize
-    ensures items { left.new.items ≡ sent.now.items }
-    ensures count { result ≡ length sent.now.items }
+fn put(sent: &mut RunBytes, bytes: &LineBytes) -> usize
+    ensures items { sent.new.items ≡ bytes.now.items }
+    ensures count { result ≡ length bytes.now.items }
 {
-    left.clear();
-    let _ = left.try_extend_from_slice(sent.as_slice());
+    sent.clear();
+    let _ = sent.try_extend_from_slice(bytes.as_slice());
     sent.len()
 }
 
@@ -56,7 +56,7 @@ impl<R: LineRules, M: Mac, const B: usize> Sealer<R, M, B> {
     ghost use Rattle.burst_walk.specs.Answered.{answered};
     ghost use Rattle.link_format.specs.Profile.{IsWordLen, profile_of};
     ghost use Rattle.link_format.specs.Setup.{Setup, setup_of};
-    ghost use Rattle.link_format.specs.Trailers.{bytes_left, first_of};
+    ghost use Rattle.link_format.specs.Trailers.{bytes_unsent, first_of};
     ghost use Rattle.sequence_journal.specs.declared.numbers.TheConstants.{LIMIT};
     ghost use Rattle.sequence_journal.specs.Journal.{journal_link, journal_floor, Fits};
     ghost use Rattle.hmac_tag.specs.Tag.{direction_number};
@@ -210,7 +210,7 @@ impl<R: LineRules, M: Mac, const B: usize> Sealer<R, M, B> {
             (map Byte (take result bytes.now)) (silent result) }
         ensures direction { direction_of self.new ≡ direction_of self.old }
     {
-        if self.trailer.left().len() > 0 {
+        if self.trailer.unsent().len() > 0 {
             return 0;
         }
         if !self.is_early() {
@@ -233,7 +233,7 @@ impl<R: LineRules, M: Mac, const B: usize> Sealer<R, M, B> {
             (map Byte (take result bytes.now)) (silent result) }
         ensures direction { direction_of self.new ≡ direction_of self.old }
     {
-        if self.trailer.left().len() > 0 {
+        if self.trailer.unsent().len() > 0 {
             return 0;
         }
         self.cut.pass_over_some(bytes)
@@ -256,7 +256,7 @@ impl<R: LineRules, M: Mac, const B: usize> Sealer<R, M, B> {
         if !self.is_early() {
             return LineBytes::new();
         }
-        let most = self.trailer.left().len().min(bytes.len());
+        let most = self.trailer.unsent().len().min(bytes.len());
         let count = self.cut.go_on_some(&bytes[..most]);
         self.trailer.send_some(count)
     }
@@ -265,7 +265,7 @@ impl<R: LineRules, M: Mac, const B: usize> Sealer<R, M, B> {
     /// of the trailer, and says how many. The link is silent too. At most `MAX_TICKS` ticks are
     /// taken then.
     #[inline]
-    pub fn rest(&mut self, ticks: u32) -> u32
+    pub fn keep_silent(&mut self, ticks: u32) -> u32
         requires { ticks_taken self.old + ticks ≤ MAX_TICKS }
         ensures within { result ≤ ticks }
         ensures taken { ticks_taken self.new ≡ ticks_taken self.old + result }
@@ -275,7 +275,7 @@ impl<R: LineRules, M: Mac, const B: usize> Sealer<R, M, B> {
             (silent result) (silent result) }
         ensures direction { direction_of self.new ≡ direction_of self.old }
     {
-        if self.trailer.left().len() > 0 {
+        if self.trailer.unsent().len() > 0 {
             return 0;
         }
         wait_open(&mut self.cut, ticks)
@@ -295,7 +295,7 @@ impl<R: LineRules, M: Mac, const B: usize> Sealer<R, M, B> {
             (silent (length result.items)) (map Byte result.items) }
         ensures direction { direction_of self.new ≡ direction_of self.old }
     {
-        let most = ticks.min(self.trailer.left().len() as u32);
+        let most = ticks.min(self.trailer.unsent().len() as u32);
         let count = wait_open(&mut self.cut, most);
         self.trailer.send_some(count as usize)
     }
@@ -320,48 +320,48 @@ impl<R: LineRules, M: Mac, const B: usize> Sealer<R, M, B> {
     }
 
     /// Takes the first of these bytes, as far as none is forwarded, and says how many: while an
-    /// early burst goes on, or bytes come that aren't live. Puts into `left` what is sent meanwhile
+    /// early burst goes on, or bytes come that aren't live. Puts into `sent` what is sent meanwhile
     /// of a trailer, a byte for each, or nothing where the link is silent. With 0 the caller goes
     /// on by another call. At most `MAX_TICKS` ticks are taken then.
     #[inline]
-    pub fn pass_bytes(&mut self, bytes: &[u8], left: &mut RunBytes) -> usize
+    pub fn pass_bytes(&mut self, bytes: &[u8], sent: &mut RunBytes) -> usize
         requires { ticks_taken self.old + length bytes.now ≤ MAX_TICKS }
         ensures within { result ≤ length bytes.now }
         ensures taken { ticks_taken self.new ≡ ticks_taken self.old + result }
         ensures run { (last : ℕ) (setup : Setup) (line : List Tick)
             → StandsAt R.LineRules M.Mac self.old last setup line
             → HasTakenRun R.LineRules M.Mac self.new last setup line
-            (map Byte (take result bytes.now)) (answered result left.new.items) }
+            (map Byte (take result bytes.now)) (answered result sent.new.items) }
         ensures direction { direction_of self.new ≡ direction_of self.old }
     {
         let held = self.hold_some(bytes);
         if held > 0 {
-            left.clear();
+            sent.clear();
             return held;
         }
-        put(left, &self.send_over(bytes))
+        put(sent, &self.send_over(bytes))
     }
 
     /// Takes the first of this many silent ticks, as far as they close no burst, and says how many.
-    /// Puts into `left` what is sent meanwhile of a trailer, a byte for each, or nothing where the
+    /// Puts into `sent` what is sent meanwhile of a trailer, a byte for each, or nothing where the
     /// link is silent. With 0 the caller goes on by another call. At most `MAX_TICKS` ticks are
     /// taken then.
     #[inline]
-    pub fn pass_silence(&mut self, ticks: u32, left: &mut RunBytes) -> u32
+    pub fn pass_silence(&mut self, ticks: u32, sent: &mut RunBytes) -> u32
         requires { ticks_taken self.old + ticks ≤ MAX_TICKS }
         ensures within { result ≤ ticks }
         ensures taken { ticks_taken self.new ≡ ticks_taken self.old + result }
         ensures run { (last : ℕ) (setup : Setup) (line : List Tick)
             → StandsAt R.LineRules M.Mac self.old last setup line
             → HasTakenRun R.LineRules M.Mac self.new last setup line
-            (silent result) (answered result left.new.items) }
+            (silent result) (answered result sent.new.items) }
         ensures direction { direction_of self.new ≡ direction_of self.old }
     {
-        if self.trailer.left().len() == 0 {
-            left.clear();
+        if self.trailer.sent().len() == 0 {
+            sent.clear();
             return 0;
         }
-        put(left, &self.send_some(ticks)) as u32
+        put(sent, &self.send_some(ticks)) as u32
     }
 
     // Whether the burst that is running or was the last is early.
@@ -377,8 +377,8 @@ impl<R: LineRules, M: Mac, const B: usize> Sealer<R, M, B> {
     #[inline]
     fn send(&mut self) -> BoxStep<SealNote>
         ensures rest { self.new ≡ record self.old { trailer = self.new.trailer } }
-        ensures left { bytes_left self.new.trailer ≡ drop 1 (bytes_left self.old.trailer) }
-        ensures answer { result ≡ noteless (first_of (bytes_left self.old.trailer)) }
+        ensures unsent { bytes_unsent self.new.trailer ≡ drop 1 (bytes_unsent self.old.trailer) }
+        ensures answer { result ≡ noteless (first_of (bytes_unsent self.old.trailer)) }
     {
         BoxStep {
             tick: self.trailer.next_tick(),

@@ -51,13 +51,13 @@ impl<R: LineRules, M: Mac, const B: usize, K: SteadyDisk> FrameBox for SealedFra
     }
 
     #[inline]
-    fn pass_bytes(&mut self, bytes: &[u8], left: &mut RunBytes) -> usize {
-        self.shown.pass_bytes(bytes, left)
+    fn pass_bytes(&mut self, bytes: &[u8], sent: &mut RunBytes) -> usize {
+        self.shown.pass_bytes(bytes, sent)
     }
 
     #[inline]
-    fn pass_silence(&mut self, ticks: u32, left: &mut RunBytes) -> u32 {
-        self.shown.pass_silence(ticks, left)
+    fn pass_silence(&mut self, ticks: u32, sent: &mut RunBytes) -> u32 {
+        self.shown.pass_silence(ticks, sent)
     }
 
     #[inline]

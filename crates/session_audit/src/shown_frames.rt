@@ -79,14 +79,14 @@ impl<R: LineRules, X: NotingBox<R>, K: SteadyDisk> FrameBox for ShownFrames<X, R
         }
     }
 
-    fn pass_bytes(&mut self, bytes: &[u8], left: &mut RunBytes) -> usize {
-        let count = take_alike(&mut self.line_box, TickRun::Bytes(bytes), left);
+    fn pass_bytes(&mut self, bytes: &[u8], sent: &mut RunBytes) -> usize {
+        let count = take_alike(&mut self.line_box, TickRun::Bytes(bytes), sent);
         self.burst.hear_bytes(&bytes[..count]);
         count
     }
 
-    fn pass_silence(&mut self, ticks: u32, left: &mut RunBytes) -> u32 {
-        let count = take_alike(&mut self.line_box, TickRun::Silence(ticks), left) as u32;
+    fn pass_silence(&mut self, ticks: u32, sent: &mut RunBytes) -> u32 {
+        let count = take_alike(&mut self.line_box, TickRun::Silence(ticks), sent) as u32;
         self.burst.wait_some(count);
         count
     }

@@ -106,7 +106,7 @@ pub trait LineSpacer: Drop {
 
 impl<V: Device + Drop, const GAP: usize> LineSpacer for Spacer<V, GAP> {
     ghost use Rattle.line_spacer.specs.Owing.{Owes};
-    ghost use Rattle.line_spacer.specs.Stands.{ticks_taken, bytes_left, bytes_lent};
+    ghost use Rattle.line_spacer.specs.Stands.{ticks_taken, bytes_sent, bytes_lent};
 
     ghost reads = { V.reads };
 
@@ -118,7 +118,7 @@ impl<V: Device + Drop, const GAP: usize> LineSpacer for Spacer<V, GAP> {
 
     ghost taken = { ticks_taken V.Device };
 
-    ghost left = { bytes_left };
+    ghost left = { bytes_sent };
 
     ghost lent = { bytes_lent V.lent };
 

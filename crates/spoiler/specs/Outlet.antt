@@ -1,7 +1,7 @@
 -- What leaves for a burst, byte by byte.
 use Rattle.std.specs.Prelude.{◌≡◌, ℕ, ◌<◌, ◌==◌, ◌&&◌, not, Bool, List, [], ◌∷◌, ◌++◌, Option}
 use Rattle.std.specs.Prelude.{Some, None, if◌then◌else◌}
-use Rattle.line_rules.specs.Rules.{Rules, left_of, spoil_of}
+use Rattle.line_rules.specs.Rules.{Rules, lacking_of, spoil_of}
 use Rattle.line_rules.specs.declared.line_rules.LineRules.{Ghosts as LineRules}
 use Rattle.spoiler.specs.declared.outlet.Outlet.{Outlet}
 
@@ -23,18 +23,18 @@ Refuses proto value x = proto.stands (refused_by value) x
 pub record StandsFor {R : Type 0} (proto : LineRules R) (value : Outlet R) (x : List ℕ) : Type 0
   where
     pub bytes : 0 < value.owed → Refuses proto value x
-    pub owes : 0 < value.owed → value.owed ≡ left_of proto.rules x
+    pub owes : 0 < value.owed → value.owed ≡ lacking_of proto.rules x
 
 -- What leaves for a byte that comes after these: spoiled where it is the last one of a frame that
 -- isn't passed and lacks no byte.
 abbrev pub emitted : Rules → List ℕ → ℕ → Bool → Bool → ℕ
 emitted rules x b last passed =
-    if last && (not passed && left_of rules (x ++ b ∷ []) == 0) then spoil_of rules x b else b
+    if last && (not passed && lacking_of rules (x ++ b ∷ []) == 0) then spoil_of rules x b else b
 
 -- how long a fill is owed behind it
 abbrev pub owed_after : Rules → List ℕ → ℕ → Bool → Bool → ℕ
 owed_after rules x b last passed =
-    if last && not passed then left_of rules (x ++ b ∷ []) else 0
+    if last && not passed then lacking_of rules (x ++ b ∷ []) else 0
 
 -- the next byte of a fill that has this many bytes left, after these: 00, and the last one spoiled
 abbrev pub filled : Rules → List ℕ → ℕ → Option ℕ

@@ -74,7 +74,7 @@ impl<R: LineRules> Outlet<R> {
             self.owed = 0;
             return b;
         }
-        self.owed = self.refused.left();
+        self.owed = self.refused.lacking();
         if self.owed > 0 {
             return b;
         }

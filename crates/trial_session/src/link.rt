@@ -84,14 +84,14 @@ impl Link {
 
     /// Sends an answer to this many ticks: as many bytes, or silence where there is none.
     #[inline]
-    pub fn add(&mut self, count: usize, left: &[u8])
+    pub fn add(&mut self, count: usize, sent: &[u8])
         requires { self.old.len + count ≤ 640 }
         ensures len { self.new.len ≡ self.old.len + count }
-        ensures sent { length (answered count left.now) ≡ count
-            → link_sent self.new ≡ link_sent self.old ++ answered count left.now }
+        ensures sent { length (answered count sent.now) ≡ count
+            → link_sent self.new ≡ link_sent self.old ++ answered count sent.now }
     {
-        if left.len() == count {
-            self.add_bytes(left);
+        if sent.len() == count {
+            self.add_bytes(sent);
         } else {
             self.add_silence(count);
         }

@@ -47,7 +47,7 @@ impl<V: Device + Drop> Listening<V> {
     /// A device that has heard nothing.
     pub fn new() -> Listening<V>
         ensures few { result.read ≡ 0 }
-        ensures level { V.taken result.device ≡ 0 }
+        ensures taken { V.taken result.device ≡ 0 }
         ensures heard { HasHeard V.Device result [] }
     {
         Listening {
@@ -68,7 +68,7 @@ impl<V: Device + Drop> Listening<V> {
         requires few { self.old.read ≤ V.taken self.old.device }
         requires room { V.taken self.old.device + length bytes.now ≤ MAX_TICKS }
         ensures few { self.new.read ≤ V.taken self.new.device }
-        ensures level { V.taken self.new.device ≡ V.taken self.old.device + length bytes.now }
+        ensures taken { V.taken self.new.device ≡ V.taken self.old.device + length bytes.now }
         ensures heard { (line : List Tick) → HasHeard V.Device self.old line
             → HasHeard V.Device self.new (line ++ map Byte bytes.now) }
     {
@@ -85,7 +85,7 @@ impl<V: Device + Drop> Listening<V> {
         requires few { self.old.read ≤ V.taken self.old.device }
         requires room { V.taken self.old.device + ticks ≤ MAX_TICKS }
         ensures few { self.new.read ≤ V.taken self.new.device }
-        ensures level { V.taken self.new.device ≡ V.taken self.old.device + ticks }
+        ensures taken { V.taken self.new.device ≡ V.taken self.old.device + ticks }
         ensures heard { (line : List Tick) → HasHeard V.Device self.old line
             → HasHeard V.Device self.new (line ++ silent ticks) }
     {
@@ -102,7 +102,7 @@ impl<V: Device + Drop> Listening<V> {
         requires few { self.old.read ≤ V.taken self.old.device }
         requires room { V.taken self.old.device + length waiting.old.items ≤ MAX_TICKS }
         ensures few { self.new.read ≤ V.taken self.new.device }
-        ensures level { V.taken self.new.device
+        ensures taken { V.taken self.new.device
             ≡ V.taken self.old.device + length waiting.old.items }
         ensures none { waiting.new.items ≡ [] }
         ensures heard { (line : List Tick)
@@ -123,7 +123,7 @@ impl<V: Device + Drop> Listening<V> {
         requires room { V.taken self.old.device + length waiting.old.items + length bytes.now
             ≤ MAX_TICKS }
         ensures few { self.new.read ≤ V.taken self.new.device }
-        ensures level { V.taken self.new.device + length waiting.new.items
+        ensures taken { V.taken self.new.device + length waiting.new.items
             ≡ V.taken self.old.device + length waiting.old.items + length bytes.now }
         ensures heard { (line : List Tick)
             → IsHearing V.Device self.old waiting.old.items line
@@ -139,11 +139,11 @@ impl<V: Device + Drop> Listening<V> {
     }
 
     // The next ticks are this many silent ones.
-    fn rest(&mut self, ticks: usize, waiting: &mut Waiting)
+    fn hear_silence(&mut self, ticks: usize, waiting: &mut Waiting)
         requires few { self.old.read ≤ V.taken self.old.device }
         requires room { V.taken self.old.device + length waiting.old.items + ticks ≤ MAX_TICKS }
         ensures few { self.new.read ≤ V.taken self.new.device }
-        ensures level { V.taken self.new.device + length waiting.new.items
+        ensures taken { V.taken self.new.device + length waiting.new.items
             ≡ V.taken self.old.device + length waiting.old.items + ticks }
         ensures heard { (line : List Tick)
             → IsHearing V.Device self.old waiting.old.items line
@@ -156,20 +156,20 @@ impl<V: Device + Drop> Listening<V> {
     /// Hears an answer to this many ticks: as many bytes, or silence where there is none. Bytes
     /// wait for the end of their run, since a run costs the device little more than a single byte.
     #[inline]
-    pub fn hear(&mut self, count: usize, left: &[u8], waiting: &mut Waiting)
+    pub fn hear(&mut self, count: usize, sent: &[u8], waiting: &mut Waiting)
         requires few { self.old.read ≤ V.taken self.old.device }
         requires room { V.taken self.old.device + length waiting.old.items + count ≤ MAX_TICKS }
         ensures few { self.new.read ≤ V.taken self.new.device }
-        ensures level { V.taken self.new.device + length waiting.new.items
+        ensures taken { V.taken self.new.device + length waiting.new.items
             ≡ V.taken self.old.device + length waiting.old.items + count }
-        ensures heard { length (answered count left.now) ≡ count
+        ensures heard { length (answered count sent.now) ≡ count
             → (line : List Tick) → IsHearing V.Device self.old waiting.old.items line
-            → IsHearing V.Device self.new waiting.new.items (line ++ answered count left.now) }
+            → IsHearing V.Device self.new waiting.new.items (line ++ answered count sent.now) }
     {
-        if left.len() == count {
-            self.keep(left, waiting);
+        if sent.len() == count {
+            self.keep(sent, waiting);
         } else {
-            self.rest(count, waiting);
+            self.hear_silence(count, waiting);
         }
     }
 }

@@ -43,7 +43,7 @@ impl<C: CountingBox, V: Device + Drop> Receiving<C, V> {
         requires widths { C.widths_fit }
         requires links { AreLinks C.link_in }
         ensures able { MayReceive C.LinkBox V.Device result }
-        ensures level { C.taken result.checking.line_box ≡ 0 }
+        ensures taken { C.taken result.checking.line_box ≡ 0 }
         ensures received { HasReceived C.LinkBox C.counting V.Device result [] }
         ensures nothing { CountsNothing C.counting }
     {
@@ -86,18 +86,18 @@ impl<C: CountingBox, V: Device + Drop> Receiving<C, V> {
         requires able { MayGoOnReceiving C.LinkBox V.Device self.old waiting.old.items }
         requires room { C.taken self.old.checking.line_box + length (run_ticks run) ≤ MAX_TICKS }
         ensures able { MayGoOnReceiving C.LinkBox V.Device self.new waiting.new.items }
-        ensures level { C.taken self.new.checking.line_box
+        ensures taken { C.taken self.new.checking.line_box
             ≡ C.taken self.old.checking.line_box + length (run_ticks run.entry) }
         ensures received { (link : List Tick)
             → IsReceiving C.LinkBox C.counting V.Device self.old waiting.old.items link
             → IsReceiving C.LinkBox C.counting V.Device self.new waiting.new.items
             (link ++ run_ticks run.entry) }
     {
-        let mut left = RunBytes::new();
+        let mut sent = RunBytes::new();
         let mut at = 0;
         while at < run.len() {
-            let taken = self.checking.send(run.behind(at), &mut left);
-            self.listening.hear(taken, left.as_slice(), waiting);
+            let taken = self.checking.send(run.behind(at), &mut sent);
+            self.listening.hear(taken, sent.as_slice(), waiting);
             at += taken;
         }
     }
@@ -107,7 +107,7 @@ impl<C: CountingBox, V: Device + Drop> Receiving<C, V> {
         requires able { MayReceive C.LinkBox V.Device self.old }
         requires room { C.taken self.old.checking.line_box + ticks ≤ MAX_TICKS }
         ensures able { MayReceive C.LinkBox V.Device self.new }
-        ensures level { C.taken self.new.checking.line_box
+        ensures taken { C.taken self.new.checking.line_box
             ≡ C.taken self.old.checking.line_box + ticks }
         ensures received { (link : List Tick)
             → HasReceived C.LinkBox C.counting V.Device self.old link
@@ -123,7 +123,7 @@ impl<C: CountingBox, V: Device + Drop> Receiving<C, V> {
         requires able { MayReceive C.LinkBox V.Device self.old }
         requires room { C.taken self.old.checking.line_box + link.now.len ≤ MAX_TICKS }
         ensures able { MayReceive C.LinkBox V.Device self.new }
-        ensures level { C.taken self.new.checking.line_box
+        ensures taken { C.taken self.new.checking.line_box
             ≡ C.taken self.old.checking.line_box + link.now.len }
         ensures received { (line : List Tick)
             → HasReceived C.LinkBox C.counting V.Device self.old line

@@ -47,7 +47,7 @@ impl<X: CountingBox> Side<X> {
         requires widths { X.widths_fit }
         requires links { AreLinks X.link_in }
         ensures able { MayTake X.LinkBox result }
-        ensures level { X.taken result.line_box ≡ 0 }
+        ensures taken { X.taken result.line_box ≡ 0 }
         ensures taken { HasTaken X.LinkBox X.counting result [] }
         ensures nothing { CountsNothing X.counting }
     {
@@ -122,7 +122,7 @@ impl<X: CountingBox> Side<X> {
         requires able { MayTake X.LinkBox self.old }
         requires room { X.taken self.old.line_box < MAX_TICKS }
         ensures able { MayTake X.LinkBox self.new }
-        ensures level { X.taken self.new.line_box ≡ X.taken self.old.line_box + 1 }
+        ensures taken { X.taken self.new.line_box ≡ X.taken self.old.line_box + 1 }
         ensures sent { (line : List Tick) → HasTaken X.LinkBox X.counting self.old line
             → HasSent X.LinkBox X.counting self.new line (t ∷ []) (result ∷ []) }
     {
@@ -134,33 +134,33 @@ impl<X: CountingBox> Side<X> {
         step.tick
     }
 
-    /// Takes the first of these ticks, one at least, and returns how many. `left` gets the bytes of
+    /// Takes the first of these ticks, one at least, and returns how many. `sent` gets the bytes of
     /// the other line, one for each, or none where that is silent.
-    pub fn send(&mut self, run: TickRun<'_>, left: &mut RunBytes) -> usize
+    pub fn send(&mut self, run: TickRun<'_>, sent: &mut RunBytes) -> usize
         requires some { 0 < length (run_ticks run) }
         requires able { MayTake X.LinkBox self.old }
         requires room { X.taken self.old.line_box + length (run_ticks run) ≤ MAX_TICKS }
         ensures able { MayTake X.LinkBox self.new }
         ensures some { 0 < result }
         ensures within { result ≤ length (run_ticks run.entry) }
-        ensures level { X.taken self.new.line_box ≡ X.taken self.old.line_box + result }
+        ensures taken { X.taken self.new.line_box ≡ X.taken self.old.line_box + result }
         ensures sent { (line : List Tick) → HasTaken X.LinkBox X.counting self.old line
             → HasPassed X.LinkBox X.counting self.new line (take result (run_ticks run.entry))
-            (answered result left.new.items) }
+            (answered result sent.new.items) }
     {
-        let taken = take_alike(&mut self.line_box, run, left);
+        let taken = take_alike(&mut self.line_box, run, sent);
         if taken > 0 {
             return taken;
         }
         let answer = self.step(run.first());
-        put_tick(left, answer);
+        put_tick(sent, answer);
         1
     }
 
     // Takes the first of these ticks, one at least, and sends what the other line has. What the box
     // forwards goes on as it is. Returns how many it took.
     #[inline]
-    fn send_on(&mut self, run: TickRun<'_>, left: &mut RunBytes, link: &mut Link) -> usize
+    fn send_on(&mut self, run: TickRun<'_>, sent: &mut RunBytes, link: &mut Link) -> usize
         requires some { 0 < length (run_ticks run) }
         requires able { MayTake X.LinkBox self.old }
         requires room { X.taken self.old.line_box + length (run_ticks run) ≤ MAX_TICKS }
@@ -168,7 +168,7 @@ impl<X: CountingBox> Side<X> {
         ensures able { MayTake X.LinkBox self.new }
         ensures some { 0 < result }
         ensures within { result ≤ length (run_ticks run.entry) }
-        ensures level { X.taken self.new.line_box ≡ X.taken self.old.line_box + result }
+        ensures taken { X.taken self.new.line_box ≡ X.taken self.old.line_box + result }
         ensures len { link.new.len ≡ link.old.len + result }
         ensures sent { (line more : List Tick)
             → HasSent X.LinkBox X.counting self.old line more (link_sent link.old)
@@ -180,9 +180,9 @@ impl<X: CountingBox> Side<X> {
             link.add_run(run.front(forwarded));
             return forwarded;
         }
-        let sent = self.send(run, left);
-        link.add(sent, left.as_slice());
-        sent
+        let taken = self.send(run, sent);
+        link.add(taken, sent.as_slice());
+        taken
     }
 
     /// Takes these ticks, and sends what the other line has.
@@ -191,7 +191,7 @@ impl<X: CountingBox> Side<X> {
         requires room { X.taken self.old.line_box + length (run_ticks run) ≤ MAX_TICKS }
         requires link { link.old.len + length (run_ticks run) ≤ 640 }
         ensures able { MayTake X.LinkBox self.new }
-        ensures level { X.taken self.new.line_box
+        ensures taken { X.taken self.new.line_box
             ≡ X.taken self.old.line_box + length (run_ticks run.entry) }
         ensures len { link.new.len ≡ link.old.len + length (run_ticks run.entry) }
         ensures sent { (line more : List Tick)
@@ -199,10 +199,10 @@ impl<X: CountingBox> Side<X> {
             → HasSent X.LinkBox X.counting self.new line (more ++ run_ticks run.entry)
             (link_sent link.new) }
     {
-        let mut left = RunBytes::new();
+        let mut sent = RunBytes::new();
         let mut at = 0;
         while at < run.len() {
-            let taken = self.send_on(run.behind(at), &mut left, link);
+            let taken = self.send_on(run.behind(at), &mut sent, link);
             at += taken;
         }
     }

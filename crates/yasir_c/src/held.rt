@@ -44,15 +44,15 @@ impl Held {
     }
 
     /// Takes the first of these ticks by the box that is held, as far as it answers them alike.
-    pub(crate) fn take_alike(&mut self, run: TickRun<'_>, left: &mut RunBytes) -> usize
+    pub(crate) fn take_alike(&mut self, run: TickRun<'_>, sent: &mut RunBytes) -> usize
         requires { IsBox self.old }
         ensures within { result ≤ length (run_ticks run.entry) }
         ensures takes { TakesByBox ⟦<Rtu as LineRules>⟧ ⟦<Dnp as LineRules>⟧
             ⟦<HmacSha1 as Mac>⟧ ⟦<HmacSha256 as Mac>⟧ self.old self.new
-            (take result (run_ticks run.entry)) (answered result left.new.items) }
+            (take result (run_ticks run.entry)) (answered result sent.new.items) }
     {
         match self {
-            Held::LineBox(line_box) => line_box.take_alike(run, left),
+            Held::LineBox(line_box) => line_box.take_alike(run, sent),
             // not reached
             Held::Spacer(_) => 0,
         }

@@ -26,17 +26,17 @@ fn is_silence(run: TickRun<'_>) -> bool
 
 // Takes the first of these ticks, as far as the box takes them at once, or else the first one
 // alone, if the box is sure that it has no note. Returns how many, and puts the bytes of the answer
-// into `left`. With 0 there is no tick, or the box isn't sure of the first one.
+// into `sent`. With 0 there is no tick, or the box isn't sure of the first one.
 #[inline]
-fn pass_some<A: NotelessBox>(line_box: &mut A, run: TickRun<'_>, left: &mut RunBytes) -> usize
+fn pass_some<A: NotelessBox>(line_box: &mut A, run: TickRun<'_>, sent: &mut RunBytes) -> usize
     requires { A.taken line_box.old + length (run_ticks run) ≤ MAX_TICKS }
     ensures within { result ≤ length (run_ticks run.entry) }
     ensures passed { HasPassed A.LinkBox line_box.old line_box.new
-        (take result (run_ticks run.entry)) (answered result left.new.items) }
+        (take result (run_ticks run.entry)) (answered result sent.new.items) }
     ensures stops { result ≡ 0
         → MayNoteAt A.stands A.noteless line_box.new (run_ticks run.entry) }
 {
-    let taken = take_alike(line_box, run, left);
+    let taken = take_alike(line_box, run, sent);
     if taken > 0 {
         return taken;
     }
@@ -47,18 +47,18 @@ fn pass_some<A: NotelessBox>(line_box: &mut A, run: TickRun<'_>, left: &mut RunB
     if !line_box.is_noteless(tick) {
         return 0;
     }
-    put_tick(left, line_box.take_noteless(tick));
+    put_tick(sent, line_box.take_noteless(tick));
     1
 }
 
 // Takes the first of these ticks with the one box, as far as it takes them without a note, and as
 // many silent ticks with the other one, which is at rest. Returns how many. Puts what the one sends
-// into `left`, and nothing into `silence`.
+// into `sent`, and nothing into `silence`.
 #[inline]
 fn pass_beside<A: NotelessBox, B: RestingBox>(
     line_box: &mut A,
     run: TickRun<'_>,
-    left: &mut RunBytes,
+    sent: &mut RunBytes,
     resting: &mut B,
     silence: &mut RunBytes,
 ) -> usize
@@ -68,13 +68,13 @@ fn pass_beside<A: NotelessBox, B: RestingBox>(
     requires rest_room { B.taken resting.old + length (run_ticks run) ≤ MAX_TICKS }
     ensures within { result ≤ length (run_ticks run.entry) }
     ensures passed { HasPassed A.LinkBox line_box.old line_box.new
-        (take result (run_ticks run.entry)) (answered result left.new.items) }
+        (take result (run_ticks run.entry)) (answered result sent.new.items) }
     ensures rested { HasPassed B.LinkBox resting.old resting.new (silent result)
         (answered result silence.new.items) }
     ensures stops { result ≡ 0
         → MayNoteAt A.stands A.noteless line_box.new (run_ticks run.entry) }
 {
-    let count = pass_some(line_box, run, left);
+    let count = pass_some(line_box, run, sent);
     resting.rest_through(count as u32);
     silence.clear();
     count

@@ -30,30 +30,30 @@ impl<R: LineRules, M: Mac, const B: usize, const D: usize> Checker<R, M, B, D> {
     ghost use Rattle.check_receiver.specs.Runs.{HasTakenRun};
 
     // Live bytes of the burst whose verdict is open.
-    pub(super) fn follow(&mut self, bytes: &[u8], left: &mut RunBytes) -> usize
+    pub(super) fn follow(&mut self, bytes: &[u8], sent: &mut RunBytes) -> usize
         requires room { ticks_taken self.old + length bytes.now ≤ MAX_TICKS }
         requires phase { self.old.phase ≡ Open }
-        requires empty { left.old.items ≡ [] }
+        requires empty { sent.old.items ≡ [] }
         ensures within { result ≤ length bytes.now }
         ensures taken { ticks_taken self.new ≡ ticks_taken self.old + result }
         ensures run { (last : ℕ) (setup : Setup) (line : List Tick)
             → StandsAt R.LineRules M.Mac self.old last setup line
             → HasTakenRun R.LineRules M.Mac self.new last setup line
-            (map Byte (take result bytes.now)) (answered result left.new.items) }
+            (map Byte (take result bytes.now)) (answered result sent.new.items) }
         ensures direction { direction_of self.new ≡ direction_of self.old }
     {
         if !self.has_good_head() {
             return 0;
         }
-        self.follow_on(bytes, left)
+        self.follow_on(bytes, sent)
     }
 
     // Live bytes of the burst whose verdict is open, where its header stays a good one as far as it is
     // whole.
     #[inline]
-    fn follow_on(&mut self, bytes: &[u8], left: &mut RunBytes) -> usize
+    fn follow_on(&mut self, bytes: &[u8], sent: &mut RunBytes) -> usize
         requires room { ticks_taken self.old + length bytes.now ≤ MAX_TICKS }
-        requires empty { left.old.items ≡ [] }
+        requires empty { sent.old.items ≡ [] }
         ensures within { result ≤ length bytes.now }
         ensures taken { ticks_taken self.new ≡ ticks_taken self.old + result }
         ensures run { (last : ℕ) (setup : Setup) (line : List Tick)
@@ -61,9 +61,9 @@ impl<R: LineRules, M: Mac, const B: usize, const D: usize> Checker<R, M, B, D> {
             → self.old.phase ≡ Open
             → KeepsHeader R.rules (live_bytes_so_far R.rules line) bytes.now
             → HasTakenRun R.LineRules M.Mac self.new last setup line
-            (map Byte (take result bytes.now)) (answered result left.new.items) }
+            (map Byte (take result bytes.now)) (answered result sent.new.items) }
         ensures silent { slice_index_or (ring_ticks self.old.ring) 0 Silent ≡ Silent
-            → left.new.items ≡ [] }
+            → sent.new.items ≡ [] }
         ensures direction { direction_of self.new ≡ direction_of self.old }
     {
         let count = alike_along(&self.ring, bytes);
@@ -73,7 +73,7 @@ impl<R: LineRules, M: Mac, const B: usize, const D: usize> Checker<R, M, B, D> {
             return 0;
         }
         let entering = &part[..taken];
-        lend_along(&self.ring, bytes, taken, left);
+        lend_along(&self.ring, bytes, taken, sent);
         self.mac.update(entering);
         self.ring.pass_bytes(entering);
         let whole = D as u8;
@@ -82,16 +82,16 @@ impl<R: LineRules, M: Mac, const B: usize, const D: usize> Checker<R, M, B, D> {
     }
 
     // Bytes of the trailer of the burst whose verdict is open, but for the last one.
-    pub(super) fn hear_trailer(&mut self, bytes: &[u8], left: &mut RunBytes) -> usize
+    pub(super) fn hear_trailer(&mut self, bytes: &[u8], sent: &mut RunBytes) -> usize
         requires room { ticks_taken self.old + length bytes.now ≤ MAX_TICKS }
         requires phase { self.old.phase ≡ Open }
-        requires empty { left.old.items ≡ [] }
+        requires empty { sent.old.items ≡ [] }
         ensures within { result ≤ length bytes.now }
         ensures taken { ticks_taken self.new ≡ ticks_taken self.old + result }
         ensures run { (last : ℕ) (setup : Setup) (line : List Tick)
             → StandsAt R.LineRules M.Mac self.old last setup line
             → HasTakenRun R.LineRules M.Mac self.new last setup line
-            (map Byte (take result bytes.now)) (answered result left.new.items) }
+            (map Byte (take result bytes.now)) (answered result sent.new.items) }
         ensures direction { direction_of self.new ≡ direction_of self.old }
     {
         let until = usize::from(self.until);
@@ -107,7 +107,7 @@ impl<R: LineRules, M: Mac, const B: usize, const D: usize> Checker<R, M, B, D> {
         let part = &bytes[..count];
         let taken = self.cut.pass_over_some(part);
         let heard = &part[..taken];
-        lend(&self.ring, taken, left);
+        lend(&self.ring, taken, sent);
         self.ring.pass_silence(taken);
         self.arriving.take_some(heard);
         self.until -= taken as u8;
@@ -115,16 +115,16 @@ impl<R: LineRules, M: Mac, const B: usize, const D: usize> Checker<R, M, B, D> {
     }
 
     // Silence in the pause behind the live bytes of the burst whose verdict is open.
-    pub(super) fn pause_some(&mut self, ticks: u32, left: &mut RunBytes) -> u32
+    pub(super) fn pause_some(&mut self, ticks: u32, sent: &mut RunBytes) -> u32
         requires room { ticks_taken self.old + ticks ≤ MAX_TICKS }
         requires phase { self.old.phase ≡ Open }
-        requires empty { left.old.items ≡ [] }
+        requires empty { sent.old.items ≡ [] }
         ensures within { result ≤ ticks }
         ensures taken { ticks_taken self.new ≡ ticks_taken self.old + result }
         ensures run { (last : ℕ) (setup : Setup) (line : List Tick)
             → StandsAt R.LineRules M.Mac self.old last setup line
             → HasTakenRun R.LineRules M.Mac self.new last setup line
-            (silent result) (answered result left.new.items) }
+            (silent result) (answered result sent.new.items) }
         ensures direction { direction_of self.new ≡ direction_of self.old }
     {
         if !self.has_good_head() {
@@ -136,24 +136,24 @@ impl<R: LineRules, M: Mac, const B: usize, const D: usize> Checker<R, M, B, D> {
         }
         let most = (ticks as usize).min(until + PAUSE - D).min(until);
         let count = self.ring.front_alike(most.min(D));
-        lend(&self.ring, count, left);
+        lend(&self.ring, count, sent);
         self.ring.pass_silence(count);
         self.cut.wait_some(count as u32);
         self.until -= count as u8;
         count as u32
     }
 
-    // Bytes while the rest of a burst that is noted leaves, but for the last of its live ticks.
-    pub(super) fn pass_over(&mut self, bytes: &[u8], left: &mut RunBytes) -> usize
+    // Bytes while a burst that is noted still leaves, but for the last of its live ticks.
+    pub(super) fn pass_over(&mut self, bytes: &[u8], sent: &mut RunBytes) -> usize
         requires room { ticks_taken self.old + length bytes.now ≤ MAX_TICKS }
         requires phase { is_open self.old.phase ≡ false }
-        requires empty { left.old.items ≡ [] }
+        requires empty { sent.old.items ≡ [] }
         ensures within { result ≤ length bytes.now }
         ensures taken { ticks_taken self.new ≡ ticks_taken self.old + result }
         ensures run { (last : ℕ) (setup : Setup) (line : List Tick)
             → StandsAt R.LineRules M.Mac self.old last setup line
             → HasTakenRun R.LineRules M.Mac self.new last setup line
-            (map Byte (take result bytes.now)) (answered result left.new.items) }
+            (map Byte (take result bytes.now)) (answered result sent.new.items) }
         ensures direction { direction_of self.new ≡ direction_of self.old }
     {
         // the last live tick leaves, or a fill
@@ -163,7 +163,7 @@ impl<R: LineRules, M: Mac, const B: usize, const D: usize> Checker<R, M, B, D> {
         let most = bytes.len().min(usize::from(self.until) - 1).min(D);
         let count = self.ring.front_alike(most);
         let taken = cut_some(&mut self.cut, &bytes[..count]);
-        lend(&self.ring, taken, left);
+        lend(&self.ring, taken, sent);
         self.ring.pass_silence(taken);
         self.until -= taken as u8;
         taken
@@ -171,16 +171,16 @@ impl<R: LineRules, M: Mac, const B: usize, const D: usize> Checker<R, M, B, D> {
 
     // Bytes while the receiver is idle: those of a burst that is noted, or the first ones of
     // another, if they begin with a good header and the burst isn't early.
-    pub(super) fn start_some(&mut self, bytes: &[u8], left: &mut RunBytes) -> usize
+    pub(super) fn start_some(&mut self, bytes: &[u8], sent: &mut RunBytes) -> usize
         requires room { ticks_taken self.old + length bytes.now ≤ MAX_TICKS }
         requires phase { self.old.phase ≡ Idle }
-        requires empty { left.old.items ≡ [] }
+        requires empty { sent.old.items ≡ [] }
         ensures within { result ≤ length bytes.now }
         ensures taken { ticks_taken self.new ≡ ticks_taken self.old + result }
         ensures run { (last : ℕ) (setup : Setup) (line : List Tick)
             → StandsAt R.LineRules M.Mac self.old last setup line
             → HasTakenRun R.LineRules M.Mac self.new last setup line
-            (map Byte (take result bytes.now)) (answered result left.new.items) }
+            (map Byte (take result bytes.now)) (answered result sent.new.items) }
         ensures direction { direction_of self.new ≡ direction_of self.old }
     {
         let passed = cut_some(&mut self.cut, bytes);
@@ -198,7 +198,7 @@ impl<R: LineRules, M: Mac, const B: usize, const D: usize> Checker<R, M, B, D> {
         }
         let first = bytes[0];
         self.start(first);
-        1 + self.follow_on(&bytes[1..], left)
+        1 + self.follow_on(&bytes[1..], sent)
     }
 
     // The first byte of a burst that isn't early, and that doesn't begin with a bad header, while
@@ -223,17 +223,17 @@ impl<R: LineRules, M: Mac, const B: usize, const D: usize> Checker<R, M, B, D> {
         let _ = self.begin(first);
     }
 
-    // Silence while the rest of a burst that is noted leaves, but for the last of its live ticks.
-    pub(super) fn rest_some(&mut self, ticks: u32, left: &mut RunBytes) -> u32
+    // Silence while a burst that is noted still leaves, but for the last of its live ticks.
+    pub(super) fn rest_some(&mut self, ticks: u32, sent: &mut RunBytes) -> u32
         requires room { ticks_taken self.old + ticks ≤ MAX_TICKS }
         requires phase { is_open self.old.phase ≡ false }
-        requires empty { left.old.items ≡ [] }
+        requires empty { sent.old.items ≡ [] }
         ensures within { result ≤ ticks }
         ensures taken { ticks_taken self.new ≡ ticks_taken self.old + result }
         ensures run { (last : ℕ) (setup : Setup) (line : List Tick)
             → StandsAt R.LineRules M.Mac self.old last setup line
             → HasTakenRun R.LineRules M.Mac self.new last setup line
-            (silent result) (answered result left.new.items) }
+            (silent result) (answered result sent.new.items) }
         ensures direction { direction_of self.new ≡ direction_of self.old }
     {
         // the last live tick leaves, or a fill
@@ -243,7 +243,7 @@ impl<R: LineRules, M: Mac, const B: usize, const D: usize> Checker<R, M, B, D> {
         let still = usize::from(self.until) - 1;
         let most = (ticks as usize).min(still).min(D);
         let count = self.ring.front_alike(most);
-        lend(&self.ring, count, left);
+        lend(&self.ring, count, sent);
         self.ring.pass_silence(count);
         self.cut.wait_some(count as u32);
         self.until -= count as u8;

@@ -28,7 +28,7 @@ impl<R: LineRules, M: Mac, const B: usize, const D: usize> Checker<R, M, B, D> {
     ghost use Rattle.check_receiver.specs.Checkings.{PassesWith, KeepsJournal};
     ghost use Rattle.check_receiver.specs.Stands.{HasTaken, direction_of};
     ghost use Rattle.yasir_ticks.specs.Bursts.{Burst};
-    ghost use Rattle.line_rules.specs.Rules.{left_of};
+    ghost use Rattle.line_rules.specs.Rules.{lacking_of};
     ghost use Rattle.frame_ending.specs.SoFar.{last_burst, start_so_far};
     ghost use Rattle.frame_ending.specs.LiveBytes.{live_bytes};
     ghost use Rattle.link_verdicts.specs.declared.note.DroppedWhy.TheVariants.{Busy};
@@ -77,9 +77,9 @@ impl<R: LineRules, M: Mac, const B: usize, const D: usize> Checker<R, M, B, D> {
 
     // The number with which the burst with a whole trailer passes, or why it is refused.
     fn verdict(&mut self, journal: &Journal) -> Result<u64, RefusedWhy>
-        ensures rest { self.new ≡ record self.old { mac = self.new.mac } }
+        ensures others { self.new ≡ record self.old { mac = self.new.mac } }
         ensures mac_is { (key text : List ℕ) → M.stands self.old.mac key text
-            → (rest : List ℕ) × M.stands self.new.mac key rest }
+            → (others : List ℕ) × M.stands self.new.mac key others }
         ensures above { IfOk result (λ number. journal_floor journal.now < number) }
         ensures within { IfOk result (λ number. number ≤ LIMIT) }
         ensures judged { (setup : Setup) (line : List Tick) (d : Burst)
@@ -113,9 +113,9 @@ impl<R: LineRules, M: Mac, const B: usize, const D: usize> Checker<R, M, B, D> {
 
     // Whether the trailer has the tag of this number and the burst.
     fn has_tag_of(&mut self, number: u64) -> bool
-        ensures rest { self.new ≡ record self.old { mac = self.new.mac } }
+        ensures others { self.new ≡ record self.old { mac = self.new.mac } }
         ensures mac_is { (key text : List ℕ) → M.stands self.old.mac key text
-            → (rest : List ℕ) × M.stands self.new.mac key rest }
+            → (others : List ℕ) × M.stands self.new.mac key others }
         ensures compared { (key text : List ℕ) → M.stands self.old.mac key text
             → B ≤ length (bytes_come self.old.arriving)
             → result ≡ bytes_eq (drop B (bytes_come self.old.arriving))
@@ -153,7 +153,7 @@ impl<R: LineRules, M: Mac, const B: usize, const D: usize> Checker<R, M, B, D> {
         ensures turned { TurnedRefused R.LineRules self.old self.new result.tick }
         ensures earliest { (line : List Tick) → CutStandsFor R.LineRules self.old.cut line
             → self.new.earliest_start ≡ length line + self.old.until
-            + left_of R.rules (live_bytes_so_far R.rules line) }
+            + lacking_of R.rules (live_bytes_so_far R.rules line) }
         ensures note { (start : ℕ) × (result.note ≡ Some (Refused start why)) }
         ensures told { (line : List Tick) → CutStandsFor R.LineRules self.old.cut line
             → result.note ≡ Some (Refused (start_so_far line) why) }
@@ -161,7 +161,7 @@ impl<R: LineRules, M: Mac, const B: usize, const D: usize> Checker<R, M, B, D> {
         self.phase = Phase::Leaving { passed: false };
         self.earliest_start = self.cut.ticks()
             + u64::from(self.until)
-            + u64::from(self.cut.rules().left());
+            + u64::from(self.cut.rules().lacking());
         self.outlet.refuse(self.cut.rules().fork());
         let start = self.cut.start();
         self.pass_by(Some(CheckNote::Refused { start, why }))

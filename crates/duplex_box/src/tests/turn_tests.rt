@@ -87,9 +87,9 @@ impl<X: LinkBox> LinkBox for Counted<X> {
         self.inner.forward(run)
     }
 
-    fn pass(&mut self, run: TickRun<'_>, left: &mut RunBytes) -> usize {
+    fn pass(&mut self, run: TickRun<'_>, sent: &mut RunBytes) -> usize {
         self.calls.pass = self.calls.pass.saturating_add(1);
-        self.inner.pass(run, left)
+        self.inner.pass(run, sent)
     }
 }
 
@@ -126,9 +126,9 @@ impl<X: ForetellingBox> ForetellingBox for Counted<X> {
         self.inner.foretell(run)
     }
 
-    fn follow(&mut self, run: TickRun<'_>, left: &mut RunBytes) {
+    fn follow(&mut self, run: TickRun<'_>, sent: &mut RunBytes) {
         self.calls.follow = self.calls.follow.saturating_add(1);
-        self.inner.follow(run, left);
+        self.inner.follow(run, sent);
     }
 }
 
@@ -243,8 +243,8 @@ fn a_packet_of_the_link_goes_up_to_its_note(rt: HostRuntime) -> Result<(), Fail>
         7,
         (&[], &[]),
     );
-    let rest = TickRun::Bytes(&TRAILER_BA[7..]);
-    pass_exactly(&rt, &mut pair, (waits, rest), 6, (&[], &REQUEST[..6]));
+    let following = TickRun::Bytes(&TRAILER_BA[7..]);
+    pass_exactly(&rt, &mut pair, (waits, following), 6, (&[], &REQUEST[..6]));
     pass_exactly(&rt, &mut pair, (waits, last), 0, (&[], &[]));
     let (sealing, checking) = (pair.sender().calls, pair.receiver().calls);
     assert!(rt; checking.runs() <= 10, "{checking:?}");
@@ -264,7 +264,7 @@ fn two_bursts_at_once_go_by_runs(rt: HostRuntime) -> Result<(), Fail> {
     let (first, more) = (TickRun::Bytes(&burst), TickRun::Bytes(&burst[1..]));
     pass_exactly(&rt, &mut pair, (first, first), 1, (&burst[..1], &[]));
     pass_exactly(&rt, &mut pair, (more, more), 17, (&burst[..17], &[]));
-    let rest = TickRun::Bytes(&burst[18..]);
+    let following = TickRun::Bytes(&burst[18..]);
     pass_exactly(
         &rt,
         &mut pair,

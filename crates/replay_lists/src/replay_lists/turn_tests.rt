@@ -67,18 +67,18 @@ impl FrameBox for Wire {
         }
     }
 
-    fn pass_bytes(&mut self, bytes: &[u8], left: &mut RunBytes) -> usize {
+    fn pass_bytes(&mut self, bytes: &[u8], sent: &mut RunBytes) -> usize {
         self.calls.bytes = self.calls.bytes.saturating_add(1);
-        let count = bytes.len().min(left.capacity());
-        left.clear();
-        left.try_extend_from_slice(&bytes[..count]).unwrap();
+        let count = bytes.len().min(sent.capacity());
+        sent.clear();
+        sent.try_extend_from_slice(&bytes[..count]).unwrap();
         self.taken += count as u64;
         count
     }
 
-    fn pass_silence(&mut self, ticks: u32, left: &mut RunBytes) -> u32 {
+    fn pass_silence(&mut self, ticks: u32, sent: &mut RunBytes) -> u32 {
         self.calls.silence = self.calls.silence.saturating_add(1);
-        left.clear();
+        sent.clear();
         self.taken += u64::from(ticks);
         ticks
     }

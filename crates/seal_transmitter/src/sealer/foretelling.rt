@@ -45,10 +45,10 @@ impl<R: RoomTelling, M: Mac, const B: usize> ForetellingBox for Sealer<R, M, B> 
     }
 
     #[inline]
-    fn follow(&mut self, run: TickRun<'_>, left: &mut RunBytes) {
+    fn follow(&mut self, run: TickRun<'_>, sent: &mut RunBytes) {
         match run {
-            TickRun::Bytes(bytes) => self.follow_bytes(bytes, left),
-            TickRun::Silence(ticks) => self.follow_silence(ticks, left),
+            TickRun::Bytes(bytes) => self.follow_bytes(bytes, sent),
+            TickRun::Silence(ticks) => self.follow_silence(ticks, sent),
         }
     }
 }
@@ -58,7 +58,7 @@ impl<R: LineRules, M: Mac, const B: usize> Sealer<R, M, B> {
     ghost use Rattle.std.specs.Prelude.{map};
     ghost use Rattle.frame_ending.specs.SoFar.{quiet_so_far};
     ghost use Rattle.frame_ending.specs.Stands.{StandsFor as CutStandsFor};
-    ghost use Rattle.link_format.specs.Trailers.{bytes_left};
+    ghost use Rattle.link_format.specs.Trailers.{bytes_unsent};
     ghost use Rattle.yasir_ticks.specs.Ticks.{silent};
     ghost use Rattle.yasir_ticks.specs.declared.tick.Tick.{Tick};
     ghost use Rattle.yasir_ticks.specs.declared.tick.Tick.TheVariants.{Byte};
@@ -74,15 +74,15 @@ impl<R: LineRules, M: Mac, const B: usize> Sealer<R, M, B> {
     #[inline]
     fn alike_most(&self, ticks: u32) -> u32
         ensures within { result ≤ ticks }
-        ensures alike { (n : ℕ) → n ≤ result → (bytes_left self.now.trailer ≡ [])
-            ⊎ (n ≤ length (bytes_left self.now.trailer)) }
+        ensures alike { (n : ℕ) → n ≤ result → (bytes_unsent self.now.trailer ≡ [])
+            ⊎ (n ≤ length (bytes_unsent self.now.trailer)) }
         ensures some { 0 < ticks → 0 < result }
     {
-        let left = self.trailer.left().len();
-        if left == 0 {
+        let unsent = self.trailer.unsent().len();
+        if unsent == 0 {
             return ticks;
         }
-        ticks.min(left as u32)
+        ticks.min(unsent as u32)
     }
 
     // How many of this many silent ticks close no burst.
@@ -117,42 +117,42 @@ impl<R: LineRules, M: Mac, const B: usize> Sealer<R, M, B> {
 
     // Takes this many silent ticks, all of them.
     #[inline]
-    fn follow_silence(&mut self, ticks: u32, left: &mut RunBytes)
+    fn follow_silence(&mut self, ticks: u32, sent: &mut RunBytes)
         requires foretold { Foretold R.LineRules self.old (silent ticks) }
         requires room { ticks_taken self.old + ticks ≤ MAX_TICKS }
         ensures taken { ticks_taken self.new ≡ ticks_taken self.old + ticks }
         ensures run { (last : ℕ) (setup : Setup) (line : List Tick)
             → StandsAt R.LineRules M.Mac self.old last setup line
             → HasTakenRun R.LineRules M.Mac self.new last setup line
-            (silent ticks) (answered ticks left.new.items) }
+            (silent ticks) (answered ticks sent.new.items) }
         ensures direction { direction_of self.new ≡ direction_of self.old }
     {
-        let count = self.trailer.left().len().min(ticks as usize);
-        put(left, &self.trailer.send_some(count));
+        let count = self.trailer.sent().len().min(ticks as usize);
+        put(sent, &self.trailer.send_some(count));
         self.cut.wait_some(ticks);
     }
 
     // Takes these bytes, all of them.
     #[inline]
-    fn follow_bytes(&mut self, bytes: &[u8], left: &mut RunBytes)
+    fn follow_bytes(&mut self, bytes: &[u8], sent: &mut RunBytes)
         requires foretold { Foretold R.LineRules self.old (map Byte bytes.now) }
         requires room { ticks_taken self.old + length bytes.now ≤ MAX_TICKS }
         ensures taken { ticks_taken self.new ≡ ticks_taken self.old + length bytes.now }
         ensures run { (last : ℕ) (setup : Setup) (line : List Tick)
             → StandsAt R.LineRules M.Mac self.old last setup line
             → HasTakenRun R.LineRules M.Mac self.new last setup line
-            (map Byte bytes.now) (answered (length bytes.now) left.new.items) }
+            (map Byte bytes.now) (answered (length bytes.now) sent.new.items) }
         ensures direction { direction_of self.new ≡ direction_of self.old }
     {
         if bytes.len() == 1 {
-            put_tick(left, self.hear(Tick::Byte(bytes[0])));
+            put_tick(sent, self.hear(Tick::Byte(bytes[0])));
             return;
         }
         if bytes.is_empty() {
-            left.clear();
+            sent.clear();
             return;
         }
-        put_bytes(left, bytes);
+        put_bytes(sent, bytes);
         cut_all(&mut self.cut, bytes);
         self.mac.update(bytes);
     }

@@ -13,9 +13,9 @@ impl<R: LineRules, M: Mac, const B: usize> RestingBox for Sealer<R, M, B> {
 
     #[inline]
     fn is_resting(&self) -> bool {
-        let left = self.trailer.left().len();
+        let unsent = self.trailer.unsent().len();
         let quiet = self.cut.quiet();
-        left == 0 && quiet >= T3_5_TICKS
+        unsent == 0 && quiet >= T3_5_TICKS
     }
 
     #[inline]

@@ -78,8 +78,8 @@ impl<X: LinkBox> LinkBox for Counted<X> {
         count
     }
 
-    fn pass(&mut self, run: TickRun<'_>, left: &mut RunBytes) -> usize {
-        let count = self.inner.pass(run, left);
+    fn pass(&mut self, run: TickRun<'_>, sent: &mut RunBytes) -> usize {
+        let count = self.inner.pass(run, sent);
         if count > 0 {
             self.turn();
         }

@@ -27,7 +27,7 @@ returns-then-not-is_ending-clause-bad c =
     refused_ending _ _ count.within count.few count.digits count.stops c.begun_ending.result size
     (λ ends. c.is_ending.ensures.no c.if-not-is_ending.true
     (subst IsKeyEnding (sym c.split_at.ensures.back) ends))
-    (subst (λ rest. IsLongestFront BeginsEnding rest c.begun_ending.result) c.split_at.ensures.back
+    (subst (λ following. IsLongestFront BeginsEnding following c.begun_ending.result) c.split_at.ensures.back
     c.begun_ending.ensures)
 
 pub returns-clause-key : goal.returns-clause-key

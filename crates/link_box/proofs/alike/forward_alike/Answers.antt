@@ -16,7 +16,7 @@ returns-in-Bytes-clause-run g c =
     _ _ _ _
     (front-bytes n c.min.result c.in-Bytes.bytes.now within
     ∙ sym (ap (λ r. take n (run_ticks r)) c.in-Bytes.is))
-    (lent-bytes n front c.put_bytes.new.left.items within c.put_bytes.ensures) c.forward-count.ensures.run
+    (lent-bytes n front c.put_bytes.new.sent.items within c.put_bytes.ensures) c.forward-count.ensures.run
 
 pub returns-in-Silence-clause-run : goal.returns-in-Silence-clause-run
 returns-in-Silence-clause-run g c =

@@ -13,7 +13,7 @@ returns-in-Bytes-clause-stands g c = rw c.in-Bytes.is (λ setup line before.
 pub returns-in-Bytes-clause-answers : goal.returns-in-Bytes-clause-answers
 returns-in-Bytes-clause-answers g c = rw c.in-Bytes.is (λ setup line before.
     subst (λ l. AnswersFrameRun (g.B.FrameBox.numbering setup) line l
-    (answered c.pass_bytes.result c.pass_bytes.new.left.items))
+    (answered c.pass_bytes.result c.pass_bytes.new.sent.items))
     (sym (take-map Byte c.pass_bytes.result c.in-Bytes.bytes.now))
     (c.pass_bytes.ensures.answers setup line before))
 
@@ -27,7 +27,7 @@ returns-in-Silence-clause-stands g c = rw c.in-Silence.is (λ setup line before.
 pub returns-in-Silence-clause-answers : goal.returns-in-Silence-clause-answers
 returns-in-Silence-clause-answers g c = rw c.in-Silence.is (λ setup line before.
     subst (λ l. AnswersFrameRun (g.B.FrameBox.numbering setup) line l
-    (answered c.pass_silence.result c.pass_silence.new.left.items))
+    (answered c.pass_silence.result c.pass_silence.new.sent.items))
     (sym (take-replicate c.pass_silence.result c.in-Silence.ticks Silent
     c.pass_silence.ensures.within))
     (c.pass_silence.ensures.answers setup line before))

@@ -38,7 +38,7 @@ returns-in-Ok g c =
     (take c.pass-count.result (run_ticks c.front-front.result)) first.1 first.0
     c.pass-count.ensures.taken c.requires.able c.pass-count.ensures.link
     c.push_run.new.texts c.push_run.new.out c.push_run.new.log
-    (answered c.pass-count.result c.pass-count.new.left.items) c.pass-count.ensures.run
+    (answered c.pass-count.result c.pass-count.new.sent.items) c.pass-count.ensures.run
     (pushed_as g.O.Sink g.L.Sink _ _ _ _ _ same c.in-Ok.ensures)
 
 pub returns-in-Err : goal.returns-in-Err
@@ -54,6 +54,6 @@ returns-in-Err g c =
     (take c.pass-count.result (run_ticks c.front-front.result)) first.1 first.0
     c.pass-count.ensures.taken c.requires.able c.pass-count.ensures.link
     c.push_run.new.texts c.push_run.new.out c.push_run.new.log
-    (answered c.pass-count.result c.pass-count.new.left.items) c.pass-count.ensures.run
+    (answered c.pass-count.result c.pass-count.new.sent.items) c.pass-count.ensures.run
     c.in-Err.field-0 (omega (arith, c.if-count-eq0.false))
     (pushed_as g.O.Sink g.L.Sink _ _ _ _ _ same c.in-Err.ensures)

@@ -26,10 +26,10 @@ returns g c =
           whole = c.requires.steady.whole;
         };
         keeps = keeps-run g.B.LinkBox g.B.LineBox.line_of c.args.self.now _
-            (take n (run_ticks c.args.run)) (answered n c.take_alike-count.new.left.items)
+            (take n (run_ticks c.args.run)) (answered n c.take_alike-count.new.sent.items)
             (subst (λ run. TakesRun g.B.LinkBox.walking g.B.LinkBox.stands
             c.args.self.now.line_box c.take_alike-count.new.line_box run
-            (answered n c.take_alike-count.new.left.items)) first.1
+            (answered n c.take_alike-count.new.sent.items)) first.1
             c.take_alike-count.ensures.run) refl refl counts
             (pushed_as _ _ _ _ _ _ _ same c.in-Ok.ensures).adds;
       };

@@ -48,8 +48,8 @@ returns-in-Bad-clause-step g c = λ last setup line t between.
 
 pub returns-in-Short : goal.returns-in-Short
 returns-in-Short g c = record {
-  cut = ap (λ v. v.cut) c.enter.ensures.turned.rest;
-  direction = ap direction_of c.enter.ensures.turned.rest;
+  cut = ap (λ v. v.cut) c.enter.ensures.turned.others;
+  direction = ap direction_of c.enter.ensures.turned.others;
   note =
       let P : Option CheckNote → Type 0 = λ n. IsNoPass n in
       subst P (sym c.enter.ensures.note) tt;

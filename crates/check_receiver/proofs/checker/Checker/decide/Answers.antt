@@ -9,17 +9,17 @@ use Rattle.check_receiver.proofs.checker.Checker.decide.Goals as goal
 pub refuse-requires : goal.refuse-requires
 refuse-requires g c = (
   search rules,
-  room-kept c.args.self.now c.verdict.new.self c.verdict.ensures.rest c.requires.room,
+  room-kept c.args.self.now c.verdict.new.self c.verdict.ensures.others c.requires.room,
 )
 
 pub returns-in-Err-clause-cut : goal.returns-in-Err-clause-cut
 returns-in-Err-clause-cut g c =
-    ap (λ v. v.cut) c.refuse.ensures.turned.turned.rest ∙ ap (λ v. v.cut) c.verdict.ensures.rest
+    ap (λ v. v.cut) c.refuse.ensures.turned.turned.others ∙ ap (λ v. v.cut) c.verdict.ensures.others
 
 pub returns-in-Err-clause-step : goal.returns-in-Err-clause-step
 returns-in-Err-clause-step g c = λ setup line t whole.
     decide-refuses g.R.LineRules g.M.Mac c.args.self.now (journal_floor c.args.journal.now) setup
-    line t whole c.verdict.new.self c.verdict.ensures.rest
+    line t whole c.verdict.new.self c.verdict.ensures.others
     (c.verdict.ensures.mac_is setup.key whole.key_text whole.mac_is) c.in-Err.why
     c.in-Err.ensures.judged c.refuse.new.self c.refuse.result c.refuse.ensures.turned
     c.refuse.ensures.earliest c.refuse.ensures.told
@@ -38,7 +38,7 @@ returns-in_default-clause-err_passes g c = (
   c.in_default.ensures.failed,
   λ setup line t whole. decide-fails g.R.LineRules g.M.Mac c.args.self.now
       (journal_floor c.args.journal.now) setup line t whole c.verdict.new.self
-      c.verdict.ensures.rest (c.verdict.ensures.mac_is setup.key whole.key_text whole.mac_is)
+      c.verdict.ensures.others (c.verdict.ensures.mac_is setup.key whole.key_text whole.mac_is)
       c.in-Ok.number c.in-Ok.ensures.judged,
 )
 
@@ -56,12 +56,12 @@ returns-in_default-clause-journal g c = record {
 pub pass-requires : goal.pass-requires
 pass-requires g c = (
   search rules,
-  room-kept c.args.self.now c.verdict.new.self c.verdict.ensures.rest c.requires.room,
+  room-kept c.args.self.now c.verdict.new.self c.verdict.ensures.others c.requires.room,
 )
 
 pub returns-clause-cut : goal.returns-clause-cut
 returns-clause-cut g c =
-    ap (λ v. v.cut) c.pass.ensures.turned.rest ∙ ap (λ v. v.cut) c.verdict.ensures.rest
+    ap (λ v. v.cut) c.pass.ensures.turned.others ∙ ap (λ v. v.cut) c.verdict.ensures.others
 
 pub returns-clause-step : goal.returns-clause-step
 returns-clause-step g c = λ setup line t whole.
@@ -69,7 +69,7 @@ returns-clause-step g c = λ setup line t whole.
     c.pass.result in
     subst S (sym c.in-Ok-commit.ensures.committed.floor)
     (decide-passes g.R.LineRules g.M.Mac c.args.self.now (journal_floor c.args.journal.now) setup
-    line t whole c.verdict.new.self c.verdict.ensures.rest
+    line t whole c.verdict.new.self c.verdict.ensures.others
     (c.verdict.ensures.mac_is setup.key whole.key_text whole.mac_is) c.in-Ok.number
     c.in-Ok.ensures.judged c.pass.new.self c.pass.result c.pass.ensures.turned
     c.pass.ensures.earliest c.pass.ensures.told)

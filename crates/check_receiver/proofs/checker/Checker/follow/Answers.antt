@@ -4,7 +4,7 @@ use Rattle.check_receiver.proofs.checker.Checker.follow.Goals as goal
 
 pub returns-then-not-has_good_head-clause-run : goal.returns-then-not-has_good_head-clause-run
 returns-then-not-has_good_head-clause-run g c = λ last setup line stands.
-    same-taken g.R.LineRules g.M.Mac c.args.self.now last setup line stands c.args.left.now.items
+    same-taken g.R.LineRules g.M.Mac c.args.self.now last setup line stands c.args.sent.now.items
     c.requires.empty
 
 pub returns-clause-run : goal.returns-clause-run

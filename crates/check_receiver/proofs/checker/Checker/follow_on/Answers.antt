@@ -76,7 +76,7 @@ returns-clause-run g c = λ last setup line stands waits keeps.
     ∙ (ap (λ l. take (length entering) (Q ++ l))
     (sym (take-map (λ b. Byte b) taken c.args.bytes.now))
     ∙ take-along (length entering) taken Q E (omega arith)) in
-    let items : List ℕ = c.lend_along.new.left.items in
+    let items : List ℕ = c.lend_along.new.sent.items in
     let F : ℕ → Type 0 = λ k. IsFront (Q ++ E) k items in
     let new = record old {
       cut = c.go_on_some-taken.new.self;
@@ -106,5 +106,5 @@ returns-clause-silent g c = λ quiet.
     let E : List Tick = map (λ b. Byte b) c.args.bytes.now in
     let whole = ring-whole c.args.self.now.ring in
     let some = c.args.self.now.ring.some in
-    front-none (Q ++ E) c.go_on_some-taken.result c.lend_along.new.left.items
+    front-none (Q ++ E) c.go_on_some-taken.result c.lend_along.new.sent.items
     c.lend_along.ensures (first-along Q E (omega arith) ∙ quiet)

@@ -9,12 +9,12 @@ use Rattle.check_receiver.proofs.checker.Checker.hear_trailer.Goals as goal
 
 pub returns-then-until-lt3-clause-run : goal.returns-then-until-lt3-clause-run
 returns-then-until-lt3-clause-run g c = λ last setup line stands.
-    same-taken g.R.LineRules g.M.Mac c.args.self.now last setup line stands c.args.left.now.items
+    same-taken g.R.LineRules g.M.Mac c.args.self.now last setup line stands c.args.sent.now.items
     c.requires.empty
 
 pub returns-then-until-clause-run : goal.returns-then-until-clause-run
 returns-then-until-clause-run g c = λ last setup line stands.
-    same-taken g.R.LineRules g.M.Mac c.args.self.now last setup line stands c.args.left.now.items
+    same-taken g.R.LineRules g.M.Mac c.args.self.now last setup line stands c.args.sent.now.items
     c.requires.empty
 
 pub lend-requires : goal.lend-requires
@@ -55,7 +55,7 @@ returns-clause-run g c = λ last setup line stands.
     let few = c.pass_over_some-taken.ensures.within in
     let long : length part ≡ count = length-take-le count c.args.bytes.now (omega arith) in
     let size : length heard ≡ taken = length-take-le taken part (omega arith) in
-    let items : List ℕ = c.lend.new.left.items in
+    let items : List ℕ = c.lend.new.sent.items in
     let F : ℕ → Type 0 = λ k. IsFront (ring_ticks old.ring) k items in
     let G : ℕ → Type 0 = λ k. ring_ticks c.pass_silence.new.self
     ≡ drop k (ring_ticks old.ring ++ silent k) in

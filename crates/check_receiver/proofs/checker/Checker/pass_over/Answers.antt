@@ -9,7 +9,7 @@ use Rattle.check_receiver.proofs.checker.Checker.pass_over.Goals as goal
 
 pub returns-then-self-lt2-clause-run : goal.returns-then-self-lt2-clause-run
 returns-then-self-lt2-clause-run g c = λ last setup line stands.
-    same-taken g.R.LineRules g.M.Mac c.args.self.now last setup line stands c.args.left.now.items
+    same-taken g.R.LineRules g.M.Mac c.args.self.now last setup line stands c.args.sent.now.items
     c.requires.empty
 
 pub lend-requires : goal.lend-requires
@@ -50,7 +50,7 @@ returns-clause-run g c = λ last setup line stands.
     let long : length part ≡ count = length-take-le count c.args.bytes.now (omega arith) in
     let size : length run ≡ taken = bytes-long (take taken part)
     ∙ length-take-le taken part (omega arith) in
-    let items : List ℕ = c.lend.new.left.items in
+    let items : List ℕ = c.lend.new.sent.items in
     let new = record old {
       cut = c.cut_some-taken.new.cut;
       ring = c.pass_silence.new.self;

@@ -29,9 +29,9 @@ returns-in-Short-clause-step g c = λ last setup line cut silence waits until be
 
 pub returns-in-Bad : goal.returns-in-Bad
 returns-in-Bad g c = record {
-  cut = ap (λ v. v.cut) c.pass_by.ensures.turned.rest;
+  cut = ap (λ v. v.cut) c.pass_by.ensures.turned.others;
   goes_on = λ line cuts whole. c.pass_by.ensures.note;
-  direction = ap direction_of c.pass_by.ensures.turned.rest;
+  direction = ap direction_of c.pass_by.ensures.turned.others;
   note =
       let P : Option CheckNote → Type 0 = λ n. IsNoPass n in
       subst P (sym c.pass_by.ensures.note) tt;

@@ -1,5 +1,5 @@
 use Rattle.check_receiver.specs.Turning.{Turned, refused}
-use Rattle.{frame_ending.specs.SoFar.live_bytes_so_far, line_rules.specs.Rules.left_of}
+use Rattle.{frame_ending.specs.SoFar.live_bytes_so_far, line_rules.specs.Rules.lacking_of}
 use Rattle.link_verdicts.specs.declared.note.CheckNote.TheVariants.{Refused}
 use Rattle.std.proofs.Common.{◌≡◌, ◌∙◌, ap, sym, subst, arith, length, Some, List, ℕ}
 use Rattle.yasir_ticks.specs.declared.tick.Tick.TheVariants.{Silent}
@@ -7,7 +7,7 @@ use Rattle.check_receiver.proofs.checker.Checker.refuse.Goals as goal
 
 pub returns-clause-turned : goal.returns-clause-turned
 returns-clause-turned g c =
-    let from = ap (λ v. v.earliest_start) c.pass_by.ensures.turned.rest in
+    let from = ap (λ v. v.earliest_start) c.pass_by.ensures.turned.others in
     let T : ℕ → Type 0 = λ n. Turned g.R.LineRules (refused c.args.self.now c.refuse.new.self n)
     c.pass_by.new.self Silent c.pass_by.result.tick in
     record {
@@ -22,12 +22,12 @@ returns-clause-turned g c =
 
 pub returns-clause-earliest : goal.returns-clause-earliest
 returns-clause-earliest g c = λ line cuts.
-    let same = ap (λ v. v.earliest_start) c.pass_by.ensures.turned.rest in
+    let same = ap (λ v. v.earliest_start) c.pass_by.ensures.turned.others in
     let count : c.ticks.result ≡ length line = c.ticks.ensures.count line cuts in
     let until = c.from.ensures in
-    let lacks : c.left.result ≡ left_of g.R.LineRules.rules
+    let lacks : c.lacking.result ≡ lacking_of g.R.LineRules.rules
     (live_bytes_so_far g.R.LineRules.rules line) =
-    c.left.ensures (live_bytes_so_far g.R.LineRules.rules line) (c.rules.ensures line cuts) in
+    c.lacking.ensures (live_bytes_so_far g.R.LineRules.rules line) (c.rules.ensures line cuts) in
     let owed = c.from-2.ensures in
     omega arith
 

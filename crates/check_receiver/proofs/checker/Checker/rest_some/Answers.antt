@@ -6,7 +6,7 @@ use Rattle.check_receiver.proofs.checker.Checker.rest_some.Goals as goal
 
 pub returns-then-self-lt2-clause-run : goal.returns-then-self-lt2-clause-run
 returns-then-self-lt2-clause-run g c = λ last setup line stands.
-    same-taken g.R.LineRules g.M.Mac c.args.self.now last setup line stands c.args.left.now.items
+    same-taken g.R.LineRules g.M.Mac c.args.self.now last setup line stands c.args.sent.now.items
     c.requires.empty
 
 pub returns-clause-run : goal.returns-clause-run
@@ -19,7 +19,7 @@ returns-clause-run g c = λ last setup line stands.
     let widened = c.from-still.ensures in
     let some = c.if-self-lt2.false in
     flow-counted g.R.LineRules g.M.Mac old last setup line stands c.wait_some.new.self
-    c.pass_silence.new.self n c.lend.new.left.items (old.until - n)
+    c.pass_silence.new.self n c.lend.new.sent.items (old.until - n)
     (omega arith) c.front_alike-count.ensures.alike
     (silent n) n (length-replicate n Silent) c.requires.phase (omega arith)
     (omega arith) (c.wait_some.ensures.stands line stands.cuts)

@@ -37,7 +37,7 @@ returns-then-is_empty-clause-run g c = λ last setup line stands.
     (record c.args.self.now { cut = c.cut_some-passed.new.cut }) last setup line
     (still-stands g.R.LineRules g.M.Mac c.args.self.now last setup line
     c.cut_some-passed.new.cut c.cut_some-passed.result c.args.bytes.now stands (omega arith)
-    (c.cut_some-passed.ensures.stands line stands.cuts)) c.args.left.now.items c.requires.empty
+    (c.cut_some-passed.ensures.stands line stands.cuts)) c.args.sent.now.items c.requires.empty
 
 pub returns-then-ticks-self-clause-run : goal.returns-then-ticks-self-clause-run
 returns-then-ticks-self-clause-run g c = λ last setup line stands.
@@ -46,7 +46,7 @@ returns-then-ticks-self-clause-run g c = λ last setup line stands.
     (record c.args.self.now { cut = c.cut_some-passed.new.cut }) last setup line
     (still-stands g.R.LineRules g.M.Mac c.args.self.now last setup line
     c.cut_some-passed.new.cut c.cut_some-passed.result c.args.bytes.now stands (omega arith)
-    (c.cut_some-passed.ensures.stands line stands.cuts)) c.args.left.now.items c.requires.empty
+    (c.cut_some-passed.ensures.stands line stands.cuts)) c.args.sent.now.items c.requires.empty
 
 pub returns-then-not-begin_well-clause-run : goal.returns-then-not-begin_well-clause-run
 returns-then-not-begin_well-clause-run g c = λ last setup line stands.
@@ -55,7 +55,7 @@ returns-then-not-begin_well-clause-run g c = λ last setup line stands.
     (record c.args.self.now { cut = c.cut_some-passed.new.cut }) last setup line
     (still-stands g.R.LineRules g.M.Mac c.args.self.now last setup line
     c.cut_some-passed.new.cut c.cut_some-passed.result c.args.bytes.now stands (omega arith)
-    (c.cut_some-passed.ensures.stands line stands.cuts)) c.args.left.now.items c.requires.empty
+    (c.cut_some-passed.ensures.stands line stands.cuts)) c.args.sent.now.items c.requires.empty
 
 pub returns-clause-run : goal.returns-clause-run
 returns-clause-run g c = λ last setup line stands.
@@ -85,7 +85,7 @@ returns-clause-run g c = λ last setup line stands.
     let K : List ℕ → Type 0 = λ x. KeepsHeader rules x tail in
     let rest = c.follow_on.ensures.run last setup (line ++ Byte first ∷ []) begun.0.stands begun.1
     (subst K (sym begun.3) keeps) in
-    let items : List ℕ = c.follow_on.new.left.items in
+    let items : List ℕ = c.follow_on.new.sent.items in
     let quiet : items ≡ [] = c.follow_on.ensures.silent begun.2 in
     let more : ℕ = c.follow_on.result in
     let A : List Tick → List Tick → Type 0 = λ run answer. HasTakenRun g.R.LineRules g.M.Mac

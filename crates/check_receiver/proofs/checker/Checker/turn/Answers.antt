@@ -14,9 +14,9 @@ set-phase {R} {M} {B} {D} old left p rest =
 pub returns : goal.returns
 returns g c =
     let old = c.args.self.now in
-    let rest = c.let_out-left.ensures.rest in
+    let rest = c.let_out-left.ensures.others in
     record {
-      rest = set-phase old c.let_out-left.new.self c.settled-self.result rest;
+      others = set-phase old c.let_out-left.new.self c.settled-self.result rest;
       ring = c.let_out-left.ensures.ring;
       out = c.let_out-left.ensures.out;
       phase = c.settled-self.ensures

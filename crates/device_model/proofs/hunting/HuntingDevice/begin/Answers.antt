@@ -8,19 +8,19 @@ returns-then-byte-FIRST g c =
     let none = ap length c.lose.ensures.bytes in
     begun-byte g.R.LineRules g.R.Hunted.FIRST g.R.Hunted.SECOND g.met.R.Hunted.hunted
     c.args.self.now c.keep.new.self c.args.at c.args.byte
-    (c.keep.ensures.ticks ∙ c.lose.ensures.ticks) c.requires.left
+    (c.keep.ensures.ticks ∙ c.lose.ensures.ticks) c.requires.lacking
     (λ one. c.requires.other
     (ap length (sym (items-held c.args.self.now c.requires.lends)) ∙ one)) (omega arith)
     (items-held c.keep.new.self (c.keep.ensures.lends ∙ c.lose.ensures.lends)
     ∙ (c.keep.ensures.bytes (omega arith)
     ∙ ap (λ y. y ++ c.args.byte ∷ []) c.lose.ensures.bytes))
-    (c.keep.ensures.left ∙ c.lose.ensures.left) c.keep.ensures.start
+    (c.keep.ensures.lacking ∙ c.lose.ensures.lacking) c.keep.ensures.start
 
 pub returns-else-byte-FIRST : goal.returns-else-byte-FIRST
 returns-else-byte-FIRST g c =
     passed-byte g.R.LineRules g.R.Hunted.FIRST g.R.Hunted.SECOND g.met.R.Hunted.hunted
-    c.args.self.now c.lose.new.self c.args.at c.args.byte c.lose.ensures.ticks c.requires.left
+    c.args.self.now c.lose.new.self c.args.at c.args.byte c.lose.ensures.ticks c.requires.lacking
     (λ one. c.requires.other
     (ap length (sym (items-held c.args.self.now c.requires.lends)) ∙ one))
     (λ first. omega arith)
-    (empty-held c.lose.new.self c.lose.ensures.lends c.lose.ensures.bytes) c.lose.ensures.left
+    (empty-held c.lose.new.self c.lose.ensures.lends c.lose.ensures.bytes) c.lose.ensures.lacking

@@ -13,18 +13,18 @@ go_on-part-requires g c =
 
 pub returns-clause-takes : goal.returns-clause-takes
 returns-clause-takes g c =
-    let rest = c.args.rest.now in
+    let following = c.args.following.now in
     let header = g.met.R.Hunted.header in
     let none = ap length c.requires.none in
     let n = c.from-mark.result in
     let two : n ≡ 2 = omega (arith, c.from-mark.ensures) in
-    let count = length-take n rest in
-    let mid = record c.keep.new.self { left = c.behind_mark-self.result } in
-    let mark = ap (λ k. take k rest) two ∙ first-two g.R.Hunted.FIRST g.R.Hunted.SECOND rest c.requires.two c.requires.first
+    let count = length-take n following in
+    let mid = record c.keep.new.self { lacking = c.behind_mark-self.result } in
+    let mark = ap (λ k. take k following) two ∙ first-two g.R.Hunted.FIRST g.R.Hunted.SECOND following c.requires.two c.requires.first
     c.requires.second in
     part-joined g.R.LineRules g.R.Hunted.FIRST g.R.Hunted.SECOND g.met.R.Hunted.hunted
-    c.args.self.now mid c.go_on-part.new.self c.args.at rest _ n c.go_on-part.result.taken _
-    (take_rest rest n) (omega arith)
+    c.args.self.now mid c.go_on-part.new.self c.args.at following _ n c.go_on-part.result.taken _
+    (take_rest following n) (omega arith)
     (subst (λ y. TakesRun g.R.LineRules g.R.Hunted.FIRST g.R.Hunted.SECOND c.args.self.now mid
     c.args.at y []) (sym mark)
     (begun-run g.R.LineRules g.R.Hunted.FIRST g.R.Hunted.SECOND g.met.R.Hunted.hunted
@@ -32,6 +32,6 @@ returns-clause-takes g c =
     (empty-held c.args.self.now c.requires.lends c.requires.none) c.keep.ensures.ticks
     (items-held c.keep.new.self (c.keep.ensures.lends ∙ c.requires.lends)
     ∙ (c.keep.ensures.bytes (omega arith)
-    ∙ (ap (λ y. y ++ take n rest) c.requires.none ∙ mark)))
+    ∙ (ap (λ y. y ++ take n following) c.requires.none ∙ mark)))
     (omega arith) c.keep.ensures.start))
     (c.go_on-part.ensures.takes (c.args.at + n))

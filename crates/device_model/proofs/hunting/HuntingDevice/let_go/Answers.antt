@@ -8,4 +8,4 @@ returns-then-self-clause-hears g c = λ x heard.
     c.args.self.now c.lose.new.self x c.lose.ensures.rules
     (empty-held c.lose.new.self c.lose.ensures.lends c.lose.ensures.bytes
     ∙ sym (cond-true _ _ _ c.if-self.true))
-    (c.lose.ensures.left ∙ sym c.requires) c.lose.ensures.start heard
+    (c.lose.ensures.lacking ∙ sym c.requires) c.lose.ensures.start heard

@@ -12,7 +12,7 @@ returns-clause-behind g c = λ room more.
       start = refl;
       bytes = refl;
       lends = refl;
-      left = c.left-self.ensures c.args.self.now.bytes.items all;
+      lacking = c.lacking-self.ensures c.args.self.now.bytes.items all;
       stands = all;
       none = refl;
     }
@@ -23,7 +23,7 @@ returns-clause-goes g c = λ room whole none.
     c.take_some.new.self c.args.self.now.bytes.items c.as_slice.result.now
     c.take_some.result c.as_slice.ensures.value room
     (c.take_some.ensures.stands [] c.restart.ensures.stands) c.take_some.ensures.all in
-    let left = c.left-self.ensures c.args.self.now.bytes.items all in
+    let lacking = c.lacking-self.ensures c.args.self.now.bytes.items all in
     absurd (omega arith)
 
 pub returns-then-self-eq0-clause-behind : goal.returns-then-self-eq0-clause-behind
@@ -32,7 +32,7 @@ returns-then-self-eq0-clause-behind g c = λ room more.
     c.take_some.new.self c.args.self.now.bytes.items c.as_slice.result.now
     c.take_some.result c.as_slice.ensures.value room
     (c.take_some.ensures.stands [] c.restart.ensures.stands) c.take_some.ensures.all in
-    let left = c.left-self.ensures c.args.self.now.bytes.items all in
+    let lacking = c.lacking-self.ensures c.args.self.now.bytes.items all in
     absurd (omega arith)
 
 pub returns-then-self-eq0-clause-goes : goal.returns-then-self-eq0-clause-goes

@@ -29,7 +29,7 @@ returns-in-Some-clause-stands c = λ cut gap line heard.
     subst (RtuFamilyStandsFor cut gap c.wait_tick.new.self)
     (silent-behind line (c.from-left.result - 1) 1 c.from-left.result (omega arith))
     (c.wait_tick.ensures.stands cut gap (line ++ silent (c.from-left.result - 1))
-    (c.rest-2.ensures.stands cut gap line heard))
+    (c.wait_some-2.ensures.stands cut gap line heard))
 
 pub returns-in-Some-clause-answer : goal.returns-in-Some-clause-answer
 returns-in-Some-clause-answer c = λ cut gap line heard.
@@ -37,44 +37,44 @@ returns-in-Some-clause-answer c = λ cut gap line heard.
     _ (omega arith)
     (inr (omega arith)) heard
     (c.in-Some.ensures.answer cut gap (line ++ silent (c.from-left.result - 1))
-    (c.rest-2.ensures.stands cut gap line heard))
+    (c.wait_some-2.ensures.stands cut gap line heard))
 
 pub returns-in-Some-clause-before : goal.returns-in-Some-clause-before
 returns-in-Some-clause-before c = λ cut gap n below line heard.
     silence-unread cut gap c.args.self.now line n (inr (omega arith)) heard
 
-pub rest-requires-3-clause-parts : goal.rest-requires-3-clause-parts
-rest-requires-3-clause-parts c =
+pub wait_some-requires-3-clause-parts : goal.wait_some-requires-3-clause-parts
+wait_some-requires-3-clause-parts c =
     let rested = counted-on c.args.self.now.silence.quiet c.args.self.now.silence.cut
-    (c.from-left.result - 1) c.rest-2.new.self.silence.quiet (omega arith) c.rest-2.ensures.quiet in
-    let cut_stays = c.rest-2.ensures.cut in
-    let waited = counted-on c.rest-2.new.self.silence.quiet c.rest-2.new.self.silence.cut 1
+    (c.from-left.result - 1) c.wait_some-2.new.self.silence.quiet (omega arith) c.wait_some-2.ensures.quiet in
+    let cut_stays = c.wait_some-2.ensures.cut in
+    let waited = counted-on c.wait_some-2.new.self.silence.quiet c.wait_some-2.new.self.silence.cut 1
     c.wait_tick.new.self.silence.quiet (omega arith) c.wait_tick.ensures.quiet in
     let cut_still = c.wait_tick.ensures.cut in
     inl (omega arith)
 
 pub returns-clause-stands : goal.returns-clause-stands
 returns-clause-stands c = λ cut gap line heard.
-    subst (RtuFamilyStandsFor cut gap c.rest-3.new.self)
+    subst (RtuFamilyStandsFor cut gap c.wait_some-3.new.self)
     (silent-behind line c.from-left.result (c.args.ticks - c.from-left.result) c.args.ticks
     (omega arith))
-    (c.rest-3.ensures.stands cut gap (line ++ silent c.from-left.result)
+    (c.wait_some-3.ensures.stands cut gap (line ++ silent c.from-left.result)
     (subst (RtuFamilyStandsFor cut gap c.wait_tick.new.self)
     (silent-behind line (c.from-left.result - 1) 1 c.from-left.result (omega arith))
     (c.wait_tick.ensures.stands cut gap (line ++ silent (c.from-left.result - 1))
-    (c.rest-2.ensures.stands cut gap line heard))))
+    (c.wait_some-2.ensures.stands cut gap line heard))))
 
-unread : (c : goal.After-rest-3) (cut gap : ℕ) (line : List Tick)
+unread : (c : goal.After-wait_some-3) (cut gap : ℕ) (line : List Tick)
     → RtuFamilyStandsFor cut gap c.args.self.now line → (n : ℕ)
     → rtu_family_reads cut gap (line ++ silent n) ≡ rtu_family_reads cut gap line
 unread c cut gap line heard n =
     let rested = counted-on c.args.self.now.silence.quiet c.args.self.now.silence.cut
-    (c.from-left.result - 1) c.rest-2.new.self.silence.quiet (omega arith) c.rest-2.ensures.quiet in
-    let cut_stays = c.rest-2.ensures.cut in
-    let waited = counted-on c.rest-2.new.self.silence.quiet c.rest-2.new.self.silence.cut 1
+    (c.from-left.result - 1) c.wait_some-2.new.self.silence.quiet (omega arith) c.wait_some-2.ensures.quiet in
+    let cut_stays = c.wait_some-2.ensures.cut in
+    let waited = counted-on c.wait_some-2.new.self.silence.quiet c.wait_some-2.new.self.silence.cut 1
     c.wait_tick.new.self.silence.quiet (omega arith) c.wait_tick.ensures.quiet in
     let cut_still = c.wait_tick.ensures.cut in
-    let behind = c.rest-2.ensures.stands cut gap line heard in
+    let behind = c.wait_some-2.ensures.stands cut gap line heard in
     later-unread cut gap c.args.self.now c.wait_tick.new.self line c.from-left.result heard (omega arith)
     (subst (RtuFamilyStandsFor cut gap c.wait_tick.new.self)
     (silent-behind line (c.from-left.result - 1) 1 c.from-left.result (omega arith))

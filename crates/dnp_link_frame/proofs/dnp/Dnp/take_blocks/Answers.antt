@@ -30,20 +30,20 @@ loop-block-preserved c =
       register = c.of_bytes-register.result;
       blocks_right = c.blocks_at_beginning-right.result;
     } in
-    let before : IsBefore c.args.self.now c.args.run.now value c.loop-block.rest.now =
+    let before : IsBefore c.args.self.now c.args.run.now value c.loop-block.following.now =
     c.loop-block.invariant in
     let whole : length c.in-Some.block.now ≡ 18 = omega arith in
     let left = c.in-Some.ensures.cases.2 in
     let begins : value.block_left ≡ 0 = before.begins (omega arith) in
     let room = before.room in
     is_before-next c.args.self.now value next c.args.run.now
-    c.loop-block.rest.now c.in-Some.block.now c.in-Some.more.now whole
+    c.loop-block.following.now c.in-Some.block.now c.in-Some.more.now whole
     c.in-Some.ensures.cases.0 c.in-Some.ensures.cases.1 (omega arith)
     before
     (dnp_begin_block value next c.in-Some.block.now before.behind begins (omega arith)
     (omega arith) (omega arith)
     (subst AreBytes (sym c.in-Some.ensures.cases.0)
-    (All-take (λ b. b < 256) 18 c.loop-block.rest.now before.bytes))
+    (All-take (λ b. b < 256) 18 c.loop-block.following.now before.bytes))
     (omega arith) refl c.of_bytes-register.ensures refl c.blocks_at_beginning-right.ensures refl
     (omega arith))
 
@@ -53,8 +53,8 @@ returns-then-not-is_empty c =
 
 pub returns-else-not-is_empty : goal.returns-else-not-is_empty
 returns-else-not-is_empty c =
-    let none : c.loop-block.rest.now ≡ [] =
-    nil_from_length c.loop-block.rest.now
+    let none : c.loop-block.following.now ≡ [] =
+    nil_from_length c.loop-block.following.now
     (eqb-true _ _ (sym c.is_empty.ensures ∙ c.if-not-is_empty.false)) in
     let value : Dnp = record c.go_on.new.self {
       len = c.loop-block.len;

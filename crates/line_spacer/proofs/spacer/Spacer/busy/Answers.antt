@@ -7,7 +7,7 @@ returns-then-self g c =
     let s = c.args.self.now in
     let gaps : c.saturating_mul-gaps.result ≤ length s.queue.frames * g.row.GAP =
     grind (arith, c.saturating_mul-gaps.ensures, c.len.ensures.count) in
-    let most = busy-next g.row.GAP s.size s.sent s.rest s.room s.queue.frames
+    let most = busy-next g.row.GAP s.size s.sent s.pause s.room s.queue.frames
     c.bytes_waiting.result c.saturating_mul-gaps.result (omega arith) c.bytes_waiting.ensures gaps
     s.ready c.if-self.true in
     grind (
@@ -24,7 +24,7 @@ returns g c =
     let s = c.args.self.now in
     let gaps : c.saturating_mul-gaps.result ≤ length s.queue.frames * g.row.GAP =
     grind (arith, c.saturating_mul-gaps.ensures, c.len.ensures.count) in
-    let most = busy-begun g.row.GAP s.size s.sent s.rest s.room s.queue.frames
+    let most = busy-begun g.row.GAP s.size s.sent s.pause s.room s.queue.frames
     c.bytes_waiting.result c.saturating_mul-gaps.result (omega arith) c.bytes_waiting.ensures gaps
     s.ready c.if-self.false in
     grind (

@@ -1,6 +1,6 @@
 use Rattle.{burst_walk.specs.Answered.answered, device_model.specs.Frames.frames_lent}
 use Rattle.line_spacer.proofs.Owing.{given-answers, given-before, given-pending, given-sent}
-use Rattle.line_spacer.specs.Stands.{AnswersSpaced, bytes_left, frame_at, frames_waiting, left_of}
+use Rattle.line_spacer.specs.Stands.{AnswersSpaced, bytes_sent, frame_at, frames_waiting, unsent_of}
 use Rattle.line_spacer.specs.Stands.{taken_in}
 use Rattle.std.proofs.Common.{◌≡◌, ◌∙◌, ◌<◌, ◌≤◌, ◌+◌, ◌-◌, ◌++◌, [], List, length, take, drop, sym}
 use Rattle.std.proofs.Common.{ap, subst, arith, append_assoc, take-append-drop}
@@ -17,7 +17,7 @@ returns-clause-lent g c = ap (λ d. g.V.Device.lent d)
 
 pub returns-clause-long : goal.returns-clause-long
 returns-clause-long g c =
-    ap (λ b. length (answered c.min-count.result b)) c.keep-kept.ensures.left
+    ap (λ b. length (answered c.min-count.result b)) c.keep-kept.ensures.sent
     ∙ c.send_some.ensures.long
 
 pub returns-clause-owes : goal.returns-clause-owes
@@ -46,11 +46,11 @@ returns-clause-owes g c = λ cap line ticks long owes.
     let fits : room ≡ cap =
     c.send_some.ensures.room ∙ (c.make_ready.ensures.room ∙ owes.room) in
     let accepted = owes.made.accepted in
-    let answer : List Tick = answered n (bytes_left sent) in
+    let answer : List Tick = answered n (bytes_sent sent) in
     let run = c.send_some.ensures.sends (length line) accepted
     (c.make_ready.ensures.sent (length line) accepted owes.sent) in
     let before = given-before reads gap cap room fits line ticks owes.made frames n some within
-    owes.pending front part all accepted (left_of sent.ready sent.sent (frame_at sent)) sent.rest
+    owes.pending front part all accepted (unsent_of sent.ready sent.sent (frame_at sent)) sent.pause
     (frames_waiting sent) answer c.send_some.ensures.long run.sent in
     let after = taken_in gap room (length line + (n - 1)) owes.made front in
     record {
@@ -62,8 +62,8 @@ returns-clause-owes g c = λ cap line ticks long owes.
       room = c.keep-kept.ensures.room ∙ fits;
       made = after;
       sent = given-sent reads gap cap room fits line ticks owes.made frames n some within
-          owes.pending front part all after.accepted (left_of new.ready new.sent (frame_at new))
-          new.rest (frames_waiting new)
+          owes.pending front part all after.accepted (unsent_of new.ready new.sent (frame_at new))
+          new.pause (frames_waiting new)
           (c.keep-kept.ensures.sent (length line + (n - 1)) owes.made before);
       pending = given-pending reads gap cap room fits line ticks owes.made frames n some within
           owes.pending front part all;
@@ -95,15 +95,15 @@ returns-clause-answer g c = λ cap line ticks long owes.
     let fits : room ≡ cap =
     c.send_some.ensures.room ∙ (c.make_ready.ensures.room ∙ owes.room) in
     let accepted = owes.made.accepted in
-    let answer : List Tick = answered n (bytes_left sent) in
+    let answer : List Tick = answered n (bytes_sent sent) in
     let run = c.send_some.ensures.sends (length line) accepted
     (c.make_ready.ensures.sent (length line) accepted owes.sent) in
     let before = given-before reads gap cap room fits line ticks owes.made frames n some within
-    owes.pending front part all accepted (left_of sent.ready sent.sent (frame_at sent)) sent.rest
+    owes.pending front part all accepted (unsent_of sent.ready sent.sent (frame_at sent)) sent.pause
     (frames_waiting sent) answer c.send_some.ensures.long run.sent in
     let lost = frames_lent c.keep-kept.result (device.lent new.device) in
     subst (λ b. AnswersSpaced reads gap cap line (take n ticks) (answered n b)
-    (length line + (n - 1)) lost) (sym c.keep-kept.ensures.left)
+    (length line + (n - 1)) lost) (sym c.keep-kept.ensures.sent)
     (given-answers reads gap cap room fits line ticks owes.made frames n some within owes.pending
     front part all answer lost c.send_some.ensures.long run.leave
     (c.keep-kept.ensures.takes (length line + (n - 1)) owes.made before))

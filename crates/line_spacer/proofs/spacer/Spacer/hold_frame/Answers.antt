@@ -14,7 +14,7 @@ returns-clause-sent g c = λ start step s has.
     let old = c.args.self.now in
     let read : FrameRead = record { start = start; frame = g.V.Device.lent old.device } in
     let over : old.size ≤ old.sent = omega (arith, c.requires.free, old.grows) in
-    held-sent g.row.GAP old.queue.capacity step s read old.ready old.size old.sent old.rest
+    held-sent g.row.GAP old.queue.capacity step s read old.ready old.size old.sent old.pause
     old.room old.queue.frames (omega arith) has c.requires.few c.requires.none over
     (take c.fill_front-self.result c.fill_front-self.new.room)
     (c.fill_front-self.ensures.front ∙ c.frame_bytes.ensures.bytes)

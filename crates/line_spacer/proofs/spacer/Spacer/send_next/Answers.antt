@@ -6,7 +6,7 @@ pub returns-then-self-gt0-clause-sends : goal.returns-then-self-gt0-clause-sends
 returns-then-self-gt0-clause-sends g c = λ m accepted has.
     let s = c.args.self.now in
     rw c.saturating_sub-self.ensures
-    (next-waits g.row.GAP m accepted s.ready s.size s.sent s.rest c.args.ticks s.room s.queue.frames
+    (next-waits g.row.GAP m accepted s.ready s.size s.sent s.pause c.args.ticks s.room s.queue.frames
     c.requires.some (omega arith) has c.requires.ready c.if-self-gt0.true
     (c.requires.alike.waits c.requires.ready c.if-self-gt0.true))
 
@@ -18,9 +18,9 @@ returns-then-self-gt0-clause-long g c =
 pub returns-then-self-eq0-clause-sends : goal.returns-then-self-eq0-clause-sends
 returns-then-self-eq0-clause-sends g c = λ m accepted has.
     let s = c.args.self.now in
-    let done : s.rest ≤ 0 = c.if-self-gt0.false in
+    let done : s.pause ≤ 0 = c.if-self-gt0.false in
     rw c.saturating_sub-self-then-self-eq0.ensures
-    (none-begin g.row.GAP m accepted s.ready s.size s.sent s.rest c.args.ticks s.room s.queue.frames
+    (none-begin g.row.GAP m accepted s.ready s.size s.sent s.pause c.args.ticks s.room s.queue.frames
     c.requires.some (omega arith) has c.requires.ready done
     (c.requires.alike.begins c.requires.ready done) (omega (arith, c.if-self-eq0.true))
     c.min-self.result c.min-self.ensures)
@@ -35,8 +35,8 @@ returns-then-self-eq0-clause-long g c =
 pub returns-clause-sends : goal.returns-clause-sends
 returns-clause-sends g c = λ m accepted has.
     let s = c.args.self.now in
-    let done : s.rest ≤ 0 = c.if-self-gt0.false in
-    some-begin g.row.GAP m accepted s.ready s.size s.sent s.rest c.args.ticks s.room s.queue.frames
+    let done : s.pause ≤ 0 = c.if-self-gt0.false in
+    some-begin g.row.GAP m accepted s.ready s.size s.sent s.pause c.args.ticks s.room s.queue.frames
     c.requires.some (omega arith) has c.requires.ready done
     (c.requires.alike.begins c.requires.ready done) (omega (arith, c.if-self-eq0.false))
     c.min-self.result c.min-self.ensures

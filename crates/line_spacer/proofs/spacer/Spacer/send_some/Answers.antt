@@ -5,7 +5,7 @@ use Rattle.line_spacer.proofs.spacer.Spacer.send_some.Goals as goal
 pub returns-then-self-2-clause-sends : goal.returns-then-self-2-clause-sends
 returns-then-self-2-clause-sends g c = λ m accepted has.
     let s = c.args.self.now in
-    bytes-go-on g.row.GAP m accepted s.ready s.size s.sent s.rest c.args.ticks s.room s.queue.frames
+    bytes-go-on g.row.GAP m accepted s.ready s.size s.sent s.pause c.args.ticks s.room s.queue.frames
     c.requires.some (omega arith) has c.if-self.false
     (c.requires.alike.bytes c.if-self.false c.if-self-2.true)
 
@@ -20,7 +20,7 @@ returns-clause-sends g c = λ m accepted has.
     let s = c.args.self.now in
     let over : s.size ≤ s.sent = c.if-self-2.false in
     rw c.saturating_sub-self.ensures
-    (rest-goes-on g.row.GAP m accepted s.ready s.size s.sent s.rest c.args.ticks s.room
+    (rest-goes-on g.row.GAP m accepted s.ready s.size s.sent s.pause c.args.ticks s.room
     s.queue.frames c.requires.some (omega arith) has c.if-self.false over
     (c.requires.alike.quiet c.if-self.false over) (c.requires.alike.idle c.if-self.false over))
 

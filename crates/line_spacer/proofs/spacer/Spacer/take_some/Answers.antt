@@ -1,7 +1,7 @@
 use Rattle.{burst_walk.specs.Answered.answered, device_model.specs.Frames.frames_lent}
 use Rattle.line_spacer.proofs.Runs.{IsQuiet, run-before, run-sent, run-answers}
 use Rattle.line_spacer.specs.{Spacing.spaced, Spacing.accepted_of, Stands.StandsFor}
-use Rattle.line_spacer.specs.Stands.{AnswersSpaced, left_of, frame_at, frames_waiting, bytes_left}
+use Rattle.line_spacer.specs.Stands.{AnswersSpaced, unsent_of, frame_at, frames_waiting, bytes_sent}
 use Rattle.std.proofs.Common.{◌≡◌, ◌∙◌, ◌<◌, ◌≤◌, ◌+◌, ◌-◌, ◌++◌, List, length, take, sym}
 use Rattle.std.proofs.Common.{ap, subst, arith}
 use Rattle.std.proofs.lemmas.List.{length-take, length-take-le, take-take}
@@ -10,7 +10,7 @@ use Rattle.line_spacer.proofs.spacer.Spacer.take_some.Goals as goal
 
 pub returns-clause-long : goal.returns-clause-long
 returns-clause-long g c =
-    ap (λ b. length (answered c.hear_run-taken.result.taken b)) c.keep-lost.ensures.left
+    ap (λ b. length (answered c.hear_run-taken.result.taken b)) c.keep-lost.ensures.sent
     ∙ c.send_some.ensures.long
 
 pub returns-clause-stands : goal.returns-clause-stands
@@ -51,7 +51,7 @@ returns-clause-stands g c = λ cap line stands.
     let is = heard.ensures.answer line start
     ∙ ap (λ d. reads line ++ frames_lent heard.result.start (g.V.Device.lent d))
     (sym c.send_some.ensures.device) in
-    let answer : List Tick = answered n (bytes_left sent) in
+    let answer : List Tick = answered n (bytes_sent sent) in
     let as_long : length answer ≡ length x = c.send_some.ensures.long ∙ sym long in
     let frames = frames_lent heard.result.start (g.V.Device.lent sent.device) in
     let fits = c.send_some.ensures.room ∙ (c.make_ready.ensures.room ∙ stands.room) in
@@ -59,7 +59,7 @@ returns-clause-stands g c = λ cap line stands.
     let run = c.send_some.ensures.sends (length line) accepted
     (c.make_ready.ensures.sent (length line) accepted stands.sent) in
     let before = run-before reads gap cap sent.queue.capacity fits line x frames some quiet is
-    accepted (left_of sent.ready sent.sent (frame_at sent)) sent.rest (frames_waiting sent) answer
+    accepted (unsent_of sent.ready sent.sent (frame_at sent)) sent.pause (frames_waiting sent) answer
     as_long run.sent in
     let new = c.keep-lost.new.self in
     let stands_now : StandsFor g.V.Device cap new (line ++ x) = record {
@@ -67,7 +67,7 @@ returns-clause-stands g c = λ cap line stands.
           (heard.ensures.stands line start);
       room = c.keep-lost.ensures.room ∙ fits;
       sent = run-sent reads gap cap sent.queue.capacity fits line x frames some quiet is
-          (left_of new.ready new.sent (frame_at new)) new.rest (frames_waiting new)
+          (unsent_of new.ready new.sent (frame_at new)) new.pause (frames_waiting new)
           (c.keep-lost.ensures.sent (length line + (length x - 1))
           (spaced reads gap cap line) before);
     } in
@@ -111,7 +111,7 @@ returns-clause-answer g c = λ cap line stands.
     let is = heard.ensures.answer line start
     ∙ ap (λ d. reads line ++ frames_lent heard.result.start (g.V.Device.lent d))
     (sym c.send_some.ensures.device) in
-    let answer : List Tick = answered n (bytes_left sent) in
+    let answer : List Tick = answered n (bytes_sent sent) in
     let as_long : length answer ≡ length x = c.send_some.ensures.long ∙ sym long in
     let frames = frames_lent heard.result.start (g.V.Device.lent sent.device) in
     let fits = c.send_some.ensures.room ∙ (c.make_ready.ensures.room ∙ stands.room) in
@@ -119,7 +119,7 @@ returns-clause-answer g c = λ cap line stands.
     let run = c.send_some.ensures.sends (length line) accepted
     (c.make_ready.ensures.sent (length line) accepted stands.sent) in
     let before = run-before reads gap cap sent.queue.capacity fits line x frames some quiet is
-    accepted (left_of sent.ready sent.sent (frame_at sent)) sent.rest (frames_waiting sent) answer
+    accepted (unsent_of sent.ready sent.sent (frame_at sent)) sent.pause (frames_waiting sent) answer
     as_long run.sent in
     let lost = frames_lent c.keep-lost.result (g.V.Device.lent c.keep-lost.new.self.device) in
     let answers = run-answers reads gap cap sent.queue.capacity fits line x frames some quiet is
@@ -128,6 +128,6 @@ returns-clause-answer g c = λ cap line stands.
     let last : length line + (length x - 1) ≡ length line + (n - 1) =
     ap (λ k. length line + (k - 1)) long in
     subst (λ b. AnswersSpaced reads gap cap line (take n all) (answered n b)
-    (length line + (n - 1)) lost) (sym c.keep-lost.ensures.left)
+    (length line + (n - 1)) lost) (sym c.keep-lost.ensures.sent)
     (subst (λ y. AnswersSpaced reads gap cap line y answer (length line + (n - 1)) lost) same
     (subst (λ k. AnswersSpaced reads gap cap line x answer k lost) last answers))

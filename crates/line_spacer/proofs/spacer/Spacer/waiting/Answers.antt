@@ -1,6 +1,6 @@
 use Rattle.line_spacer.proofs.Keeping.{one-more, no-more}
 use Rattle.line_spacer.{proofs.Sending.waiting-count, specs.Spacing.accepted_of}
-use Rattle.line_spacer.specs.Stands.{left_of, frame_at, frames_waiting}
+use Rattle.line_spacer.specs.Stands.{unsent_of, frame_at, frames_waiting}
 use Rattle.std.proofs.Common.{◌∙◌, length, sym}
 use Rattle.line_spacer.proofs.spacer.Spacer.waiting.Goals as goal
 
@@ -22,7 +22,7 @@ returns-then-self-clause-count g c = λ cap line stands.
     one-more s.ready (frame_at s) s.queue.frames c.len-queued.result c.if-self.true
     c.len-queued.ensures.count
     ∙ sym (waiting-count g.row.GAP (length line) (accepted_of g.V.Device.reads g.row.GAP cap line)
-    (left_of s.ready s.sent (frame_at s)) s.rest (frames_waiting s) stands.sent)
+    (unsent_of s.ready s.sent (frame_at s)) s.pause (frames_waiting s) stands.sent)
 
 pub returns-clause-count : goal.returns-clause-count
 returns-clause-count g c = λ cap line stands.
@@ -30,4 +30,4 @@ returns-clause-count g c = λ cap line stands.
     no-more s.ready (frame_at s) s.queue.frames c.len-queued.result c.if-self.false
     c.len-queued.ensures.count
     ∙ sym (waiting-count g.row.GAP (length line) (accepted_of g.V.Device.reads g.row.GAP cap line)
-    (left_of s.ready s.sent (frame_at s)) s.rest (frames_waiting s) stands.sent)
+    (unsent_of s.ready s.sent (frame_at s)) s.pause (frames_waiting s) stands.sent)

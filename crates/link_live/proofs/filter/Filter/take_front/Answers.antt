@@ -24,9 +24,9 @@ returns-then-count-eq0 g c =
     none_taken g.B.LinkBox g.B.LineBox.line_of g.P.Port g.D.SlotDisk g.met.B.LineBox.causal
     g.met.D.SlotDisk.only_now (outside c.args.self.now c.args.port.now c.args.disk.now)
     c.take_alike-count.new.line_box c.args.run n _ refl first.0 c.take_alike-count.ensures.taken
-    c.requires.able c.take_alike-count.ensures.link c.if-count-eq0.true (answered n c.take_alike-count.new.left.items)
+    c.requires.able c.take_alike-count.ensures.link c.if-count-eq0.true (answered n c.take_alike-count.new.sent.items)
     (subst (λ run. TakesRun g.B.LinkBox.walking g.B.LinkBox.stands c.args.self.now.line_box
-    c.take_alike-count.new.line_box run (answered n c.take_alike-count.new.left.items)) first.1
+    c.take_alike-count.new.line_box run (answered n c.take_alike-count.new.sent.items)) first.1
     c.take_alike-count.ensures.run)
 
 pub returns-in-Ok : goal.returns-in-Ok
@@ -43,7 +43,7 @@ returns-in-Ok g c =
     c.take_alike-count.new.line_box (take n (run_ticks c.args.run)) (answered n l))
     (sym c.as_slice.ensures.value)
     (subst (λ run. TakesRun g.B.LinkBox.walking g.B.LinkBox.stands c.args.self.now.line_box
-    c.take_alike-count.new.line_box run (answered n c.take_alike-count.new.left.items)) first.1
+    c.take_alike-count.new.line_box run (answered n c.take_alike-count.new.sent.items)) first.1
     c.take_alike-count.ensures.run))
     (c.in-Ok.ensures (answered n lent)
     (subst (λ l. IsTextOf l (answered n lent)) (sym c.as_slice-2.ensures.value)
@@ -63,7 +63,7 @@ returns-in-Err g c =
     c.take_alike-count.new.line_box (take n (run_ticks c.args.run)) (answered n l))
     (sym c.as_slice.ensures.value)
     (subst (λ run. TakesRun g.B.LinkBox.walking g.B.LinkBox.stands c.args.self.now.line_box
-    c.take_alike-count.new.line_box run (answered n c.take_alike-count.new.left.items)) first.1
+    c.take_alike-count.new.line_box run (answered n c.take_alike-count.new.sent.items)) first.1
     c.take_alike-count.ensures.run))
     c.in-Err.field-0 (omega (arith, c.if-count-eq0.false))
     (c.in-Err.ensures (answered n lent)

@@ -6,15 +6,15 @@ use Rattle.replay_lists.proofs.replay_lists.ReplayLists.check_run.Goals as goal
 
 pub hear_answered-requires : goal.hear_answered-requires
 hear_answered-requires g c =
-    omega (arith, c.requires.room, c.requires.ready.level, c.pass_run-count.ensures.within)
+    omega (arith, c.requires.room, c.requires.ready.taken, c.pass_run-count.ensures.within)
 
 pub returns-in-Ok-clause-ready : goal.returns-in-Ok-clause-ready
 returns-in-Ok-clause-ready g c = record {
   sealer = c.requires.ready.sealer;
   checker = c.pass_run-count.ensures.able;
-  level = omega (
+  taken = omega (
     arith,
-    c.requires.ready.level,
+    c.requires.ready.taken,
     c.pass_run-count.ensures.taken,
     c.in-Ok.ensures.taken,
   );

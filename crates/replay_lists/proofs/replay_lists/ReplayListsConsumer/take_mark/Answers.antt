@@ -9,6 +9,6 @@ returns g c = gives-items g.S.FrameBox g.C.FrameBox g.V.Device _ _ _ (record {
   ready = record {
     sealer = c.requires.able.sealer;
     checker = c.requires.able.checker;
-    level = c.requires.able.level;
+    taken = c.requires.able.taken;
   };
 })

@@ -12,7 +12,7 @@ returns-in-Bytes-clause-run g c =
 
 pub returns-in-Silence-clause-run : goal.returns-in-Silence-clause-run
 returns-in-Silence-clause-run g c =
-    let same = run-silence c.rest.result c.args.run c.in-Silence.ticks c.rest.ensures.within
+    let same = run-silence c.keep_silent.result c.args.run c.in-Silence.ticks c.keep_silent.ensures.within
     (ap run_ticks c.in-Silence.is) in
-    takes-run g.R.LineRules g.M.Mac c.args.self.now c.rest.new.self _ _ _ _ same
-    same c.rest.ensures.run
+    takes-run g.R.LineRules g.M.Mac c.args.self.now c.keep_silent.new.self _ _ _ _ same
+    same c.keep_silent.ensures.run

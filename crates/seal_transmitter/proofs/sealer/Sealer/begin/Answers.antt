@@ -9,7 +9,7 @@ returns-then-is_early-clause-step g c = λ last setup line t between.
     begin-early g.R.LineRules g.M.Mac c.args.self.now last setup line c.send.new.self c.send.result
     (record {
       rest = c.send.ensures.rest;
-      left = c.send.ensures.left;
+      unsent = c.send.ensures.unsent;
       answer = c.send.ensures.answer;
     })
     t c.args.byte between

@@ -1,4 +1,4 @@
-use Rattle.link_format.specs.Trailers.{bytes_left}
+use Rattle.link_format.specs.Trailers.{bytes_unsent}
 use Rattle.seal_judgements.specs.{Sealing.Judgement.sealed_with, declared.note.SealNote.SealNote}
 use Rattle.seal_transmitter.proofs.Advancing.{seals-with}
 use Rattle.seal_transmitter.specs.{Answers.CommitsNoted, Between.Judges, Stands.HasTaken}
@@ -11,7 +11,7 @@ pub returns-in_default-clause-err_seals : goal.returns-in_default-clause-err_sea
 returns-in_default-clause-err_seals g c = λ setup line between.
     seals-with g.R.LineRules g.M.Mac g.row.B setup line
     (journal_floor c.args.journal.now) c.args.self.now.earliest_start
-    (bytes_left c.args.self.now.trailer) c.args.self.now.mac between.walks
+    (bytes_unsent c.args.self.now.trailer) c.args.self.now.mac between.walks
     (journal_floor c.args.journal.now + 1) between.is_cut
     (c.in-None.ensures.judged setup (line ++ Silent ∷ []) between.cuts)
 

@@ -16,7 +16,7 @@ returns-then-bytes-eq1-clause-run g c = λ last setup line stands.
     single-byte g.R.LineRules c.args.self.now x (omega arith) in
     let run = c.hear.ensures.run last setup line stands refl in
     let P : List ℕ → Type 0 = λ y. HasTakenRun g.R.LineRules g.M.Mac c.hear.new.self last setup line
-    (map Byte y) (answered (length y) c.put_tick.new.left.items) in
+    (map Byte y) (answered (length y) c.put_tick.new.sent.items) in
     let Q : List Tick → Type 0 = λ a. HasTakenRun g.R.LineRules g.M.Mac c.hear.new.self last setup
     line (Byte (get_or x 0 0) ∷ []) a in
     subst P (sym one) (subst Q (sym c.put_tick.ensures) run)
@@ -39,7 +39,7 @@ put_bytes-requires g c =
 pub returns-clause-run : goal.returns-clause-run
 returns-clause-run g c = λ last setup line stands.
     let x : List ℕ = c.args.bytes.now in
-    let items : List ℕ = c.put_bytes.new.left.items in
+    let items : List ℕ = c.put_bytes.new.sent.items in
     let several = c.if-bytes-eq1.false in
     let other = eqb-false (length x) 0 (sym c.is_empty.ensures ∙ c.if-is_empty.false) in
     let all : Forwards g.R.LineRules c.args.self.now (length x) =

@@ -7,5 +7,5 @@ pub returns-clause-step : goal.returns-clause-step
 returns-clause-step g c = λ last setup line between judge.
     leave-taken g.R.LineRules g.M.Mac c.args.self.now last setup line c.next_tick.new.self
     c.next_tick.result
-    c.start.result c.args.why c.next_tick.ensures.left c.next_tick.ensures.tick
+    c.start.result c.args.why c.next_tick.ensures.unsent c.next_tick.ensures.tick
     between (c.start.ensures (line ++ Silent ∷ []) between.cuts) judge

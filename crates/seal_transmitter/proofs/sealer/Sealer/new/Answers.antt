@@ -6,8 +6,8 @@ use Rattle.seal_transmitter.proofs.sealer.Sealer.new.Goals as goal
 pub returns-clause-stands : goal.returns-clause-stands
 returns-clause-stands g c = λ floor.
     let setup : Setup = setup_of c.args.key.now c.args.dir floor in
-    let P : List ℕ → Type 0 = λ left.
-    Walks g.R.LineRules g.M.Mac g.row.B setup.floor 0 left c.with_key.result setup [] in
+    let P : List ℕ → Type 0 = λ unsent.
+    Walks g.R.LineRules g.M.Mac g.row.B setup.floor 0 unsent c.with_key.result setup [] in
     record {
       direction_is = refl;
       cuts = c.new.ensures.stands;

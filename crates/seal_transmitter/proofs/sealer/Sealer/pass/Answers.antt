@@ -6,7 +6,7 @@ returns-clause-step g c = λ last setup line t cut passing between.
     pass-taken g.R.LineRules g.M.Mac c.args.self.now last setup line c.send.new.self c.send.result
     (record {
       rest = c.send.ensures.rest;
-      left = c.send.ensures.left;
+      unsent = c.send.ensures.unsent;
       answer = c.send.ensures.answer;
     })
     t cut passing between

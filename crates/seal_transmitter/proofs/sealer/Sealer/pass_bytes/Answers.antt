@@ -23,7 +23,7 @@ returns-clause-run g c = λ last setup line stands.
     subst (λ (x : List Tick). HasTakenRun g.R.LineRules g.M.Mac c.send_over.new.self
     last setup line
     (map Byte (take c.put.result c.args.bytes.now)) x)
-    (answered-all c.put.result c.send_over.result.items c.put.new.left.items
+    (answered-all c.put.result c.send_over.result.items c.put.new.sent.items
     c.put.ensures.count c.put.ensures.items)
     (subst (λ n. HasTakenRun g.R.LineRules g.M.Mac c.send_over.new.self
     last setup line

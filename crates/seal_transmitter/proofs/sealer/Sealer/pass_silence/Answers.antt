@@ -5,8 +5,8 @@ use Rattle.yasir_ticks.specs.Ticks.{silent}
 use Rattle.yasir_ticks.specs.declared.tick.Tick.{Tick, TheVariants.Byte}
 use Rattle.seal_transmitter.proofs.sealer.Sealer.pass_silence.Goals as goal
 
-pub returns-then-left-eq0-clause-run : goal.returns-then-left-eq0-clause-run
-returns-then-left-eq0-clause-run g c = λ last setup line stands.
+pub returns-then-unsent-eq0-clause-run : goal.returns-then-unsent-eq0-clause-run
+returns-then-unsent-eq0-clause-run g c = λ last setup line stands.
     subst (λ (x : List Tick). HasTakenRun g.R.LineRules g.M.Mac c.args.self.now
     last setup line (silent 0) x)
     (answered-none 0 c.clear.new.self.items c.clear.ensures)
@@ -17,7 +17,7 @@ returns-clause-run g c = λ last setup line stands.
     subst (λ (x : List Tick). HasTakenRun g.R.LineRules g.M.Mac c.send_some.new.self
     last setup line
     (silent c.put.result) x)
-    (answered-all c.put.result c.send_some.result.items c.put.new.left.items
+    (answered-all c.put.result c.send_some.result.items c.put.new.sent.items
     c.put.ensures.count c.put.ensures.items)
     (subst (λ n. HasTakenRun g.R.LineRules g.M.Mac c.send_some.new.self
     last setup line

@@ -1,4 +1,4 @@
-use Rattle.{frame_ending.specs.SoFar.live_bytes_so_far, link_format.specs.Trailers.bytes_left}
+use Rattle.{frame_ending.specs.SoFar.live_bytes_so_far, link_format.specs.Trailers.bytes_unsent}
 use Rattle.seal_transmitter.proofs.Stepping.{seal-taken}
 use Rattle.std.proofs.Common.{List, [], ◌∷◌, ◌++◌, ◌+◌, ◌≡◌, ◌∙◌, ap, arith, length, length-append}
 use Rattle.std.specs.Int.{w64, to_be_bytes, bytes_high_first}
@@ -19,8 +19,8 @@ returns-clause-step g c = λ last setup line between judge.
     seal-taken g.R.LineRules g.M.Mac c.args.self.now last setup line c.finish-tag.new.self
     c.next_tick.new.self c.next_tick.result
     (c.ticks.result + (g.row.B + c.TAG.result) + c.from.result) c.args.number c.start.result
-    c.len.result (bytes_left c.load.new.self)
-    c.next_tick.ensures.left c.next_tick.ensures.tick between (c.start.ensures line' between.cuts)
+    c.len.result (bytes_unsent c.load.new.self)
+    c.next_tick.ensures.unsent c.next_tick.ensures.tick between (c.start.ensures line' between.cuts)
     (c.len.ensures (live_bytes_so_far g.R.LineRules.rules line') live) judge earliest
     (λ text mac_is.
     let tagged = c.finish-tag.ensures.tag setup.key (text ++ c.to_be_bytes.result)

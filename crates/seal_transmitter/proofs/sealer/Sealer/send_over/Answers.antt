@@ -1,4 +1,4 @@
-use Rattle.{frame_ending.specs.SoFar.start_so_far, link_format.specs.Trailers.bytes_left}
+use Rattle.{frame_ending.specs.SoFar.start_so_far, link_format.specs.Trailers.bytes_unsent}
 use Rattle.seal_transmitter.proofs.RunSteps.{sent-bytes, nothing-taken, early-taken}
 use Rattle.seal_transmitter.specs.Runs.{HasTakenRun}
 use Rattle.std.proofs.Common.{◌≡◌, ◌∙◌, ◌≤◌, ℕ, List, sym, ap, subst, take, map, length, arith}
@@ -17,16 +17,16 @@ returns-then-not-is_early-clause-run g c = λ last setup line stands.
 pub returns-clause-run : goal.returns-clause-run
 returns-clause-run g c = λ last setup line stands.
     let count : ℕ = c.go_on_some-count.result in
-    let left : List ℕ = bytes_left c.args.self.now.trailer in
+    let unsent : List ℕ = bytes_unsent c.args.self.now.trailer in
     let among : List ℕ = take c.min-most.result c.args.bytes.now in
     let most : c.min-most.result ≤ length c.args.bytes.now = omega arith in
     let among_long = length-take-le c.min-most.result c.args.bytes.now most in
     let within = c.go_on_some-count.ensures.within in
-    let size = ap length c.left.ensures.left in
-    let few : count ≤ length left = omega arith in
+    let size = ap length c.unsent.ensures.unsent in
+    let few : count ≤ length unsent = omega arith in
     let fewer : count ≤ c.min-most.result = omega arith in
     let long : length c.send_some.result.items ≡ count =
-    ap length c.send_some.ensures.sent ∙ length-take-le count left few in
+    ap length c.send_some.ensures.sent ∙ length-take-le count unsent few in
     let P : List ℕ → Type 0 = λ x. HasTakenRun g.R.LineRules g.M.Mac
     (record c.args.self.now { cut = c.go_on_some-count.new.self; trailer = c.send_some.new.self })
     last setup line (map Byte x) (map Byte c.send_some.result.items) in
@@ -39,5 +39,5 @@ returns-clause-run g c = λ last setup line stands.
     (c.go_on_some-count.ensures.live line stands.cuts)
     (ltb-true (start_so_far line) c.args.self.now.earliest_start
     (sym (c.is_early.ensures line stands.cuts) ∙ c.if-not-is_early.false))
-    c.send_some.ensures.left
-    (sent-bytes count left few ∙ ap (λ x. map Byte x) (sym c.send_some.ensures.sent)))
+    c.send_some.ensures.unsent
+    (sent-bytes count unsent few ∙ ap (λ x. map Byte x) (sym c.send_some.ensures.sent)))

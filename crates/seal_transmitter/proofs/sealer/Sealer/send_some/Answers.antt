@@ -1,4 +1,4 @@
-use Rattle.{link_format.specs.Trailers.bytes_left, seal_transmitter.proofs.RunSteps.sent-bytes}
+use Rattle.{link_format.specs.Trailers.bytes_unsent, seal_transmitter.proofs.RunSteps.sent-bytes}
 use Rattle.seal_transmitter.{proofs.RunSteps.open-taken, specs.Runs.HasTakenRun}
 use Rattle.std.proofs.Common.{◌≡◌, ◌∙◌, ◌≤◌, ℕ, List, sym, ap, subst, map, length, arith}
 use Rattle.std.proofs.lemmas.List.{length-take-le}
@@ -8,12 +8,12 @@ use Rattle.seal_transmitter.proofs.sealer.Sealer.send_some.Goals as goal
 pub returns-clause-run : goal.returns-clause-run
 returns-clause-run g c = λ last setup line stands.
     let count : ℕ = c.wait_open-count.result in
-    let left : List ℕ = bytes_left c.args.self.now.trailer in
+    let unsent : List ℕ = bytes_unsent c.args.self.now.trailer in
     let within = c.wait_open-count.ensures.within in
-    let size = ap length c.left.ensures.left in
-    let few : count ≤ length left = omega arith in
+    let size = ap length c.unsent.ensures.unsent in
+    let few : count ≤ length unsent = omega arith in
     let long : length c.send_some.result.items ≡ count =
-    ap length c.send_some.ensures.sent ∙ length-take-le count left few in
+    ap length c.send_some.ensures.sent ∙ length-take-le count unsent few in
     let P : ℕ → Type 0 = λ k. HasTakenRun g.R.LineRules g.M.Mac
     (record c.args.self.now { cut = c.wait_open-count.new.cut; trailer = c.send_some.new.self })
     last setup line (silent k) (map Byte c.send_some.result.items) in
@@ -22,5 +22,5 @@ returns-clause-run g c = λ last setup line stands.
     c.wait_open-count.new.cut c.send_some.new.self count (map Byte c.send_some.result.items)
     (c.wait_open-count.ensures.stands line stands.cuts)
     (c.wait_open-count.ensures.open line stands.cuts)
-    c.send_some.ensures.left
-    (sent-bytes count left few ∙ ap (λ x. map Byte x) (sym c.send_some.ensures.sent)))
+    c.send_some.ensures.unsent
+    (sent-bytes count unsent few ∙ ap (λ x. map Byte x) (sym c.send_some.ensures.sent)))

@@ -24,6 +24,6 @@ returns-clause-answers g c = λ setup line before.
     let last = journal_floor c.args.self.now.journal in
     let ran = c.take_alike-count.ensures.run last setup line before.notes in
     subst (λ (l : List Tick). AnswersFrameRun (numbering_of walking setup) line l
-    (answered count c.take_alike-count.new.left.items)) (take-map Byte count c.args.bytes.now)
+    (answered count c.take_alike-count.new.sent.items)) (take-map Byte count c.args.bytes.now)
     (frames-run (walking.walker setup) (g.met.X.NotingBox.causal _ _ setup _ ran.stands)
     walking.brief (walking.begun setup) line _ _ ran.answers walking.frame_in)

@@ -12,11 +12,11 @@ pub settle-requires-clause-room : goal.settle-requires-clause-room
 settle-requires-clause-room g c =
     omega (arith, c.requires.room, ap (λ v. length v.items) c.in-Err.ensures.err)
 
-pub returns-in-Err-clause-level : goal.returns-in-Err-clause-level
-returns-in-Err-clause-level g c = omega (
+pub returns-in-Err-clause-taken : goal.returns-in-Err-clause-taken
+returns-in-Err-clause-taken g c = omega (
   arith,
-  c.hear_bytes.ensures.level,
-  c.settle.ensures.level,
+  c.hear_bytes.ensures.taken,
+  c.settle.ensures.taken,
   ap length c.settle.ensures.none,
   ap (λ v. length v.items) c.in-Err.ensures.err,
 )

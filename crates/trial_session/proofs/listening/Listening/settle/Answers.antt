@@ -5,8 +5,8 @@ use Rattle.trial_session.specs.Sides.{HasHeard}
 use Rattle.trial_session.proofs.HeardRuns.{none-waits, hearing-as, hears-all}
 use Rattle.trial_session.proofs.listening.Listening.settle.Goals as goal
 
-pub returns-then-is_empty-clause-level : goal.returns-then-is_empty-clause-level
-returns-then-is_empty-clause-level g c =
+pub returns-then-is_empty-clause-taken : goal.returns-then-is_empty-clause-taken
+returns-then-is_empty-clause-taken g c =
     let none = eqb-true (length c.args.waiting.now.items) 0 (sym c.if-is_empty.ensures) in
     omega (arith, none)
 
@@ -26,9 +26,9 @@ pub hear_bytes-requires-clause-room : goal.hear_bytes-requires-clause-room
 hear_bytes-requires-clause-room g c =
     omega (arith, c.requires.room, ap length c.as_slice.ensures.value)
 
-pub returns-clause-level : goal.returns-clause-level
-returns-clause-level g c =
-    omega (arith, c.hear_bytes.ensures.level, ap length c.as_slice.ensures.value)
+pub returns-clause-taken : goal.returns-clause-taken
+returns-clause-taken g c =
+    omega (arith, c.hear_bytes.ensures.taken, ap length c.as_slice.ensures.value)
 
 pub returns-clause-heard : goal.returns-clause-heard
 returns-clause-heard g c = λ line so.

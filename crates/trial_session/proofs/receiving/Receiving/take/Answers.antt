@@ -35,7 +35,7 @@ loop-at-preserved g c =
     let long = c.len-at.ensures in (
       omega (arith, before.0, c.run_from-run.ensures.within, long),
       c.take_run.ensures.able,
-      omega (arith, c.take_run.ensures.level, before.2, long),
+      omega (arith, c.take_run.ensures.taken, before.2, long),
       λ line received. subst (IsReceiving g.C.LinkBox g.C.CountingBox.counting g.V.Device
           c.take_run.new.self c.take_run.new.waiting.items)
           (append_assoc line (take at ticks) run
@@ -61,7 +61,7 @@ pub returns-clause-able : goal.returns-clause-able
 returns-clause-able g c = record {
   may_check = c.loop-at.invariant.1.may_check;
   read_few = c.settle.ensures.few;
-  heard_ticks = c.settle.ensures.level ∙ c.loop-at.invariant.1.heard_ticks;
+  heard_ticks = c.settle.ensures.taken ∙ c.loop-at.invariant.1.heard_ticks;
 }
 
 pub returns-clause-received : goal.returns-clause-received

@@ -20,12 +20,12 @@ loop-at-preserved g c =
         read_few = c.hear.ensures.few;
         heard_ticks = omega (
           arith,
-          c.hear.ensures.level,
-          c.send-taken.ensures.level,
+          c.hear.ensures.taken,
+          c.send-taken.ensures.taken,
           before.1.heard_ticks,
         );
       },
-      omega (arith, c.send-taken.ensures.level, before.2),
+      omega (arith, c.send-taken.ensures.taken, before.2),
       λ link received.
           let so = before.3 link received in
           subst (IsReceiving g.C.LinkBox counting g.V.Device _ c.hear.new.waiting.items)

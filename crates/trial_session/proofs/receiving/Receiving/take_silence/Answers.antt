@@ -21,7 +21,7 @@ pub settle-requires-clause-room : goal.settle-requires-clause-room
 settle-requires-clause-room g c = omega (
   arith,
   c.take_run.ensures.able.heard_ticks,
-  c.take_run.ensures.level,
+  c.take_run.ensures.taken,
   c.requires.room,
   length-replicate c.args.ticks Silent,
 )
@@ -30,7 +30,7 @@ pub returns-clause-able : goal.returns-clause-able
 returns-clause-able g c = record {
   may_check = c.take_run.ensures.able.may_check;
   read_few = c.settle.ensures.few;
-  heard_ticks = c.settle.ensures.level ∙ c.take_run.ensures.able.heard_ticks;
+  heard_ticks = c.settle.ensures.taken ∙ c.take_run.ensures.able.heard_ticks;
 }
 
 pub returns-clause-received : goal.returns-clause-received

@@ -24,7 +24,7 @@ loop-at-preserved g c =
     let within = c.send_on-taken.ensures.within in (
       omega (arith, before.0, left, within),
       c.send_on-taken.ensures.able,
-      omega (arith, c.send_on-taken.ensures.level, before.2),
+      omega (arith, c.send_on-taken.ensures.taken, before.2),
       omega (arith, c.send_on-taken.ensures.len, before.3),
       λ line more sent.
           subst (λ l. HasSent g.X.LinkBox g.X.CountingBox.counting c.send_on-taken.new.self line l

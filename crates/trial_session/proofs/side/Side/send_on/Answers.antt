@@ -41,14 +41,14 @@ returns-then-forwarded-gt0-clause-sent g c = λ line more sent.
     g.met.X.CountingBox.counts l _ _ ran.answers))
     (c.add_run.ensures.sent ∙ ap (λ l. link_sent c.args.link.now ++ l) c.front.ensures)
 
-pub send-sent-requires-clause-room : goal.send-sent-requires-clause-room
-send-sent-requires-clause-room g c =
+pub send-taken-requires-clause-room : goal.send-taken-requires-clause-room
+send-taken-requires-clause-room g c =
     omega (arith, c.requires.room, c.forward-forwarded.ensures.taken, c.if-forwarded-gt0.false)
 
-pub returns-clause-level : goal.returns-clause-level
-returns-clause-level g c = omega (
+pub returns-clause-taken : goal.returns-clause-taken
+returns-clause-taken g c = omega (
   arith,
-  c.send-sent.ensures.level,
+  c.send-taken.ensures.taken,
   c.forward-forwarded.ensures.taken,
   c.if-forwarded-gt0.false,
 )
@@ -57,18 +57,18 @@ pub returns-clause-sent : goal.returns-clause-sent
 returns-clause-sent g c = λ line more sent.
     let counting = g.X.CountingBox.counting in
     let none : c.forward-forwarded.result ≡ 0 = omega (arith, c.if-forwarded-gt0.false) in
-    let n = c.send-sent.result in
+    let n = c.send-taken.result in
     let pass = λ (l : List Tick) (t : HasTaken g.X.LinkBox counting c.args.self.now l).
     let ran = c.forward-forwarded.ensures.run (journal_floor c.args.self.now.journal) trial_setup
     l t.stands in
-    passes-as g.X.LinkBox counting c.send-sent.new.self l _ n _ _ c.as_slice.ensures.value
-    (c.send-sent.ensures.sent l
+    passes-as g.X.LinkBox counting c.send-taken.new.self l _ n _ _ c.as_slice.ensures.value
+    (c.send-taken.ensures.sent l
     (passes-none g.X.LinkBox counting _ l _ _
     (ap (λ k. take k (run_ticks c.args.run)) none)
     (passes-run g.X.LinkBox counting c.args.self.now _ l _ _ _ refl ran.stands refl refl refl t
     (counts-run g.X.LinkBox.walking g.X.CountingBox.fate_of counting
     g.met.X.CountingBox.counts l _ _ ran.answers)))) in
-    sends-run g.X.LinkBox counting c.args.self.now c.send-sent.new.self line more _ _
+    sends-run g.X.LinkBox counting c.args.self.now c.send-taken.new.self line more _ _
     (link_sent c.args.link.now) (link_sent c.add.new.self) sent pass
     (c.add.ensures.sent ((pass (line ++ more) sent.taken).long
-    ∙ length-take-le n (run_ticks c.args.run) c.send-sent.ensures.within))
+    ∙ length-take-le n (run_ticks c.args.run) c.send-taken.ensures.within))

@@ -10,7 +10,7 @@ returns-in-Bytes-clause-run g c =
     let same = sym (ap run_ticks c.in-Bytes.is) in
     let long = ap length (ap run_ticks c.in-Bytes.is) ∙ length-map c.in-Bytes.bytes.now Byte in
     takes-run g.R.LineRules g.M.Mac c.args.self.now c.follow_bytes.new.self _ _ _ _ same
-    (ap (λ n. answered n c.follow_bytes.new.left.items) (sym long)) c.follow_bytes.ensures.run
+    (ap (λ n. answered n c.follow_bytes.new.sent.items) (sym long)) c.follow_bytes.ensures.run
 
 pub returns-in-Silence-clause-run : goal.returns-in-Silence-clause-run
 returns-in-Silence-clause-run g c =
@@ -18,4 +18,4 @@ returns-in-Silence-clause-run g c =
     let long = ap length (ap run_ticks c.in-Silence.is)
     ∙ length-replicate c.in-Silence.ticks Silent in
     takes-run g.R.LineRules g.M.Mac c.args.self.now c.follow_silence.new.self _ _ _ _ same
-    (ap (λ n. answered n c.follow_silence.new.left.items) (sym long)) c.follow_silence.ensures.run
+    (ap (λ n. answered n c.follow_silence.new.sent.items) (sym long)) c.follow_silence.ensures.run

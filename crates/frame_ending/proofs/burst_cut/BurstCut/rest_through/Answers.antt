@@ -1,6 +1,6 @@
 use Rattle.std.proofs.Common.{◌+◌, arith}
 use Rattle.frame_ending.proofs.Runs.{stands-silence, cuts-silence}
-use Rattle.frame_ending.proofs.burst_cut.BurstCut.rest.Goals as goal
+use Rattle.frame_ending.proofs.burst_cut.BurstCut.rest_through.Goals as goal
 
 pub returns-clause-stands : goal.returns-clause-stands
 returns-clause-stands g c = λ line old.

@@ -1,13 +1,13 @@
 use Rattle.std.proofs.Common.{◌++◌, [], ap, sym, arith, length}
 use Rattle.yasir_ticks.specs.Ticks.{silent}
 use Rattle.trial_session.proofs.HeardRuns.{hearing-as, hears-none}
-use Rattle.trial_session.proofs.listening.Listening.rest.Goals as goal
+use Rattle.trial_session.proofs.listening.Listening.hear_silence.Goals as goal
 
-pub returns-clause-level : goal.returns-clause-level
-returns-clause-level g c = omega (
+pub returns-clause-taken : goal.returns-clause-taken
+returns-clause-taken g c = omega (
   arith,
-  c.wait.ensures.level,
-  c.settle.ensures.level,
+  c.wait.ensures.taken,
+  c.settle.ensures.taken,
   ap length c.settle.ensures.none,
 )
 
