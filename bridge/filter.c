@@ -72,12 +72,12 @@ static void step(int is_byte, uint8_t byte)
 static void run(const uint8_t *bytes, uint64_t count)
 {
     while (count > 0) {
-        uint8_t left[YASIR_RUN_LEN];
-        size_t left_count = 0, i;
+        uint8_t sent[YASIR_RUN_LEN];
+        size_t sent_count = 0, i;
         uint32_t most = count > UINT32_MAX ? UINT32_MAX : (uint32_t)count;
-        size_t taken = bytes ? yasir_take_bytes(&box, bytes, most, left, sizeof left, &left_count)
-                             : yasir_take_silence(&box, most, left, sizeof left, &left_count);
-        for (i = 0; i < taken; i++) put_tick(left_count > 0, left_count > 0 ? left[i] : 0);
+        size_t taken = bytes ? yasir_take_bytes(&box, bytes, most, sent, sizeof sent, &sent_count)
+                             : yasir_take_silence(&box, most, sent, sizeof sent, &sent_count);
+        for (i = 0; i < taken; i++) put_tick(sent_count > 0, sent_count > 0 ? sent[i] : 0);
         if (taken == 0) {
             step(bytes != NULL, bytes ? *bytes : 0);
             taken = 1;

@@ -93,15 +93,15 @@ uint8_t yasir_step(yasir_handle *handle, uint16_t tick, yasir_answer *answer, ui
                    size_t slot_len);
 
 /* Takes the first of these bytes, one a tick, as far as the box answers all of them with silence or
- * all of them with bytes, without a note and with nothing to write. Returns how many. `left` has
- * room for 64 bytes and gets those of the answer, one for each tick; *left_count says how many, 0
+ * all of them with bytes, without a note and with nothing to write. Returns how many. `sent` has
+ * room for 64 bytes and gets those of the answer, one for each tick; *sent_count says how many, 0
  * where the answer is silence. With 0 ticks taken go on by yasir_step. */
-size_t yasir_take_bytes(yasir_handle *handle, const uint8_t *bytes, size_t len, uint8_t *left,
-                        size_t left_len, size_t *left_count);
+size_t yasir_take_bytes(yasir_handle *handle, const uint8_t *bytes, size_t len, uint8_t *sent,
+                        size_t sent_len, size_t *sent_count);
 
 /* The same of so many silent ticks. */
-size_t yasir_take_silence(yasir_handle *handle, uint32_t ticks, uint8_t *left, size_t left_len,
-                          size_t *left_count);
+size_t yasir_take_silence(yasir_handle *handle, uint32_t ticks, uint8_t *sent, size_t sent_len,
+                          size_t *sent_count);
 
 /* The last number that the box used. */
 uint64_t yasir_floor(yasir_handle *handle);

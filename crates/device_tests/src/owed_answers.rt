@@ -51,7 +51,7 @@ fn give_all<B: Spaces>(
 {
     while given.owed > 0 {
         let run = spacer.give_some(given.owed, read);
-        add_run(&mut given.ticks, &run, spacer.left_bytes())?;
+        add_run(&mut given.ticks, &run, spacer.sent_bytes())?;
         if let Some(start) = run.lost {
             given
                 .lost
@@ -297,7 +297,7 @@ fn a_frame_without_room_is_not_queued(rt: HostRuntime) -> Result<(), Fail> {
     spacer.hear_some(TickRun::Silence(50));
     let run = spacer.give_some(50, None);
     assert_eq!(rt; (run.taken, run.lost), (50, None));
-    assert_eq!(rt; (spacer.left_bytes().len(), spacer.waiting()), (0, 0));
+    assert_eq!(rt; (spacer.sent_bytes().len(), spacer.waiting()), (0, 0));
     Ok(())
 }
 
@@ -322,6 +322,6 @@ fn a_frame_leaves_at_once(rt: HostRuntime) -> Result<(), Fail> {
     hear_run(&mut spacer, TickRun::Bytes(&frame), lines, &mut given)?;
     let run = spacer.give_some(256, None);
     assert_eq!(rt; (given.owed, run.taken, run.lost), (256, 256, None));
-    assert_eq!(rt; spacer.left_bytes(), frame.as_slice());
+    assert_eq!(rt; spacer.sent_bytes(), frame.as_slice());
     Ok(())
 }

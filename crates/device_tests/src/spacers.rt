@@ -125,7 +125,7 @@ pub trait Spaces {
         ensures within { result.taken ≤ owed }
         ensures taken { taken self.new ≡ taken self.old };
 
-    fn left_bytes(&self) -> &[u8];
+    fn sent_bytes(&self) -> &[u8];
 
     fn waiting(&self) -> usize;
 }
@@ -155,8 +155,8 @@ impl<V: Device, const GAP: usize> Spaces for Spacer<V, GAP> {
         Spacer::give_some(self, owed, read)
     }
 
-    fn left_bytes(&self) -> &[u8] {
-        Spacer::left_bytes(self)
+    fn sent_bytes(&self) -> &[u8] {
+        Spacer::sent_bytes(self)
     }
 
     fn waiting(&self) -> usize {
@@ -363,7 +363,7 @@ fn take_all<B: Spaces>(
     let mut runs: u32 = 0;
     while !following.is_empty() {
         let some = spacer.take_some(following);
-        add_run(line, &some, spacer.left_bytes())?;
+        add_run(line, &some, spacer.sent_bytes())?;
         following = following.behind(some.taken);
         runs = runs.saturating_add(1);
     }

@@ -424,7 +424,7 @@ impl<V: Device, const GAP: usize> Spacer<V, GAP> {
     fn tick_left(&self) -> Tick
         ensures { result ≡ tick_of 0 (bytes_sent self.now) 0 }
     {
-        match self.left_bytes().first() {
+        match self.sent_bytes().first() {
             Some(byte) => Tick::Byte(*byte),
             None => Tick::Silent,
         }
@@ -465,7 +465,7 @@ impl<V: Device, const GAP: usize> Spacer<V, GAP> {
 
     /// The bytes that left in the last ticks taken, one in each; none where silence left.
     #[inline(always)]
-    pub fn left_bytes(&self) -> &[u8]
+    pub fn sent_bytes(&self) -> &[u8]
         ensures { result.now ≡ bytes_sent self.now }
     {
         &self.room[self.before..self.sent]

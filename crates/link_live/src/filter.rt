@@ -162,10 +162,10 @@ impl<B: LineBox> Filter<B> {
             (outside self.old port.old disk.old) (outside self.new port.new disk.new)
             (run_items run.entry) result }
     {
-        let mut left = run;
-        while !left.is_empty() {
-            match self.take_some(port, disk, left) {
-                Ok(count) => left = left.behind(count),
+        let mut following = run;
+        while !following.is_empty() {
+            match self.take_some(port, disk, following) {
+                Ok(count) => following = following.behind(count),
                 Err(stop) => return Err(stop),
             }
         }

@@ -65,10 +65,10 @@ fn push_answer<B: LineSpacer, O: Sink, L: Sink>(
 ) -> Result<(), Failed>
     requires { run.taken < 2 ^ 32 }
     ensures { Pushes O.Sink L.Sink (writing texts.old out.old log.old)
-        (writing texts.new out.new log.new) (answered run.taken (B.left spacer.now))
+        (writing texts.new out.new log.new) (answered run.taken (B.sent spacer.now))
         (lost_lines (frames_lent run.lost (B.lent spacer.now))) result }
 {
-    let answer = answer_run(run.taken as u32, spacer.left_bytes());
+    let answer = answer_run(run.taken as u32, spacer.sent_bytes());
     match run.lost {
         None => push_run(texts, out, log, answer),
         Some(start) => push_lost(texts, out, log, start, spacer.frame_bytes(), answer),

@@ -39,7 +39,7 @@ pub trait LineSpacer: Drop {
     ghost taken: { Self → ℕ };
 
     /// The bytes that it lends of the other line: those that left in the last ticks answered.
-    ghost left: { Self → List ℕ };
+    ghost sent: { Self → List ℕ };
 
     /// The bytes that it lends: those of a frame that is lost, where the last call says so.
     ghost lent: { Self → List ℕ };
@@ -91,12 +91,12 @@ pub trait LineSpacer: Drop {
         ensures answer { (line ticks : List Tick) → length ticks ≡ owed
             → owes self.old line ticks (frames_lent read (lent self.old))
             → AnswersSpaced reads gap most_waiting line (take result.taken ticks)
-            (answered result.taken (left self.new)) (length line + (result.taken - 1))
+            (answered result.taken (sent self.new)) (length line + (result.taken - 1))
             (frames_lent result.lost (lent self.new)) };
 
     /// The bytes that left in the last ticks answered, one in each; none where silence left.
-    fn left_bytes(&self) -> &[u8]
-        ensures { result.now ≡ left self.now };
+    fn sent_bytes(&self) -> &[u8]
+        ensures { result.now ≡ sent self.now };
 
     /// The bytes of the frame that was read in the last tick taken.
     fn frame_bytes(&self) -> &[u8]
@@ -118,7 +118,7 @@ impl<V: Device + Drop, const GAP: usize> LineSpacer for Spacer<V, GAP> {
 
     ghost taken = { ticks_taken V.Device };
 
-    ghost left = { bytes_sent };
+    ghost sent = { bytes_sent };
 
     ghost lent = { bytes_lent V.lent };
 
@@ -142,8 +142,8 @@ impl<V: Device + Drop, const GAP: usize> LineSpacer for Spacer<V, GAP> {
     }
 
     #[inline(always)]
-    fn left_bytes(&self) -> &[u8] {
-        Spacer::left_bytes(self)
+    fn sent_bytes(&self) -> &[u8] {
+        Spacer::sent_bytes(self)
     }
 
     #[inline(always)]

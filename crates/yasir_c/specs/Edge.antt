@@ -149,14 +149,14 @@ module _ (rtu : LineRules Rtu) (dnp : LineRules Dnp) (short : Mac (Hmac Sha1Hash
   StepsBy old new number answer_old answer_new slot_old slot_new Is.Full =
       IsAsItWas old new answer_old answer_new slot_old slot_new × HoldsFull old
 
-  -- The box in a handle has taken the first ticks of a run, and `left` begins with what leaves.
-  pub record TakesAt (old new : Option Held) (run : List Tick) (left : List ℕ)
-      (left_count result : ℕ) : Type 0 where
+  -- The box in a handle has taken the first ticks of a run, and `sent` begins with what leaves.
+  pub record TakesAt (old new : Option Held) (run : List Tick) (sent : List ℕ)
+      (sent_count result : ℕ) : Type 0 where
     pub before : HeldBox
     pub after : HeldBox
     pub old_is : old ≡ Some (LineBox before)
     pub new_is : new ≡ Some (LineBox after)
     pub within : result ≤ length run
-    pub room : left_count ≤ length left
+    pub room : sent_count ≤ length sent
     pub takes : TakesHeld rtu dnp short long before after (take result run)
-        (answered result (take left_count left))
+        (answered result (take sent_count sent))

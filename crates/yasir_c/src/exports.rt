@@ -29,7 +29,7 @@ use yasir_ticks::{Tick, TickRun};
 const SILENT: u16 = 256;
 
 /// How many bytes a run leaves at most.
-const MAX_LEFT: usize = 64;
+const MAX_SENT: usize = 64;
 
 fn slot_in(slots: &[u8], first: usize) -> SlotBytes
     requires { first + 24 ≤ length slots.now }
@@ -172,15 +172,15 @@ pub extern "C" fn yasir_step(
     step(alloc, handle, tick, answer, slot).number()
 }
 
-// Puts what a run leaves to the front of `left`, and says how many bytes that are.
-fn put_left(left: &mut [u8], bytes: &RunBytes) -> usize
-    requires { 64 ≤ length left.old }
-    ensures front { take result left.new ≡ bytes.now.items }
-    ensures within { result ≤ length left.new }
-    ensures room { length left.new ≡ length left.old }
+// Puts what a run leaves to the front of `sent`, and says how many bytes that are.
+fn put_sent(sent: &mut [u8], bytes: &RunBytes) -> usize
+    requires { 64 ≤ length sent.old }
+    ensures front { take result sent.new ≡ bytes.now.items }
+    ensures within { result ≤ length sent.new }
+    ensures room { length sent.new ≡ length sent.old }
 {
     let count = bytes.len();
-    left[..count].copy_from_slice(bytes.as_slice());
+    sent[..count].copy_from_slice(bytes.as_slice());
     count
 }
 
@@ -189,24 +189,24 @@ fn take_run(
     alloc: Global,
     handle: &mut Handle,
     run: TickRun<'_>,
-    left: &mut [u8],
-    left_count: &mut usize,
+    sent: &mut [u8],
+    sent_count: &mut usize,
 ) -> usize
     requires { HoldsBox handle.old.value }
     ensures holds { HoldsBox handle.new.value }
     ensures takes { TakesAt ⟦<Rtu as LineRules>⟧ ⟦<Dnp as LineRules>⟧ ⟦<HmacSha1 as Mac>⟧
         ⟦<HmacSha256 as Mac>⟧ handle.old.value handle.new.value (run_ticks run.entry)
-        left.new left_count.new result }
+        sent.new sent_count.new result }
 {
-    *left_count = 0;
-    if left.len() < MAX_LEFT {
+    *sent_count = 0;
+    if sent.len() < MAX_SENT {
         return 0;
     }
     let mut bytes = RunBytes::new();
     let mut held = taken_out(alloc, handle);
     let taken = held.take_alike(run, &mut bytes);
     put_in(handle, held);
-    *left_count = put_left(left, &bytes);
+    *sent_count = put_sent(sent, &bytes);
     taken
 }
 
@@ -217,16 +217,16 @@ pub extern "C" fn yasir_take_bytes(
     alloc: Global,
     handle: &mut Handle,
     bytes: &[u8],
-    left: &mut [u8],
-    left_count: &mut usize,
+    sent: &mut [u8],
+    sent_count: &mut usize,
 ) -> usize
     requires { HoldsBox handle.old.value }
     ensures holds { HoldsBox handle.new.value }
     ensures takes { TakesAt ⟦<Rtu as LineRules>⟧ ⟦<Dnp as LineRules>⟧ ⟦<HmacSha1 as Mac>⟧
         ⟦<HmacSha256 as Mac>⟧ handle.old.value handle.new.value (map Byte bytes.now)
-        left.new left_count.new result }
+        sent.new sent_count.new result }
 {
-    take_run(alloc, handle, TickRun::Bytes(bytes), left, left_count)
+    take_run(alloc, handle, TickRun::Bytes(bytes), sent, sent_count)
 }
 
 /// Takes the first of this many silent ticks, as far as the box answers them alike, without a note
@@ -236,16 +236,16 @@ pub extern "C" fn yasir_take_silence(
     alloc: Global,
     handle: &mut Handle,
     ticks: u32,
-    left: &mut [u8],
-    left_count: &mut usize,
+    sent: &mut [u8],
+    sent_count: &mut usize,
 ) -> usize
     requires { HoldsBox handle.old.value }
     ensures holds { HoldsBox handle.new.value }
     ensures takes { TakesAt ⟦<Rtu as LineRules>⟧ ⟦<Dnp as LineRules>⟧ ⟦<HmacSha1 as Mac>⟧
         ⟦<HmacSha256 as Mac>⟧ handle.old.value handle.new.value (silent ticks)
-        left.new left_count.new result }
+        sent.new sent_count.new result }
 {
-    take_run(alloc, handle, TickRun::Silence(ticks), left, left_count)
+    take_run(alloc, handle, TickRun::Silence(ticks), sent, sent_count)
 }
 
 /// The last number that the box used.

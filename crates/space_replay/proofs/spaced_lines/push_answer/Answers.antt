@@ -7,10 +7,10 @@ use Rattle.space_replay.proofs.spaced_lines.push_answer.Goals as goal
 
 pub returns-in-None : goal.returns-in-None
 returns-in-None g c =
-    let left = g.B.LineSpacer.left c.args.spacer.now in
+    let left = g.B.LineSpacer.sent c.args.spacer.now in
     let lent = g.B.LineSpacer.lent c.args.spacer.now in
     let same : run_ticks c.answer_run-answer.result ≡ answered c.args.run.taken left =
-    c.answer_run-answer.ensures ∙ ap (answered c.args.run.taken) c.left_bytes.ensures in
+    c.answer_run-answer.ensures ∙ ap (answered c.args.run.taken) c.sent_bytes.ensures in
     subst (λ note. Pushes g.O.Sink g.L.Sink
     (writing c.args.texts.now c.args.out.now c.args.log.now)
     (writing c.push_run.new.texts c.push_run.new.out c.push_run.new.log)
@@ -23,10 +23,10 @@ returns-in-None g c =
 
 pub returns-in-Some : goal.returns-in-Some
 returns-in-Some g c =
-    let left = g.B.LineSpacer.left c.args.spacer.now in
+    let left = g.B.LineSpacer.sent c.args.spacer.now in
     let lent = g.B.LineSpacer.lent c.args.spacer.now in
     let same : run_ticks c.answer_run-answer.result ≡ answered c.args.run.taken left =
-    c.answer_run-answer.ensures ∙ ap (answered c.args.run.taken) c.left_bytes.ensures in
+    c.answer_run-answer.ensures ∙ ap (answered c.args.run.taken) c.sent_bytes.ensures in
     subst (λ note. Pushes g.O.Sink g.L.Sink
     (writing c.args.texts.now c.args.out.now c.args.log.now)
     (writing c.push_lost.new.texts c.push_lost.new.out c.push_lost.new.log)

@@ -4,15 +4,15 @@ use Rattle.yasir_c.{proofs.NoneTaken.takes-none, specs.declared.held.Held.TheVar
 use Rattle.yasir_ticks.specs.TickRun.{run_ticks}
 use Rattle.yasir_c.proofs.exports.take_run.Goals as goal
 
-pub returns-then-left-lt-MAX_LEFT-clause-takes : goal.returns-then-left-lt-MAX_LEFT-clause-takes
-returns-then-left-lt-MAX_LEFT-clause-takes c = record {
+pub returns-then-sent-lt-MAX_SENT-clause-takes : goal.returns-then-sent-lt-MAX_SENT-clause-takes
+returns-then-sent-lt-MAX_SENT-clause-takes c = record {
   before = c.requires.0;
   after = c.requires.0;
   old_is = c.requires.1;
   new_is = c.requires.1;
   within = omega arith;
   room = omega arith;
-  takes = takes-none _ _ _ _ c.requires.0 (run_ticks c.args.run) c.args.left.now;
+  takes = takes-none _ _ _ _ c.requires.0 (run_ticks c.args.run) c.args.sent.now;
 }
 
 pub take_alike-taken-requires : goal.take_alike-taken-requires
@@ -34,6 +34,6 @@ returns-clause-takes c =
           c.deref_mut.ensures.value made.old_is;
       new_is = c.put_in.ensures ∙ ap Some made.new_is;
       within = c.take_alike-taken.ensures.within;
-      room = c.put_left.ensures.within;
-      takes = rw c.put_left.ensures.front made.takes;
+      room = c.put_sent.ensures.within;
+      takes = rw c.put_sent.ensures.front made.takes;
     }

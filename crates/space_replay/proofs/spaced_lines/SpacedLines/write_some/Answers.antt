@@ -9,7 +9,7 @@ returns-in-Ok g c =
     let gave = c.give_front-answer in
     let spacer = g.B.LineSpacer in
     let n = gave.result.taken in
-    let left = spacer.left gave.new.self in
+    let left = spacer.sent gave.new.self in
     let lost = frames_lent gave.result.lost (spacer.lent gave.new.self) in
     let wrote = c.in-Ok.ensures.writes in
     some_written spacer g.O.Sink g.L.Sink c.args.self.now _ c.args.owed c.args.read n
@@ -37,7 +37,7 @@ returns-in-Err g c =
     let gave = c.give_front-answer in
     let spacer = g.B.LineSpacer in
     let n = gave.result.taken in
-    let left = spacer.left gave.new.self in
+    let left = spacer.sent gave.new.self in
     let lost = frames_lent gave.result.lost (spacer.lent gave.new.self) in
     let wrote = c.in-Err.ensures.writes in
     some_stopped spacer g.O.Sink g.L.Sink c.args.self.now _ c.args.owed c.args.read n
