@@ -234,18 +234,18 @@ fn read_lines(
     let mut reader = TickReader::new(0);
     let mut seen = Seen::none(alloc);
     for part in parts {
-        let mut rest = part;
+        let mut following = part;
         for _ in 0..9 {
-            if rest.is_empty() {
+            if following.is_empty() {
                 break;
             }
-            assert!(rt; reader.line() < 9 && rest.len() < 999);
-            let fed = reader.feed_line(rest);
+            assert!(rt; reader.line() < 9 && following.len() < 999);
+            let fed = reader.feed_line(following);
             match fed.line {
                 Ok(content) => seen.take_line(content, reader.line_bytes())?,
                 Err(bad) => return Ok(Err(refused_for_good(rt, reader, bad))),
             }
-            rest = &rest[fed.taken..];
+            following = &following[fed.taken..];
         }
     }
     match reader.finish() {
@@ -336,4 +336,51 @@ fn cuts_runs_in_two(rt: HostRuntime) {
     assert_eq!(rt; silence.first(), Tick::Silent);
     assert_eq!(rt; silence.behind(1).len(), 3);
     assert!(rt; silence.front(0).is_empty());
+}
+
+/// A line with others behind it, up to the 66 bytes that a usual line is looked for in.
+fn line_in_front(alloc: Global, line: &[u8]) -> Result<Vec<u8>, Fail> {
+    let mut text = Vec::new(alloc);
+    text.extend_from_slice(line)?;
+    while text.len() < 66 {
+        text.push(b'\n')?;
+    }
+    Ok(text)
+}
+
+// No clause says which lines are taken at once: each line of 1 to 32 bytes is.
+#[test]
+fn takes_a_line_of_bytes_at_once(rt: HostRuntime) -> Result<(), Fail> {
+    const LINE: &[u8] = b"+000102030405060708090a0b0c0d0e0f101112131415161718191a1b1c1d1e1f";
+    for count in 1..=32 {
+        let mut text = Vec::new(rt.alloc());
+        text.extend_from_slice(&LINE[..1 + 2 * count])?;
+        text.push(b'\n')?;
+        let text = line_in_front(rt.alloc(), text.as_slice())?;
+        let mut reader = TickReader::new(0);
+        let taken = reader.take_usual(text.as_slice()).map(|line| line.taken);
+        assert_eq!(rt; taken, Some(2 + 2 * count));
+        assert_eq!(rt; reader.line_bytes().len(), count);
+    }
+    Ok(())
+}
+
+// No clause says which lines are taken at once: each line of up to 999,999 silent ticks is.
+#[test]
+fn takes_a_line_of_silence_at_once(rt: HostRuntime) -> Result<(), Fail> {
+    const LINES: [&[u8]; 6] = [
+        b"-1\n",
+        b"-21\n",
+        b"-300\n",
+        b"-9999\n",
+        b"-18000\n",
+        b"-999999\n",
+    ];
+    for line in LINES {
+        let text = line_in_front(rt.alloc(), line)?;
+        let mut reader = TickReader::new(0);
+        let taken = reader.take_usual(text.as_slice()).map(|line| line.taken);
+        assert_eq!(rt; taken, Some(line.len()));
+    }
+    Ok(())
 }
