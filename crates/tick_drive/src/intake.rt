@@ -11,8 +11,8 @@ use yasir_ticks::{Content, FedLine, Run, TickReader, UsualLine};
 #[cfg(test)]
 mod turn_tests;
 
-// How many bytes a line of bytes has at most, with its first byte and its LF.
-const USUAL: usize = 66;
+// How many bytes a line has at most with its LF: a comment of 120 bytes behind its `#`.
+const USUAL: usize = 122;
 
 /// How many bytes of an input are read at most.
 pub const MAX_INPUT_BYTES: u32 = 268_435_456;
@@ -56,8 +56,8 @@ impl Intake {
         self.reader.line_bytes()
     }
 
-    /// Meets a line of bytes or of silent ticks of the usual form, where all of it is kept and what is
-    /// kept is longer than such a line can be. Returns what it stands for.
+    /// Meets a line of the usual form: of bytes, of silent ticks, or a comment. It does so where as
+    /// many bytes are kept as the longest line has. Returns what the line stands for.
     #[inline(always)]
     pub fn usual_line(&mut self) -> Option<Content>
         ensures answer { IfSome result (λ content. (marks : ℕ) (before now : Option (List ℕ))

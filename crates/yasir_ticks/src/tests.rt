@@ -338,11 +338,11 @@ fn cuts_runs_in_two(rt: HostRuntime) {
     assert!(rt; silence.front(0).is_empty());
 }
 
-/// A line with others behind it, up to the 66 bytes that a usual line is looked for in.
+/// A line with others behind it, up to the 122 bytes that the longest line has.
 fn line_in_front(alloc: Global, line: &[u8]) -> Result<Vec<u8>, Fail> {
     let mut text = Vec::new(alloc);
     text.extend_from_slice(line)?;
-    while text.len() < 66 {
+    while text.len() < 122 {
         text.push(b'\n')?;
     }
     Ok(text)
@@ -381,6 +381,24 @@ fn takes_a_line_of_silence_at_once(rt: HostRuntime) -> Result<(), Fail> {
         let mut reader = TickReader::new(0);
         let taken = reader.take_usual(text.as_slice()).map(|line| line.taken);
         assert_eq!(rt; taken, Some(line.len()));
+    }
+    Ok(())
+}
+
+// No clause says which lines are taken at once: each comment is.
+#[test]
+fn takes_a_comment_at_once(rt: HostRuntime) -> Result<(), Fail> {
+    for count in 0..=120 {
+        let mut text = Vec::new(rt.alloc());
+        text.push(b'#')?;
+        for _ in 0..count {
+            text.push(b'c')?;
+        }
+        text.push(b'\n')?;
+        let text = line_in_front(rt.alloc(), text.as_slice())?;
+        let mut reader = TickReader::new(0);
+        let taken = reader.take_usual(text.as_slice()).map(|line| line.taken);
+        assert_eq!(rt; taken, Some(2 + count));
     }
     Ok(())
 }

@@ -298,23 +298,8 @@ impl TickReader {
         }
     }
 
-    // A line of bytes or of silent ticks behind its first byte, where it has one of the usual forms.
-    #[inline(always)]
-    fn take_ticks(&mut self, sign: u8, bytes: &[u8]) -> Option<Whole>
-        requires place { self.old.place ≡ Start }
-        requires line { reader_line self.old < 2 ^ 32 - 1 }
-        ensures whole { IfSome result (TakesWhole self.old sign bytes.now self.new) }
-        ensures none { result ≡ None → self.new ≡ self.old }
-    {
-        match sign {
-            b'+' => self.take_bytes_line(bytes),
-            b'-' => self.take_silence_line(bytes),
-            _ => None,
-        }
-    }
-
-    /// Takes the line at the front, where it is one of bytes or of silent ticks and stands with its
-    /// LF in the first 66 bytes: a line of bytes is no longer. It is as if its bytes were fed one
+    /// Takes the line at the front, where it is one of bytes, of silent ticks or a comment, and at
+    /// least 122 bytes are given: no line with its LF is longer. It is as if its bytes were fed one
     /// by one; the bytes of a `+` line are lent by `line_bytes`.
     #[inline(always)]
     pub fn take_usual(&mut self, bytes: &[u8]) -> Option<UsualLine>
@@ -327,10 +312,10 @@ impl TickReader {
         let Place::Start = self.place else {
             return None;
         };
-        if bytes.len() < 66 {
+        if bytes.len() < 122 {
             return None;
         }
-        match self.take_ticks(bytes[0], &bytes[1..]) {
+        match self.take_behind(bytes[0], &bytes[1..]) {
             Some(Whole { len, content }) => Some(UsualLine {
                 taken: len + 2,
                 content,

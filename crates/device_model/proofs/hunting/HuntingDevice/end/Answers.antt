@@ -1,4 +1,4 @@
-use Rattle.device_model.proofs.HuntSteps.{takes-following, empty-held}
+use Rattle.device_model.proofs.HuntSteps.{takes-rest, empty-held}
 use Rattle.device_model.specs.Hunt.{header_in}
 use Rattle.std.proofs.Common.{◌∙◌, sym, ap, drop, refl, arith}
 use Rattle.std.proofs.lemmas.{Bool.cond-true, Bool.cond-false, List.take_rest}
@@ -10,7 +10,7 @@ returns-then-not-good-clause-goes g c = λ lacking long stands room.
     let n = c.min-header.result in
     let header = g.met.R.Hunted.header in
     let value = c.as_slice.ensures.value in
-    let all = takes-following g.R.LineRules g.R.Hunted.FIRST g.R.Hunted.SECOND g.met.R.Hunted.hunted
+    let all = takes-rest g.R.LineRules g.R.Hunted.FIRST g.R.Hunted.SECOND g.met.R.Hunted.hunted
     c.take_some.new.self items _ n c.take_some.result (omega arith) (omega arith)
     (take_rest c.as_slice.result.now n ∙ ap (drop n) value) room
     (c.take_some.ensures.stands (header_in g.R.LineRules.rules items) stands)
@@ -28,7 +28,7 @@ returns-clause-goes g c = λ lacking long stands room.
     let n = c.min-header.result in
     let header = g.met.R.Hunted.header in
     let value = c.as_slice.ensures.value in
-    let all = takes-following g.R.LineRules g.R.Hunted.FIRST g.R.Hunted.SECOND g.met.R.Hunted.hunted
+    let all = takes-rest g.R.LineRules g.R.Hunted.FIRST g.R.Hunted.SECOND g.met.R.Hunted.hunted
     c.take_some.new.self items _ n c.take_some.result (omega arith) (omega arith)
     (take_rest c.as_slice.result.now n ∙ ap (drop n) value) room
     (c.take_some.ensures.stands (header_in g.R.LineRules.rules items) stands)

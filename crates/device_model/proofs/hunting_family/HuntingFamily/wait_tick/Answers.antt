@@ -24,7 +24,7 @@ returns-clause-stands g c = λ cut line heard.
     c.lose.ensures.ticks c.wait.ensures.quiet g.met.R.Hunted.hunted
     (sym c.wait.ensures.parts ∙ c.if-not-wait.false)
     (empty-held c.lose.new.self c.lose.ensures.lends c.lose.ensures.bytes)
-    c.lose.ensures.left).stands
+    c.lose.ensures.lacking).stands
 
 pub returns-clause-answer : goal.returns-clause-answer
 returns-clause-answer g c = λ cut line heard.
@@ -33,4 +33,4 @@ returns-clause-answer g c = λ cut line heard.
     c.lose.ensures.ticks c.wait.ensures.quiet g.met.R.Hunted.hunted
     (sym c.wait.ensures.parts ∙ c.if-not-wait.false)
     (empty-held c.lose.new.self c.lose.ensures.lends c.lose.ensures.bytes)
-    c.lose.ensures.left).is
+    c.lose.ensures.lacking).is
