@@ -13,7 +13,7 @@ pub trait RoomTelling: LineRules {
         ensures { (x more : List ℕ) → Self.stands self.now x → length more ≤ result
             → length (x ++ more) ≤ Self.rules.room (x ++ more) }
     {
-        self.left()
+        self.lacking()
     }
 }
 

@@ -357,7 +357,7 @@ impl<R: LineRules, M: Mac, const B: usize> Sealer<R, M, B> {
             (silent result) (answered result sent.new.items) }
         ensures direction { direction_of self.new ≡ direction_of self.old }
     {
-        if self.trailer.sent().len() == 0 {
+        if self.trailer.unsent().len() == 0 {
             sent.clear();
             return 0;
         }

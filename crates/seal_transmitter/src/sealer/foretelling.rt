@@ -127,7 +127,7 @@ impl<R: LineRules, M: Mac, const B: usize> Sealer<R, M, B> {
             (silent ticks) (answered ticks sent.new.items) }
         ensures direction { direction_of self.new ≡ direction_of self.old }
     {
-        let count = self.trailer.sent().len().min(ticks as usize);
+        let count = self.trailer.unsent().len().min(ticks as usize);
         put(sent, &self.trailer.send_some(count));
         self.cut.wait_some(ticks);
     }
