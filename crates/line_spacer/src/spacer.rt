@@ -223,7 +223,7 @@ impl<V: Device, const GAP: usize> Spacer<V, GAP> {
         requires few { length (frames_waiting self.old) < self.old.queue.capacity }
         ensures device { self.new.device ≡ self.old.device }
         ensures room { self.new.queue.capacity ≡ self.old.queue.capacity }
-        ensures sent { bytes_sent self.new ≡ bytes_sent self.old }
+        ensures lent { bytes_sent self.new ≡ bytes_sent self.old }
         ensures sent { (start step : ℕ) (s : Spaced) → SentBy self.old (step + 1) s.accepted
             → SentBy self.new (step + 1) (taken_in GAP self.old.queue.capacity step s
             (frames_lent (Some start) (bytes_lent V.lent self.old))).accepted }
@@ -238,7 +238,7 @@ impl<V: Device, const GAP: usize> Spacer<V, GAP> {
         requires free { self.old.size ≤ self.old.before }
         ensures device { self.new.device ≡ self.old.device }
         ensures room { self.new.queue.capacity ≡ self.old.queue.capacity }
-        ensures sent { bytes_sent self.new ≡ bytes_sent self.old }
+        ensures lent { bytes_sent self.new ≡ bytes_sent self.old }
         ensures sent { (start step : ℕ) (s : Spaced) → SentBy self.old (step + 1) s.accepted
             → SentBy self.new (step + 1) (taken_in GAP self.old.queue.capacity step s
             (frames_lent (Some start) (bytes_lent V.lent self.old))).accepted }
@@ -257,7 +257,7 @@ impl<V: Device, const GAP: usize> Spacer<V, GAP> {
     fn keep_frame(&mut self, start: u64) -> Option<u64>
         ensures device { self.new.device ≡ self.old.device }
         ensures room { self.new.queue.capacity ≡ self.old.queue.capacity }
-        ensures sent { bytes_sent self.new ≡ bytes_sent self.old }
+        ensures lent { bytes_sent self.new ≡ bytes_sent self.old }
         ensures sent { (step : ℕ) (s : Spaced) → SentBy self.old (step + 1) s.accepted
             → SentBy self.new (step + 1) (taken_in GAP self.old.queue.capacity step s
             (frames_lent (Some start) (bytes_lent V.lent self.old))).accepted }
@@ -283,7 +283,7 @@ impl<V: Device, const GAP: usize> Spacer<V, GAP> {
     fn keep(&mut self, read: Option<u64>) -> Option<u64>
         ensures device { self.new.device ≡ self.old.device }
         ensures room { self.new.queue.capacity ≡ self.old.queue.capacity }
-        ensures sent { bytes_sent self.new ≡ bytes_sent self.old }
+        ensures lent { bytes_sent self.new ≡ bytes_sent self.old }
         ensures sent { (step : ℕ) (s : Spaced) → SentBy self.old (step + 1) s.accepted
             → SentBy self.new (step + 1)
             (taken_in GAP self.old.queue.capacity step s

@@ -17,7 +17,7 @@ returns-clause-lent g c = ap (λ d. g.V.Device.lent d)
 
 pub returns-clause-long : goal.returns-clause-long
 returns-clause-long g c =
-    ap (λ b. length (answered c.min-count.result b)) c.keep-kept.ensures.sent
+    ap (λ b. length (answered c.min-count.result b)) c.keep-kept.ensures.lent
     ∙ c.send_some.ensures.long
 
 pub returns-clause-owes : goal.returns-clause-owes
@@ -103,7 +103,7 @@ returns-clause-answer g c = λ cap line ticks long owes.
     (frames_waiting sent) answer c.send_some.ensures.long run.sent in
     let lost = frames_lent c.keep-kept.result (device.lent new.device) in
     subst (λ b. AnswersSpaced reads gap cap line (take n ticks) (answered n b)
-    (length line + (n - 1)) lost) (sym c.keep-kept.ensures.sent)
+    (length line + (n - 1)) lost) (sym c.keep-kept.ensures.lent)
     (given-answers reads gap cap room fits line ticks owes.made frames n some within owes.pending
     front part all answer lost c.send_some.ensures.long run.leave
     (c.keep-kept.ensures.takes (length line + (n - 1)) owes.made before))

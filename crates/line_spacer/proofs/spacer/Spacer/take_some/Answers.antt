@@ -10,7 +10,7 @@ use Rattle.line_spacer.proofs.spacer.Spacer.take_some.Goals as goal
 
 pub returns-clause-long : goal.returns-clause-long
 returns-clause-long g c =
-    ap (λ b. length (answered c.hear_run-taken.result.taken b)) c.keep-lost.ensures.sent
+    ap (λ b. length (answered c.hear_run-taken.result.taken b)) c.keep-lost.ensures.lent
     ∙ c.send_some.ensures.long
 
 pub returns-clause-stands : goal.returns-clause-stands
@@ -128,6 +128,6 @@ returns-clause-answer g c = λ cap line stands.
     let last : length line + (length x - 1) ≡ length line + (n - 1) =
     ap (λ k. length line + (k - 1)) long in
     subst (λ b. AnswersSpaced reads gap cap line (take n all) (answered n b)
-    (length line + (n - 1)) lost) (sym c.keep-lost.ensures.sent)
+    (length line + (n - 1)) lost) (sym c.keep-lost.ensures.lent)
     (subst (λ y. AnswersSpaced reads gap cap line y answer (length line + (n - 1)) lost) same
     (subst (λ k. AnswersSpaced reads gap cap line x answer k lost) last answers))
