@@ -162,9 +162,9 @@ impl RecordTexts {
         if room > 0 {
             return Ok(room - 1);
         }
-        let rest = &line[tick..];
-        let count = record_len(rest);
-        match self.push_record(way, tick as u64, &rest[..count]) {
+        let following = &line[tick..];
+        let count = record_len(following);
+        match self.push_record(way, tick as u64, &following[..count]) {
             Ok(()) => Ok(MOST_FURTHER),
             Err(NoMemory) => Err(NoMemory),
         }

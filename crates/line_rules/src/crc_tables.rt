@@ -59,16 +59,16 @@ pub fn crc_by_tables<const POLY: u16>(tables: &CrcTables, r: u16, bytes: &[u8]) 
     ensures { result ≡ crc POLY r bytes.now }
 {
     let mut register = r;
-    let mut rest = bytes;
-    while let Some((together, more)) = rest.split_first_chunk::<TOGETHER>() {
+    let mut following = bytes;
+    while let Some((together, more)) = following.split_first_chunk::<TOGETHER>() {
         register = crc_at_once::<POLY>(tables, register, together);
-        rest = more;
+        following = more;
     }
     macro_rules! by_length {
         ($($length:literal)*) => {
-            match rest.len() {
-                $($length => crc_at_once::<POLY>(tables, register, rest),)*
-                1 => step_by_table::<POLY>(tables, register, rest[0]),
+            match following.len() {
+                $($length => crc_at_once::<POLY>(tables, register, following),)*
+                1 => step_by_table::<POLY>(tables, register, following[0]),
                 _ => register,
             }
         };

@@ -153,10 +153,10 @@ impl<B: LineBox> LiveBox<B> {
             (live_of self.old port.old disk.old) (live_of self.new port.new disk.new) piece.now
             result }
     {
-        let mut rest = piece;
-        while !rest.is_empty() {
-            match self.take_line(lines, port, disk, rest) {
-                Ok(taken) => rest = &rest[taken..],
+        let mut following = piece;
+        while !following.is_empty() {
+            match self.take_line(lines, port, disk, following) {
+                Ok(taken) => following = &following[taken..],
                 Err(end) => return Err(end),
             }
         }

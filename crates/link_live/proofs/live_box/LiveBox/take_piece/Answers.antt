@@ -3,29 +3,29 @@ use Rattle.link_live.specs.LiveLine.{live_of}
 use Rattle.std.proofs.{Common.arith, lemmas.List.nil_from_length}
 use Rattle.link_live.proofs.live_box.LiveBox.take_piece.Goals as goal
 
-pub loop-rest-init : goal.loop-rest-init
-loop-rest-init g c = so_none g.B.LinkBox g.B.LineBox.line_of g.P.Port g.D.SlotDisk
+pub loop-following-init : goal.loop-following-init
+loop-following-init g c = so_none g.B.LinkBox g.B.LineBox.line_of g.P.Port g.D.SlotDisk
     c.args.lines.now (live_of c.args.self.now c.args.port.now c.args.disk.now) c.args.piece.now
     g.met.D.SlotDisk.only_now c.requires.ready
 
-pub loop-rest-preserved : goal.loop-rest-preserved
-loop-rest-preserved g c = so_more g.B.LinkBox g.B.LineBox.line_of g.P.Port g.D.SlotDisk
-    c.args.lines.now c.loop-rest.lines c.take_line.new.lines
+pub loop-following-preserved : goal.loop-following-preserved
+loop-following-preserved g c = so_more g.B.LinkBox g.B.LineBox.line_of g.P.Port g.D.SlotDisk
+    c.args.lines.now c.loop-following.lines c.take_line.new.lines
     (live_of c.args.self.now c.args.port.now c.args.disk.now)
-    (live_of c.loop-rest.self c.loop-rest.port c.loop-rest.disk)
+    (live_of c.loop-following.self c.loop-following.port c.loop-following.disk)
     (live_of c.take_line.new.self c.take_line.new.port c.take_line.new.disk) c.args.piece.now
-    c.loop-rest.rest.now c.loop-rest.invariant c.in-Ok.taken c.in-Ok.ensures
+    c.loop-following.following.now c.loop-following.invariant c.in-Ok.taken c.in-Ok.ensures
 
 pub returns-in-Err : goal.returns-in-Err
 returns-in-Err g c = so_ended g.B.LinkBox g.B.LineBox.line_of g.P.Port g.D.SlotDisk
-    c.args.lines.now c.loop-rest.lines c.take_line.new.lines
+    c.args.lines.now c.loop-following.lines c.take_line.new.lines
     (live_of c.args.self.now c.args.port.now c.args.disk.now)
-    (live_of c.loop-rest.self c.loop-rest.port c.loop-rest.disk)
+    (live_of c.loop-following.self c.loop-following.port c.loop-following.disk)
     (live_of c.take_line.new.self c.take_line.new.port c.take_line.new.disk) c.args.piece.now
-    c.loop-rest.rest.now c.loop-rest.invariant c.in-Err.end c.in-Err.ensures
+    c.loop-following.following.now c.loop-following.invariant c.in-Err.end c.in-Err.ensures
 
 pub returns : goal.returns
 returns g c = so_all g.B.LinkBox g.B.LineBox.line_of g.P.Port g.D.SlotDisk
-    c.args.lines.now c.loop-rest.lines (live_of c.args.self.now c.args.port.now c.args.disk.now)
-    (live_of c.loop-rest.self c.loop-rest.port c.loop-rest.disk) c.args.piece.now
-    c.loop-rest.rest.now c.loop-rest.invariant (nil_from_length c.loop-rest.rest.now (grind arith))
+    c.args.lines.now c.loop-following.lines (live_of c.args.self.now c.args.port.now c.args.disk.now)
+    (live_of c.loop-following.self c.loop-following.port c.loop-following.disk) c.args.piece.now
+    c.loop-following.following.now c.loop-following.invariant (nil_from_length c.loop-following.following.now (grind arith))

@@ -2,10 +2,10 @@ use Rattle.link_live.{proofs.Heard.HasTakenSo, specs.LiveLine.live_of}
 use Rattle.std.proofs.Common.{length}
 use Rattle.link_live.proofs.live_box.LiveBox.take_piece.Given as goal
 
-abbrev pub invariant-loop-rest : goal.invariant-loop-rest
-invariant-loop-rest g l = HasTakenSo g.B.LinkBox g.B.LineBox.line_of g.P.Port g.D.SlotDisk
+abbrev pub invariant-loop-following : goal.invariant-loop-following
+invariant-loop-following g l = HasTakenSo g.B.LinkBox g.B.LineBox.line_of g.P.Port g.D.SlotDisk
     l.fn.lines l.lines (live_of l.fn.self l.fn.port l.fn.disk) (live_of l.self l.port l.disk)
-    l.piece l.rest
+    l.piece l.following
 
-abbrev pub decreases-loop-rest : goal.decreases-loop-rest
-decreases-loop-rest g l = length l.rest
+abbrev pub decreases-loop-following : goal.decreases-loop-following
+decreases-loop-following g l = length l.following
