@@ -48,7 +48,7 @@ impl<X: CountingBox> Side<X> {
         requires links { AreLinks X.link_in }
         ensures able { MayTake X.LinkBox result }
         ensures taken { X.taken result.line_box ≡ 0 }
-        ensures taken { HasTaken X.LinkBox X.counting result [] }
+        ensures counts { HasTaken X.LinkBox X.counting result [] }
         ensures nothing { CountsNothing X.counting }
     {
         let mut disk = SteadySlots::new([0; 24], [0; 24]);

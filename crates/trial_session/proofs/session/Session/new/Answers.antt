@@ -12,7 +12,7 @@ returns-clause-run g c = λ drawing behind.
     record {
       state_is = c.new.ensures ∙ sym (state-none drawing behind seed);
       seals_line = subst (HasTaken g.S.LinkBox g.S.CountingBox.counting c.new-2.result) (sym none)
-          c.new-2.ensures.taken;
+          c.new-2.ensures.counts;
       link_long = ap (λ l. length (g.S.CountingBox.counting.other_line l)) none
           ∙ ap length c.new-2.ensures.nothing.no_tick;
       receives_link = subst (HasReceived g.C.LinkBox g.C.CountingBox.counting g.V.Device

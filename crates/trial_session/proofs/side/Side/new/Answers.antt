@@ -14,8 +14,8 @@ unwrap-journal-requires g c =
     is-made _ _ _ c.init.result (ap greatest c.new-disk.ensures ∙ blank_holds_none)
     c.init.ensures.refused
 
-pub returns-clause-taken : goal.returns-clause-taken
-returns-clause-taken g c =
+pub returns-clause-counts : goal.returns-clause-counts
+returns-clause-counts g c =
     let none = counts-nothing g.X.LinkBox.walking g.X.CountingBox.fate_of g.X.CountingBox.counting
     g.met.X.CountingBox.counts in
     record {
