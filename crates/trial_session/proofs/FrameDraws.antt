@@ -1,10 +1,15 @@
 -- The draws of a frame.
 use Rattle.dnp_link_frame.specs.{Frame.frame_of, declared.header.Header.Header}
-use Rattle.std.proofs.Common.{◌≡◌, ◌∙◌, ℕ, ◌+◌, ◌-◌, ◌%◌, List, ap, sym, arith}
+use Rattle.std.proofs.Common.{◌≡◌, ◌∙◌, ℕ, ◌+◌, ◌-◌, ◌%◌, List, [], ◌++◌, ap, sym, arith}
 use Rattle.trial_session.proofs.Drawing.{after-one, one-is, two-is, three-is, state_after-add}
 use Rattle.trial_session.specs.DnpDrawn.{dnp_header, dnp_user, dnp_user_len, dnp_drawing}
 use Rattle.trial_session.specs.Draws.{next_state, drawn, state_after, bytes_drawn, nth_drawn}
 use Rattle.trial_session.specs.RtuDrawn.{rtu_body, rtu_frame_len}
+
+-- what is put into an empty frame
+pub rtu-filled : (items before more body : List ℕ) → items ≡ before ++ more → before ≡ []
+    → more ≡ body → items ≡ body
+rtu-filled items before more body is none same = is ∙ ap (λ l. l ++ more) none ∙ same
 
 module _ (x one value : ℕ) (first : one ≡ next_state x) (value_is : value ≡ drawn one) where
   begun : one ≡ state_after 1 x

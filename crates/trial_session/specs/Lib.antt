@@ -11,6 +11,7 @@ pub mod Fates
 pub mod FateLaws
 pub mod Summaries
 pub mod Links
+pub mod WaitingBytes
 pub mod Sides
 pub mod Runs
 pub mod TrialLine

@@ -33,9 +33,10 @@ impl DrawnFrames for Rtu {
 
     fn draw_frame(draws: &mut Draws) -> FrameBytes {
         let body_len = (draws.draw() % 253 + 2) as usize;
-        let body = draws.draw_bytes(body_len);
+        let mut room = [0; 254];
+        draws.draw_bytes(&mut room[..body_len]);
         let mut frame = RtuBytes::new();
-        frame.try_extend_from_slice(body.as_slice()).unwrap();
+        frame.try_extend_from_slice(&room[..body_len]).unwrap();
         close(&mut frame).unwrap();
         let mut bytes = FrameBytes::new();
         bytes.try_extend_from_slice(frame.as_slice()).unwrap();
@@ -60,7 +61,8 @@ impl DrawnFrames for Dnp {
             destination,
             source,
         };
-        let user = draws.draw_bytes(user_len);
-        build(&header, user.as_slice()).unwrap()
+        let mut room = [0; 250];
+        draws.draw_bytes(&mut room[..user_len]);
+        build(&header, &room[..user_len]).unwrap()
     }
 }

@@ -1,23 +1,10 @@
 //! The numbers that a session is drawn from.
-ghost use Rattle.std.specs.Prelude.{◌≡◌, ◌≤◌, length};
+ghost use Rattle.std.specs.Prelude.{◌≡◌, length};
 
 use arrayvec::ArrayVec;
 
 /// The bytes of a frame of either protocol.
 pub type FrameBytes = ArrayVec<u8, 292>;
-
-// As many bytes as a frame has at most.
-const BLANK: [u8; 292] = [0; 292];
-
-// This many zeros.
-fn zeros(n: usize) -> FrameBytes
-    requires { n ≤ 292 }
-    ensures { length result.items ≡ n }
-{
-    let mut bytes = FrameBytes::new();
-    let _ = bytes.try_extend_from_slice(&BLANK[..n]);
-    bytes
-}
 
 /// Numbers that are drawn one after the other from a first one: a linear congruential generator
 /// (Knuth, MMIX), of whose state each draw gives the high half.
@@ -52,8 +39,9 @@ impl Draws {
         (self.state >> 32) as u32
     }
 
-    // Puts the low byte of a draw into each of these places.
-    fn fill(&mut self, places: &mut [u8])
+    /// Draws a byte for each of these places: the low byte of a draw.
+    #[inline]
+    pub fn draw_bytes(&mut self, places: &mut [u8])
         ensures state { draw_state self.new
             ≡ state_after (length places.old) (draw_state self.old) }
         ensures bytes { places.new ≡ bytes_drawn (length places.old) (draw_state self.old) }
@@ -61,17 +49,5 @@ impl Draws {
         for place in places.iter_mut() {
             *place = (self.draw() % 256) as u8;
         }
-    }
-
-    /// This many bytes, at most 292, each the low byte of a draw.
-    pub fn draw_bytes(&mut self, n: usize) -> FrameBytes
-        requires { n ≤ 292 }
-        ensures state { draw_state self.new ≡ state_after n (draw_state self.old) }
-        ensures bytes { result.items ≡ bytes_drawn n (draw_state self.old) }
-        ensures long { length result.items ≡ n }
-    {
-        let mut bytes = zeros(n);
-        self.fill(bytes.as_mut_slice());
-        bytes
     }
 }

@@ -22,11 +22,11 @@ mod listening;
 mod marks;
 mod printing;
 mod receiving;
-mod runs;
 mod seal_counting;
 mod session;
 mod side;
 mod summary;
+mod waiting;
 
 pub use alteration::Alteration;
 pub use counting_box::CountingBox;

@@ -5,7 +5,7 @@ ghost use Rattle.trial_session.specs.Alterations.{altered};
 use crate::Alteration;
 use crate::marks::{bytes_in_front, overwrite};
 use delay_ring::mark_runs::silence_in_front;
-use yasir_ticks::TickRun;
+use yasir_ticks::{Tick, TickRun};
 
 /// How many ticks each frame has for itself, on the device's line and on the link.
 pub const PERIOD: usize = 640;
@@ -39,7 +39,7 @@ pub struct Link {
 }
 
 impl Link {
-    ghost use Rattle.std.specs.Prelude.{◌+◌, [], map, drop, slice_index_or};
+    ghost use Rattle.std.specs.Prelude.{◌+◌, [], ◌∷◌, map, drop, slice_index_or};
     ghost use Rattle.yasir_ticks.specs.Ticks.{silent};
     ghost use Rattle.yasir_ticks.specs.TickRun.{run_ticks};
     ghost use Rattle.yasir_ticks.specs.declared.tick.Tick.TheVariants.{Byte};
@@ -56,6 +56,14 @@ impl Link {
             marks: [0; PERIOD],
             len: 0,
         }
+    }
+
+    /// Lets all go that is sent.
+    pub fn clear(&mut self)
+        ensures len { self.new.len ≡ 0 }
+        ensures sent { link_sent self.new ≡ [] }
+    {
+        self.len = 0;
     }
 
     // Sends these bytes.
@@ -94,6 +102,19 @@ impl Link {
             self.add_bytes(sent);
         } else {
             self.add_silence(count);
+        }
+    }
+
+    /// Sends a tick.
+    #[inline]
+    pub fn add_tick(&mut self, tick: Tick)
+        requires { self.old.len < 640 }
+        ensures len { self.new.len ≡ self.old.len + 1 }
+        ensures sent { link_sent self.new ≡ link_sent self.old ++ tick ∷ [] }
+    {
+        match tick {
+            Tick::Byte(byte) => self.add_bytes(&[byte]),
+            Tick::Silent => self.add_silence(1),
         }
     }
 

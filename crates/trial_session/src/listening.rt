@@ -2,12 +2,9 @@
 ghost use Rattle.std.specs.Prelude.{◌≡◌, ℕ, ◌≤◌, List, length};
 ghost use Rattle.device_model.specs.Frames.{frames_lent};
 
-use arrayvec::ArrayVec;
+use crate::waiting::Waiting;
 use device_model::Device;
-use yasir_ticks::MAX_TICKS;
-
-/// Bytes that a device is still to hear.
-pub type Waiting = ArrayVec<u8, 292>;
+use yasir_ticks::{MAX_TICKS, Tick};
 
 /// A device, and how many frames it has read.
 #[derive(Drop)]
@@ -37,7 +34,7 @@ fn frames_in(start: Option<u64>) -> u64
 }
 
 impl<V: Device + Drop> Listening<V> {
-    ghost use Rattle.std.specs.Prelude.{◌+◌, [], ◌++◌, map};
+    ghost use Rattle.std.specs.Prelude.{◌+◌, ◌<◌, [], ◌∷◌, ◌++◌, map};
     ghost use Rattle.yasir_ticks.specs.Ticks.{silent};
     ghost use Rattle.yasir_ticks.specs.declared.tick.Tick.TheVariants.{Byte};
     ghost use Rattle.burst_walk.specs.Answered.{answered};
@@ -129,16 +126,14 @@ impl<V: Device + Drop> Listening<V> {
             → IsHearing V.Device self.old waiting.old.items line
             → IsHearing V.Device self.new waiting.new.items (line ++ map Byte bytes.now) }
     {
-        match waiting.try_extend_from_slice(bytes) {
-            Ok(()) => {}
-            Err(_) => {
-                self.settle(waiting);
-                self.hear_bytes(bytes);
-            }
+        if !waiting.add(bytes) {
+            self.settle(waiting);
+            self.hear_bytes(bytes);
         }
     }
 
     // The next ticks are this many silent ones.
+    #[inline]
     fn hear_silence(&mut self, ticks: usize, waiting: &mut Waiting)
         requires few { self.old.read ≤ V.taken self.old.device }
         requires room { V.taken self.old.device + length waiting.old.items + ticks ≤ MAX_TICKS }
@@ -170,6 +165,24 @@ impl<V: Device + Drop> Listening<V> {
             self.keep(sent, waiting);
         } else {
             self.hear_silence(count, waiting);
+        }
+    }
+
+    /// Hears the answer to one tick.
+    #[inline]
+    pub fn hear_tick(&mut self, tick: Tick, waiting: &mut Waiting)
+        requires few { self.old.read ≤ V.taken self.old.device }
+        requires room { V.taken self.old.device + length waiting.old.items < MAX_TICKS }
+        ensures few { self.new.read ≤ V.taken self.new.device }
+        ensures taken { V.taken self.new.device + length waiting.new.items
+            ≡ V.taken self.old.device + length waiting.old.items + 1 }
+        ensures heard { (line : List Tick)
+            → IsHearing V.Device self.old waiting.old.items line
+            → IsHearing V.Device self.new waiting.new.items (line ++ tick ∷ []) }
+    {
+        match tick {
+            Tick::Byte(byte) => self.keep(&[byte], waiting),
+            Tick::Silent => self.hear_silence(1, waiting),
         }
     }
 }

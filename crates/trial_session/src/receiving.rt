@@ -1,8 +1,9 @@
 //! The receiver and the device behind it, over the link of a session.
 use crate::counting_box::CountingBox;
 use crate::link::Link;
-use crate::listening::{Listening, Waiting};
+use crate::listening::Listening;
 use crate::side::Side;
+use crate::waiting::Waiting;
 use burst_walk::RunBytes;
 use device_model::Device;
 use yasir_ticks::{MAX_TICKS, TickRun};
@@ -28,7 +29,7 @@ impl<C, V> Receiving<C, V> {
 }
 
 impl<C: CountingBox, V: Device + Drop> Receiving<C, V> {
-    ghost use Rattle.std.specs.Prelude.{◌≡◌, ◌+◌, ◌≤◌, List, [], ◌++◌, length};
+    ghost use Rattle.std.specs.Prelude.{◌≡◌, ◌+◌, ◌<◌, ◌≤◌, List, [], ◌++◌, length, take};
     ghost use Rattle.yasir_ticks.specs.Ticks.{silent};
     ghost use Rattle.yasir_ticks.specs.TickRun.{run_ticks};
     ghost use Rattle.yasir_ticks.specs.declared.tick.Tick.{Tick};
@@ -81,6 +82,34 @@ impl<C: CountingBox, V: Device + Drop> Receiving<C, V> {
         self.listening.read()
     }
 
+    // Takes the first of these ticks, one at least, and returns how many. Bytes that the device is
+    // still to hear wait.
+    #[inline]
+    fn take_some(&mut self, run: TickRun<'_>, waiting: &mut Waiting) -> usize
+        requires some { 0 < length (run_ticks run) }
+        requires able { MayGoOnReceiving C.LinkBox V.Device self.old waiting.old.items }
+        requires room { C.taken self.old.checking.line_box + length (run_ticks run) ≤ MAX_TICKS }
+        ensures able { MayGoOnReceiving C.LinkBox V.Device self.new waiting.new.items }
+        ensures some { 0 < result }
+        ensures within { result ≤ length (run_ticks run.entry) }
+        ensures taken { C.taken self.new.checking.line_box
+            ≡ C.taken self.old.checking.line_box + result }
+        ensures received { (link : List Tick)
+            → IsReceiving C.LinkBox C.counting V.Device self.old waiting.old.items link
+            → IsReceiving C.LinkBox C.counting V.Device self.new waiting.new.items
+            (link ++ take result (run_ticks run.entry)) }
+    {
+        let mut sent = RunBytes::new();
+        let taken = self.checking.pass(run, &mut sent);
+        if taken > 0 {
+            self.listening.hear(taken, sent.as_slice(), waiting);
+            return taken;
+        }
+        let tick = self.checking.step(run.first());
+        self.listening.hear_tick(tick, waiting);
+        1
+    }
+
     // Takes these ticks. Bytes that the device is still to hear wait.
     fn take_run(&mut self, run: TickRun<'_>, waiting: &mut Waiting)
         requires able { MayGoOnReceiving C.LinkBox V.Device self.old waiting.old.items }
@@ -93,12 +122,9 @@ impl<C: CountingBox, V: Device + Drop> Receiving<C, V> {
             → IsReceiving C.LinkBox C.counting V.Device self.new waiting.new.items
             (link ++ run_ticks run.entry) }
     {
-        let mut sent = RunBytes::new();
         let mut at = 0;
         while at < run.len() {
-            let taken = self.checking.send(run.behind(at), &mut sent);
-            self.listening.hear(taken, sent.as_slice(), waiting);
-            at += taken;
+            at += self.take_some(run.behind(at), waiting);
         }
     }
 

@@ -25,6 +25,8 @@ const REST: u32 = 320;
 pub struct Session<S, C, V> {
     draws: Draws,
     sealing: Side<S>,
+    // the link of a period, whose room serves all periods
+    link: Link,
     receiving: Receiving<C, V>,
 }
 
@@ -61,6 +63,7 @@ impl<S: CountingBox, C: CountingBox, V: Device + Drop> Session<S, C, V> {
         Session {
             draws: Draws::new(seed),
             sealing: Side::new(),
+            link: Link::new(),
             receiving: Receiving::new(),
         }
     }
@@ -82,13 +85,13 @@ impl<S: CountingBox, C: CountingBox, V: Device + Drop> Session<S, C, V> {
     {
         let frame = R::draw_frame(&mut self.draws);
         let alteration = draw_alteration(&mut self.draws, frame.len() + behind);
-        let mut link = Link::new();
+        self.link.clear();
         self.sealing
-            .forward(TickRun::Bytes(frame.as_slice()), &mut link);
+            .forward(TickRun::Bytes(frame.as_slice()), &mut self.link);
         let rest = TickRun::Silence((PERIOD - frame.len()) as u32);
-        self.sealing.forward(rest, &mut link);
-        link.alter(alteration);
-        self.receiving.take(&link);
+        self.sealing.forward(rest, &mut self.link);
+        self.link.alter(alteration);
+        self.receiving.take(&self.link);
     }
 
     // The silence behind the link, and what was counted.

@@ -2,10 +2,8 @@
 use crate::counting_box::CountingBox;
 use crate::fate::Fate;
 use crate::link::Link;
-use crate::runs::put_tick;
 use burst_walk::RunBytes;
 use hmac_tag::Dir;
-use link_box::take_alike;
 use sequence_journal::Journal;
 use yasir_io::SteadySlots;
 use yasir_ticks::{MAX_TICKS, Tick, TickRun};
@@ -116,9 +114,9 @@ impl<X: CountingBox> Side<X> {
         }
     }
 
-    // Takes the next tick, and returns that of the other line.
+    /// Takes the next tick, and returns that of the other line.
     #[inline]
-    fn step(&mut self, t: Tick) -> Tick
+    pub fn step(&mut self, t: Tick) -> Tick
         requires able { MayTake X.LinkBox self.old }
         requires room { X.taken self.old.line_box < MAX_TICKS }
         ensures able { MayTake X.LinkBox self.new }
@@ -134,33 +132,27 @@ impl<X: CountingBox> Side<X> {
         step.tick
     }
 
-    /// Takes the first of these ticks, one at least, and returns how many. `sent` gets the bytes of
-    /// the other line, one for each, or none where that is silent.
-    pub fn send(&mut self, run: TickRun<'_>, sent: &mut RunBytes) -> usize
-        requires some { 0 < length (run_ticks run) }
+    /// Takes the first of these ticks, as far as the box answers all of them with silence or all of
+    /// them with bytes, without a note, and returns how many. `sent` gets the bytes of the other
+    /// line, one for each, or none where that is silent. With 0 the caller goes on by `step`.
+    #[inline]
+    pub fn pass(&mut self, run: TickRun<'_>, sent: &mut RunBytes) -> usize
         requires able { MayTake X.LinkBox self.old }
         requires room { X.taken self.old.line_box + length (run_ticks run) ≤ MAX_TICKS }
         ensures able { MayTake X.LinkBox self.new }
-        ensures some { 0 < result }
         ensures within { result ≤ length (run_ticks run.entry) }
         ensures taken { X.taken self.new.line_box ≡ X.taken self.old.line_box + result }
         ensures sent { (line : List Tick) → HasTaken X.LinkBox X.counting self.old line
             → HasPassed X.LinkBox X.counting self.new line (take result (run_ticks run.entry))
             (answered result sent.new.items) }
     {
-        let taken = take_alike(&mut self.line_box, run, sent);
-        if taken > 0 {
-            return taken;
-        }
-        let answer = self.step(run.first());
-        put_tick(sent, answer);
-        1
+        self.line_box.pass(run, sent)
     }
 
     // Takes the first of these ticks, one at least, and sends what the other line has. What the box
     // forwards goes on as it is. Returns how many it took.
     #[inline]
-    fn send_on(&mut self, run: TickRun<'_>, sent: &mut RunBytes, link: &mut Link) -> usize
+    fn send_on(&mut self, run: TickRun<'_>, link: &mut Link) -> usize
         requires some { 0 < length (run_ticks run) }
         requires able { MayTake X.LinkBox self.old }
         requires room { X.taken self.old.line_box + length (run_ticks run) ≤ MAX_TICKS }
@@ -180,9 +172,14 @@ impl<X: CountingBox> Side<X> {
             link.add_run(run.front(forwarded));
             return forwarded;
         }
-        let taken = self.send(run, sent);
-        link.add(taken, sent.as_slice());
-        taken
+        let mut sent = RunBytes::new();
+        let taken = self.pass(run, &mut sent);
+        if taken > 0 {
+            link.add(taken, sent.as_slice());
+            return taken;
+        }
+        link.add_tick(self.step(run.first()));
+        1
     }
 
     /// Takes these ticks, and sends what the other line has.
@@ -199,11 +196,9 @@ impl<X: CountingBox> Side<X> {
             → HasSent X.LinkBox X.counting self.new line (more ++ run_ticks run.entry)
             (link_sent link.new) }
     {
-        let mut sent = RunBytes::new();
         let mut at = 0;
         while at < run.len() {
-            let taken = self.send_on(run.behind(at), &mut sent, link);
-            at += taken;
+            at += self.send_on(run.behind(at), link);
         }
     }
 }

@@ -16,6 +16,6 @@ returns-clause-run g c = λ drawing behind.
       link_long = ap (λ l. length (g.S.CountingBox.counting.other_line l)) none
           ∙ ap length c.new-2.ensures.nothing.no_tick;
       receives_link = subst (HasReceived g.C.LinkBox g.C.CountingBox.counting g.V.Device
-          c.new-3.result) (sym link)
-          c.new-3.ensures.received;
+          c.new-4.result) (sym link)
+          c.new-4.ensures.received;
     }

@@ -17,7 +17,7 @@ returns-clause-run g c =
     let long = ap length is in
     let all : sent.len ≡ 640 = omega (
       arith,
-      c.new-link.ensures.len,
+      c.clear.ensures.len,
       c.forward.ensures.len,
       c.forward-2.ensures.len,
       c.len-2.ensures.value,
@@ -44,7 +44,7 @@ returns-clause-run g c =
     (c.forward-2.ensures.sent line (map (λ b. Byte b) c.as_slice.result.now)
     (c.forward.ensures.sent line []
     (subst (λ l. HasSent g.S.LinkBox g.S.CountingBox.counting c.args.self.now.sealing line [] l)
-    (sym c.new-link.ensures.sent)
+    (sym c.clear.ensures.sent)
     (sends-none g.S.LinkBox g.S.CountingBox.counting c.args.self.now.sealing line taken)))))
     (λ line received. subst (λ l. HasReceived g.C.LinkBox g.C.CountingBox.counting g.V.Device
     c.take.new.self (line ++ l)) c.alter.ensures.sent (c.take.ensures.received line received))

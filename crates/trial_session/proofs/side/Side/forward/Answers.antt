@@ -18,19 +18,19 @@ pub loop-at-preserved : goal.loop-at-preserved
 loop-at-preserved g c =
     let at = c.loop-at.at in
     let ticks = run_ticks c.args.run in
-    let n = c.send_on-taken.result in
+    let n = c.send_on-at.result in
     let before = c.loop-at.invariant in
     let left = ap length c.behind.ensures ∙ length-drop at ticks in
-    let within = c.send_on-taken.ensures.within in (
+    let within = c.send_on-at.ensures.within in (
       omega (arith, before.0, left, within),
-      c.send_on-taken.ensures.able,
-      omega (arith, c.send_on-taken.ensures.taken, before.2),
-      omega (arith, c.send_on-taken.ensures.len, before.3),
+      c.send_on-at.ensures.able,
+      omega (arith, c.send_on-at.ensures.taken, before.2),
+      omega (arith, c.send_on-at.ensures.len, before.3),
       λ line more sent.
-          subst (λ l. HasSent g.X.LinkBox g.X.CountingBox.counting c.send_on-taken.new.self line l
-          (link_sent c.send_on-taken.new.link))
+          subst (λ l. HasSent g.X.LinkBox g.X.CountingBox.counting c.send_on-at.new.self line l
+          (link_sent c.send_on-at.new.link))
           (run-more at n ticks (run_ticks c.behind.result) more c.behind.ensures)
-          (c.send_on-taken.ensures.sent line (more ++ take at ticks) (before.4 line more sent)),
+          (c.send_on-at.ensures.sent line (more ++ take at ticks) (before.4 line more sent)),
     )
 
 pub returns-clause-sent : goal.returns-clause-sent

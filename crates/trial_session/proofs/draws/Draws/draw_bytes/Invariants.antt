@@ -1,6 +1,6 @@
 use Rattle.std.proofs.Common.{◌≡◌, length, take}
 use Rattle.trial_session.specs.Draws.{state_after, bytes_drawn}
-use Rattle.trial_session.proofs.draws.Draws.fill.Given as goal
+use Rattle.trial_session.proofs.draws.Draws.draw_bytes.Given as goal
 
 abbrev pub invariant-loop-place : goal.invariant-loop-place
 invariant-loop-place l =
