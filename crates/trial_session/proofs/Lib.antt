@@ -11,3 +11,4 @@ pub mod Worked
 pub mod SentRuns
 pub mod HeardRuns
 pub mod Marked
+pub mod Behind

@@ -6,7 +6,7 @@ use Rattle.std.proofs.Common.{◌≡◌, ◌∙◌, ℕ, zero, suc, ◌+◌, ◌
 use Rattle.std.proofs.Common.{length, take, drop, map, replicate, refl, ap, sym, arith}
 use Rattle.std.proofs.Common.{append_assoc, length-append, slice_set}
 use Rattle.std.proofs.lemmas.List.{take_all, take_at, length-take-le, length-drop, drop-take}
-use Rattle.std.proofs.lemmas.List.{length-replicate, length-set, length-take, get_or-take}
+use Rattle.std.proofs.lemmas.List.{length-replicate, length-set, get_or-take}
 use Rattle.std.{proofs.lemmas.List.get_or-drop, specs.Prelude.slice_index_or, specs.Prelude.bit_xor}
 use Rattle.trial_session.{proofs.SentRuns.take-some, specs.Alterations.changed}
 use Rattle.yasir_ticks.specs.Ticks.{silent}
@@ -104,9 +104,6 @@ module _ (len : ℕ) (bytes marks : List ℕ) (byte_room : length bytes ≡ 640)
   whole all = take_all len (marked_ticks bytes marks)
       (omega (arith, ticks-length bytes marks same, byte_room, all))
 
-  pub whole-long : len ≡ 640 → length (take len (marked_ticks bytes marks)) ≡ 640
-  whole-long all = ap length (whole all) ∙ ticks-length bytes marks same ∙ byte_room
-
   -- the ticks from a place on
   pub from-place : (at : ℕ) → at ≤ len
       → drop at (take len (marked_ticks bytes marks))
@@ -115,24 +112,6 @@ module _ (len : ℕ) (bytes marks : List ℕ) (byte_room : length bytes ≡ 640)
       let sum : len ≡ at + (len - at) = omega (arith, within) in
       ap (λ n. drop at (take n (marked_ticks bytes marks))) sum
       ∙ drop-take at (len - at) (marked_ticks bytes marks)
-
-module _ (place len : ℕ) (bytes marks : List ℕ) (byte_room : length bytes ≡ 640)
-    (mark_room : length marks ≡ 640) (all : len ≡ 640) (within : place ≤ 640) where
-  -- all ticks from a place on are silent
-  pub silenced : (zeros less : List ℕ) → zeros ≡ replicate (640 - place) 0
-      → take len (marked_ticks bytes (take place marks ++ (zeros ++ less)))
-      ≡ take place (take len (marked_ticks bytes marks))
-      ++ silent (length (take len (marked_ticks bytes marks)) - place)
-  silenced zeros less are =
-      let sum : len ≡ place + (640 - place) = omega (arith, all, within) in
-      let long = whole-long len bytes marks byte_room mark_room all in
-      ap (λ n. take n (marked_ticks bytes (take place marks ++ (zeros ++ less)))) sum
-      ∙ silence-comes place bytes marks (byte_room ∙ sym mark_room)
-      (omega (arith, byte_room, within)) (640 - place) zeros less are
-      (omega (arith, byte_room, within))
-      ∙ ap (λ l. take place l ++ silent (640 - place))
-      (sym (whole len bytes marks byte_room mark_room all))
-      ∙ ap (λ n. take place (take len (marked_ticks bytes marks)) ++ silent (n - place)) (sym long)
 
 pub repeated : (len : ℕ) (bytes marks : List ℕ) → length bytes ≡ 640 → length marks ≡ 640
     → len ≡ 640
@@ -164,10 +143,6 @@ repeated len bytes marks byte_room mark_room all =
 pub mark-at : (n o k : ℕ) (marks : List ℕ) → k < n
     → slice_index_or (take n (drop o marks)) k 0 ≡ slice_index_or marks (o + k) 0
 mark-at n o k marks few = get_or-take n (drop o marks) k 0 few ∙ get_or-drop o marks k 0
-
--- how many ticks are sent
-pub sent-few : (len : ℕ) (ticks : List Tick) → length (take len ticks) ≤ len
-sent-few len ticks = omega (arith, length-take len ticks)
 
 module _ (len : ℕ) (bytes marks : List ℕ) (byte_room : length bytes ≡ 640)
     (mark_room : length marks ≡ 640) (all : len ≡ 640) (place value : ℕ) (within : place < 640)

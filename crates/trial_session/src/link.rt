@@ -32,8 +32,12 @@ pub struct Link {
     // The byte of each tick, and whether there is one: a mark that isn't 0.
     bytes: [u8; 640],
     marks: [u8; 640],
+    // So many ticks are marked, those up to the last byte at least. Those behind them are silent,
+    // and their marks say nothing.
+    marked: usize,
     len: usize,
     ghost within: { len ≤ 640 },
+    ghost marked_within: { marked ≤ len },
     ghost byte_room: { length bytes ≡ 640 },
     ghost mark_room: { length marks ≡ 640 },
 }
@@ -54,6 +58,7 @@ impl Link {
         Link {
             bytes: [0; PERIOD],
             marks: [0; PERIOD],
+            marked: 0,
             len: 0,
         }
     }
@@ -63,7 +68,20 @@ impl Link {
         ensures len { self.new.len ≡ 0 }
         ensures sent { link_sent self.new ≡ [] }
     {
+        self.marked = 0;
         self.len = 0;
+    }
+
+    // Marks all that is sent.
+    #[inline]
+    fn mark_all(&mut self)
+        ensures marked { self.new.marked ≡ self.new.len }
+        ensures len { self.new.len ≡ self.old.len }
+        ensures sent { link_sent self.new ≡ link_sent self.old }
+    {
+        let behind = self.len - self.marked;
+        overwrite(&mut self.marks, self.marked, &SILENCE[..behind]);
+        self.marked = self.len;
     }
 
     // Sends these bytes.
@@ -74,9 +92,11 @@ impl Link {
         ensures sent { link_sent self.new ≡ link_sent self.old ++ map Byte bytes.now }
     {
         let count = bytes.len();
+        self.mark_all();
         overwrite(&mut self.bytes, self.len, bytes);
         overwrite(&mut self.marks, self.len, &BYTES[..count]);
         self.len += count;
+        self.marked = self.len;
     }
 
     // Sends this many silent ticks.
@@ -86,7 +106,6 @@ impl Link {
         ensures len { self.new.len ≡ self.old.len + ticks }
         ensures sent { link_sent self.new ≡ link_sent self.old ++ silent ticks }
     {
-        overwrite(&mut self.marks, self.len, &SILENCE[..ticks]);
         self.len += ticks;
     }
 
@@ -139,6 +158,7 @@ impl Link {
         ensures sent { link_sent self.new ≡ altered (Alteration.Change place value)
             (link_sent self.old) }
     {
+        self.mark_all();
         if self.marks[place] == 0 {
             self.bytes[place] = value;
             self.marks[place] = 1;
@@ -155,7 +175,7 @@ impl Link {
         ensures sent { link_sent self.new ≡ altered (Alteration.CutOff place)
             (link_sent self.old) }
     {
-        overwrite(&mut self.marks, place, &SILENCE[..PERIOD - place]);
+        self.marked = self.marked.min(place);
     }
 
     // The first half of a period stands again in place of the second one.
@@ -164,6 +184,7 @@ impl Link {
         ensures len { self.new.len ≡ 640 }
         ensures sent { link_sent self.new ≡ altered Alteration.Repeat (link_sent self.old) }
     {
+        self.mark_all();
         repeat_half(&mut self.bytes);
         repeat_half(&mut self.marks);
     }
@@ -197,24 +218,24 @@ impl Link {
     // How many of the ticks from a place on are silent, up to the first byte.
     #[inline]
     fn silence_from(&self, at: usize) -> usize
-        requires { at < self.now.len }
-        ensures within { at + result ≤ self.now.len }
+        requires { at < self.now.marked }
+        ensures within { at + result ≤ self.now.marked }
         ensures silent { take result (drop at (link_sent self.now)) ≡ silent result }
         ensures all { result ≡ 0 → slice_index_or self.now.marks at 0 ≡ 0 → ⊥ }
     {
-        silence_in_front(&self.marks[at..self.len])
+        silence_in_front(&self.marks[at..self.marked])
     }
 
     // The bytes that stand from a place on, up to the first silent tick.
     #[inline]
     fn bytes_from(&self, at: usize) -> &[u8]
-        requires { at < self.now.len }
-        ensures within { at + length result.now ≤ self.now.len }
+        requires { at < self.now.marked }
+        ensures within { at + length result.now ≤ self.now.marked }
         ensures bytes { take (length result.now) (drop at (link_sent self.now))
             ≡ map Byte result.now }
         ensures all { length result.now ≡ 0 → slice_index_or self.now.marks at 0 ≡ 0 }
     {
-        let count = bytes_in_front(&self.marks[at..self.len]);
+        let count = bytes_in_front(&self.marks[at..self.marked]);
         &self.bytes[at..at + count]
     }
 
@@ -227,6 +248,9 @@ impl Link {
         ensures ticks { take (length (run_ticks result)) (drop at (link_sent self.now))
             ≡ run_ticks result }
     {
+        if self.marked <= at {
+            return TickRun::Silence((self.len - at) as u32);
+        }
         let silent = self.silence_from(at);
         if silent > 0 {
             return TickRun::Silence(silent as u32);

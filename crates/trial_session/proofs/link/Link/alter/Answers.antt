@@ -1,5 +1,5 @@
 use Rattle.std.proofs.Common.{◌≡◌, ◌∙◌, ◌-◌, ◌++◌, ap, arith, length, take}
-use Rattle.trial_session.{proofs.Lists.cut-off, proofs.Marked.whole-long, specs.Links.link_sent}
+use Rattle.trial_session.{proofs.Lists.cut-off, proofs.Behind.link-long, specs.Links.link_sent}
 use Rattle.yasir_ticks.specs.Ticks.{silent}
 use Rattle.trial_session.proofs.link.Link.alter.Goals as goal
 
@@ -13,7 +13,7 @@ pub returns-in-CutOff-clause-sent : goal.returns-in-CutOff-clause-sent
 returns-in-CutOff-clause-sent c =
     let link = c.args.self.now in
     let sent = link_sent link in
-    let long = whole-long link.len link.bytes link.marks link.byte_room link.mark_room c.requires in
+    let long = link-long link ∙ c.requires in
     rw c.in-CutOff.is
     (c.silence_behind-in-CutOff.ensures.sent
     ∙ ap (λ n. take c.min.result sent ++ silent (n - c.min.result)) long

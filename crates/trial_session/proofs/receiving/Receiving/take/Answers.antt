@@ -1,7 +1,7 @@
-use Rattle.{delay_ring.specs.DelayRing.marked_ticks, std.proofs.Common.◌∙◌, std.proofs.Common.◌++◌}
+use Rattle.{std.proofs.Common.◌∙◌, std.proofs.Common.◌++◌}
 use Rattle.std.proofs.Common.{ap, subst, sym, arith, length, take, drop, append_assoc, append-nil}
 use Rattle.{std.proofs.lemmas.List.take_all, trial_session.proofs.HeardRuns.receives-none}
-use Rattle.trial_session.{proofs.Marked.sent-few, proofs.SentRuns.take-some, specs.Links.link_sent}
+use Rattle.trial_session.{proofs.Behind.link-long, proofs.SentRuns.take-some, specs.Links.link_sent}
 use Rattle.{trial_session.specs.Sides.IsReceiving, yasir_ticks.specs.TickRun.run_ticks}
 use Rattle.trial_session.proofs.receiving.Receiving.take.Goals as goal
 
@@ -67,7 +67,7 @@ returns-clause-able g c = record {
 pub returns-clause-received : goal.returns-clause-received
 returns-clause-received g c = λ line received.
     let link = c.args.link.now in
-    let few = sent-few link.len (marked_ticks link.bytes link.marks) in
+    let few = link-long link in
     let so = subst (λ l. IsReceiving g.C.LinkBox g.C.CountingBox.counting g.V.Device c.loop-at.self
     c.loop-at.waiting.items (line ++ l))
     (take_all c.loop-at.at (link_sent link) (omega (

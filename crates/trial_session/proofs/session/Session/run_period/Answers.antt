@@ -1,6 +1,6 @@
 use Rattle.std.proofs.Common.{◌≡◌, ◌∙◌, ◌+◌, ◌-◌, ◌%◌, ◌++◌, [], ap, subst, sym, arith, length, map}
 use Rattle.std.proofs.lemmas.List.{length-map, length-replicate}
-use Rattle.trial_session.proofs.{Marked.whole-long, Periods.run-suc, SentRuns.sends-none}
+use Rattle.trial_session.proofs.{Behind.link-long, Periods.run-suc, SentRuns.sends-none}
 use Rattle.trial_session.specs.{Alterations.alteration_of, Draws.draw_state, Draws.nth_drawn}
 use Rattle.trial_session.specs.{Links.link_sent, Session.period_line, Sides.HasSent}
 use Rattle.{trial_session.specs.Sides.HasReceived, yasir_ticks.specs.Ticks.silent}
@@ -38,7 +38,7 @@ returns-clause-run g c =
     (c.draw_alteration-alteration.ensures.alteration
     ∙ ap (λ n. alteration_of (nth_drawn 1 mid % 8) (nth_drawn 2 mid % (n + c.args.behind))
     (1 + nth_drawn 3 mid % 255)) c.len.ensures.value)
-    (whole-long sent.len sent.bytes sent.marks sent.byte_room sent.mark_room all)
+    (link-long sent ∙ all)
     (λ line taken. subst (λ l. HasSent g.S.LinkBox g.S.CountingBox.counting c.forward-2.new.self
     line l (link_sent sent)) period_is
     (c.forward-2.ensures.sent line (map (λ b. Byte b) c.as_slice.result.now)
