@@ -1,6 +1,9 @@
 //! Runs of ticks on their way to the text of the other line.
-ghost use Rattle.std.specs.Prelude.{◌≡◌, ◌<◌, [], length};
+ghost use Rattle.std.specs.Prelude.{◌≡◌, ◌<◌, [], length, map};
+ghost use Rattle.yasir_ticks.specs.Ticks.{silent};
 ghost use Rattle.yasir_ticks.specs.TickRun.{run_ticks};
+ghost use Rattle.yasir_ticks.specs.declared.tick.Tick.TheVariants.{Byte};
+ghost use Rattle.yasir_ticks.specs.declared.tick_run.TickRun.TheVariants.{Bytes, Silence};
 ghost use Rattle.burst_walk.specs.Answered.{answered};
 ghost use Rattle.line_texts.specs.Runs.{TakesRun};
 ghost use Rattle.line_texts.specs.Texts.{writing, Pushes, PushesSome};
@@ -109,10 +112,39 @@ fn push_several<O: Sink, L: Sink>(
     push_long_run(texts, out, log, left)
 }
 
-// Adds a run that completes a line, of either kind in an arm of its own, so that each is compiled
-// for its kind. It is a function of its own, so that a run that completes no line costs little. A
-// loop would cost more: the compiler makes ready before it what few lines need.
+// Adds bytes that complete a line. It is a function of its own, so that a run that completes no line
+// costs little. A loop would cost more: the compiler makes ready before it what few lines need.
 #[inline(never)]
+fn push_completing_bytes<O: Sink, L: Sink>(
+    texts: &mut Texts,
+    out: &mut O,
+    log: &mut L,
+    bytes: &[u8],
+) -> Result<(), Failed>
+    requires { Completes texts.old.writer (Bytes bytes) }
+    ensures { Pushes O.Sink L.Sink (writing texts.old out.old log.old)
+        (writing texts.new out.new log.new) (map Byte bytes.now) [] result }
+{
+    push_several(texts, out, log, TickRun::Bytes(bytes))
+}
+
+// Adds silent ticks that complete a line, by a function of its own too.
+#[inline(never)]
+fn push_completing_silence<O: Sink, L: Sink>(
+    texts: &mut Texts,
+    out: &mut O,
+    log: &mut L,
+    ticks: u32,
+) -> Result<(), Failed>
+    requires { Completes texts.old.writer (Silence ticks) }
+    ensures { Pushes O.Sink L.Sink (writing texts.old out.old log.old)
+        (writing texts.new out.new log.new) (silent ticks) [] result }
+{
+    push_several(texts, out, log, TickRun::Silence(ticks))
+}
+
+// Adds a run that completes a line, each kind by a function that is compiled for it.
+#[inline(always)]
 fn push_completing_run<O: Sink, L: Sink>(
     texts: &mut Texts,
     out: &mut O,
@@ -124,8 +156,8 @@ fn push_completing_run<O: Sink, L: Sink>(
         (writing texts.new out.new log.new) (run_ticks run.entry) [] result }
 {
     match run {
-        TickRun::Bytes(bytes) => push_several(texts, out, log, TickRun::Bytes(bytes)),
-        TickRun::Silence(ticks) => push_several(texts, out, log, TickRun::Silence(ticks)),
+        TickRun::Bytes(bytes) => push_completing_bytes(texts, out, log, bytes),
+        TickRun::Silence(ticks) => push_completing_silence(texts, out, log, ticks),
     }
 }
 

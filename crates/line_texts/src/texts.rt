@@ -83,8 +83,8 @@ impl Texts {
     }
 
     /// Adds a line to the text of the notes, and behind it the ticks of a run in which it falls to
-    /// that of the other line. It is kept separate, since few ticks have a note.
-    #[inline(never)]
+    /// that of the other line. Few ticks have a note, so its callers are kept separate.
+    #[inline(always)]
     pub fn push_noted<O: Sink, L: Sink>(
         &mut self,
         out: &mut O,
