@@ -3,3 +3,4 @@ pub mod EndCauses
 pub mod FlushLaws
 pub mod Readable
 pub mod Printed
+pub mod Decimals

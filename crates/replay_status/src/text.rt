@@ -1,5 +1,5 @@
 //! A line that a command prints, and decimal numbers in it.
-ghost use Rattle.std.specs.Prelude.{◌≡◌, ◌≤◌, ◌+◌, ◌++◌, length, decimal};
+ghost use Rattle.std.specs.Prelude.{◌≡◌, ◌≤◌, ◌<◌, ◌+◌, ◌/◌, ◌%◌, [], ◌∷◌, ◌++◌, length, decimal};
 
 use arrayvec::ArrayVec;
 
@@ -7,8 +7,68 @@ use arrayvec::ArrayVec;
 /// an LF.
 pub type Line = ArrayVec<u8, 640>;
 
-/// Appends the decimal digits of a number.
-pub fn push_decimal<const CAP: usize>(line: &mut ArrayVec<u8, CAP>, n: u64)
+// The digit of the tens of a number below 100.
+#[inline(always)]
+fn tens(n: u32) -> u8
+    requires { n < 100 }
+    ensures { result ≡ 48 + n / 10 }
+{
+    b'0' + (n / 10) as u8
+}
+
+// The last digit of a number.
+#[inline(always)]
+fn ones(n: u32) -> u8
+    ensures { result ≡ 48 + n % 10 }
+{
+    b'0' + (n % 10) as u8
+}
+
+// Appends the decimal digits of a number below 10,000, with no division that takes long.
+#[inline(always)]
+fn push_four<const CAP: usize>(line: &mut ArrayVec<u8, CAP>, n: u32)
+    requires few { n < 10000 }
+    requires room { length line.old.items + 4 ≤ CAP }
+    ensures digits { line.new.items ≡ line.old.items ++ decimal n }
+    ensures short { length line.new.items ≤ length line.old.items + 4 }
+{
+    if n < 10 {
+        line.push(ones(n));
+        return;
+    }
+    if n < 100 {
+        line.try_extend_from_slice(&[tens(n), ones(n)]).unwrap();
+        return;
+    }
+    let (high, low) = (n / 100, n % 100);
+    if n < 1000 {
+        line.try_extend_from_slice(&[ones(high), tens(low), ones(low)])
+            .unwrap();
+        return;
+    }
+    line.try_extend_from_slice(&[tens(high), ones(high), tens(low), ones(low)])
+        .unwrap();
+}
+
+// Appends the decimal digits of a number from 10,000 on, below 100,000,000.
+#[inline(always)]
+fn push_eight<const CAP: usize>(line: &mut ArrayVec<u8, CAP>, n: u32)
+    requires some { 10000 ≤ n }
+    requires few { n < 100000000 }
+    requires room { length line.old.items + 8 ≤ CAP }
+    ensures digits { line.new.items ≡ line.old.items ++ decimal n }
+    ensures short { length line.new.items ≤ length line.old.items + 8 }
+{
+    push_four(line, n / 10_000);
+    let behind = n % 10_000;
+    let (high, low) = (behind / 100, behind % 100);
+    line.try_extend_from_slice(&[tens(high), ones(high), tens(low), ones(low)])
+        .unwrap();
+}
+
+// Appends the decimal digits of a number of any size.
+#[inline(never)]
+fn push_many<const CAP: usize>(line: &mut ArrayVec<u8, CAP>, n: u64)
     requires { length line.old.items + 20 ≤ CAP }
     ensures digits { line.new.items ≡ line.old.items ++ decimal n }
     ensures short { length line.new.items ≤ length line.old.items + 20 }
@@ -16,4 +76,21 @@ pub fn push_decimal<const CAP: usize>(line: &mut ArrayVec<u8, CAP>, n: u64)
     let mut digits = itoa::Buffer::new();
     let text = digits.format(n);
     line.try_extend_from_slice(text.as_bytes()).unwrap();
+}
+
+/// Appends the decimal digits of a number.
+pub fn push_decimal<const CAP: usize>(line: &mut ArrayVec<u8, CAP>, n: u64)
+    requires { length line.old.items + 20 ≤ CAP }
+    ensures digits { line.new.items ≡ line.old.items ++ decimal n }
+    ensures short { length line.new.items ≤ length line.old.items + 20 }
+{
+    if n < 10_000 {
+        push_four(line, n as u32);
+        return;
+    }
+    if n < 100_000_000 {
+        push_eight(line, n as u32);
+        return;
+    }
+    push_many(line, n);
 }
