@@ -1,6 +1,6 @@
 -- Bytes that are taken together: a whole header, bytes of one part, and runs of blocks.
 use Rattle.dnp_link_frame.proofs.DnpLaws.{dnp_take, blocks-none}
-use Rattle.dnp_link_frame.proofs.HeaderLaws.{header_so_far-ten}
+use Rattle.dnp_link_frame.proofs.HeaderLaws.{header_so_far-one, header_so_far-ten}
 use Rattle.dnp_link_frame.specs.BlockLaws.{length_byte-append, room_by-least, running_block-header}
 use Rattle.dnp_link_frame.specs.Blocks.{length_byte, room_by, room_of, running_block}
 use Rattle.dnp_link_frame.specs.{Crc.register_of, Dnp.DnpStandsFor, Dnp.Appends, Dnp.blocks_so_far}
@@ -17,7 +17,7 @@ use Rattle.std.proofs.{Common.length-append, Math.Bool.and-true, lemmas.Bool.con
 use Rattle.std.proofs.lemmas.Bool.{cond-false, ne_eqb, le-leb, and_left, lt-leb, and_right}
 use Rattle.std.proofs.lemmas.{Bool.cond_both, Bool.and_from, Bool.eq-eqb, List.length-take}
 use Rattle.std.proofs.lemmas.List.{length-drop, nil_from_length, take-append-drop, take_all}
-use Rattle.std.proofs.lemmas.List.Elements.{All-head, All-tail, All-drop}
+use Rattle.std.proofs.lemmas.List.Elements.{All-cons, All-head, All-tail, All-drop}
 use Rattle.std.specs.Prelude.{if◌then◌else◌}
 
 -- ---- one byte behind the header
@@ -94,54 +94,6 @@ dnp_take-in_header value next b few byte count tells check header blocks size la
     header
     (blocks ∙ sym (cond-false (begins_block value.len && nat_lt 10 value.len) _ _
     (and_left (begins_block value.len) (nat_lt 10 value.len) outside))) size lacks x stands
-
--- ---- bytes of a header between LEN and its last byte
-
-fits_header-inside : (n register byte : ℕ) → 3 ≤ n → n < 9 → fits_header n register byte ≡ true
-fits_header-inside n register byte behind before =
-    cond-false (n == 0) _ _ (ne_eqb n 0 (λ e. omega arith))
-    ∙ (cond-false (n == 1) _ _ (ne_eqb n 1 (λ e. omega arith))
-    ∙ (cond-false (n == 2) _ _ (ne_eqb n 2 (λ e. omega arith))
-    ∙ cond-false (n == 9) _ _ (ne_eqb n 9 (λ e. omega arith))))
-
-dnp_take_in_header : (value next : Dnp) (y : List ℕ) → 3 ≤ value.len
-    → value.len + length y ≤ 9 → AreBytes y
-    → next.len ≡ value.len + length y
-    → next.len_byte ≡ value.len_byte
-    → next.register ≡ crc 0xA6BC value.register y
-    → next.header_right ≡ value.header_right
-    → next.blocks_right ≡ value.blocks_right
-    → next.room ≡ room_by next.len_byte
-    → next.block_left ≡ left_in_block next.len
-    → (x : List ℕ) → DnpStandsFor value x → DnpStandsFor next (x ++ y)
-dnp_take_in_header value next [] behind before bytes count tells check header blocks
-    size lacks x stands =
-    dnp_take_none value next count tells check header blocks size lacks x stands
-dnp_take_in_header value next (b ∷ y) behind before bytes count tells check header blocks
-    size lacks x stands =
-    let middle : Dnp = record {
-      len = value.len + 1;
-      len_byte = value.len_byte;
-      room = room_by value.len_byte;
-      block_left = left_in_block (value.len + 1);
-      register = byte_step 0xA6BC value.register b;
-      header_right = value.header_right;
-      blocks_right = value.blocks_right;
-    } in
-    let first : DnpStandsFor middle (x ++ b ∷ []) =
-    dnp_take-in_header value middle b (omega arith) (All-head (λ n. n < 256) b y bytes)
-    refl
-    (sym (cond-false (value.len == 2) b value.len_byte
-    (ne_eqb value.len 2 (λ e. omega arith))))
-    refl
-    (sym (and-true value.header_right)
-    ∙ ap (λ t. value.header_right && t)
-    (sym (fits_header-inside value.len middle.register b behind (omega arith))))
-    refl refl refl x stands in
-    subst (DnpStandsFor next) (append_assoc x (b ∷ []) y)
-    (dnp_take_in_header middle next y (omega arith) (omega arith)
-    (All-tail (λ n. n < 256) b y bytes) (omega arith) tells
-    (check ∙ crc-cons 0xA6BC value.register b y) header blocks size lacks (x ++ b ∷ []) first)
 
 -- ---- bytes that go on in a block that has begun
 
@@ -270,23 +222,7 @@ lacks_there : (value : Dnp) (x : List ℕ) → DnpStandsFor value x
     → value.block_left ≡ left_in_block value.len
 lacks_there value x stands = stands.lacks ∙ ap left_in_block (sym stands.count)
 
--- bytes of a header between LEN and its last byte
-pub dnp_in_header : (value next : Dnp) (y : List ℕ) → 3 ≤ value.len
-    → value.len + length y ≤ 9 → AreBytes y
-    → next.len ≡ value.len + length y
-    → next.len_byte ≡ value.len_byte
-    → next.register ≡ crc 0xA6BC value.register y
-    → next.header_right ≡ value.header_right
-    → next.blocks_right ≡ value.blocks_right
-    → next.room ≡ value.room
-    → next.block_left ≡ value.block_left
-    → (x : List ℕ) → DnpStandsFor value x → DnpStandsFor next (x ++ y)
-dnp_in_header value next y behind before bytes count tells check header blocks room lacks x stands =
-    let lacked = lacks_there value x stands in
-    dnp_take_in_header value next y behind before bytes count tells check header blocks
-    (room_kept value next x stands tells room) (omega arith) x stands
-
--- one byte of it
+-- one byte of a header
 pub dnp_header_byte : (value next : Dnp) (b : ℕ) → value.len < 10 → b < 256
     → next.len ≡ value.len + 1
     → next.len_byte ≡ len_byte_after value.len value.len_byte b
@@ -435,7 +371,7 @@ pub dnp_take_header : (value next : Dnp) (y : List ℕ) → value.len ≡ 0 → 
     → next.len_byte ≡ get_or y 2 0
     → next.register ≡ crc 0xA6BC 0 y
     → next.header_right
-    ≡ is_header (get_or y 0 0) (get_or y 1 0) (get_or y 2 0) next.register
+    ≡ is_header (get_or y 0 0 == 0x05) (get_or y 1 0) (get_or y 2 0) next.register
     → next.blocks_right ≡ value.blocks_right
     → next.room ≡ room_by next.len_byte
     → next.block_left ≡ value.block_left
@@ -452,13 +388,58 @@ dnp_take_header value next y none whole bytes count tells check header blocks ro
       room_is = room ∙ ap room_by tells;
       lacks = omega arith;
       check = register;
-      header = header ∙ (ap (is_header (get_or y 0 0) (get_or y 1 0) (get_or y 2 0)) check
+      header = header ∙ (ap (is_header (get_or y 0 0 == 0x05) (get_or y 1 0) (get_or y 2 0)) check
           ∙ sym (header_so_far-ten y whole bytes));
       blocks = blocks ∙ (stands.blocks ∙ (ap blocks_so_far nothing
           ∙ (blocks-none [] (omega arith) ∙ sym (blocks-none y (omega arith)))));
       short = omega arith;
       bytes = bytes;
     })
+
+-- what a header has behind its first byte
+pub dnp_take_behind_first : (value next : Dnp) (y : List ℕ) → value.len ≡ 1 → length y ≡ 9
+    → AreBytes y
+    → next.len ≡ 10
+    → next.len_byte ≡ get_or y 1 0
+    → next.register ≡ crc 0xA6BC value.register y
+    → next.header_right ≡ is_header value.header_right (get_or y 0 0) (get_or y 1 0) next.register
+    → next.blocks_right ≡ value.blocks_right
+    → next.room ≡ room_by next.len_byte
+    → next.block_left ≡ value.block_left
+    → (x : List ℕ) → DnpStandsFor value x → DnpStandsFor next (x ++ y)
+dnp_take_behind_first value next y one nine bytes count tells check header blocks room lacks []
+    stands =
+    let none = stands.count in absurd (omega arith)
+dnp_take_behind_first value next y one nine bytes count tells check header blocks room lacks
+    (b ∷ []) stands =
+    let lacked = lacks_there value (b ∷ []) stands in
+    let all_bytes : AreBytes (b ∷ y) = All-cons (λ n. n < 256) b y (All-head (λ n. n < 256) b [] stands.bytes) bytes in
+    let first : value.register ≡ byte_step 0xA6BC 0 b =
+    stands.check
+    ∙ (ap register_of (running_block-header (b ∷ []) (omega arith))
+    ∙ (crc-cons 0xA6BC 0 b [] ∙ crc-nil 0xA6BC (byte_step 0xA6BC 0 b))) in
+    let all : next.register ≡ register_of (b ∷ y) =
+    check ∙ (ap (λ r. crc 0xA6BC r y) first ∙ sym (crc-cons 0xA6BC 0 b y)) in
+    let begun : value.header_right ≡ (b == 0x05) = stands.header ∙ header_so_far-one b in
+    let least = room_by-least (length_byte (b ∷ y)) in
+    record {
+      count = omega arith;
+      tells = tells;
+      room_is = room ∙ ap room_by tells;
+      lacks = omega arith;
+      check = all ∙ sym (ap register_of (running_block-header (b ∷ y) (omega arith)));
+      header = header
+          ∙ (ap (λ t. is_header t (get_or y 0 0) (get_or y 1 0) next.register) begun
+          ∙ (ap (is_header (b == 0x05) (get_or y 0 0) (get_or y 1 0)) all
+          ∙ sym (header_so_far-ten (b ∷ y) (omega arith) all_bytes)));
+      blocks = blocks ∙ (stands.blocks
+          ∙ (blocks-none (b ∷ []) (omega arith) ∙ sym (blocks-none (b ∷ y) (omega arith))));
+      short = omega arith;
+      bytes = all_bytes;
+    }
+dnp_take_behind_first value next y one nine bytes count tells check header blocks room lacks
+    (b ∷ c ∷ x) stands =
+    let more = stands.count in absurd (omega arith)
 
 -- a header has room
 pub header_has_room : (value : Dnp) (x y : List ℕ) → DnpStandsFor value x
@@ -467,6 +448,13 @@ header_has_room value x y stands few =
     let count = stands.count in
     let least = room_by-least (length_byte (x ++ y)) in
     ne_eqb (length (x ++ y)) (room_of (x ++ y)) (λ all. omega (arith, length-append x y))
+
+-- for the next byte too
+pub header_has_room-next : (value : Dnp) (x : List ℕ) → DnpStandsFor value x → value.len < 10
+    → false ≡ fills_room dnp_rules x
+header_has_room-next value x stands few =
+    sym (ap (fills_room dnp_rules) (sym (append-nil x))
+    ∙ header_has_room value x [] stands (omega arith))
 
 -- there is room as long as there are fewer bytes than the room has
 pub has_room : (value : Dnp) (x y : List ℕ) → DnpStandsFor value x → 3 ≤ value.len

@@ -217,6 +217,13 @@ pub header_so_far-none : header_so_far [] ≡ true
 unfolding header_so_far begins_right
 header_so_far-none = refl
 
+-- of one byte
+pub header_so_far-one : (b : ℕ) → header_so_far (b ∷ []) ≡ (b == 0x05)
+unfolding header_so_far begins_right
+header_so_far-one b =
+    and_true (((b == 0x05) && true) && true)
+    ∙ (and_true ((b == 0x05) && true) ∙ and_true (b == 0x05))
+
 -- of ten bytes or more it says whether the first ten are a good header
 pub header_so_far-whole : (x : List ℕ) → 10 ≤ length x
     → header_so_far x ≡ is_good_header (take 10 x)
@@ -229,7 +236,8 @@ header_so_far-whole x whole =
 
 -- of ten bytes
 pub header_so_far-ten : (x : List ℕ) → length x ≡ 10 → AreBytes x
-    → header_so_far x ≡ is_header (get_or x 0 0) (get_or x 1 0) (get_or x 2 0) (register_of x)
+    → header_so_far x
+    ≡ is_header (get_or x 0 0 == 0x05) (get_or x 1 0) (get_or x 2 0) (register_of x)
 unfolding header_so_far begins_right
 header_so_far-ten x ten bytes =
     let last : crc_so_far x ≡ (register_of x == residue) =

@@ -37,10 +37,11 @@ fits_header n register byte =
     else if n == 9 then register == residue
     else true
 
--- whether a header is right that begins with these bytes, where the register is what all leave
-abbrev pub is_header : ℕ → ℕ → ℕ → ℕ → Bool
+-- whether a header is right whose first byte is, or isn't, and which goes on with these two, where
+-- the register is what all leave
+abbrev pub is_header : Bool → ℕ → ℕ → ℕ → Bool
 is_header first second len register =
-    first == 0x05 && second == 0x64 && nat_le 5 len && register == residue
+    first && second == 0x64 && nat_le 5 len && register == residue
 
 -- what a header says of which this many bytes are there
 abbrev pub head_by : ℕ → Bool → Head

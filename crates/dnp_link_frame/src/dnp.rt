@@ -2,14 +2,16 @@
 use crate::crc::FIRST_REGISTER;
 use crate::size::{HEADER_LEN, LONGEST, room_by, size_by};
 use crate::steps::{
-    BLOCK_LEN, blocks_at_beginning, ends_right, head_by, header_after, is_header, is_whole,
+    BLOCK_LEN, START, blocks_at_beginning, ends_right, head_by, header_after, is_header, is_whole,
     len_byte_after,
 };
-use crate::table::{after_byte, after_bytes, of_bytes};
+use crate::table::{after_at_once, after_byte, after_bytes};
 use line_rules::{Head, LineRules};
 
 // HEADER_LEN and BLOCK_LEN as the lengths of arrays.
 const WHOLE_HEADER: usize = 10;
+
+const BEHIND_FIRST: usize = 9;
 
 const WHOLE_BLOCK: usize = 18;
 
@@ -34,7 +36,7 @@ pub struct Dnp {
 }
 
 impl Dnp {
-    ghost use Rattle.std.specs.Prelude.{◌≡◌, ℕ, ◌+◌, ◌<◌, ◌≤◌, true, false, List, ◌++◌};
+    ghost use Rattle.std.specs.Prelude.{◌≡◌, ℕ, ◌+◌, ◌<◌, ◌≤◌, true, false, List, [], ◌∷◌, ◌++◌};
     ghost use Rattle.std.specs.Prelude.{length, take};
     ghost use Rattle.line_rules.specs.Rules.{fills_room};
     ghost use Rattle.dnp_link_frame.specs.Rules.{dnp_rules};
@@ -44,24 +46,59 @@ impl Dnp {
     #[inline]
     fn take_header(&mut self, header: &[u8; WHOLE_HEADER])
         requires { self.old.len ≡ 0 }
-        ensures { (x : List ℕ) → DnpStandsFor self.old x → DnpStandsFor self.new (x ++ header.now) }
+        ensures stands { (x : List ℕ) → DnpStandsFor self.old x
+            → DnpStandsFor self.new (x ++ header.now) }
+        ensures count { self.new.len ≡ 10 }
     {
         self.len = HEADER_LEN;
         self.len_byte = header[2];
         self.room = room_by(self.len_byte);
-        self.register = of_bytes(header);
-        self.header_right = is_header(header[0], header[1], header[2], self.register);
+        self.register = after_at_once(FIRST_REGISTER, header);
+        let first = header[0] == START[0];
+        self.header_right = is_header(first, header[1], header[2], self.register);
     }
 
-    // Appends bytes of a header between LEN and its last byte. No test is made of them.
+    // Appends what a header has behind its first byte.
     #[inline]
-    fn take_in_header(&mut self, run: &[u8])
-        requires behind { 3 ≤ self.old.len }
-        requires before { self.old.len + length run.now ≤ 9 }
-        ensures { (x : List ℕ) → DnpStandsFor self.old x → DnpStandsFor self.new (x ++ run.now) }
+    fn take_behind_first(&mut self, following: &[u8; BEHIND_FIRST])
+        requires { self.old.len ≡ 1 }
+        ensures stands { (x : List ℕ) → DnpStandsFor self.old x
+            → DnpStandsFor self.new (x ++ following.now) }
+        ensures count { self.new.len ≡ 10 }
     {
-        self.register = after_bytes(self.register, run);
-        self.len += run.len() as u16;
+        self.len = HEADER_LEN;
+        self.len_byte = following[1];
+        self.room = room_by(self.len_byte);
+        self.register = after_at_once(self.register, following);
+        self.header_right = is_header(self.header_right, following[0], following[1], self.register);
+    }
+
+    // Appends a byte of a header.
+    #[inline(always)]
+    fn take_header_byte(&mut self, b: u8)
+        requires { self.old.len < 10 }
+        ensures stands { (x : List ℕ) → DnpStandsFor self.old x
+            → DnpStandsFor self.new (x ++ b ∷ []) }
+        ensures count { self.new.len ≡ self.old.len + 1 }
+    {
+        self.register = after_byte(self.register, b);
+        self.header_right = header_after(self.len, self.header_right, self.register, b);
+        self.len_byte = len_byte_after(self.len, self.len_byte, b);
+        self.room = room_by(self.len_byte);
+        self.len += 1;
+    }
+
+    // Appends a byte behind the header.
+    fn take_user_byte(&mut self, b: u8)
+        requires behind { 10 ≤ self.old.len }
+        requires room { self.old.len < self.old.room }
+        ensures { (x : List ℕ) → DnpStandsFor self.old x → DnpStandsFor self.new (x ++ b ∷ []) }
+    {
+        if self.block_left == 0 {
+            self.begin_block(&[b]);
+            return;
+        }
+        self.go_on(&[b]);
     }
 
     // Appends bytes of the block that has begun.
@@ -111,7 +148,7 @@ impl Dnp {
         let (mut len, mut register, mut right) = (self.len, self.register, self.blocks_right);
         while let Some((block, more)) = following.split_first_chunk::<WHOLE_BLOCK>() {
             right = blocks_at_beginning(len, right, register);
-            register = of_bytes(block);
+            register = after_at_once(FIRST_REGISTER, block);
             len += BLOCK_LEN;
             following = more;
         }
@@ -123,40 +160,52 @@ impl Dnp {
         }
     }
 
-    // Appends the next bytes of a header: all of it, the next byte, or as many as are between LEN
-    // and its last byte; says how many.
-    #[inline]
-    fn take_of_header(&mut self, following: &[u8]) -> usize
-        requires short { self.old.len < 10 }
-        requires room { is_full_dnp self.old ≡ false }
-        requires some { 0 < length following.now }
-        ensures some { 0 < result }
+    // Appends the bytes of a header, one after the other, as far as they are there; says how many.
+    fn take_header_bytes(&mut self, following: &[u8]) -> usize
+        requires { self.old.len < 10 }
         ensures within { result ≤ length following.now }
         ensures stands { (x : List ℕ) → DnpStandsFor self.old x
             → DnpStandsFor self.new (x ++ take result following.now) }
+        ensures all { result < length following.now → 10 ≤ self.new.len }
         ensures room { (x : List ℕ) (n : ℕ) → DnpStandsFor self.old x → n < result
             → fills_room dnp_rules (x ++ take n following.now) ≡ false }
     {
+        let run = following.len().min(usize::from(HEADER_LEN - self.len));
+        for place in 0..run {
+            self.take_header_byte(following[place]);
+        }
+        run
+    }
+
+    // Appends the bytes of a header, as far as they are there; says how many.
+    #[inline]
+    fn take_of_header(&mut self, following: &[u8]) -> usize
+        requires { self.old.len < 10 }
+        ensures within { result ≤ length following.now }
+        ensures stands { (x : List ℕ) → DnpStandsFor self.old x
+            → DnpStandsFor self.new (x ++ take result following.now) }
+        ensures all { result < length following.now → 10 ≤ self.new.len }
+        ensures room { (x : List ℕ) (n : ℕ) → DnpStandsFor self.old x → n < result
+            → fills_room dnp_rules (x ++ take n following.now) ≡ false }
+    {
+        if self.len == 1 {
+            if let Some((header, _)) = following.split_first_chunk::<BEHIND_FIRST>() {
+                self.take_behind_first(header);
+                return header.len();
+            }
+        }
         if self.len == 0 {
             if let Some((header, _)) = following.split_first_chunk::<WHOLE_HEADER>() {
                 self.take_header(header);
                 return header.len();
             }
         }
-        if self.len < 3 || self.len >= HEADER_LEN - 1 {
-            self.take(following[0]);
-            return 1;
-        }
-        let run = following.len().min(usize::from(HEADER_LEN - 1 - self.len));
-        self.take_in_header(&following[..run]);
-        run
+        self.take_header_bytes(following)
     }
 
     // Appends bytes behind the header, as many as there is room for; says how many.
-    #[inline]
     fn take_user(&mut self, following: &[u8]) -> usize
-        requires behind { 10 ≤ self.old.len }
-        requires room { is_full_dnp self.old ≡ false }
+        requires { 10 ≤ self.old.len }
         ensures within { result ≤ length following.now }
         ensures stands { (x : List ℕ) → DnpStandsFor self.old x
             → DnpStandsFor self.new (x ++ take result following.now) }
@@ -164,6 +213,9 @@ impl Dnp {
         ensures room { (x : List ℕ) (n : ℕ) → DnpStandsFor self.old x → n < result
             → fills_room dnp_rules (x ++ take n following.now) ≡ false }
     {
+        if self.full() {
+            return 0;
+        }
         let run = following.len().min(usize::from(self.room - self.len));
         self.take_blocks(&following[..run]);
         run
@@ -238,35 +290,25 @@ impl LineRules for Dnp {
         self.len >= self.room
     }
 
-    #[inline]
+    #[inline(always)]
     fn take(&mut self, b: u8) {
         if self.len >= HEADER_LEN {
-            if self.block_left == 0 {
-                self.begin_block(&[b]);
-                return;
-            }
-            self.go_on(&[b]);
+            self.take_user_byte(b);
             return;
         }
-        self.register = after_byte(self.register, b);
-        self.header_right = header_after(self.len, self.header_right, self.register, b);
-        self.len_byte = len_byte_after(self.len, self.len_byte, b);
-        self.room = room_by(self.len_byte);
-        self.len += 1;
+        self.take_header_byte(b);
     }
 
+    #[inline]
     fn take_some(&mut self, part: &[u8]) -> usize {
-        let mut taken = 0;
-        while taken < part.len() {
-            if self.full() {
-                return taken;
-            }
-            if self.len >= HEADER_LEN {
-                return taken + self.take_user(&part[taken..]);
-            }
-            taken += self.take_of_header(&part[taken..]);
+        if self.len >= HEADER_LEN {
+            return self.take_user(part);
         }
-        taken
+        let header = self.take_of_header(part);
+        if header >= part.len() {
+            return header;
+        }
+        header + self.take_user(&part[header..])
     }
 
     #[inline]

@@ -35,12 +35,13 @@ pub(crate) fn header_after(len: u16, header_right: bool, register: u16, byte: u8
     header_right && fits_header(len, register, byte)
 }
 
-// Whether a header is right that begins with these three bytes and leaves this register.
+// Whether a header is right whose first byte is, or isn't, which goes on with these two, and which
+// leaves this register.
 #[inline]
-pub(crate) fn is_header(first: u8, second: u8, len_byte: u8, register: u16) -> bool
+pub(crate) fn is_header(first: bool, second: u8, len_byte: u8, register: u16) -> bool
     ensures { result ≡ is_header first second len_byte register }
 {
-    first == START[0] && second == START[1] && len_byte >= COUNTED_OF_HEADER && register == RESIDUE
+    first && second == START[1] && len_byte >= COUNTED_OF_HEADER && register == RESIDUE
 }
 
 // What a header says of which this many bytes are there.

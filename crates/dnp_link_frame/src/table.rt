@@ -7,21 +7,31 @@ use crate::crc::{FIRST_REGISTER, POLYNOMIAL};
 use line_rules::{CrcTables, crc_at_once, crc_by_tables, step_by_table};
 
 /// The register that these bytes leave of `register`.
-#[inline]
+#[inline(always)]
 pub(crate) fn after_bytes(register: u16, bytes: &[u8]) -> u16
     ensures { result ≡ crc POLYNOMIAL register bytes.now }
 {
-    crc_by_tables::<POLYNOMIAL>(&TABLES, register, bytes)
+    macro_rules! by_length {
+        ($($length:literal)*) => {
+            match bytes.len() {
+                $($length => after_at_once(register, bytes),)*
+                0 => register,
+                1 => after_byte(register, bytes[0]),
+                _ => crc_by_tables::<POLYNOMIAL>(&TABLES, register, bytes),
+            }
+        };
+    }
+    by_length!(2 3 4 5 6 7 8 9 10 11 12 13 14 15 16 17 18)
 }
 
-/// The register that two to eighteen bytes leave of the first one.
+/// The register that two to eighteen bytes leave of `register`, where it is known how many.
 #[inline]
-pub(crate) fn of_bytes(bytes: &[u8]) -> u16
+pub(crate) fn after_at_once(register: u16, bytes: &[u8]) -> u16
     requires some { 2 ≤ length bytes.now }
     requires few { length bytes.now ≤ 18 }
-    ensures { result ≡ crc POLYNOMIAL FIRST_REGISTER bytes.now }
+    ensures { result ≡ crc POLYNOMIAL register bytes.now }
 {
-    crc_at_once::<POLYNOMIAL>(&TABLES, FIRST_REGISTER, bytes)
+    crc_at_once::<POLYNOMIAL>(&TABLES, register, bytes)
 }
 
 /// What `dnp_crc` is of these bytes, by the tables.

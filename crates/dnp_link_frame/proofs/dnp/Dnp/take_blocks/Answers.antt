@@ -27,7 +27,7 @@ loop-block-preserved c =
     } in
     let next : Dnp = record c.go_on.new.self {
       len = c.loop-block.len + 18;
-      register = c.of_bytes-register.result;
+      register = c.after_at_once-register.result;
       blocks_right = c.blocks_at_beginning-right.result;
     } in
     let before : IsBefore c.args.self.now c.args.run.now value c.loop-block.following.now =
@@ -44,7 +44,7 @@ loop-block-preserved c =
     (omega arith) (omega arith)
     (subst AreBytes (sym c.in-Some.ensures.cases.0)
     (All-take (λ b. b < 256) 18 c.loop-block.following.now before.bytes))
-    (omega arith) refl c.of_bytes-register.ensures refl c.blocks_at_beginning-right.ensures refl
+    (omega arith) refl c.after_at_once-register.ensures refl c.blocks_at_beginning-right.ensures refl
     (omega arith))
 
 pub returns-then-not-is_empty : goal.returns-then-not-is_empty

@@ -7,7 +7,8 @@ returns-in-Some-clause-room c = λ x n stands before.
     header_has_room c.args.self.now x (take n c.args.following.now) stands
     (omega (arith, length-take n c.args.following.now))
 
-pub returns-then-self-lt3-clause-room : goal.returns-then-self-lt3-clause-room
-returns-then-self-lt3-clause-room c = λ x n stands before.
+pub returns-in-Some-split_first_chunk-clause-room
+    : goal.returns-in-Some-split_first_chunk-clause-room
+returns-in-Some-split_first_chunk-clause-room c = λ x n stands before.
     header_has_room c.args.self.now x (take n c.args.following.now) stands
     (omega (arith, length-take n c.args.following.now))

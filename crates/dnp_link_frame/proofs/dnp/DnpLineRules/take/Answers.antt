@@ -1,9 +1,0 @@
-use Rattle.std.proofs.Common.{refl, arith}
-use Rattle.dnp_link_frame.proofs.DnpRuns.{dnp_header_byte}
-use Rattle.dnp_link_frame.proofs.dnp.DnpLineRules.take.Goals as goal
-
-pub returns : goal.returns
-returns c =
-    dnp_header_byte c.args.self.now _ c.args.b (omega arith) (omega arith) refl
-    c.len_byte_after-self.ensures c.after_byte-self.ensures c.header_after-self.ensures refl
-    c.room_by-self.ensures refl
