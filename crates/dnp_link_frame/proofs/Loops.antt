@@ -1,88 +1,92 @@
 -- What a loop over blocks has done, and what it does with the next one.
-use Rattle.dnp_link_frame.proofs.BlockParts.{in_blocks-none, in_blocks-next, right_in_blocks-none}
-use Rattle.dnp_link_frame.proofs.BlockParts.{right_in_blocks-on, right_in_blocks-stop}
-use Rattle.dnp_link_frame.proofs.BlockParts.{user_in_blocks-none, user_in_blocks-next}
+use Rattle.dnp_link_frame.proofs.BlockParts.{in_blocks-none, in_blocks-next, length-in_blocks}
+use Rattle.dnp_link_frame.proofs.BlockParts.{right_in_blocks-none, right_in_blocks-on}
+use Rattle.dnp_link_frame.proofs.BlockParts.{right_in_blocks-stop, user_in_blocks-none}
+use Rattle.dnp_link_frame.proofs.BlockParts.{user_in_blocks-next}
 use Rattle.dnp_link_frame.proofs.Parts.{part_bounds}
 use Rattle.dnp_link_frame.specs.Beginnings.{right_in_part, right_in_blocks, user_in_blocks}
 use Rattle.dnp_link_frame.specs.{Crc.crc_dnp, Frame.with_crc, Frame.blocks_for, Frame.in_blocks}
 use Rattle.line_rules.specs.Bytes.{low_first}
 use Rattle.std.proofs.Common.{◌≡◌, ℕ, zero, suc, ◌+◌, ◌-◌, ◌*◌, ◌<◌, ◌≤◌, List, [], ◌++◌, length}
 use Rattle.std.proofs.Common.{take, drop, min, arith, sym, ◌∙◌, ap, add-one, length-append}
-use Rattle.std.proofs.Common.{append_assoc, append-nil}
-use Rattle.std.proofs.lemmas.List.{length-take, length-drop, drop-drop, take_min, take_all}
+use Rattle.std.proofs.Common.{append_assoc, append-nil, refl}
+use Rattle.std.proofs.lemmas.List.{length-take, length-drop, drop-drop, take_all}
 
 -- ---- blocks that are built
 
-in_blocks-suc : (n : ℕ) (user : List ℕ)
-    → in_blocks (suc n) user ≡ in_blocks n user ++ with_crc (take 16 (drop (16 * n) user))
-in_blocks-suc zero user =
-    in_blocks-next 0 user
-    ∙ (ap (λ y. with_crc (take 16 user) ++ y) (in_blocks-none (drop 16 user))
-    ∙ (append-nil (with_crc (take 16 user))
-    ∙ ap (λ y. y ++ with_crc (take 16 user)) (sym (in_blocks-none user))))
-in_blocks-suc (suc n) user =
-    let place : 16 + 16 * n ≡ 16 * suc n = omega arith in
-    in_blocks-next (suc n) user
-    ∙ (ap (λ y. with_crc (take 16 user) ++ y)
-    (in_blocks-suc n (drop 16 user)
-    ∙ ap (λ y. in_blocks n (drop 16 user) ++ with_crc (take 16 y))
-    (drop-drop (16 * n) 16 user ∙ ap (λ k. drop k user) place))
-    ∙ (sym (append_assoc (with_crc (take 16 user)) (in_blocks n (drop 16 user)) _)
-    ∙ ap (λ y. y ++ with_crc (take 16 (drop (16 * suc n) user))) (sym (in_blocks-next n user))))
-
--- the next block, as a slice of the user data
-block_is : (n to : ℕ) (user : List ℕ) → to ≡ min (length user) (n * 16 + 16)
-    → take (to - n * 16) (drop (n * 16) user) ≡ take 16 (drop (16 * n) user)
-block_is n to user is =
-    let rest = length-drop (n * 16) user in
-    let some : to - n * 16 ≡ min 16 (length (drop (n * 16) user)) = omega arith in
-    let place : n * 16 ≡ 16 * n = omega arith in
-    ap (λ k. take k (drop (n * 16) user)) some
-    ∙ (take_min 16 (drop (n * 16) user) ∙ ap (λ k. take 16 (drop k user)) place)
-
-pub in_blocks-more : (n to : ℕ) (user front items next : List ℕ)
-    → to ≡ min (length user) (n * 16 + 16) → items ≡ front ++ in_blocks n user
-    → next ≡ items ++ with_crc (take (to - n * 16) (drop (n * 16) user))
-    → next ≡ front ++ in_blocks (n + 1) user
-in_blocks-more n to user front items next is before pushed =
-    pushed
-    ∙ (ap (λ y. items ++ with_crc y) (block_is n to user is)
-    ∙ (ap (λ y. y ++ with_crc (take 16 (drop (16 * n) user))) before
-    ∙ (append_assoc front (in_blocks n user) (with_crc (take 16 (drop (16 * n) user)))
-    ∙ ap (λ y. front ++ y)
-    (sym (in_blocks-suc n user) ∙ ap (λ k. in_blocks k user) (sym (add-one n))))))
-
-in_blocks-most : (n : ℕ) (user : List ℕ) → length (in_blocks n user) ≤ 18 * n
-in_blocks-most zero user = let e = ap length (in_blocks-none user) in omega arith
-in_blocks-most (suc n) user =
-    let rest = in_blocks-most n (drop 16 user) in
-    let first = length-take 16 user in
-    let parts = ap length (in_blocks-next n user)
-    ∙ length-append (with_crc (take 16 user)) (in_blocks n (drop 16 user)) in
-    omega (arith, length-append (take 16 user) (low_first (crc_dnp (take 16 user))))
+-- What is there and the blocks of what follows are the header and the blocks of all user data.
+pub record IsBuilt (header user items following : List ℕ) : Type 0 where
+  pub is : items ++ in_blocks (blocks_for (length following)) following
+      ≡ with_crc header ++ in_blocks (blocks_for (length user)) user
 
 -- before the first block there is the header
-pub in_blocks-start : (header fields items before user : List ℕ) → before ≡ []
-    → items ≡ before ++ with_crc fields → fields ≡ header
-    → items ≡ with_crc header ++ in_blocks 0 user
-in_blocks-start header fields items before user none pushed is =
-    pushed
-    ∙ (ap (λ y. y ++ with_crc fields) none
-    ∙ (ap with_crc is
-    ∙ (sym (append-nil (with_crc header))
-    ∙ ap (λ y. with_crc header ++ y) (sym (in_blocks-none user)))))
+pub is_built-first : (header fields items before user : List ℕ) → before ≡ []
+    → items ≡ before ++ with_crc fields → fields ≡ header → IsBuilt header user items user
+is_built-first header fields items before user none pushed is = record {
+  is = ap (λ y. y ++ in_blocks (blocks_for (length user)) user)
+      (pushed ∙ (ap (λ y. y ++ with_crc fields) none ∙ ap with_crc is));
+}
+
+-- a whole block
+pub is_built-next : (header user items next following block more : List ℕ)
+    → 16 ≤ length following → block ≡ take 16 following → more ≡ drop 16 following
+    → next ≡ items ++ with_crc block → IsBuilt header user items following
+    → IsBuilt header user next more
+is_built-next header user items next following block more whole front behind pushed before =
+    let n : ℕ = blocks_for (length more) in
+    let fewer : length more ≡ length (drop 16 following) = ap length behind in
+    let one_more : blocks_for (length following) ≡ suc (blocks_for (length more)) =
+    omega (arith, length-drop 16 following) in
+    let parts : in_blocks (blocks_for (length following)) following
+    ≡ with_crc block ++ in_blocks (blocks_for (length more)) more =
+    ap (λ k. in_blocks k following) one_more
+    ∙ (in_blocks-next n following
+    ∙ (ap (λ y. with_crc y ++ in_blocks n (drop 16 following)) (sym front)
+    ∙ ap (λ y. with_crc block ++ in_blocks n y) (sym behind))) in
+    record {
+      is = ap (λ y. y ++ in_blocks n more) pushed
+          ∙ (append_assoc items (with_crc block) (in_blocks n more)
+          ∙ (ap (λ y. items ++ y) (sym parts) ∙ before.is));
+    }
+
+-- the last block, where it is shorter
+pub is_built-last : (header user items next following : List ℕ) → 0 < length following
+    → length following ≤ 16 → next ≡ items ++ with_crc following
+    → IsBuilt header user items following
+    → next ≡ with_crc header ++ in_blocks (blocks_for (length user)) user
+is_built-last header user items next following some short pushed before =
+    let one : blocks_for (length following) ≡ suc 0 = omega arith in
+    let alone : in_blocks (blocks_for (length following)) following ≡ with_crc following =
+    ap (λ k. in_blocks k following) one
+    ∙ (in_blocks-next 0 following
+    ∙ (ap (λ y. with_crc y ++ in_blocks 0 (drop 16 following)) (take_all 16 following short)
+    ∙ (ap (λ y. with_crc following ++ y) (in_blocks-none (drop 16 following))
+    ∙ append-nil (with_crc following)))) in
+    pushed ∙ (ap (λ y. items ++ y) (sym alone) ∙ before.is)
+
+-- where nothing follows
+pub is_built-whole : (header user items following : List ℕ) → following ≡ []
+    → IsBuilt header user items following
+    → items ≡ with_crc header ++ in_blocks (blocks_for (length user)) user
+is_built-whole header user items following none before =
+    let nothing : in_blocks (blocks_for (length following)) following ≡ [] =
+    ap (λ y. in_blocks (blocks_for (length y)) y) none ∙ in_blocks-none [] in
+    sym (append-nil items) ∙ (ap (λ y. items ++ y) (sym nothing) ∙ before.is)
 
 -- there is room for the next block and its CRC
-pub in_blocks-room : (n to : ℕ) (user front items : List ℕ) → length user ≤ 250
-    → n < blocks_for (length user) → to ≡ min (length user) (n * 16 + 16) → length front ≡ 10
-    → items ≡ front ++ in_blocks n user
-    → length items + length (take (to - n * 16) (drop (n * 16) user)) + 2 ≤ 292
-in_blocks-room n to user front items short left is header before =
-    let most = in_blocks-most n user in
-    let rest = length-drop (n * 16) user in
-    let block = length-take (to - n * 16) (drop (n * 16) user) in
-    let all = ap length before ∙ length-append front (in_blocks n user) in
-    omega arith
+pub is_built-room : (header user items following block : List ℕ) → length header ≡ 8
+    → length user ≤ 250 → 0 < length following → length block ≤ 16
+    → length block ≤ length following → IsBuilt header user items following
+    → length items + length block + 2 ≤ 292
+is_built-room header user items following block eight fits some short part before =
+    let all : length items + length (in_blocks (blocks_for (length following)) following)
+    ≡ length (with_crc header) + length (in_blocks (blocks_for (length user)) user) =
+    sym (length-append items (in_blocks (blocks_for (length following)) following))
+    ∙ (ap length before.is
+    ∙ length-append (with_crc header) (in_blocks (blocks_for (length user)) user)) in
+    let follows = length-in_blocks (blocks_for (length following)) following refl in
+    let size = length-in_blocks (blocks_for (length user)) user refl in
+    omega (arith, length-append header (low_first (crc_dnp header)))
 
 -- ---- blocks that are taken apart
 

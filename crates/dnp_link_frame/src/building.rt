@@ -42,6 +42,7 @@ fn header_fields(header: &Header, user_len: u8) -> [u8; 8]
 }
 
 // Appends a part of a frame and its CRC.
+#[inline(always)]
 fn push_with_crc(bytes: &mut DnpBytes, part: &[u8])
     requires { array_vec_len bytes.old + length part.now + 2 ≤ 292 }
     ensures { bytes.new.items ≡ bytes.old.items ++ with_crc part.now }
@@ -63,9 +64,14 @@ pub fn build(header: &Header, user: &[u8]) -> Result<DnpBytes, TooMuchData>
     }
     let mut bytes = DnpBytes::new();
     push_with_crc(&mut bytes, &header_fields(header, user.len() as u8));
-    for n in 0..user.len().div_ceil(BLOCK) {
-        let from = n * BLOCK;
-        push_with_crc(&mut bytes, &user[from..user.len().min(from + BLOCK)]);
+    let mut following = user;
+    while let Some((block, more)) = following.split_first_chunk::<BLOCK>() {
+        push_with_crc(&mut bytes, block);
+        following = more;
     }
+    if following.is_empty() {
+        return Ok(bytes);
+    }
+    push_with_crc(&mut bytes, following);
     Ok(bytes)
 }

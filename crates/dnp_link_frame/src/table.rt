@@ -35,6 +35,7 @@ pub(crate) fn after_at_once(register: u16, bytes: &[u8]) -> u16
 }
 
 /// What `dnp_crc` is of these bytes, by the tables.
+#[inline(always)]
 pub(crate) fn dnp_crc_by_tables(bytes: &[u8]) -> u16
     ensures { result ≡ crc_dnp bytes.now }
 {
