@@ -10,9 +10,12 @@ pub const MAX_DELAY: usize = 64;
 /// How many ticks a ring takes at once at most.
 pub const MAX_RUN: usize = 64;
 
-/// How many places a ring has: what it holds moves on by a place a tick, and is moved back to the
-/// front when no place is left.
-const PLACES: usize = 256;
+/// How many places a ring has. What it holds moves on by a place a tick, and is moved back to the
+/// front where it would come past `USED` of them. The places behind are spare: so the marks of the
+/// longest run can be written behind what is held, and a vector of marks be read from any place on.
+const PLACES: usize = 320;
+
+const USED: usize = 256;
 
 // The marks of the longest run: of bytes, and of silent ticks. They are written as one, which takes
 // no call: what stands behind a shorter run's last mark is written over before it is read.
@@ -52,8 +55,8 @@ pub struct DelayRing<const D: usize> {
     ghost some: { 1 ≤ D },
     ghost fits: { D ≤ 64 },
     ghost within: { oldest + D ≤ 256 },
-    ghost byte_room: { length bytes ≡ 256 },
-    ghost mark_room: { length marks ≡ 256 },
+    ghost byte_room: { length bytes ≡ 320 },
+    ghost mark_room: { length marks ≡ 320 },
 }
 
 impl<const D: usize> DelayRing<D> {
@@ -83,7 +86,7 @@ impl<const D: usize> DelayRing<D> {
         ensures ticks { ring_ticks self.new ≡ ring_ticks self.old }
         ensures room { self.new.oldest + D + count ≤ 256 }
     {
-        if self.oldest + D + count > PLACES {
+        if self.oldest + D + count > USED {
             self.move_back();
         }
     }
@@ -132,7 +135,7 @@ impl<const D: usize> DelayRing<D> {
         ensures { ring_ticks self.new
             ≡ drop (length bytes.now) (ring_ticks self.old ++ map Byte bytes.now) }
     {
-        self.make_room(MAX_RUN);
+        self.make_room(bytes.len());
         let place = self.oldest + D;
         overwrite(&mut self.bytes, place, bytes);
         overwrite(&mut self.marks, place, &BYTES);
@@ -145,7 +148,7 @@ impl<const D: usize> DelayRing<D> {
         requires { ticks ≤ 64 }
         ensures { ring_ticks self.new ≡ drop ticks (ring_ticks self.old ++ silent ticks) }
     {
-        self.make_room(MAX_RUN);
+        self.make_room(ticks);
         let place = self.oldest + D;
         overwrite(&mut self.marks, place, &SILENCE);
         self.oldest += ticks;
@@ -153,7 +156,7 @@ impl<const D: usize> DelayRing<D> {
 
     #[inline]
     fn tick_at(&self, place: usize) -> Tick
-        requires { place < 256 }
+        requires { place < 320 }
         ensures { result ≡ slice_index_or (marked_ticks self.now.bytes self.now.marks) place Silent }
     {
         if self.marks[place] == 0 {
@@ -182,7 +185,7 @@ impl<const D: usize> DelayRing<D> {
         ensures all { result < most
             → slice_index_or self.now.marks (self.now.oldest + result) 0 ≡ 0 }
     {
-        if most <= LANES && self.oldest <= PLACES - LANES {
+        if D <= LANES {
             return bytes_from(&self.marks, self.oldest).min(most);
         }
         for n in 0..most {
@@ -233,7 +236,7 @@ impl<const D: usize> DelayRing<D> {
         ensures all { result < most
             → (slice_index_or (ring_ticks self.now) result Silent ≡ Silent → ⊥) }
     {
-        if most <= LANES && self.oldest <= PLACES - LANES {
+        if D <= LANES {
             return silence_from(&self.marks, self.oldest).min(most);
         }
         for n in 0..most {
@@ -252,11 +255,9 @@ impl<const D: usize> DelayRing<D> {
         ensures alike { AreAlike (take result (ring_ticks self.now)) }
         ensures some { 0 < most → 0 < result }
     {
-        let silence = self.front_silence(most);
-        if silence > 0 {
-            silence
-        } else {
-            self.front_bytes(most).len()
+        match self.peek(0) {
+            Tick::Silent => self.front_silence(most),
+            Tick::Byte(_) => self.front_bytes(most).len(),
         }
     }
 

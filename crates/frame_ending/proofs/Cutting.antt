@@ -58,14 +58,14 @@ running line quiet = by_last (last_burst line) refl quiet
         let end = within.within in
         record { last = d; is_last = is; within = within; near = omega arith }
 
-or_more : (x : Bool) (gap : ℕ) → ((x || nat_le 2 gap) || nat_le 2 (gap + 1))
-    ≡ (x || nat_le 2 (gap + 1))
-or_more true gap = refl
-or_more false gap =
+pub or_more : (x : Bool) (gap later : ℕ) → gap ≤ later
+    → ((x || nat_le 2 gap) || nat_le 2 later) ≡ (x || nat_le 2 later)
+or_more true gap later less = refl
+or_more false gap later less =
     ⊎_elim
-    (λ yes. let more : 2 ≤ gap + 1 = omega (arith, leb-true 2 gap yes) in
-    ap (λ v. v || nat_le 2 (gap + 1)) yes ∙ sym (le-leb 2 (gap + 1) more))
-    (λ not_yet. ap (λ v. v || nat_le 2 (gap + 1)) not_yet)
+    (λ yes. let more : 2 ≤ later = omega (arith, leb-true 2 gap yes) in
+    ap (λ v. v || nat_le 2 later) yes ∙ sym (le-leb 2 later more))
+    (λ not_yet. ap (λ v. v || nat_le 2 later) not_yet)
     (cases_Bool (nat_le 2 gap))
 
 or_false : (x : Bool) → (x || false) ≡ x
@@ -394,11 +394,21 @@ module _ {R : Type 0} (proto : LineRules R) where
               ∙ sym (ap (λ o. has_extra_in rules o) last));
           paused_is = ap (λ x. x || nat_le 2 (v.quiet + 1)) (was_paused run)
               ∙ (ap (λ k. (has_pause d.body || nat_le 2 k) || nat_le 2 (v.quiet + 1)) (sym gap)
-              ∙ (or_more (has_pause d.body) v.quiet
+              ∙ (or_more (has_pause d.body) v.quiet (v.quiet + 1) (omega arith)
               ∙ (ap (λ k. has_pause d.body || nat_le 2 k) gap'
               ∙ sym (ap (λ o. has_paused_in m' o) last))));
           bytes = subst P (sym last) (subst P run.is_last old.bytes);
         }
+
+    -- whether two silent ticks stood together is told by the silent ticks since the last byte too
+    pub paused-by : v.quiet < 4 → v.paused ≡ (v.paused || nat_le 2 v.quiet)
+    paused-by quiet =
+        let run = is_running quiet in
+        let body = has_pause run.last.body in
+        let is : v.paused ≡ (body || nat_le 2 v.quiet) =
+        was_paused run ∙ ap (λ k. body || nat_le 2 k) (sym (quiet_gap run quiet)) in
+        is ∙ (sym (or_more body v.quiet v.quiet (omega arith))
+        ∙ ap (λ x. x || nat_le 2 v.quiet) (sym is))
 
     pub cut-wait : v.quiet + 1 < 4 → Pause (v.quiet + 1) ≡ cut_of rules line Silent
     cut-wait quiet =

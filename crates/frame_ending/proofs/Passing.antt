@@ -1,24 +1,18 @@
 -- Bytes of a burst that aren't live, taken as a run.
-use Rattle.frame_ending.proofs.Cutting.{cut-begin, cut-pass, cut-go_on, stands-pass}
+use Rattle.frame_ending.proofs.Cutting.{cut-begin, cut-pass, cut-go_on, stands-pass, stands-wait}
+use Rattle.frame_ending.proofs.Cutting.{paused-by, or_more}
 use Rattle.frame_ending.proofs.Runs.{stands-silence}
 use Rattle.frame_ending.specs.{Cuts.cut_of, Cuts.cuts_after, SoFar.live_bytes_so_far}
 use Rattle.frame_ending.specs.{Stands.StandsFor, declared.burst_cut.BurstCut.BurstCut}
 use Rattle.frame_ending.specs.declared.cut.Cut.TheVariants.{Start, Live, Extra}
 use Rattle.line_rules.specs.Rules.{Rules, fills_room}
 use Rattle.line_rules.specs.declared.line_rules.LineRules.{Ghosts as LineRules}
-use Rattle.std.proofs.Common.{◌≡◌, ◌∙◌, ℕ, ◌+◌, ◌-◌, ◌<◌, ◌≤◌, Bool, true, ◌||◌, List, [], ◌∷◌}
+use Rattle.std.proofs.Common.{◌≡◌, ◌∙◌, ℕ, ◌+◌, ◌<◌, ◌≤◌, Bool, true, ◌||◌, List, [], ◌∷◌}
 use Rattle.std.proofs.Common.{◌++◌, length, map, refl, subst, ap, arith, append_assoc, false}
-use Rattle.{std.proofs.lemmas.List.replicate-append-replicate, yasir_ticks.specs.Ticks.silent}
+use Rattle.std.proofs.Common.{min, nat_le, suc, zero, sym, ⊎_elim}
+use Rattle.std.proofs.lemmas.{Bool.cases_lt, List.append-nil}
+use Rattle.yasir_ticks.specs.Ticks.{silent}
 use Rattle.yasir_ticks.specs.declared.tick.Tick.{Tick, TheVariants.Silent, TheVariants.Byte}
-
--- silence behind silence
-silence-joined : (line : List Tick) (w n : ℕ) → w ≤ n
-    → (line ++ silent w) ++ silent (n - w) ≡ line ++ silent n
-silence-joined line w n less =
-    let whole : w + (n - w) ≡ n = omega arith in
-    append_assoc line (silent w) (silent (n - w))
-    ∙ (ap (λ l. line ++ l) (replicate-append-replicate w (n - w) Silent)
-    ∙ ap (λ k. line ++ silent k) whole)
 
 module _ {R : Type 0} (proto : LineRules R) where
   abbrev rules : Rules
@@ -83,12 +77,37 @@ module _ {R : Type 0} (proto : LineRules R) where
         let live = cut-go_on proto v line old full b quiet full_is open' room in
         let other : Live b ≡ Extra b = live ∙ is_extra in cc
 
-  -- ---- silence behind a burst that is closed
+  -- ---- silence behind a byte, and on behind the burst
 
-  pub stands-waited : (v : BurstCut R) (line : List Tick) (w n t : ℕ) → w ≤ n
-      → StandsFor proto v (line ++ silent w) → 4 ≤ v.quiet → v.taken + (n - w) ≡ t
-      → StandsFor proto (record v { taken = t }) (line ++ silent n)
-  stands-waited v line w n t less old quiet is =
-      let P : List Tick → Type 0 = λ l. StandsFor proto (record v { taken = t }) l in
-      subst P (silence-joined line w n less)
-      (stands-silence proto (n - w) v (line ++ silent w) t old quiet is)
+  abbrev pub waited_on : BurstCut R → ℕ → ℕ → BurstCut R
+  waited_on v t quiet = record v { taken = t; quiet = quiet; paused = v.paused || nat_le 2 quiet }
+
+  pub stands-waits : (n : ℕ) (v : BurstCut R) (line : List Tick) (t q : ℕ) → StandsFor proto v line
+      → v.quiet < 4 → v.taken + n ≡ t → q ≡ min 4 (v.quiet + n)
+      → StandsFor proto (waited_on v t q) (line ++ silent n)
+  stands-waits zero v line t q old few is so =
+      let A : ℕ → Type 0 = λ k. StandsFor proto (record v { taken = k }) line in
+      let B : ℕ → Type 0 = λ k. StandsFor proto (record v { taken = t; quiet = k }) line in
+      let C : Bool → Type 0 = λ p. StandsFor proto
+      (record v { taken = t; quiet = q; paused = p }) line in
+      let L : List Tick → Type 0 = λ l. StandsFor proto (waited_on v t q) l in
+      let same : v.taken ≡ t = omega arith in
+      let still : v.quiet ≡ q = omega arith in
+      let told = paused-by proto v line old few ∙ ap (λ k. v.paused || nat_le 2 k) still in
+      subst L (sym (append-nil line)) (subst C told (subst B still (subst A same old)))
+  stands-waits (suc n) v line t q old few is so =
+      let first : BurstCut R = waited_on v (v.taken + 1) (v.quiet + 1) in
+      let next : StandsFor proto first (line ++ Silent ∷ []) = stands-wait proto v line old few in
+      let longer : List Tick = (line ++ Silent ∷ []) ++ silent n in
+      let B : ℕ → Type 0 = λ k. StandsFor proto (waited_on v t k) longer in
+      let C : Bool → Type 0 = λ p. StandsFor proto
+      (record v { taken = t; quiet = q; paused = p }) longer in
+      let L : List Tick → Type 0 = λ l. StandsFor proto (waited_on v t q) l in
+      subst L (append_assoc line (Silent ∷ []) (silent n))
+      (⊎_elim
+      (λ less. subst C (or_more v.paused (v.quiet + 1) q (omega arith))
+      (stands-waits n first (line ++ Silent ∷ []) t q next less (omega arith) (omega arith)))
+      (λ more.
+      let whole : v.quiet + 1 ≡ q = omega arith in
+      subst B whole (stands-silence proto n first (line ++ Silent ∷ []) t next more (omega arith)))
+      (cases_lt (v.quiet + 1) 4))

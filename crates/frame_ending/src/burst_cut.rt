@@ -268,13 +268,15 @@ impl<R: LineRules> BurstCut<R> {
         ensures stands { (line : List Tick) → StandsFor R.LineRules self.old line
             → StandsFor R.LineRules self.new (line ++ silent ticks) }
     {
-        for waited in 0..ticks {
-            if self.quiet >= T3_5_TICKS {
-                self.taken += u64::from(ticks - waited);
-                return;
-            }
-            let _ = self.wait();
+        let count = u64::from(ticks);
+        self.taken += count;
+        if self.quiet >= T3_5_TICKS {
+            return;
         }
+        let still = u32::from(T3_5_TICKS - self.quiet);
+        let quiet = self.quiet + ticks.min(still) as u8;
+        self.paused |= quiet >= T1_5_TICKS;
+        self.quiet = quiet;
     }
 
     /// The live bytes.

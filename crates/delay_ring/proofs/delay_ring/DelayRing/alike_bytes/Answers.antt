@@ -1,7 +1,7 @@
 use Rattle.delay_ring.proofs.{Marks.marked-silent, Windows.alike-bytes, Windows.ring-at}
 use Rattle.delay_ring.specs.DelayRing.{ring_ticks}
-use Rattle.std.proofs.Common.{◌≡◌, ◌∙◌, ◌+◌, ◌-◌, sym, ap, arith, length, take, drop, map, ℕ, List}
-use Rattle.std.proofs.Common.{[], slice_index_or, refl}
+use Rattle.std.proofs.Common.{◌≡◌, ◌∙◌, ◌+◌, ◌-◌, sym, ap, arith, length, take, drop, map, ℕ}
+use Rattle.std.proofs.Common.{[], slice_index_or}
 use Rattle.std.proofs.lemmas.List.{length-take-le, length-drop}
 use Rattle.yasir_ticks.specs.declared.tick.Tick.TheVariants.{Silent, Byte}
 use Rattle.delay_ring.proofs.delay_ring.DelayRing.alike_bytes.Goals as goal

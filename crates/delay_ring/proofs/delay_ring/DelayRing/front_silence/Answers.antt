@@ -41,27 +41,27 @@ returns-clause-silent g c =
 
 -- ---- by vectors
 
-pub returns-then-self-clause-silent : goal.returns-then-self-clause-silent
-returns-then-self-clause-silent g c =
+pub returns-then-this-le-LANES-clause-silent : goal.returns-then-this-le-LANES-clause-silent
+returns-then-this-le-LANES-clause-silent g c =
     let ring = c.args.self.now in
     let bytes = ring.byte_room in
     let marks = ring.mark_room in
     let within = ring.within in
     let most = c.requires in
-    let few = c.if-most-le-LANES.true in
+    let few = c.if-this-le-LANES.true in
     let least = c.min.ensures in
     front-silent g.row.D ring.oldest ring.bytes ring.marks (bytes ∙ sym marks) (omega arith)
     c.min.result (omega arith)
     (λ j less. c.silence_from.ensures.silent j (omega arith) (omega arith))
 
-pub returns-then-self-clause-all : goal.returns-then-self-clause-all
-returns-then-self-clause-all g c = λ short is.
+pub returns-then-this-le-LANES-clause-all : goal.returns-then-this-le-LANES-clause-all
+returns-then-this-le-LANES-clause-all g c = λ short is.
     let ring = c.args.self.now in
     let bytes = ring.byte_room in
     let marks = ring.mark_room in
     let within = ring.within in
     let most = c.requires in
-    let few = c.if-most-le-LANES.true in
+    let few = c.if-this-le-LANES.true in
     let least = c.min.ensures in
     let k : ℕ = c.min.result in
     let same : c.silence_from.result ≡ k = omega arith in

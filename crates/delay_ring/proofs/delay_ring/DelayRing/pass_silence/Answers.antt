@@ -1,5 +1,5 @@
 use Rattle.delay_ring.{proofs.Windows.silence-comes, specs.DelayRing.marked_ticks}
-use Rattle.std.proofs.Common.{◌≡◌, ◌∙◌, ◌+◌, ◌-◌, ◌++◌, sym, ap, arith, length, take, drop}
+use Rattle.std.proofs.Common.{◌≡◌, ◌∙◌, ◌+◌, ◌-◌, ◌++◌, sym, ap, arith, take, drop}
 use Rattle.std.proofs.Common.{append_assoc, replicate, List, ℕ}
 use Rattle.{std.proofs.lemmas.List.replicate-append-replicate, yasir_ticks.specs.Ticks.silent}
 use Rattle.delay_ring.proofs.delay_ring.DelayRing.pass_silence.Goals as goal
