@@ -13,9 +13,9 @@ pub const MAX_RUN: usize = 64;
 /// How many places a ring has. What it holds moves on by a place a tick, and is moved back to the
 /// front where it would come past `USED` of them. The places behind are spare: so the marks of the
 /// longest run can be written behind what is held, and a vector of marks be read from any place on.
-const PLACES: usize = 320;
+const PLACES: usize = 256;
 
-const USED: usize = 256;
+const USED: usize = 192;
 
 // The marks of the longest run: of bytes, and of silent ticks. They are written as one, which takes
 // no call: what stands behind a shorter run's last mark is written over before it is read.
@@ -54,9 +54,9 @@ pub struct DelayRing<const D: usize> {
     oldest: usize,
     ghost some: { 1 ≤ D },
     ghost fits: { D ≤ 64 },
-    ghost within: { oldest + D ≤ 256 },
-    ghost byte_room: { length bytes ≡ 320 },
-    ghost mark_room: { length marks ≡ 320 },
+    ghost within: { oldest + D ≤ 192 },
+    ghost byte_room: { length bytes ≡ 256 },
+    ghost mark_room: { length marks ≡ 256 },
 }
 
 impl<const D: usize> DelayRing<D> {
@@ -84,7 +84,7 @@ impl<const D: usize> DelayRing<D> {
     fn make_room(&mut self, count: usize)
         requires { count ≤ 64 }
         ensures ticks { ring_ticks self.new ≡ ring_ticks self.old }
-        ensures room { self.new.oldest + D + count ≤ 256 }
+        ensures room { self.new.oldest + D + count ≤ 192 }
     {
         if self.oldest + D + count > USED {
             self.move_back();
@@ -102,7 +102,7 @@ impl<const D: usize> DelayRing<D> {
     }
 
     /// Takes the next tick, and returns the one that came `D` turns before.
-    #[inline]
+    #[inline(always)]
     pub fn turn(&mut self, t: Tick) -> Tick
         ensures answer { result ≡ slice_index_or (ring_ticks self.old) 0 Silent }
         ensures ticks { ring_ticks self.new ≡ drop 1 (ring_ticks self.old) ++ t ∷ [] }
@@ -119,7 +119,7 @@ impl<const D: usize> DelayRing<D> {
     // A byte with its mark comes, and the oldest tick leaves.
     #[inline]
     fn put(&mut self, byte: u8, mark: u8)
-        requires { self.old.oldest + D + 1 ≤ 256 }
+        requires { self.old.oldest + D + 1 ≤ 192 }
         ensures { ring_ticks self.new ≡ drop 1 (ring_ticks self.old) ++ marked byte mark ∷ [] }
     {
         let place = self.oldest + D;
@@ -156,7 +156,7 @@ impl<const D: usize> DelayRing<D> {
 
     #[inline]
     fn tick_at(&self, place: usize) -> Tick
-        requires { place < 320 }
+        requires { place < 256 }
         ensures { result ≡ slice_index_or (marked_ticks self.now.bytes self.now.marks) place Silent }
     {
         if self.marks[place] == 0 {
