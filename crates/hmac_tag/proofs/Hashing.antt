@@ -3,6 +3,7 @@ use Rattle.std.proofs.Common.{◌≡◌, ℕ, ◌+◌, ◌-◌, ◌*◌, ◌/◌
 use Rattle.std.proofs.Common.{length, take, drop, replicate, refl, sym, ap, ap₂, ◌∙◌, arith, set}
 use Rattle.std.proofs.Common.{length-append, length-drop}
 use Rattle.std.proofs.lemmas.List.{append_assoc, append-nil, take-append-drop, length-take-le}
+use Rattle.std.proofs.lemmas.List.{take_all}
 use Rattle.std.proofs.lemmas.List.{drop_all, drop-drop, drop-replicate}
 use Rattle.std.proofs.lemmas.List.{set_at, take-replicate, length-replicate, length-set}
 use Rattle.std.proofs.lemmas.List.{replicate-append-replicate, take-take, drop-take}
@@ -74,6 +75,25 @@ taken_full s n m d ys k j held len at full size same total h block =
           rw h (IsAbsorbed_fill s.h s.block n.block m d (put_mid k j s.block ys) held.absorbed
           (omega arith) whole);
       zeros = rw grown block;
+    }
+
+-- a whole block, behind whole blocks
+pub taken_whole : (s n : Sha1Hasher) (m d b : List ℕ) → HasTaken s m → length s.block ≡ 64
+    → length d ≡ 64 - s.total % 64 → 64 ≤ length d → b ≡ take 64 d
+    → n.total ≡ (s.total + length d) % 2 ^ 64 → n.h ≡ compress s.h b → n.block ≡ s.block
+    → HasTaken n (m ++ d)
+taken_whole s n m d b held len size whole is total h block =
+    let before : s.total ≡ length m % 2 ^ 64 = held.total in
+    let none : length m % 64 ≡ 0 = omega arith in
+    let grown : length (m ++ d) % 64 ≡ 0 = omega (arith, length-append m d) in
+    let zeros : s.block ≡ replicate 64 0 = rw none at held.zeros in
+    let all : b ≡ take (length m % 64) s.block ++ d =
+    rw none (is ∙ take_all 64 d (omega arith)) in
+    record {
+      total = total_append s.total n.total m d held.total total;
+      absorbed =
+          rw h (IsAbsorbed_fill s.h s.block n.block m d b held.absorbed (omega arith) all);
+      zeros = rw grown (block ∙ zeros);
     }
 
 -- the block with the byte after the message's last one
