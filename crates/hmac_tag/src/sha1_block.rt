@@ -119,31 +119,31 @@ fn write_keyed(keyed: &mut [u32; 80], i: usize, four: u32x4)
     (four + u32x4::splat(constant(i))).copy_to_slice(&mut keyed[4 * i..4 * i + 4]);
 }
 
-// The words of the schedule with their constants.
-#[inline(never)]
-fn keyed_schedule(block: &[u8; 64]) -> [u32; 80]
-    ensures { AreKeyed (schedule block.now 64) result 80 }
+// Writes the words of the schedule with their constants: each four as they are made, so that they
+// don't have to wait in registers.
+#[inline(always)]
+fn keyed_schedule(keyed: &mut [u32; 80], block: &[u8; 64])
+    ensures { AreKeyed (schedule block.now 64) keyed.new 80 }
 {
-    let mut keyed = [0; 80];
     let mut a = loaded(block, 0);
     let mut b = loaded(block, 4);
     let mut c = loaded(block, 8);
     let mut d = loaded(block, 12);
-    write_keyed(&mut keyed, 0, a);
-    write_keyed(&mut keyed, 1, b);
-    write_keyed(&mut keyed, 2, c);
-    write_keyed(&mut keyed, 3, d);
+    write_keyed(keyed, 0, a);
+    write_keyed(keyed, 1, b);
+    write_keyed(keyed, 2, c);
+    write_keyed(keyed, 3, d);
     let mut e = next_four(a, b, c, d);
     let mut f = next_four(b, c, d, e);
     let mut g = next_four(c, d, e, f);
     let mut h = next_four(d, e, f, g);
-    write_keyed(&mut keyed, 4, e);
-    write_keyed(&mut keyed, 5, f);
-    write_keyed(&mut keyed, 6, g);
-    write_keyed(&mut keyed, 7, h);
+    write_keyed(keyed, 4, e);
+    write_keyed(keyed, 5, f);
+    write_keyed(keyed, 6, g);
+    write_keyed(keyed, 7, h);
     for i in 0..12 {
         let next = far_four(a, b, e, g, h);
-        write_keyed(&mut keyed, i + 8, next);
+        write_keyed(keyed, i + 8, next);
         a = b;
         b = c;
         c = d;
@@ -153,7 +153,6 @@ fn keyed_schedule(block: &[u8; 64]) -> [u32; 80]
         g = h;
         h = next;
     }
-    keyed
 }
 
 // One round, whose word comes with the round's constant.
@@ -279,9 +278,11 @@ fn run_rounds(state: &mut [u32; 5], keyed: &[u32; 80])
 }
 
 /// The hash value after one block more.
+#[inline(never)]
 pub(crate) fn compress(state: &mut [u32; 5], block: &[u8; 64])
     ensures { state.new ≡ compress state.old block.now }
 {
-    let keyed = keyed_schedule(block);
+    let mut keyed = [0; 80];
+    keyed_schedule(&mut keyed, block);
     run_rounds(state, &keyed);
 }

@@ -3,4 +3,4 @@ use Rattle.hmac_tag.proofs.sha1_block.compress.Goals as goal
 
 pub returns : goal.returns
 unfolding compress
-returns c = c.run_rounds.ensures (schedule c.args.block.now 64) c.keyed_schedule-keyed.ensures
+returns c = c.run_rounds.ensures (schedule c.args.block.now 64) c.keyed_schedule.ensures
