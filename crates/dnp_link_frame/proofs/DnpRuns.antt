@@ -12,12 +12,13 @@ use Rattle.line_rules.proofs.CrcLaws.{crc-nil, crc-cons}
 use Rattle.line_rules.specs.{Bytes.AreBytes, Crc.byte_step, Crc.crc, Rules.fills_room}
 use Rattle.std.proofs.Common.{◌≡◌, ℕ, ◌+◌, ◌-◌, ◌*◌, ◌/◌, ◌%◌, ◌<◌, ◌≤◌, nat_le, nat_lt, ◌&&◌, ◌==◌}
 use Rattle.std.proofs.Common.{Bool, true, false, List, [], ◌∷◌, ◌++◌, length, take, drop, get_or}
-use Rattle.std.proofs.Common.{min, refl, arith, sym, ◌∙◌, ap, subst, append-nil, append_assoc}
+use Rattle.std.proofs.Common.{refl, arith, sym, ◌∙◌, ap, subst, append-nil, append_assoc}
 use Rattle.std.proofs.{Common.length-append, Math.Bool.and-true, lemmas.Bool.cond-true}
 use Rattle.std.proofs.lemmas.Bool.{cond-false, ne_eqb, le-leb, and_left, lt-leb, and_right}
-use Rattle.std.proofs.lemmas.{Bool.cond_both, Bool.and_from, Bool.eq-eqb, List.length-take}
+use Rattle.std.proofs.lemmas.{Bool.cond_both, Bool.lt-ltb, Bool.and_from, Bool.eq-eqb}
+use Rattle.std.proofs.lemmas.List.{length-take}
 use Rattle.std.proofs.lemmas.List.{length-drop, nil_from_length, take-append-drop, take_all}
-use Rattle.std.proofs.lemmas.List.Elements.{All-cons, All-head, All-tail, All-drop}
+use Rattle.std.proofs.lemmas.List.Elements.{All-cons, All-head, All-tail, All-drop, All-take}
 use Rattle.std.specs.Prelude.{if◌then◌else◌}
 
 -- ---- one byte behind the header
@@ -317,52 +318,107 @@ appends-more old value next y z first second = record {
   same_room = second.same_room ∙ first.same_room;
 }
 
--- What is left of a run begins where a block does, or is nothing, and there is room for it. Who
+-- What follows of a run begins a block, the blocks before are judged, and there is room for it. Who
 -- appends it too has appended the whole run.
-pub record IsBefore (old : Dnp) (run : List ℕ) (value : Dnp) (rest : List ℕ) : Type 0 where
+pub record IsBegun (old : Dnp) (run : List ℕ) (right : Bool) (following : List ℕ) : Type 0 where
+  pub value : Dnp
   pub behind : 10 ≤ value.len
-  pub begins : 0 < length rest → value.block_left ≡ 0
-  pub room : value.len + length rest ≤ value.room
-  pub bytes : AreBytes rest
-  pub ends : (next : Dnp) → Appends value next rest → Appends old next run
+  pub begins : value.block_left ≡ 0
+  pub some : 0 < length following
+  pub room : value.len + length following ≤ value.room
+  pub bytes : AreBytes following
+  pub judged : right ≡ blocks_at_beginning value.len value.blocks_right value.register
+  pub count : value.len + length following ≡ old.len + length run
+  pub same_len_byte : value.len_byte ≡ old.len_byte
+  pub same_header : value.header_right ≡ old.header_right
+  pub same_room : value.room ≡ old.room
+  pub ends : (next : Dnp) → Appends value next following → Appends old next run
 
--- behind the block that has begun
-pub is_before-first : (old value : Dnp) (run : List ℕ) (n : ℕ) → 10 ≤ old.len
-    → old.len + length run ≤ old.room → n ≡ min (length run) old.block_left
-    → value.block_left + length (take n run) ≡ old.block_left
-    → Appends old value (take n run) → AreBytes run → IsBefore old run value (drop n run)
-is_before-first old value run n behind room first lacks begun bytes =
-    let count = begun.count in
-    let same = begun.same_room in
-    record {
-      behind = omega arith;
-      begins = λ some. omega (arith, length-take n run, length-drop n run);
-      room = omega (arith, length-take n run, length-drop n run);
-      bytes = All-drop (λ b. b < 256) n run bytes;
-      ends = λ next more. subst (Appends old next) (take-append-drop n run)
-          (appends-more old value next (take n run) (drop n run) begun more);
-    }
+-- before the first block
+pub is_begun-first : (old : Dnp) (run : List ℕ) (right : Bool) → 10 ≤ old.len
+    → old.block_left ≡ 0 → 0 < length run → old.len + length run ≤ old.room → AreBytes run
+    → right ≡ blocks_at_beginning old.len old.blocks_right old.register
+    → IsBegun old run right run
+is_begun-first old run right behind begins some room bytes judged = record {
+  value = old;
+  behind = behind;
+  begins = begins;
+  some = some;
+  room = room;
+  bytes = bytes;
+  judged = judged;
+  count = refl;
+  same_len_byte = refl;
+  same_header = refl;
+  same_room = refl;
+  ends = λ next more. more;
+}
 
 -- behind one more block
-pub is_before-next : (old value next : Dnp) (run rest block more : List ℕ) → length block ≡ 18
-    → block ≡ take 18 rest → more ≡ drop 18 rest → next.block_left + length block ≡ 18
-    → IsBefore old run value rest → Appends value next block → IsBefore old run next more
-is_before-next old value next run rest block more whole front behind_it lacks before begun =
-    let parts : rest ≡ block ++ more =
-    sym (take-append-drop 18 rest)
-    ∙ (ap (λ y. y ++ drop 18 rest) (sym front) ∙ ap (λ y. block ++ y) (sym behind_it)) in
-    let count = begun.count in
-    let same = begun.same_room in
+pub is_begun-next : (old : Dnp) (run following block more : List ℕ) (right next_right : Bool)
+    (register : ℕ) → 18 < length following → block ≡ take 18 following
+    → more ≡ drop 18 following → register ≡ crc 0xA6BC 0 block
+    → next_right ≡ (right && register == residue) → IsBegun old run right following
+    → IsBegun old run next_right more
+is_begun-next old run following block more right next_right register long front behind_it check
+    judged before =
+    let value : Dnp = before.value in
+    let next : Dnp = record before.value {
+      len = before.value.len + 18;
+      register = register;
+      blocks_right = right;
+    } in
+    let lacked = before.begins in
+    let room = before.room in
+    let behind = before.behind in
+    let all = before.count in
+    let size : length block ≡ length (take 18 following) = ap length front in
+    let whole : length block ≡ 18 = omega (arith, length-take 18 following) in
+    let fewer : length more ≡ length (drop 18 following) = ap length behind_it in
+    let left : length more + 18 ≡ length following = omega (arith, length-drop 18 following) in
+    let parts : following ≡ block ++ more =
+    sym (take-append-drop 18 following)
+    ∙ (ap (λ y. y ++ drop 18 following) (sym front) ∙ ap (λ y. block ++ y) (sym behind_it)) in
+    let begun : Appends before.value next block =
+    dnp_begin_block before.value next block before.behind before.begins (omega arith) (omega arith)
+    (omega arith)
+    (subst AreBytes (sym front) (All-take (λ b. b < 256) 18 following before.bytes))
+    (omega arith) refl check refl before.judged refl (omega arith) in
     record {
-      behind = let behind = before.behind in omega arith;
-      begins = λ some. omega arith;
-      room = let had = before.room in let e = ap length parts in
-          omega (arith, length-append block more);
-      bytes = subst AreBytes (sym behind_it) (All-drop (λ b. b < 256) 18 rest before.bytes);
+      value = next;
+      behind = omega arith;
+      begins = before.begins;
+      some = omega arith;
+      room = omega arith;
+      bytes = subst AreBytes (sym behind_it) (All-drop (λ b. b < 256) 18 following before.bytes);
+      judged = judged
+          ∙ sym (cond-true (nat_lt 10 (before.value.len + 18)) (right && register == residue) right
+          (lt-ltb 10 (before.value.len + 18) (omega arith)));
+      count = omega arith;
+      same_len_byte = before.same_len_byte;
+      same_header = before.same_header;
+      same_room = before.same_room;
       ends = λ last more_of. before.ends last
-          (subst (Appends value last) (sym parts)
-          (appends-more value next last block more begun more_of));
+          (subst (Appends before.value last) (sym parts)
+          (appends-more before.value next last block more begun more_of));
     }
+
+-- and the last one
+pub is_begun-last : (old next : Dnp) (run following : List ℕ) (right : Bool)
+    → IsBegun old run right following → length following ≤ 18
+    → next.len ≡ old.len + length run
+    → next.len_byte ≡ old.len_byte
+    → next.register ≡ crc 0xA6BC 0 following
+    → next.header_right ≡ old.header_right
+    → next.blocks_right ≡ right
+    → next.room ≡ old.room
+    → next.block_left ≡ 18 - length following
+    → Appends old next run
+is_begun-last old next run following right before short count tells check header blocks same lacks =
+    before.ends next
+    (dnp_begin_block before.value next following before.behind before.begins before.some short
+    before.room before.bytes (count ∙ sym before.count) (tells ∙ sym before.same_len_byte) check
+    (header ∙ sym before.same_header) (blocks ∙ before.judged) (same ∙ sym before.same_room) lacks)
 
 -- ---- a whole header
 

@@ -2,8 +2,7 @@
 use Rattle.dnp_link_frame.proofs.BlockParts.{in_blocks-none, in_blocks-next, length-in_blocks}
 use Rattle.dnp_link_frame.proofs.BlockParts.{right_in_blocks-none, right_in_blocks-on}
 use Rattle.dnp_link_frame.proofs.BlockParts.{right_in_blocks-stop, user_in_blocks-none}
-use Rattle.dnp_link_frame.proofs.BlockParts.{user_in_blocks-next}
-use Rattle.dnp_link_frame.proofs.Parts.{part_bounds}
+use Rattle.dnp_link_frame.proofs.{BlockParts.user_in_blocks-next, Parts.part_bounds}
 use Rattle.dnp_link_frame.specs.Beginnings.{right_in_part, right_in_blocks, user_in_blocks}
 use Rattle.dnp_link_frame.specs.{Crc.crc_dnp, Frame.with_crc, Frame.blocks_for, Frame.in_blocks}
 use Rattle.line_rules.specs.Bytes.{low_first}

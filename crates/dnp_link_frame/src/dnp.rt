@@ -2,8 +2,8 @@
 use crate::crc::FIRST_REGISTER;
 use crate::size::{HEADER_LEN, LONGEST, room_by, size_by};
 use crate::steps::{
-    BLOCK_LEN, START, blocks_at_beginning, ends_right, head_by, header_after, is_header, is_whole,
-    len_byte_after,
+    BLOCK_LEN, START, blocks_at_beginning, ends_right, head_by, header_after, is_header, is_right,
+    is_whole, len_byte_after,
 };
 use crate::table::{after_at_once, after_byte, after_bytes};
 use line_rules::{Head, LineRules};
@@ -95,7 +95,7 @@ impl Dnp {
         ensures { (x : List ℕ) → DnpStandsFor self.old x → DnpStandsFor self.new (x ++ b ∷ []) }
     {
         if self.block_left == 0 {
-            self.begin_block(&[b]);
+            self.begin_blocks(&[b]);
             return;
         }
         self.go_on(&[b]);
@@ -118,21 +118,27 @@ impl Dnp {
         self.block_left -= run.len() as u16;
     }
 
-    // Appends the first bytes of a block, or all of them, where the one before is whole.
+    // Appends blocks, the last of which may lack bytes, where the one before is whole. Each but the
+    // last is judged at once.
     #[inline]
-    fn begin_block(&mut self, run: &[u8])
+    fn begin_blocks(&mut self, run: &[u8])
         requires behind { 10 ≤ self.old.len }
         requires begins { self.old.block_left ≡ 0 }
         requires some { 0 < length run.now }
-        requires block { length run.now ≤ 18 }
         requires room { self.old.len + length run.now ≤ self.old.room }
-        ensures appends { Appends self.old self.new run.now }
-        ensures block { self.new.block_left + length run.now ≡ 18 }
+        ensures { Appends self.old self.new run.now }
     {
-        self.blocks_right = blocks_at_beginning(self.len, self.blocks_right, self.register);
-        self.register = after_bytes(FIRST_REGISTER, run);
+        let mut following = run;
+        let mut right = blocks_at_beginning(self.len, self.blocks_right, self.register);
+        while following.len() > WHOLE_BLOCK {
+            let (block, more) = following.split_at(WHOLE_BLOCK);
+            right = is_right(right, after_at_once(FIRST_REGISTER, block));
+            following = more;
+        }
+        self.blocks_right = right;
+        self.register = after_bytes(FIRST_REGISTER, following);
         self.len += run.len() as u16;
-        self.block_left = BLOCK_LEN - run.len() as u16;
+        self.block_left = BLOCK_LEN - following.len() as u16;
     }
 
     // Appends bytes behind the header, for all of which there is room.
@@ -142,22 +148,17 @@ impl Dnp {
         requires room { self.old.len + length run.now ≤ self.old.room }
         ensures { Appends self.old self.new run.now }
     {
-        let first = run.len().min(usize::from(self.block_left));
-        self.go_on(&run[..first]);
-        let mut following = &run[first..];
-        let (mut len, mut register, mut right) = (self.len, self.register, self.blocks_right);
-        while let Some((block, more)) = following.split_first_chunk::<WHOLE_BLOCK>() {
-            right = blocks_at_beginning(len, right, register);
-            register = after_at_once(FIRST_REGISTER, block);
-            len += BLOCK_LEN;
-            following = more;
+        let lacking = usize::from(self.block_left);
+        if run.len() <= lacking {
+            self.go_on(run);
+            return;
         }
-        self.len = len;
-        self.register = register;
-        self.blocks_right = right;
-        if !following.is_empty() {
-            self.begin_block(following);
+        if lacking == 0 {
+            self.begin_blocks(run);
+            return;
         }
+        self.go_on(&run[..lacking]);
+        self.begin_blocks(&run[lacking..]);
     }
 
     // Appends the bytes of a header, one after the other, as far as they are there; says how many.
@@ -203,8 +204,26 @@ impl Dnp {
         self.take_header_bytes(following)
     }
 
-    // Appends bytes behind the header, as many as there is room for; says how many.
+    // Appends bytes behind the header, as many as there is room for; says how many. There is room.
+    #[inline(never)]
     fn take_user(&mut self, following: &[u8]) -> usize
+        requires behind { 10 ≤ self.old.len }
+        requires room { is_full_dnp self.old ≡ false }
+        ensures within { result ≤ length following.now }
+        ensures stands { (x : List ℕ) → DnpStandsFor self.old x
+            → DnpStandsFor self.new (x ++ take result following.now) }
+        ensures all { result < length following.now → is_full_dnp self.new ≡ true }
+        ensures room { (x : List ℕ) (n : ℕ) → DnpStandsFor self.old x → n < result
+            → fills_room dnp_rules (x ++ take n following.now) ≡ false }
+    {
+        let run = following.len().min(usize::from(self.room - self.len));
+        self.take_blocks(&following[..run]);
+        run
+    }
+
+    // Appends bytes behind the header, as many as there is room for; says how many.
+    #[inline(always)]
+    fn take_behind_header(&mut self, following: &[u8]) -> usize
         requires { 10 ≤ self.old.len }
         ensures within { result ≤ length following.now }
         ensures stands { (x : List ℕ) → DnpStandsFor self.old x
@@ -216,9 +235,26 @@ impl Dnp {
         if self.full() {
             return 0;
         }
-        let run = following.len().min(usize::from(self.room - self.len));
-        self.take_blocks(&following[..run]);
-        run
+        self.take_user(following)
+    }
+
+    // Appends the bytes of a header and those behind it, as many as there is room for; says how
+    // many.
+    #[inline(never)]
+    fn take_with_header(&mut self, part: &[u8]) -> usize
+        requires { self.old.len < 10 }
+        ensures within { result ≤ length part.now }
+        ensures stands { (x : List ℕ) → DnpStandsFor self.old x
+            → DnpStandsFor self.new (x ++ take result part.now) }
+        ensures all { result < length part.now → is_full_dnp self.new ≡ true }
+        ensures room { (x : List ℕ) (n : ℕ) → DnpStandsFor self.old x → n < result
+            → fills_room dnp_rules (x ++ take n part.now) ≡ false }
+    {
+        let header = self.take_of_header(part);
+        if header >= part.len() {
+            return header;
+        }
+        header + self.take_behind_header(&part[header..])
     }
 }
 
@@ -299,16 +335,12 @@ impl LineRules for Dnp {
         self.take_header_byte(b);
     }
 
-    #[inline]
+    #[inline(always)]
     fn take_some(&mut self, part: &[u8]) -> usize {
-        if self.len >= HEADER_LEN {
-            return self.take_user(part);
+        if self.len < HEADER_LEN {
+            return self.take_with_header(part);
         }
-        let header = self.take_of_header(part);
-        if header >= part.len() {
-            return header;
-        }
-        header + self.take_user(&part[header..])
+        self.take_behind_header(part)
     }
 
     #[inline]

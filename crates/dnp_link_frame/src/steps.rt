@@ -1,8 +1,8 @@
 //! What one more byte does to what is kept of the bytes so far.
-ghost use Rattle.std.specs.Prelude.{◌≡◌, ◌&&◌};
+ghost use Rattle.std.specs.Prelude.{◌≡◌, ◌&&◌, ◌==◌};
 ghost use Rattle.dnp_link_frame.specs.Steps.{fits_header, is_header, head_by};
 ghost use Rattle.dnp_link_frame.specs.Steps.{blocks_at_beginning, len_byte_after, is_whole};
-ghost use Rattle.dnp_link_frame.specs.Steps.{ends_right};
+ghost use Rattle.dnp_link_frame.specs.Steps.{ends_right, residue};
 
 use crate::crc::RESIDUE;
 use crate::size::{BLOCK_DATA_LEN, COUNTED_OF_HEADER, CRC_LEN, HEADER_LEN, size_by};
@@ -53,6 +53,14 @@ pub(crate) fn head_by(len: u16, header_right: bool) -> Head
         return Head::Short;
     }
     if header_right { Head::Good } else { Head::Bad }
+}
+
+// Whether blocks are right, of which the last leaves this register.
+#[inline]
+pub(crate) fn is_right(blocks_right: bool, register: u16) -> bool
+    ensures { result ≡ (blocks_right && register == residue) }
+{
+    blocks_right && register == RESIDUE
 }
 
 // Where the byte after this many begins a block: whether the blocks before it are right. The
