@@ -68,6 +68,10 @@ ring-alike Q E j k less few within alike =
     let A : List Tick → Type 0 = λ l. AreAlike l in
     subst A (take-append-le j Q E few) (less-alike j k (Q ++ E) less within alike)
 
+pub no-bytes : (x : List ℕ) → length x ≡ 0 → x ≡ []
+no-bytes [] none = refl
+no-bytes (b ∷ x) none = absurd (omega arith)
+
 -- Ticks of which this many at the front are alike, of a ring and of bytes behind it: within the
 -- ring, as they are there,
 pub alike-front : (Q E : List Tick) (k : ℕ) → k ≤ length Q → AreAlike (take k Q)

@@ -23,6 +23,7 @@ pub mod LiveRuns
 pub mod RunsTaken
 pub mod Lending
 pub mod Beginnings
+pub mod Fills
 pub mod Uptimes
 pub mod Keeping
 pub mod Noteless

@@ -97,6 +97,7 @@ impl<const B: usize> Arriving<B> {
     }
 
     /// The number that the word stands for above this floor, if there is one.
+    #[inline]
     pub fn number_above(&self, floor: u64) -> Option<u64>
         requires floor { floor ≤ LIMIT }
         ensures { B ≤ length (bytes_come self.now)

@@ -148,7 +148,7 @@ impl<R: LineRules, M: Mac, const B: usize, const D: usize> Checker<R, M, B, D> {
     /// Takes the first of these bytes, one a tick, as far as no note falls into their steps and
     /// what leaves is alike, all bytes or all silence. Returns how many; `sent` gets the bytes that
     /// leave, one for each, or none where silence leaves. With 0 the caller goes on by `step`.
-    #[inline(never)]
+    #[inline(always)]
     pub fn pass_bytes(&mut self, bytes: &[u8], sent: &mut RunBytes) -> usize
         requires { ticks_taken self.old + length bytes.now ≤ MAX_TICKS }
         ensures within { result ≤ length bytes.now }
@@ -175,7 +175,7 @@ impl<R: LineRules, M: Mac, const B: usize, const D: usize> Checker<R, M, B, D> {
     /// Takes the first of this many silent ticks, as far as no note falls into their steps and what
     /// leaves is alike, all bytes or all silence. Returns how many; `sent` gets the bytes that
     /// leave, one for each, or none where silence leaves. With 0 the caller goes on by `step`.
-    #[inline(never)]
+    #[inline(always)]
     pub fn pass_silence(&mut self, ticks: u32, sent: &mut RunBytes) -> u32
         requires { ticks_taken self.old + ticks ≤ MAX_TICKS }
         ensures within { result ≤ ticks }
@@ -211,7 +211,7 @@ impl<R: LineRules, M: Mac, const B: usize, const D: usize> Checker<R, M, B, D> {
 
     // What leaves in this step, where the tick `t` enters the ring. The receiver is idle once all
     // of a burst has left.
-    #[inline]
+    #[inline(always)]
     fn turn(&mut self, t: Tick) -> Tick
         ensures { Turned R.LineRules self.old self.new t result }
     {
@@ -221,7 +221,7 @@ impl<R: LineRules, M: Mac, const B: usize, const D: usize> Checker<R, M, B, D> {
     }
 
     // What leaves, through the outlet.
-    #[inline]
+    #[inline(always)]
     fn let_out(&mut self, t: Tick) -> Tick
         ensures others { self.new
             ≡ record self.old { ring = self.new.ring; outlet = self.new.outlet } }
@@ -242,7 +242,7 @@ impl<R: LineRules, M: Mac, const B: usize, const D: usize> Checker<R, M, B, D> {
     }
 
     // A step in which no live byte enters the ring, and with this note.
-    #[inline]
+    #[inline(always)]
     fn pass_by(&mut self, note: Option<CheckNote>) -> BoxStep<CheckNote>
         ensures turned { Turned R.LineRules self.old self.new Silent result.tick }
         ensures note { result.note ≡ note }

@@ -79,7 +79,11 @@ pub fn lend<const D: usize>(ring: &DelayRing<D>, count: usize, sent: &mut RunByt
     requires empty { sent.old.items ≡ [] }
     ensures { IsFront (ring_ticks ring.now) count sent.new.items }
 {
-    let _ = sent.try_extend_from_slice(ring.alike_bytes(count));
+    let front = ring.alike_bytes(count);
+    if front.is_empty() {
+        return;
+    }
+    let _ = sent.try_extend_from_slice(front);
 }
 
 // How many bytes a run has at most.
@@ -121,6 +125,9 @@ pub fn lend_along<const D: usize>(
     ensures { IsFront (ring_ticks ring.now ++ map Byte bytes.now) count sent.new.items }
 {
     let front = ring.alike_bytes(count.min(D));
+    if front.is_empty() {
+        return;
+    }
     let _ = sent.try_extend_from_slice(front);
     if front.len() < D {
         return;

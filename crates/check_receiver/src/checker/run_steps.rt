@@ -6,6 +6,9 @@ use hmac_tag::Mac;
 use line_rules::LineRules;
 use yasir_ticks::{MAX_TICKS, Tick};
 
+// How many bytes of a fill leave at once at most.
+const MOST_FILLED: u32 = 64;
+
 impl<R: LineRules, M: Mac, const B: usize, const D: usize> Checker<R, M, B, D> {
     ghost use Rattle.std.specs.Prelude.{◌≡◌, ℕ, ◌+◌, ◌-◌, ◌<◌, ◌≤◌, List, [], ◌∷◌, ◌++◌, length};
     ghost use Rattle.std.specs.Prelude.{true, false};
@@ -28,8 +31,10 @@ impl<R: LineRules, M: Mac, const B: usize, const D: usize> Checker<R, M, B, D> {
     ghost use Rattle.burst_walk.specs.Answered.{answered};
     ghost use Rattle.check_receiver.specs.Stands.{StandsAt, direction_of};
     ghost use Rattle.check_receiver.specs.Runs.{HasTakenRun};
+    ghost use Rattle.spoiler.specs.Outlet.{owed_by};
 
     // Live bytes of the burst whose verdict is open.
+    #[inline(never)]
     pub(super) fn follow(&mut self, bytes: &[u8], sent: &mut RunBytes) -> usize
         requires room { ticks_taken self.old + length bytes.now ≤ MAX_TICKS }
         requires phase { self.old.phase ≡ Open }
@@ -50,7 +55,7 @@ impl<R: LineRules, M: Mac, const B: usize, const D: usize> Checker<R, M, B, D> {
 
     // Live bytes of the burst whose verdict is open, where its header stays a good one as far as it is
     // whole.
-    #[inline]
+    #[inline(always)]
     fn follow_on(&mut self, bytes: &[u8], sent: &mut RunBytes) -> usize
         requires room { ticks_taken self.old + length bytes.now ≤ MAX_TICKS }
         requires empty { sent.old.items ≡ [] }
@@ -82,6 +87,7 @@ impl<R: LineRules, M: Mac, const B: usize, const D: usize> Checker<R, M, B, D> {
     }
 
     // Bytes of the trailer of the burst whose verdict is open, but for the last one.
+    #[inline(never)]
     pub(super) fn hear_trailer(&mut self, bytes: &[u8], sent: &mut RunBytes) -> usize
         requires room { ticks_taken self.old + length bytes.now ≤ MAX_TICKS }
         requires phase { self.old.phase ≡ Open }
@@ -115,6 +121,7 @@ impl<R: LineRules, M: Mac, const B: usize, const D: usize> Checker<R, M, B, D> {
     }
 
     // Silence in the pause behind the live bytes of the burst whose verdict is open.
+    #[inline(never)]
     pub(super) fn pause_some(&mut self, ticks: u32, sent: &mut RunBytes) -> u32
         requires room { ticks_taken self.old + ticks ≤ MAX_TICKS }
         requires phase { self.old.phase ≡ Open }
@@ -144,6 +151,7 @@ impl<R: LineRules, M: Mac, const B: usize, const D: usize> Checker<R, M, B, D> {
     }
 
     // Bytes while a burst that is noted still leaves, but for the last of its live ticks.
+    #[inline(never)]
     pub(super) fn pass_over(&mut self, bytes: &[u8], sent: &mut RunBytes) -> usize
         requires room { ticks_taken self.old + length bytes.now ≤ MAX_TICKS }
         requires phase { is_open self.old.phase ≡ false }
@@ -171,6 +179,7 @@ impl<R: LineRules, M: Mac, const B: usize, const D: usize> Checker<R, M, B, D> {
 
     // Bytes while the receiver is idle: those of a burst that is noted, or the first ones of
     // another, if they begin with a good header and the burst isn't early.
+    #[inline(never)]
     pub(super) fn start_some(&mut self, bytes: &[u8], sent: &mut RunBytes) -> usize
         requires room { ticks_taken self.old + length bytes.now ≤ MAX_TICKS }
         requires phase { self.old.phase ≡ Idle }
@@ -224,6 +233,7 @@ impl<R: LineRules, M: Mac, const B: usize, const D: usize> Checker<R, M, B, D> {
     }
 
     // Silence while a burst that is noted still leaves, but for the last of its live ticks.
+    #[inline(never)]
     pub(super) fn rest_some(&mut self, ticks: u32, sent: &mut RunBytes) -> u32
         requires room { ticks_taken self.old + ticks ≤ MAX_TICKS }
         requires phase { is_open self.old.phase ≡ false }
@@ -236,7 +246,10 @@ impl<R: LineRules, M: Mac, const B: usize, const D: usize> Checker<R, M, B, D> {
             (silent result) (answered result sent.new.items) }
         ensures direction { direction_of self.new ≡ direction_of self.old }
     {
-        // the last live tick leaves, or a fill
+        if self.until == 0 {
+            return self.fill_some(ticks, sent);
+        }
+        // the last live tick leaves
         if self.until < 2 {
             return 0;
         }
@@ -248,5 +261,52 @@ impl<R: LineRules, M: Mac, const B: usize, const D: usize> Checker<R, M, B, D> {
         self.cut.wait_some(count as u32);
         self.until -= count as u8;
         count as u32
+    }
+
+    // Silence while a fill leaves.
+    #[inline(never)]
+    fn fill_some(&mut self, ticks: u32, sent: &mut RunBytes) -> u32
+        requires room { ticks_taken self.old + ticks ≤ MAX_TICKS }
+        requires phase { is_open self.old.phase ≡ false }
+        requires until { self.old.until ≡ 0 }
+        requires empty { sent.old.items ≡ [] }
+        ensures within { result ≤ ticks }
+        ensures taken { ticks_taken self.new ≡ ticks_taken self.old + result }
+        ensures run { (last : ℕ) (setup : Setup) (line : List Tick)
+            → StandsAt R.LineRules M.Mac self.old last setup line
+            → HasTakenRun R.LineRules M.Mac self.new last setup line
+            (silent result) (answered result sent.new.items) }
+        ensures direction { direction_of self.new ≡ direction_of self.old }
+    {
+        let most = ticks.min(MOST_FILLED);
+        for count in 0..most {
+            if !self.outlet.owes() {
+                return count;
+            }
+            let byte = self.fill_one();
+            let _ = sent.try_push(byte);
+        }
+        most
+    }
+
+    // The next byte of a fill, which leaves for a silent tick.
+    #[inline]
+    fn fill_one(&mut self) -> u8
+        requires { ticks_taken self.old < MAX_TICKS }
+        ensures taken { ticks_taken self.new ≡ ticks_taken self.old + 1 }
+        ensures until { self.new.until ≡ self.old.until }
+        ensures phase { is_open self.old.phase ≡ false → is_open self.new.phase ≡ false }
+        ensures run { (last : ℕ) (setup : Setup) (line : List Tick)
+            → StandsAt R.LineRules M.Mac self.old last setup line
+            → is_open self.old.phase ≡ false → self.old.until ≡ 0 → 0 < owed_by self.old.outlet
+            → HasTakenRun R.LineRules M.Mac self.new last setup line
+            (Silent ∷ []) (Byte result ∷ []) }
+        ensures direction { direction_of self.new ≡ direction_of self.old }
+    {
+        let _ = self.cut.step(Tick::Silent);
+        match self.turn(Tick::Silent) {
+            Tick::Byte(byte) => byte,
+            Tick::Silent => 0,
+        }
     }
 }

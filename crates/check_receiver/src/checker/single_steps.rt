@@ -40,7 +40,7 @@ impl<R: LineRules, M: Mac, const B: usize, const D: usize> Checker<R, M, B, D> {
     ghost use Rattle.line_rules.specs.declared.head.Head.TheVariants.{Good};
 
     // The first byte of a burst.
-    #[inline]
+    #[inline(always)]
     pub(super) fn begin(&mut self, byte: u8) -> BoxStep<CheckNote>
         ensures cut { self.new.cut ≡ self.old.cut }
         ensures note { IsNoPass result.note }
@@ -94,7 +94,7 @@ impl<R: LineRules, M: Mac, const B: usize, const D: usize> Checker<R, M, B, D> {
     }
 
     // A live byte of the burst whose verdict is open enters the ring.
-    #[inline]
+    #[inline(always)]
     fn enter(&mut self, byte: u8) -> BoxStep<CheckNote>
         ensures turned { Turned R.LineRules (with_until self.new.until self.old) self.new
             (Byte byte) result.tick }
@@ -109,7 +109,7 @@ impl<R: LineRules, M: Mac, const B: usize, const D: usize> Checker<R, M, B, D> {
     }
 
     // Silence.
-    #[inline]
+    #[inline(always)]
     pub(super) fn wait(&mut self) -> BoxStep<CheckNote>
         requires room { ticks_cut self.old.cut ≤ MAX_TICKS }
         ensures cut { self.new.cut ≡ self.old.cut }
@@ -139,7 +139,7 @@ impl<R: LineRules, M: Mac, const B: usize, const D: usize> Checker<R, M, B, D> {
     }
 
     // The burst has no further live byte.
-    #[inline]
+    #[inline(always)]
     fn pause(&mut self) -> BoxStep<CheckNote>
         requires room { ticks_cut self.old.cut ≤ MAX_TICKS }
         ensures cut { self.new.cut ≡ self.old.cut }
@@ -180,7 +180,7 @@ impl<R: LineRules, M: Mac, const B: usize, const D: usize> Checker<R, M, B, D> {
     }
 
     // A byte that isn't live.
-    #[inline]
+    #[inline(always)]
     pub(super) fn hear_extra<S: SlotDisk>(
         &mut self,
         byte: u8,

@@ -45,6 +45,7 @@ impl<R: LineRules, M: Mac, const B: usize, const D: usize> Checker<R, M, B, D> {
     ghost use Rattle.check_receiver.specs.Between.{verdict_told};
 
     // The trailer's last byte has come: the verdict.
+    #[inline(always)]
     pub(super) fn decide<S: SlotDisk>(
         &mut self,
         journal: &mut Journal,
@@ -76,6 +77,7 @@ impl<R: LineRules, M: Mac, const B: usize, const D: usize> Checker<R, M, B, D> {
     }
 
     // The number with which the burst with a whole trailer passes, or why it is refused.
+    #[inline(always)]
     fn verdict(&mut self, journal: &Journal) -> Result<u64, RefusedWhy>
         ensures others { self.new ≡ record self.old { mac = self.new.mac } }
         ensures mac_is { (key text : List ℕ) → M.stands self.old.mac key text
@@ -127,6 +129,7 @@ impl<R: LineRules, M: Mac, const B: usize, const D: usize> Checker<R, M, B, D> {
     }
 
     // The burst passes with a number that is committed.
+    #[inline(always)]
     fn pass(&mut self, number: u64) -> BoxStep<CheckNote>
         requires room { ticks_cut self.old.cut ≤ MAX_TICKS }
         ensures turned { Turned R.LineRules (record self.old {
@@ -148,6 +151,7 @@ impl<R: LineRules, M: Mac, const B: usize, const D: usize> Checker<R, M, B, D> {
     }
 
     // The burst is refused.
+    #[inline(never)]
     pub(super) fn refuse(&mut self, why: RefusedWhy) -> BoxStep<CheckNote>
         requires room { ticks_cut self.old.cut ≤ MAX_TICKS }
         ensures turned { TurnedRefused R.LineRules self.old self.new result.tick }
@@ -168,6 +172,7 @@ impl<R: LineRules, M: Mac, const B: usize, const D: usize> Checker<R, M, B, D> {
     }
 
     // The burst is dropped, for its header: its bytes don't leave.
+    #[inline(never)]
     pub(super) fn drop_headless(&mut self) -> BoxStep<CheckNote>
         ensures turned { TurnedClear R.LineRules self.old self.new result.tick }
         ensures note { (start : ℕ) × (result.note ≡ Some (Dropped start NoHead)) }
@@ -185,6 +190,7 @@ impl<R: LineRules, M: Mac, const B: usize, const D: usize> Checker<R, M, B, D> {
     }
 
     // The burst is dropped: others still leave.
+    #[inline(never)]
     pub(super) fn drop_busy(&mut self) -> BoxStep<CheckNote>
         ensures turned { Turned R.LineRules self.old self.new Silent result.tick }
         ensures note { (start : ℕ) × (result.note ≡ Some (Dropped start Busy)) }

@@ -1,5 +1,6 @@
 use Rattle.check_receiver.proofs.Lending.{of-ok, ring-whole, front-along, whole-along, ring-alike}
-use Rattle.check_receiver.proofs.Lending.{bytes-long}
+use Rattle.check_receiver.proofs.Lending.{bytes-long, no-bytes}
+use Rattle.std.proofs.lemmas.Bool.{eqb-true}
 use Rattle.{check_receiver.specs.Runs.IsFront, delay_ring.specs.DelayRing.ring_ticks}
 use Rattle.std.proofs.Common.{◌≡◌, ◌∙◌, ◌-◌, ◌≤◌, ◌++◌, sym, ap, subst, arith, length, List, ℕ}
 use Rattle.std.proofs.{Common.take, Common.map, Common.length-append, lemmas.List.length-take-le}
@@ -23,6 +24,21 @@ alike_bytes-front-requires g c =
             (omega arith) c.requires.alike,
       ),
     )
+
+pub returns-then-is_empty : goal.returns-then-is_empty
+returns-then-is_empty g c =
+    let Q : List Tick = ring_ticks c.args.ring.now in
+    let E : List Tick = map (λ b. Byte b) c.args.bytes.now in
+    let front : List ℕ = c.alike_bytes-front.result.now in
+    let within = c.alike_bytes-front.ensures.within in
+    let capped = c.min.ensures in
+    let size = eqb-true (length front) 0 (sym c.is_empty.ensures ∙ c.if-is_empty.true) in
+    let some = c.args.ring.now.some in
+    let P : List ℕ → Type 0 = λ y. IsFront (Q ++ E) c.args.count y in
+    subst P (no-bytes front size ∙ sym c.requires.empty)
+    (front-along Q E g.row.D c.args.count c.min.result front (ring-whole c.args.ring.now)
+    c.min.ensures (omega arith) within c.alike_bytes-front.ensures.bytes
+    c.alike_bytes-front.ensures.all)
 
 pub returns-then-front : goal.returns-then-front
 returns-then-front g c =

@@ -18,6 +18,7 @@ returns-clause-run g c = λ last setup line stands.
     let first = c.min.ensures in
     let widened = c.from-still.ensures in
     let some = c.if-self-lt2.false in
+    let still = c.if-self-eq0.false in
     flow-counted g.R.LineRules g.M.Mac old last setup line stands c.wait_some.new.self
     c.pass_silence.new.self n c.lend.new.sent.items (old.until - n)
     (omega arith) c.front_alike-count.ensures.alike
