@@ -24,7 +24,35 @@ fn ones(n: u32) -> u8
     b'0' + (n % 10) as u8
 }
 
-// Appends the decimal digits of a number below 10,000, with no division that takes long.
+// Appends the two digits of a number below 100. Each is written where it waits: a piece of a few
+// bytes costs more.
+#[inline(always)]
+fn push_pair<const CAP: usize>(line: &mut ArrayVec<u8, CAP>, n: u32)
+    requires few { n < 100 }
+    requires room { length line.old.items + 2 ≤ CAP }
+    ensures digits { line.new.items ≡ line.old.items ++ (48 + n / 10) ∷ (48 + n % 10) ∷ [] }
+    ensures short { length line.new.items ≡ length line.old.items + 2 }
+{
+    line.push(tens(n));
+    line.push(ones(n));
+}
+
+// Appends the decimal digits of a number below 100.
+#[inline(always)]
+fn push_two<const CAP: usize>(line: &mut ArrayVec<u8, CAP>, n: u32)
+    requires few { n < 100 }
+    requires room { length line.old.items + 2 ≤ CAP }
+    ensures digits { line.new.items ≡ line.old.items ++ decimal n }
+    ensures short { length line.new.items ≤ length line.old.items + 2 }
+{
+    if n < 10 {
+        line.push(ones(n));
+        return;
+    }
+    push_pair(line, n);
+}
+
+// Appends the decimal digits of a number below 10,000.
 #[inline(always)]
 fn push_four<const CAP: usize>(line: &mut ArrayVec<u8, CAP>, n: u32)
     requires few { n < 10000 }
@@ -32,22 +60,12 @@ fn push_four<const CAP: usize>(line: &mut ArrayVec<u8, CAP>, n: u32)
     ensures digits { line.new.items ≡ line.old.items ++ decimal n }
     ensures short { length line.new.items ≤ length line.old.items + 4 }
 {
-    if n < 10 {
-        line.push(ones(n));
-        return;
-    }
     if n < 100 {
-        line.try_extend_from_slice(&[tens(n), ones(n)]).unwrap();
+        push_two(line, n);
         return;
     }
-    let (high, low) = (n / 100, n % 100);
-    if n < 1000 {
-        line.try_extend_from_slice(&[ones(high), tens(low), ones(low)])
-            .unwrap();
-        return;
-    }
-    line.try_extend_from_slice(&[tens(high), ones(high), tens(low), ones(low)])
-        .unwrap();
+    push_two(line, n / 100);
+    push_pair(line, n % 100);
 }
 
 // Appends the decimal digits of a number from 10,000 on, below 100,000,000.
@@ -61,9 +79,8 @@ fn push_eight<const CAP: usize>(line: &mut ArrayVec<u8, CAP>, n: u32)
 {
     push_four(line, n / 10_000);
     let behind = n % 10_000;
-    let (high, low) = (behind / 100, behind % 100);
-    line.try_extend_from_slice(&[tens(high), ones(high), tens(low), ones(low)])
-        .unwrap();
+    push_pair(line, behind / 100);
+    push_pair(line, behind % 100);
 }
 
 // Appends the decimal digits of a number of any size.
