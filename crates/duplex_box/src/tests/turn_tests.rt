@@ -268,7 +268,7 @@ fn two_bursts_at_once_go_by_runs(rt: HostRuntime) -> Result<(), Fail> {
     pass_exactly(
         &rt,
         &mut pair,
-        (rest, rest),
+        (following, following),
         42,
         (&burst[..42], &burst[..42]),
     );
