@@ -5,9 +5,11 @@ use Rattle.check_receiver.specs.{Between.IsBetween, Phases.is_open, Phases.passe
 use Rattle.check_receiver.specs.Phases.{settled}
 use Rattle.check_receiver.specs.declared.phase.Phase.{Phase, TheVariants.Idle, TheVariants.Open}
 use Rattle.check_receiver.specs.declared.phase.Phase.TheVariants.{Leaving}
-use Rattle.check_receiver.specs.{Runs.HasTakenRun, Stands.StandsAt, Turning.Turned}
+use Rattle.check_receiver.specs.{Runs.BeginsNone, Runs.HasTakenRun, Stands.StandsAt}
+use Rattle.check_receiver.specs.Turning.{Turned}
 use Rattle.check_receiver.specs.declared.checker.Checker.{Checker}
 use Rattle.frame_ending.specs.{Cuts.cut_of, Stands.StandsFor as CutStandsFor}
+use Rattle.frame_ending.{proofs.Cutting.cut-pass, proofs.Cutting.cut-go_on, specs.SoFar.quiet_so_far}
 use Rattle.frame_ending.specs.declared.{burst_cut.BurstCut.BurstCut, cut.Cut.Cut}
 use Rattle.hmac_tag.specs.declared.tag.Mac.{Ghosts as Mac}
 use Rattle.line_rules.specs.{Rules.Rules, declared.line_rules.LineRules.Ghosts as LineRules}
@@ -17,8 +19,8 @@ use Rattle.link_verdicts.specs.declared.note.CheckNote.{CheckNote}
 use Rattle.spoiler.specs.Outlet.{filled, owed_by}
 use Rattle.std.proofs.Common.{◌≡◌, ◌∙◌, ℕ, zero, suc, ◌<◌, ◌==◌, false, List, [], ◌∷◌, ◌++◌}
 use Rattle.std.proofs.Common.{length, get_or, map, refl, sym, ap, subst, arith, None, ⊎_elim, Bool}
-use Rattle.std.proofs.Common.{nat_lt}
-use Rattle.std.proofs.lemmas.Bool.{cases_Bool, cond-true, cond-false, cond_both, ne_eqb}
+use Rattle.std.proofs.Common.{nat_lt, inl, inr, ◌||◌}
+use Rattle.std.proofs.lemmas.Bool.{cases_Bool, cond-true, cond-false, cond_both, ne_eqb, or_parts}
 use Rattle.yasir_ticks.specs.Ticks.{silent}
 use Rattle.yasir_ticks.specs.declared.tick.Tick.{Tick, TheVariants.Silent, TheVariants.Byte}
 
@@ -27,6 +29,21 @@ pub answered-bytes : (x : List ℕ) (n : ℕ) → length x ≡ n → map (λ b. 
 answered-bytes [] zero long = refl
 answered-bytes [] (suc n) long = absurd (omega arith)
 answered-bytes (b ∷ x) n long = refl
+
+-- no byte begins a burst before four silent ticks have come
+pub runs-none : {R : Type 0} (proto : LineRules R) (cut : BurstCut R) (line : List Tick)
+    → CutStandsFor proto cut line → (b : ℕ) → quiet_so_far line < 4
+    → BeginsNone proto.rules line (Byte b)
+runs-none proto cut line cuts b runs =
+    let full : Bool = proto.is_full cut.rules in
+    let full_is = proto.fullness cut.rules _ cuts.bytes in
+    let same = cuts.quiet_is in
+    ⊎_elim
+    (λ over. inr (sym (cut-pass proto cut line cuts full b (omega arith) full_is over)))
+    (λ open'.
+    let parts = or_parts cut.paused full open' in
+    inl (sym (cut-go_on proto cut line cuts full b (omega arith) full_is parts.0 parts.1)))
+    (cases_Bool (cut.paused || full))
 
 -- a fill that is owed has a next byte
 fill-some : (rules : Rules) (left : List ℕ) (owed : ℕ) → 0 < owed
@@ -74,11 +91,12 @@ module _ {R M : Type 0} (proto : LineRules R) (macs : Mac M) {B D : ℕ} (old : 
       let turn : T Silent = subst T first (turned.out left stands.walks.outlet_is) in
       fill-some proto.rules left (owed_by old.outlet) some (sym turn.0 ∙ is)
 
-  pub fill-taken : (told : Cut) → cut_of proto.rules line Silent ≡ told
-      → CutStandsFor proto cut (line ++ Silent ∷ []) → is_open old.phase ≡ false
-      → HasTakenRun proto macs new last setup line (Silent ∷ []) (answer ∷ [])
-  fill-taken told is cuts closed =
-      let between : IsBetween proto macs (record old { cut = cut }) last setup line Silent told =
+  pub fill-taken : (t : Tick) (told : Cut) → cut_of proto.rules line t ≡ told
+      → CutStandsFor proto cut (line ++ t ∷ []) → is_open old.phase ≡ false
+      → BeginsNone proto.rules line t
+      → HasTakenRun proto macs new last setup line (t ∷ []) (answer ∷ [])
+  fill-taken t told is cuts closed begins =
+      let between : IsBetween proto macs (record old { cut = cut }) last setup line t told =
       record {
         word_is = stands.word_is;
         wide = stands.wide;
@@ -92,6 +110,6 @@ module _ {R M : Type 0} (proto : LineRules R) (macs : Mac M) {B D : ℕ} (old : 
         walks = stands.walks;
       } in
       let step : BoxStep CheckNote = record { tick = answer; note = None } in
-      one-taken proto macs new last setup line Silent answer step
-      (rest-taken proto macs (record old { cut = cut }) last setup line Silent told between new step
-      turned refl tt closed) refl refl
+      one-taken proto macs new last setup line t answer step
+      (rest-taken proto macs (record old { cut = cut }) last setup line t told between new step
+      turned refl begins closed) refl refl

@@ -1,12 +1,13 @@
 //! How the receiver takes a run of ticks at once: how many are alike, and which bytes leave.
-ghost use Rattle.std.specs.Prelude.{◌≡◌, ℕ, ◌+◌, ◌<◌, ◌≤◌, List, [], ◌++◌, length, map, take, true};
+ghost use Rattle.std.specs.Prelude.{◌≡◌, ℕ, ◌+◌, ◌<◌, ◌≤◌, List, [], ◌∷◌, ◌++◌, length, map, take};
+ghost use Rattle.std.specs.Prelude.{true};
 ghost use Rattle.yasir_ticks.specs.declared.tick.Tick.{Tick};
 ghost use Rattle.yasir_ticks.specs.declared.tick.Tick.TheVariants.{Byte};
 ghost use Rattle.yasir_ticks.specs.declared.TheConstants.{MAX_TICKS};
 ghost use Rattle.frame_ending.specs.Stands.{ticks_taken as ticks_cut};
 ghost use Rattle.frame_ending.specs.Stands.{StandsFor as CutStandsFor};
 ghost use Rattle.delay_ring.specs.DelayRing.{ring_ticks, AreAlike};
-ghost use Rattle.check_receiver.specs.Runs.{BeginNone, IsFront};
+ghost use Rattle.check_receiver.specs.Runs.{BeginNone, IsFront, KeepsHeader};
 ghost use Rattle.frame_ending.specs.Cuts.{cut_of};
 ghost use Rattle.frame_ending.specs.declared.cut.Cut.TheVariants.{Start};
 ghost use Rattle.line_rules.specs.Rules.{head_of};
@@ -67,6 +68,39 @@ pub fn begin_well<R: LineRules>(bytes: &[u8]) -> bool
     match rules.head() {
         Head::Good => true,
         Head::Short | Head::Bad => false,
+    }
+}
+
+// The first ones of these bytes that begin a burst without a note: all of them where they begin with
+// a good header, and else those in which it isn't whole as yet.
+#[inline]
+pub fn noteless_front<R: LineRules>(bytes: &[u8]) -> &[u8]
+    ensures within { length result.now ≤ length bytes.now }
+    ensures front { result.now ≡ take (length result.now) bytes.now }
+    ensures keeps { (first : ℕ) (others : List ℕ) → first ∷ others ≡ result.now
+        → KeepsHeader R.rules (first ∷ []) others }
+{
+    if begin_well::<R>(bytes) {
+        return bytes;
+    }
+    front_of_header::<R>(bytes)
+}
+
+// Those in which a header isn't whole as yet; none where it is whole in fewer than `HEADER_MOST`
+// bytes.
+#[inline(never)]
+fn front_of_header<R: LineRules>(bytes: &[u8]) -> &[u8]
+    ensures within { length result.now ≤ length bytes.now }
+    ensures front { result.now ≡ take (length result.now) bytes.now }
+    ensures keeps { (first : ℕ) (others : List ℕ) → first ∷ others ≡ result.now
+        → KeepsHeader R.rules (first ∷ []) others }
+{
+    let part = &bytes[..bytes.len().min(HEADER_MOST - 1)];
+    let mut rules = R::fresh();
+    let taken = rules.take_some(part);
+    match rules.head() {
+        Head::Short => &part[..taken],
+        Head::Good | Head::Bad => &part[..0],
     }
 }
 

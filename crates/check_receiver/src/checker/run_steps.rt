@@ -1,10 +1,10 @@
 //! Runs of ticks that the receiver takes at once, by its phase.
 use super::{Checker, PAUSE};
-use crate::runs::{alike_along, begin_well, cut_some, lend, lend_along};
+use crate::runs::{alike_along, cut_some, lend, lend_along, noteless_front};
 use burst_walk::RunBytes;
 use hmac_tag::Mac;
 use line_rules::LineRules;
-use yasir_ticks::{MAX_TICKS, Tick};
+use yasir_ticks::{MAX_TICKS, T3_5_TICKS, Tick};
 
 // How many bytes of a fill leave at once at most.
 const MOST_FILLED: u32 = 64;
@@ -30,7 +30,7 @@ impl<R: LineRules, M: Mac, const B: usize, const D: usize> Checker<R, M, B, D> {
     ghost use Rattle.yasir_ticks.specs.Ticks.{silent};
     ghost use Rattle.burst_walk.specs.Answered.{answered};
     ghost use Rattle.check_receiver.specs.Stands.{StandsAt, direction_of};
-    ghost use Rattle.check_receiver.specs.Runs.{HasTakenRun};
+    ghost use Rattle.check_receiver.specs.Runs.{HasTakenRun, BeginsNone};
     ghost use Rattle.spoiler.specs.Outlet.{owed_by};
 
     // Live bytes of the burst whose verdict is open.
@@ -164,7 +164,10 @@ impl<R: LineRules, M: Mac, const B: usize, const D: usize> Checker<R, M, B, D> {
             (map Byte (take result bytes.now)) (answered result sent.new.items) }
         ensures direction { direction_of self.new ≡ direction_of self.old }
     {
-        // the last live tick leaves, or a fill
+        if self.until == 0 {
+            return self.fill_along(bytes, sent);
+        }
+        // the last live tick leaves
         if self.until < 2 {
             return 0;
         }
@@ -178,7 +181,7 @@ impl<R: LineRules, M: Mac, const B: usize, const D: usize> Checker<R, M, B, D> {
     }
 
     // Bytes while the receiver is idle: those of a burst that is noted, or the first ones of
-    // another, if they begin with a good header and the burst isn't early.
+    // another, if the burst isn't early, as far as its header isn't whole, or is a good one.
     #[inline(never)]
     pub(super) fn start_some(&mut self, bytes: &[u8], sent: &mut RunBytes) -> usize
         requires room { ticks_taken self.old + length bytes.now ≤ MAX_TICKS }
@@ -196,18 +199,16 @@ impl<R: LineRules, M: Mac, const B: usize, const D: usize> Checker<R, M, B, D> {
         if passed > 0 {
             return passed;
         }
-        if bytes.is_empty() {
-            return 0;
-        }
         if self.cut.ticks() < self.earliest_start {
             return 0;
         }
-        if !begin_well::<R>(bytes) {
+        let front = noteless_front::<R>(bytes);
+        if front.is_empty() {
             return 0;
         }
-        let first = bytes[0];
+        let first = front[0];
         self.start(first);
-        1 + self.follow_on(&bytes[1..], sent)
+        1 + self.follow_on(&front[1..], sent)
     }
 
     // The first byte of a burst that isn't early, and that doesn't begin with a bad header, while
@@ -283,15 +284,45 @@ impl<R: LineRules, M: Mac, const B: usize, const D: usize> Checker<R, M, B, D> {
             if !self.outlet.owes() {
                 return count;
             }
-            let byte = self.fill_one();
+            let byte = self.fill_one(Tick::Silent);
             let _ = sent.try_push(byte);
         }
         most
     }
 
-    // The next byte of a fill, which leaves for a silent tick.
-    #[inline]
-    fn fill_one(&mut self) -> u8
+    // Bytes of a burst while a fill leaves.
+    #[inline(never)]
+    fn fill_along(&mut self, bytes: &[u8], sent: &mut RunBytes) -> usize
+        requires room { ticks_taken self.old + length bytes.now ≤ MAX_TICKS }
+        requires phase { is_open self.old.phase ≡ false }
+        requires until { self.old.until ≡ 0 }
+        requires empty { sent.old.items ≡ [] }
+        ensures within { result ≤ length bytes.now }
+        ensures taken { ticks_taken self.new ≡ ticks_taken self.old + result }
+        ensures run { (last : ℕ) (setup : Setup) (line : List Tick)
+            → StandsAt R.LineRules M.Mac self.old last setup line
+            → HasTakenRun R.LineRules M.Mac self.new last setup line
+            (map Byte (take result bytes.now)) (answered result sent.new.items) }
+        ensures direction { direction_of self.new ≡ direction_of self.old }
+    {
+        let most = bytes.len().min(MOST_FILLED as usize);
+        for count in 0..most {
+            // the byte begins another burst
+            if self.cut.quiet() >= T3_5_TICKS {
+                return count;
+            }
+            if !self.outlet.owes() {
+                return count;
+            }
+            let byte = self.fill_one(Tick::Byte(bytes[count]));
+            let _ = sent.try_push(byte);
+        }
+        most
+    }
+
+    // The next byte of a fill, which leaves for a tick that begins no burst.
+    #[inline(always)]
+    fn fill_one(&mut self, t: Tick) -> u8
         requires { ticks_taken self.old < MAX_TICKS }
         ensures taken { ticks_taken self.new ≡ ticks_taken self.old + 1 }
         ensures until { self.new.until ≡ self.old.until }
@@ -299,11 +330,11 @@ impl<R: LineRules, M: Mac, const B: usize, const D: usize> Checker<R, M, B, D> {
         ensures run { (last : ℕ) (setup : Setup) (line : List Tick)
             → StandsAt R.LineRules M.Mac self.old last setup line
             → is_open self.old.phase ≡ false → self.old.until ≡ 0 → 0 < owed_by self.old.outlet
-            → HasTakenRun R.LineRules M.Mac self.new last setup line
-            (Silent ∷ []) (Byte result ∷ []) }
+            → BeginsNone R.rules line t
+            → HasTakenRun R.LineRules M.Mac self.new last setup line (t ∷ []) (Byte result ∷ []) }
         ensures direction { direction_of self.new ≡ direction_of self.old }
     {
-        let _ = self.cut.step(Tick::Silent);
+        let _ = self.cut.step(t);
         match self.turn(Tick::Silent) {
             Tick::Byte(byte) => byte,
             Tick::Silent => 0,

@@ -50,7 +50,7 @@ loop-count-preserved g c =
       run = λ last setup line stands.
           let first = before.run last setup line stands in
           let next = c.fill_one-byte.ensures.run last setup (line ++ silent n) first.stands
-          before.closed before.until some in
+          before.closed before.until some tt in
           let A : List Tick → List Tick → Type 0 = λ run answer. HasTakenRun g.R.LineRules g.M.Mac
           new last setup line run answer in
           subst (λ run. A run (map (λ b. Byte b) c.try_push.new.self.items))
