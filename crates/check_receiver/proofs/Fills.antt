@@ -1,25 +1,22 @@
 -- The bytes of a fill, which leave for silent ticks.
 use Rattle.burst_walk.specs.{Answered.answered, declared.box_step.BoxStep.BoxStep}
 use Rattle.check_receiver.proofs.{Beginnings.one-taken, Resting.rest-taken}
-use Rattle.check_receiver.specs.{Between.IsBetween, Phases.is_open, Phases.passes_in}
-use Rattle.check_receiver.specs.Phases.{settled}
-use Rattle.check_receiver.specs.declared.phase.Phase.{Phase, TheVariants.Idle, TheVariants.Open}
-use Rattle.check_receiver.specs.declared.phase.Phase.TheVariants.{Leaving}
-use Rattle.check_receiver.specs.{Runs.BeginsNone, Runs.HasTakenRun, Stands.StandsAt}
-use Rattle.check_receiver.specs.Turning.{Turned}
-use Rattle.check_receiver.specs.declared.checker.Checker.{Checker}
-use Rattle.frame_ending.specs.{Cuts.cut_of, Stands.StandsFor as CutStandsFor}
-use Rattle.frame_ending.{proofs.Cutting.cut-pass, proofs.Cutting.cut-go_on, specs.SoFar.quiet_so_far}
+use Rattle.check_receiver.specs.Between.{IsBetween}
+use Rattle.check_receiver.specs.Phases.{is_open, passes_in, settled}
+use Rattle.check_receiver.specs.{Runs.BeginsNone, Runs.HasTakenRun, Stands.StandsAt, Turning.Turned}
+use Rattle.check_receiver.specs.declared.{checker.Checker.Checker, phase.Phase.Phase}
+use Rattle.check_receiver.specs.declared.phase.Phase.TheVariants.{Idle, Open, Leaving}
+use Rattle.frame_ending.proofs.Cutting.{cut-pass, cut-go_on}
+use Rattle.frame_ending.specs.{Cuts.cut_of, SoFar.quiet_so_far, Stands.StandsFor as CutStandsFor}
 use Rattle.frame_ending.specs.declared.{burst_cut.BurstCut.BurstCut, cut.Cut.Cut}
 use Rattle.hmac_tag.specs.declared.tag.Mac.{Ghosts as Mac}
 use Rattle.line_rules.specs.{Rules.Rules, declared.line_rules.LineRules.Ghosts as LineRules}
-use Rattle.link_format.specs.Setup.{Setup}
-use Rattle.link_verdicts.specs.Turns.{HasTurned, tick_or_silence}
-use Rattle.link_verdicts.specs.declared.note.CheckNote.{CheckNote}
+use Rattle.{link_format.specs.Setup.Setup, link_verdicts.specs.Turns.HasTurned}
+use Rattle.link_verdicts.specs.{Turns.tick_or_silence, declared.note.CheckNote.CheckNote}
 use Rattle.spoiler.specs.Outlet.{filled, owed_by}
-use Rattle.std.proofs.Common.{◌≡◌, ◌∙◌, ℕ, zero, suc, ◌<◌, ◌==◌, false, List, [], ◌∷◌, ◌++◌}
-use Rattle.std.proofs.Common.{length, get_or, map, refl, sym, ap, subst, arith, None, ⊎_elim, Bool}
-use Rattle.std.proofs.Common.{nat_lt, inl, inr, ◌||◌}
+use Rattle.std.proofs.Common.{◌≡◌, ◌∙◌, ℕ, zero, suc, ◌<◌, ◌==◌, false, List, [], ◌∷◌, ◌++◌, length}
+use Rattle.std.proofs.Common.{get_or, map, refl, sym, ap, subst, arith, None, ⊎_elim, Bool, nat_lt}
+use Rattle.std.proofs.Common.{inl, inr, ◌||◌}
 use Rattle.std.proofs.lemmas.Bool.{cases_Bool, cond-true, cond-false, cond_both, ne_eqb, or_parts}
 use Rattle.yasir_ticks.specs.Ticks.{silent}
 use Rattle.yasir_ticks.specs.declared.tick.Tick.{Tick, TheVariants.Silent, TheVariants.Byte}

@@ -1,17 +1,15 @@
 -- Bytes of a burst that aren't live, taken as a run.
 use Rattle.frame_ending.proofs.Cutting.{cut-begin, cut-pass, cut-go_on, stands-pass, stands-wait}
-use Rattle.frame_ending.proofs.Cutting.{paused-by, or_more}
-use Rattle.frame_ending.proofs.Runs.{stands-silence}
+use Rattle.frame_ending.proofs.{Cutting.paused-by, Cutting.or_more, Runs.stands-silence}
 use Rattle.frame_ending.specs.{Cuts.cut_of, Cuts.cuts_after, SoFar.live_bytes_so_far}
 use Rattle.frame_ending.specs.{Stands.StandsFor, declared.burst_cut.BurstCut.BurstCut}
 use Rattle.frame_ending.specs.declared.cut.Cut.TheVariants.{Start, Live, Extra}
 use Rattle.line_rules.specs.Rules.{Rules, fills_room}
 use Rattle.line_rules.specs.declared.line_rules.LineRules.{Ghosts as LineRules}
-use Rattle.std.proofs.Common.{◌≡◌, ◌∙◌, ℕ, ◌+◌, ◌<◌, ◌≤◌, Bool, true, ◌||◌, List, [], ◌∷◌}
-use Rattle.std.proofs.Common.{◌++◌, length, map, refl, subst, ap, arith, append_assoc, false}
-use Rattle.std.proofs.Common.{min, nat_le, suc, zero, sym, ⊎_elim}
-use Rattle.std.proofs.lemmas.{Bool.cases_lt, List.append-nil}
-use Rattle.yasir_ticks.specs.Ticks.{silent}
+use Rattle.std.proofs.Common.{◌≡◌, ◌∙◌, ℕ, ◌+◌, ◌<◌, ◌≤◌, Bool, true, ◌||◌, List, [], ◌∷◌, ◌++◌}
+use Rattle.std.proofs.Common.{length, map, refl, subst, ap, arith, append_assoc, false, min, nat_le}
+use Rattle.std.proofs.{Common.suc, Common.zero, Common.sym, Common.⊎_elim, lemmas.Bool.cases_lt}
+use Rattle.{std.proofs.lemmas.List.append-nil, yasir_ticks.specs.Ticks.silent}
 use Rattle.yasir_ticks.specs.declared.tick.Tick.{Tick, TheVariants.Silent, TheVariants.Byte}
 
 module _ {R : Type 0} (proto : LineRules R) where

@@ -1,9 +1,8 @@
 use Rattle.check_receiver.proofs.Lending.{of-ok, ring-whole, front-along, whole-along, ring-alike}
-use Rattle.check_receiver.proofs.Lending.{bytes-long, no-bytes}
-use Rattle.std.proofs.lemmas.Bool.{eqb-true}
-use Rattle.{check_receiver.specs.Runs.IsFront, delay_ring.specs.DelayRing.ring_ticks}
-use Rattle.std.proofs.Common.{◌≡◌, ◌∙◌, ◌-◌, ◌≤◌, ◌++◌, sym, ap, subst, arith, length, List, ℕ}
-use Rattle.std.proofs.{Common.take, Common.map, Common.length-append, lemmas.List.length-take-le}
+use Rattle.check_receiver.{proofs.Lending.bytes-long, proofs.Lending.no-bytes, specs.Runs.IsFront}
+use Rattle.{delay_ring.specs.DelayRing.ring_ticks, std.proofs.Common.◌≡◌, std.proofs.Common.◌∙◌}
+use Rattle.std.proofs.Common.{◌-◌, ◌≤◌, ◌++◌, sym, ap, subst, arith, length, List, ℕ, take, map}
+use Rattle.std.proofs.{Common.length-append, lemmas.Bool.eqb-true, lemmas.List.length-take-le}
 use Rattle.yasir_ticks.specs.declared.tick.Tick.{Tick, TheVariants.Byte}
 use Rattle.check_receiver.proofs.runs.lend_along.Goals as goal
 

@@ -1,7 +1,6 @@
 use Rattle.burst_walk.specs.Answered.{answered}
 use Rattle.check_receiver.proofs.{Beginnings.more-taken, Fills.answered-bytes, Fills.runs-none}
-use Rattle.check_receiver.proofs.Lending.{of-ok, same-taken}
-use Rattle.check_receiver.specs.Runs.{HasTakenRun}
+use Rattle.check_receiver.{proofs.Lending.of-ok, proofs.Lending.same-taken, specs.Runs.HasTakenRun}
 use Rattle.std.proofs.Common.{◌≡◌, ◌∙◌, ◌++◌, ℕ, List, [], ◌∷◌, arith, length, map, refl, sym, ap}
 use Rattle.std.proofs.Common.{◌+◌, subst, take, slice_index_or, length-append}
 use Rattle.std.proofs.lemmas.{Bool.ltb-true, List.map-append, List.take_more}

@@ -1,12 +1,10 @@
-use Rattle.burst_walk.specs.Answered.{answered}
-use Rattle.check_receiver.proofs.{Beginnings.more-taken, Fills.answered-bytes, Lending.of-ok}
-use Rattle.check_receiver.proofs.Lending.{same-taken}
-use Rattle.check_receiver.specs.Runs.{HasTakenRun}
-use Rattle.std.proofs.Common.{◌≡◌, ◌∙◌, ◌++◌, ℕ, List, [], ◌∷◌, arith, length, map, refl, sym, ap}
-use Rattle.std.proofs.Common.{subst, length-append}
-use Rattle.std.proofs.lemmas.{Bool.ltb-true, List.map-append, List.replicate-append-replicate}
-use Rattle.yasir_ticks.specs.{Ticks.silent, declared.tick.Tick.Tick}
-use Rattle.yasir_ticks.specs.declared.tick.Tick.TheVariants.{Silent, Byte}
+use Rattle.{burst_walk.specs.Answered.answered, check_receiver.proofs.Beginnings.more-taken}
+use Rattle.check_receiver.proofs.{Fills.answered-bytes, Lending.of-ok, Lending.same-taken}
+use Rattle.{check_receiver.specs.Runs.HasTakenRun, std.proofs.Common.◌≡◌}
+use Rattle.std.proofs.Common.{◌∙◌, ◌++◌, ℕ, List, [], ◌∷◌, arith, length, map, refl, sym, ap, subst}
+use Rattle.std.proofs.{Common.length-append, lemmas.Bool.ltb-true, lemmas.List.map-append}
+use Rattle.{std.proofs.lemmas.List.replicate-append-replicate, yasir_ticks.specs.Ticks.silent}
+use Rattle.yasir_ticks.specs.declared.tick.Tick.{Tick, TheVariants.Silent, TheVariants.Byte}
 use Rattle.check_receiver.proofs.checker.Checker.fill_some.Goals as goal
 
 pub loop-count-init : goal.loop-count-init

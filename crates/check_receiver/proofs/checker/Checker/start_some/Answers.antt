@@ -8,8 +8,7 @@ use Rattle.spoiler.specs.Outlet.{owed_by}
 use Rattle.std.proofs.Common.{◌≡◌, ◌∙◌, ◌+◌, ◌-◌, ◌<◌, ◌++◌, [], ◌∷◌, sym, ap, subst, arith, length}
 use Rattle.std.proofs.Common.{List, ℕ, take, drop, map, refl, slice_index_or}
 use Rattle.std.proofs.lemmas.{Bool.eqb-false, List.length-take-le, List.length-drop, List.take_all}
-use Rattle.std.proofs.lemmas.List.{take-take}
-use Rattle.yasir_ticks.specs.Ticks.{silent}
+use Rattle.{std.proofs.lemmas.List.take-take, yasir_ticks.specs.Ticks.silent}
 use Rattle.yasir_ticks.specs.declared.tick.Tick.{Tick, TheVariants.Silent, TheVariants.Byte}
 use Rattle.check_receiver.proofs.checker.Checker.start_some.Goals as goal
 

@@ -1,8 +1,7 @@
 use Rattle.delay_ring.specs.DelayRing.{ring_ticks}
 use Rattle.std.proofs.Common.{◌≡◌, ◌∙◌, sym, ap, inl, inr, arith, length, take, ℕ, List, ⊎_elim}
 use Rattle.std.proofs.{Common.slice_index_or, lemmas.Bool.cases_lt, lemmas.List.length-replicate}
-use Rattle.yasir_ticks.specs.Ticks.{silent}
-use Rattle.yasir_ticks.specs.declared.tick.Tick.TheVariants.{Silent}
+use Rattle.yasir_ticks.specs.{Ticks.silent, declared.tick.Tick.TheVariants.Silent}
 use Rattle.delay_ring.proofs.delay_ring.DelayRing.front_alike.Goals as goal
 
 pub returns-in-Silent-clause-alike : goal.returns-in-Silent-clause-alike
