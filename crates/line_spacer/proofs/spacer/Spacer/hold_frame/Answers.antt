@@ -3,7 +3,7 @@ use Rattle.device_model.specs.Frames.{FrameRead}
 use Rattle.line_spacer.proofs.Keeping.{held-sent, none-left}
 use Rattle.line_spacer.proofs.spacer.Spacer.hold_frame.Goals as goal
 
-pub returns-clause-lent : goal.returns-clause-left
+pub returns-clause-lent : goal.returns-clause-lent
 returns-clause-lent g c =
     let old = c.args.self.now in
     none-left old.before old.sent old.size old.room c.fill_front-self.new.room old.grows old.within
