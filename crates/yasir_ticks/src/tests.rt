@@ -338,29 +338,38 @@ fn cuts_runs_in_two(rt: HostRuntime) {
     assert!(rt; silence.front(0).is_empty());
 }
 
-/// A line with others behind it, up to the 122 bytes that the longest line has.
+/// A line and as many bytes behind it as the longest line has.
 fn line_in_front(alloc: Global, line: &[u8]) -> Result<Vec<u8>, Fail> {
     let mut text = Vec::new(alloc);
     text.extend_from_slice(line)?;
-    while text.len() < 122 {
+    for _ in 0..122 {
         text.push(b'\n')?;
     }
     Ok(text)
+}
+
+/// A new reader must take this line at once, as so many bytes of ticks.
+fn must_take(rt: &impl Abort, alloc: Global, line: &[u8], bytes: usize) -> Result<(), Fail> {
+    let text = line_in_front(alloc, line)?;
+    let mut reader = TickReader::new(0);
+    assert!(rt; reader.line() < 9 && text.len() < 999);
+    let taken = reader.take_usual(text.as_slice()).map(|line| line.taken);
+    assert_eq!(rt; taken, Some(line.len()));
+    assert_eq!(rt; reader.line_bytes().len(), bytes);
+    Ok(())
 }
 
 // No clause says which lines are taken at once: each line of 1 to 32 bytes is.
 #[test]
 fn takes_a_line_of_bytes_at_once(rt: HostRuntime) -> Result<(), Fail> {
     const LINE: &[u8] = b"+000102030405060708090a0b0c0d0e0f101112131415161718191a1b1c1d1e1f";
-    for count in 1..=32 {
-        let mut text = Vec::new(rt.alloc());
-        text.extend_from_slice(&LINE[..1 + 2 * count])?;
-        text.push(b'\n')?;
-        let text = line_in_front(rt.alloc(), text.as_slice())?;
-        let mut reader = TickReader::new(0);
-        let taken = reader.take_usual(text.as_slice()).map(|line| line.taken);
-        assert_eq!(rt; taken, Some(2 + 2 * count));
-        assert_eq!(rt; reader.line_bytes().len(), count);
+    for count in 1_usize..=32 {
+        let mut line = Vec::new(rt.alloc());
+        for byte in LINE.iter().take(count.saturating_mul(2).saturating_add(1)) {
+            line.push(*byte)?;
+        }
+        line.push(b'\n')?;
+        must_take(&rt, rt.alloc(), line.as_slice(), count)?;
     }
     Ok(())
 }
@@ -377,10 +386,7 @@ fn takes_a_line_of_silence_at_once(rt: HostRuntime) -> Result<(), Fail> {
         b"-999999\n",
     ];
     for line in LINES {
-        let text = line_in_front(rt.alloc(), line)?;
-        let mut reader = TickReader::new(0);
-        let taken = reader.take_usual(text.as_slice()).map(|line| line.taken);
-        assert_eq!(rt; taken, Some(line.len()));
+        must_take(&rt, rt.alloc(), line, 0)?;
     }
     Ok(())
 }
@@ -389,16 +395,13 @@ fn takes_a_line_of_silence_at_once(rt: HostRuntime) -> Result<(), Fail> {
 #[test]
 fn takes_a_comment_at_once(rt: HostRuntime) -> Result<(), Fail> {
     for count in 0..=120 {
-        let mut text = Vec::new(rt.alloc());
-        text.push(b'#')?;
+        let mut line = Vec::new(rt.alloc());
+        line.push(b'#')?;
         for _ in 0..count {
-            text.push(b'c')?;
+            line.push(b'c')?;
         }
-        text.push(b'\n')?;
-        let text = line_in_front(rt.alloc(), text.as_slice())?;
-        let mut reader = TickReader::new(0);
-        let taken = reader.take_usual(text.as_slice()).map(|line| line.taken);
-        assert_eq!(rt; taken, Some(2 + count));
+        line.push(b'\n')?;
+        must_take(&rt, rt.alloc(), line.as_slice(), 0)?;
     }
     Ok(())
 }

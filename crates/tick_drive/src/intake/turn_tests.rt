@@ -42,14 +42,14 @@ fn full_lines(alloc: Global) -> Result<Vec<u8>, Fail> {
 // How many lines are taken at once to the end of the input, and how many steps it takes besides.
 fn turns_over(source: &mut CountedSource<'_>) -> Result<(u32, u32), Fail> {
     let mut intake = Intake::new(0);
-    let (mut usual, mut steps) = (0, 0);
+    let (mut usual, mut steps) = (0_u32, 0_u32);
     for _ in 0..1_000_000 {
         if intake.usual_line().is_some() {
-            usual += 1;
+            usual = usual.saturating_add(1);
             continue;
         }
         match intake.step(source) {
-            Ok(Some(_)) => steps += 1,
+            Ok(Some(_)) => steps = steps.saturating_add(1),
             Ok(None) => return Ok((usual, steps)),
             Err(_) => return Err(Fail::from("the text is refused")),
         }
