@@ -9,7 +9,7 @@ use yasir_ticks::Tick;
 #[derive(Drop)]
 pub struct ForgetfulDevice<R>(HuntingFamily<R>);
 
-/// Such a device of DNP3.
+/// A device of DNP3 that hunts for frames and lets a cut one go after 18 silent ticks.
 pub type ForgetfulDnp = ForgetfulDevice<Dnp>;
 
 impl<R: Hunted> Device for ForgetfulDevice<R> {

@@ -53,7 +53,7 @@ pub record HasPassedAlone {S A X : Type 0} (boxed : LinkBox S A) (old new : OneW
 
 module _ {S C A B X Y : Type 0} (sends : LinkBox S A) (gets : LinkBox C B) (d : SlotDisk X)
     (e : SlotDisk Y) where
-  -- Such a turn leads from the one to the other: a step that answered, or a run.
+  -- This turn leads from the one to the other: a step that answered, or a run.
   abbrev pub TakesTurn : BothWays S C X Y → Turn A B → BothWays S C X Y → Type 0
   TakesTurn old (stepped from_device from_link step) new =
       GoesOn sends gets d e from_device from_link old new step
@@ -61,7 +61,7 @@ module _ {S C A B X Y : Type 0} (sends : LinkBox S A) (gets : LinkBox C B) (d : 
       HasPassedAlone sends old.outgoing new.outgoing from_device to_link
       × HasPassedAlone gets old.incoming new.incoming from_link to_device
 
-  -- Such turns do.
+  -- These turns, one after the other, lead from the one to the other.
   abbrev pub Turns : BothWays S C X Y → List (Turn A B) → BothWays S C X Y → Type 0
   Turns old [] new = old ≡ new
   Turns old (turn ∷ turns) new = (next : BothWays S C X Y)

@@ -10,9 +10,9 @@ use line_stamps::Way;
 /// The wires that a dump has.
 #[derive(Clone, Copy, Debug, PartialEq, Eq)]
 pub enum Wires {
-    /// That of way A.
+    /// The wire of way A.
     One,
-    /// Those of both ways.
+    /// The wires of both ways.
     Two,
 }
 

@@ -86,8 +86,8 @@ pub fn noteless_front<R: LineRules>(bytes: &[u8]) -> &[u8]
     front_of_header::<R>(bytes)
 }
 
-// Those in which a header isn't whole as yet; none where it is whole in fewer than `HEADER_MOST`
-// bytes.
+// The bytes in front in which a header isn't whole as yet; none where it is whole in fewer than
+// `HEADER_MOST` bytes.
 #[inline(never)]
 fn front_of_header<R: LineRules>(bytes: &[u8]) -> &[u8]
     ensures within { length result.now ≤ length bytes.now }

@@ -3,7 +3,7 @@
 //!
 //! Code that is generic over boxes takes what it can as a run, and the others tick by tick:
 //!
-//!     let taken = take_alike(&mut line_box, run, &mut left);
+//!     let taken = take_alike(&mut line_box, run, &mut sent);
 //!     if taken == 0 {
 //!         let step = line_box.step(run.first(), &mut journal, &mut disk)?;
 //!         send(step.tick);

@@ -554,7 +554,7 @@ const BOXES: [Row; 14] = [
         ..SEAL
     },
     CHECK,
-    // It was sealed for the other direction.
+    // A link that was sealed for the other direction.
     Row {
         words: "check rtu ba key journal",
         link: RTU_BA,

@@ -48,7 +48,7 @@ pub record TellsOf (profile : Profile) (rules : Rules) (device link : List Tick)
   pub passes_what_was_sealed :
       IsSubsequence (pairs_of (rightly_passed listing.sealed listing.passed))
       (pairs_of listing.sealed)
-  -- So unless a frame is forged, the frames that the device reads are a subsequence of those that
+  -- Unless a frame is forged, the frames that the device reads are a subsequence of those that
   -- were sealed.
   pub reads_what_was_sealed : forged_in listing ≡ []
       → IsSubsequence (bytes_read listing.reads) (bytes_sealed listing.sealed)

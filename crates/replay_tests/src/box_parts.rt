@@ -42,7 +42,7 @@ const _: () = prove!(
             + BESIDE_THE_PARTS
 );
 
-// So it is with words of four bytes, and tags by the other hash.
+// Words of four bytes, and tags by SHA-256: no box has more than its parts and these bytes.
 const _: () = prove!(
     size_of::<Sealer<Rtu, HmacSha256, 4>>()
         <= size_of::<Rtu>() + size_of::<HmacSha256>() + BESIDE_THE_PARTS
@@ -69,8 +69,8 @@ const _: () = prove!(
             + BESIDE_THE_PARTS
 );
 
-// These bounds name the parts, and say nothing where a part itself grows. So the boxes are bounded
-// by numbers too, which leave no room for a frame either.
+// How many bytes a box has at most. Bounds by its parts say nothing where a part itself grows; this
+// number leaves no room for a frame, of whatever parts the box is.
 const SEALER_MOST: usize = 512;
 
 const CHECKER_MOST: usize = 1_056;

@@ -227,7 +227,7 @@ impl Journal {
             → LeavesOnly D.moment D.left_since disk.old disk.new (HasFloorFrom self.old) }
         ensures crash_safe { IsCrashSafe self.old (D.told disk.old) (D.may_leave disk.old)
             → IsCrashSafe self.new (D.told disk.new) (D.may_leave disk.new) }
-        // So it is a step of an uptime, in which it returns `n`, or nothing where it fails.
+        // The call is a step of an uptime, in which it returns `n`, or nothing where it fails.
         ensures is_step { IsKept self.old (D.told disk.old) (D.may_leave disk.old)
             → IsStepOf D.SlotDisk self.old disk.old (record {
               numbers = numbers_answered (λ done. n ∷ []) result;

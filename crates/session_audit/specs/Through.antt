@@ -46,7 +46,7 @@ module _ {S C V : Type 0} (s : FrameBox S) (c : FrameBox C) (v : Device V)
     pub able : IsOpen s c v lists
     pub few : session_taken s c v lists < 2 ^ 32
 
-  -- They are those of some.
+  -- The lists are those of some recordings of the session.
   pub record HasTakenSome (lists : SessionLists S C V) : Type 0 where
     pub late : ℕ
     pub device : List Tick

@@ -20,7 +20,7 @@ pub struct BurstBytes {
 }
 
 impl BurstBytes {
-    /// Those of no tick.
+    /// The bytes of no tick.
     pub fn new() -> BurstBytes
         ensures { BurstFor result [] }
     {
@@ -92,7 +92,7 @@ impl BurstBytes {
         }
     }
 
-    /// These bytes.
+    /// The bytes that are kept.
     #[inline]
     pub fn bytes(&self) -> &[u8]
         ensures burst { (line : List Tick) → BurstFor self.now line

@@ -130,7 +130,7 @@ module _ (ends : ℕ) (whole : Burst → Bool) where
         ∙ (ap (map (arrival_of ends)) (sym now.is)
         ∙ ap (λ k. map (arrival_of ends) (ended k ds)) (sym next))))))))
 
-    -- So all that is read is what arrives.
+    -- All that is read is what arrives.
     pub frames-laid : (m : ℕ)
         → map (λ a. a.frame) (arrivals heard (laid m ds)) ≡ heard (laid m ds)
     frames-laid m =

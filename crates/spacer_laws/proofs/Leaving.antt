@@ -84,7 +84,7 @@ module _ (gap m b : ℕ) where
   soon-append n (d ∷ ds) e soon from by short =
       (soon.0, soon.1, soon.2, soon-append (end_of d + gap) ds e soon.3 from by short)
 
-  -- So the last of them ends so soon.
+  -- The last of these bursts ends so soon.
   reach : (n : ℕ) (ds : List Burst) → AreSoon n ds
       → free_from gap n ds ≤ max n (m + b) + count_from m ds * b
   reach n [] soon = grind arith

@@ -144,7 +144,7 @@ module _ (gap : ℕ) (wide : 0 < gap) (rules : Rules) (framed : IsFramed rules) 
       ∙ bursts-laid cut m (within m ds) (within-spread cut m 0 0 ds some near start apart)
       (within-ends m ds)
 
-  -- They are spread.
+  -- Bursts so far apart are spread.
   pub apart-spread : (cut n k : ℕ) (ds : List Burst) → 0 < cut → cut ≤ gap → k ≤ n
       → AreApart rules gap n ds → AreSpread cut k ds
   apart-spread cut n k [] some near le apart = tt

@@ -18,7 +18,7 @@ pub enum CaseKind {
     CrcDnp,
     /// The HMAC-SHA-1 of the text under the key, 20 bytes.
     HmacSha1,
-    /// Its first 12 bytes, by the stream.
+    /// The first 12 bytes of the HMAC-SHA-1 of the text under the key, by the stream.
     HmacSha196,
     /// The HMAC-SHA-256 of the text under the key, 32 bytes.
     HmacSha256,

@@ -72,9 +72,9 @@ pub record TakesUpTo (old : TickReader) (bytes : List ℕ) (taken : ℕ) (conten
   pub items : (marks : ℕ) (text : List ℕ) → StandsFor old marks text
       → ended_items (text ++ take taken bytes)
       ≡ ended_items text ++ items_of_content content new.bytes.items
-  -- It is `NoTick` exactly where no line with ticks or a mark ended.
+  -- The content is `NoTick` exactly where no line with ticks or a mark ended.
   pub nothing : items_of_content content new.bytes.items ≡ [] → content ≡ NoTick
-  -- Such a line ended at the last byte that was taken, and none before.
+  -- A line with ticks or a mark ended at the last byte that was taken, and none before.
   pub last : (marks : ℕ) (text : List ℕ) → StandsFor old marks text → content ≢ NoTick
       → (0 < taken) × (ended_items (text ++ take (taken - 1) bytes) ≡ ended_items text)
   -- Where not every byte was taken, the last one that was ended its line.

@@ -392,7 +392,7 @@ impl TickReader {
                 return fed;
             }
         }
-        // This answer is taken apart and built anew, so that one of a usual line stays in registers.
+        // What is returned is taken apart and built anew, so that a usual line stays in registers.
         let FedLine { taken, line } = self.feed_rest(bytes);
         FedLine { taken, line }
     }
