@@ -4,9 +4,9 @@ use Rattle.hmac_tag.specs.Hmac.{xored, key_block}
 use Rattle.hmac_tag.specs.declared.keyed_hash.Hmac.{Hmac}
 
 -- it stands for this key and the text taken so far, by the hash function and what its hashers hold
-pub record StandsFor {D : Type 0} {N : ℕ} (hash : List ℕ → List ℕ) (Holds : D → List ℕ → Type 0)
-    (mac : Hmac D N)
+pub record StandsFor {D S : Type 0} {N : ℕ} (hash : List ℕ → List ℕ) (Starts : S → List ℕ → Type 0)
+    (Holds : D → List ℕ → Type 0) (mac : Hmac D S N)
     (key text : List ℕ) : Type 0 where
-  pub inner : Holds mac.inner (xored 0x36 (key_block hash key))
-  pub outer : Holds mac.outer (xored 0x5C (key_block hash key))
+  pub inner : Starts mac.inner (xored 0x36 (key_block hash key))
+  pub outer : Starts mac.outer (xored 0x5C (key_block hash key))
   pub running : Holds mac.running (xored 0x36 (key_block hash key) ++ text)

@@ -6,7 +6,7 @@ ghost use Rattle.hmac_tag.specs.Hmac.{xored, filled, key_block, hmac};
 ghost use Rattle.hmac_tag.specs.Stands.{StandsFor};
 ghost use Rattle.hmac_tag.specs.Tag.{hmac_cut};
 
-use crate::{Digest, Mac, Sha1Hasher, TagBytes};
+use crate::{Digest, Mac, Sha1Hasher, Sha1Start, TagBytes};
 use arrayvec::ArrayVec;
 use sha2::Sha256;
 
@@ -16,20 +16,20 @@ const INNER_PAD: u8 = 0x36;
 
 const OUTER_PAD: u8 = 0x5C;
 
-/// HMAC (RFC 2104) of a text that comes in pieces: hashers that have taken the key's inner and
-/// outer block, and one that has taken the inner block and the text so far.
+/// HMAC (RFC 2104) of a text that comes in pieces: what the key's inner and outer block leave, and a
+/// hasher that has taken the inner block and the text so far.
 #[derive(Drop)]
-pub struct Hmac<D, const N: usize> {
-    inner: D,
-    outer: D,
+pub struct Hmac<D, S, const N: usize> {
+    inner: S,
+    outer: S,
     running: D,
 }
 
 /// HMAC over SHA-1, whose tags are its first 12 bytes (RFC 2404).
-pub type HmacSha1 = Hmac<Sha1Hasher, 20>;
+pub type HmacSha1 = Hmac<Sha1Hasher, Sha1Start, 20>;
 
 /// HMAC over SHA-256, whose tags are its first 16 bytes (RFC 4868).
-pub type HmacSha256 = Hmac<Sha256, 32>;
+pub type HmacSha256 = Hmac<Sha256, Sha256, 32>;
 
 // A key of at most a block, filled with zeros.
 fn filled(key: &[u8]) -> [u8; BLOCK_LEN]
@@ -41,27 +41,21 @@ fn filled(key: &[u8]) -> [u8; BLOCK_LEN]
     block
 }
 
-fn digest_of<D: Digest<N>, const N: usize>(message: &[u8]) -> [u8; N]
+fn digest_of<D: Digest<S, N>, S, const N: usize>(message: &[u8]) -> [u8; N]
     ensures { result ≡ D.digest_of message.now }
-{
-    hasher_of::<D, N>(message).finalize()
-}
-
-fn hasher_of<D: Digest<N>, const N: usize>(message: &[u8]) -> D
-    ensures { D.holds result message.now }
 {
     let mut hasher = D::new();
     hasher.update(message);
-    hasher
+    hasher.finalize()
 }
 
 // The block of a key, which is hashed first where it is longer than a block.
 #[tactic(auto, unfolding(crate::specs::Hmac::key_block))]
-fn key_block<D: Digest<N>, const N: usize>(key: &[u8]) -> [u8; BLOCK_LEN]
+fn key_block<D: Digest<S, N>, S, const N: usize>(key: &[u8]) -> [u8; BLOCK_LEN]
     ensures { result ≡ key_block D.digest_of key.now }
 {
     if BLOCK_LEN < key.len() {
-        filled(&digest_of::<D, N>(key))
+        filled(&digest_of::<D, S, N>(key))
     } else {
         filled(key)
     }
@@ -76,16 +70,18 @@ fn xored(pad: u8, mut block: [u8; BLOCK_LEN]) -> [u8; BLOCK_LEN]
     block
 }
 
-impl<D: Digest<N>, const N: usize> Hmac<D, N> {
+impl<D: Digest<S, N>, S: Drop, const N: usize> Hmac<D, S, N> {
     /// The whole MAC of a text under a key of any length.
     #[tactic(auto, unfolding(crate::specs::Hmac::hmac))]
     pub fn digest(key: &[u8], text: &[u8]) -> [u8; N]
         ensures { result ≡ hmac D.digest_of key.now text.now }
     {
-        let block = key_block::<D, N>(key);
-        let mut inner = hasher_of::<D, N>(&xored(INNER_PAD, block));
+        let block = key_block::<D, S, N>(key);
+        let start = D::start_of(&xored(INNER_PAD, block));
+        let mut inner = D::new();
+        inner.begin(&start);
         inner.update(text);
-        hasher_of::<D, N>(&xored(OUTER_PAD, block)).nest(&inner)
+        D::nest(&D::start_of(&xored(OUTER_PAD, block)), &inner)
     }
 }
 
@@ -101,10 +97,10 @@ fn cut<const N: usize>(whole: &[u8; N], size: usize) -> TagBytes
     tag
 }
 
-impl<D: Digest<N>, const N: usize> Mac for Hmac<D, N> {
+impl<D: Digest<S, N>, S: Drop, const N: usize> Mac for Hmac<D, S, N> {
     ghost tag_of = { hmac_cut D.digest_of D.TAG };
 
-    ghost stands = { StandsFor D.digest_of D.holds };
+    ghost stands = { StandsFor D.digest_of D.starts D.holds };
 
     ghost TAG = { D.TAG };
 
@@ -117,10 +113,11 @@ impl<D: Digest<N>, const N: usize> Mac for Hmac<D, N> {
     ghost tag_bytes = { All-hmac_cut D.digest_of D.TAG D.digest_bytes };
 
     fn with_key(key: &[u8]) -> Self {
-        let block = key_block::<D, N>(key);
-        let inner = hasher_of::<D, N>(&xored(INNER_PAD, block));
-        let outer = hasher_of::<D, N>(&xored(OUTER_PAD, block));
-        let running = inner.fork();
+        let block = key_block::<D, S, N>(key);
+        let inner = D::start_of(&xored(INNER_PAD, block));
+        let outer = D::start_of(&xored(OUTER_PAD, block));
+        let mut running = D::new();
+        running.begin(&inner);
         Hmac {
             inner,
             outer,
@@ -130,7 +127,7 @@ impl<D: Digest<N>, const N: usize> Mac for Hmac<D, N> {
 
     #[inline]
     fn begin(&mut self) {
-        self.running = self.inner.fork();
+        self.running.begin(&self.inner);
     }
 
     #[inline]
@@ -140,7 +137,7 @@ impl<D: Digest<N>, const N: usize> Mac for Hmac<D, N> {
 
     #[tactic(auto, unfolding(crate::specs::Hmac::hmac))]
     fn finish(&mut self) -> TagBytes {
-        let whole = self.outer.nest(&self.running);
+        let whole = D::nest(&self.outer, &self.running);
         self.begin();
         cut(&whole, D::TAG)
     }

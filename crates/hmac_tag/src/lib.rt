@@ -20,5 +20,5 @@ mod tag;
 pub use dir::Dir;
 pub use hash::Digest;
 pub use keyed_hash::{Hmac, HmacSha1, HmacSha256};
-pub use sha1_hasher::Sha1Hasher;
+pub use sha1_hasher::{Sha1Hasher, Sha1Start};
 pub use tag::{Mac, TagBytes};

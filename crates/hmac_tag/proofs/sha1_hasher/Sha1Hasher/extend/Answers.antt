@@ -1,8 +1,7 @@
-use Rattle.{hmac_tag.proofs.Hashing.taken_short, std.proofs.Common.refl, std.proofs.Common.arith}
+use Rattle.{hmac_tag.proofs.Hashing.taken_more, std.proofs.Common.refl, std.proofs.Common.arith}
 use Rattle.hmac_tag.proofs.sha1_hasher.Sha1Hasher.extend.Goals as goal
 
-pub returns : goal.returns
-returns c = λ m held.
-    taken_short c.args.self.now _ m c.args.part.now _ _ _ held (omega arith) refl (omega arith)
-    (omega arith)
-    c.copy_from_slice.ensures.after refl refl refl
+pub returns-clause-taken : goal.returns-clause-taken
+returns-clause-taken c = λ m held.
+    taken_more c.args.self.now _ m c.args.part.now _ _ _ held (omega arith) refl (omega arith)
+    (omega arith) c.copy_from_slice.ensures.after refl refl refl

@@ -1,6 +1,5 @@
-use Rattle.{sha1.specs.Sha1.hash_after, std.proofs.Common.refl}
+use Rattle.{hmac_tag.proofs.Hashing.taken_begun, std.proofs.Common.[], std.proofs.Common.refl}
 use Rattle.hmac_tag.proofs.sha1_hasher.Sha1Hasher.new.Goals as goal
 
 pub returns : goal.returns
-unfolding hash_after
-returns c = record { total = refl; absorbed = (refl, refl); zeros = refl }
+returns c = taken_begun _ [] c.new.ensures refl

@@ -1,28 +1,21 @@
-use Rattle.std.proofs.Common.{ℕ, List, ◌++◌, ◌+◌, ◌-◌, ◌%◌, length, take, arith}
-use Rattle.std.proofs.lemmas.List.{append-nil, take_all}
-use Rattle.hmac_tag.proofs.Hashing.{piece_on}
+use Rattle.std.proofs.Common.{◌≡◌, ℕ, List, ◌++◌, ◌+◌, ◌-◌, length, take, drop, arith, length-drop}
+use Rattle.std.proofs.lemmas.List.{take_all}
+use Rattle.hmac_tag.proofs.Hashing.{piece_on, taken_block}
 use Rattle.hmac_tag.proofs.sha1_hasher.Sha1Hasher.update_blocks.Goals as goal
 
-pub pieces-init : goal.pieces-init
-pieces-init c = (omega arith, λ m held. rw (append-nil m) held)
-
-pub pieces-preserved : goal.pieces-preserved
-pieces-preserved c = (
+pub blocks-2-preserved : goal.blocks-2-preserved
+blocks-2-preserved c = (
+  omega arith,
+  omega arith,
   omega arith,
   λ m held.
       let part : List ℕ = c.args.part.now in
-      let start : ℕ = c.pieces.start in
-      let end : ℕ = start + (64 - c.pieces.self.total % 64) in
-      rw (← piece_on m part start end (omega arith) (omega arith))
-      (c.fill.ensures (m ++ take start part) (c.pieces.invariant.1 m held)),
+      let done : ℕ = c.blocks-2.done in
+      let size : done + 64 - done ≡ 64 = omega arith in
+      let whole : take (length part - done) (drop done part) ≡ drop done part =
+      take_all (length part - done) (drop done part) (omega (arith, length-drop done part)) in
+      rw (← piece_on m part done (done + 64) (omega arith) (omega arith))
+      (taken_block c.blocks-2.self _ (m ++ take done part) _ (c.blocks-2.invariant.3 m held)
+      (omega arith) (λ blocks begun. rw size (rw whole at (c.take_front.ensures blocks begun)))
+      (omega arith)),
 )
-
-pub returns : goal.returns
-returns c = λ m held.
-    let part : List ℕ = c.args.part.now in
-    let start : ℕ = c.pieces.start in
-    rw (
-      piece_on m part start (length part) (omega arith) (omega arith),
-      take_all (length part) part (omega arith),
-    ) at
-    (c.extend.ensures (m ++ take start part) (c.pieces.invariant.1 m held))

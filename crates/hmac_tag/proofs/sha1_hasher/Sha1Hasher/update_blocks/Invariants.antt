@@ -1,10 +1,11 @@
-use Rattle.std.proofs.Common.{ℕ, List, ◌++◌, ◌≤◌, ◌-◌, length, take}
+use Rattle.std.proofs.Common.{◌≡◌, ℕ, List, ◌++◌, ◌<◌, ◌≤◌, ◌-◌, length, take}
 use Rattle.hmac_tag.specs.Hashing.{HasTaken}
 use Rattle.hmac_tag.proofs.sha1_hasher.Sha1Hasher.update_blocks.Given as goal
 
-abbrev pub invariant-pieces : goal.invariant-pieces
-invariant-pieces l = (l.start ≤ length l.part)
-    × ((m : List ℕ) → HasTaken l.fn.self m → HasTaken l.self (m ++ take l.start l.part))
+abbrev pub invariant-blocks-2 : goal.invariant-blocks-2
+invariant-blocks-2 l = (l.done ≤ length l.part) × (l.self.waiting ≡ 0)
+    × (0 < length l.part - l.done)
+    × ((m : List ℕ) → HasTaken l.fn.self m → HasTaken l.self (m ++ take l.done l.part))
 
-abbrev pub decreases-pieces : goal.decreases-pieces
-decreases-pieces l = length l.part - l.start
+abbrev pub decreases-blocks-2 : goal.decreases-blocks-2
+decreases-blocks-2 l = length l.part - l.done
