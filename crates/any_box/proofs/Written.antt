@@ -4,7 +4,7 @@ use Rattle.any_box.specs.Held.{slots_held, link_held, floor_held, StepsHeld}
 use Rattle.any_box.specs.declared.held_box.{HeldBox.HeldBox, HeldStep.HeldStep}
 use Rattle.{any_box.specs.declared.owed.Commit.Commit, dnp_link_frame.specs.declared.dnp.Dnp.Dnp}
 use Rattle.hmac_tag.specs.declared.{keyed_hash.Hmac.Hmac, sha1_hasher.Sha1Hasher.Sha1Hasher}
-use Rattle.hmac_tag.specs.declared.tag.Mac.{Ghosts as Mac}
+use Rattle.hmac_tag.specs.declared.{sha1_hasher.Sha1Start.Sha1Start, tag.Mac.Ghosts as Mac}
 use Rattle.line_rules.specs.declared.line_rules.LineRules.{Ghosts as LineRules}
 use Rattle.{rtu_frame.specs.declared.rtu.Rtu.Rtu, sequence_journal.proofs.FloorLaws.floor_of_images}
 use Rattle.sequence_journal.specs.Journal.{kept_slot, AreSameBut, HasFloorAtLeast}
@@ -21,8 +21,8 @@ but-set : (slot : Slot) (slots : Slots) (bytes : List ℕ)
 but-set A slots bytes = refl
 but-set B slots bytes = refl
 
-module _ (rtu : LineRules Rtu) (dnp : LineRules Dnp) (short : Mac (Hmac Sha1Hasher 20))
-    (long : Mac (Hmac Sha256 32)) (old new : HeldBox) (t : Tick) (step : HeldStep)
+module _ (rtu : LineRules Rtu) (dnp : LineRules Dnp) (short : Mac (Hmac Sha1Hasher Sha1Start 20))
+    (long : Mac (Hmac Sha256 Sha256 32)) (old new : HeldBox) (t : Tick) (step : HeldStep)
     (commit : Commit) (steps : StepsHeld rtu dnp short long old new t step)
     (is : step.commit ≡ Some commit) where
   owed : IsOwed old.journal new.journal old.disk new.disk commit

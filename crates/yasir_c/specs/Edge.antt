@@ -13,6 +13,7 @@ use Rattle.hmac_tag.specs.declared.dir.Dir.{Dir}
 use Rattle.hmac_tag.specs.declared.tag.Mac.{Ghosts as Mac}
 use Rattle.hmac_tag.specs.declared.keyed_hash.Hmac.{Hmac}
 use Rattle.hmac_tag.specs.declared.sha1_hasher.Sha1Hasher.{Sha1Hasher}
+use Rattle.hmac_tag.specs.declared.sha1_hasher.Sha1Start.{Sha1Start}
 use Rattle.sequence_journal.specs.Slots.{slot_bytes, any_floor, wrong_slot}
 use Rattle.sequence_journal.specs.declared.journal.LoadError.{LoadError}
 use Rattle.sequence_journal.specs.declared.journal.LoadError.TheVariants as Load
@@ -100,8 +101,8 @@ InitsBy numbers old new Is.NoMemory = ⊥
 InitsBy numbers old new Is.Full = ⊥
 
 -- The rules of the two protocols, and the MACs of the two profiles.
-module _ (rtu : LineRules Rtu) (dnp : LineRules Dnp) (short : Mac (Hmac Sha1Hasher 20))
-    (long : Mac (Hmac Sha256 32)) where
+module _ (rtu : LineRules Rtu) (dnp : LineRules Dnp) (short : Mac (Hmac Sha1Hasher Sha1Start 20))
+    (long : Mac (Hmac Sha256 Sha256 32)) where
   -- A box begins from both slots of its journal, and the handle holds it.
   pub record Makes (numbers : KindNumbers) (key slots : List ℕ) (new : Option Held) : Type 0 where
     pub held : HeldBox
