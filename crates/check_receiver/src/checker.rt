@@ -27,8 +27,9 @@ const PAUSE: usize = 3;
 /// where the burst is refused. For that `D` is as long as the pause, the word and the tag, and one
 /// tick more.
 ///
-/// It keeps no frame: each live byte goes into the text of the tag as it comes. The bytes of a
-/// trailer are kept, and the tag is made where the burst is a frame with a whole trailer.
+/// Of a frame it keeps the bytes that are still to leave, and no others itself: each live byte goes
+/// into the text of the tag as it comes, and may wait in the MAC. The bytes of a trailer are kept,
+/// and the tag is made where the burst is a frame with a whole trailer.
 #[derive(Drop)]
 pub struct Checker<R, M, const B: usize, const D: usize> {
     cut: BurstCut<R>,

@@ -1,4 +1,4 @@
-//! Bounds on the size of both boxes: neither keeps a frame.
+//! Bounds on the size of both boxes: neither has room for the longest frame beside its parts.
 use check_receiver::Checker;
 use delay_ring::DelayRing;
 use dnp_link_frame::Dnp;
@@ -8,8 +8,8 @@ use rtu_frame::Rtu;
 use seal_transmitter::Sealer;
 use spoiler::Outlet;
 
-// Neither box keeps a frame, which would be 256 bytes of Modbus RTU in its rules, and 292 in a box:
-// this many bytes more than its parts have it doesn't have.
+// A room for the longest frame would be 256 bytes of Modbus RTU in its rules, and 292 in a box. A
+// box has at most this many bytes more than its parts have.
 const BESIDE_THE_PARTS: usize = 280;
 
 const _: () = prove!(size_of::<Rtu>() <= 128);
@@ -69,8 +69,8 @@ const _: () = prove!(
             + BESIDE_THE_PARTS
 );
 
-// How many bytes a box has at most. Bounds by its parts say nothing where a part itself grows; this
-// number leaves no room for a frame, of whatever parts the box is.
+// How many bytes a box has at most. Bounds by its parts say nothing where a part itself grows; by
+// this number no part has grown by a room for the longest frame.
 const SEALER_MOST: usize = 512;
 
 const CHECKER_MOST: usize = 1_056;

@@ -19,7 +19,8 @@ mod resting;
 /// forwards the live bytes of a device's bursts, each in its own tick, and sends a trailer after
 /// each that is a frame: the low bytes of its number and its tag.
 ///
-/// It keeps no frame: each live byte goes into the text of the tag as it comes.
+/// It keeps no frame itself: each live byte goes into the text of the tag as it comes, and waits
+/// nowhere but in the MAC.
 #[derive(Drop)]
 pub struct Sealer<R, M, const B: usize> {
     cut: BurstCut<R>,

@@ -2,8 +2,8 @@
 //! passed, and what a device read.
 //!
 //! Transmitter and receiver are run anew as boxes that show the frames that they number. A box
-//! keeps no frame; the bytes are those of the burst that is running or was the last, which are kept
-//! beside it. These boxes are here, below the commands that show frames.
+//! itself shows none; the bytes are those of the burst that is running or was the last, which are
+//! kept beside it. These boxes are here, below the commands that show frames.
 //!
 //! The verdict on a session of Modbus RTU with the profile y18, whose boxes had new journals:
 //!
