@@ -1,5 +1,5 @@
 //! Tests of HMAC against known answers, over texts that come in pieces.
-use hmac_tag::{Digest, Dir, HmacSha1, HmacSha256, Mac, Sha1Hasher, TagBytes};
+use hmac_tag::{Digest, Dir, HmacSha1, HmacSha256, Mac, Sha1Hasher, Sha1Start, TagBytes};
 use sha1::Sha1;
 
 // HMAC-SHA-1 by Python's `hmac`: of the text whose byte i is 5 i + 1 (modulo 256), whole with 150
@@ -121,21 +121,52 @@ fn texts_cut_at_every_place(rt: HostRuntime) {
     }
 }
 
-// The crate `sha1` is another body of the same hash, whose blocks are scalar.
+// The crate `sha1` is another body of the same hash, whose blocks are scalar. Of a piece of more
+// than 256 bytes not all blocks wait: some are hashed from where they stand.
 #[test]
 fn digests_of_each_length_cut_at_every_place(rt: HostRuntime) {
-    let text: [u8; 200] = bytes(11, 9);
-    for len in 0..201 {
+    let text: [u8; 400] = bytes(11, 9);
+    for len in 0..401 {
         let message = &text[..len];
         let whole = Sha1::digest(message);
         for cut in 0..len + 1 {
-            let mut hasher = <Sha1Hasher as Digest<20>>::new();
+            let mut hasher = <Sha1Hasher as Digest<Sha1Start, 20>>::new();
             Digest::update(&mut hasher, &message[..cut]);
             Digest::update(&mut hasher, &message[cut..]);
             assert_eq!(rt;
                 Digest::finalize(hasher),
                 whole,
                 "{len} bytes, cut at {cut}"
+            );
+        }
+    }
+}
+
+// Appends a text in pieces of this many bytes, the last of which may be shorter, and empty ones.
+fn update_by(hasher: &mut Sha1Hasher, text: &[u8], size: usize) {
+    let mut rest = text;
+    for _ in 0..text.len() {
+        let (piece, behind) = rest.split_at(size.min(rest.len()));
+        Digest::update(hasher, piece);
+        rest = behind;
+    }
+}
+
+// One hasher, which begins each message by its first block.
+#[test]
+fn digests_of_messages_in_pieces_of_each_size(rt: HostRuntime) {
+    let text: [u8; 400] = bytes(11, 9);
+    let start = <Sha1Hasher as Digest<Sha1Start, 20>>::start_of(&bytes(11, 9));
+    let mut hasher = <Sha1Hasher as Digest<Sha1Start, 20>>::new();
+    for len in 64..401 {
+        let whole = Sha1::digest(&text[..len]);
+        for size in [1, 2, 7, 63, 64, 65, 127, 128, 129, 191, 192, 193, 300] {
+            Digest::begin(&mut hasher, &start);
+            update_by(&mut hasher, &text[64..len], size);
+            assert_eq!(rt;
+                Digest::finalize(hasher),
+                whole,
+                "{len} bytes, in pieces of {size}"
             );
         }
     }
