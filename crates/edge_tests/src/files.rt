@@ -416,6 +416,129 @@ fn each_write_is_synced_for_itself(rt: HostRuntime) -> Result<(), Fail> {
     Ok(())
 }
 
+// What is done to a file of slots.
+#[derive(Clone, Copy)]
+enum Act {
+    Write(Slot),
+    Read(Slot),
+    ReadOld(Slot),
+    Sync,
+}
+
+// Acts one after the other, and how many calls on the file each takes. The first one opens, locks
+// and syncs it. A write is a seek and a write, but slot B right behind slot A is a write alone.
+const ACTS: [(Act, u32); 16] = [
+    (Act::Write(Slot::A), 5),
+    (Act::Write(Slot::B), 1),
+    (Act::Write(Slot::A), 2),
+    (Act::Sync, 1),
+    (Act::Write(Slot::B), 1),
+    (Act::Sync, 1),
+    (Act::Write(Slot::B), 2),
+    (Act::Write(Slot::A), 2),
+    (Act::Write(Slot::A), 2),
+    (Act::Read(Slot::A), 2),
+    (Act::Write(Slot::B), 2),
+    (Act::Write(Slot::A), 2),
+    (Act::ReadOld(Slot::B), 2),
+    (Act::Write(Slot::B), 2),
+    (Act::Write(Slot::A), 2),
+    (Act::Write(Slot::B), 1),
+];
+
+// The slots of a file, A in front of B.
+fn slots_of(file: &OneFile) -> [u8; 48] {
+    let bytes = file.bytes.get();
+    let mut slots = [0; 48];
+    if let Some(held) = bytes.get(32..80) {
+        slots.copy_from_slice(held);
+    }
+    slots
+}
+
+fn put(slots: &mut [u8; 48], slot: Slot, bytes: SlotBytes) {
+    match slot {
+        Slot::A => slots[..24].copy_from_slice(&bytes),
+        Slot::B => slots[24..].copy_from_slice(&bytes),
+    }
+}
+
+#[test]
+fn slot_b_follows_slot_a_without_a_seek(rt: HostRuntime) -> Result<(), Fail> {
+    let file = file_of(88, 88, 0);
+    let folder = Folder(&file);
+    let mut disk = FileSlots::new(&folder, name(rt.alloc())?, SlotFile::Standing);
+    let mut slots = slots_of(&file);
+    let mut mark = 100u8;
+    for (act, calls) in &ACTS {
+        let before = file.calls.get();
+        mark = mark.wrapping_add(1);
+        match *act {
+            Act::Write(slot) => {
+                put(&mut slots, slot, [mark; 24]);
+                assert_eq!(rt; disk.write_slot(slot, &[mark; 24]), Ok(()));
+            }
+            Act::Read(slot) => assert!(rt; disk.read_slot(slot).is_ok()),
+            Act::ReadOld(slot) => assert!(rt; disk.read_old(slot).is_ok()),
+            Act::Sync => assert_eq!(rt; disk.sync(), Ok(())),
+        }
+        assert_eq!(rt; file.calls.get(), before.saturating_add(*calls));
+        assert!(rt; slots_of(&file) == slots);
+        assert!(rt; counts_up(file.bytes.get().get(..32).unwrap_or(&[1]), 0, 32));
+        assert!(rt; counts_up(file.bytes.get().get(80..).unwrap_or(&[1]), 80, 8));
+    }
+    Ok(())
+}
+
+// The call that fails, whether writes of slots A, B and B are done, and how many calls on the file
+// they take, with its opening, lock and sync.
+type Faults = (u32, [bool; 3], u32);
+
+const FAULTS: [Faults; 5] = [
+    (0, [true; 3], 8),
+    // The seek to slot A fails, its write, and the writes of slot B.
+    (4, [false, true, true], 8),
+    (5, [false, true, true], 9),
+    (6, [true, false, true], 8),
+    (8, [true, true, false], 8),
+];
+
+#[test]
+fn a_fault_is_followed_by_a_seek(rt: HostRuntime) -> Result<(), Fail> {
+    for (fail, written, calls) in &FAULTS {
+        let file = file_of(88, 88, *fail);
+        let folder = Folder(&file);
+        let mut disk = FileSlots::new(&folder, name(rt.alloc())?, SlotFile::Standing);
+        let mut slots = slots_of(&file);
+        let [first, second, third] = *written;
+        for (slot, mark, done) in [(Slot::A, 97, first), (Slot::B, 98, second), (Slot::B, 99, third)] {
+            assert!(rt; disk.write_slot(slot, &[mark; 24]).is_ok() == done);
+            if done {
+                put(&mut slots, slot, [mark; 24]);
+            }
+            assert!(rt; slots_of(&file) == slots);
+        }
+        assert_eq!(rt; file.calls.get(), *calls);
+    }
+    Ok(())
+}
+
+#[test]
+fn a_write_cut_short_is_followed_by_a_seek(rt: HostRuntime) -> Result<(), Fail> {
+    let file = file_of(88, 23, 0);
+    let folder = Folder(&file);
+    let mut disk = FileSlots::new(&folder, name(rt.alloc())?, SlotFile::Standing);
+    let mut slots = slots_of(&file);
+    for (slot, mark, place) in [(Slot::A, 97, 0), (Slot::B, 98, 24)] {
+        assert_eq!(rt; disk.write_slot(slot, &[mark; 24]), Err(Failed));
+        for byte in slots.iter_mut().skip(place).take(23) {
+            *byte = mark;
+        }
+        assert!(rt; slots_of(&file) == slots);
+    }
+    Ok(())
+}
+
 // A sync that fails leaves the next one whole: the sixth call is the one behind the write.
 #[test]
 fn a_longer_file_is_synced_whole_in_the_end(rt: HostRuntime) -> Result<(), Fail> {

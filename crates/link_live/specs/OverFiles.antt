@@ -4,6 +4,9 @@ use Rattle.std.specs.String.{string_bytes}
 use Rattle.std.specs.Vec.Iter.{into_iter_items}
 use Rattle.std.specs.declared.string.String.{String}
 use Rattle.std.specs.declared.alloc.Global.{Global}
+use Rattle.std.specs.declared.io.Read.{Ghosts as Read}
+use Rattle.std.specs.declared.io.Write.{Ghosts as Write}
+use Rattle.std.specs.declared.io.Seek.{Ghosts as Seek}
 use Rattle.std.specs.declared.vec.IntoIter.{IntoIter}
 use Rattle.yasir_io.specs.declared.source.Source.{Ghosts as Source}
 use Rattle.yasir_io.specs.declared.disk.SlotDisk.{Ghosts as SlotDisk}
@@ -36,7 +39,8 @@ pub record IsKeyFile {R F D : Type 0} (bytes : Option (List ℕ)) (source : File
   pub faults : file_faults source ≡ 0
 
 -- The file at the path, which is to stand already, and no call on it was made.
-pub record IsJournalFile {R F D : Type 0} (bytes : Option (List ℕ)) (disk : FileSlots R F D) :
+pub record IsJournalFile {R F D : Type 0} {read : Read F} {write : Write F} {seek : Seek F}
+    {in_dir : Read D} (bytes : Option (List ℕ)) (disk : FileSlots R F D read write seek in_dir) :
     Type 0 where
   pub path : option_map string_bytes (slots_path disk) ≡ bytes
   pub closed : slots_file disk ≡ None
@@ -44,15 +48,16 @@ pub record IsJournalFile {R F D : Type 0} (bytes : Option (List ℕ)) (disk : Fi
   pub kind : slots_kind disk ≡ Standing
   pub faults : slots_faults disk ≡ 0
 
-module _ {R F D P : Type 0} (k : Source (FileSource R F D)) (p : Port P)
-    (d : SlotDisk (FileSlots R F D)) where
+module _ {R F D P : Type 0} {read : Read F} {write : Write F} {seek : Seek F} {in_dir : Read D}
+    (k : Source (FileSource R F D)) (p : Port P)
+    (d : SlotDisk (FileSlots R F D read write seek in_dir)) where
   -- The program runs over the files whose paths its words are, and does what they ask for.
   pub record RunsOverFiles (words : List (List ℕ)) (asked : Option Command) (before after : P)
       (status : Status) : Type 0 where
     pub key_before : FileSource R F D
     pub key_after : FileSource R F D
-    pub disk_before : FileSlots R F D
-    pub disk_after : FileSlots R F D
+    pub disk_before : FileSlots R F D read write seek in_dir
+    pub disk_after : FileSlots R F D read write seek in_dir
     pub key : IsKeyFile (word_in words asked key_place) key_before
     pub journal : IsJournalFile (word_in words asked journal_place) disk_before
     pub usage : (status ≡ Usage) ↔ (asked ≡ None)

@@ -4,6 +4,9 @@ use Rattle.std.specs.String.{string_bytes}
 use Rattle.std.specs.Vec.Iter.{into_iter_items}
 use Rattle.std.specs.declared.string.String.{String}
 use Rattle.std.specs.declared.alloc.Global.{Global}
+use Rattle.std.specs.declared.io.Read.{Ghosts as Read}
+use Rattle.std.specs.declared.io.Write.{Ghosts as Write}
+use Rattle.std.specs.declared.io.Seek.{Ghosts as Seek}
 use Rattle.std.specs.declared.vec.IntoIter.{IntoIter}
 use Rattle.yasir_io.specs.declared.source.Source.{Ghosts as Source}
 use Rattle.yasir_io.specs.declared.sink.Sink.{Ghosts as Sink}
@@ -48,8 +51,9 @@ pub record IsKeyFile {R F D : Type 0} (bytes : Option (List ℕ)) (source : File
   pub faults : file_faults source ≡ 0
 
 -- The file at the path, of which this is expected, and no call on it was made.
-pub record IsJournalFile {R F D : Type 0} (bytes : Option (List ℕ)) (expected : SlotFile)
-    (disk : FileSlots R F D) : Type 0 where
+pub record IsJournalFile {R F D : Type 0} {read : Read F} {write : Write F} {seek : Seek F}
+    {in_dir : Read D} (bytes : Option (List ℕ)) (expected : SlotFile)
+    (disk : FileSlots R F D read write seek in_dir) : Type 0 where
   pub path : option_map string_bytes (slots_path disk) ≡ bytes
   pub closed : slots_file disk ≡ None
   pub options : slots_options disk ≡ for_slots expected
@@ -69,15 +73,16 @@ streams input out log = record { input = input; out = out; log = log }
 abbrev pub with_files : {K S O L D : Type 0} → Streams S O L → K → D → Outside K S O L D
 with_files ends key disk = outside key ends.input ends.out ends.log disk
 
-module _ {R F D S O L : Type 0} (k : Source (FileSource R F D)) (s : Source S) (o : Sink O)
-    (l : Sink L) (d : SlotDisk (FileSlots R F D)) where
+module _ {R F D S O L : Type 0} {read : Read F} {write : Write F} {seek : Seek F} {in_dir : Read D}
+    (k : Source (FileSource R F D)) (s : Source S) (o : Sink O) (l : Sink L)
+    (d : SlotDisk (FileSlots R F D read write seek in_dir)) where
   -- The program runs over the files whose paths its words are, and does what they ask for.
   pub record RunsOverFiles (words : List (List ℕ)) (asked : Option Command)
       (before after : Streams S O L) (status : Status) : Type 0 where
     pub key_before : FileSource R F D
     pub key_after : FileSource R F D
-    pub disk_before : FileSlots R F D
-    pub disk_after : FileSlots R F D
+    pub disk_before : FileSlots R F D read write seek in_dir
+    pub disk_after : FileSlots R F D read write seek in_dir
     pub key : IsKeyFile (path_in key_place words asked) key_before
     pub journal : IsJournalFile (path_in journal_place words asked) (journal_kind asked) disk_before
     pub usage : (status ≡ Usage) ↔ (asked ≡ None)

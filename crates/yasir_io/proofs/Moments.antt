@@ -1,7 +1,7 @@
 -- Laws on what a crash at any moment of some calls may leave.
 use Rattle.std.specs.Prelude.{ℕ, ◌≤◌, ◌⊎◌}
 use Rattle.std.proofs.Common.{inl, inr, arith}
-use Rattle.yasir_io.specs.Disks.{Slots, Elapses, LeavesOnly}
+use Rattle.yasir_io.specs.Disks.{Slots, LeavesOnly}
 
 module _ {D : Type 0} (moment : D → ℕ) (left_since : D → ℕ → Slots → Type 0) where
   -- some calls, and then some more

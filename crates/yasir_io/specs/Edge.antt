@@ -9,6 +9,9 @@ use Rattle.yasir_io.specs.declared.files.SlotFile.{SlotFile}
 use Rattle.std.specs.declared.fs.OpenOptions.{OpenOptions}
 use Rattle.std.specs.declared.string.String.{String}
 use Rattle.std.specs.declared.alloc.Global.{Global}
+use Rattle.std.specs.declared.io.Read.{Ghosts as Read}
+use Rattle.std.specs.declared.io.Write.{Ghosts as Write}
+use Rattle.std.specs.declared.io.Seek.{Ghosts as Seek}
 
 -- what is read
 abbrev pub reader_of : {I : Type 0} → StdinSource I → I
@@ -50,22 +53,23 @@ file_options source = source.file.options
 abbrev pub file_faults : {R F D : Type 0} → FileSource R F D → ℕ
 file_faults source = source.faults.count
 
--- the file of slots, once it is open
-abbrev pub slots_file : {R F D : Type 0} → FileSlots R F D → Option F
-slots_file disk = disk.file.file
+module _ {R F D : Type 0} {read : Read F} {write : Write F} {seek : Seek F} {in_dir : Read D} where
+  -- the file of slots, once it is open
+  abbrev pub slots_file : FileSlots R F D read write seek in_dir → Option F
+  slots_file disk = disk.file.lazy.file
 
--- the path of the file of slots, if it has one
-abbrev pub slots_path : {R F D : Type 0} → FileSlots R F D → Option (String Global)
-slots_path disk = disk.file.path
+  -- the path of the file of slots, if it has one
+  abbrev pub slots_path : FileSlots R F D read write seek in_dir → Option (String Global)
+  slots_path disk = disk.file.lazy.path
 
--- what is expected of it
-abbrev pub slots_kind : {R F D : Type 0} → FileSlots R F D → SlotFile
-slots_kind disk = disk.kind
+  -- what is expected of it
+  abbrev pub slots_kind : FileSlots R F D read write seek in_dir → SlotFile
+  slots_kind disk = disk.kind
 
--- how it is opened
-abbrev pub slots_options : {R F D : Type 0} → FileSlots R F D → OpenOptions
-slots_options disk = disk.file.options
+  -- how it is opened
+  abbrev pub slots_options : FileSlots R F D read write seek in_dir → OpenOptions
+  slots_options disk = disk.file.lazy.options
 
--- how often a call on the file of slots has failed
-abbrev pub slots_faults : {R F D : Type 0} → FileSlots R F D → ℕ
-slots_faults disk = disk.faults.count
+  -- how often a call on the file of slots has failed
+  abbrev pub slots_faults : FileSlots R F D read write seek in_dir → ℕ
+  slots_faults disk = disk.faults.count

@@ -87,11 +87,42 @@ abbrev pub ReadsSlot : {F : Type 0} → Seek F → Read F → Slot → F → F �
 ReadsSlot seek read slot old new bytes =
     ReadsAt seek read SLOT_LEN (slot_place slot) old new bytes
 
+-- A file was moved to a place, and written to from there on, one byte behind the other, up to this
+-- place.
+pub record IsWrittenUpTo {F : Type 0} (seek : Seek F) (write : Write F) (place : ℕ) (now : F) :
+    Type 0 where
+  pub start : ℕ
+  pub before : F
+  pub moved : F
+  pub bytes : List ℕ
+  pub moves : MovesTo seek start before moved
+  pub writes : Appends (write.contents moved) (write.contents now) bytes
+  pub reach : start + length bytes ≡ place
+
+-- it stands at this place, since nothing else was done to it
+abbrev pub IsAt : {F : Type 0} → Seek F → Write F → ℕ → F → Type 0
+IsAt seek write place now = ∥ IsWrittenUpTo seek write place now ∥₁
+
+-- it stands at a place that may be named
+abbrev pub StandsAs : {F : Type 0} → Seek F → Write F → Option ℕ → F → Type 0
+StandsAs seek write at f = (place : ℕ) → at ≡ Some place → IsAt seek write place f
+
+-- So it is for a file that may be open; where a place is named, one is.
+abbrev pub StandsIn : {F : Type 0} → Seek F → Write F → Option ℕ → Option F → Type 0
+StandsIn {F = F} seek write at file = (place : ℕ) → at ≡ Some place
+    → ∥ ((f : F) × (file ≡ Some f) × IsWrittenUpTo seek write place f) ∥₁
+
+-- A file gets to a place: it is moved there, or stands there and stays as it is.
+pub data StandsAt {F : Type 0} (seek : Seek F) (write : Write F) (place : ℕ) (old new : F) : Type 0
+  where
+    Moves : MovesTo seek place old new → StandsAt seek write place old new
+    Stays : IsAt seek write place old → new ≡ old → StandsAt seek write place old new
+
 -- A slot is written: from its place on, and all of it.
 pub record WritesSlot {F : Type 0} (seek : Seek F) (write : Write F) (slot : Slot) (old new : F)
     (bytes : List ℕ) : Type 0 where
   pub between : F
-  pub moves : MovesTo seek (slot_place slot) old between
+  pub stands : StandsAt seek write (slot_place slot) old between
   pub writes : Appends (write.contents between) (write.contents new) bytes
 
 -- A slot of a new file is written: all bytes up to the end of the slots are read before, and are

@@ -17,6 +17,7 @@ mod edge;
 mod faults;
 mod files;
 mod flushes;
+mod lazy_file;
 mod lock;
 mod mem_sink;
 mod mem_slots;

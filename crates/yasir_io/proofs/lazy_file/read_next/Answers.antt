@@ -1,5 +1,5 @@
 use Rattle.{std.proofs.Common.rules, yasir_io.proofs.FileLemmas.read_and_zeros}
-use Rattle.yasir_io.proofs.files.read_next.Goals as goal
+use Rattle.yasir_io.proofs.lazy_file.read_next.Goals as goal
 
 pub returns : goal.returns
 returns g c = read_and_zeros g.F.Read _ _ _ c.in_ok-n.n _ _ (search rules) c.in_ok-n.ensures.within

@@ -1,6 +1,6 @@
 use Rattle.std.proofs.Common.{rules, arith}
 use Rattle.yasir_io.proofs.FileLemmas.{read_more, read_none}
-use Rattle.yasir_io.proofs.files.read_up_to.Goals as goal
+use Rattle.yasir_io.proofs.lazy_file.read_up_to.Goals as goal
 
 pub returns-then-n-eq0-clause-taken : goal.returns-then-n-eq0-clause-taken
 returns-then-n-eq0-clause-taken g c =

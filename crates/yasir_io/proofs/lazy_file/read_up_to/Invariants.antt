@@ -1,6 +1,6 @@
 use Rattle.std.proofs.Common.{◌≡◌, ◌-◌, ◌≤◌, length, take}
 use Rattle.std.specs.Io.KnownBytes.{Consumes}
-use Rattle.yasir_io.proofs.files.read_up_to.Given as goal
+use Rattle.yasir_io.proofs.lazy_file.read_up_to.Given as goal
 
 -- the first bytes are those that were left first
 abbrev pub invariant-loop-len : goal.invariant-loop-len
