@@ -511,7 +511,11 @@ fn a_fault_is_followed_by_a_seek(rt: HostRuntime) -> Result<(), Fail> {
         let mut disk = FileSlots::new(&folder, name(rt.alloc())?, SlotFile::Standing);
         let mut slots = slots_of(&file);
         let [first, second, third] = *written;
-        for (slot, mark, done) in [(Slot::A, 97, first), (Slot::B, 98, second), (Slot::B, 99, third)] {
+        for (slot, mark, done) in [
+            (Slot::A, 97, first),
+            (Slot::B, 98, second),
+            (Slot::B, 99, third),
+        ] {
             assert!(rt; disk.write_slot(slot, &[mark; 24]).is_ok() == done);
             if done {
                 put(&mut slots, slot, [mark; 24]);
