@@ -154,6 +154,19 @@ module _ {B N : Type 0} (b : LinkBox B N) (line_of : N → List ℕ) where
       → KeepsOn b line_of x z same
   on-as x z run same is on = subst (KeepsOn b line_of x z) is on
 
+  -- a front that took none, and then another one
+  pub up-again : (x y z : KeptBox B) (run : List Tick) (none n : ℕ) → none ≤ 0
+      → KeepsUpTo b line_of x y run none → KeepsUpTo b line_of y z run n
+      → KeepsUpTo b line_of x z run n
+  up-again x y z run none n few front then =
+      let zero : none ≡ 0 = omega (arith, few) in
+      let nothing : take none run ≡ [] = ap (λ k. take k run) zero in
+      record {
+        within = then.within;
+        goes = on-then x y z [] (take n run) (on-as x y (take none run) [] nothing front.goes)
+            then.goes;
+      }
+
   -- a front that took none, and then one tick
   pub some-one : (x y z : KeptBox B) (run : List Tick) (n : ℕ) → n ≤ 0
       → KeepsUpTo b line_of x y run n → (t : Tick) (rest : List Tick) → run ≡ t ∷ rest

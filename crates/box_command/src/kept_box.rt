@@ -23,7 +23,6 @@ use crate::memory_text::MemoryText;
 use burst_walk::RunBytes;
 use hmac_tag::Dir;
 use line_texts::{Texts, answer_run, push_run};
-use link_box::take_alike;
 use replay_lists::FrameList;
 use sequence_journal::{Journal, LinkId};
 use std::alloc::Global;
@@ -136,10 +135,27 @@ impl<B: LineBox> KeptBox<B> {
         Ok(())
     }
 
-    // Takes the first ticks of this run at once, as far as the box has an answer to them, and
-    // returns how many.
+    // Takes the first ticks of this run, as far as the box forwards them, and returns how many.
     #[inline(always)]
-    fn take_front(&mut self, run: TickRun<'_>) -> Result<usize, NoMemory>
+    fn forward(&mut self, run: TickRun<'_>) -> Result<usize, NoMemory>
+        requires room { ticks_kept self.old + length (run_ticks run) ≤ MAX_TICKS }
+        requires steady { IsSteady B.LinkBox B.line_of self.old }
+        ensures { IfOk result (λ n. KeepsUpTo B.LinkBox B.line_of self.old self.new
+            (run_ticks run.entry) n) }
+    {
+        let count = self.line_box.forward(run);
+        let front = run.front(count);
+        let Ok(()) = push_run(&mut self.texts, &mut self.text, &mut self.log, front) else {
+            return Err(NoMemory);
+        };
+        self.ticks += count as u64;
+        Ok(count)
+    }
+
+    // Takes the first ticks of this run, as far as the box answers them with silence or with bytes,
+    // and returns how many.
+    #[inline(always)]
+    fn pass(&mut self, run: TickRun<'_>) -> Result<usize, NoMemory>
         requires room { ticks_kept self.old + length (run_ticks run) ≤ MAX_TICKS }
         requires steady { IsSteady B.LinkBox B.line_of self.old }
         ensures { IfOk result (λ n. KeepsUpTo B.LinkBox B.line_of self.old self.new
@@ -148,7 +164,7 @@ impl<B: LineBox> KeptBox<B> {
         let mut sent = RunBytes::new();
         let most = run.len().min(MAX_RUN);
         let front = run.front(most);
-        let count = take_alike(&mut self.line_box, front, &mut sent);
+        let count = self.line_box.pass(front, &mut sent);
         let answer = answer_run(count as u32, sent.as_slice());
         let Ok(()) = push_run(&mut self.texts, &mut self.text, &mut self.log, answer) else {
             return Err(NoMemory);
@@ -167,12 +183,19 @@ impl<B: LineBox> KeptBox<B> {
         ensures { IfOk result (λ n. KeepsSome B.LinkBox B.line_of self.old self.new
             (run_ticks run.entry) n) }
     {
-        let count = match self.take_front(run) {
+        let forwarded = match self.forward(run) {
             Ok(count) => count,
             Err(NoMemory) => return Err(NoMemory),
         };
-        if count > 0 {
-            return Ok(count);
+        if forwarded > 0 {
+            return Ok(forwarded);
+        }
+        let passed = match self.pass(run) {
+            Ok(count) => count,
+            Err(NoMemory) => return Err(NoMemory),
+        };
+        if passed > 0 {
+            return Ok(passed);
         }
         let first = run.first();
         match self.step(first) {
