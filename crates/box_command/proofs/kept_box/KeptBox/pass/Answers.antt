@@ -28,7 +28,7 @@ returns g c =
         keeps = keeps-run g.B.LinkBox g.B.LineBox.line_of c.args.self.now _
             (take n (run_ticks c.args.run)) (answered n c.pass-count.new.sent.items)
             (subst (λ run. TakesRun g.B.LinkBox.walking g.B.LinkBox.stands
-            c.args.self.now.line_box c.pass-count.new.line_box run
+            c.args.self.now.line_box c.pass-count.new.self run
             (answered n c.pass-count.new.sent.items)) first.1
             c.pass-count.ensures.run) refl refl counts
             (pushed_as _ _ _ _ _ _ _ same c.in-Ok.ensures).adds;
