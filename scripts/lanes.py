@@ -1,22 +1,37 @@
 """Copies of this checkout in which crates are proved side by side.
 
 In one checkout `rt` proves one crate at a time of those that share a library: each run holds the libraries that it stands on.
-In copies of their own they don't wait for each other, and `rt` takes over what another copy has proved of the same text. It
-keeps a list of such copies beside the toolchain; where that can't be written, each copy would prove everything again, so then
-there is none.
+In copies of their own they don't wait for each other. What a copy has proved is linked into the checkout and all copies, so
+that nothing is proved twice. `rt` itself checks by the sums of all sources that a library is the one that it needs. Where a
+folder can't have such links to the checkout, as on another file system, there are no copies.
 """
 import os, queue, shutil, subprocess, tempfile
 
 ROOT = os.path.dirname(os.path.dirname(os.path.abspath(__file__)))
 
+# What `rt` leaves in the folder out/ of a crate: the library, and what it knows of its functions for the next check.
+LIBRARY, KNOWN = "rlib", "incremental"
 
-def copies_share():
-    """Whether `rt` can take over in one copy what another one has proved."""
-    page = subprocess.run(["rt", "doc"], stdin=subprocess.DEVNULL, capture_output=True, text=True).stdout.strip()
-    kept = os.path.join(os.path.dirname(os.path.dirname(page)), "rattle-kept")
+
+def out_of(lane, crate, part):
+    return os.path.join(lane, "crates", crate, "out", part)
+
+
+def link_tree(source, target):
+    """Puts links to the files of one folder, where it is there, in place of another folder."""
+    if not os.path.isdir(source):
+        return
+    shutil.rmtree(target, ignore_errors=True)
+    shutil.copytree(source, target, copy_function=os.link)
+
+
+def can_link_to(folder):
+    """Whether a file of this checkout can be linked into the folder."""
+    probe = os.path.join(folder, "probe")
     try:
-        os.makedirs(os.path.join(kept, "work"), 0o700, exist_ok=True)
-        return os.lstat(kept).st_uid == os.geteuid() and os.access(kept, os.W_OK)
+        os.link(os.path.join(ROOT, "crates.txt"), probe)
+        os.remove(probe)
+        return True
     except OSError:
         return False
 
@@ -25,34 +40,47 @@ class Lanes:
     """The checkout and up to `most` - 1 copies of it, of which each serves one crate at a time. The copies go at the end."""
 
     def __init__(self, most):
-        self.free, self.copies = queue.LifoQueue(), None
-        if most > 1 and copies_share():
-            self.copies = tempfile.mkdtemp(prefix="yasir-lanes-")
-            for number in range(1, most):
-                self.free.put(self.copy(os.path.join(self.copies, str(number))))
-        self.free.put(ROOT)
+        self.all, self.free, self.copies = [ROOT], queue.LifoQueue(), tempfile.mkdtemp(prefix="yasir-lanes-")
+        if can_link_to(self.copies):
+            self.all += [self.copy(os.path.join(self.copies, str(number))) for number in range(1, most)]
+        for lane in reversed(self.all):
+            self.free.put(lane)
 
     def copy(self, lane):
         os.makedirs(lane)
         shutil.copytree(os.path.join(ROOT, "crates"), os.path.join(lane, "crates"), ignore=shutil.ignore_patterns("out"))
         for name in ("crates.txt", "HANDLES"):
             shutil.copy(os.path.join(ROOT, name), lane)
+        for crate in os.listdir(os.path.join(ROOT, "crates")):
+            link_tree(out_of(ROOT, crate, LIBRARY), out_of(lane, crate, LIBRARY))
         return lane
 
     def run(self, crate, words):
         """Runs these words in the folder of a crate of a free copy, and returns what came of it."""
         lane = self.free.get()
         try:
-            return run_in(lane, crate, words)
+            if lane != ROOT:
+                link_tree(out_of(ROOT, crate, KNOWN), out_of(lane, crate, KNOWN))
+            ran = run_in(lane, crate, words)
+            if ran.returncode == 0:
+                self.share(lane, crate)
+            return ran
         finally:
             self.free.put(lane)
+
+    def share(self, lane, crate):
+        """Links what was proved of a crate in one copy into the checkout and the other copies."""
+        for other in self.all:
+            if other != lane:
+                link_tree(out_of(lane, crate, LIBRARY), out_of(other, crate, LIBRARY))
+        if lane != ROOT:
+            link_tree(out_of(lane, crate, KNOWN), out_of(ROOT, crate, KNOWN))
 
     def __enter__(self):
         return self
 
     def __exit__(self, *_):
-        if self.copies:
-            shutil.rmtree(self.copies, ignore_errors=True)
+        shutil.rmtree(self.copies, ignore_errors=True)
 
 
 def run_in(lane, crate, words):

@@ -1,14 +1,16 @@
 #!/usr/bin/env python3
-"""Tries prove.py, which proves crates side by side, with a prover that only sleeps.
+"""Tries prove.py, which proves crates side by side, with a prover that only sleeps, and lanes.py with one that only writes.
 
     python3 scripts/prove_check.py
 
 The crates are those of crates.txt, and some small ones. Each must be proved once, behind those that it stands on; no more
 may be proved at a time than the room says; the longest chain must come first; and behind a crate that isn't proved no other
-one may begin. It ends with 1 where it is otherwise. It proves nothing, and needs no toolchain.
+one may begin. What one copy of a checkout has proved must be in the checkout and all copies, and what isn't proved in none.
+It ends with 1 where it is otherwise. It proves nothing, and needs no toolchain.
 """
-import sys, threading, time
+import os, sys, tempfile, threading, time
 
+import lanes
 from prove import CRATE_MEMORY, JOB_MEMORY, Room, crates_below, jobs_for, lines_of, longest_chains, prove_all
 
 # A chain of three, and six crates that stand on nothing, below one that stands on all of them.
@@ -87,10 +89,42 @@ def check_jobs():
         assert found == wanted, "%d processors of %s for one of %d, beside %s, and not %d" % (found, room, ready, used, wanted)
 
 
+def small_checkout(folder):
+    for crate in ("low", "high"):
+        os.makedirs(os.path.join(folder, "crates", crate, "src"))
+    for name in ("crates.txt", "HANDLES"):
+        open(os.path.join(folder, name), "w").close()
+
+
+def check_lanes():
+    """Three lanes over a checkout of two crates, with a prover that writes what `rt` leaves, and then ends with a status."""
+    with tempfile.TemporaryDirectory() as folder:
+        small_checkout(folder)
+        lanes.ROOT = folder
+        leave = "echo %s; mkdir -p out/rlib out/incremental; echo proved > out/rlib/stamp; echo known > out/incremental/known; exit %d"
+        with lanes.Lanes(3) as three:
+            assert len(three.all) == 3, "%d lanes, and not 3" % len(three.all)
+            held = [three.free.get() for _ in three.all]
+            assert held[0] == folder, "the checkout isn't the first lane"
+            three.free.put(held[2])
+            assert three.run("low", ["sh", "-c", leave % ("low", 0)]).stdout == "low\n", "what the prover says is lost"
+            for lane in three.all:
+                assert os.path.isfile(os.path.join(lanes.out_of(lane, "low", "rlib"), "stamp")), "a lane lacks what another has proved"
+            assert os.path.isfile(os.path.join(lanes.out_of(folder, "low", "incremental"), "known")), "the checkout lacks what is known"
+            assert three.run("high", ["sh", "-c", leave % ("high", 1)]).returncode == 1, "a crate that isn't proved was passed over"
+            for lane in set(three.all) - {held[2]}:
+                assert not os.path.exists(lanes.out_of(lane, "high", "rlib")), "a lane has what isn't proved"
+        assert not os.path.exists(three.copies), "the copies are still there"
+        with lanes.Lanes(2) as two:
+            there = [os.path.isfile(os.path.join(lanes.out_of(lane, "low", "rlib"), "stamp")) for lane in two.all]
+            assert there == [True, True], "a new copy lacks what was proved before"
+
+
 try:
     check_jobs()
     check_small()
     check_order()
+    check_lanes()
 except AssertionError as wrong:
     sys.exit("prove_check: %s" % wrong)
 print("as it must be")
