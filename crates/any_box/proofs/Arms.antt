@@ -2,16 +2,15 @@
 use Rattle.any_box.specs.Boxes.{kind_of, ticks_in, own_link, definition_of, StandsAt, Steps, TakesRun}
 use Rattle.any_box.specs.{Noting.StepsOn, Noting.TakesOn, declared.any_box.AnyBox.AnyBox}
 use Rattle.any_box.specs.declared.any_note.AnyNote.{AnyNote}
-use Rattle.{dnp_link_frame.specs.declared.dnp.Dnp.Dnp, hmac_tag.specs.declared.keyed_hash.Hmac.Hmac}
-use Rattle.hmac_tag.specs.declared.sha1_hasher.{Sha1Hasher.Sha1Hasher, Sha1Start.Sha1Start}
-use Rattle.hmac_tag.specs.declared.tag.Mac.{Ghosts as Mac}
+use Rattle.dnp_link_frame.specs.declared.dnp.Dnp.{Dnp}
+use Rattle.hmac_tag.specs.{Macs.HmacSha1, Macs.HmacSha256, declared.tag.Mac.Ghosts as Mac}
 use Rattle.line_rules.specs.declared.line_rules.LineRules.{Ghosts as LineRules}
-use Rattle.{rtu_frame.specs.declared.rtu.Rtu.Rtu, sha2.specs.declared.Sha256.Sha256}
+use Rattle.rtu_frame.specs.declared.rtu.Rtu.{Rtu}
 use Rattle.std.proofs.Common.{◌≡◌, ℕ, ◌+◌, List, length, sym, subst}
 use Rattle.{std.specs.Prelude.Option, yasir_ticks.specs.declared.tick.Tick.Tick}
 
-module _ {rtu : LineRules Rtu} {dnp : LineRules Dnp} {short : Mac (Hmac Sha1Hasher Sha1Start 20)}
-    {long : Mac (Hmac Sha256 Sha256 32)} {old same new : AnyBox} (is : old ≡ same)
+module _ {rtu : LineRules Rtu} {dnp : LineRules Dnp} {short : Mac HmacSha1}
+    {long : Mac HmacSha256} {old same new : AnyBox} (is : old ≡ same)
     (kind : kind_of new ≡ kind_of same) (link : own_link new ≡ own_link same) where
   module _ {before after : ℕ} {t tick : Tick} {note : Option AnyNote} where
     pub steps-at : ticks_in new ≡ ticks_in same + 1

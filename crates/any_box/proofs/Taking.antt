@@ -1,10 +1,9 @@
 -- The front of a run.
 use Rattle.any_box.specs.{Boxes.TakesRun, declared.any_box.AnyBox.AnyBox}
-use Rattle.{dnp_link_frame.specs.declared.dnp.Dnp.Dnp, hmac_tag.specs.declared.keyed_hash.Hmac.Hmac}
-use Rattle.hmac_tag.specs.declared.sha1_hasher.{Sha1Hasher.Sha1Hasher, Sha1Start.Sha1Start}
-use Rattle.hmac_tag.specs.declared.tag.Mac.{Ghosts as Mac}
+use Rattle.dnp_link_frame.specs.declared.dnp.Dnp.{Dnp}
+use Rattle.hmac_tag.specs.{Macs.HmacSha1, Macs.HmacSha256, declared.tag.Mac.Ghosts as Mac}
 use Rattle.line_rules.specs.declared.line_rules.LineRules.{Ghosts as LineRules}
-use Rattle.{rtu_frame.specs.declared.rtu.Rtu.Rtu, sha2.specs.declared.Sha256.Sha256}
+use Rattle.rtu_frame.specs.declared.rtu.Rtu.{Rtu}
 use Rattle.std.proofs.Common.{◌≡◌, ◌∙◌, ℕ, ◌+◌, ◌≤◌, List, length, take, sym, ap, subst, arith}
 use Rattle.std.proofs.lemmas.List.{length-take-le, length-take, take-take}
 use Rattle.yasir_ticks.specs.declared.tick.Tick.{Tick}
@@ -22,7 +21,7 @@ module _ (n m : ℕ) (xs ys : List Tick) (front : ys ≡ take m xs) (within : n 
       ap (take n) front ∙ take-take n m xs less
 
   pub takes_front : (rtu : LineRules Rtu) (dnp : LineRules Dnp)
-      (short : Mac (Hmac Sha1Hasher Sha1Start 20)) (long : Mac (Hmac Sha256 Sha256 32))
+      (short : Mac HmacSha1) (long : Mac HmacSha256)
       (old new : AnyBox) (answer : List Tick)
       → TakesRun rtu dnp short long old new (take n ys) answer
       → TakesRun rtu dnp short long old new (take n xs) answer

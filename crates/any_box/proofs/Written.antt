@@ -3,12 +3,11 @@ use Rattle.any_box.{proofs.Places.fits_back, specs.Commits.OwesDisk, specs.Commi
 use Rattle.any_box.specs.Held.{slots_held, link_held, floor_held, StepsHeld}
 use Rattle.any_box.specs.declared.held_box.{HeldBox.HeldBox, HeldStep.HeldStep}
 use Rattle.{any_box.specs.declared.owed.Commit.Commit, dnp_link_frame.specs.declared.dnp.Dnp.Dnp}
-use Rattle.hmac_tag.specs.declared.{keyed_hash.Hmac.Hmac, sha1_hasher.Sha1Hasher.Sha1Hasher}
-use Rattle.hmac_tag.specs.declared.{sha1_hasher.Sha1Start.Sha1Start, tag.Mac.Ghosts as Mac}
+use Rattle.hmac_tag.specs.{Macs.HmacSha1, Macs.HmacSha256, declared.tag.Mac.Ghosts as Mac}
 use Rattle.line_rules.specs.declared.line_rules.LineRules.{Ghosts as LineRules}
 use Rattle.{rtu_frame.specs.declared.rtu.Rtu.Rtu, sequence_journal.proofs.FloorLaws.floor_of_images}
 use Rattle.sequence_journal.specs.Journal.{kept_slot, AreSameBut, HasFloorAtLeast}
-use Rattle.{sequence_journal.specs.Slots.floor_of, sha2.specs.declared.Sha256.Sha256}
+use Rattle.sequence_journal.specs.Slots.{floor_of}
 use Rattle.std.proofs.Common.{◌≡◌, ◌∙◌, ℕ, List, refl, sym, ap, subst}
 use Rattle.std.specs.Prelude.{Some}
 use Rattle.yasir_io.specs.Disks.{Slots, with_slot, other_slot}
@@ -21,8 +20,8 @@ but-set : (slot : Slot) (slots : Slots) (bytes : List ℕ)
 but-set A slots bytes = refl
 but-set B slots bytes = refl
 
-module _ (rtu : LineRules Rtu) (dnp : LineRules Dnp) (short : Mac (Hmac Sha1Hasher Sha1Start 20))
-    (long : Mac (Hmac Sha256 Sha256 32)) (old new : HeldBox) (t : Tick) (step : HeldStep)
+module _ (rtu : LineRules Rtu) (dnp : LineRules Dnp) (short : Mac HmacSha1)
+    (long : Mac HmacSha256) (old new : HeldBox) (t : Tick) (step : HeldStep)
     (commit : Commit) (steps : StepsHeld rtu dnp short long old new t step)
     (is : step.commit ≡ Some commit) where
   owed : IsOwed old.journal new.journal old.disk new.disk commit

@@ -1,14 +1,11 @@
 -- What the eight boxes are by the definitions, and what they have taken of a line.
 use Rattle.std.specs.Prelude.{◌≡◌, ℕ, ◌+◌, List, length, Option}
-use Rattle.sha2.specs.declared.Sha256.{Sha256}
 use Rattle.yasir_ticks.specs.declared.tick.Tick.{Tick}
 use Rattle.rtu_frame.specs.declared.rtu.Rtu.{Rtu}
 use Rattle.dnp_link_frame.specs.declared.dnp.Dnp.{Dnp}
 use Rattle.line_rules.specs.declared.line_rules.LineRules.{Ghosts as LineRules}
 use Rattle.hmac_tag.specs.declared.tag.Mac.{Ghosts as Mac}
-use Rattle.hmac_tag.specs.declared.keyed_hash.Hmac.{Hmac}
-use Rattle.hmac_tag.specs.declared.sha1_hasher.Sha1Hasher.{Sha1Hasher}
-use Rattle.hmac_tag.specs.declared.sha1_hasher.Sha1Start.{Sha1Start}
+use Rattle.hmac_tag.specs.Macs.{HmacSha1, HmacSha256}
 use Rattle.link_format.specs.Setup.{Setup}
 use Rattle.seal_transmitter.specs.Boxed.{seal_walking}
 use Rattle.seal_transmitter.specs.Stands.{StandsAt as SealsAt, ticks_taken as seal_ticks}
@@ -67,8 +64,8 @@ own_link (RtuChecker24 value) = record { label = 1; dir = check_direction value;
 own_link (DnpChecker24 value) = record { label = 2; dir = check_direction value; profile = 24 }
 
 -- The rules of the two protocols, and the MACs of the two profiles.
-module _ (rtu : LineRules Rtu) (dnp : LineRules Dnp) (short : Mac (Hmac Sha1Hasher Sha1Start 20))
-    (long : Mac (Hmac Sha256 Sha256 32)) where
+module _ (rtu : LineRules Rtu) (dnp : LineRules Dnp) (short : Mac HmacSha1)
+    (long : Mac HmacSha256) where
   -- the definition of each of the eight
   abbrev pub definition_by : Part → Proto → Profile → Definition
   definition_by Sealer Of.Rtu Y18 = defined_by (seal_walking rtu short 2) OfSealer

@@ -1,6 +1,5 @@
 -- A box with its journal in memory: how it begins, and what its calls do.
 use Rattle.std.specs.Prelude.{◌≡◌, ℕ, ◌+◌, List, [], Some, length}
-use Rattle.sha2.specs.declared.Sha256.{Sha256}
 use Rattle.yasir_ticks.specs.declared.tick.Tick.{Tick}
 use Rattle.yasir_io.specs.Disks.{Slots}
 use Rattle.yasir_io.specs.Steady.{steady_slots, blank_old}
@@ -9,9 +8,7 @@ use Rattle.dnp_link_frame.specs.declared.dnp.Dnp.{Dnp}
 use Rattle.line_rules.specs.declared.line_rules.LineRules.{Ghosts as LineRules}
 use Rattle.hmac_tag.specs.declared.dir.Dir.{Dir}
 use Rattle.hmac_tag.specs.declared.tag.Mac.{Ghosts as Mac}
-use Rattle.hmac_tag.specs.declared.keyed_hash.Hmac.{Hmac}
-use Rattle.hmac_tag.specs.declared.sha1_hasher.Sha1Hasher.{Sha1Hasher}
-use Rattle.hmac_tag.specs.declared.sha1_hasher.Sha1Start.{Sha1Start}
+use Rattle.hmac_tag.specs.Macs.{HmacSha1, HmacSha256}
 use Rattle.link_format.specs.Setup.{Setup, setup_of}
 use Rattle.sequence_journal.specs.Journal.{journal_link, journal_floor}
 use Rattle.sequence_journal.specs.Slots.{floor_of}
@@ -44,8 +41,8 @@ abbrev pub link_held : HeldBox → LinkId
 link_held held = journal_link held.journal
 
 -- The rules of the two protocols, and the MACs of the two profiles.
-module _ (rtu : LineRules Rtu) (dnp : LineRules Dnp) (short : Mac (Hmac Sha1Hasher Sha1Start 20))
-    (long : Mac (Hmac Sha256 Sha256 32)) where
+module _ (rtu : LineRules Rtu) (dnp : LineRules Dnp) (short : Mac HmacSha1)
+    (long : Mac HmacSha256) where
   -- Set up so, a box has taken this line.
   abbrev pub Holds : HeldBox → Setup → List Tick → Type 0
   Holds held setup line = StandsAt rtu dnp short long held.line_box (floor_held held) setup line

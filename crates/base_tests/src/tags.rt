@@ -1,6 +1,19 @@
 //! Tests of HMAC against known answers, over texts that come in pieces.
-use hmac_tag::{Digest, Dir, HmacSha1, HmacSha256, Mac, Sha1Hasher, Sha1Start, TagBytes};
+use hmac_tag::{
+    BlockHasher, BlockStart, Digest, Dir, HmacSha1, HmacSha256, Mac, Sha1Value, Sha256Value,
+    TagBytes,
+};
 use sha1::Sha1;
+use sha2::{Digest as Sha2, Sha256};
+use std::process::Abort;
+
+type Sha1Hasher = BlockHasher<Sha1Value>;
+
+type Sha1Start = BlockStart<Sha1Value>;
+
+type Sha256Hasher = BlockHasher<Sha256Value>;
+
+type Sha256Start = BlockStart<Sha256Value>;
 
 // HMAC-SHA-1 by Python's `hmac`: of the text whose byte i is 5 i + 1 (modulo 256), whole with 150
 // bytes and empty, under the first bytes of the key whose byte i is 7 i + 3.
@@ -121,54 +134,89 @@ fn texts_cut_at_every_place(rt: HostRuntime) {
     }
 }
 
-// The crate `sha1` is another body of the same hash, whose blocks are scalar. Of a piece of more
-// than 256 bytes not all blocks wait: some are hashed from where they stand.
+// Checks the digest of a message in two pieces, cut at every so manieth place.
+fn check_cuts<D: Digest<S, N>, S, const N: usize>(
+    rt: &impl Abort,
+    message: &[u8],
+    whole: &[u8; N],
+    every: usize,
+) {
+    for cut in (0..message.len() + 1).step_by(every) {
+        let mut hasher = D::new();
+        hasher.update(&message[..cut]);
+        hasher.update(&message[cut..]);
+        assert_eq!(rt;
+            hasher.finalize(),
+            *whole,
+            "{} bytes, cut at {cut}",
+            message.len()
+        );
+    }
+}
+
+// The crates `sha1` and `sha2` are other bodies of the same hashes, whose blocks are scalar. Of a
+// piece of more than 256 bytes not all blocks wait: some are hashed from where they stand.
 #[test]
 fn digests_of_each_length_cut_at_every_place(rt: HostRuntime) {
     let text: [u8; 400] = bytes(11, 9);
     for len in 0..401 {
         let message = &text[..len];
-        let whole = Sha1::digest(message);
-        for cut in 0..len + 1 {
-            let mut hasher = <Sha1Hasher as Digest<Sha1Start, 20>>::new();
-            Digest::update(&mut hasher, &message[..cut]);
-            Digest::update(&mut hasher, &message[cut..]);
-            assert_eq!(rt;
-                Digest::finalize(hasher),
-                whole,
-                "{len} bytes, cut at {cut}"
-            );
-        }
+        check_cuts::<Sha1Hasher, Sha1Start, 20>(&rt, message, &Sha1::digest(message), 1);
+    }
+}
+
+#[test]
+fn wide_digests_of_each_length_cut_at_some_places(rt: HostRuntime) {
+    let text: [u8; 400] = bytes(11, 9);
+    for len in 0..401 {
+        let message = &text[..len];
+        check_cuts::<Sha256Hasher, Sha256Start, 32>(&rt, message, &Sha256::digest(message), 7);
     }
 }
 
 // Appends a text in pieces of this many bytes, the last of which may be shorter, and empty ones.
-fn update_by(hasher: &mut Sha1Hasher, text: &[u8], size: usize) {
+fn update_by<D: Digest<S, N>, S, const N: usize>(hasher: &mut D, text: &[u8], size: usize) {
     let mut rest = text;
     for _ in 0..text.len() {
         let (piece, behind) = rest.split_at(size.min(rest.len()));
-        Digest::update(hasher, piece);
+        hasher.update(piece);
         rest = behind;
     }
 }
 
-// One hasher, which begins each message by its first block.
+// Checks the digest of a message in pieces of each size, by one hasher, which begins each time with
+// what the first block leaves.
+fn check_pieces<D: Digest<S, N> + Copy, S: Drop, const N: usize>(
+    rt: &impl Abort,
+    block: &[u8; 64],
+    behind: &[u8],
+    whole: &[u8; N],
+) {
+    let start = D::start_of(block);
+    let mut hasher = D::new();
+    for size in [1, 2, 7, 63, 64, 65, 127, 128, 129, 191, 192, 193, 300] {
+        hasher.begin(&start);
+        update_by::<D, S, N>(&mut hasher, behind, size);
+        assert_eq!(rt;
+            hasher.finalize(),
+            *whole,
+            "{} bytes behind a block, in pieces of {size}",
+            behind.len()
+        );
+    }
+}
+
 #[test]
 fn digests_of_messages_in_pieces_of_each_size(rt: HostRuntime) {
     let text: [u8; 400] = bytes(11, 9);
-    let start = <Sha1Hasher as Digest<Sha1Start, 20>>::start_of(&bytes(11, 9));
-    let mut hasher = <Sha1Hasher as Digest<Sha1Start, 20>>::new();
+    let block: [u8; 64] = bytes(11, 9);
     for len in 64..401 {
-        let whole = Sha1::digest(&text[..len]);
-        for size in [1, 2, 7, 63, 64, 65, 127, 128, 129, 191, 192, 193, 300] {
-            Digest::begin(&mut hasher, &start);
-            update_by(&mut hasher, &text[64..len], size);
-            assert_eq!(rt;
-                Digest::finalize(hasher),
-                whole,
-                "{len} bytes, in pieces of {size}"
-            );
-        }
+        let message = &text[..len];
+        let behind = &text[64..len];
+        let narrow = Sha1::digest(message);
+        check_pieces::<Sha1Hasher, Sha1Start, 20>(&rt, &block, behind, &narrow);
+        let wide = Sha256::digest(message);
+        check_pieces::<Sha256Hasher, Sha256Start, 32>(&rt, &block, behind, &wide);
     }
 }
 

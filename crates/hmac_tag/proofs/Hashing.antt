@@ -1,5 +1,5 @@
--- How a hasher of SHA-1 follows a message as it grows, and how it ends it.
-use Rattle.std.proofs.Common.{◌≡◌, ℕ, ◌+◌, ◌-◌, ◌*◌, ◌/◌, ◌%◌, ◌^◌, ◌<◌, ◌≤◌, List, [], ◌∷◌, ◌++◌}
+-- How a hasher follows a message as it grows, and how it ends it.
+use Rattle.std.proofs.Common.{◌≡◌, ℕ, ◌+◌, ◌-◌, ◌*◌, ◌%◌, ◌^◌, ◌<◌, ◌≤◌, List, [], ◌∷◌, ◌++◌}
 use Rattle.std.proofs.Common.{length, take, drop, replicate, refl, sym, ap, ap₂, ◌∙◌, arith, set}
 use Rattle.std.proofs.Common.{length-append, length-drop}
 use Rattle.std.proofs.lemmas.List.{append_assoc, append-nil, take-append-drop, take_all, drop_all}
@@ -8,97 +8,73 @@ use Rattle.std.proofs.lemmas.List.{replicate-append-replicate, take-take, drop-t
 use lib.Seq.{take-append-add}
 use Rattle.std.{proofs.lemmas.Slice.take-put_mid, specs.Int.w64, specs.Int.to_be_bytes}
 use borrow.Rule.Slice.PartMut.{put_mid, post_of}
-use Rattle.hmac_tag.specs.Hashing.{HasBegun, HasTaken, ended_with}
-use Rattle.hmac_tag.specs.declared.sha1_hasher.{Sha1Hasher.Sha1Hasher, Sha1Start.Sha1Start}
-use Rattle.sha1.proofs.Absorbing.{IsAbsorbed_fill}
-use Rattle.sha1.specs.Sha1.{IsAbsorbed, hash_after, compress, padded_message}
+use Rattle.hmac_tag.specs.Hashing.{HasBegun, HasTaken}
+use Rattle.hmac_tag.specs.declared.block_hasher.{BlockHasher.BlockHasher}
+use Rattle.sha2.specs.Sha256.{padded_message}
 
--- the hash value of whole blocks has absorbed them
-blocks_absorbed : (h blocks : List ℕ) → length blocks % 64 ≡ 0
-    → h ≡ hash_after blocks (length blocks / 64) → IsAbsorbed h [] blocks
-blocks_absorbed h blocks whole hash =
-    let none : drop (length blocks / 64 * 64) blocks ≡ [] =
-    drop_all (length blocks / 64 * 64) blocks (omega arith) in
-    (hash, rw whole (sym none))
+module _ {V : Type 0} (IsAfter : V → List ℕ → Type 0) where
+  -- the same block behind the same blocks
+  pub after_block : (value : V) (blocks x y : List ℕ) → x ≡ y → IsAfter value (blocks ++ x)
+      → IsAfter value (blocks ++ y)
+  after_block value blocks x y e held = rw (← e) held
 
--- the hash value after a block more
-hash_more : (h n blocks x : List ℕ) → length blocks % 64 ≡ 0
-    → h ≡ hash_after blocks (length blocks / 64) → length x ≡ 64 → n ≡ compress h x
-    → n ≡ hash_after (blocks ++ x) (length (blocks ++ x) / 64)
-hash_more h n blocks x whole hash size next =
-    let laid : x ≡ take (length blocks % 64) [] ++ x = rw whole refl in
-    let more : IsAbsorbed (compress h x) [] (blocks ++ x) =
-    IsAbsorbed_fill h [] [] blocks x x (blocks_absorbed h blocks whole hash) (omega arith) laid in
-    next ∙ more.0
+  -- bytes for which there is room
+  pub taken_more : (s n : BlockHasher V) (m d ys : List ℕ) (k j : ℕ) → HasTaken IsAfter s m
+      → length s.room ≡ 128 → k ≡ s.waiting → k + length d ≤ 128 → j ≡ length d → ys ≡ d
+      → n.waiting ≡ k + length d → n.start ≡ s.start → n.room ≡ put_mid k j s.room ys
+      → HasTaken IsAfter n (m ++ d)
+  taken_more s n m d ys k j held len at fits size same waiting start room =
+      let placed : take (k + length d) n.room ≡ take k s.room ++ d =
+      rw (room, same) (take-put_mid k j s.room d (k + length d) refl (omega arith)) in
+      let before : m ≡ held.front ++ take k s.room = rw (← at) at held.waits in
+      record {
+        front = held.front;
+        begun = rw start held.begun;
+        within = omega arith;
+        waits =
+            rw (waiting, placed) (ap (λ z. z ++ d) before
+            ∙ append_assoc held.front (take k s.room) d);
+      }
 
--- a block more
-pub begun_more : (s n : Sha1Start) (m x : List ℕ) → HasBegun s m → length x ≡ 64
-    → n.h ≡ compress s.h x → n.hashed ≡ (s.hashed + 64) % 2 ^ 64 → HasBegun n (m ++ x)
-begun_more s n m x begun size h hashed =
-    let whole : length m % 64 ≡ 0 = begun.whole in
-    let count : s.hashed ≡ length m % 2 ^ 64 = begun.count in
-    let longer : length (m ++ x) ≡ length m + length x = length-append m x in
-    record {
-      whole = omega arith;
-      hash = hash_more s.h n.h m x whole begun.hash size h;
-      count = omega arith;
-    }
+  -- the two blocks that waited are hashed
+  pub taken_hashed : (s n : BlockHasher V) (m : List ℕ) (held : HasTaken IsAfter s m)
+      → length s.room ≡ 128 → s.waiting ≡ 128 → n.waiting ≡ 0
+      → HasBegun IsAfter n.start
+      ((held.front ++ take 64 s.room) ++ take 64 (drop 64 s.room)) → HasTaken IsAfter n m
+  taken_hashed s n m held len full waiting begun =
+      let front : take 64 s.room ++ drop 64 s.room ≡ s.room = take-append-drop 64 s.room in
+      let back : take 64 (drop 64 s.room) ≡ drop 64 s.room =
+      take_all 64 (drop 64 s.room) (omega (arith, length-drop 64 s.room)) in
+      let all : take s.waiting s.room ≡ s.room = take_all s.waiting s.room (omega arith) in
+      let whole : (held.front ++ take 64 s.room) ++ take 64 (drop 64 s.room) ≡ m =
+      append_assoc held.front (take 64 s.room) (take 64 (drop 64 s.room))
+      ∙ ap (λ z. held.front ++ (take 64 s.room ++ z)) back ∙ ap (λ z. held.front ++ z) front
+      ∙ ap (λ z. held.front ++ z) (sym all) ∙ sym held.waits in
+      record {
+        front = m;
+        begun = rw whole at begun;
+        within = omega arith;
+        waits = rw waiting (sym (append-nil m));
+      }
 
--- bytes for which there is room
-pub taken_more : (s n : Sha1Hasher) (m d ys : List ℕ) (k j : ℕ) → HasTaken s m
-    → length s.room ≡ 128 → k ≡ s.waiting → k + length d ≤ 128 → j ≡ length d → ys ≡ d
-    → n.waiting ≡ k + length d → n.start ≡ s.start → n.room ≡ put_mid k j s.room ys
-    → HasTaken n (m ++ d)
-taken_more s n m d ys k j held len at fits size same waiting start room =
-    let placed : take (k + length d) n.room ≡ take k s.room ++ d =
-    rw (room, same) (take-put_mid k j s.room d (k + length d) refl (omega arith)) in
-    let before : m ≡ held.front ++ take k s.room = rw (← at) at held.waits in
-    record {
-      front = held.front;
-      begun = rw start held.begun;
-      within = omega arith;
-      waits =
-          rw (waiting, placed) (ap (λ z. z ++ d) before
-          ∙ append_assoc held.front (take k s.room) d);
-    }
+  -- nothing waits behind whole blocks
+  pub taken_begun : (s : BlockHasher V) (m : List ℕ) → HasBegun IsAfter s.start m → s.waiting ≡ 0
+      → HasTaken IsAfter s m
+  taken_begun s m begun waiting = record {
+    front = m;
+    begun = begun;
+    within = omega arith;
+    waits = rw waiting (sym (append-nil m));
+  }
 
--- the two blocks that waited are hashed
-pub taken_hashed : (s n : Sha1Hasher) (m : List ℕ) (held : HasTaken s m) → length s.room ≡ 128
-    → s.waiting ≡ 128 → n.waiting ≡ 0
-    → HasBegun n.start ((held.front ++ take 64 s.room) ++ take 64 (drop 64 s.room)) → HasTaken n m
-taken_hashed s n m held len full waiting begun =
-    let front : take 64 s.room ++ drop 64 s.room ≡ s.room = take-append-drop 64 s.room in
-    let back : take 64 (drop 64 s.room) ≡ drop 64 s.room =
-    take_all 64 (drop 64 s.room) (omega (arith, length-drop 64 s.room)) in
-    let all : take s.waiting s.room ≡ s.room = take_all s.waiting s.room (omega arith) in
-    let whole : (held.front ++ take 64 s.room) ++ take 64 (drop 64 s.room) ≡ m =
-    append_assoc held.front (take 64 s.room) (take 64 (drop 64 s.room))
-    ∙ ap (λ z. held.front ++ (take 64 s.room ++ z)) back ∙ ap (λ z. held.front ++ z) front
-    ∙ ap (λ z. held.front ++ z) (sym all) ∙ sym held.waits in
-    record {
-      front = m;
-      begun = rw whole at begun;
-      within = omega arith;
-      waits = rw waiting (sym (append-nil m));
-    }
-
--- nothing waits behind whole blocks
-pub taken_begun : (s : Sha1Hasher) (m : List ℕ) → HasBegun s.start m → s.waiting ≡ 0
-    → HasTaken s m
-taken_begun s m begun waiting = record {
-  front = m;
-  begun = begun;
-  within = omega arith;
-  waits = rw waiting (sym (append-nil m));
-}
-
--- a block more, where nothing waits
-pub taken_block : (s n : Sha1Hasher) (m x : List ℕ) → HasTaken s m → s.waiting ≡ 0
-    → ((blocks : List ℕ) → HasBegun s.start blocks → HasBegun n.start (blocks ++ x))
-    → n.waiting ≡ 0 → HasTaken n (m ++ x)
-taken_block s n m x held none more waiting =
-    let before : m ≡ held.front = (rw none at held.waits) ∙ append-nil held.front in
-    taken_begun n (m ++ x) (rw (← before) at (more held.front held.begun)) waiting
+  -- a block more, where nothing waits
+  pub taken_block : (s n : BlockHasher V) (m x : List ℕ) → HasTaken IsAfter s m → s.waiting ≡ 0
+      → ((blocks : List ℕ) → HasBegun IsAfter s.start blocks
+      → HasBegun IsAfter n.start (blocks ++ x))
+      → n.waiting ≡ 0 → HasTaken IsAfter n (m ++ x)
+  taken_block s n m x held none more waiting =
+      let before : m ≡ held.front = (rw none at held.waits) ∙ append-nil held.front in
+      taken_begun n (m ++ x) (rw (← before) at (more held.front held.begun)) waiting
 
 -- the last bytes, and the byte behind them
 laid : (t : List ℕ) (k : ℕ) → k ≡ length t → k < 64
@@ -110,22 +86,40 @@ laid t k size short =
     ∙ sym (replicate-append-replicate 1 (63 - k) 0) in
     ap (λ z. set (t ++ z) k 0x80) zeros ∙ set_at t 0 (replicate (63 - k) 0) 0x80 k (sym size)
 
-length-laid : (t : List ℕ) (k : ℕ) → k ≡ length t → k < 64
-    → length (t ++ (0x80 ∷ replicate (63 - k) 0)) ≡ 64
-length-laid t k size short =
+-- whole blocks, and the one that these bytes are laid out in
+pub laid_whole : (m t ys : List ℕ) → length m % 64 ≡ 0 → ys ≡ t → length t < 64
+    → length (m ++ set (ys ++ drop (length t) (replicate 64 0)) (length t) 0x80) % 64 ≡ 0
+laid_whole m t ys whole same short =
+    let k : ℕ = length t in
+    let last : List ℕ = 0x80 ∷ replicate (63 - k) 0 in
+    let size : length (set (ys ++ drop k (replicate 64 0)) k 0x80) ≡ length (t ++ last) =
+    rw same (ap length (laid t k refl short)) in
     omega (
       arith,
-      length-append t (0x80 ∷ replicate (63 - k) 0),
+      size,
+      length-append t last,
       length-replicate {A = ℕ} (63 - k) 0,
+      length-append m (set (ys ++ drop k (replicate 64 0)) k 0x80),
     )
 
+-- a message with its padding, which ends with these bytes for its length
+abbrev ended_with : List ℕ → List ℕ → List ℕ
+ended_with message bits =
+    message ++ (0x80 ∷ (replicate ((119 - length message % 64) % 64) 0 ++ bits))
+
+-- the bytes of the length, of a message of whole blocks and some bytes behind them
+with_length : (m t bits : List ℕ) (hashed : ℕ) → hashed ≡ length m % 2 ^ 64
+    → bits ≡ to_be_bytes w64 ((hashed + length t) % 2 ^ 64 * 8 % 2 ^ 64)
+    → ended_with (m ++ t) bits ≡ padded_message (m ++ t)
+with_length m t bits hashed count e =
+    let size : (hashed + length t) % 2 ^ 64 * 8 % 2 ^ 64 ≡ length (m ++ t) * 8 % 2 ^ 64 =
+    omega (arith, length-append m t) in
+    ap (ended_with (m ++ t)) (e ∙ ap (to_be_bytes w64) size)
+
 -- a message whose length still fits its last block
-pub ended_short : (s : Sha1Start) (m t bits : List ℕ) (k : ℕ) → HasBegun s m → k ≡ length t
-    → k < 56 → length bits ≡ 8
-    → hash_after (ended_with (m ++ t) bits) (length (ended_with (m ++ t) bits) / 64)
-    ≡ compress s.h (take 56 (set (t ++ drop k (replicate 64 0)) k 0x80) ++ bits)
-ended_short s m t bits k begun at short eight =
-    let whole : length m % 64 ≡ 0 = begun.whole in
+ended_short : (m t bits : List ℕ) (k : ℕ) → length m % 64 ≡ 0 → k ≡ length t → k < 56
+    → m ++ (take 56 (set (t ++ drop k (replicate 64 0)) k 0x80) ++ bits) ≡ ended_with (m ++ t) bits
+ended_short m t bits k whole at short =
     let size : length (m ++ t) ≡ length m + k =
     length-append m t ∙ ap (λ (i : ℕ). length m + i) (sym at) in
     let fill : (119 - length (m ++ t) % 64) % 64 ≡ 55 - k = omega arith in
@@ -142,42 +136,21 @@ ended_short s m t bits k begun at short eight =
     ∙ ap (λ z. z ++ bits) (take-append-add t (0x80 ∷ replicate (63 - k) 0) (56 - k)
     ∙ ap (λ z. t ++ z) tail)
     ∙ append_assoc t (0x80 ∷ replicate (55 - k) 0) bits in
-    let long : length last ≡ 64 =
-    omega (
-      arith,
-      length-append t (0x80 ∷ (replicate (55 - k) 0 ++ bits)),
-      length-append (replicate (55 - k) 0) bits,
-      length-replicate {A = ℕ} (55 - k) 0,
-    ) in
-    let done : compress s.h last ≡ hash_after (m ++ last) (length (m ++ last) / 64) =
-    hash_more s.h (compress s.h last) m last whole begun.hash long refl in
     let joined : ended_with (m ++ t) bits ≡ m ++ last =
     ap (λ i. (m ++ t) ++ (0x80 ∷ (replicate i 0 ++ bits))) fill
     ∙ append_assoc m t (0x80 ∷ (replicate (55 - k) 0 ++ bits)) in
-    ap (λ p. hash_after p (length p / 64)) joined ∙ sym done ∙ ap (compress s.h) (sym block)
+    ap (λ z. m ++ z) block ∙ sym joined
 
 -- a message whose length takes a block more
-pub ended_long : (s : Sha1Start) (m t bits : List ℕ) (k : ℕ) → HasBegun s m → k ≡ length t
-    → 56 ≤ k → k < 64 → length bits ≡ 8
-    → hash_after (ended_with (m ++ t) bits) (length (ended_with (m ++ t) bits) / 64)
-    ≡ compress (compress s.h (set (t ++ drop k (replicate 64 0)) k 0x80))
-    (take 56 (replicate 64 0) ++ bits)
-ended_long s m t bits k begun at long within eight =
-    let whole : length m % 64 ≡ 0 = begun.whole in
+ended_long : (m t bits : List ℕ) (k : ℕ) → length m % 64 ≡ 0 → k ≡ length t → 56 ≤ k → k < 64
+    → (m ++ set (t ++ drop k (replicate 64 0)) k 0x80) ++ (take 56 (replicate 64 0) ++ bits)
+    ≡ ended_with (m ++ t) bits
+ended_long m t bits k whole at long within =
     let size : length (m ++ t) ≡ length m + k =
     length-append m t ∙ ap (λ (i : ℕ). length m + i) (sym at) in
     let fill : (119 - length (m ++ t) % 64) % 64 ≡ 63 - k + 56 = omega arith in
     let first : List ℕ = t ++ (0x80 ∷ replicate (63 - k) 0) in
-    let first_long : length first ≡ 64 = length-laid t k at within in
     let second : List ℕ = replicate 56 0 ++ bits in
-    let second_long : length second ≡ 64 =
-    omega (arith, length-append (replicate 56 0) bits, length-replicate {A = ℕ} 56 0) in
-    let one : compress s.h first ≡ hash_after (m ++ first) (length (m ++ first) / 64) =
-    hash_more s.h (compress s.h first) m first whole begun.hash first_long refl in
-    let edge : length (m ++ first) % 64 ≡ 0 = omega (arith, length-append m first) in
-    let two : compress (compress s.h first) second
-    ≡ hash_after ((m ++ first) ++ second) (length ((m ++ first) ++ second) / 64) =
-    hash_more (compress s.h first) _ (m ++ first) second edge one second_long refl in
     let zeros : take 56 (replicate 64 0) ++ bits ≡ second =
     ap (λ z. z ++ bits) (take-replicate {X = ℕ} 56 64 0 (omega arith)) in
     let joined : ended_with (m ++ t) bits ≡ (m ++ first) ++ second =
@@ -187,47 +160,28 @@ ended_long s m t bits k begun at long within eight =
     ∙ append_assoc m t ((0x80 ∷ replicate (63 - k) 0) ++ second)
     ∙ ap (λ z. m ++ z) (sym (append_assoc t (0x80 ∷ replicate (63 - k) 0) second))
     ∙ sym (append_assoc m first second) in
-    ap (λ p. hash_after p (length p / 64)) joined ∙ sym two
-    ∙ ap₂ compress (ap (compress s.h) (sym (laid t k at within))) (sym zeros)
-
--- the message's length as the padding has it
-pub begun_total : (s : Sha1Start) (m t : List ℕ) → HasBegun s m
-    → (s.hashed + length t) % 2 ^ 64 ≡ length (m ++ t) % 2 ^ 64
-begun_total s m t begun =
-    let count : s.hashed ≡ length m % 2 ^ 64 = begun.count in
-    omega (arith, length-append m t)
-
--- the message is ended as the standard has it, by the bytes of its length in bits
-pub ended_padded : (m bits : List ℕ) (total : ℕ) → total ≡ length m % 2 ^ 64
-    → bits ≡ to_be_bytes w64 (total * 8 % 2 ^ 64) → ended_with m bits ≡ padded_message m
-ended_padded m bits total at e =
-    let size : total * 8 % 2 ^ 64 ≡ length m * 8 % 2 ^ 64 = omega arith in
-    ap (ended_with m) (e ∙ ap (to_be_bytes w64) size)
+    ap₂ (λ x y. (m ++ x) ++ y) (laid t k at within) zeros ∙ sym joined
 
 -- a whole message, by its last block
-pub ended_block_short : (s : Sha1Start) (m t bits ys : List ℕ) → HasBegun s m → ys ≡ t
-    → length t < 56 → length bits ≡ 8
-    → bits ≡ to_be_bytes w64 ((s.hashed + length t) % 2 ^ 64 * 8 % 2 ^ 64)
-    → compress s.h (take 56 (set (ys ++ drop (length t) (replicate 64 0)) (length t) 0x80) ++ bits)
-    ≡ hash_after (padded_message (m ++ t)) (length (padded_message (m ++ t)) / 64)
-ended_block_short s m t bits ys begun same short eight bytes =
-    let padded : ended_with (m ++ t) bits ≡ padded_message (m ++ t) =
-    ended_padded (m ++ t) bits _ (begun_total s m t begun) bytes in
-    rw same (sym (ended_short s m t bits (length t) begun refl short eight)
-    ∙ ap (λ p. hash_after p (length p / 64)) padded)
+pub ended_block_short : (m t bits ys : List ℕ) (hashed : ℕ) → length m % 64 ≡ 0
+    → hashed ≡ length m % 2 ^ 64 → ys ≡ t → length t < 56
+    → bits ≡ to_be_bytes w64 ((hashed + length t) % 2 ^ 64 * 8 % 2 ^ 64)
+    → m ++ (take 56 (set (ys ++ drop (length t) (replicate 64 0)) (length t) 0x80) ++ bits)
+    ≡ padded_message (m ++ t)
+ended_block_short m t bits ys hashed whole count same short bytes =
+    rw same (ended_short m t bits (length t) whole refl short
+    ∙ with_length m t bits hashed count bytes)
 
 -- a whole message, by its last two blocks
-pub ended_block_long : (s : Sha1Start) (m t bits ys h : List ℕ) → HasBegun s m
-    → h ≡ compress s.h (set (ys ++ drop (length t) (replicate 64 0)) (length t) 0x80) → ys ≡ t
-    → 56 ≤ length t → length t < 64 → length bits ≡ 8
-    → bits ≡ to_be_bytes w64 ((s.hashed + length t) % 2 ^ 64 * 8 % 2 ^ 64)
-    → compress h (take 56 (replicate 64 0) ++ bits)
-    ≡ hash_after (padded_message (m ++ t)) (length (padded_message (m ++ t)) / 64)
-ended_block_long s m t bits ys h begun first same long within eight bytes =
-    let padded : ended_with (m ++ t) bits ≡ padded_message (m ++ t) =
-    ended_padded (m ++ t) bits _ (begun_total s m t begun) bytes in
-    let whole = ended_long s m t bits (length t) begun refl long within eight in
-    rw first (rw same (sym whole ∙ ap (λ p. hash_after p (length p / 64)) padded))
+pub ended_block_long : (m t bits ys : List ℕ) (hashed : ℕ) → length m % 64 ≡ 0
+    → hashed ≡ length m % 2 ^ 64 → ys ≡ t → 56 ≤ length t → length t < 64
+    → bits ≡ to_be_bytes w64 ((hashed + length t) % 2 ^ 64 * 8 % 2 ^ 64)
+    → (m ++ set (ys ++ drop (length t) (replicate 64 0)) (length t) 0x80)
+    ++ (take 56 (replicate 64 0) ++ bits)
+    ≡ padded_message (m ++ t)
+ended_block_long m t bits ys hashed whole count same long within bytes =
+    rw same (ended_long m t bits (length t) whole refl long within
+    ∙ with_length m t bits hashed count bytes)
 
 -- the last block
 pub last_block : (block bits ys : List ℕ) (j : ℕ) → length block ≡ 64 → j ≡ 8 → ys ≡ bits

@@ -1,40 +1,17 @@
 -- SHA-1's schedule by fours, and the rounds over words that come with their constants.
 use Rattle.std.proofs.Common.{◌≡◌, ℕ, zero, suc, ◌+◌, ◌-◌, ◌*◌, ◌/◌, ◌%◌, ◌^◌, ◌<◌, ◌≤◌, List, []}
-use Rattle.std.proofs.Common.{◌∷◌, ◌++◌, length, slice_index, map, refl, sym, ap, ap₂, ◌∙◌, arith}
+use Rattle.std.proofs.Common.{◌∷◌, ◌++◌, length, slice_index, map, refl, sym, ap, ◌∙◌, arith}
 use Rattle.std.proofs.{Common.inl, Common.inr, Common.bit_or, Common.bit_xor, lemmas.Bool.cases_lt}
 use Rattle.std.proofs.lemmas.Nat.{or_shifted, xor_mod, xor_shr, xor_block, xor_lt, xor_comm}
 use Rattle.std.proofs.lemmas.Nat.Bits.{bit_at-lt, bit_at_xor, same_from_bits}
 use Rattle.std.specs.Int.{w32, rotate_left, Bits.xor_assoc, Bits.xor_zero_r, Bits.xor_zero_l}
-use lib.Lanes.{zip2, pick_l, put_chunk}
-use borrow.Rule.Slice.PartMut.{put_mid, mid_of, post_of}
-use Rattle.hmac_tag.specs.Sha1Words.{AreBytes, four_at, IsFour, AreKeyed}
+use lib.Lanes.{zip2, pick_l}
+use Rattle.hmac_tag.proofs.KeyedWords.{four_lanes, below_four, same_four, IsFour_at}
+use Rattle.hmac_tag.specs.Words.{AreBytes, four_at, four_loaded, IsFour}
 use Rattle.sha1.proofs.Schedule.{slice_index-schedule_first, slice_index-schedule_next, rounds_next}
-use Rattle.sha1.specs.Sha1.{add32, schedule, rounds, round, round_fn, round_constant}
-use Rattle.std.proofs.Common.{take, drop, get_or, add-zero, length-drop}
-use Rattle.std.proofs.lemmas.List.{length-take-le, get_or_append_left, get_or-append_right}
-use Rattle.std.proofs.lemmas.{List.get_or-take, Simd.put_chunk_whole}
+use Rattle.sha1.specs.Sha1.{word_at, schedule, rounds, round, round_fn, round_constant}
 
 -- ---- four lanes
-
-pub four_lanes : (P : List ℕ → Type 0) → ((a b c d : ℕ) → P (a ∷ b ∷ c ∷ d ∷ []))
-    → (xs : List ℕ) → length xs ≡ 4 → P xs
-four_lanes P p (a ∷ b ∷ c ∷ d ∷ []) h = p a b c d
-four_lanes P p [] h = absurd (omega arith)
-four_lanes P p (a ∷ []) h = absurd (omega arith)
-four_lanes P p (a ∷ b ∷ []) h = absurd (omega arith)
-four_lanes P p (a ∷ b ∷ c ∷ []) h = absurd (omega arith)
-four_lanes P p (a ∷ b ∷ c ∷ d ∷ e ∷ xs) h = absurd (omega arith)
-
-below_four : (P : ℕ → Type 0) → P 0 → P 1 → P 2 → P 3 → (j : ℕ) → j < 4 → P j
-below_four P p0 p1 p2 p3 zero h = p0
-below_four P p0 p1 p2 p3 (suc zero) h = p1
-below_four P p0 p1 p2 p3 (suc (suc zero)) h = p2
-below_four P p0 p1 p2 p3 (suc (suc (suc zero))) h = p3
-below_four P p0 p1 p2 p3 (suc (suc (suc (suc n)))) h = absurd (omega arith)
-
-pub same_four : (a b c d p q r s : ℕ) → a ≡ p → b ≡ q → c ≡ r → d ≡ s
-    → a ∷ b ∷ c ∷ d ∷ [] ≡ p ∷ q ∷ r ∷ s ∷ []
-same_four a b c d p q r s ea eb ec ed = rw (ea, eb, ec, ed) refl
 
 pub shifts_rotate : (by : ℕ) → 0 < by → by < 32 → (x : List ℕ) → length x ≡ 4
     → zip2 bit_or (zip2 (λ w n. w * 2 ^ n % 2 ^ 32) x (by ∷ by ∷ by ∷ by ∷ []))
@@ -270,11 +247,6 @@ module _ (block : List ℕ) where
       (sym (word_far bytes (t + 32 + 3) (t + 28 + 1) (t + 16 + 3) (t + 4 + 3) (t + 3) (omega arith)
       (omega arith) (omega arith) (omega arith) (omega arith)))
 
--- the same words, at a place that is spelled another way
-pub IsFour_at : (words : List ℕ) (n k : ℕ) (four : List ℕ) → n ≡ k → IsFour words n four
-    → IsFour words k four
-IsFour_at words n k four e held = rw (← e) held
-
 -- ---- rounds
 
 pub rounds_step : (h words v : List ℕ) (t f : ℕ) (next : List ℕ) → v ≡ rounds h words t
@@ -288,57 +260,22 @@ rounds_at h words v n k e held = rw (← e) held
 
 -- ---- writing
 
-abbrev with_constant : List ℕ → ℕ → List ℕ
-with_constant four k = zip2 (λ x y. (x + y) % 2 ^ 32) four (k ∷ k ∷ k ∷ k ∷ [])
+-- four times the constant of four rounds
+pub same_constants : (k i : ℕ) → ((j : ℕ) → j < 4 → k ≡ round_constant (4 * i + j))
+    → (j : ℕ) → j < 4 → slice_index (k ∷ k ∷ k ∷ k ∷ []) j ≡ round_constant (4 * i + j)
+same_constants k i held j lt =
+    below_four (λ j. slice_index (k ∷ k ∷ k ∷ k ∷ []) j ≡ k) refl refl refl refl j lt ∙ held j lt
 
-with_constant_at : (words : List ℕ) (t k j : ℕ) → j < 4
-    → slice_index (with_constant (four_at words t) k) j ≡ add32 (slice_index words (t + j)) k
-with_constant_at words t k j lt = below_four
-    (λ j. slice_index (with_constant (four_at words t) k) j ≡ add32 (slice_index words (t + j)) k)
-    (sym (ap (λ n. add32 (slice_index words n) k) (add-zero t))) refl refl refl j lt
-
-pub keyed_more : (words keyed four : List ℕ) (i k : ℕ) → AreKeyed words keyed (4 * i)
-    → IsFour words (4 * i) four → length keyed ≡ 80 → i < 20
-    → ((j : ℕ) → j < 4 → k ≡ round_constant (4 * i + j))
-    → AreKeyed words (put_mid (4 * i) 4 keyed
-    (put_chunk 0 (mid_of (4 * i) 4 keyed) (with_constant four k))) (4 * (i + 1))
-keyed_more words keyed four i k done is len lt constant =
-    let sums : List ℕ = with_constant four k in
-    let four_long : length sums ≡ 4 = rw is.is refl in
-    let mid_long : length (mid_of (4 * i) 4 keyed) ≡ 4 =
-    length-take-le 4 (drop (4 * i) keyed) (omega (arith, length-drop (4 * i) keyed)) in
-    let whole : put_chunk 0 (mid_of (4 * i) 4 keyed) sums ≡ sums =
-    put_chunk_whole (mid_of (4 * i) 4 keyed) sums (omega arith) in
-    let front_long : length (take (4 * i) keyed) ≡ 4 * i =
-    length-take-le (4 * i) keyed (omega arith) in
-    let rest : List ℕ = post_of (4 * i) 4 keyed in
+-- the words of a block are the schedule's first ones
+pub IsFour_first : (block : List ℕ) (t : ℕ) (four : List ℕ) → t + 4 ≤ 16
+    → four ≡ four_loaded block t → IsFour (schedule block 64) t four
+IsFour_first block t four within loaded =
+    let word : (k : ℕ) → k < 16 → word_at block (4 * k) ≡ slice_index (schedule block 64) k =
+    λ k lt. sym (slice_index-schedule_first block 64 k lt) in
     record {
-      is = λ t below. rw whole (elim (cases_lt t (4 * i)) [
-        | inl before ↦
-            get_or_append_left (take (4 * i) keyed) (sums ++ rest) 0 t (omega arith)
-            ∙ get_or-take (4 * i) keyed t 0 before ∙ done.is t before
-        | inr after ↦
-            let j : ℕ = t - 4 * i in
-            let near : j < 4 = omega arith in
-            let place : 4 * i + j ≡ t = omega arith in
-            let sum : get_or sums j 0 ≡ add32 (slice_index words (4 * i + j)) k =
-            rw is.is (with_constant_at words (4 * i) k j near) in
-            let same_k : k ≡ round_constant t = rw place at (constant j near) in
-            let same_word : slice_index words (4 * i + j) ≡ slice_index words t =
-            ap (slice_index words) place in
-            get_or-append_right (take (4 * i) keyed) (sums ++ rest) (4 * i) t 0 front_long after
-            ∙ get_or_append_left sums rest 0 j (omega arith) ∙ sum ∙ ap₂ add32 same_word same_k
-      ]);
+      is = loaded ∙ same_four _ _ _ _ _ _ _ _ (word t (omega arith)) (word (t + 1) (omega arith))
+          (word (t + 2) (omega arith)) (word (t + 3) (omega arith));
     }
-
--- nothing is written yet
-pub keyed_none : (words keyed : List ℕ) → AreKeyed words keyed 0
-keyed_none words keyed = record { is = λ t lt. absurd (omega arith) }
-
--- the same count, spelled another way
-pub AreKeyed_at : (words keyed : List ℕ) (n k : ℕ) → n ≡ k → AreKeyed words keyed n
-    → AreKeyed words keyed k
-AreKeyed_at words keyed n k e held = rw (← e) held
 
 -- 32 words of the schedule, from word t on, by fours
 pub record AreEight (words : List ℕ) (t : ℕ) (a b c d e f g h : List ℕ) : Type 0 where

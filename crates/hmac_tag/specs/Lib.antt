@@ -1,6 +1,10 @@
 pub mod Hmac
+pub mod Words
 pub mod Sha1Words
+pub mod Sha256Words
+pub mod HashValues
 pub mod Hashing
 pub mod Tag
+pub mod Macs
 pub mod Stands
 pub mod Digests

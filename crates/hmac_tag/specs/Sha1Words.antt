@@ -1,20 +1,8 @@
--- The words of SHA-1's schedule as the block function holds them: by fours, and with the constants
--- of their rounds added.
-use Rattle.std.specs.Prelude.{◌≡◌, ℕ, ◌+◌, ◌<◌, List, [], ◌∷◌, slice_index}
-use Rattle.sha1.specs.Sha1.{add32, round_constant}
-
-abbrev pub AreBytes : List ℕ → Type 0
-AreBytes block = (i : ℕ) → slice_index block i < 256
-
--- four words of a list, from word t on
-abbrev pub four_at : List ℕ → ℕ → List ℕ
-four_at words t = slice_index words t ∷ slice_index words (t + 1) ∷ slice_index words (t + 2)
-    ∷ slice_index words (t + 3) ∷ []
-
--- these are those four words
-pub record IsFour (words : List ℕ) (t : ℕ) (four : List ℕ) : Type 0 where
-  pub is : four ≡ four_at words t
+-- The words of SHA-1's schedule, with the constants of their rounds.
+use Rattle.std.specs.Prelude.{ℕ, List}
+use Rattle.sha1.specs.Sha1.{round_constant}
+use Rattle.hmac_tag.specs.Words.{AreKeyedBy}
 
 -- the first n words, each with the constant of its round
-pub record AreKeyed (words keyed : List ℕ) (n : ℕ) : Type 0 where
-  pub is : (t : ℕ) → t < n → slice_index keyed t ≡ add32 (slice_index words t) (round_constant t)
+abbrev pub AreKeyed : List ℕ → List ℕ → ℕ → Type 0
+AreKeyed words keyed n = AreKeyedBy round_constant words keyed n

@@ -6,9 +6,8 @@ ghost use Rattle.hmac_tag.specs.Hmac.{xored, filled, key_block, hmac};
 ghost use Rattle.hmac_tag.specs.Stands.{StandsFor};
 ghost use Rattle.hmac_tag.specs.Tag.{hmac_cut};
 
-use crate::{Digest, Mac, Sha1Hasher, Sha1Start, TagBytes};
+use crate::{BlockHasher, BlockStart, Digest, Mac, Sha1Value, Sha256Value, TagBytes};
 use arrayvec::ArrayVec;
-use sha2::Sha256;
 
 const BLOCK_LEN: usize = 64;
 
@@ -16,8 +15,8 @@ const INNER_PAD: u8 = 0x36;
 
 const OUTER_PAD: u8 = 0x5C;
 
-/// HMAC (RFC 2104) of a text that comes in pieces: what the key's inner and outer block leave, and a
-/// hasher that has taken the inner block and the text so far.
+/// HMAC (RFC 2104) of a text that comes in pieces: what the key's inner and outer block leave, and
+/// a hasher that has taken the inner block and the text so far.
 #[derive(Drop)]
 pub struct Hmac<D, S, const N: usize> {
     inner: S,
@@ -26,10 +25,10 @@ pub struct Hmac<D, S, const N: usize> {
 }
 
 /// HMAC over SHA-1, whose tags are its first 12 bytes (RFC 2404).
-pub type HmacSha1 = Hmac<Sha1Hasher, Sha1Start, 20>;
+pub type HmacSha1 = Hmac<BlockHasher<Sha1Value>, BlockStart<Sha1Value>, 20>;
 
 /// HMAC over SHA-256, whose tags are its first 16 bytes (RFC 4868).
-pub type HmacSha256 = Hmac<Sha256, Sha256, 32>;
+pub type HmacSha256 = Hmac<BlockHasher<Sha256Value>, BlockStart<Sha256Value>, 32>;
 
 // A key of at most a block, filled with zeros.
 fn filled(key: &[u8]) -> [u8; BLOCK_LEN]

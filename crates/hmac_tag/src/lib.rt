@@ -10,15 +10,19 @@
 //!     assert_eq!(rt; tag.len(), 12);
 #![tactic(auto)]
 
+mod block_hasher;
 mod dir;
+mod fours;
 mod hash;
+mod hash_value;
 mod keyed_hash;
 mod sha1_block;
-mod sha1_hasher;
+mod sha256_block;
 mod tag;
 
+pub use block_hasher::{BlockHasher, BlockStart};
 pub use dir::Dir;
 pub use hash::Digest;
+pub use hash_value::{HashValue, Sha1Value, Sha256Value};
 pub use keyed_hash::{Hmac, HmacSha1, HmacSha256};
-pub use sha1_hasher::{Sha1Hasher, Sha1Start};
 pub use tag::{Mac, TagBytes};

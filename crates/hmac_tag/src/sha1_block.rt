@@ -3,10 +3,12 @@
 
 ghost use Rattle.std.specs.Prelude.{◌≡◌, ℕ, ◌+◌, ◌*◌, ◌<◌, ◌≤◌, List, map};
 ghost use Rattle.std.specs.Int.{w32, rotate_left};
-ghost use Rattle.sha1.specs.Sha1.{add32, ch, parity, maj, word_at, round, rounds, schedule};
+ghost use Rattle.sha1.specs.Sha1.{add32, ch, parity, maj, round, rounds, schedule};
 ghost use Rattle.sha1.specs.Sha1.{round_constant, add_state, compress};
-ghost use Rattle.hmac_tag.specs.Sha1Words.{AreBytes, IsFour, AreKeyed};
+ghost use Rattle.hmac_tag.specs.Words.{AreBytes, IsFour};
+ghost use Rattle.hmac_tag.specs.Sha1Words.{AreKeyed};
 
+use crate::fours::loaded;
 use std::simd::u32x4;
 
 #[inline(always)]
@@ -28,29 +30,6 @@ fn majority(x: u32, y: u32, z: u32) -> u32
     ensures { result ≡ maj x y z }
 {
     (x & y) ^ (x & z) ^ (y & z)
-}
-
-// The word at a place of a block, high byte first.
-#[inline(always)]
-fn word_at(block: &[u8; 64], i: usize) -> u32
-    requires { i + 4 ≤ 64 }
-    ensures { result ≡ word_at block.now i }
-{
-    u32::from_be_bytes([block[i], block[i + 1], block[i + 2], block[i + 3]])
-}
-
-// Four words of a block, from word t on.
-#[inline(always)]
-fn loaded(block: &[u8; 64], t: usize) -> u32x4
-    requires { t + 4 ≤ 16 }
-    ensures { IsFour (schedule block.now 64) t result }
-{
-    u32x4::from_array([
-        word_at(block, 4 * t),
-        word_at(block, 4 * (t + 1)),
-        word_at(block, 4 * (t + 2)),
-        word_at(block, 4 * (t + 3)),
-    ])
 }
 
 #[inline(always)]

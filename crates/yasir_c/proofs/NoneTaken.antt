@@ -1,16 +1,15 @@
 -- A box that takes no tick.
 use Rattle.any_box.specs.{Boxes.kind_of, Boxes.definition_of, Boxes.StandsAt, Held.TakesHeld}
 use Rattle.{any_box.specs.declared.held_box.HeldBox.HeldBox, burst_walk.specs.Answered.answered}
-use Rattle.{dnp_link_frame.specs.declared.dnp.Dnp.Dnp, hmac_tag.specs.declared.keyed_hash.Hmac.Hmac}
-use Rattle.hmac_tag.specs.declared.sha1_hasher.{Sha1Hasher.Sha1Hasher, Sha1Start.Sha1Start}
-use Rattle.hmac_tag.specs.declared.tag.Mac.{Ghosts as Mac}
+use Rattle.dnp_link_frame.specs.declared.dnp.Dnp.{Dnp}
+use Rattle.hmac_tag.specs.{Macs.HmacSha1, Macs.HmacSha256, declared.tag.Mac.Ghosts as Mac}
 use Rattle.line_rules.specs.declared.line_rules.LineRules.{Ghosts as LineRules}
-use Rattle.{rtu_frame.specs.declared.rtu.Rtu.Rtu, sha2.specs.declared.Sha256.Sha256}
+use Rattle.rtu_frame.specs.declared.rtu.Rtu.{Rtu}
 use Rattle.std.proofs.Common.{◌∙◌, ℕ, List, take, refl, sym, ap, subst, arith}
 use Rattle.{std.proofs.lemmas.List.append-nil, yasir_ticks.specs.declared.tick.Tick.Tick}
 
-module _ (rtu : LineRules Rtu) (dnp : LineRules Dnp) (short : Mac (Hmac Sha1Hasher Sha1Start 20))
-    (long : Mac (Hmac Sha256 Sha256 32)) where
+module _ (rtu : LineRules Rtu) (dnp : LineRules Dnp) (short : Mac HmacSha1)
+    (long : Mac HmacSha256) where
   -- a box that takes no tick is as it was
   pub takes-none : (held : HeldBox) (run : List Tick) (left : List ℕ)
       → TakesHeld rtu dnp short long held held (take 0 run) (answered 0 (take 0 left))

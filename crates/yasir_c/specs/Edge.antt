@@ -1,6 +1,5 @@
 -- What the functions do that C calls: the clauses of a box, at the values that its handle holds.
 use Rattle.std.specs.Prelude.{◌≡◌, ◌≢◌, ℕ, ◌*◌, ◌≤◌, ◌⊎◌, List, length, take, drop, Option, Some, None}
-use Rattle.sha2.specs.declared.Sha256.{Sha256}
 use Rattle.yasir_ticks.specs.declared.TheConstants.{MAX_TICKS}
 use Rattle.yasir_ticks.specs.declared.tick.Tick.{Tick}
 use Rattle.yasir_io.specs.declared.disk.Slot.{Slot}
@@ -11,9 +10,7 @@ use Rattle.dnp_link_frame.specs.declared.dnp.Dnp.{Dnp}
 use Rattle.line_rules.specs.declared.line_rules.LineRules.{Ghosts as LineRules}
 use Rattle.hmac_tag.specs.declared.dir.Dir.{Dir}
 use Rattle.hmac_tag.specs.declared.tag.Mac.{Ghosts as Mac}
-use Rattle.hmac_tag.specs.declared.keyed_hash.Hmac.{Hmac}
-use Rattle.hmac_tag.specs.declared.sha1_hasher.Sha1Hasher.{Sha1Hasher}
-use Rattle.hmac_tag.specs.declared.sha1_hasher.Sha1Start.{Sha1Start}
+use Rattle.hmac_tag.specs.Macs.{HmacSha1, HmacSha256}
 use Rattle.sequence_journal.specs.Slots.{slot_bytes, any_floor, wrong_slot}
 use Rattle.sequence_journal.specs.declared.journal.LoadError.{LoadError}
 use Rattle.sequence_journal.specs.declared.journal.LoadError.TheVariants as Load
@@ -101,8 +98,8 @@ InitsBy numbers old new Is.NoMemory = ⊥
 InitsBy numbers old new Is.Full = ⊥
 
 -- The rules of the two protocols, and the MACs of the two profiles.
-module _ (rtu : LineRules Rtu) (dnp : LineRules Dnp) (short : Mac (Hmac Sha1Hasher Sha1Start 20))
-    (long : Mac (Hmac Sha256 Sha256 32)) where
+module _ (rtu : LineRules Rtu) (dnp : LineRules Dnp) (short : Mac HmacSha1)
+    (long : Mac HmacSha256) where
   -- A box begins from both slots of its journal, and the handle holds it.
   pub record Makes (numbers : KindNumbers) (key slots : List ℕ) (new : Option Held) : Type 0 where
     pub held : HeldBox

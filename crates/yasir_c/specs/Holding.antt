@@ -1,15 +1,12 @@
 -- What a handle holds: a box of a link, or a spacer; and what their calls do.
 use Rattle.std.specs.Prelude.{◌≡◌, ℕ, List, Option, Some, None}
-use Rattle.sha2.specs.declared.Sha256.{Sha256}
 use Rattle.yasir_ticks.specs.declared.TheConstants.{MAX_TICKS}
 use Rattle.yasir_ticks.specs.declared.tick.Tick.{Tick}
 use Rattle.rtu_frame.specs.declared.rtu.Rtu.{Rtu}
 use Rattle.dnp_link_frame.specs.declared.dnp.Dnp.{Dnp}
 use Rattle.line_rules.specs.declared.line_rules.LineRules.{Ghosts as LineRules}
 use Rattle.hmac_tag.specs.declared.tag.Mac.{Ghosts as Mac}
-use Rattle.hmac_tag.specs.declared.keyed_hash.Hmac.{Hmac}
-use Rattle.hmac_tag.specs.declared.sha1_hasher.Sha1Hasher.{Sha1Hasher}
-use Rattle.hmac_tag.specs.declared.sha1_hasher.Sha1Start.{Sha1Start}
+use Rattle.hmac_tag.specs.Macs.{HmacSha1, HmacSha256}
 use Rattle.device_model.specs.declared.device.Device.{Ghosts as Device}
 use Rattle.device_model.specs.declared.rtu.RtuDevice.{RtuDevice}
 use Rattle.line_spacer.specs.declared.spacer.SpaceStep.{SpaceStep}
@@ -40,8 +37,8 @@ abbrev pub HasFloor : Held → ℕ → Type 0
 HasFloor held floor = (value : HeldBox) × (held ≡ LineBox value) × (floor ≡ floor_held value)
 
 -- The rules of the two protocols, and the MACs of the two profiles.
-module _ (rtu : LineRules Rtu) (dnp : LineRules Dnp) (short : Mac (Hmac Sha1Hasher Sha1Start 20))
-    (long : Mac (Hmac Sha256 Sha256 32)) where
+module _ (rtu : LineRules Rtu) (dnp : LineRules Dnp) (short : Mac HmacSha1)
+    (long : Mac HmacSha256) where
   -- a box has taken a tick
   pub record StepsBox (old new : Held) (t : Tick) (step : HeldStep) : Type 0 where
     pub before : HeldBox

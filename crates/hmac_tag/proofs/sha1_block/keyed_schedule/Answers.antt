@@ -1,5 +1,6 @@
-use Rattle.hmac_tag.proofs.Sha1Blocks.{keyed_none, AreKeyed_at, IsFour_at, eight_on}
-use Rattle.{hmac_tag.specs.Sha1Words.AreBytes, sha1.specs.Sha1.schedule}
+use Rattle.hmac_tag.proofs.{KeyedWords.keyed_none, KeyedWords.AreKeyed_at, KeyedWords.IsFour_at}
+use Rattle.hmac_tag.proofs.Sha1Blocks.{IsFour_first, eight_on}
+use Rattle.{hmac_tag.specs.Words.AreBytes, sha1.specs.Sha1.schedule, sha1.specs.Sha1.round_constant}
 use Rattle.std.proofs.Common.{ℕ, List, ◌+◌, ◌*◌, arith}
 use Rattle.hmac_tag.proofs.sha1_block.keyed_schedule.Goals as goal
 
@@ -7,15 +8,15 @@ pub loop-i-init : goal.loop-i-init
 loop-i-init c =
     let block : List ℕ = c.args.block.now in
     let words : List ℕ = schedule block 64 in
-    let a = c.loaded-a.ensures in
-    let b = c.loaded-b.ensures in
-    let x = c.loaded-c.ensures in
-    let d = c.loaded-d.ensures in
+    let a = IsFour_first block 0 _ (omega arith) c.loaded-a.ensures in
+    let b = IsFour_first block 4 _ (omega arith) c.loaded-b.ensures in
+    let x = IsFour_first block 8 _ (omega arith) c.loaded-c.ensures in
+    let d = IsFour_first block 12 _ (omega arith) c.loaded-d.ensures in
     let e = c.next_four-e.ensures block 0 (omega arith) a b x d in
     let f = c.next_four-f.ensures block 4 (omega arith) b x d e in
     let g = c.next_four-g.ensures block 8 (omega arith) x d e f in
     let h = c.next_four-h.ensures block 12 (omega arith) d e f g in
-    let k1 = c.write_keyed.ensures words (keyed_none words _) a in
+    let k1 = c.write_keyed.ensures words (keyed_none round_constant words _) a in
     let k2 = c.write_keyed-2.ensures words k1 b in
     let k3 = c.write_keyed-3.ensures words k2 x in
     let k4 = c.write_keyed-4.ensures words k3 d in
@@ -36,9 +37,10 @@ loop-i-preserved c =
     eight.is_e eight.is_g eight.is_h in
     let keyed = c.write_keyed-in-loop-i.ensures words c.loop-i.invariant.0
     (IsFour_at words (4 * i + 32) (4 * (i + 8)) _ (omega arith) next) in (
-      AreKeyed_at words _ (4 * (i + 8 + 1)) (4 * (i + 1 + 8)) (omega arith) keyed,
+      AreKeyed_at round_constant words _ (4 * (i + 8 + 1)) (4 * (i + 1 + 8)) (omega arith) keyed,
       eight_on words (4 * i) (4 * (i + 1)) _ _ _ _ _ _ _ _ _ (omega arith) eight next,
     )
 
 pub returns : goal.returns
-returns c = AreKeyed_at _ _ (4 * (c.loop-i.i + 8)) 80 (omega arith) c.loop-i.invariant.0
+returns c =
+    AreKeyed_at round_constant _ _ (4 * (c.loop-i.i + 8)) 80 (omega arith) c.loop-i.invariant.0

@@ -1,6 +1,0 @@
-use Rattle.std.proofs.Common.{◌≡◌, ◌*◌, length, take}
-use Rattle.sha1.specs.Sha1.{digest_bytes}
-use Rattle.hmac_tag.proofs.sha1_hasher.digest_of_words.Given as goal
-
-abbrev pub invariant-words : goal.invariant-words
-invariant-words l = (length l.digest ≡ 20) × (take (4 * l.i) l.digest ≡ digest_bytes l.h l.i)

@@ -1,0 +1,13 @@
+-- What the whole blocks of a message leave, by SHA-1 and by SHA-256.
+use Rattle.std.specs.Prelude.{◌≡◌, ℕ, ◌/◌, List, length}
+use Rattle.sha1.specs.Sha1.{hash_after}
+use Rattle.sha2.specs.Sha256.{hash_after as hash_after_256, initial_hash_256}
+use Rattle.hmac_tag.specs.declared.hash_value.Sha1Value.{Sha1Value}
+use Rattle.hmac_tag.specs.declared.hash_value.Sha256Value.{Sha256Value}
+
+abbrev pub IsSha1After : Sha1Value → List ℕ → Type 0
+IsSha1After value blocks = value.words ≡ hash_after blocks (length blocks / 64)
+
+abbrev pub IsSha256After : Sha256Value → List ℕ → Type 0
+IsSha256After value blocks =
+    value.words ≡ hash_after_256 initial_hash_256 blocks (length blocks / 64)
