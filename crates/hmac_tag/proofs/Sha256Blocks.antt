@@ -4,7 +4,7 @@ use Rattle.std.proofs.Common.{length, slice_index, map, refl, sym, ap, ◌∙◌
 use Rattle.std.proofs.Common.{bit_or, bit_xor}
 use Rattle.std.specs.Int.{w32, rotate_right}
 use lib.Lanes.{zip2, pick_l}
-use Rattle.hmac_tag.proofs.KeyedWords.{four_lanes, same_four, sums, IsFour_at}
+use Rattle.hmac_tag.proofs.KeyedWords.{four_lanes, same_four, sums}
 use Rattle.hmac_tag.specs.Words.{four_at, four_loaded, IsFour}
 use Rattle.sha2.proofs.Schedule256.{slice_index-schedule_first, slice_index-schedule_next}
 use Rattle.sha2.proofs.Schedule256.{rounds_next}
@@ -131,16 +131,6 @@ pub record AreSixteen (words : List ℕ) (t : ℕ) (a b c d : List ℕ) : Type 0
   pub is_b : IsFour words (t + 4) b
   pub is_c : IsFour words (t + 8) c
   pub is_d : IsFour words (t + 12) d
-
--- the sixteen words that begin four words later
-pub sixteen_on : (words : List ℕ) (t u : ℕ) (a b c d next : List ℕ) → t + 4 ≡ u
-    → AreSixteen words t a b c d → IsFour words (t + 16) next → AreSixteen words u b c d next
-sixteen_on words t u a b c d next on sixteen new = record {
-  is_a = IsFour_at words (t + 4) u b (omega arith) sixteen.is_b;
-  is_b = IsFour_at words (t + 8) (u + 4) c (omega arith) sixteen.is_c;
-  is_c = IsFour_at words (t + 12) (u + 8) d (omega arith) sixteen.is_d;
-  is_d = IsFour_at words (t + 16) (u + 12) next (omega arith) new;
-}
 
 -- ---- rounds
 

@@ -5,9 +5,7 @@ ghost use Rattle.std.specs.Int.{w64, to_be_bytes};
 ghost use Rattle.sha2.specs.Sha256.{padded_message};
 ghost use Rattle.hmac_tag.specs.Hashing.{HasBegun, HasTaken};
 
-use crate::HashValue;
-
-const BLOCK_LEN: usize = 64;
+use crate::hash_value::{BLOCK_LEN, HashValue};
 
 // How many bytes wait at most: two blocks.
 const ROOM: usize = 128;

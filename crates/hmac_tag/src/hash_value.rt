@@ -7,7 +7,8 @@ ghost use Rattle.hmac_tag.specs.HashValues.{IsSha1After, IsSha256After};
 
 use crate::{sha1_block, sha256_block};
 
-const BLOCK_LEN: usize = 64;
+/// The bytes of a block.
+pub(crate) const BLOCK_LEN: usize = 64;
 
 /// What the whole blocks of a message leave.
 pub trait HashValue: Copy + Drop {
@@ -48,7 +49,7 @@ fn write_words(words: &[u32], bytes: &mut [u8])
 }
 
 impl Sha1Value {
-    /// The digest of a message, of which this is left with its padding.
+    /// The digest of a message, where this is what it leaves with its padding.
     #[inline]
     pub(crate) fn digest(&self) -> [u8; 20]
         ensures { (m : List ℕ) → IsSha1After self.now (padded_message m) → result ≡ sha1 m }
@@ -82,7 +83,7 @@ impl HashValue for Sha1Value {
 }
 
 impl Sha256Value {
-    /// The digest of a message, of which this is left with its padding.
+    /// The digest of a message, where this is what it leaves with its padding.
     #[inline]
     pub(crate) fn digest(&self) -> [u8; 32]
         ensures { (m : List ℕ) → IsSha256After self.now (padded_message m) → result ≡ sha256 m }

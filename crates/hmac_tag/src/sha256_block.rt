@@ -168,7 +168,8 @@ fn write_keyed(keyed: &mut [u32; 64], i: usize, four: u32x4)
     (four + constants(i)).copy_to_slice(&mut keyed[4 * i..4 * i + 4]);
 }
 
-// Writes the words of the schedule with their constants.
+// Writes the words of the schedule with their constants, sixteen a turn, so that no vector has to
+// move.
 #[inline(always)]
 fn keyed_schedule(keyed: &mut [u32; 64], block: &[u8; 64])
     ensures { AreKeyed (schedule block.now 48) keyed.new 64 }
@@ -181,13 +182,15 @@ fn keyed_schedule(keyed: &mut [u32; 64], block: &[u8; 64])
     write_keyed(keyed, 1, b);
     write_keyed(keyed, 2, c);
     write_keyed(keyed, 3, d);
-    for i in 0..12 {
-        let next = next_four(a, b, c, d);
-        write_keyed(keyed, i + 4, next);
-        a = b;
-        b = c;
-        c = d;
-        d = next;
+    for i in 0..3 {
+        a = next_four(a, b, c, d);
+        write_keyed(keyed, 4 * i + 4, a);
+        b = next_four(b, c, d, a);
+        write_keyed(keyed, 4 * i + 5, b);
+        c = next_four(c, d, a, b);
+        write_keyed(keyed, 4 * i + 6, c);
+        d = next_four(d, a, b, c);
+        write_keyed(keyed, 4 * i + 7, d);
     }
 }
 

@@ -1,7 +1,8 @@
 use Rattle.hmac_tag.proofs.{KeyedWords.keyed_none, KeyedWords.AreKeyed_at, KeyedWords.IsFour_at}
-use Rattle.hmac_tag.proofs.Sha256Blocks.{IsFour_first, sixteen_on}
+use Rattle.hmac_tag.proofs.Sha256Blocks.{IsFour_first}
 use Rattle.{hmac_tag.specs.Sha256Words.round_constant, sha2.specs.Sha256.schedule}
-use Rattle.std.proofs.Common.{ℕ, List, ◌+◌, ◌*◌, arith}
+use Rattle.hmac_tag.specs.{Sha256Words.AreKeyed, Words.IsFour}
+use Rattle.std.proofs.Common.{◌≡◌, ℕ, List, ◌+◌, ◌*◌, arith}
 use Rattle.hmac_tag.proofs.sha256_block.keyed_schedule.Goals as goal
 
 pub loop-i-init : goal.loop-i-init
@@ -23,15 +24,47 @@ loop-i-preserved c =
     let block : List ℕ = c.args.block.now in
     let words : List ℕ = schedule block 48 in
     let i : ℕ = c.loop-i.i in
+    let t : ℕ = 16 * i in
     let sixteen = c.loop-i.invariant.1 in
-    let next = c.next_four-next.ensures block (4 * i) (omega arith) sixteen.is_a sixteen.is_b
-    sixteen.is_c sixteen.is_d in
-    let keyed = c.write_keyed-in-loop-i.ensures words c.loop-i.invariant.0
-    (IsFour_at words (4 * i + 16) (4 * (i + 4)) _ (omega arith) next) in (
-      AreKeyed_at round_constant words _ (4 * (i + 4 + 1)) (4 * (i + 1 + 4)) (omega arith) keyed,
-      sixteen_on words (4 * i) (4 * (i + 1)) _ _ _ _ _ (omega arith) sixteen next,
+    let at : (n k : ℕ) (four : List ℕ) → n ≡ k → IsFour words n four → IsFour words k four =
+    IsFour_at words in
+    let keyed_at : (keyed : List ℕ) (n k : ℕ) → n ≡ k → AreKeyed words keyed n
+    → AreKeyed words keyed k = AreKeyed_at round_constant words in
+    let a = c.next_four-a.ensures block t (omega arith) sixteen.is_a sixteen.is_b sixteen.is_c
+    sixteen.is_d in
+    let b = c.next_four-b.ensures block (t + 4) (omega arith) sixteen.is_b
+    (at (t + 8) (t + 4 + 4) _ (omega arith) sixteen.is_c)
+    (at (t + 12) (t + 4 + 8) _ (omega arith) sixteen.is_d)
+    (at (t + 16) (t + 4 + 12) _ (omega arith) a) in
+    let x = c.next_four-c.ensures block (t + 8) (omega arith) sixteen.is_c
+    (at (t + 12) (t + 8 + 4) _ (omega arith) sixteen.is_d)
+    (at (t + 16) (t + 8 + 8) _ (omega arith) a)
+    (at (t + 4 + 16) (t + 8 + 12) _ (omega arith) b) in
+    let d = c.next_four-d.ensures block (t + 12) (omega arith) sixteen.is_d
+    (at (t + 16) (t + 12 + 4) _ (omega arith) a)
+    (at (t + 4 + 16) (t + 12 + 8) _ (omega arith) b)
+    (at (t + 8 + 16) (t + 12 + 12) _ (omega arith) x) in
+    let k1 = c.write_keyed-in-loop-i.ensures words c.loop-i.invariant.0
+    (at (t + 16) (4 * (4 * i + 4)) _ (omega arith) a) in
+    let k2 = c.write_keyed-in-loop-i-2.ensures words
+    (keyed_at _ (4 * (4 * i + 4 + 1)) (4 * (4 * i + 5)) (omega arith) k1)
+    (at (t + 4 + 16) (4 * (4 * i + 5)) _ (omega arith) b) in
+    let k3 = c.write_keyed-in-loop-i-3.ensures words
+    (keyed_at _ (4 * (4 * i + 5 + 1)) (4 * (4 * i + 6)) (omega arith) k2)
+    (at (t + 8 + 16) (4 * (4 * i + 6)) _ (omega arith) x) in
+    let k4 = c.write_keyed-in-loop-i-4.ensures words
+    (keyed_at _ (4 * (4 * i + 6 + 1)) (4 * (4 * i + 7)) (omega arith) k3)
+    (at (t + 12 + 16) (4 * (4 * i + 7)) _ (omega arith) d) in (
+      keyed_at _ (4 * (4 * i + 7 + 1)) (4 * (4 * (i + 1) + 4)) (omega arith) k4,
+      record {
+        is_a = at (t + 16) (16 * (i + 1)) _ (omega arith) a;
+        is_b = at (t + 4 + 16) (16 * (i + 1) + 4) _ (omega arith) b;
+        is_c = at (t + 8 + 16) (16 * (i + 1) + 8) _ (omega arith) x;
+        is_d = at (t + 12 + 16) (16 * (i + 1) + 12) _ (omega arith) d;
+      },
     )
 
 pub returns : goal.returns
 returns c =
-    AreKeyed_at round_constant _ _ (4 * (c.loop-i.i + 4)) 64 (omega arith) c.loop-i.invariant.0
+    AreKeyed_at round_constant _ _ (4 * (4 * c.loop-i.i + 4)) 64 (omega arith)
+    c.loop-i.invariant.0

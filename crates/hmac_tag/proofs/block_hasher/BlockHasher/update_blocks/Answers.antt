@@ -16,6 +16,7 @@ blocks-2-preserved g c = (
       take_all (length part - done) (drop done part) (omega (arith, length-drop done part)) in
       rw (← piece_on m part done (done + 64) (omega arith) (omega arith))
       (taken_block g.V.HashValue.is_after c.blocks-2.self _ (m ++ take done part) _
-      (c.blocks-2.invariant.3 m held) (omega arith) (λ blocks begun. rw size (rw whole at (c.take_front.ensures blocks begun)))
+      (c.blocks-2.invariant.3 m held) (omega arith)
+      (λ blocks begun. rw size (rw whole at (c.take_front.ensures blocks begun)))
       (omega arith)),
 )
