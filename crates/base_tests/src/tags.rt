@@ -1,4 +1,6 @@
 //! Tests of HMAC against known answers, over texts that come in pieces.
+ghost use Rattle.std.specs.Prelude.{◌<◌};
+
 use hmac_tag::{
     BlockHasher, BlockStart, Digest, Dir, HmacSha1, HmacSha256, Mac, Sha1Value, Sha256Value,
     TagBytes,
@@ -140,7 +142,9 @@ fn check_cuts<D: Digest<S, N>, S, const N: usize>(
     message: &[u8],
     whole: &[u8; N],
     every: usize,
-) {
+)
+    requires { 0 < every }
+{
     for cut in (0..message.len() + 1).step_by(every) {
         let mut hasher = D::new();
         hasher.update(&message[..cut]);
