@@ -4,6 +4,7 @@
     python3 scripts/docs_check.py
 
 - Each link, and each file of this repository that is named in backquotes, must be there.
+- A page that another page names is a link, outside headings and code.
 - Each page of docs/ must be named by another page.
 - Each name of the code that is in backquotes must be somewhere in the code, if it has an underscore or a capital inside.
 - A row of a table of docs/PROOF.md whose last column is a file of crates/ names functions and definitions in backquotes and
@@ -30,7 +31,7 @@ def read(path):
 
 def pages():
     return sorted(os.path.relpath(path, ROOT) for path in glob.glob(os.path.join(ROOT, "*.md"))
-                  + glob.glob(os.path.join(ROOT, "docs", "*.md")) + glob.glob(os.path.join(ROOT, "examples", "*.md")))
+                  + glob.glob(os.path.join(ROOT, "docs", "*.md")) + glob.glob(os.path.join(ROOT, "examples", "**", "*.md"), recursive=True))
 
 
 def paragraphs(text):
@@ -47,13 +48,23 @@ def places(page):
 
 
 def missing_files(page, text):
-    named = re.findall(r"\]\(([^)#:]+)\)", text)
-    named += re.findall(r"`((?:docs/|scripts/|crates/|examples/)[\w./*-]+|[A-Z_0-9]+\.md|[a-z_]+\.py)`", text)
+    for name in sorted(set(re.findall(r"\]\(([^)#:]+)\)", text))):
+        if not os.path.exists(os.path.join(ROOT, os.path.dirname(page), name)):
+            yield "no file is at the link %s" % name
+    named = re.findall(r"`((?:docs/|scripts/|crates/|examples/)[\w./*-]+|[A-Z_0-9]+\.md|[a-z_]+\.py)`", text)
     for name in sorted(set(named)):
         if "NAME" in name or "/out/" in name:
             continue
         if not any(glob.glob(os.path.join(ROOT, folder, name)) for folder in places(page)):
             yield "there is no %s" % name
+
+
+def unlinked_pages(page, text):
+    """Pages that are named in backquotes, and so can't be followed."""
+    prose = "\n".join(line for line in text.split("\n") if not line.startswith(("    ", "#")))
+    for name in sorted(set(re.findall(r"(?<!\[)`((?:\w+/)*\w+\.md)`", prose))):
+        if os.path.basename(name) != os.path.basename(page):
+            yield "%s is named without a link" % name
 
 
 def missing_names(text):
@@ -112,6 +123,7 @@ def main():
     texts = {page: read(page) for page in pages()}
     for page, text in texts.items():
         faults = list(missing_files(page, text)) if page not in OF_THE_PAST else []
+        faults += unlinked_pages(page, text)
         faults += missing_names(text) if page == "docs/PROOF.md" else []
         faults += unknown_names(text, words) if page not in OF_THE_PAST else []
         faults += ["%d words: %s .." % (len(part.split()), part.strip()[:60]) for part in paragraphs(text) if len(part.split()) > LONGEST]
