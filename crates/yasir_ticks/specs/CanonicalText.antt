@@ -1,5 +1,5 @@
 -- The canonical tick text of a list of ticks: maximal runs of bytes and of silence, cut into lines
--- as long as may be.
+-- that are as long as possible.
 use Rattle.std.specs.Prelude.{ℕ, suc, ◌+◌, ◌*◌, ◌/◌, ◌%◌, ◌==◌, if◌then◌else◌, List, [], ◌∷◌, ◌++◌}
 use Rattle.std.specs.Prelude.{length, take, drop, replicate}
 use Rattle.std.specs.List.{flat_map, range_with_len}
@@ -14,7 +14,7 @@ pub data Stretch : Type 0 where
   bytes : List ℕ → Stretch
   silence : ℕ → Stretch
 
--- the maximal runs of ticks, from those of the ticks after the first one
+-- the maximal runs of a list of ticks, given its first tick and the runs of the others
 abbrev pub with_tick : Tick → List Stretch → List Stretch
 with_tick (Byte b) [] = bytes (b ∷ []) ∷ []
 with_tick (Byte b) (bytes l ∷ more) = bytes (b ∷ l) ∷ more
@@ -33,8 +33,8 @@ byte_line l = plus_sign ∷ (encode_lower l ++ line_feed ∷ [])
 abbrev pub silence_line : ℕ → List ℕ
 silence_line n = minus_sign ∷ (decimal n ++ line_feed ∷ [])
 
--- lines of 32 bytes, the last one shorter where need be; lines of 1000000 silent ticks, the last
--- one smaller where need be
+-- the lines of a maximal run: of 32 bytes each, or of 1000000 silent ticks each, but the last may
+-- have fewer
 abbrev pub stretch_lines : Stretch → List ℕ
 stretch_lines (bytes l) = flat_map (λ i. byte_line (take 32 (drop (32 * i) l)))
     (range_with_len 0 ((length l + 31) / 32))

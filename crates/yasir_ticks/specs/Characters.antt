@@ -1,4 +1,5 @@
--- The characters that tick text is made of beside digits, in ASCII.
+-- The ASCII characters of tick text: its signs, its line ends, and the bounds of the decimal
+-- digits.
 use Rattle.std.specs.Prelude.{ℕ}
 
 -- `+`, before the bytes of a line

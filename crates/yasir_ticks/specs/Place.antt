@@ -1,4 +1,4 @@
--- What the parts of a reader keep to at each place of a line.
+-- What holds for the parts of a reader at each place of a line.
 use Rattle.std.specs.Prelude.{ℕ, ◌&&◌, nat_lt, Bool, true, false, not, List, length, Option, Some}
 use Rattle.std.specs.Prelude.{None, ◌==◌, ◌||◌}
 use Rattle.hex.specs.Hex.{is_hex_digit}
@@ -13,7 +13,7 @@ use Rattle.yasir_ticks.specs.declared.place.Place.TheVariants.{Start, Comment, P
 use Rattle.yasir_ticks.specs.declared.place.Place.TheVariants.{Minus, Number, Percent, Returned}
 use Rattle.yasir_ticks.specs.declared.place.Place.TheVariants.{Refused}
 
--- a content is that of a line without ticks, or is a mark, or has at least one tick
+-- whether a content has at least one tick, or is a mark, or is that of a line without ticks
 abbrev pub has_ticks : Content → List ℕ → Bool
 has_ticks NoTick bytes = true
 has_ticks KeptBytes bytes = nat_lt 0 (length bytes)
@@ -24,9 +24,9 @@ abbrev pub ended_has_ticks : Option Content → List ℕ → Bool
 ended_has_ticks None bytes = true
 ended_has_ticks (Some content) bytes = has_ticks content bytes
 
--- Between the two digits of a pair the first one is a digit, and there is room for the byte. A
--- number of silent ticks isn't 0, and what comes before a CR has ticks, or is a mark, or the
--- content of a line without any.
+-- Whether the parts of a reader fit its place. Between the two digits of a pair, `high` is the
+-- value of a digit, and there is room for the byte. A number of silent ticks isn't 0. What comes
+-- before a CR has ticks, or is a mark, or is the content of a line without ticks.
 abbrev pub is_sound : Place → List ℕ → Bool
 is_sound (HalfPair high) bytes = nat_lt high 16 && nat_lt (length bytes) 32
 is_sound (Number n) bytes = nat_lt 0 n
@@ -38,8 +38,8 @@ is_sound Minus bytes = true
 is_sound Percent bytes = true
 is_sound (Refused why) bytes = true
 
--- whether a byte is no part of a content that goes on here; in a comment and behind a content
--- nothing is asked
+-- whether a byte is no part of a content that goes on here; it is never foreign in a comment, after
+-- a content or after a refusal
 abbrev pub is_foreign : Place → ℕ → Bool
 is_foreign Start b =
     not (b == number_sign || b == plus_sign || b == minus_sign || b == percent_sign)

@@ -1,4 +1,4 @@
--- What a reader of tick text stands for: a text with a number of marks, up to some place of its
+-- What a reader of tick text represents: a text with a number of marks, up to some place of its
 -- last line.
 use Rattle.std.specs.Prelude.{◌≡◌, ℕ, ◌+◌, ◌≤◌, ◌<◌, ◌==◌, Bool, true, false, List, [], ◌∷◌, ◌++◌}
 use Rattle.std.specs.Prelude.{length, map, replicate, Some, Ok}
@@ -20,7 +20,7 @@ use Rattle.yasir_ticks.specs.declared.place.Place.TheVariants.{Minus, Number, Pe
 use Rattle.yasir_ticks.specs.declared.place.Place.TheVariants.{Refused}
 use Rattle.yasir_ticks.specs.declared.reader.TickReader.{TickReader}
 
--- what a line stands for whose content this is, the bytes of a `+` line being these
+-- what a line with this content represents, if `bytes` are those of a `+` line
 abbrev pub items_of_content : Content → List ℕ → List Item
 items_of_content NoTick bytes = []
 items_of_content KeptBytes bytes = map (λ b. tick (Byte b)) bytes
@@ -33,7 +33,7 @@ marks_of_content KeptBytes = 0
 marks_of_content (SilentTicks n) = 0
 marks_of_content OneMark = 1
 
--- how many marks a line stands for that has come to this place: one behind `%`
+-- how many marks a line represents that has come to this place: one after `%`
 abbrev pub marks_at : Place → ℕ
 marks_at Start = 0
 marks_at (Comment n) = 0
@@ -49,21 +49,22 @@ abbrev pub starts_comment : List ℕ → Bool
 starts_comment [] = false
 starts_comment (c ∷ x) = c == number_sign
 
--- `#` and this many bytes
+-- Holds if the line is `#` and n bytes, at most 120.
 pub record IsComment (n : ℕ) (line : List ℕ) : Type 0 where
   pub after : List ℕ
   pub is : line ≡ number_sign ∷ after
   pub long : length after ≡ n
   pub fits : n ≤ 120
 
--- `+` and the digits of these bytes
+-- Holds if the line is `+` and the digits of these bytes, at most 32.
 pub record HasPairs (bytes line : List ℕ) : Type 0 where
   pub digits : List ℕ
   pub is : line ≡ plus_sign ∷ digits
   pub decoded : decode_of digits ≡ Ok bytes
   pub fits : length bytes ≤ 32
 
--- `+`, the digits of these bytes and one more, of this value
+-- Holds if the line is `+`, the digits of these bytes, at most 31, and one more digit, whose value
+-- is `high`.
 pub record HasHalfPair (high : ℕ) (bytes line : List ℕ) : Type 0 where
   pub digits : List ℕ
   pub digit : ℕ
@@ -72,7 +73,7 @@ pub record HasHalfPair (high : ℕ) (bytes line : List ℕ) : Type 0 where
   pub value : hex_digit_value digit ≡ Some high
   pub fits : length bytes < 32
 
--- `-` and the digits of this number
+-- Holds if the line is `-` and the digits of n, at most 1000000.
 pub record HasNumber (n : ℕ) (line : List ℕ) : Type 0 where
   pub digits : List ℕ
   pub is : line ≡ minus_sign ∷ digits
@@ -80,14 +81,14 @@ pub record HasNumber (n : ℕ) (line : List ℕ) : Type 0 where
   pub number : number_after 0 digits ≡ n
   pub fits : n ≤ 1000000
 
--- a content, and then a CR
+-- Holds if the line is a content, and then a CR.
 pub record IsReturned (content : Content) (bytes line : List ℕ) : Type 0 where
   pub before : List ℕ
   pub is : line ≡ before ++ carriage_return ∷ []
   pub apart : starts_comment before ≡ false
   pub stands : content_items before ≡ Some (items_of_content content bytes)
 
--- The line so far brings a reader to this place, with these bytes kept.
+-- Holds if the line so far brings a reader to this place, with these bytes kept.
 abbrev pub Reads : Place → List ℕ → List ℕ → Type 0
 Reads Start bytes line = line ≡ []
 Reads (Comment n) bytes line = IsComment n line
@@ -99,8 +100,8 @@ Reads Percent bytes line = line ≡ percent_sign ∷ []
 Reads (Returned content) bytes line = IsReturned content bytes line
 Reads (Refused why) bytes line = ⊥
 
--- A text with this many marks, of which these are left behind the line so far, brings a reader to
--- this place.
+-- Holds if the beginning of a text with `marks` marks brings a reader to this place. `left` of the
+-- marks come after its last line.
 pub record IsAt (place : Place) (bytes : List ℕ) (line left marks : ℕ) (text : List ℕ) :
     Type 0 where
   pub ended : all_items (lines_of text).ended ≡ Some (ended_items text)
@@ -108,19 +109,20 @@ pub record IsAt (place : Place) (bytes : List ℕ) (line left marks : ℕ) (text
   pub counted : line ≡ line_after text
   pub last : Reads place bytes (lines_of text).last
 
--- The reader of a text with this many marks has taken this much, and no byte of it is refused.
+-- Holds if the reader has taken `text`, the beginning of a text with `marks` marks, and no byte of
+-- it is refused.
 pub record StandsFor (reader : TickReader) (marks : ℕ) (text : List ℕ) : Type 0 where
   pub at : IsAt reader.place reader.bytes.items reader.line reader.left marks text
 
--- the line in which the reader is
+-- the number of the line in which the reader is
 abbrev pub reader_line : TickReader → ℕ
 reader_line reader = reader.line
 
--- The reader has refused its text so, and answers so from then on.
+-- Holds if the reader has refused its text in this way. From then on it returns this refusal.
 pub record HasRefused (reader : TickReader) (bad : BadTicks) : Type 0 where
   pub place : reader.place ≡ Refused bad.why
   pub line : reader.line ≡ bad.line
 
--- the bytes of the line that the reader ended last, where it was one of bytes
+-- the bytes of the line that the reader ended last, if it was one of bytes
 abbrev pub lent_bytes : TickReader → List ℕ
 lent_bytes reader = reader.bytes.items

@@ -17,13 +17,14 @@ use Rattle.yasir_ticks.specs.declared.place.Place.{Place}
 use Rattle.yasir_ticks.specs.declared.place.Place.TheVariants.{Start, Refused}
 use Rattle.yasir_ticks.specs.declared.reader.TickReader.{TickReader}
 
--- what a byte ends: the items of the line's content, or nothing
+-- the items of the line that a byte ends, or none if it ends no line
 abbrev pub items_of_ended : Option Content → List ℕ → List Item
 items_of_ended None bytes = []
 items_of_ended (Some content) bytes = items_of_content content bytes
 
--- A byte that goes on with the line brings its reader to the new place; an LF ends the line, which
--- stands for the items. Of the marks that are left, those are taken that the line then stands for.
+-- Holds if a byte is accepted. A byte that goes on with the line brings its reader to the new
+-- place. An LF ends the line, which represents the items. The marks that the line then represents
+-- are subtracted from those that are left.
 pub record Accepts (place : Place) (bytes : List ℕ) (left b : ℕ) (items : List Item)
     (new_place : Place) (new_bytes : List ℕ) (new_left : ℕ) : Type 0 where
   pub nothing : b ≢ line_feed → items ≡ []
@@ -34,8 +35,8 @@ pub record Accepts (place : Place) (bytes : List ℕ) (left b : ℕ) (items : Li
       → line_items line ≡ Some items
   pub marked : marks_in items + (marks_at new_place + new_left) ≡ marks_at place + left
 
--- No line of a right form goes on with this byte, unless it is one mark more than are left; an LF
--- ends a line of no right form.
+-- Holds if a byte is refused. No line of a right form goes on with it, unless that line has more
+-- marks than are left. An LF ends a line of no right form.
 pub record Refuses (place : Place) (bytes : List ℕ) (left b : ℕ) (why : TickFault) :
     Type 0 where
   pub wrong : b ≢ line_feed → (line : List ℕ) → Reads place bytes line
@@ -44,13 +45,13 @@ pub record Refuses (place : Place) (bytes : List ℕ) (left b : ℕ) (why : Tick
   pub ended : b ≡ line_feed → (line : List ℕ) → Reads place bytes line → line_items line ≡ None
   pub cause : (line : List ℕ) → Reads place bytes line → fault_in_line line (Some b) ≡ why
 
--- A line that ends here stands for this content.
+-- Holds if a line that ends here represents this content.
 pub record Closes (place : Place) (bytes : List ℕ) (content : Content) : Type 0 where
   pub stands : (line : List ℕ) → Reads place bytes line
       → line_items line ≡ Some (items_of_content content bytes)
   pub marked : marks_of_content content ≡ marks_at place
 
--- A line that ends here, by a CR, an LF or the end of the text, has no right form.
+-- Holds if a line that ends here, by a CR, an LF or the end of the text, has no right form.
 pub record IsOpen (place : Place) (bytes : List ℕ) (why : TickFault) : Type 0 where
   pub wrong : (line : List ℕ) → Reads place bytes line → line_items line ≡ None
   pub cause : (line : List ℕ) (next : Option ℕ) → ends_content next ≡ true → Reads place bytes line
@@ -69,7 +70,8 @@ AdvanceCase old b (Err why) new =
     Refuses old.place old.bytes.items old.left b why × (new.line ≡ old.line)
     × (new.place ≡ Refused why)
 
--- one byte at a reader, up to the run of a line that it ends
+-- what a reader does with one byte: it returns the content of the line that the byte ends, or why
+-- it refuses the byte
 pub record Advances (old : TickReader) (b : ℕ) (result : Result (Option Content) TickFault)
     (new : TickReader) : Type 0 where
   pub case : AdvanceCase old b result new
@@ -84,12 +86,13 @@ StepCase old b (Err bad) new =
     Refuses old.place old.bytes.items old.left b bad.why × (bad.line ≡ old.line)
     × HasRefused new bad
 
--- one byte at a reader
+-- what a reader does with one byte: it returns the run of the line that the byte ends, or the
+-- refusal
 pub record Steps (old : TickReader) (b : ℕ) (result : Result Run BadTicks) (new : TickReader) :
     Type 0 where
   pub case : StepCase old b result new
 
--- The line that ends here has a right form, and marks are missing.
+-- Holds if the line that ends here has a right form, but marks are missing.
 pub record LacksMark (place : Place) (bytes : List ℕ) (left : ℕ) (why : TickFault) : Type 0 where
   pub content : Content
   pub closes : Closes place bytes content
@@ -105,6 +108,6 @@ EndCase reader (Err bad) = (IsOpen reader.place reader.bytes.items bad.why
     ⊎ LacksMark reader.place reader.bytes.items reader.left bad.why)
     × (bad.line ≡ reader.line)
 
--- the end of the text at a reader
+-- what a reader does at the end of the text
 pub record Stops (reader : TickReader) (result : Result Run BadTicks) : Type 0 where
   pub case : EndCase reader result

@@ -14,8 +14,8 @@ use Rattle.yasir_ticks.specs.declared.place.Content.{Content}
 use Rattle.yasir_ticks.specs.declared.place.Content.TheVariants.{NoTick}
 use Rattle.yasir_ticks.specs.declared.reader.TickReader.{TickReader}
 
--- A reader has taken these bytes, none of which is refused, and no line with ticks or a mark has
--- ended.
+-- Holds if a reader has taken these bytes, none of which is refused, and no line with ticks or a
+-- mark has ended.
 pub record GoesOn (old : TickReader) (more : List ℕ) (new : TickReader) : Type 0 where
   pub stands : (marks : ℕ) (text : List ℕ) → StandsFor old marks text
       → StandsFor new marks (text ++ more)
@@ -23,8 +23,8 @@ pub record GoesOn (old : TickReader) (more : List ℕ) (new : TickReader) : Type
       → ended_items (text ++ more) ≡ ended_items text
   pub lines : new.line ≤ old.line + length more
 
--- A reader that stood before a line has taken these bytes of it and its LF. They stand for this
--- content, which is no mark.
+-- Holds if a reader that was before a line has taken these bytes of it and its LF. They represent
+-- this content, which is no mark.
 pub record TakesLine (old : TickReader) (line : List ℕ) (content : Content) (new : TickReader) :
     Type 0 where
   pub began : old.place ≡ Start
@@ -36,15 +36,16 @@ pub record TakesLine (old : TickReader) (line : List ℕ) (content : Content) (n
   pub counted : new.line ≡ old.line + 1
   pub left : new.left ≡ old.left
 
--- It has taken a line of this first byte, and then of bytes that a slice begins with.
+-- Holds if a reader has taken a line: its first byte, `sign`, the bytes that the slice begins with,
+-- and their LF.
 pub record TakesWhole (old : TickReader) (sign : ℕ) (bytes : List ℕ) (new : TickReader)
     (whole : Whole) : Type 0 where
   pub within : whole.len < length bytes
   pub ends : slice_index bytes whole.len ≡ line_feed
   pub takes : TakesLine old (sign ∷ take whole.len bytes) whole.content new
 
--- A reader has taken this many of these bytes, and the last of them, an LF, ended a line of this
--- content; before it no line with ticks or a mark ended.
+-- Holds if a reader has taken the first `taken` of these bytes. The last of them, an LF, ended a
+-- line of this content, and no line with ticks or a mark ended before it.
 pub record EndsLine (old : TickReader) (bytes : List ℕ) (taken : ℕ) (content : Content)
     (new : TickReader) : Type 0 where
   pub some : 0 < taken
@@ -60,8 +61,8 @@ pub record EndsLine (old : TickReader) (bytes : List ℕ) (taken : ℕ) (content
   pub nothing : items_of_content content new.bytes.items ≡ [] → content ≡ NoTick
   pub lines : new.line ≤ old.line + taken
 
--- A reader has taken this many of these bytes, none of which is refused: up to the end of the line
--- in which it stood, or all of them. The line stands for this content.
+-- Holds if a reader has taken the first `taken` of these bytes, none of which is refused: up to the
+-- end of the line in which it was, or all of them. The line represents this content.
 pub record TakesUpTo (old : TickReader) (bytes : List ℕ) (taken : ℕ) (content : Content)
     (new : TickReader) : Type 0 where
   pub within : taken ≤ length bytes
@@ -72,18 +73,18 @@ pub record TakesUpTo (old : TickReader) (bytes : List ℕ) (taken : ℕ) (conten
   pub items : (marks : ℕ) (text : List ℕ) → StandsFor old marks text
       → ended_items (text ++ take taken bytes)
       ≡ ended_items text ++ items_of_content content new.bytes.items
-  -- The content is `NoTick` exactly where no line with ticks or a mark ended.
+  -- The content is `NoTick` exactly if no line with ticks or a mark ended.
   pub nothing : items_of_content content new.bytes.items ≡ [] → content ≡ NoTick
   -- A line with ticks or a mark ended at the last byte that was taken, and none before.
   pub last : (marks : ℕ) (text : List ℕ) → StandsFor old marks text → content ≢ NoTick
       → (0 < taken) × (ended_items (text ++ take (taken - 1) bytes) ≡ ended_items text)
-  -- Where not every byte was taken, the last one that was ended its line.
+  -- If not every byte was taken, the last one that was taken ended its line.
   pub whole : taken < length bytes → slice_index bytes (taken - 1) ≡ line_feed
   pub progress : 0 < length bytes → 0 < taken
   pub lines : new.line ≤ old.line + taken
 
--- It has taken this many of them, in which no line with ticks or a mark ended, and refuses the next
--- one.
+-- Holds if a reader has taken the first `taken` of these bytes, in which no line with ticks or a
+-- mark ended, and refuses the next one.
 pub record StopsAt (old : TickReader) (bytes : List ℕ) (taken : ℕ) (bad : BadTicks)
     (new : TickReader) : Type 0 where
   pub within : taken < length bytes
@@ -95,18 +96,18 @@ pub record StopsAt (old : TickReader) (bytes : List ℕ) (taken : ℕ) (bad : Ba
   pub lines : new.line ≤ old.line + taken
   pub remembered : HasRefused new bad
 
--- what a reader did that was fed bytes up to the end of a line
+-- what a reader does that is fed bytes up to the end of a line
 abbrev pub FeedsLine : TickReader → List ℕ → ℕ → Result Content BadTicks → TickReader → Type 0
 FeedsLine old bytes taken (Ok content) new = TakesUpTo old bytes taken content new
 FeedsLine old bytes taken (Err bad) new = StopsAt old bytes taken bad new
 
--- what a reader did that was fed one byte
+-- what a reader does that is fed one byte
 abbrev pub FeedsByte : TickReader → ℕ → Result (Option Content) BadTicks → TickReader → Type 0
 FeedsByte old b (Ok None) new = GoesOn old (b ∷ []) new
 FeedsByte old b (Ok (Some content)) new = EndsLine old (b ∷ []) 1 content new
 FeedsByte old b (Err bad) new = StopsAt old (b ∷ []) 0 bad new
 
--- Bytes begin with these digits of a number of silent ticks, and an LF.
+-- Holds if the bytes begin with `digits` digits of a number of silent ticks, and an LF.
 pub record IsSpelled (bytes : List ℕ) (digits number : ℕ) : Type 0 where
   pub within : digits < length bytes
   pub ends : slice_index bytes digits ≡ line_feed
@@ -115,7 +116,7 @@ pub record IsSpelled (bytes : List ℕ) (digits number : ℕ) : Type 0 where
   pub some : 0 < number
   pub fits : number ≤ 1000000
 
--- Bytes begin with pairs of digits, at least one, that spell these bytes, and an LF.
+-- Holds if the bytes begin with at least one pair of digits, which spell `items`, and an LF.
 pub record IsFewPairs (bytes items : List ℕ) : Type 0 where
   pub within : 2 * length items < length bytes
   pub ends : slice_index bytes (2 * length items) ≡ line_feed

@@ -7,12 +7,12 @@ use Rattle.yasir_ticks.specs.declared.tick.Tick.TheVariants.{Silent, Byte}
 use Rattle.yasir_ticks.specs.declared.tick_run.TickRun.{TickRun}
 use Rattle.yasir_ticks.specs.declared.tick_run.TickRun.TheVariants.{Bytes, Silence}
 
--- these bytes, one a tick, or this many silent ticks
+-- the ticks of a run: its bytes, one for each tick, or that many silent ticks
 abbrev pub run_ticks : TickRun → List Tick
 run_ticks (Bytes bytes) = map Byte bytes.now
 run_ticks (Silence n) = silent n
 
--- the same as items
+-- the ticks of a run as items
 abbrev pub run_items : TickRun → List Item
 run_items (Bytes bytes) = map (λ b. tick (Byte b)) bytes.now
 run_items (Silence n) = replicate n (tick Silent)

@@ -1,5 +1,5 @@
--- Tick text: a recorded line as text, one line of text for a run of bytes, of silence, or a mark.
--- The format is this project's own; docs/TICK_TEXT.md has it in full.
+-- Tick text: a recorded line as text, in which one line of text is a run of bytes, a run of
+-- silence, or a mark. The format is this project's own; docs/TICK_TEXT.md has it in full.
 use Rattle.std.specs.Prelude.{◌≡◌, ℕ, ◌+◌, ◌*◌, ◌-◌, ◌==◌, ◌&&◌, ◌||◌, ◌%◌, nat_le, suc, Bool, true}
 use Rattle.std.specs.Prelude.{false, not, if◌then◌else◌, List, [], ◌∷◌, ◌++◌, length, map}
 use Rattle.std.specs.Prelude.{replicate, Option, Some, None, is_some, unwrap_or, option_map}
@@ -22,7 +22,7 @@ pub record Lines : Type 0 where
   pub ended : List (List ℕ)
   pub last : List ℕ
 
--- a byte other than LF before these lines
+-- these lines, with a byte other than LF put before them
 abbrev pub with_front : ℕ → List (List ℕ) → List ℕ → Lines
 with_front b [] last = record { ended = []; last = b ∷ last }
 with_front b (l ∷ ls) last = record { ended = (b ∷ l) ∷ ls; last = last }
@@ -34,14 +34,14 @@ lines_of (b ∷ x) =
     then record { ended = [] ∷ (lines_of x).ended; last = (lines_of x).last }
     else with_front b (lines_of x).ended (lines_of x).last
 
--- `+`: 1 to 32 pairs of hex digits of either case, that many bytes
+-- what a `+` line represents: 1 to 32 pairs of hex digits of either case, that many bytes
 abbrev pub byte_items : List ℕ → Option (List Item)
 byte_items digits =
     if nat_le 1 (length digits) && nat_le (length digits) 64
     then option_map (λ bytes. map (λ b. tick (Byte b)) bytes) (result_ok (decode_of digits))
     else None
 
--- the number that decimal digits spell, after a number that was spelled before them
+-- the number that the decimal digits of n spell, followed by these digits
 abbrev pub number_after : ℕ → List ℕ → ℕ
 number_after n [] = n
 number_after n (d ∷ digits) = number_after (10 * n + (d - digit_zero)) digits
@@ -49,19 +49,20 @@ number_after n (d ∷ digits) = number_after (10 * n + (d - digit_zero)) digits
 abbrev pub is_decimal_digit : ℕ → Bool
 is_decimal_digit c = nat_le digit_zero c && nat_le c digit_nine
 
--- digits alone, at least one, and the first not 0
+-- whether these are only digits, at least one, and the first isn't 0
 abbrev pub is_plain_decimal : List ℕ → Bool
 is_plain_decimal [] = false
 is_plain_decimal (d ∷ digits) = not (d == digit_zero) && list_all is_decimal_digit (d ∷ digits)
 
--- `-`: a decimal number from 1 to 1000000 without leading zero, that many silent ticks
+-- what a `-` line represents: a decimal number from 1 to 1000000 without a leading zero, that many
+-- silent ticks
 abbrev pub silence_items : List ℕ → Option (List Item)
 silence_items digits =
     if is_plain_decimal digits && nat_le (number_after 0 digits) 1000000
     then Some (replicate (number_after 0 digits) (tick Silent))
     else None
 
--- what the content of a line that is no comment stands for; none where it has no right form
+-- what the content of a line that is no comment represents; `None` if it has no right form
 abbrev pub content_items : List ℕ → Option (List Item)
 content_items [] = Some []
 content_items (c ∷ x) =
@@ -76,7 +77,7 @@ without_return [] = []
 without_return (c ∷ []) = if c == carriage_return then [] else c ∷ []
 without_return (c ∷ d ∷ x) = c ∷ without_return (d ∷ x)
 
--- what a line stands for: `#` and at most 120 bytes are a comment, in which a CR is a byte like any
+-- what a line represents; `#` and at most 120 bytes are a comment, in which a CR is a byte like any
 -- other
 unfoldable pub line_items : List ℕ → Option (List Item)
 line_items [] = Some []
@@ -85,32 +86,33 @@ line_items (c ∷ x) =
     then (if nat_le (length x) 120 then Some [] else None)
     else content_items (without_return (c ∷ x))
 
--- what these lines stand for; none where one of them has no right form
+-- what these lines represent; `None` if one of them has no right form
 abbrev pub all_items : List (List ℕ) → Option (List Item)
 all_items [] = Some []
 all_items (l ∷ ls) = option_and_then (λ items. option_map (λ more. items ++ more) (all_items ls))
     (line_items l)
 
--- The text stands for these items, and has exactly this many marks.
+-- Holds if the text represents these items, exactly `marks` of which are marks.
 pub record IsTickText (marks : ℕ) (text : List ℕ) (items : List Item) : Type 0 where
   pub lines : all_items ((lines_of text).ended ++ (lines_of text).last ∷ []) ≡ Some items
   pub marked : marks_in items ≡ marks
 
--- The text is the beginning of a right text with this many marks.
+-- Holds if the text is the beginning of a right text with `marks` marks.
 abbrev pub BeginsTickText : ℕ → List ℕ → Type 0
 BeginsTickText marks text = (more : List ℕ) × (items : List Item)
     × IsTickText marks (text ++ more) items
 
--- The refused place of a text: the end of its shortest prefix that begins no right text.
+-- Holds if the refused place of a text comes after `before` and this byte: they are the shortest
+-- beginning of the text with which no right text begins.
 pub record IsRefusedAfter (marks : ℕ) (before : List ℕ) (byte : ℕ) : Type 0 where
   pub begins : BeginsTickText marks before
   pub refused : ¬ BeginsTickText marks (before ++ byte ∷ [])
 
--- what the lines stand for that an LF ended, each of them having a right form
+-- what the lines that an LF ended represent, if each of them has a right form
 abbrev pub ended_items : List ℕ → List Item
 ended_items text = flat_map (λ l. unwrap_or (line_items l) []) (lines_of text).ended
 
--- the line, counted from 1, in which the byte after this text stands, or its end
+-- the line, counted from 1, of the byte after this text, or of its end
 abbrev pub line_after : List ℕ → ℕ
 line_after text = suc (length (lines_of text).ended)
 

@@ -25,7 +25,7 @@ abbrev pub AreTicks : List Tick → Type 0
 AreTicks [] = Unit {0}
 AreTicks (t ∷ l) = IsTick t × AreTicks l
 
--- What a tick text stands for: ticks, and marks between lists of them.
+-- What a tick text represents: ticks, and marks between lists of them.
 pub data Item : Type 0 where
   tick : Tick → Item
   mark : Item
@@ -36,7 +36,7 @@ ticks_in [] = []
 ticks_in (tick t ∷ l) = t ∷ ticks_in l
 ticks_in (mark ∷ l) = ticks_in l
 
--- how many marks stand among items
+-- how many marks are among items
 abbrev pub marks_in : List Item → ℕ
 marks_in [] = 0
 marks_in (tick t ∷ l) = marks_in l

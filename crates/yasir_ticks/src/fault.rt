@@ -17,8 +17,8 @@ pub enum TickFault {
     Mark,
 }
 
-/// A refusal of a tick text: the line, counted from 1, in which the refused byte or the end of the
-/// text stands.
+/// A refusal of a tick text. The line is that of the refused byte, or of the end of the text,
+/// counted from 1.
 #[derive(Clone, Copy, Debug, PartialEq, Eq)]
 pub struct BadTicks {
     pub line: u32,

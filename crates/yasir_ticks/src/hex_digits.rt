@@ -1,4 +1,5 @@
-//! Hex digits: bytes as lower-case ones, 32 bytes at a time, and what digits of either case spell.
+//! Hex digits. Bytes are written as lower-case digits, 32 bytes at a time, and digits of either
+//! case are read.
 ghost use Rattle.std.specs.Prelude.{◌≡◌, ◌+◌, ◌*◌, ◌<◌, ◌≤◌, ◌++◌, length};
 ghost use Rattle.hex.specs.Hex.{encode_lower};
 
@@ -13,10 +14,10 @@ pub(crate) use digit::hex_value;
 pub use digit_lanes::digits_of;
 pub(crate) use pairs::{Decoded, decode_front, decode_full};
 
-// How many bytes are written together.
+// How many bytes are written at once.
 const TOGETHER: usize = 32;
 
-// Appends the digits of fewer bytes than are written together.
+// Appends the digits of fewer bytes than are written at once.
 #[inline]
 fn push_last<const CAP: usize>(line: &mut ArrayVec<u8, CAP>, rest: &[u8])
     requires few { length rest.now < 32 }
@@ -31,7 +32,7 @@ fn push_last<const CAP: usize>(line: &mut ArrayVec<u8, CAP>, rest: &[u8])
     let _ = line.try_extend_from_slice(&digits_of(&last)[..2 * rest.len()]);
 }
 
-/// Appends bytes as lower-case hex digits, for which there must be room.
+/// Appends bytes as lower-case hex digits. There must be room for them.
 pub fn push_digits<const CAP: usize>(line: &mut ArrayVec<u8, CAP>, bytes: &[u8])
     requires { length line.old.items + 2 * length bytes.now ≤ CAP }
     ensures digits { line.new.items ≡ line.old.items ++ encode_lower bytes.now }

@@ -1,4 +1,4 @@
-//! What canonical text says of ticks.
+//! The law of canonical text.
 ghost use Rattle.std.specs.Prelude.{◌≡◌, List, map};
 ghost use Rattle.yasir_ticks.specs.CanonicalText.{canonical_text};
 ghost use Rattle.yasir_ticks.specs.TickText.{IsTickText};
@@ -6,8 +6,8 @@ ghost use Rattle.yasir_ticks.specs.Ticks.{AreTicks};
 ghost use Rattle.yasir_ticks.specs.Ticks.Item.{tick};
 ghost use Rattle.yasir_ticks.specs.declared.tick.Tick.{Tick};
 
-/// A law of canonical text: that of any ticks is a right tick text without a mark, which stands for
-/// these ticks. So no other list of ticks has the same one.
+/// A law of canonical text: for any ticks it is a right tick text without a mark, and represents
+/// these ticks. So no two different lists of ticks have the same canonical text.
 pub fn canonical_text_stands_for_its_ticks()
     ensures stands { (ticks : List Tick) → AreTicks ticks
         → IsTickText 0 (canonical_text ticks) (map tick ticks) }

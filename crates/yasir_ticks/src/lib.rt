@@ -1,6 +1,6 @@
 //! Ticks of a serial line, and tick text: the recorded line that a program reads.
 //!
-//! A text is read byte by byte. The line that ends is returned as a run of ticks:
+//! A text is read byte by byte. When a line ends, it is returned as a run of ticks:
 //!
 //!     let mut reader = TickReader::new(0);
 //!     for byte in b"+0103\n" {
@@ -35,13 +35,13 @@ pub use tick::Tick;
 pub use tick_run::TickRun;
 pub use whole_lines::{FedLine, UsualLine};
 
-/// How many ticks may be taken at most by whatever counts its ticks: 2^62.
+/// The most ticks that may be given to anything that counts its ticks: 2^62.
 pub const MAX_TICKS: u64 = 4_611_686_018_427_387_904;
 
-/// This many silent ticks between two bytes end a burst: t3.5 of Modbus over Serial Line V1.02, 3.5
-/// character times, in whole ticks.
+/// How many silent ticks between two bytes end a burst: 3.5 character times, t3.5 of Modbus over
+/// Serial Line V1.02, in whole ticks.
 pub const T3_5_TICKS: u8 = 4;
 
-/// This many silent ticks between two bytes of a burst make it no frame: more than t1.5 of Modbus
-/// over Serial Line V1.02, 1.5 character times, in whole ticks.
+/// How many silent ticks between two bytes of a burst keep it from being a frame: more than 1.5
+/// character times, t1.5 of Modbus over Serial Line V1.02, in whole ticks.
 pub const T1_5_TICKS: u8 = 2;

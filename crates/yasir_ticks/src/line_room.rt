@@ -1,14 +1,14 @@
-//! The bytes of one line of tick text where they are decoded.
+//! Room for the bytes of one line of tick text, into which they are decoded.
 ghost use Rattle.std.specs.Prelude.{◌≡◌, ◌+◌, ◌<◌, ◌≤◌, ◌==◌, [], ◌∷◌, ◌++◌, length, take, true, false};
 
 use crate::LineBytes;
 use std::marker::Model;
 
-/// How many bytes a line has at most.
+/// The most bytes that a line has.
 const MOST: usize = 32;
 
-/// The bytes of one line. Those behind the last of them stay as they are, so that 32 bytes are put
-/// down at once however many of them count.
+/// The bytes of one line. What is in the room after the last of them has no meaning, so that 32
+/// bytes can be stored at once, however many of them count.
 #[derive(Drop)]
 pub(crate) struct LineRoom {
     bytes: [u8; MOST],
@@ -27,7 +27,7 @@ impl Model for LineRoom {
 }
 
 impl LineRoom {
-    /// No bytes.
+    /// Returns a room without bytes.
     #[inline]
     pub(crate) fn new() -> LineRoom
         ensures { result.items ≡ [] }
@@ -38,7 +38,7 @@ impl LineRoom {
         }
     }
 
-    /// The bytes.
+    /// Returns the bytes.
     #[inline]
     pub(crate) fn as_slice(&self) -> &[u8]
         ensures bytes { result.now ≡ self.now.items }
@@ -47,7 +47,7 @@ impl LineRoom {
         &self.bytes[..self.len]
     }
 
-    /// How many bytes these are.
+    /// Returns the number of bytes.
     #[inline]
     pub(crate) fn len(&self) -> usize
         ensures { result ≡ length self.now.items }
@@ -55,7 +55,7 @@ impl LineRoom {
         self.len
     }
 
-    /// Whether there is none.
+    /// Whether there are no bytes.
     #[inline]
     pub(crate) fn is_empty(&self) -> bool
         ensures { result ≡ (length self.now.items == 0) }
@@ -63,7 +63,7 @@ impl LineRoom {
         self.len == 0
     }
 
-    /// Whether there is no room for one more.
+    /// Whether there is no room for another byte.
     #[inline]
     pub(crate) fn is_full(&self) -> bool
         ensures full { result ≡ true → length self.now.items ≡ 32 }
@@ -72,7 +72,7 @@ impl LineRoom {
         self.len == MOST
     }
 
-    /// Lets all bytes go.
+    /// Removes all bytes.
     #[inline]
     pub(crate) fn clear(&mut self)
         ensures { self.new.items ≡ [] }
@@ -90,7 +90,7 @@ impl LineRoom {
         self.len += 1;
     }
 
-    /// Holds the first of these bytes, this many, in the place of what it held.
+    /// Replaces the bytes by the first `count` of the given ones.
     #[inline]
     pub(crate) fn put(&mut self, bytes: [u8; MOST], count: usize)
         requires { count ≤ 32 }
@@ -100,7 +100,7 @@ impl LineRoom {
         self.len = count;
     }
 
-    /// A copy of these bytes.
+    /// Returns a copy of the bytes.
     pub(crate) fn line(&self) -> LineBytes
         ensures { result.items ≡ self.now.items }
     {

@@ -10,16 +10,17 @@ use crate::line_room::LineRoom;
 use crate::place::{Content, Place};
 use crate::{BadTicks, Run, TickFault};
 
-/// The most bytes of a comment after its `#`.
+/// The most bytes that a comment has after its `#`.
 pub(crate) const MAX_COMMENT: u8 = 120;
 
-/// The most silent ticks that one line stands for.
+/// The most silent ticks that one line represents.
 const MAX_SILENCE: u64 = 1_000_000;
 
-/// What a byte of a line comes to: the content of the line that it ends, or why it is refused.
+/// What a byte of a line results in: the content of the line that it ends, `None` if it ends none,
+/// or why it is refused.
 pub(crate) type Advance = Result<Option<Content>, TickFault>;
 
-/// A reader of tick text, byte by byte. Each line that ends is returned as a run.
+/// A reader of tick text, byte by byte. When a line ends, it is returned as a run.
 #[derive(Drop)]
 pub struct TickReader {
     pub(crate) line: u32,
@@ -41,7 +42,7 @@ impl TickReader {
     ghost use Rattle.yasir_ticks.specs.Reader.{StandsFor, HasRefused, reader_line};
     ghost use Rattle.yasir_ticks.specs.ReaderStep.{Advances, Steps, Stops, Closes, IsOpen};
 
-    /// A reader of a text with exactly this many marks.
+    /// Returns a reader of a text with exactly `marks` marks.
     pub fn new(marks: u8) -> TickReader
         ensures stands { StandsFor result marks [] }
         ensures begins { BeginsTickText marks [] }
@@ -55,14 +56,14 @@ impl TickReader {
         }
     }
 
-    /// The line, counted from 1, in which the reader is.
+    /// Returns the number of the line in which the reader is, counted from 1.
     pub fn line(&self) -> u32
         ensures { result ≡ reader_line self.now }
     {
         self.line
     }
 
-    /// What the line stands for if it ends here.
+    /// Returns what the line represents if it ends here, or why it can't end here.
     fn content(&self) -> Result<Content, TickFault>
         ensures ticks { IfOk result (λ content. has_ticks content self.now.bytes.items ≡ true) }
         ensures content { MatchResult result (Closes self.now.place self.now.bytes.items)
@@ -127,7 +128,7 @@ impl TickReader {
         }
     }
 
-    /// Ends the content at the CR behind it.
+    /// Ends the content at the CR that follows it.
     fn end_content(&mut self) -> Advance
         requires { is_foreign self.old.place carriage_return ≡ true }
         ensures { Advances self.old carriage_return result self.new }
@@ -138,7 +139,7 @@ impl TickReader {
         }
     }
 
-    /// A byte that is no part of a content: an LF, a CR, or one that may not come here.
+    /// Takes a byte that is no part of a content: an LF, a CR, or one that may not come here.
     fn after_content(&mut self, b: u8) -> Advance
         requires foreign { is_foreign self.old.place b ≡ true }
         requires line { reader_line self.old < 2 ^ 32 - 1 }
@@ -168,7 +169,7 @@ impl TickReader {
         }
     }
 
-    /// A `%` at the front of a line, which is refused where no mark is left.
+    /// Takes a `%` at the start of a line. It is refused if no mark is left.
     fn begin_mark(&mut self) -> Advance
         requires { self.old.place ≡ Place.Start }
         ensures { Advances self.old percent_sign result self.new }
@@ -292,7 +293,7 @@ impl TickReader {
         }
     }
 
-    /// One byte, and the run of the line that it ends.
+    /// Takes one byte, and returns the run of the line that it ends, or `Nothing`.
     #[inline]
     fn step(&mut self, b: u8) -> Result<Run, BadTicks>
         requires { reader_line self.old < 2 ^ 32 - 1 }
@@ -311,7 +312,7 @@ impl TickReader {
     }
 
     /// Takes the next byte of the text, and returns the run of the line that this byte ends, or
-    /// `Nothing`. A refused byte is returned for good.
+    /// `Nothing`. After a refusal, each call returns the same refusal.
     #[inline]
     pub fn feed(&mut self, b: u8) -> Result<Run, BadTicks>
         requires { reader_line self.old < 2 ^ 32 - 1 }
@@ -319,13 +320,13 @@ impl TickReader {
             → OnOk result (StandsFor self.new marks (text ++ b ∷ [])) }
         ensures begins { (marks : ℕ) (text : List ℕ) → StandsFor self.old marks text
             → OnOk result (BeginsTickText marks (text ++ b ∷ [])) }
-        // The runs are those of the lines that ended.
+        // The run is that of the line that ended, if one did.
         ensures run { (marks : ℕ) (text : List ℕ) → StandsFor self.old marks text
             → IfOk result (λ run. ended_items (text ++ b ∷ [])
             ≡ ended_items text ++ items_of_run run) }
-        // It is `Nothing` exactly where no line with ticks or a mark ended.
+        // It is `Nothing` exactly if no line with ticks or a mark ended.
         ensures nothing { IfOk result (λ run. items_of_run run ≡ [] → run ≡ Run.Nothing) }
-        // It refuses the text at its refused place, and nowhere else.
+        // The text is refused at its refused place, and nowhere else.
         ensures refused { (marks : ℕ) (text : List ℕ) → StandsFor self.old marks text
             → IfErr result (λ bad. IsRefusedAfter marks text b
             × (bad.line ≡ line_after text) × (bad.why ≡ fault_after text b)) }
@@ -344,7 +345,7 @@ impl TickReader {
     pub fn finish(mut self) -> Result<Run, BadTicks>
         ensures right { (marks : ℕ) (text : List ℕ) → StandsFor self marks text
             → IfOk result (λ run. IsTickText marks text (ended_items text ++ items_of_run run)) }
-        // It is `Nothing` exactly where the last line has no tick, and is no mark.
+        // It is `Nothing` exactly if the last line has no tick and is no mark.
         ensures nothing { IfOk result (λ run. items_of_run run ≡ [] → run ≡ Run.Nothing) }
         ensures refused { (marks : ℕ) (text : List ℕ) → StandsFor self marks text
             → IfErr result (λ bad. (¬ ((items : List Item) × IsTickText marks text items))
@@ -354,7 +355,7 @@ impl TickReader {
         self.stop()
     }
 
-    /// The end of the text.
+    /// Takes the end of the text.
     fn stop(&mut self) -> Result<Run, BadTicks>
         ensures stop { Stops self.old result }
         ensures again { (bad : BadTicks) → HasRefused self.old bad → result ≡ Err bad }

@@ -1,5 +1,5 @@
-//! Several bytes of a tick text at once: what stands most in a text, pairs of digits and comments,
-//! goes by in one loop each.
+//! Several bytes of a tick text at once. Most of a text is pairs of digits and comments, so each of
+//! these two has a loop that takes many bytes of it.
 ghost use Rattle.std.specs.Prelude.{◌≡◌, ◌≤◌, length, take};
 
 use crate::TickReader;
@@ -15,7 +15,7 @@ impl TickReader {
     ghost use Rattle.yasir_ticks.specs.Slices.{GoesOn};
 
     // Takes whole pairs of digits from the front, as long as there is room. Returns how many bytes
-    // these are.
+    // it took.
     #[inline]
     fn take_pairs(&mut self, bytes: &[u8]) -> usize
         requires { self.old.place ≡ Pairs }
@@ -38,8 +38,8 @@ impl TickReader {
         taken
     }
 
-    // Takes what comes before the next LF, as long as the comment may go on. Returns how many
-    // bytes these are.
+    // Takes the bytes before the next LF, as far as the comment may go on. Returns how many bytes
+    // it took.
     #[inline]
     fn take_comment(&mut self, behind: u8, bytes: &[u8]) -> usize
         requires { self.old.place ≡ Comment behind }
@@ -56,7 +56,7 @@ impl TickReader {
         taken
     }
 
-    // Takes bytes from the front that one loop can take, or none. Returns how many these are.
+    // Takes bytes from the front that one loop can take, or none. Returns how many it took.
     #[inline]
     pub(crate) fn take_many(&mut self, bytes: &[u8]) -> usize
         ensures within { result ≤ length bytes.now }

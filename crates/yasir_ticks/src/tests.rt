@@ -4,7 +4,7 @@ use std::alloc::Global;
 use std::process::Abort;
 use std::test::Fail;
 
-/// Texts, the bytes that they stand for, and how many silent ticks stand among them.
+/// Texts, and the bytes and the number of silent ticks that they represent.
 const ACCEPTED: [(&[u8], &[u8], u32); 10] = [
     (b"", b"", 0),
     (b"+01", b"\x01", 0),
@@ -65,7 +65,8 @@ const REFUSED: [(&[u8], u32, TickFault); 21] = [
     ),
 ];
 
-/// Texts with this many marks, and the bytes, silent ticks and marks that they stand for.
+/// How many marks a text has, the text, and the bytes and the number of silent ticks that it
+/// represents.
 const MARKED: [(u8, &[u8], &[u8], u32); 5] = [
     (1, b"%", b"", 0),
     (1, b"+01\n%\n-3\n", b"\x01", 3),
@@ -74,7 +75,7 @@ const MARKED: [(u8, &[u8], &[u8], u32); 5] = [
     (3, b"%\n%\n%\n+ff\n", b"\xff", 0),
 ];
 
-/// Texts with this many marks stated, and the line and the cause of their refusal.
+/// How many marks are stated for a text, the text, and the line and the cause of its refusal.
 const REFUSED_MARKS: [(u8, &[u8], u32, TickFault); 10] = [
     (1, b"+01", 1, TickFault::Mark),
     (1, b"+01\n", 2, TickFault::Mark),
@@ -88,7 +89,7 @@ const REFUSED_MARKS: [(u8, &[u8], u32, TickFault); 10] = [
     (1, b"+1", 1, TickFault::Odd),
 ];
 
-/// What the lines of a text stand for.
+/// What the lines of a text represent.
 #[derive(Drop)]
 struct Seen {
     bytes: Vec<u8>,
@@ -126,7 +127,7 @@ impl Seen {
     }
 }
 
-/// The refusal of a reader after this byte, which two more calls return again.
+/// Checks that two more calls return the refusal that a reader has returned, and returns it.
 fn refused_for_good(rt: &impl Abort, mut reader: TickReader, bad: BadTicks) -> BadTicks {
     assert_eq!(rt; reader.line(), bad.line);
     assert!(rt; reader.line() < 9);
@@ -191,11 +192,11 @@ fn reads_marks(rt: HostRuntime) -> Result<(), Fail> {
     Ok(())
 }
 
-/// The line of 32 bytes 7.
+/// A line of 32 bytes, each of them 7.
 const LINE_OF_SEVENS: [u8; 66] =
     *b"+0707070707070707070707070707070707070707070707070707070707070707\n";
 
-/// Feeds a text in slices of this many bytes to a reader and ends it.
+/// Feeds a text to a reader in slices of `size` bytes, and ends it.
 fn read_slices(alloc: Global, marks: u8, text: &[u8], size: usize) -> Result<Seen, Fail> {
     let mut reader = TickReader::new(marks);
     let mut seen = Seen::none(alloc);
@@ -225,7 +226,7 @@ fn reads_slices_of_each_size(rt: HostRuntime) -> Result<(), Fail> {
     Ok(())
 }
 
-/// Feeds two parts of a text line by line to a reader, and ends it.
+/// Feeds two parts of a text to a reader line by line, and ends it.
 fn read_lines(
     rt: &impl Abort,
     alloc: Global,
@@ -255,7 +256,7 @@ fn read_lines(
     Ok(Ok(seen))
 }
 
-/// Reads a text byte by byte, and line by line with a cut at this place.
+/// Reads a text byte by byte, and line by line in two parts. Both must give the same.
 fn read_both_ways(rt: &impl Abort, alloc: Global, text: &[u8], cut: usize) -> Result<(), Fail> {
     let parts = text.split_at(cut.min(text.len()));
     let by_bytes = read(rt, alloc, 0, text)?;
@@ -272,13 +273,13 @@ fn read_both_ways(rt: &impl Abort, alloc: Global, text: &[u8], cut: usize) -> Re
     Ok(())
 }
 
-/// The next number of a row that looks like chance.
+/// Returns the next number of a sequence that looks random.
 fn drawn(state: &mut u32) -> usize {
     *state = state.wrapping_mul(1_664_525).wrapping_add(1_013_904_223);
     (*state >> 8) as usize
 }
 
-/// A line of this many bytes behind its sign, and two more lines.
+/// Returns a line of `length` bytes after its sign, and two more lines.
 fn drawn_text(alloc: Global, length: usize, state: &mut u32) -> Result<Vec<u8>, Fail> {
     let mut text = Vec::new(alloc);
     let sign = b"++-#"[drawn(state) % 4];
@@ -338,7 +339,7 @@ fn cuts_runs_in_two(rt: HostRuntime) {
     assert!(rt; silence.front(0).is_empty());
 }
 
-/// A line and as many bytes behind it as the longest line has.
+/// Returns a line, followed by as many bytes as the longest line has.
 fn line_in_front(alloc: Global, line: &[u8]) -> Result<Vec<u8>, Fail> {
     let mut text = Vec::new(alloc);
     text.extend_from_slice(line)?;
@@ -348,7 +349,7 @@ fn line_in_front(alloc: Global, line: &[u8]) -> Result<Vec<u8>, Fail> {
     Ok(text)
 }
 
-/// A new reader must take this line at once, as so many bytes of ticks.
+/// Checks that a new reader takes this line at once, and lends that many bytes.
 fn must_take(rt: &impl Abort, alloc: Global, line: &[u8], bytes: usize) -> Result<(), Fail> {
     let text = line_in_front(alloc, line)?;
     let mut reader = TickReader::new(0);

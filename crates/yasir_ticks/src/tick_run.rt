@@ -3,19 +3,19 @@ ghost use Rattle.std.specs.Prelude.{◌≡◌, ◌<◌, ◌≤◌, ◌==◌, ◌
 
 use crate::Tick;
 
-/// Ticks of one kind in a row, whose bytes are lent.
+/// Ticks of one kind in a row. The bytes are borrowed.
 #[derive(Clone, Copy)]
 pub enum TickRun<'a> {
-    /// These bytes, one a tick.
+    /// These bytes, one for each tick.
     Bytes(&'a [u8]),
-    /// This many silent ticks.
+    /// That many silent ticks.
     Silence(u32),
 }
 
 impl<'a> TickRun<'a> {
     ghost use Rattle.yasir_ticks.specs.TickRun.{run_ticks};
 
-    /// How many ticks these are.
+    /// Returns the number of ticks.
     #[inline]
     pub fn len(self) -> usize
         ensures { result ≡ length (run_ticks self.entry) }
@@ -26,7 +26,7 @@ impl<'a> TickRun<'a> {
         }
     }
 
-    /// Whether there is no tick.
+    /// Whether there are no ticks.
     #[inline]
     pub fn is_empty(self) -> bool
         ensures { result ≡ (length (run_ticks self.entry) == 0) }
@@ -34,7 +34,7 @@ impl<'a> TickRun<'a> {
         self.len() == 0
     }
 
-    /// The first `count` of these ticks.
+    /// Returns the first `count` ticks.
     #[inline]
     pub fn front(self, count: usize) -> TickRun<'a>
         requires { count ≤ length (run_ticks self) }
@@ -46,7 +46,7 @@ impl<'a> TickRun<'a> {
         }
     }
 
-    /// These ticks without the first `count`.
+    /// Returns the ticks after the first `count`.
     #[inline]
     pub fn behind(self, count: usize) -> TickRun<'a>
         requires { count ≤ length (run_ticks self) }
@@ -58,7 +58,7 @@ impl<'a> TickRun<'a> {
         }
     }
 
-    /// The first of these ticks, of which there is one at least.
+    /// Returns the first tick. There must be at least one.
     #[inline]
     pub fn first(self) -> Tick
         requires { 0 < length (run_ticks self) }

@@ -1,4 +1,5 @@
-//! A line of tick text at once. Its bytes are lent by the reader, so that none is moved.
+//! A whole line of tick text at once. The reader lends the bytes of the line, so that none is
+//! moved.
 ghost use Rattle.std.specs.Prelude.{◌≡◌, ◌+◌, ◌-◌, ◌<◌, ◌≤◌, ◌^◌, length, slice_index, Err};
 ghost use Rattle.std.specs.Prelude.{IfSome, None};
 ghost use Rattle.yasir_ticks.specs.Characters.{line_feed, plus_sign, minus_sign, number_sign};
@@ -11,26 +12,27 @@ use crate::reader::MAX_COMMENT;
 use crate::{BadTicks, TickReader};
 use memchr::memchr;
 
-/// What a reader took of a slice, and what the line came to that it ended.
+/// What a reader took of a slice, and the result for the line that ended there.
 #[derive(Clone, Copy, Debug, PartialEq, Eq)]
 pub struct FedLine {
     /// How many bytes it took, from the first one on.
     pub taken: usize,
-    /// What the line stands for that the last of them ended, the bytes of a `+` line being those
-    /// that the reader lends; `NoTick` where none ended. Or the refusal of the byte behind them.
+    /// The content of the line that the last of these bytes ended, or `NoTick` if they ended none.
+    /// The bytes of a `+` line are those that the reader lends. An error is the refusal of the next
+    /// byte.
     pub line: Result<Content, BadTicks>,
 }
 
 /// A line that a reader took at once.
 #[derive(Clone, Copy, Debug, PartialEq, Eq)]
 pub struct UsualLine {
-    /// How many bytes it has, with its LF.
+    /// How many bytes it has, including its LF.
     pub taken: usize,
-    /// What it stands for, the bytes of a `+` line being those that the reader lends.
+    /// What it represents. The bytes of a `+` line are those that the reader lends.
     pub content: Content,
 }
 
-// What comes after the first byte of a line, up to its LF.
+// What follows the first byte of a line, up to its LF.
 #[derive(Clone, Copy)]
 struct Whole {
     // how many bytes come before the LF
@@ -45,7 +47,8 @@ struct Spelled {
     number: u32,
 }
 
-// The number that a slice begins with, where an LF ends it and it may be one of silent ticks.
+// Returns the number that a slice begins with, if an LF follows it and it may be a number of silent
+// ticks.
 #[inline(always)]
 fn spelled_number(bytes: &[u8]) -> Option<Spelled>
     ensures { IfSome result (λ spelled. IsSpelled bytes.now spelled.digits spelled.number) }
@@ -69,7 +72,7 @@ fn spelled_number(bytes: &[u8]) -> Option<Spelled>
     }
 }
 
-// The bytes of the one to three pairs of digits that a slice begins with, where an LF comes after
+// Returns the bytes of the one to three pairs of digits that a slice begins with, if an LF follows
 // them.
 #[inline(always)]
 fn few_pairs(bytes: &[u8]) -> Option<LineRoom>
@@ -94,7 +97,7 @@ impl TickReader {
     ghost use Rattle.yasir_ticks.specs.declared.place.Place.TheVariants.{Start};
     ghost use Rattle.yasir_ticks.specs.Reader.{HasRefused, reader_line, lent_bytes};
 
-    /// The bytes of the `+` line that was ended last. They stand until the next byte is fed.
+    /// Returns the bytes of the `+` line that ended last. They are kept until the next byte is fed.
     #[inline]
     pub fn line_bytes(&self) -> &[u8]
         ensures bytes { result.now ≡ lent_bytes self.now }
@@ -103,7 +106,7 @@ impl TickReader {
         self.bytes.as_slice()
     }
 
-    // The bytes of a line behind its `+`, where they are at most three.
+    // Takes a `+` line of at most three bytes, given what follows its `+`.
     #[inline(always)]
     fn take_short_line(&mut self, bytes: &[u8]) -> Option<Whole>
         requires place { self.old.place ≡ Start }
@@ -121,8 +124,8 @@ impl TickReader {
         })
     }
 
-    // The bytes of a line behind its `+`, where they stand as whole pairs of digits with their LF
-    // in the first 65 bytes.
+    // Takes a `+` line, given what follows its `+`, if this is whole pairs of digits with their LF
+    // among the first 65 bytes.
     #[inline(always)]
     fn take_long_line(&mut self, bytes: &[u8]) -> Option<Whole>
         requires place { self.old.place ≡ Start }
@@ -149,7 +152,7 @@ impl TickReader {
         })
     }
 
-    // The byte of a line behind its `+`, where it is but one.
+    // Takes a `+` line of a single byte, given what follows its `+`.
     #[inline(always)]
     fn take_pair_line(&mut self, bytes: &[u8]) -> Option<Whole>
         requires place { self.old.place ≡ Start }
@@ -170,7 +173,7 @@ impl TickReader {
         })
     }
 
-    // The bytes of a line behind its `+`, where they are as many as a line has at most.
+    // Takes a `+` line of as many bytes as a line may have, given what follows its `+`.
     #[inline(always)]
     fn take_full_line(&mut self, bytes: &[u8]) -> Option<Whole>
         requires place { self.old.place ≡ Start }
@@ -189,8 +192,8 @@ impl TickReader {
         })
     }
 
-    // The bytes of a line behind its `+`, where it is no line of one byte. Few are looked up one by
-    // one, which costs less than all lanes of the vectors.
+    // Takes a `+` line of more than one byte, given what follows its `+`. A few digits are looked
+    // up one by one, which costs less than all lanes of the vectors.
     #[inline(always)]
     fn take_part_line(&mut self, bytes: &[u8]) -> Option<Whole>
         requires place { self.old.place ≡ Start }
@@ -205,8 +208,9 @@ impl TickReader {
         self.take_long_line(bytes)
     }
 
-    // The bytes of a line behind its `+`, where its LF stands in the first 65 bytes. A line of one
-    // byte and one of as many as it may have are looked for first: they are the most.
+    // Takes a `+` line, given what follows its `+`, if its LF is among the first 65 bytes. Lines of
+    // one byte and lines of as many bytes as a line may have are tried first, since they are the
+    // most common.
     #[inline(always)]
     fn take_bytes_line(&mut self, bytes: &[u8]) -> Option<Whole>
         requires place { self.old.place ≡ Start }
@@ -228,7 +232,7 @@ impl TickReader {
         self.take_part_line(bytes)
     }
 
-    // The number of a line behind its `-`.
+    // Takes a `-` line, given what follows its `-`.
     #[inline(always)]
     fn take_silence_line(&mut self, bytes: &[u8]) -> Option<Whole>
         requires place { self.old.place ≡ Start }
@@ -244,7 +248,7 @@ impl TickReader {
         })
     }
 
-    // A comment behind its `#`.
+    // Takes a comment, given what follows its `#`.
     #[inline]
     fn take_comment_line(&mut self, bytes: &[u8]) -> Option<Whole>
         requires place { self.old.place ≡ Start }
@@ -261,7 +265,7 @@ impl TickReader {
         })
     }
 
-    // A line behind its first byte, where it has one of the usual forms.
+    // Takes a usual line, given its first byte and what follows that.
     #[inline(always)]
     fn take_behind(&mut self, sign: u8, bytes: &[u8]) -> Option<Whole>
         requires place { self.old.place ≡ Start }
@@ -277,7 +281,7 @@ impl TickReader {
         }
     }
 
-    // The line at the front, where it has one of the usual forms.
+    // Takes the line at the front, if it is a usual line.
     #[inline(always)]
     fn take_line(&mut self, bytes: &[u8]) -> Option<FedLine>
         requires place { self.old.place ≡ Start }
@@ -298,9 +302,9 @@ impl TickReader {
         }
     }
 
-    /// Takes the line at the front, where it is one of bytes, of silent ticks or a comment, and at
-    /// least 122 bytes are given: no line with its LF is longer. It is as if its bytes were fed one
-    /// by one; the bytes of a `+` line are lent by `line_bytes`.
+    /// Takes the line at the front, if it is one of bytes, of silent ticks or a comment, and at
+    /// least 122 bytes are given: no line is longer, including its LF. The reader is then as if its
+    /// bytes had been fed one by one. The bytes of a `+` line are lent by `line_bytes`.
     #[inline(always)]
     pub fn take_usual(&mut self, bytes: &[u8]) -> Option<UsualLine>
         requires { reader_line self.old + length bytes.now < 2 ^ 32 }
@@ -324,7 +328,7 @@ impl TickReader {
         }
     }
 
-    // One byte, and the content of the line that it ends.
+    // Takes one byte, and returns the content of the line that it ends.
     #[inline]
     fn step_line(&mut self, b: u8) -> Result<Option<Content>, BadTicks>
         requires { reader_line self.old < 2 ^ 32 - 1 }
@@ -341,7 +345,7 @@ impl TickReader {
         }
     }
 
-    // Bytes up to the end of the line in which the reader is.
+    // Takes bytes up to the end of the line in which the reader is.
     #[inline(never)]
     fn feed_rest(&mut self, bytes: &[u8]) -> FedLine
         requires { reader_line self.old + length bytes.now < 2 ^ 32 }
@@ -376,9 +380,9 @@ impl TickReader {
         }
     }
 
-    /// Takes bytes of the text up to and with the LF of the line in which the reader is, or up
-    /// to a refused one, or all of them. It is as if they were fed one by one; the bytes of a `+`
-    /// line are lent by `line_bytes`.
+    /// Takes bytes of the text up to and including the LF of the line in which the reader is, or up
+    /// to a refused byte, or all of them. The reader is then as if they had been fed one by one.
+    /// The bytes of a `+` line are lent by `line_bytes`.
     #[inline(always)]
     pub fn feed_line(&mut self, bytes: &[u8]) -> FedLine
         requires { reader_line self.old + length bytes.now < 2 ^ 32 }
@@ -392,7 +396,7 @@ impl TickReader {
                 return fed;
             }
         }
-        // What is returned is taken apart and built anew, so that a usual line stays in registers.
+        // The value is taken apart and built anew, so that a usual line stays in registers.
         let FedLine { taken, line } = self.feed_rest(bytes);
         FedLine { taken, line }
     }

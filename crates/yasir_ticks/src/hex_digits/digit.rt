@@ -2,8 +2,8 @@
 ghost use Rattle.std.specs.Prelude.{◌≡◌};
 ghost use Rattle.hex.specs.Hex.{hex_digit_value};
 
-/// The value of each byte as a hex digit of either case, and 16 where it is none.
-/// Looked up, so that digits and letters in turn cost no branch.
+/// The value of each byte as a hex digit of either case, and 16 if it is no digit. This is a table
+/// so that a mix of digits and letters costs no branch.
 static HEX_VALUES: [u8; 256] = [
     16, 16, 16, 16, 16, 16, 16, 16, 16, 16, 16, 16, 16, 16, 16, 16, 16, 16, 16, 16, 16, 16, 16, 16,
     16, 16, 16, 16, 16, 16, 16, 16, 16, 16, 16, 16, 16, 16, 16, 16, 16, 16, 16, 16, 16, 16, 16, 16,
@@ -18,7 +18,7 @@ static HEX_VALUES: [u8; 256] = [
     16, 16, 16, 16, 16, 16, 16, 16, 16, 16, 16, 16, 16, 16,
 ];
 
-/// The value of a hex digit of either case.
+/// Returns the value of a hex digit of either case, or `None` if the byte is no digit.
 #[inline]
 pub fn hex_value(b: u8) -> Option<u8>
     ensures value { result ≡ hex_digit_value b }

@@ -1,14 +1,14 @@
-//! The digits of 32 bytes, in vectors.
+//! The hex digits of 32 bytes, by operations on vectors.
 ghost use Rattle.std.specs.Prelude.{◌≡◌, map};
 ghost use Rattle.hex.specs.Hex.{encode_lower};
 ghost use Rattle.yasir_ticks.specs.HexDigits.{first_digit, second_digit};
 
 use std::simd::prelude::*;
 
-// The sixteen digits, twice: a look-up reads among sixteen lanes.
+// The sixteen digits, twice, since a look-up reads among sixteen lanes.
 const DIGITS: [u8; 32] = *b"0123456789abcdef0123456789abcdef";
 
-// The first digit of each byte.
+// Returns the first digit of each byte.
 #[inline(always)]
 fn firsts(bytes: u8x32) -> u8x32
     ensures { result ≡ map first_digit bytes }
@@ -16,7 +16,7 @@ fn firsts(bytes: u8x32) -> u8x32
     u8x32::from_array(DIGITS).swizzle_dyn_within::<16>(bytes >> u8x32::splat(4))
 }
 
-// The second digit of each byte.
+// Returns the second digit of each byte.
 #[inline(always)]
 fn seconds(bytes: u8x32) -> u8x32
     ensures { result ≡ map second_digit bytes }
@@ -24,7 +24,7 @@ fn seconds(bytes: u8x32) -> u8x32
     u8x32::from_array(DIGITS).swizzle_dyn_within::<16>(bytes & u8x32::splat(15))
 }
 
-/// The lower-case hex digits of 32 bytes.
+/// Returns the lower-case hex digits of 32 bytes.
 #[inline(always)]
 pub fn digits_of(bytes: &[u8; 32]) -> [u8; 64]
     ensures { result ≡ encode_lower bytes.now }

@@ -1,4 +1,4 @@
-//! Pairs of hex digits, 32 of them at a time, in vectors.
+//! Decodes pairs of hex digits, 32 pairs at a time, by operations on vectors.
 ghost use Rattle.std.specs.Prelude.{◌≡◌, ◌↔◌, ℕ, ◌+◌, ◌*◌, ◌<◌, ◌≤◌, ◌++◌, length, take, Ok};
 ghost use Rattle.std.specs.Prelude.{slice_index, true, IfSome};
 ghost use Rattle.std.specs.Int.{bit_at};
@@ -10,13 +10,13 @@ use std::simd::prelude::*;
 
 /// The bytes that pairs of digits spell.
 pub(crate) struct Decoded {
-    /// How many pairs are at the front.
+    /// How many pairs were decoded, from the front on.
     pub(crate) pairs: usize,
-    /// Their bytes; what comes after them means nothing.
+    /// Their bytes. What comes after them means nothing.
     pub(crate) bytes: [u8; 32],
 }
 
-// The 32 bytes from a place on.
+// Loads the 32 bytes from place `i` on.
 #[inline(always)]
 fn load(s: &[u8], i: usize) -> u8x32
     requires { i + 32 ≤ length s.now }
@@ -25,8 +25,9 @@ fn load(s: &[u8], i: usize) -> u8x32
     u8x32::from_slice(&s[i..])
 }
 
-// The value of each hex digit of either case, and 16 or more of what is none: both what a decimal
-// digit and what a letter would have, of which one is 16 or more.
+// Returns the value of each hex digit of either case, and 16 or more for a byte that is no digit.
+// This is the lesser of the value that the byte would have as a decimal digit and the one that it
+// would have as a letter. At least one of these two is 16 or more.
 #[inline(always)]
 fn values(c: u8x32) -> u8x32
     ensures { HasValues result (λ k. slice_index c k) }
@@ -37,7 +38,7 @@ fn values(c: u8x32) -> u8x32
     decimal.simd_min(letter)
 }
 
-// The first byte of each pair.
+// Returns the first byte of each pair.
 #[inline(always)]
 fn firsts(a: u8x32, b: u8x32) -> u8x32
     ensures { HasLanes result (λ k. slice_index (a ++ b) (2 * k)) }
@@ -51,7 +52,7 @@ fn firsts(a: u8x32, b: u8x32) -> u8x32
     )
 }
 
-// The second byte of each pair.
+// Returns the second byte of each pair.
 #[inline(always)]
 fn seconds(a: u8x32, b: u8x32) -> u8x32
     ensures { HasLanes result (λ k. slice_index (a ++ b) (2 * k + 1)) }
@@ -65,7 +66,7 @@ fn seconds(a: u8x32, b: u8x32) -> u8x32
     )
 }
 
-// The byte of each pair of values.
+// Joins the values of each pair of digits into a byte.
 #[inline(always)]
 fn joined(high: u8x32, low: u8x32) -> u8x32
     ensures { HasLanes result (λ k. lane_pair (slice_index high k) (slice_index low k)) }
@@ -73,7 +74,7 @@ fn joined(high: u8x32, low: u8x32) -> u8x32
     high * u8x32::splat(16) + low
 }
 
-// The greater of each two.
+// Returns the greater of each two lanes.
 #[inline(always)]
 fn greater(a: u8x32, b: u8x32) -> u8x32
     ensures { HasLanes result (λ k. lane_greater (slice_index a k) (slice_index b k)) }
@@ -81,7 +82,7 @@ fn greater(a: u8x32, b: u8x32) -> u8x32
     a.simd_max(b)
 }
 
-// Each lane 112 greater, at most 255, so that what was 16 or more comes to be 128 or more.
+// Raises each lane by 112, to at most 255, so that 16 or more becomes 128 or more.
 #[inline(always)]
 fn raised(v: u8x32) -> u8x32
     ensures { HasLanes result (λ k. lane_raised (slice_index v k)) }
@@ -89,7 +90,7 @@ fn raised(v: u8x32) -> u8x32
     v.simd_min(u8x32::splat(143)) + u8x32::splat(112)
 }
 
-// Bit k tells whether lane k is 128 or more.
+// Returns a mask: bit k tells whether lane k is 128 or more.
 #[inline(always)]
 fn high_lanes(v: u8x32) -> u64
     ensures bits { (k : ℕ) → (bit_at result k ≡ 1) ↔ (128 ≤ slice_index v k) }
@@ -98,7 +99,7 @@ fn high_lanes(v: u8x32) -> u64
     v.simd_ge(u8x32::splat(128)).to_bitmask()
 }
 
-// How many lanes at the front are below 128.
+// Returns how many lanes at the front are below 128.
 #[inline(always)]
 fn low_lanes(v: u8x32) -> usize
     ensures within { result ≤ 32 }
@@ -112,7 +113,7 @@ fn low_lanes(v: u8x32) -> usize
     }
 }
 
-/// The whole pairs of hex digits that 64 bytes begin with.
+/// Decodes the whole pairs of hex digits that 64 bytes begin with.
 #[inline(always)]
 pub(crate) fn decode_front(text: &[u8]) -> Decoded
     requires { 64 ≤ length text.now }
@@ -138,8 +139,8 @@ fn all_digits(a: u8x32, b: u8x32) -> bool
     high_lanes(raised(greater(a, b))) == 0
 }
 
-// The bytes of the pairs of values that stand side by side: a word of two values times 4097 has
-// both of them in its higher byte.
+// Joins each two adjacent values into a byte: 16 bits of two values, times 4097, have both of them
+// in the higher byte.
 #[inline(always)]
 fn paired(values: u8x32) -> u8x16
     requires { (k : ℕ) → slice_index values k < 16 }
@@ -150,7 +151,7 @@ fn paired(values: u8x32) -> u8x16
     ((u16x16::from_le_bytes(values) * u16x16::splat(4097)) >> u16x16::splat(8)).cast::<u8>()
 }
 
-// Sixteen lanes, and then sixteen more.
+// Returns sixteen lanes, followed by sixteen more.
 #[inline(always)]
 fn together(front: u8x16, back: u8x16) -> u8x32
     ensures { result ≡ front ++ back }
@@ -164,8 +165,8 @@ fn together(front: u8x16, back: u8x16) -> u8x32
     )
 }
 
-/// The bytes that the 64 hex digits spell with which a text begins. None where a byte of these is
-/// no digit.
+/// Returns the bytes that the first 64 hex digits of a text spell, or `None` if one of these 64
+/// bytes is no digit.
 #[inline(always)]
 pub(crate) fn decode_full(text: &[u8]) -> Option<[u8; 32]>
     requires { 64 ≤ length text.now }
