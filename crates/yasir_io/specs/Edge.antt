@@ -13,7 +13,7 @@ use Rattle.std.specs.declared.io.Read.{Ghosts as Read}
 use Rattle.std.specs.declared.io.Write.{Ghosts as Write}
 use Rattle.std.specs.declared.io.Seek.{Ghosts as Seek}
 
--- what is read
+-- the reader of a source
 abbrev pub reader_of : {I : Type 0} → StdinSource I → I
 reader_of source = source.reader
 
@@ -21,7 +21,7 @@ reader_of source = source.reader
 abbrev pub reader_faults : {I : Type 0} → StdinSource I → ℕ
 reader_faults source = source.faults.count
 
--- what is written to
+-- the writer of a sink
 abbrev pub writer_of : {W : Type 0} → WriterSink W → W
 writer_of sink = sink.writer
 
@@ -33,11 +33,11 @@ writer_faults sink = sink.faults.count
 abbrev pub writer_flushes : {W : Type 0} → WriterSink W → ℕ
 writer_flushes sink = sink.flushes.count
 
--- whether bytes were written since
+-- whether bytes were written since the last flush that ended well
 abbrev pub writer_unflushed : {W : Type 0} → WriterSink W → Bool
 writer_unflushed sink = sink.flushes.unflushed
 
--- the file, once it is open
+-- the file, if it is open
 abbrev pub file_of : {R F D : Type 0} → FileSource R F D → Option F
 file_of source = source.file.file
 
@@ -45,7 +45,7 @@ file_of source = source.file.file
 abbrev pub file_path : {R F D : Type 0} → FileSource R F D → Option (String Global)
 file_path source = source.file.path
 
--- how it is opened
+-- how the file is opened
 abbrev pub file_options : {R F D : Type 0} → FileSource R F D → OpenOptions
 file_options source = source.file.options
 
@@ -54,7 +54,7 @@ abbrev pub file_faults : {R F D : Type 0} → FileSource R F D → ℕ
 file_faults source = source.faults.count
 
 module _ {R F D : Type 0} {read : Read F} {write : Write F} {seek : Seek F} {in_dir : Read D} where
-  -- the file of slots, once it is open
+  -- the file of slots, if it is open
   abbrev pub slots_file : FileSlots R F D read write seek in_dir → Option F
   slots_file disk = disk.file.lazy.file
 
@@ -62,11 +62,11 @@ module _ {R F D : Type 0} {read : Read F} {write : Write F} {seek : Seek F} {in_
   abbrev pub slots_path : FileSlots R F D read write seek in_dir → Option (String Global)
   slots_path disk = disk.file.lazy.path
 
-  -- what is expected of it
+  -- what is expected of the file of slots
   abbrev pub slots_kind : FileSlots R F D read write seek in_dir → SlotFile
   slots_kind disk = disk.kind
 
-  -- how it is opened
+  -- how the file of slots is opened
   abbrev pub slots_options : FileSlots R F D read write seek in_dir → OpenOptions
   slots_options disk = disk.file.lazy.options
 

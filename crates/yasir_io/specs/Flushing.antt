@@ -1,11 +1,11 @@
 -- How a flush is counted.
 use Rattle.std.specs.Prelude.{◌≡◌, ℕ, ◌+◌, ◌-◌, ◌^◌, min, Bool, false, Result, OnOk, OnErr}
 
--- one more than this count, which stays at its last value
+-- one more than this count, which stops at its greatest value
 abbrev pub one_more : ℕ → ℕ
 one_more count = min (count + 1) (2 ^ 64 - 1)
 
--- A flush is counted exactly where it ends well, and then nothing was written behind it.
+-- Holds if a flush that ends well is counted, and no other is. Nothing was written after it then.
 pub record IsCounted {T E : Type 0} (before now : ℕ) (unflushed_now : Bool) (result : Result T E) :
     Type 0 where
   pub counted : OnOk result (now ≡ one_more before)

@@ -1,4 +1,4 @@
--- What a sink in memory is.
+-- The parts of a sink in memory, and which of its calls fail.
 use Rattle.std.specs.Prelude.{ℕ, ◌<◌, ◌≤◌, ◌⊎◌, List, length, Bool}
 use Rattle.yasir_io.specs.declared.mem_sink.MemSink.{MemSink}
 use Rattle.yasir_io.specs.Calls.{IsPlanned}
@@ -27,15 +27,16 @@ sink_piece sink = sink.piece
 abbrev pub sink_flushes : MemSink → ℕ
 sink_flushes sink = sink.flushes.count
 
--- whether bytes were written since
+-- whether bytes were written since the last flush that ended well
 abbrev pub sink_unflushed : MemSink → Bool
 sink_unflushed sink = sink.flushes.unflushed
 
--- the next call fails
+-- Holds if the next call is planned to fail.
 abbrev pub SinkFails : MemSink → Type 0
 SinkFails sink = IsPlanned (sink_plan sink) (sink_calls sink)
 
--- a write of the piece fails: its call is planned to, or the piece isn't empty and no room is left
+-- Holds if a write of the piece fails: its call is planned to, or the piece isn't empty and no room
+-- is left.
 abbrev pub WriteFails : MemSink → List ℕ → Type 0
 WriteFails sink piece = SinkFails sink ⊎ ((0 < length piece)
     × (sink_room sink ≤ length (sink_bytes sink)))

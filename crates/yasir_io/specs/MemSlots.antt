@@ -1,4 +1,4 @@
--- What a disk in memory is, and what a crash may leave of it.
+-- The parts of a disk in memory, and what a crash may leave of it.
 use Rattle.std.specs.Prelude.{◌≡◌, ℕ, ◌≤◌, ◌⊎◌, List, [], ◌∷◌, ◌++◌, length, drop, Bool, false}
 use Rattle.yasir_io.specs.declared.disk.Slot.{Slot}
 use Rattle.yasir_io.specs.declared.disk.TheConstants.{SLOT_LEN}
@@ -21,15 +21,15 @@ abbrev pub is_written : Moment → Slot → Bool
 is_written moment A = moment.a_written
 is_written moment B = moment.b_written
 
--- What a crash at a moment may leave: any bytes in a slot that was written since the last sync, the
--- other and the old ones as they read.
+-- Holds if a crash at a moment may leave the image: any bytes in each slot that was written since
+-- the last sync, and all others as they read.
 pub record IsImage (moment : Moment) (image : Slots) : Type 0 where
   pub size : (slot : Slot) → length (slot_in image slot) ≡ SLOT_LEN
   pub synced : (slot : Slot) → is_written moment slot ≡ false
       → slot_in image slot ≡ slot_in (slots_at moment) slot
   pub old : image.old ≡ old_slots_at moment
 
--- a crash at one of these moments may have left the image
+-- Holds if a crash at one of these moments may have left the image.
 abbrev pub IsImageOfAny : List Moment → Slots → Type 0
 IsImageOfAny [] image = ⊥
 IsImageOfAny (moment ∷ moments) image = IsImage moment image ⊎ IsImageOfAny moments image
@@ -46,27 +46,27 @@ slots_plan disk = disk.calls.plan.items
 abbrev pub slots_calls : MemSlots → ℕ
 slots_calls disk = disk.calls.made
 
--- how many calls it can keep a record of
+-- how many calls it has room to record
 abbrev pub slots_room : MemSlots → ℕ
 slots_room disk = disk.room
 
--- how many calls it has kept a record of
+-- how many calls it has recorded
 abbrev pub slots_recorded : MemSlots → ℕ
 slots_recorded disk = length disk.past.items
 
--- a moment is added to those before, or none
+-- Holds if the moment was added to the earlier ones, or none was.
 abbrev pub MayAdd : List Moment → Moment → List Moment → Type 0
 MayAdd past moment new = (new ≡ past ++ moment ∷ []) ⊎ (new ≡ past)
 
--- the next call fails: it is planned to, or no room is left for its record
+-- Holds if the next call fails: it is planned to, or no room is left for its record.
 abbrev pub SlotsFail : MemSlots → Type 0
 SlotsFail disk = IsPlanned (slots_plan disk) (slots_calls disk)
     ⊎ (slots_room disk ≤ slots_recorded disk)
 
--- a crash now may leave the image
+-- Holds if a crash now may leave the image.
 abbrev pub MayLeave : MemSlots → Slots → Type 0
 MayLeave disk image = IsImage disk.present image
 
--- a crash since that moment might have left the image
+-- Holds if a crash since moment t might have left the image.
 abbrev pub LeftSince : MemSlots → ℕ → Slots → Type 0
 LeftSince disk t image = IsImage disk.present image ⊎ IsImageOfAny (drop t disk.past.items) image

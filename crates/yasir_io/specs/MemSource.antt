@@ -1,4 +1,4 @@
--- What a source in memory is.
+-- The parts of a source in memory, and which of its calls fail.
 use Rattle.std.specs.Prelude.{ℕ, List}
 use Rattle.yasir_io.specs.declared.mem_source.MemSource.{MemSource}
 use Rattle.yasir_io.specs.Calls.{IsPlanned}
@@ -19,6 +19,6 @@ source_calls source = source.calls.made
 abbrev pub source_piece : MemSource → ℕ
 source_piece source = source.piece
 
--- the next call fails
+-- Holds if the next call is planned to fail.
 abbrev pub SourceFails : MemSource → Type 0
 SourceFails source = IsPlanned (source_plan source) (source_calls source)

@@ -2,13 +2,13 @@
 use Rattle.std.specs.Prelude.{◌≡◌, ℕ, List, ◌++◌, Option}
 use Rattle.std.specs.Io.KnownBytes.{append_known}
 
--- Since `start` the sink has got the text but for the bytes that wait.
+-- Holds if since `start` the sink has got all of the text except the bytes that wait.
 pub record Buffered (start now : Option (List ℕ)) (waits text : List ℕ) : Type 0 where
   pub front : List ℕ
   pub got : now ≡ append_known start front
   pub all : text ≡ front ++ waits
 
--- Since `start` the sink has got a front of the text.
+-- Holds if since `start` the sink has got a front of the text.
 pub record GotPrefix (start now : Option (List ℕ)) (text : List ℕ) : Type 0 where
   pub front : List ℕ
   pub rest : List ℕ

@@ -1,4 +1,4 @@
--- Slots in a file, old ones and new: where each stands, and how it is read and written there.
+-- Slots in a file, old ones and new: where each of them is, and how it is read and written there.
 use Rattle.std.specs.Prelude.{◌≡◌, ℕ, ◌+◌, ◌-◌, ◌<◌, List, ◌++◌, length, replicate, Bool, true, false}
 use Rattle.std.specs.Prelude.{Option, Some, None, IfSome, Result, IsErr, ⊤}
 use Rattle.std.specs.Io.KnownBytes.{Appends, Consumes, Keeps, IsAtEnd}
@@ -13,7 +13,7 @@ use Rattle.yasir_io.specs.declared.disk.TheConstants.{SLOT_LEN, OLD_SLOT_LEN}
 use Rattle.yasir_io.specs.declared.files.SlotFile.{SlotFile}
 use Rattle.yasir_io.specs.declared.files.SlotFile.TheVariants.{Standing, New}
 
--- for reading alone
+-- the options to open a file for reading only
 abbrev pub for_reading : OpenOptions
 for_reading = with_read new_options true
 
@@ -22,7 +22,7 @@ abbrev pub is_made : SlotFile → Bool
 is_made Standing = false
 is_made New = true
 
--- for reading and writing, with nothing cut off
+-- the options to open a file of slots for reading and writing, with nothing cut off
 abbrev pub for_slots : SlotFile → OpenOptions
 for_slots kind = with_create (with_write (with_read new_options true) true) (is_made kind)
 
@@ -36,16 +36,16 @@ abbrev pub slot_place : Slot → ℕ
 slot_place A = 32
 slot_place B = 56
 
--- the place behind its last byte
+-- the place after the last byte of a slot
 abbrev pub slot_end : Slot → ℕ
 slot_end slot = slot_place slot + SLOT_LEN
 
--- how many bytes of the file slots have
+-- how many bytes of the file the slots take
 abbrev pub slots_end : ℕ
 slots_end = 80
 
--- What a call does to a file, P. Where none is open the call opens one, which Begins and goes
--- on from there, or it fails; a file that is open stays so.
+-- Holds if a call does P to a file. If no file is open, the call opens one that has `Begins` and
+-- does P to it, or it fails. A file that is open stays open.
 abbrev pub OnOpen : {F T E : Type 0} → (F → Type 0) → Option F → Option F → Result T E
     → (F → F → Type 0) → Type 0
 OnOpen Begins None None result P = IsErr result
@@ -53,16 +53,17 @@ OnOpen {F = F} Begins None (Some g) result P = (f : F) × Begins f × P f g
 OnOpen Begins (Some f) None result P = ⊥
 OnOpen Begins (Some f) (Some g) result P = P f g
 
--- nothing is known of how a file begins
+-- Holds for any file: nothing is known of how it begins.
 abbrev pub AnyStart : {F : Type 0} → F → Type 0
 AnyStart f = ⊤
 
--- A known position is moved to a place, and the bytes stay.
+-- Holds if a file whose position is known is moved to a place, and its bytes stay.
 pub record MovesTo {F : Type 0} (seek : Seek F) (place : ℕ) (old new : F) : Type 0 where
   pub position : IfSome (seek.stream_position old) (λ _. seek.stream_position new ≡ Some place)
   pub bytes : Keeps (seek.stream_bytes old) (seek.stream_bytes new)
 
--- So many bytes are the next ones that are left, in their order; past the end they are 0.
+-- Holds if these `size` bytes are the next ones that are left, in their order. Past the end they
+-- are 0.
 pub record ReadsNext {F : Type 0} (read : Read F) (size : ℕ) (old new : F) (bytes : List ℕ) :
     Type 0 where
   pub front : List ℕ
@@ -70,25 +71,25 @@ pub record ReadsNext {F : Type 0} (read : Read F) (size : ℕ) (old new : F) (by
   pub taken : Consumes (read.remaining old) (read.remaining new) front
   pub end : length front < size → IsAtEnd (read.remaining new)
 
--- So many bytes are read, from a place on.
+-- Holds if `size` bytes are read, from a place on.
 pub record ReadsAt {F : Type 0} (seek : Seek F) (read : Read F) (size place : ℕ) (old new : F)
     (bytes : List ℕ) : Type 0 where
   pub between : F
   pub moves : MovesTo seek place old between
   pub reads : ReadsNext read size between new bytes
 
--- an old slot is read
+-- Holds if an old slot is read.
 abbrev pub ReadsOld : {F : Type 0} → Seek F → Read F → Slot → F → F → List ℕ → Type 0
 ReadsOld seek read slot old new bytes =
     ReadsAt seek read OLD_SLOT_LEN (old_place slot) old new bytes
 
--- a slot is read
+-- Holds if a slot is read.
 abbrev pub ReadsSlot : {F : Type 0} → Seek F → Read F → Slot → F → F → List ℕ → Type 0
 ReadsSlot seek read slot old new bytes =
     ReadsAt seek read SLOT_LEN (slot_place slot) old new bytes
 
--- A file was moved to a place, and written to from there on, one byte behind the other, up to this
--- place.
+-- Holds if a file was moved to a place, and bytes were written to it from there on, one after the
+-- other, up to `place`.
 pub record IsWrittenUpTo {F : Type 0} (seek : Seek F) (write : Write F) (place : ℕ) (now : F) :
     Type 0 where
   pub start : ℕ
@@ -99,41 +100,43 @@ pub record IsWrittenUpTo {F : Type 0} (seek : Seek F) (write : Write F) (place :
   pub writes : Appends (write.contents moved) (write.contents now) bytes
   pub reach : start + length bytes ≡ place
 
--- it stands at this place, since nothing else was done to it
+-- Holds if a file is at this place: it was written up to there, and nothing else was done to it
+-- since.
 abbrev pub IsAt : {F : Type 0} → Seek F → Write F → ℕ → F → Type 0
 IsAt seek write place now = ∥ IsWrittenUpTo seek write place now ∥₁
 
--- it stands at a place that may be named
+-- Holds if a file is at the place that `at` names, if it names one.
 abbrev pub StandsAs : {F : Type 0} → Seek F → Write F → Option ℕ → F → Type 0
 StandsAs seek write at f = (place : ℕ) → at ≡ Some place → IsAt seek write place f
 
--- So it is for a file that may be open; where a place is named, one is.
+-- Holds if a file that may be open is at the place that `at` names. If it names one, the file is
+-- open.
 abbrev pub StandsIn : {F : Type 0} → Seek F → Write F → Option ℕ → Option F → Type 0
 StandsIn {F = F} seek write at file = (place : ℕ) → at ≡ Some place
     → ∥ ((f : F) × (file ≡ Some f) × IsWrittenUpTo seek write place f) ∥₁
 
--- A file gets to a place: it is moved there, or stands there and stays as it is.
+-- How a file gets to a place: it is moved there, or is there already and stays as it is.
 pub data StandsAt {F : Type 0} (seek : Seek F) (write : Write F) (place : ℕ) (old new : F) : Type 0
   where
     Moves : MovesTo seek place old new → StandsAt seek write place old new
     Stays : IsAt seek write place old → new ≡ old → StandsAt seek write place old new
 
--- A slot is written: from its place on, and all of it.
+-- Holds if a slot is written, from its place on, and all of it.
 pub record WritesSlot {F : Type 0} (seek : Seek F) (write : Write F) (slot : Slot) (old new : F)
     (bytes : List ℕ) : Type 0 where
   pub between : F
   pub stands : StandsAt seek write (slot_place slot) old between
   pub writes : Appends (write.contents between) (write.contents new) bytes
 
--- A slot of a new file is written: all bytes up to the end of the slots are read before, and are
--- zeros.
+-- Holds if a slot of a new file is written. Before that all bytes up to the end of the slots are
+-- read, and are zeros.
 pub record WritesFirst {F : Type 0} (seek : Seek F) (read : Read F) (write : Write F) (slot : Slot)
     (old new : F) (bytes : List ℕ) : Type 0 where
   pub looked : F
   pub zeros : ReadsAt seek read slots_end 0 old looked (replicate slots_end 0)
   pub writes : WritesSlot seek write slot looked new bytes
 
--- a slot of such a file is written
+-- Holds if a slot of a file of this kind is written.
 abbrev pub WritesIn : {F : Type 0} → Seek F → Read F → Write F → SlotFile → Slot → F → F → List ℕ
     → Type 0
 WritesIn seek read write Standing slot old new bytes = WritesSlot seek write slot old new bytes

@@ -1,4 +1,4 @@
--- What a source and a disk are that never fail.
+-- The parts of a source and a disk that never fail.
 use Rattle.std.specs.Prelude.{ℕ, List, replicate}
 use Rattle.yasir_io.specs.declared.steady.SteadySource.{SteadySource}
 use Rattle.yasir_io.specs.declared.steady.SteadySlots.{SteadySlots}
@@ -13,6 +13,6 @@ steady_bytes source = source.bytes.now
 abbrev pub blank_old : OldSlots
 blank_old = record { a = replicate OLD_SLOT_LEN 0; b = replicate OLD_SLOT_LEN 0 }
 
--- all slots, the old ones being blank
+-- all slots, of which the old ones are blank
 abbrev pub steady_slots : SteadySlots → Slots
 steady_slots disk = record { a = disk.a; b = disk.b; old = blank_old }

@@ -1,4 +1,4 @@
-//! The calls on an object in memory, of which a test lets some fail.
+//! The calls on an object in memory. A test can let some of them fail.
 ghost use Rattle.std.specs.Prelude.{◌≡◌, ◌+◌, ◌-◌, ◌^◌, ◌↔◌, min, IsErr, IsTrue};
 ghost use Rattle.yasir_io.specs.Causes.{HasCause};
 ghost use Rattle.yasir_io.specs.Calls.{IsPlanned};
@@ -14,8 +14,8 @@ pub type Plan = ArrayVec<u32, 8>;
 #[derive(Clone, Copy, Debug, PartialEq, Eq)]
 pub struct NoMemory;
 
-/// The calls made on an object in memory, of which a plan fails. The count stays at its last
-/// value.
+/// The calls made on an object in memory, some of which a plan lets fail. The count stops at its
+/// greatest value.
 #[derive(Drop)]
 pub(crate) struct Calls {
     pub(crate) plan: Plan,
@@ -36,7 +36,7 @@ impl Calls {
         }
     }
 
-    /// Counts a call, which fails where the plan says so.
+    /// Counts a call, which fails if the plan says so.
     pub(crate) fn begin(&mut self) -> Result<(), Failed>
         ensures planned { IsErr result ↔ IsPlanned self.old.plan.items self.old.made }
         ensures plan { self.new.plan ≡ self.old.plan }

@@ -8,7 +8,7 @@ use crate::Failed;
 /// How many bytes a slot has.
 pub const SLOT_LEN: usize = 24;
 
-/// How many bytes an old slot has, as the first version of a disk has them.
+/// How many bytes an old slot has, as on the first version of a disk.
 pub const OLD_SLOT_LEN: usize = 16;
 
 /// The bytes of a slot.
@@ -27,7 +27,7 @@ pub enum Slot {
 impl Slot {
     ghost use Rattle.yasir_io.specs.Disks.{other_slot};
 
-    /// The other slot.
+    /// Returns the other slot.
     pub fn other(self) -> Slot
         ensures { result ≡ other_slot self }
     {
@@ -38,28 +38,28 @@ impl Slot {
     }
 }
 
-/// A disk of two slots, beside two old ones that are only read.
+/// A disk of two slots and two old ones, which are only read.
 pub trait SlotDisk {
     ghost use Rattle.yasir_io.specs.Disks.{Slots, slot_in, old_slot_in, with_slot, Torn};
     ghost use Rattle.yasir_io.specs.Disks.{Follows, Reaches, NoMore, OneImage};
     ghost use Rattle.yasir_io.specs.Disks.{LeavesAsRead, Elapses};
 
-    /// The slots as a read gives them, where the disk tells them.
+    /// The slots as a read gives them, if the disk tells them.
     ghost told: { Self → Option Slots };
 
-    /// What a crash now may leave; nothing where the disk doesn't tell it.
+    /// The images that a crash now may leave, or none if the disk doesn't tell them.
     ghost may_leave: { Self → Slots → Type 0 };
 
     /// A clock that never falls.
     ghost moment: { Self → ℕ };
 
-    /// What a crash at some moment since a given time might have left.
+    /// The images that a crash at some moment since a given time might have left.
     ghost left_since: { Self → ℕ → Slots → Type 0 };
 
     /// How often a call has failed.
     ghost faults: { Self → ℕ };
 
-    /// An old slot. No call writes one.
+    /// Reads an old slot. No call writes one.
     fn read_old(&mut self, slot: Slot) -> Result<OldSlotBytes, Failed>
         ensures bytes { IfOk result (λ bytes. IfSome (told self.old)
             (λ slots. bytes ≡ old_slot_in slots slot)) }
@@ -103,7 +103,7 @@ pub trait SlotDisk {
             (left_since self.new) (may_leave self.new) }
         ensures cause { HasCause (faults self.old) (faults self.new) result };
 
-    /// The slots as they read are one of the images, where there is any.
+    /// The slots as they read are one of the images, if there are any.
     ghost reads_an_image: { (disk : Self) (s c : Slots) → told disk ≡ Some s → may_leave disk c
         → may_leave disk s };
 

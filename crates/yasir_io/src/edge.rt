@@ -1,5 +1,5 @@
 //! The edge of the program: the runtime's readers and writers. What they move is told as far as
-//! they tell it themselves; their faults are counted.
+//! they tell it themselves. Their faults are counted.
 ghost use Rattle.std.specs.Prelude.{◌≡◌};
 
 use crate::faults::Faults;
@@ -7,8 +7,8 @@ use crate::flushes::Flushes;
 use crate::{Failed, Sink, Source, TellsHeld, TellsLeft};
 use std::io::{Read, Write};
 
-/// A reader, as standard input, as a source. It is read where the source is, so a caller with few
-/// bytes of room makes many calls of the system.
+/// A reader, such as standard input, as a source. Each read of the source is one of the reader, so
+/// a caller with little room makes many calls of the system.
 #[derive(Drop)]
 pub struct StdinSource<I: Read + Drop> {
     reader: I,
@@ -18,7 +18,7 @@ pub struct StdinSource<I: Read + Drop> {
 impl<I: Read + Drop> StdinSource<I> {
     ghost use Rattle.yasir_io.specs.Edge.{reader_of, reader_faults};
 
-    /// A source of what the reader gives.
+    /// Returns a source of what the reader gives.
     pub fn new(reader: I) -> StdinSource<I>
         ensures reader { reader_of result ≡ reader }
         ensures faults { reader_faults result ≡ 0 }
@@ -45,7 +45,8 @@ impl<I: TellsLeft + Drop> Source for StdinSource<I> {
     }
 }
 
-/// A writer, as standard output or standard error, as a sink. It hands each piece on at once.
+/// A writer, such as standard output or standard error, as a sink. It gives each piece to the
+/// writer at once.
 #[derive(Drop)]
 pub struct WriterSink<W: Write + Drop> {
     writer: W,
@@ -64,7 +65,7 @@ impl<W: Write + Drop> WriterSink<W> {
     ghost use Rattle.yasir_io.specs.Edge.{writer_of, writer_faults, writer_flushes};
     ghost use Rattle.yasir_io.specs.Edge.{writer_unflushed};
 
-    /// A sink that hands pieces to the writer.
+    /// Returns a sink that gives pieces to the writer.
     pub fn new(writer: W) -> WriterSink<W>
         ensures writer { writer_of result ≡ writer }
         ensures faults { writer_faults result ≡ 0 }

@@ -4,7 +4,7 @@ ghost use Rattle.yasir_io.specs.Causes.{Rose};
 
 use crate::Failed;
 
-/// How often calls on an object have failed. The count stays at its last value.
+/// How often calls on an object have failed. The count stops at its greatest value.
 #[derive(Drop)]
 pub(crate) struct Faults {
     pub(crate) count: u64,

@@ -1,5 +1,5 @@
-//! Real files as a source and as a disk, opened at the first call. What is in them isn't told;
-//! faults are counted.
+//! Real files as a source and as a disk, opened at the first call. Their contents aren't told, and
+//! their faults are counted.
 ghost use Rattle.std.specs.Prelude.{◌≡◌, ◌≤◌, length, Some, None, OnOk, OnErr, IfOk, nat_lt};
 ghost use Rattle.std.specs.Io.KnownBytes.{ReadConsumes};
 ghost use Rattle.yasir_io.specs.Causes.{HasCause};
@@ -18,10 +18,10 @@ use std::rt::Files;
 /// What is expected of the file of a disk.
 #[derive(Clone, Copy, Debug, PartialEq, Eq)]
 pub enum SlotFile {
-    /// It stands; a missing file is a fault.
+    /// It exists. A missing file is a fault.
     Standing,
-    /// Its slots are yet to be written: a missing file is made, and the first write is a fault
-    /// where a slot, old or new, has another byte than 0, so that no other file is written over.
+    /// Its slots haven't been written yet. A missing file is made. The first write is a fault if
+    /// any slot, old or new, has a byte other than 0, so that no other file is overwritten.
     New,
 }
 
@@ -36,9 +36,9 @@ impl SlotFile {
     }
 }
 
-/// How far the writes of a disk reach into its file, and how far those did behind which the whole
-/// file was synced. A write that reaches no farther than these is in place: the file has had its
-/// bytes, and its length is on the disk.
+/// How far the writes of a disk reach into its file, and how far those reached that came before the
+/// last sync of the whole file. A write that reaches no farther than those is in place: the file
+/// already had bytes there, and its length is on the disk.
 #[derive(Clone, Copy)]
 struct Reach {
     written: u64,
@@ -53,7 +53,7 @@ impl Reach {
         }
     }
 
-    // A write to a slot begins.
+    // Begins a write to a slot.
     fn write(&mut self, slot: Slot)
         ensures reaches { slot_end slot ≤ self.new.written }
         ensures grows { self.old.written ≤ self.new.written }
@@ -62,7 +62,7 @@ impl Reach {
         self.written = self.written.max(end_of(slot));
     }
 
-    // Whether a write may have made the file longer since.
+    // Whether a write may have made the file longer since it was synced.
     fn is_longer(&self) -> bool
         ensures { result ≡ nat_lt self.now.synced self.now.written }
     {
@@ -78,7 +78,7 @@ impl Reach {
     }
 }
 
-/// A file as a source. No path, and a file that can't be opened, are faults.
+/// A file as a source. It is a fault if there is no path, or if the file can't be opened.
 #[derive(Drop)]
 pub struct FileSource<'a, R: Files> {
     file: LazyFile<'a, R>,
@@ -86,7 +86,7 @@ pub struct FileSource<'a, R: Files> {
 }
 
 impl<'a, R: Files> FileSource<'a, R> {
-    /// A source of the file at a path, which isn't opened yet.
+    /// Returns a source of the file at a path. The file isn't opened yet.
     pub fn new(rt: &'a R, path: Option<String>) -> FileSource<'a, R>
         ensures faults { file_faults result ≡ 0 }
         ensures closed { file_of result ≡ None }
@@ -121,11 +121,12 @@ impl<'a, R: Files> Source for FileSource<'a, R> {
     }
 }
 
-/// A file as a disk: old slot A in bytes 0 to 15 and old slot B in bytes 16 to 31, slot A in bytes
-/// 32 to 55 and slot B in bytes 56 to 79. Bytes past the end of the file read as 0. No path, a file
-/// that can't be opened or that another has locked, and a write cut short are faults.
+/// A file as a disk: old slot A is in bytes 0 to 15, old slot B in bytes 16 to 31, slot A in bytes
+/// 32 to 55, and slot B in bytes 56 to 79. Bytes past the end of the file read as 0. It is a fault
+/// if there is no path, if the file can't be opened or another run has locked it, or if a write is
+/// cut short.
 ///
-/// The file is locked from the first call on that opens it until the disk is dropped.
+/// The file is locked from the first call that opens it until the disk is dropped.
 #[derive(Drop)]
 pub struct FileSlots<'a, R: Files> {
     file: PlacedFile<'a, R>,
@@ -138,7 +139,7 @@ impl<'a, R: Files> FileSlots<'a, R>
 where
     R::File: Lock,
 {
-    /// A disk in the file at a path, which isn't opened yet.
+    /// Returns a disk in the file at a path. The file isn't opened yet.
     pub fn new(rt: &'a R, path: Option<String>, kind: SlotFile) -> FileSlots<'a, R>
         ensures faults { slots_faults result ≡ 0 }
         ensures closed { slots_file result ≡ None }
@@ -203,7 +204,7 @@ where
         }
     }
 
-    /// A new file is from its first write on one that stands.
+    /// From its first write on, a new file counts as one that exists.
     fn write_slot(&mut self, slot: Slot, bytes: &SlotBytes) -> Result<(), Failed>
         ensures writes { OnOpen R.File.taken (slots_file self.old) (slots_file self.new) result
             (λ f g. OnOk result (WritesIn R.File.Seek R.File.Read R.File.Write
@@ -223,7 +224,8 @@ where
         }
     }
 
-    /// The whole file where a write may have made it longer, and else what its bytes are read by.
+    /// Syncs the whole file if a write may have made it longer, and otherwise only what is needed
+    /// to read its bytes.
     fn sync(&mut self) -> Result<(), Failed>
         ensures file { OnOpen R.File.taken (slots_file self.old) (slots_file self.new) result
             (λ f g. g ≡ f) }

@@ -2,8 +2,8 @@
 ghost use Rattle.std.specs.Prelude.{◌≡◌, ◌<◌, true, false};
 ghost use Rattle.yasir_io.specs.Flushing.{one_more};
 
-/// How often a sink was flushed, and whether bytes were written since. The count stays at
-/// its last value.
+/// How often a sink was flushed, and whether bytes were written since. The count stops at its
+/// greatest value.
 #[derive(Drop)]
 pub(crate) struct Flushes {
     pub(crate) count: u64,
@@ -21,7 +21,7 @@ impl Flushes {
         }
     }
 
-    /// This many bytes were written.
+    /// Takes the sink as unflushed, if any bytes were written.
     pub(crate) fn wait(&mut self, bytes: usize)
         ensures count { self.new.count ≡ self.old.count }
         ensures some { 0 < bytes → self.new.unflushed ≡ true }

@@ -1,4 +1,4 @@
-//! A file that is opened at the first call that needs it, and slots that are read and written in it.
+//! A file opened at the first call that needs it, and slots that are read and written in it.
 ghost use Rattle.std.specs.Prelude.{◌≡◌, ◌<◌, ◌≤◌, length, take, Some, None, IsSome, OnOk, OnErr};
 ghost use Rattle.std.specs.Prelude.{IfOk, IfSome, replicate};
 ghost use Rattle.std.specs.Io.{ReadsAtMost};
@@ -14,7 +14,7 @@ use std::fs::{OpenFile, OpenOptions};
 use std::io::{self, Read, Seek, SeekFrom, Write};
 use std::rt::Files;
 
-/// How many bytes of a file slots have, the old ones and the new.
+/// How many bytes of a file the slots take, old ones and new.
 const SLOTS_END: usize = 80;
 
 /// A file that is opened at the first call that needs it.
@@ -40,7 +40,7 @@ impl<'a, R: Files> LazyFile<'a, R> {
         }
     }
 
-    // The file, newly opened.
+    // Opens the file and returns it.
     fn opened(&self) -> io::Result<R::File> {
         let path = self.path.as_ref().ok_or(io::ErrorKind::NotFound)?;
         self.options.open(self.rt, path.as_str())
@@ -74,11 +74,11 @@ impl<'a, R: Files> LazyFile<'a, R> {
     }
 }
 
-/// A file of slots that is opened at the first call that needs it, and where it stands.
+/// A file of slots that is opened at the first call that needs it, and its position.
 #[derive(Drop)]
 pub(crate) struct PlacedFile<'a, R: Files> {
     lazy: LazyFile<'a, R>,
-    // Where the last call on the file has ended, if it was a write without a fault.
+    // The position after the last call on the file, if that was a write without a fault.
     at: Option<u64>,
     ghost stands: { StandsIn R.File.Seek R.File.Write at lazy.file },
 }
@@ -98,8 +98,8 @@ where
         }
     }
 
-    // Opens the file for this run alone, unless it is open. A run that was killed may have left
-    // writes that no sync has confirmed: they are synced before anything is read, since this run
+    // Opens the file for this run only, unless it is open. A run that was killed may have left
+    // writes that no sync has confirmed. They are synced before anything is read, since this run
     // goes on from what it reads.
     #[inline(always)]
     fn open_alone(&mut self) -> io::Result<()>
@@ -164,7 +164,8 @@ where
     }
 }
 
-// By data, the times of a file need not be on the disk; what its bytes are read by always is.
+// A sync of the data may leave the times of a file off the disk, but never what is needed to read
+// its bytes.
 fn sync_file<F: OpenFile>(file: &F, whole: bool) -> io::Result<()> {
     if whole {
         return file.sync_all();
@@ -190,7 +191,7 @@ pub(crate) fn place_of(slot: Slot) -> u64
     }
 }
 
-// The place behind a slot's last byte.
+// Returns the place after a slot's last byte.
 pub(crate) fn end_of(slot: Slot) -> u64
     ensures { result ≡ slot_end slot }
 {
@@ -207,7 +208,7 @@ fn move_to<F: Seek>(file: &mut F, place: u64) -> io::Result<()>
     Ok(())
 }
 
-// Reads until the buffer is full or the end is met, and returns how many bytes were read.
+// Reads until the buffer is full or the end is reached, and returns how many bytes were read.
 fn read_up_to<F: Read>(file: &mut F, buf: &mut [u8]) -> io::Result<usize>
     ensures within { IfOk result (λ n. n ≤ length buf.new) }
     ensures taken { IfOk result (λ n.
@@ -225,7 +226,7 @@ fn read_up_to<F: Read>(file: &mut F, buf: &mut [u8]) -> io::Result<usize>
     Ok(len)
 }
 
-// The next bytes of a file; past its end they are 0.
+// Reads the next bytes of a file. Past its end they are 0.
 fn read_next<F: Read, const N: usize>(file: &mut F) -> io::Result<[u8; N]>
     ensures { IfOk result (ReadsNext F.Read N file.old file.new) }
 {
@@ -253,7 +254,7 @@ fn write_next<F: Write>(file: &mut F, bytes: &SlotBytes) -> io::Result<()>
     Ok(())
 }
 
-// Moves a file to a place, unless it stands there, as `at` may say.
+// Moves a file to a place, unless it is already there, as `at` may say.
 fn stand_at<F: Write + Seek>(file: &mut F, at: Option<u64>, place: u64) -> io::Result<()>
     requires at { StandsAs F.Seek F.Write at file.old }
     ensures moves { OnOk result (StandsAt F.Seek F.Write place file.old file.new) }
@@ -279,7 +280,7 @@ fn write_at<F: Write + Seek>(
     write_next(file, bytes)
 }
 
-// All slots have to be zeros, as those of a new file are.
+// Returns an error unless all slots are zeros, as those of a new file are.
 fn expect_zeros<F: Read + Seek>(file: &mut F) -> io::Result<()>
     ensures { OnOk result (ReadsAt F.Seek F.Read slots_end 0 file.old file.new
         (replicate slots_end 0)) }

@@ -1,5 +1,5 @@
-//! Where bytes come from and go to, and a disk of two slots beside two old ones that are only read:
-//! each tells its own faults.
+//! Sources and sinks of bytes, and a disk of two slots and two old ones, which are only read. Each
+//! object counts its own faults.
 //!
 //! A sink in memory for tests, whose second call fails:
 //!
@@ -46,6 +46,7 @@ pub use tells::{TellsHeld, TellsLeft};
 pub use text_buffer::TextBuffer;
 pub use text_room::TextRoom;
 
-/// A read, a write, a flush or a call on a disk failed; the object's count of faults says so too.
+/// A read, a write, a flush or a call on a disk has failed. The object's count of faults says so
+/// too.
 #[derive(Clone, Copy, Debug, PartialEq, Eq)]
 pub struct Failed;

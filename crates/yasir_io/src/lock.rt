@@ -6,12 +6,12 @@ use std::io;
 
 /// A file that a run can take for itself.
 pub trait Lock {
-    /// What a lock that was taken shows of the file; nothing where it shows nothing.
+    /// What is known of a file after its lock was taken. By default nothing is.
     ghost taken: { Self → Type 0 } = { λ _. ⊤ };
 
-    /// Takes the file for this run alone. It is an error where another run holds it, and where the
-    /// file system gives no lock. The system lets the lock go with the last handle of the file,
-    /// also that of a process that is killed.
+    /// Takes the file for this run only. It is an error if another run holds it, or if the file
+    /// system gives no lock. The system releases the lock with the last handle of the file, even if
+    /// the process is killed.
     fn try_lock(&self) -> io::Result<()>
         ensures { OnOk result (taken self.now) };
 }

@@ -6,7 +6,7 @@ use crate::flushes::Flushes;
 use crate::{Failed, Sink};
 use std::alloc::Global;
 
-/// A sink in memory, of a fixed room, which fails at chosen calls.
+/// A sink in memory with a fixed room, which fails at chosen calls.
 #[derive(Drop)]
 pub struct MemSink {
     bytes: Vec<u8>,
@@ -24,8 +24,8 @@ impl MemSink {
     ghost use Rattle.yasir_io.specs.MemSink.{sink_bytes, sink_room, sink_plan, sink_calls};
     ghost use Rattle.yasir_io.specs.MemSink.{sink_piece, sink_flushes, sink_unflushed};
 
-    /// An empty sink with room for this many bytes, which is taken at once. A call moves at most
-    /// `piece` bytes; those in `fail`, counted from 1, fail.
+    /// Returns an empty sink with room for `room` bytes, which is allocated at once. A call moves
+    /// at most `piece` bytes. The calls in `fail`, counted from 1, fail.
     pub fn with_room(
         alloc: Global,
         room: usize,
@@ -54,14 +54,14 @@ impl MemSink {
         })
     }
 
-    /// The bytes held. It doesn't count as a call.
+    /// Returns the bytes held. This doesn't count as a call.
     pub fn held(&self) -> &[u8]
         ensures { result.now ≡ sink_bytes self.now }
     {
         self.bytes.as_slice()
     }
 
-    /// How often a flush has ended well. It doesn't count as a call.
+    /// Returns how often a flush has ended well. This doesn't count as a call.
     pub fn flushes(&self) -> u64
         ensures { result ≡ sink_flushes self.now }
     {
@@ -100,8 +100,8 @@ impl Sink for MemSink {
             → sink_unflushed self.new ≡ sink_unflushed self.old) }
         ensures err_as_it_was { OnErr result (sink_unflushed self.new ≡ sink_unflushed self.old) }
 
-        // Exactly a planned call fails, and one that finds no room; any other moves as much as it
-        // may.
+        // A call fails exactly if that is planned, or if it finds no room. Any other call moves as
+        // much as it may.
         ensures fails { IsErr result ↔ WriteFails self.old piece.now }
         ensures size { IfOk result (λ n. n
             ≡ min (min (length piece.now) (sink_piece self.old))

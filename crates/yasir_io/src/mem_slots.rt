@@ -20,7 +20,7 @@ pub(crate) struct Moment {
 }
 
 /// A disk in memory, which fails at chosen calls. It keeps a record of its calls, and so tells what
-/// a crash at any moment of them might have left.
+/// a crash at any moment during them might have left.
 #[derive(Drop)]
 pub struct MemSlots {
     present: Moment,
@@ -95,8 +95,9 @@ impl MemSlots {
     ghost use Rattle.yasir_io.specs.MemSlots.{mem_slots, slots_plan, slots_calls, slots_room};
     ghost use Rattle.yasir_io.specs.MemSlots.{slots_recorded, MayAdd, MayLeave, SlotsFail};
 
-    /// A disk with these slots, all synced, and room to record this many calls, which is taken at
-    /// once. The calls in `fail`, counted from 1, fail, and so does each one past `calls`.
+    /// Returns a disk with these slots, all synced. It has room to record `calls` calls, which is
+    /// allocated at once. The calls in `fail`, counted from 1, fail, and so does each call after
+    /// the first `calls`.
     pub fn with_room(
         alloc: Global,
         old_a: OldSlotBytes,
@@ -135,22 +136,22 @@ impl MemSlots {
         })
     }
 
-    /// The slot as a read gives it. It doesn't count as a call.
+    /// Returns the slot as a read gives it. This doesn't count as a call.
     pub fn slot(&self, which: Slot) -> SlotBytes
         ensures { result ≡ slot_in (mem_slots self.now) which }
     {
         self.present.slot(which)
     }
 
-    /// The old slot as a read gives it. It doesn't count as a call.
+    /// Returns the old slot as a read gives it. This doesn't count as a call.
     pub fn old_slot(&self, which: Slot) -> OldSlotBytes
         ensures { result ≡ old_slot_in (mem_slots self.now) which }
     {
         self.present.old_slot(which)
     }
 
-    // Records a call and counts it. It fails where it is planned to, or where its record finds no
-    // room.
+    // Records a call and counts it. The call fails if that is planned, or if there is no room for
+    // its record.
     fn begin(&mut self) -> Result<(), Failed>
         ensures present { self.new.present ≡ self.old.present }
         ensures recorded { OnOk result (self.new.past.items
@@ -172,7 +173,7 @@ impl MemSlots {
         Ok(())
     }
 
-    // Records the present moment, where there is room.
+    // Records the present moment if there is room for it, and returns whether there was.
     fn record(&mut self) -> bool
         ensures present { self.new.present ≡ self.old.present }
         ensures calls { self.new.calls ≡ self.old.calls }

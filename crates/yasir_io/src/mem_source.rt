@@ -19,8 +19,8 @@ impl<'a> MemSource<'a> {
     ghost use Rattle.yasir_io.specs.MemSource.{source_bytes, source_plan, source_calls};
     ghost use Rattle.yasir_io.specs.MemSource.{source_piece};
 
-    /// A source of these bytes. A call moves at most `piece` of them; those in `fail`, counted from
-    /// 1, fail.
+    /// Returns a source of these bytes. A call moves at most `piece` of them. The calls in `fail`,
+    /// counted from 1, fail.
     pub fn new(bytes: &'a [u8], piece: u16, fail: Plan) -> MemSource<'a>
         requires some { 1 ≤ piece }
         requires within { piece ≤ 512 }

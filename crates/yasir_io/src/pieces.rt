@@ -1,13 +1,13 @@
-//! The bytes of a source, read in large pieces and handed on one by one.
+//! The bytes of a source, read in large pieces and returned one by one.
 ghost use Rattle.std.specs.Prelude.{◌≤◌};
 ghost use Rattle.yasir_io.specs.declared.pieces.TheConstants.{PIECE_LEN};
 
 use crate::{Failed, Source};
 
-/// How many bytes are read at most at once.
+/// The most bytes that are read at once.
 const PIECE_LEN: usize = 65_536;
 
-/// The bytes of one source, one after the other; it reads them in pieces, so that there are few
+/// The bytes of one source, one after the other. They are read in pieces, so that there are few
 /// calls of the source.
 #[derive(Drop)]
 pub struct Pieces {
@@ -27,7 +27,7 @@ impl Pieces {
     ghost use Rattle.yasir_io.specs.Causes.{HasCause};
     ghost use Rattle.yasir_io.specs.Pieces.{kept_bytes, has_ended, to_come};
 
-    /// Nothing read yet.
+    /// Returns pieces of which nothing has been read yet.
     pub fn new() -> Pieces
         ensures kept { kept_bytes result ≡ [] }
         ensures ended { has_ended result ≡ false }
@@ -40,11 +40,11 @@ impl Pieces {
         }
     }
 
-    /// The next byte. None comes once nothing is kept and a read has returned 0, and from then on
-    /// always.
+    /// Returns the next byte, or `None` if no byte is kept and a read has returned 0. From then on
+    /// it is always `None`.
     #[inline]
     pub fn next<S: Source>(&mut self, source: &mut S) -> Result<Option<u8>, Failed>
-        // Each byte comes once, in its order, and none is lost.
+        // Each byte comes exactly once, in its order.
         ensures next { IfOk result (λ next. to_come self.old (S.left source.old)
             ≡ prepend_known (option_to_list next) (to_come self.new (S.left source.new))) }
         ensures err { OnErr result (to_come self.new (S.left source.new)
@@ -54,15 +54,15 @@ impl Pieces {
         ensures kept { (b : ℕ) (rest : List ℕ) → kept_bytes self.old ≡ b ∷ rest
             → (result ≡ Ok (Some b)) × (kept_bytes self.new ≡ rest) × (source.new ≡ source.old) }
 
-        // Only the end ends it.
+        // The pieces end only at the end of the source.
         ensures still_open { IfOk result
             (λ next. OnSome next (has_ended self.new ≡ has_ended self.old)) }
         ensures err_open { OnErr result (has_ended self.new ≡ has_ended self.old) }
 
-        // A read fails only where nothing is kept.
+        // A read fails only if nothing is kept.
         ensures err_kept { OnErr result ((kept_bytes self.old ≡ []) × (kept_bytes self.new ≡ [])) }
 
-        // The end, and after it.
+        // At the end of the source, and after it.
         ensures end { result ≡ Ok None → (has_ended self.new ≡ true) × (kept_bytes self.new ≡ []) }
         ensures nothing_left { result ≡ Ok None → has_ended self.old ≡ false
             → IsAtEnd (S.left source.new) }
@@ -79,7 +79,8 @@ impl Pieces {
         Ok(Some(byte))
     }
 
-    // The next byte where none is kept: that of a read, unless the end was met before.
+    // Returns the next byte if none is kept: the first one of a read, unless the end was reached
+    // before.
     #[inline(never)]
     fn next_of_read<S: Source>(&mut self, source: &mut S) -> Result<Option<u8>, Failed>
         requires { self.old.place ≡ self.old.end }
@@ -105,7 +106,7 @@ impl Pieces {
         Ok(Some(first))
     }
 
-    /// The bytes that are kept, in their order.
+    /// Returns the bytes that are kept, in their order.
     #[inline]
     pub fn kept(&self) -> &[u8]
         ensures { result.now ≡ kept_bytes self.now }
@@ -113,7 +114,7 @@ impl Pieces {
         &self.bytes[self.place..self.end]
     }
 
-    /// Passes over this many of the bytes that are kept.
+    /// Skips the first `n` of the bytes that are kept.
     #[inline]
     pub fn skip(&mut self, n: usize)
         requires { n ≤ length (kept_bytes self.old) }
@@ -123,26 +124,26 @@ impl Pieces {
         self.place += n;
     }
 
-    /// Reads where nothing is kept. Returns whether a byte is kept then; none is once a read has
-    /// returned 0, and from then on always.
+    /// Reads if no byte is kept, and returns whether one is kept then. None is if a read has
+    /// returned 0, this one or an earlier one.
     #[inline(always)]
     pub fn fill<S: Source>(&mut self, source: &mut S) -> Result<bool, Failed>
         // No byte is lost.
         ensures same { to_come self.new (S.left source.new) ≡ to_come self.old (S.left source.old) }
         ensures some { result ≡ Ok true → 0 < length (kept_bytes self.new) }
 
-        // Where a byte is kept nothing is read.
+        // If a byte is kept, nothing is read.
         ensures kept { 0 < length (kept_bytes self.old)
             → (result ≡ Ok true) × (self.new ≡ self.old) × (source.new ≡ source.old) }
 
-        // Only the end ends it.
+        // The pieces end only at the end of the source.
         ensures still_open { result ≡ Ok true → has_ended self.new ≡ has_ended self.old }
         ensures err_open { OnErr result (has_ended self.new ≡ has_ended self.old) }
 
-        // A read fails only where nothing is kept.
+        // A read fails only if nothing is kept.
         ensures err_kept { OnErr result ((kept_bytes self.old ≡ []) × (kept_bytes self.new ≡ [])) }
 
-        // The end, and after it.
+        // At the end of the source, and after it.
         ensures end { result ≡ Ok false → (has_ended self.new ≡ true) × (kept_bytes self.new ≡ []) }
         ensures nothing_left { result ≡ Ok false → has_ended self.old ≡ false
             → IsAtEnd (S.left source.new) }
@@ -160,7 +161,7 @@ impl Pieces {
         }
     }
 
-    // Reads the next piece. It is a function of its own, since few bytes need a read.
+    // Reads the next piece. This is a function of its own, since few bytes need a read.
     #[inline(never)]
     fn read_piece<S: Source>(&mut self, source: &mut S) -> Result<bool, Failed>
         requires { length (kept_bytes self.old) ≡ 0 }
@@ -188,7 +189,7 @@ impl Pieces {
         Ok(true)
     }
 
-    // Keeps the first bytes of what was read.
+    // Keeps the first `n` bytes of what was read.
     fn keep(&mut self, n: usize)
         requires { n ≤ PIECE_LEN }
         ensures kept { kept_bytes self.new ≡ take n self.old.bytes }

@@ -1,4 +1,4 @@
-//! Where bytes go to, and how a whole piece is written.
+//! Where bytes go, and how a whole piece is written.
 ghost use Rattle.std.specs.Prelude.{◌≡◌, ℕ, ◌≤◌, ◌<◌, Option, List, take, length, IfOk, OnOk};
 ghost use Rattle.std.specs.Prelude.{OnErr, Bool, true};
 ghost use Rattle.std.specs.Io.KnownBytes.{append_known};
@@ -8,9 +8,9 @@ ghost use Rattle.yasir_io.specs.Output.{GotPrefix};
 
 use crate::Failed;
 
-/// Where bytes go to.
+/// Where bytes go.
 pub trait Sink {
-    /// The bytes held, where the sink tells them.
+    /// The bytes held, if the sink tells them.
     ghost held: { Self → Option (List ℕ) };
 
     /// How often a write or a flush has failed.
@@ -19,7 +19,7 @@ pub trait Sink {
     /// How often a flush has ended well.
     ghost flushes: { Self → ℕ };
 
-    /// Whether bytes were written since a flush has ended well.
+    /// Whether bytes were written since the last flush that ended well.
     ghost unflushed: { Self → Bool };
 
     /// Appends the first bytes of the piece, and returns how many: at least one, unless the piece
@@ -42,7 +42,7 @@ pub trait Sink {
             result };
 }
 
-/// Appends the whole piece. After an error a front of it was appended. Nothing is flushed.
+/// Appends the whole piece. After an error, a front of it has been appended. Nothing is flushed.
 pub fn write_all<S: Sink>(sink: &mut S, piece: &[u8]) -> Result<(), Failed>
     ensures ok { OnOk result (S.held sink.new ≡ append_known (S.held sink.old) piece.now) }
     ensures err { OnErr result (GotPrefix (S.held sink.old) (S.held sink.new) piece.now) }

@@ -7,14 +7,14 @@ use crate::Failed;
 
 /// Where bytes come from.
 pub trait Source {
-    /// The bytes that are left, where the source tells them.
+    /// The bytes that are left, if the source tells them.
     ghost left: { Self → Option (List ℕ) };
 
     /// How often a read has failed.
     ghost faults: { Self → ℕ };
 
-    /// Moves the first bytes that are left into the front of `buf`, and returns how many, which is
-    /// at most its length; 0 only at the end, or where `buf` has no room.
+    /// Moves the first bytes that are left into the front of `buf`, and returns how many. This is
+    /// at most the length of `buf`, and 0 only at the end, or if `buf` has no room.
     fn read(&mut self, buf: &mut [u8]) -> Result<usize, Failed>
         ensures within { IfOk result (λ n. n ≤ length buf.new) }
         ensures bytes { IfOk result (λ n.

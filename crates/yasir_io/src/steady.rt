@@ -12,7 +12,7 @@ pub struct SteadySource<'a> {
 }
 
 impl<'a> SteadySource<'a> {
-    /// A source of these bytes.
+    /// Returns a source of these bytes.
     pub fn new(bytes: &'a [u8]) -> SteadySource<'a>
         ensures { steady_bytes result ≡ bytes.now }
     {
@@ -34,7 +34,7 @@ impl<'a> Source for SteadySource<'a> {
     }
 }
 
-/// Two slots in memory, beside old ones of zeros. No call fails, and of a crash nothing is told.
+/// Two slots in memory, and old ones of zeros. No call fails, and nothing is told of a crash.
 #[derive(Drop)]
 pub struct SteadySlots {
     a: SlotBytes,
@@ -42,14 +42,14 @@ pub struct SteadySlots {
 }
 
 impl SteadySlots {
-    /// A disk with these slots.
+    /// Returns a disk with these slots.
     pub fn new(a: SlotBytes, b: SlotBytes) -> SteadySlots
         ensures { steady_slots result ≡ record { a = a; b = b; old = blank_old } }
     {
         SteadySlots { a, b }
     }
 
-    /// The slot as a read gives it. It doesn't count as a call.
+    /// Returns the slot as a read gives it. This doesn't count as a call.
     pub fn slot(&self, which: Slot) -> SlotBytes
         ensures { result ≡ slot_in (steady_slots self.now) which }
     {

@@ -1,18 +1,18 @@
-//! Readers and writers whose bytes are known throughout, or at no time.
+//! Readers and writers whose bytes are always known, or never.
 ghost use Rattle.std.specs.Prelude.{IsSome};
 
 use std::io::{Read, Stderr, Stdin, Stdout, Write};
 
-/// A reader of which what is left is known always, or never.
+/// A reader for which it is always known what is left, or never.
 pub trait TellsLeft: Read {
-    /// What is known later was known before.
+    /// If what is left is known later, it was known before.
     ghost knows_left: { (old new : Self) → IsSome (Self.remaining new)
         → IsSome (Self.remaining old) };
 }
 
-/// A writer of which what it holds is known always, or never.
+/// A writer for which it is always known what it holds, or never.
 pub trait TellsHeld: Write {
-    /// What is known later was known before.
+    /// If what is held is known later, it was known before.
     ghost knows_held: { (old new : Self) → IsSome (Self.contents new)
         → IsSome (Self.contents old) };
 }

@@ -1,14 +1,14 @@
-//! A text on its way to a sink, which waits so that short pieces cost no call.
+//! A text on its way to a sink. It waits, so that short pieces cost no call.
 use crate::text_room::TextRoom;
 use crate::{Failed, Sink, write_all};
 
-/// A text on its way to a sink: up to 65,536 bytes wait here, so that a short piece costs no call
+/// A text on its way to a sink. Up to 65,536 bytes wait here, so that a short piece costs no call
 /// of the sink.
 ///
 /// After an error the sink has got a front of the text, and the buffer must not be used again.
 #[derive(Drop)]
 pub struct TextBuffer {
-    /// The bytes that wait. A line is written right behind them, once `make_room` has made room for
+    /// The bytes that wait. A line is written right after them, once `make_room` has made room for
     /// it.
     pub text: TextRoom<65536>,
 }
@@ -20,7 +20,7 @@ impl TextBuffer {
     ghost use Rattle.yasir_io.specs.Output.{Buffered, GotPrefix};
     ghost use Rattle.yasir_io.specs.TextBuffer.{waiting_bytes};
 
-    /// No text yet.
+    /// Returns a buffer without text.
     pub fn new() -> TextBuffer
         ensures waits { waiting_bytes result ≡ [] }
         ensures stands { (start : Option (List ℕ))
@@ -31,7 +31,7 @@ impl TextBuffer {
         }
     }
 
-    /// Adds a piece to the text, of any length.
+    /// Adds a piece of any length to the text.
     #[inline]
     pub fn push<S: Sink>(&mut self, sink: &mut S, piece: &[u8]) -> Result<(), Failed>
         ensures ok { OnOk result ((start : Option (List ℕ)) (text : List ℕ)
@@ -50,7 +50,7 @@ impl TextBuffer {
         self.push_full(sink, piece)
     }
 
-    // A piece that the room left doesn't take: what waits goes to the sink first.
+    // Adds a piece that doesn't fit into the room that is left. What waits goes to the sink first.
     #[inline(never)]
     fn push_full<S: Sink>(&mut self, sink: &mut S, piece: &[u8]) -> Result<(), Failed>
         ensures ok { OnOk result ((start : Option (List ℕ)) (text : List ℕ)
@@ -70,7 +70,7 @@ impl TextBuffer {
         write_all(sink, piece)
     }
 
-    /// Makes room for this many bytes: where they don't fit, what waits goes to the sink first.
+    /// Makes room for `count` bytes. If they don't fit, what waits goes to the sink first.
     #[inline]
     pub fn make_room<S: Sink>(&mut self, sink: &mut S, count: usize) -> Result<(), Failed>
         requires { count ≤ 65536 }
@@ -92,7 +92,7 @@ impl TextBuffer {
         self.drain(sink)
     }
 
-    /// Writes what waits to the sink. A flush is the caller's.
+    /// Writes what waits to the sink. It is up to the caller to flush it.
     pub fn drain<S: Sink>(&mut self, sink: &mut S) -> Result<(), Failed>
         ensures ok { OnOk result ((start : Option (List ℕ)) (text : List ℕ)
             → Buffered start (S.held sink.old) (waiting_bytes self.old) text

@@ -3,7 +3,7 @@ ghost use Rattle.std.specs.Prelude.{◌≡◌, ◌+◌, ◌<◌, ◌≤◌, [], 
 
 use std::marker::Model;
 
-/// Up to `CAP` bytes of a text. Those that are let go stay where they lie, so that to empty it
+/// Up to `CAP` bytes of a text. Bytes that are removed aren't overwritten, so that emptying it
 /// costs nothing.
 #[derive(Drop)]
 pub struct TextRoom<const CAP: usize> {
@@ -23,7 +23,7 @@ impl<const CAP: usize> Model for TextRoom<CAP> {
 }
 
 impl<const CAP: usize> TextRoom<CAP> {
-    /// No bytes yet.
+    /// Returns a room without bytes.
     pub fn new() -> TextRoom<CAP>
         ensures { result.items ≡ [] }
     {
@@ -33,7 +33,7 @@ impl<const CAP: usize> TextRoom<CAP> {
         }
     }
 
-    /// The bytes.
+    /// Returns the bytes.
     #[inline]
     pub fn as_slice(&self) -> &[u8]
         ensures { result.now ≡ self.now.items }
@@ -41,7 +41,7 @@ impl<const CAP: usize> TextRoom<CAP> {
         &self.bytes[..self.len]
     }
 
-    /// Whether there is room for this many bytes more.
+    /// Whether there is room for `count` more bytes.
     #[inline]
     pub fn has_room(&self, count: usize) -> bool
         ensures room { result ≡ true → length self.now.items + count ≤ CAP }
@@ -50,7 +50,7 @@ impl<const CAP: usize> TextRoom<CAP> {
         count <= CAP - self.len
     }
 
-    /// Appends a piece, for which there must be room.
+    /// Appends a piece. There must be room for it.
     #[inline]
     pub fn append(&mut self, piece: &[u8])
         requires { length self.old.items + length piece.now ≤ CAP }
@@ -62,8 +62,8 @@ impl<const CAP: usize> TextRoom<CAP> {
         self.len = after;
     }
 
-    /// Appends the first bytes of a piece, this many. There must be room for the whole piece: it is
-    /// copied whole, which takes no loop.
+    /// Appends the first `count` bytes of a piece. There must be room for the whole piece: all of
+    /// it is copied, which takes no loop.
     #[inline(always)]
     pub fn append_front<const N: usize>(&mut self, piece: &[u8; N], count: usize)
         requires within { count ≤ N }
@@ -75,7 +75,7 @@ impl<const CAP: usize> TextRoom<CAP> {
         self.len = len + count;
     }
 
-    /// Lets all bytes go.
+    /// Removes all bytes.
     #[inline]
     pub(crate) fn empty(&mut self)
         ensures { self.new.items ≡ [] }
