@@ -1,5 +1,5 @@
--- What the steps of a box answer, whose definition is a walk: a tick of the other line, and the
--- note that falls into the step.
+-- What the steps of a box return, if a walk defines the box: a tick of the other line, and the note
+-- that falls into the step.
 use Rattle.std.specs.Prelude.{◌≡◌, ℕ, List, [], ◌∷◌, ◌++◌, length, map, Option, Some, None}
 use Rattle.yasir_ticks.specs.declared.tick.Tick.{Tick}
 use Rattle.burst_walk.specs.Walk.{Walker, Noted, notes_of, line_of}
@@ -13,8 +13,8 @@ abbrev pub note_in : {A : Type 0} → ℕ → Option A → List (Noted A)
 note_in m None = []
 note_in m (Some note) = record { tick = m; note = note } ∷ []
 
--- After these ticks of a line, and with one tick more, a step answers the tick of the other line
--- and the note that the walk adds.
+-- Holds if, after these ticks of a line, the step of one more tick returns the tick of the other
+-- line and the note that the walk adds.
 pub record AnswersTick {S N A : Type 0} (w : Walker S N) (note_of : N → A) (begun : S)
     (line : List Tick)
     (t answer : Tick) (noted : Option A) : Type 0 where

@@ -16,16 +16,16 @@ going_on d m b = record {
   body = d.body ++ (silent (m - end_of d) ++ (Byte b ∷ []));
 }
 
--- A burst is as bursts are, and tick m comes after its last byte, before the silent ticks that
--- would end it.
+-- Holds if a burst is formed as bursts are, and tick m comes after its last byte, before the
+-- silence that would end it.
 pub record MayGoOn (d : Burst) (m : ℕ) : Type 0 where
   pub contiguous : IsContiguous T3_5_TICKS d.body
   pub after : end_of d ≤ m
   pub near : m < end_of d + T3_5_TICKS
 
--- What a burst gives before tick m doesn't change where the burst goes on at tick m; it gives
--- nothing before its first tick, and its note comes before another burst may start. Once it is
--- noted, state and emission are settled.
+-- Holds if a walk is causal. What a burst gives before tick m doesn't change if the burst goes on
+-- at tick m. A burst gives nothing before its first tick, and its note comes before another burst
+-- may start. Once a burst is noted, the state after it and its emission are settled.
 pub record IsCausal {S N : Type 0} (w : Walker S N) : Type 0 where
   pub not_before : (s : S) (d : Burst) → IsContiguous T3_5_TICKS d.body → d.start ≤ w.tick s d
   pub in_time : (s : S) (d : Burst) → IsContiguous T3_5_TICKS d.body
@@ -45,7 +45,7 @@ pub record IsCausal {S N : Type 0} (w : Walker S N) : Type 0 where
   pub emission_stays : (s : S) (d : Burst) (m b i : ℕ) → MayGoOn d m → i < m
       → tick_at (w.emission s (going_on d m b)) i ≡ tick_at (w.emission s d) i
 
--- One more tick adds the notes that come in its step, and one tick of the other line.
+-- Holds if one more tick adds the notes that come in its step, and one tick of the other line.
 pub record AddsOneTick {S N : Type 0} (w : Walker S N) (s : S) (line : List Tick) (t : Tick) :
     Type 0 where
   pub notes : notes_of w s (line ++ t ∷ [])

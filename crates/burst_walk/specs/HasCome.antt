@@ -8,13 +8,14 @@ abbrev pub waiting_part : Option Burst → List Burst
 waiting_part None = []
 waiting_part (Some d) = d ∷ []
 
--- from a state on, each of these bursts has its note before tick m
+-- Holds if, from state s on, each of these bursts has its note before tick m.
 abbrev pub AreNoted : {S N : Type 0} → Walker S N → S → ℕ → List Burst → Type 0
 AreNoted w s m [] = Unit {0}
 AreNoted w s m (d ∷ ds) = (w.tick s d < m) × AreNoted w (w.next s d) m ds
 
--- Before tick m, a walk that began in a state has come so far over these bursts: all are noted but
--- the one that waits. The noted ones leave this state, and this is what they emit.
+-- Holds if, before tick m, a walk that began in a state has come this far over these bursts: all
+-- are noted except the one that waits. After the noted ones the state is s, and they have emitted
+-- `emissions`.
 pub record HasCome {S N : Type 0} (w : Walker S N) (begun : S) (m : ℕ) (ds : List Burst) (s : S)
     (emissions : List Burst) (waiting : Option Burst) : Type 0 where
   pub settled : List Burst

@@ -2,7 +2,7 @@
 use arrayvec::ArrayVec;
 use yasir_ticks::Tick;
 
-/// What a box between two lines returns for a tick of the one. Few steps have a note.
+/// What a box between two lines returns for a tick of one of them. Few steps have a note.
 #[derive(Clone, Copy, Debug, PartialEq, Eq)]
 pub struct BoxStep<N> {
     /// The tick of the other line, at the same place.
@@ -11,6 +11,6 @@ pub struct BoxStep<N> {
     pub note: Option<N>,
 }
 
-/// The bytes that a box answers to a run of ticks, one for each; none where the other line is
+/// The bytes that a box returns for a run of ticks, one for each tick; none if the other line is
 /// silent.
 pub type RunBytes = ArrayVec<u8, 64>;
