@@ -1,4 +1,4 @@
--- How a drive over an input ends, and what the consumer has then taken.
+-- How a drive over an input ends, and what the consumer has taken by then.
 use Rattle.std.specs.Prelude.{◌≡◌, ℕ, ◌+◌, ◌<◌, ◌≤◌, List, length, Option, Result, Ok, Err}
 use Rattle.yasir_ticks.specs.Ticks.{Item, ticks_in}
 use Rattle.yasir_ticks.specs.declared.TheConstants.{MAX_TICKS}
@@ -11,53 +11,53 @@ use Rattle.tick_drive.specs.declared.end.TooMuch.TheVariants.{Ticks}
 use Rattle.tick_drive.specs.declared.input_loop.Halt.{Halt}
 use Rattle.tick_drive.specs.declared.input_loop.Halt.TheVariants.{TooMany, ByConsumer}
 
--- what the consumer answered last as the run ended so
+-- what the consumer returned last, if the drive ended like this
 abbrev pub answer_of : End → Result (Unit {0}) Stop
 answer_of (Stopped stop) = Err stop
 answer_of end = Ok tt
 
--- how a drive ends where a line was handed over no further
+-- how a drive ends if it stopped handing over lines
 abbrev pub halted_end : Halt → End
 halted_end (TooMany count) = TooLong Ticks count
 halted_end (ByConsumer stop) = Stopped stop
 
 module _ {C : Type 0} (meaning : Consuming C) where
-  -- A consumer that has taken nothing yet may be used.
+  -- Holds if a consumer has taken nothing yet, and may be used.
   pub record IsFresh (consumer : C) : Type 0 where
     pub none : meaning.taken consumer ≡ 0
     pub able : meaning.able consumer
 
-  -- A consumer that may be used, and may count as many ticks more as an input may have.
+  -- Holds if a consumer may be used, and may count as many more ticks as an input may have.
   pub record HasRoom (consumer : C) : Type 0 where
     pub room : meaning.taken consumer + max_ticks ≤ MAX_TICKS
     pub able : meaning.able consumer
 
-  -- What was taken of an input that had `before` left and now has `now` was given to a consumer,
-  -- and the drive over it ended so.
+  -- Holds if what was taken of an input was given to a consumer, and the drive over the input ended
+  -- like this. The input had `before` left at first, and now has `now`.
   pub record Drives (marks rest : ℕ) (before now : Option (List ℕ)) (old new : C) (end : End) :
       Type 0 where
     pub items : List Item
     pub takes : Takes marks rest before now items end
     pub gives : Gives meaning old new items (answer_of end)
 
-  -- One line's items were handed over: their ticks with those before are this sum.
+  -- Holds if the items of one line were handed over. With the ticks before, there are `sum` ticks.
   pub record HandsOver (old new : C) (ticks : ℕ) (items : List Item) (sum : ℕ) : Type 0 where
     pub gives : Gives meaning old new items (Ok tt)
     pub sum_is : sum ≡ ticks + length (ticks_in items)
     pub few : sum ≤ max_ticks
 
-  -- Their ticks with those before are too many, and nothing was done.
+  -- Holds if there are too many ticks with those of the line, and nothing was done.
   pub record HoldsBack (old new : C) (ticks : ℕ) (items : List Item) (count : ℕ) : Type 0 where
     pub same : new ≡ old
     pub sum : count ≡ ticks + length (ticks_in items)
     pub above : max_ticks < count
 
-  -- The consumer stopped at one of them.
+  -- Holds if the consumer stopped at one of the items of the line.
   pub record StopsAt (old new : C) (ticks : ℕ) (items : List Item) (stop : Stop) : Type 0 where
     pub gives : Gives meaning old new items (Err stop)
     pub few : ticks + length (ticks_in items) ≤ max_ticks
 
-  -- what the answer says where one line's items were to be handed over after this many ticks
+  -- what the result says when a line's items are to be handed over after `ticks` ticks
   abbrev pub HandAnswer : C → C → ℕ → List Item → Result ℕ Halt → Type 0
   HandAnswer old new ticks items (Ok sum) = HandsOver old new ticks items sum
   HandAnswer old new ticks items (Err (TooMany count)) = HoldsBack old new ticks items count

@@ -1,8 +1,13 @@
--- What is taken of an input that is driven into a consumer.
--- The input's bytes are met in order, up to the first of these: a byte past the limit, a byte that
--- no right text begins with, the end of a line whose ticks with all before are too many,
--- the end of a line at one of whose ticks the consumer stops, a failed read, the input's end.
--- Behind the input's end, and nowhere else, silence may follow.
+-- What is taken of an input that is driven into a consumer. The input's bytes are met in order, up
+-- to the first of these:
+-- - a byte past the limit
+-- - a byte with which no right text begins
+-- - the end of a line whose ticks, with all before, are too many
+-- - the end of a line at one of whose ticks the consumer stops
+-- - a failed read
+-- - the input's end
+--
+-- Silence may follow after the input's end, and nowhere else.
 use Rattle.std.specs.Prelude.{◌≡◌, ◌≢◌, ℕ, ◌<◌, ◌≤◌, ◌⊎◌, List, [], ◌∷◌, ◌++◌, length, Option}
 use Rattle.std.specs.Prelude.{Result, Ok, Err, Bool, true, false}
 use Rattle.yasir_io.specs.Causes.{Rose}
@@ -24,30 +29,30 @@ max_ticks = 16777216
 abbrev pub max_bytes : ℕ
 max_bytes = 268435456
 
--- These bytes came first: where the source told what it had left, that began with them.
+-- Holds if these bytes came first: if the source told what it had left, that began with them.
 abbrev pub ComesFirst : Option (List ℕ) → List ℕ → Type 0
 ComesFirst before bytes = (later : Option (List ℕ)) × (before ≡ prepend_known bytes later)
 
--- This text was met: its bytes came first, and are no more than may be read.
+-- Holds if this text was met: its bytes came first, and are no more than may be read.
 pub record IsMetOf (before : Option (List ℕ)) (text : List ℕ) : Type 0 where
   pub came : ComesFirst before text
   pub within : length text ≤ max_bytes
 
--- This text was met, and these bytes are left behind it.
+-- Holds if this text was met, and what is left now comes after it.
 pub record IsMetUpTo (before now : Option (List ℕ)) (text : List ℕ) : Type 0 where
   pub came : before ≡ prepend_known text now
   pub within : length text ≤ max_bytes
 
--- This text was met, and is the whole input.
+-- Holds if this text was met, and is the whole input.
 pub record IsMetWhole (before now : Option (List ℕ)) (text : List ℕ) : Type 0 where
   pub met : IsMetUpTo before now text
   pub at_end : IsAtEnd now
 
--- no more ticks than may be taken
+-- Holds if the items have no more ticks than may be taken.
 abbrev pub AreFew : List Item → Type 0
 AreFew items = length (ticks_in items) ≤ max_ticks
 
--- The text that was met, and then a byte, begins no right text.
+-- Holds if no right text begins with the text that was met and the byte after it.
 pub record IsRefusedByte (marks : ℕ) (before : Option (List ℕ)) (text : List ℕ) (bad : BadTicks) :
     Type 0 where
   pub byte : ℕ
@@ -56,7 +61,7 @@ pub record IsRefusedByte (marks : ℕ) (before : Option (List ℕ)) (text : List
   pub line : bad.line ≡ line_after text
   pub why : bad.why ≡ fault_after text byte
 
--- The whole input was met, and is no right text.
+-- Holds if the whole input was met, and is no right text.
 pub record IsRefusedEnd (marks : ℕ) (before now : Option (List ℕ)) (text : List ℕ)
     (bad : BadTicks) : Type 0 where
   pub met : IsMetWhole before now text
@@ -65,7 +70,8 @@ pub record IsRefusedEnd (marks : ℕ) (before now : Option (List ℕ)) (text : L
   pub line : bad.line ≡ line_after text
   pub why : bad.why ≡ fault_at_end text
 
--- The next byte, an LF, ends a line of these items, and begins a right text with those before it.
+-- Holds if the next byte, an LF, ends a line with these items, and a right text begins with it and
+-- the bytes before it.
 pub record EndsLine (marks : ℕ) (before : Option (List ℕ)) (text : List ℕ)
     (items line : List Item) : Type 0 where
   pub met : IsMetOf before (text ++ line_feed ∷ [])
@@ -73,13 +79,13 @@ pub record EndsLine (marks : ℕ) (before : Option (List ℕ)) (text : List ℕ)
   pub ended : ended_items (text ++ line_feed ∷ []) ≡ items ++ line
   pub some : line ≢ []
 
--- The input's end ends a line of these items.
+-- Holds if the input's end ends a line with these items.
 pub record EndsLast (marks : ℕ) (before now : Option (List ℕ)) (text : List ℕ)
     (items line : List Item) : Type 0 where
   pub met : IsMetWhole before now text
   pub ended : IsTickText marks text (items ++ line)
 
--- The whole input was met and is a right text; behind its items stand this many silent ticks.
+-- Holds if the whole input was met and is a right text, and `rest` silent ticks follow its items.
 pub record IsWhole (marks rest : ℕ) (before now : Option (List ℕ)) (items : List Item) :
     Type 0 where
   pub text : List ℕ
@@ -89,7 +95,7 @@ pub record IsWhole (marks rest : ℕ) (before now : Option (List ℕ)) (items : 
   pub few : AreFew told
   pub are : items ≡ told ++ silent_items rest
 
--- The lines that ended before the refused place have these items.
+-- Holds if these are the items of the lines that ended before the refused place.
 pub record IsRefused (marks : ℕ) (before now : Option (List ℕ)) (items : List Item)
     (bad : BadTicks) : Type 0 where
   pub text : List ℕ
@@ -97,8 +103,8 @@ pub record IsRefused (marks : ℕ) (before now : Option (List ℕ)) (items : Lis
   pub few : AreFew items
   pub are : items ≡ ended_items text
 
--- A line ended, at an LF or at the input's end, whose ticks with those before are more than may be
--- taken.
+-- Holds if a line ended, at an LF or at the input's end, and its ticks, with those before, are more
+-- than may be taken.
 pub record HasTooManyTicks (marks : ℕ) (before now : Option (List ℕ)) (items : List Item)
     (count : ℕ) : Type 0 where
   pub text : List ℕ
@@ -109,7 +115,7 @@ pub record HasTooManyTicks (marks : ℕ) (before now : Option (List ℕ)) (items
   pub sum : count ≡ length (ticks_in (items ++ line))
   pub above : max_ticks < count
 
--- As many bytes as may be read were met, and one more came.
+-- Holds if as many bytes were met as may be read, and one more came.
 pub record HasTooManyBytes (marks : ℕ) (before : Option (List ℕ)) (items : List Item) (count : ℕ) :
     Type 0 where
   pub text : List ℕ
@@ -121,7 +127,7 @@ pub record HasTooManyBytes (marks : ℕ) (before : Option (List ℕ)) (items : L
   pub are : items ≡ ended_items text
   pub sum : count ≡ length (text ++ byte ∷ [])
 
--- A read failed behind this text.
+-- Holds if a read failed after this text was met.
 pub record FailsToRead (marks : ℕ) (before now : Option (List ℕ)) (items : List Item) : Type 0 where
   pub text : List ℕ
   pub met : IsMetUpTo before now text
@@ -129,8 +135,8 @@ pub record FailsToRead (marks : ℕ) (before now : Option (List ℕ)) (items : L
   pub few : AreFew items
   pub are : items ≡ ended_items text
 
--- The last byte that was met ended a line with ticks or a mark, and these are the items of all
--- lines up to it.
+-- Holds if the last byte that was met ended a line with ticks or a mark, and these are the items of
+-- all lines up to this one.
 pub record StopsInLine (marks : ℕ) (before : Option (List ℕ)) (items : List Item) : Type 0 where
   pub text : List ℕ
   pub line : List Item
@@ -138,9 +144,9 @@ pub record StopsInLine (marks : ℕ) (before : Option (List ℕ)) (items : List 
   pub few : AreFew items
   pub are : items ≡ ended_items text ++ line
 
--- These items were taken of an input, and of this many silent ticks behind it, as the drive over it
--- ended so. A consumer that stopped did so at one of them: in the last of the lines that were met,
--- all whole, or behind an input that was met to its end.
+-- Holds if these items were taken of an input, and of `rest` silent ticks after it, when the drive
+-- over it ended like this. A consumer that stopped did so at one of the items: in the last of the
+-- lines that were met, of which all are whole, or after an input that was met to its end.
 abbrev pub Takes : ℕ → ℕ → Option (List ℕ) → Option (List ℕ) → List Item → End → Type 0
 Takes marks rest before now items Whole = IsWhole marks rest before now items
 Takes marks rest before now items (Refused bad) = IsRefused marks before now items bad
@@ -158,12 +164,13 @@ is_read_fault (Refused bad) = false
 is_read_fault (TooLong what count) = false
 is_read_fault (Stopped stop) = false
 
--- whether the answer is that a read failed
+-- whether the result is that a read failed
 abbrev pub is_read_answer : {T : Type 0} → Result T End → Bool
 is_read_answer (Ok x) = false
 is_read_answer (Err end) = is_read_fault end
 
--- the input's count rose where it is the cause of the answer, and is as it was in any other case
+-- Holds if the input's count rose when a failed read is the cause of the result, and is as it was
+-- in any other case.
 pub record IsReadCause (before now : ℕ) (is_cause : Bool) : Type 0 where
   pub never_falls : before ≤ now
   pub failed : is_cause ≡ true → Rose before now

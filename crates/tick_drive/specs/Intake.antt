@@ -16,12 +16,12 @@ use Rattle.tick_drive.specs.declared.end.End.{End}
 use Rattle.tick_drive.specs.declared.end.End.TheVariants.{Refused, TooLong, ReadFault}
 use Rattle.tick_drive.specs.declared.end.TooMuch.TheVariants.{Bytes}
 
--- The reader has been fed this text.
+-- Holds if the reader has been fed this text.
 abbrev pub HasFed : Intake → ℕ → List ℕ → Type 0
 HasFed intake marks text = StandsFor intake.reader marks text
 
--- This text was met of an input that had `before` left at first and has `now` left, and begins a
--- right text.
+-- Holds if this text was met, of an input that had `before` left at first and has `now` left, and a
+-- right text begins with it.
 pub record HasMet (intake : Intake) (marks : ℕ) (before now : Option (List ℕ)) (text : List ℕ) :
     Type 0 where
   pub stands : StandsFor intake.reader marks text
@@ -31,13 +31,13 @@ pub record HasMet (intake : Intake) (marks : ℕ) (before now : Option (List ℕ
   pub count : intake.room + length text ≡ max_bytes
   pub within : length text ≤ max_bytes
 
--- the bytes of the line that was met last, where it was one of bytes
+-- the bytes of the line that was met last, if it was one of bytes
 abbrev pub lent : Intake → List ℕ
 lent intake = lent_bytes intake.reader
 
--- Bytes were met after a text, at least one and none refused, and these items are those of the
--- lines that ended. Where there are any, the last of these bytes ended their line, and no line with
--- ticks or a mark ended before.
+-- Holds if bytes were met after a text, at least one and none refused, and these items are those of
+-- the lines that ended. If there are any items, the last of these bytes ended their line, and no
+-- line with ticks or a mark ended before.
 pub record MeetsLine (intake : Intake) (marks : ℕ) (before now : Option (List ℕ)) (text : List ℕ)
     (items : List Item) : Type 0 where
   pub front : List ℕ
@@ -46,29 +46,29 @@ pub record MeetsLine (intake : Intake) (marks : ℕ) (before now : Option (List 
   pub ended : ended_items ((text ++ front) ++ byte ∷ []) ≡ ended_items text ++ items
   pub quiet : items ≢ [] → ended_items (text ++ front) ≡ ended_items text
 
--- Bytes were met after a text, in which no line with ticks or a mark ended, and then one that is
--- refused.
+-- Holds if bytes were met after a text, in which no line with ticks or a mark ended, and the next
+-- byte is refused.
 pub record MeetsRefused (marks : ℕ) (before : Option (List ℕ)) (text : List ℕ) (bad : BadTicks) :
     Type 0 where
   pub front : List ℕ
   pub refused : IsRefusedByte marks before (text ++ front) bad
   pub quiet : ended_items (text ++ front) ≡ ended_items text
 
--- One byte came behind a text of as many as may be read.
+-- Holds if one more byte came after a text of as many bytes as may be read.
 pub record MeetsLimit (before : Option (List ℕ)) (text : List ℕ) (count : ℕ) : Type 0 where
   pub byte : ℕ
   pub came : ComesFirst before (text ++ byte ∷ [])
   pub full : length text ≡ max_bytes
   pub sum : count ≡ length (text ++ byte ∷ [])
 
--- Nothing came behind a text, and it is the whole input.
+-- Holds if nothing came after a text, and it is the whole input.
 pub record MeetsEnd (intake : Intake) (marks : ℕ) (before now : Option (List ℕ)) (text : List ℕ) :
     Type 0 where
   pub fed : HasFed intake marks text
   pub begins : BeginsTickText marks text
   pub met : IsMetWhole before now text
 
--- what the answer to one step says, after a text was met
+-- what the result of one step says, if this text was met before
 abbrev pub StepAnswer : Intake → ℕ → Option (List ℕ) → Option (List ℕ) → List ℕ
     → Result (Option Content) End → Type 0
 StepAnswer intake marks before now text (Ok (Some content)) =
@@ -79,7 +79,7 @@ StepAnswer intake marks before now text (Err (TooLong Bytes count)) = MeetsLimit
 StepAnswer intake marks before now text (Err ReadFault) = IsMetUpTo before now text
 StepAnswer intake marks before now text (Err end) = ⊥
 
--- what the answer at the input's end says
+-- what the result at the input's end says
 abbrev pub FinishAnswer : ℕ → List ℕ → Result Run End → Type 0
 FinishAnswer marks text (Ok run) = IsTickText marks text (ended_items text ++ items_of_run run)
 FinishAnswer marks text (Err (Refused bad)) =

@@ -8,7 +8,7 @@ use Rattle.yasir_ticks.specs.declared.tick.Tick.TheVariants.{Silent, Byte}
 abbrev pub tick_item : Tick → Item
 tick_item t = tick t
 
--- bytes, one a tick
+-- bytes, one for each tick
 abbrev pub byte_items : List ℕ → List Item
 byte_items bytes = map (λ b. tick (Byte b)) bytes
 

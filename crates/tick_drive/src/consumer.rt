@@ -1,11 +1,11 @@
-//! What the loop asks of a consumer, and why a consumer stops.
+//! What the loop needs of a consumer, and why a consumer stops.
 ghost use Rattle.std.specs.Prelude.{ℕ, ◌<◌, [], ◌∷◌, length};
 ghost use Rattle.yasir_ticks.specs.Ticks.Item.{mark};
 ghost use Rattle.yasir_ticks.specs.TickRun.{run_ticks, run_items};
 
 use yasir_ticks::TickRun;
 
-/// Why a consumer takes no further tick.
+/// Why a consumer takes no more ticks.
 #[derive(Clone, Copy, Debug, PartialEq, Eq)]
 pub enum Stop {
     /// A sink failed.
@@ -16,8 +16,8 @@ pub enum Stop {
     NoMemory,
 }
 
-/// Takes the ticks of an input, a run at a time, and its marks, and holds what it writes to. After
-/// a stop it is not used again.
+/// Takes the ticks of an input, a run at a time, and its marks. It also holds what it writes to.
+/// After a stop it must not be used again.
 pub trait Consumer {
     ghost use Rattle.tick_drive.specs.Consumers.{Consuming, MayTake, Gives, GivesSome};
     ghost use Rattle.tick_drive.specs.Consumers.{IsNoneDone, AreJoined};
@@ -26,13 +26,13 @@ pub trait Consumer {
     /// it holds.
     ghost meaning: { Consuming Self };
 
-    /// Takes the first ticks of this run, at least one, and says how many.
+    /// Takes the first ticks of this run, at least one, and returns how many.
     fn take_some(&mut self, run: TickRun<'_>) -> Result<usize, Stop>
         requires some { 0 < length (run_ticks run) }
         requires may { MayTake meaning self.old (run_items run) }
         ensures { GivesSome meaning self.old self.new (run_items run.entry) result };
 
-    /// Takes a mark, which is no tick.
+    /// Takes a mark, which isn't a tick.
     fn take_mark(&mut self) -> Result<(), Stop>
         requires { MayTake meaning self.old (mark ∷ []) }
         ensures { Gives meaning self.old self.new (mark ∷ []) result };

@@ -15,20 +15,20 @@ use crate::{Consumer, End, Stop, TooMuch};
 use yasir_io::Source;
 use yasir_ticks::{Content, Run, TickRun};
 
-/// How many ticks of an input are taken at most.
+/// The most ticks of an input that are taken.
 pub const MAX_INPUT_TICKS: u32 = 16_777_216;
 
-// Why a line is handed over no further. It is small, so that an answer stays in registers.
+// Why handing over lines stopped. It is small, so that a result stays in registers.
 #[derive(Clone, Copy)]
 enum Halt {
-    // its ticks with those before are so many, which are more than may be taken
+    // there are this many ticks with those of the line, more than may be taken
     TooMany(u64),
     // the consumer stopped
     ByConsumer(Stop),
 }
 
 impl Halt {
-    // How the drive over the input ends then.
+    // Returns how the drive over the input ends then.
     fn end(self) -> End
         ensures { result ≡ halted_end self }
     {
@@ -42,7 +42,7 @@ impl Halt {
     }
 }
 
-// How many ticks a line of this content has, the bytes of a `+` line being these.
+// Returns how many ticks a line with this content has. `bytes` are those of a `+` line.
 #[inline(always)]
 fn ticks_of(content: Content, bytes: &[u8]) -> u32
     requires { length bytes.now ≤ 32 }
@@ -55,8 +55,8 @@ fn ticks_of(content: Content, bytes: &[u8]) -> u32
     }
 }
 
-// Gives the ticks of a run in order to the consumer. It is no function of the trait: a hint on
-// inlining doesn't reach what a trait gives.
+// Gives the ticks of a run to the consumer, in order. It isn't a function of the trait, since a
+// hint to inline has no effect on a function that a trait provides.
 #[inline(always)]
 fn give_run<C: Consumer>(run: TickRun<'_>, consumer: &mut C) -> Result<(), Stop>
     requires { MayTake C.meaning consumer.old (run_items run) }
@@ -72,8 +72,8 @@ fn give_run<C: Consumer>(run: TickRun<'_>, consumer: &mut C) -> Result<(), Stop>
     Ok(())
 }
 
-// Gives silent ticks to the consumer. It is kept separate, so that each kind of run is compiled for
-// itself.
+// Gives silent ticks to the consumer. It is a function of its own, so that each kind of run is
+// compiled by itself.
 #[inline(never)]
 fn give_silence<C: Consumer>(ticks: u32, consumer: &mut C) -> Result<(), Stop>
     requires { MayTake C.meaning consumer.old (run_items (Silence ticks)) }
@@ -82,7 +82,7 @@ fn give_silence<C: Consumer>(ticks: u32, consumer: &mut C) -> Result<(), Stop>
     give_run(TickRun::Silence(ticks), consumer)
 }
 
-// Gives a line of this content to the consumer.
+// Gives a line with this content to the consumer.
 #[inline(always)]
 fn give<C: Consumer>(content: Content, bytes: &[u8], consumer: &mut C) -> Result<(), Stop>
     requires { MayTake C.meaning consumer.old (items_of_content content bytes.now) }
@@ -97,8 +97,8 @@ fn give<C: Consumer>(content: Content, bytes: &[u8], consumer: &mut C) -> Result
     }
 }
 
-// Hands a line of this content to the consumer, unless its ticks with those before are too many.
-// Returns the sum.
+// Hands a line with this content to the consumer, unless there are too many ticks with it. Returns
+// the number of ticks up to its end.
 #[inline(always)]
 fn hand_content<C: Consumer>(
     ticks: u32,
@@ -123,8 +123,9 @@ fn hand_content<C: Consumer>(
     }
 }
 
-// Hands one line to the consumer, unless its ticks with those before are too many. Returns the sum.
-// Each kind of line is compiled for itself, so that it is looked at once.
+// Hands one line to the consumer, unless there are too many ticks with it. Returns the number of
+// ticks up to its end. Each kind of line is compiled by itself, so that the kind is looked at only
+// once.
 #[inline(always)]
 fn hand_over<C: Consumer>(
     ticks: u32,
@@ -147,7 +148,7 @@ fn hand_over<C: Consumer>(
     }
 }
 
-// Hands one line to the consumer that isn't of the usual form.
+// Hands a line to the consumer that isn't a usual one.
 #[inline(never)]
 fn hand_other<C: Consumer>(
     ticks: u32,
@@ -165,7 +166,7 @@ fn hand_other<C: Consumer>(
     hand_over(ticks, content, bytes, consumer)
 }
 
-// Hands the run of a last line to the consumer.
+// Hands the run of the last line to the consumer.
 fn hand_last<C: Consumer>(ticks: u32, run: &Run, consumer: &mut C) -> Result<u32, Halt>
     requires within { ticks ≤ max_ticks }
     requires room { C.meaning.taken consumer.old + max_ticks ≤ MAX_TICKS + ticks }
@@ -180,8 +181,8 @@ fn hand_last<C: Consumer>(ticks: u32, run: &Run, consumer: &mut C) -> Result<u32
     }
 }
 
-/// Drives an input, as tick text with exactly this many marks, into a consumer, until one of the
-/// two stops. The consumer may have counted ticks before, as long as it may count as many more as
+/// Drives an input, read as tick text with exactly `marks` marks, into a consumer, until one of the
+/// two stops. The consumer may have counted ticks before, as long as it can count as many more as
 /// an input may have.
 pub fn drive_with_room<S: Source, C: Consumer>(marks: u8, input: &mut S, consumer: &mut C) -> End
     requires { HasRoom C.meaning consumer.old }
@@ -223,7 +224,7 @@ pub fn drive_with_room<S: Source, C: Consumer>(marks: u8, input: &mut S, consume
     }
 }
 
-/// Drives an input, as tick text with exactly this many marks, into a consumer that has taken
+/// Drives an input, read as tick text with exactly `marks` marks, into a consumer that has taken
 /// nothing yet, until one of the two stops.
 pub fn drive<S: Source, C: Consumer>(marks: u8, input: &mut S, consumer: &mut C) -> End
     requires fresh { IsFresh C.meaning consumer.old }
@@ -234,8 +235,8 @@ pub fn drive<S: Source, C: Consumer>(marks: u8, input: &mut S, consumer: &mut C)
     drive_with_room(marks, input, consumer)
 }
 
-/// Drives an input into a consumer, and then this many silent ticks behind an input that was taken
-/// whole.
+/// Drives an input, read as tick text with exactly `marks` marks, into a consumer that has taken
+/// nothing yet. If the input was taken whole, gives the consumer `rest` silent ticks after it.
 pub fn drive_to_rest<S: Source, C: Consumer>(
     marks: u8,
     rest: u32,

@@ -1,5 +1,5 @@
-//! The bytes of an input on their way to the reader of tick text, counted up to the most that is
-//! taken.
+//! The bytes of an input on their way to the reader of tick text. They are counted, up to the most
+//! that are read.
 ghost use Rattle.std.specs.Prelude.{◌≡◌, ℕ, ◌+◌, ◌≤◌, ◌<◌, List, [], length, Option, IfOk, IfSome};
 ghost use Rattle.std.specs.Prelude.{false};
 ghost use Rattle.yasir_ticks.specs.Reader.{reader_line};
@@ -11,13 +11,13 @@ use yasir_ticks::{Content, FedLine, Run, TickReader, UsualLine};
 #[cfg(test)]
 mod turn_tests;
 
-// How many bytes a line has at most with its LF: a comment of 120 bytes behind its `#`.
+// The most bytes that a line has with its LF: a comment of 120 bytes after its `#`.
 const USUAL: usize = 122;
 
-/// How many bytes of an input are read at most.
+/// The most bytes of an input that are read.
 pub const MAX_INPUT_BYTES: u32 = 268_435_456;
 
-/// The bytes of an input, fed in their order to a reader of tick text.
+/// The bytes of an input, fed in order to a reader of tick text.
 #[derive(Drop)]
 pub struct Intake {
     pieces: Pieces,
@@ -36,7 +36,7 @@ impl Intake {
     ghost use Rattle.yasir_io.specs.Pieces.{kept_bytes};
     ghost use Rattle.tick_drive.specs.Input.{is_read_answer, IsReadCause};
 
-    /// Nothing met yet of a text with exactly this many marks.
+    /// Returns an intake that has met nothing yet of a text with exactly `marks` marks.
     pub fn new(marks: u8) -> Intake
         ensures { (before : Option (List ℕ)) → HasMet result marks before before [] }
     {
@@ -47,7 +47,7 @@ impl Intake {
         }
     }
 
-    /// The bytes of the line that a step ended last, where it was one of bytes.
+    /// Returns the bytes of the line that a step ended last, if it was one of bytes.
     #[inline]
     pub fn line_bytes(&self) -> &[u8]
         ensures bytes { result.now ≡ lent self.now }
@@ -56,8 +56,8 @@ impl Intake {
         self.reader.line_bytes()
     }
 
-    /// Meets a line of the usual form: of bytes, of silent ticks, or a comment. It does so where as
-    /// many bytes are kept as the longest line has. Returns what the line stands for.
+    /// Meets a usual line (bytes, silent ticks or a comment), if as many bytes are kept as the
+    /// longest line has. Returns what the line represents.
     #[inline(always)]
     pub fn usual_line(&mut self) -> Option<Content>
         ensures answer { IfSome result (λ content. (marks : ℕ) (before now : Option (List ℕ))
@@ -76,8 +76,8 @@ impl Intake {
         Some(content)
     }
 
-    /// Meets bytes up to the end of a line, or to the last one that was read, and returns what the
-    /// line stands for, or `NoTick`; none at the input's end.
+    /// Meets bytes up to the end of a line, or up to the last one that was read. Returns what the
+    /// line represents, `NoTick` if none ended, or `None` at the input's end.
     #[inline(never)]
     pub fn step<S: Source>(&mut self, source: &mut S) -> Result<Option<Content>, End>
         ensures answer { (marks : ℕ) (before : Option (List ℕ)) (text : List ℕ)
@@ -123,7 +123,7 @@ impl Intake {
         }
     }
 
-    /// The run of the last line, at the input's end.
+    /// Returns the run of the last line, at the input's end.
     pub fn finish(self) -> Result<Run, End>
         ensures { (marks : ℕ) (text : List ℕ) → HasFed self marks text
             → FinishAnswer marks text result }

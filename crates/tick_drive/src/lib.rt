@@ -1,7 +1,7 @@
-//! The loop that drives a recorded input into whatever takes its ticks, proved once for every
-//! consumer.
+//! The loop that drives a recorded input into whatever takes its ticks, proved for every consumer
+//! at once.
 //!
-//! An input without marks goes into a consumer, and then 24 silent ticks:
+//! An input without marks goes into a consumer, followed by 24 silent ticks:
 //!
 //!     match drive_to_rest(0, 24, &mut input, &mut consumer) {
 //!         End::Whole => {}

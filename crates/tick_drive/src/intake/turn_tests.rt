@@ -39,7 +39,8 @@ fn full_lines(alloc: Global) -> Result<Vec<u8>, Fail> {
     Ok(text)
 }
 
-// How many lines are taken at once to the end of the input, and how many steps it takes besides.
+// Returns how many lines are taken at once up to the end of the input, and how many steps are
+// needed besides.
 fn turns_over(source: &mut CountedSource<'_>) -> Result<(u32, u32), Fail> {
     let mut intake = Intake::new(0);
     let (mut usual, mut steps) = (0_u32, 0_u32);
@@ -57,9 +58,10 @@ fn turns_over(source: &mut CountedSource<'_>) -> Result<(u32, u32), Fail> {
     Err(Fail::from("the text has no end"))
 }
 
-// The input has 132,000 bytes, and comes by reads of 65,536, 65,536, 928 and none. The first step
-// reads and takes the first line; two lines are in two pieces, each of which takes a step; and the last
-// line takes one, since less than the longest line is kept then. All others are taken at once.
+// The input has 132,000 bytes, which come in reads of 65,536, 65,536, 928 and 0. The first step
+// reads, and takes the first line. Two lines are split between two pieces, and each of their parts
+// takes a step. The last line takes one, since fewer bytes are kept then than the longest line has.
+// All others are taken at once.
 #[test]
 fn a_line_costs_a_step_and_a_piece_a_read(rt: HostRuntime) -> Result<(), Fail> {
     let text = full_lines(rt.alloc())?;
