@@ -1,4 +1,4 @@
--- The outside of a run, as it is behind the ends that a call was handed: before the call, and after
+-- The outside of a run, to which the ends that a call was given refer: before the call, and after
 -- it.
 use Rattle.std.specs.Borrow.{MutBor}
 use Rattle.replay_status.specs.Outside.{Outside, outside}

@@ -1,4 +1,4 @@
--- What a run of the program is handed: the key, the input, the two sinks and the journal's disk.
+-- What a run of the program is given: the key, the input, the two sinks and the journal's disk.
 
 pub record Outside (K S O L D : Type 0) : Type 0 where
   pub key : K

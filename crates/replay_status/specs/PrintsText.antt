@@ -5,7 +5,7 @@ use Rattle.yasir_io.specs.Output.{GotPrefix}
 use Rattle.replay_status.specs.declared.status.Status.{Status}
 use Rattle.replay_status.specs.declared.status.Status.TheVariants.{Done, WriteFault}
 
--- What each status says of a sink that a text is written to.
+-- Holds if a sink has got the text, or a front of it, as this status says.
 abbrev pub PrintsText : List ℕ → Option (List ℕ) → Option (List ℕ) → Status → Type 0
 PrintsText text before now Done = now ≡ append_known before text
 PrintsText text before now WriteFault = GotPrefix before now text

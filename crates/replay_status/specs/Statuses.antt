@@ -38,7 +38,7 @@ abbrev pub unit_word : TooMuch → List ℕ
 unit_word Ticks = codes " ticks"
 unit_word Bytes = codes " bytes"
 
--- the line that the log gets last; none after Done and after a write that failed
+-- the line that is written last to the log; none after `Done`, nor after a write that failed
 abbrev pub fault_line : Status → List ℕ
 fault_line Done = []
 fault_line Usage = codes "fault: usage\n"

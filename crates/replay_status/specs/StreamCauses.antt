@@ -1,4 +1,4 @@
--- The causes of a status, over the outside of a run.
+-- The causes of a status, for the outside of a run.
 use Rattle.yasir_io.specs.declared.source.Source.{Ghosts as Source}
 use Rattle.yasir_io.specs.declared.sink.Sink.{Ghosts as Sink}
 use Rattle.replay_status.specs.Causes.{ReadsCause, SinkCause}
@@ -6,8 +6,8 @@ use Rattle.replay_status.specs.Flushes.{FlushesAtEnd}
 use Rattle.replay_status.specs.Outside.{Outside}
 use Rattle.replay_status.specs.declared.status.Status.{Status}
 
--- What a status says of the counts of faults of the key, the input and the two sinks, and of the
--- flushes.
+-- Holds if the counts of faults of the key, the input and the two sinks, and the flushes, are as
+-- the status says.
 pub record HasStreamCauses {K S O L D : Type 0} (k : Source K) (s : Source S) (o : Sink O)
     (l : Sink L) (before after : Outside K S O L D) (status : Status) : Type 0 where
   pub reads : ReadsCause (k.faults before.key) (k.faults after.key)

@@ -1,4 +1,4 @@
-//! How a command ends: by a text that is written and two flushes, or by the end of its input.
+//! How a command ends: with a text that it writes and two flushes, or with the end of its input.
 ghost use Rattle.std.specs.Prelude.{◌≡◌, ◌⊎◌};
 ghost use Rattle.replay_status.specs.Causes.{SinkCause};
 ghost use Rattle.replay_status.specs.Endings.{status_of};
@@ -9,7 +9,7 @@ use crate::Status;
 use tick_drive::{End, Stop};
 use yasir_io::{Failed, Sink, write_all};
 
-/// Flushes both sinks, on the way to `Done`.
+/// Flushes both sinks, on the way to `Done`. Returns `WriteFault` if a flush failed.
 pub fn flush_both<O: Sink, L: Sink>(out: &mut O, log: &mut L) -> Status
     ensures status { (result ≡ Status.Done) ⊎ (result ≡ Status.WriteFault) }
     ensures out { O.held out.new ≡ O.held out.old }
@@ -27,9 +27,9 @@ pub fn flush_both<O: Sink, L: Sink>(out: &mut O, log: &mut L) -> Status
     Status::Done
 }
 
-/// Writes a text to the output, and flushes both sinks after it. Returns `Done`; or `WriteFault`
-/// where the write or a flush failed, and then the output has got a front of the text, or all of
-/// it. Nothing is written to the log.
+/// Writes a text to the output, and flushes both sinks after it. Returns `Done`, or `WriteFault` if
+/// the write or a flush failed. Then the output has got a front of the text, or all of it. Nothing
+/// is written to the log.
 pub fn print_text<O: Sink, L: Sink>(text: &[u8], out: &mut O, log: &mut L) -> Status
     ensures status { (result ≡ Status.Done) ⊎ (result ≡ Status.WriteFault) }
     ensures out { PrintsText text.now (O.held out.old) (O.held out.new) result }
@@ -45,7 +45,8 @@ pub fn print_text<O: Sink, L: Sink>(text: &[u8], out: &mut O, log: &mut L) -> St
     flush_both(out, log)
 }
 
-/// The status of a run that ended so, and whose last lines were written.
+/// Returns the status of a run whose drive over the input ended like this, and whose last lines
+/// were written.
 pub fn status_of(end: End) -> Status
     ensures { result ≡ status_of end }
 {

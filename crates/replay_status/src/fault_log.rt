@@ -99,7 +99,7 @@ fn wrong_link_line(slot: &SlotBytes) -> Line
     line
 }
 
-// A line of a fixed text.
+// Returns a line with a fixed text.
 fn fixed_line(text: &[u8]) -> Line
     requires { length text.now ≤ 20 }
     ensures { result.items ≡ text.now }
@@ -109,7 +109,7 @@ fn fixed_line(text: &[u8]) -> Line
     line
 }
 
-/// The fault line of a status, LF included. It is empty for the statuses that have none.
+/// Returns the fault line of a status, with its LF. It is empty for the statuses that have none.
 pub fn fault_line(status: &Status) -> Line
     ensures { result.items ≡ fault_line status.now }
 {
@@ -128,7 +128,7 @@ pub fn fault_line(status: &Status) -> Line
     }
 }
 
-/// Writes the fault line of a status to the log. A failure of this write changes nothing.
+/// Writes the fault line of a status to the log. If this write fails, the status stays the same.
 pub fn write_fault<L: Sink>(log: &mut L, status: &Status)
     ensures logs { LogsFault (L.held log.old) (L.held log.new) (L.faults log.old) (L.faults log.new)
         status.now }

@@ -1,5 +1,5 @@
-//! How a run of the program ends: its status, the exit status and the fault line of each, and the
-//! text that all commands print.
+//! How a run of the program ends: its status, the exit status and the fault line of each status,
+//! and what all commands use to print text.
 //!
 //! A command that prints one line, and the end of its run:
 //!

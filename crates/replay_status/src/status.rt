@@ -8,7 +8,7 @@ use yasir_ticks::BadTicks;
 /// How a run of the program ended.
 #[derive(Clone, Copy, Debug, PartialEq, Eq)]
 pub enum Status {
-    /// The output is written, all of it.
+    /// All of the output is written.
     Done,
     /// The words name no command.
     Usage,
@@ -20,18 +20,18 @@ pub enum Status {
     WriteFault,
     /// The journal's disk failed.
     JournalFault,
-    /// The input has more ticks or bytes than are taken; `count` is the first sum that was too
+    /// The input has more ticks or bytes than may be taken. `count` is the first sum that was too
     /// much.
     TooLong { what: TooMuch, count: u64 },
-    /// A journal stands already, at this floor.
+    /// There is a journal already. `floor` is its floor.
     HasJournal { floor: u64 },
-    /// The key's text is no key; `place` is the length of its longest prefix that begins some key
-    /// text.
+    /// The key's text is no key. `place` is the length of its longest front with which some key
+    /// text begins.
     BadKey { place: u32 },
-    /// The disk holds no journal; these are its slots as they were read.
+    /// The disk holds no journal. `a` and `b` are its slots as they were read.
     BadJournal { a: SlotBytes, b: SlotBytes },
-    /// The disk holds another link's journal; this is its slot as it was read, and of two the one
-    /// with the greater number.
+    /// The disk holds another link's journal. `slot` is its slot as it was read, and of two slots
+    /// the one with the greater number.
     WrongLink { slot: SlotBytes },
     /// There was no memory for what is kept of the input.
     NoMemory,
@@ -40,7 +40,7 @@ pub enum Status {
 impl Status {
     ghost use Rattle.replay_status.specs.Statuses.{exit_status_of};
 
-    /// The program's exit status.
+    /// Returns the program's exit status.
     pub fn exit_status(&self) -> u8
         ensures { result ≡ exit_status_of self.now }
     {

@@ -3,11 +3,11 @@ ghost use Rattle.std.specs.Prelude.{◌≡◌, ◌≤◌, ◌<◌, ◌+◌, ◌/
 
 use arrayvec::ArrayVec;
 
-/// One printed line: the longest has 8 bytes, a number of 20 digits, a blank, 292 bytes in hex and
+/// One printed line. The longest has 8 bytes, a number of 20 digits, a blank, 292 bytes in hex and
 /// an LF.
 pub type Line = ArrayVec<u8, 640>;
 
-// The digit of the tens of a number below 100.
+// Returns the digit of the tens of a number below 100.
 #[inline(always)]
 fn tens(n: u32) -> u8
     requires { n < 100 }
@@ -16,7 +16,7 @@ fn tens(n: u32) -> u8
     b'0' + (n / 10) as u8
 }
 
-// The last digit of a number.
+// Returns the last digit of a number.
 #[inline(always)]
 fn ones(n: u32) -> u8
     ensures { result ≡ 48 + n % 10 }
@@ -24,8 +24,8 @@ fn ones(n: u32) -> u8
     b'0' + (n % 10) as u8
 }
 
-// Appends the two digits of a number below 100. Each is written where it waits: a piece of a few
-// bytes costs more.
+// Appends the two digits of a number below 100. Each is written right into the line, since a copy
+// of a few bytes costs more.
 #[inline(always)]
 fn push_pair<const CAP: usize>(line: &mut ArrayVec<u8, CAP>, n: u32)
     requires few { n < 100 }
@@ -68,7 +68,7 @@ fn push_four<const CAP: usize>(line: &mut ArrayVec<u8, CAP>, n: u32)
     push_pair(line, n % 100);
 }
 
-// Appends the decimal digits of a number from 10,000 on, below 100,000,000.
+// Appends the decimal digits of a number that is at least 10,000 and below 100,000,000.
 #[inline(always)]
 fn push_eight<const CAP: usize>(line: &mut ArrayVec<u8, CAP>, n: u32)
     requires some { 10000 ≤ n }

@@ -1,11 +1,11 @@
-//! Numbers and digits in a text, written where they wait.
+//! Appends numbers and hex digits to a text that waits, right where it waits.
 ghost use Rattle.std.specs.Prelude.{◌≡◌, ◌+◌, ◌*◌, ◌<◌, ◌≤◌, ◌++◌, length, decimal};
 ghost use Rattle.hex.specs.Hex.{encode_lower};
 
 use yasir_io::TextRoom;
 use yasir_ticks::digits_of;
 
-// How many bytes are written together.
+// How many bytes are written at once.
 const TOGETHER: usize = 32;
 
 /// Appends the decimal digits of a number. There must be room for 20 bytes.
@@ -19,7 +19,7 @@ pub fn append_decimal<const CAP: usize>(text: &mut TextRoom<CAP>, n: u64)
     text.append(digits.format(n).as_bytes());
 }
 
-// Appends the digits of fewer bytes than are written together.
+// Appends the digits of fewer bytes than are written at once.
 #[inline]
 fn append_last<const CAP: usize>(text: &mut TextRoom<CAP>, rest: &[u8])
     requires few { length rest.now < 32 }
@@ -31,8 +31,8 @@ fn append_last<const CAP: usize>(text: &mut TextRoom<CAP>, rest: &[u8])
     text.append_front(&digits_of(&last), 2 * rest.len());
 }
 
-/// Appends bytes as lower-case hex digits. There must be room for them, and for 64 bytes more: what
-/// is left of 32 is copied with what comes after it.
+/// Appends bytes as lower-case hex digits. There must be room for them, and for 64 bytes more: the
+/// last bytes, fewer than 32, are copied together with what comes after them.
 pub fn append_digits<const CAP: usize>(text: &mut TextRoom<CAP>, bytes: &[u8])
     requires { length text.old.items + 2 * length bytes.now + 64 ≤ CAP }
     ensures digits { text.new.items ≡ text.old.items ++ encode_lower bytes.now }
