@@ -1,4 +1,4 @@
--- What stands where for a consumer that prints a line for each frame that its device reads.
+-- What is said of a consumer that prints a line for each frame that its device reads.
 use Rattle.std.specs.Prelude.{◌≡◌, ℕ, List, Option, ⊤, Result}
 use Rattle.yasir_io.specs.Causes.{HasCause}
 use Rattle.yasir_io.specs.Flushed.{IsNotFlushed}
@@ -13,8 +13,8 @@ use Rattle.tick_drive.specs.declared.consumer.Stop.TheVariants.{WriteFault}
 use Rattle.device_replay.specs.Lines.{frame_lines}
 use Rattle.device_replay.specs.declared.frame_lines.FrameLines.{FrameLines}
 
--- What is held is what was held before. The sink failed where this is the answer, and was not
--- flushed.
+-- Holds if the printer still holds the same objects. Its sink failed if the result says so, and
+-- wasn't flushed.
 pub record KeepsHeld {V O : Type 0} (o : Sink O) (old new : FrameLines V O)
     (result : Result (Unit {0}) Stop) : Type 0 where
   pub device : new.device.ghost_name ≡ old.device.ghost_name
@@ -24,22 +24,22 @@ pub record KeepsHeld {V O : Type 0} (o : Sink O) (old new : FrameLines V O)
   pub flushes : IsNotFlushed o old.out.now new.out.now
 
 module _ {V O : Type 0} (device : Device V) (o : Sink O) where
-  -- The device has heard these items' ticks, and the lines of what it read are on their way to
-  -- `out`, which held this at the start.
+  -- Holds if the device has heard the ticks among these items, and the lines of what it read are on
+  -- their way to `out`, which held `start` at first.
   pub record PrintsReads (printer : FrameLines V O) (start : Option (List ℕ)) (items : List Item) :
       Type 0 where
     pub hears : device.stands printer.device.now (ticks_in items)
     pub lines : Buffered start (o.held printer.out.now) (waiting_bytes printer.lines.now)
         (frame_lines (device.reads (ticks_in items)))
 
-  -- A write failed at the last of these items: `out` has got a front of the lines.
+  -- Holds if a write failed at the last of these items, and `out` has got a front of the lines.
   pub record StopsPrinting (printer : FrameLines V O) (stop : Stop) (start : Option (List ℕ))
       (items : List Item) : Type 0 where
     pub why : stop ≡ WriteFault
     pub lines : GotPrefix start (o.held printer.out.now)
         (frame_lines (device.reads (ticks_in items)))
 
-  -- What is said of such a consumer.
+  -- What is said of such a printer, as the loop over an input needs it.
   abbrev pub printing : Consuming (FrameLines V O)
   printing = record {
     Origin = Option (List ℕ);

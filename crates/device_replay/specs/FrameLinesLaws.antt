@@ -1,4 +1,4 @@
--- What calls do to what a printer of frames holds, one after the other.
+-- The laws of what calls do, one after the other, to what a printer of frames holds.
 use Rattle.std.proofs.Common.{◌∙◌, refl}
 use Rattle.yasir_io.specs.declared.sink.Sink.{Ghosts as Sink}
 use Rattle.device_model.specs.declared.device.Device.{Ghosts as Device}

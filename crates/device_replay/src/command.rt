@@ -1,4 +1,4 @@
-//! The command `read`: print a line for each frame that a device reads of the input.
+//! The command `read`, which prints a line for each frame that a device reads from the input.
 ghost use Rattle.std.specs.Prelude.{◌≡◌, [], ℕ};
 ghost use Rattle.yasir_io.specs.Causes.{HasCause};
 ghost use Rattle.yasir_io.specs.TextBuffer.{waiting_bytes};
@@ -14,10 +14,11 @@ use replay_status::{Status, flush_both, status_of};
 use tick_drive::{End, drive_to_rest};
 use yasir_io::{Failed, Sink, Source, TextBuffer};
 
-/// How many silent ticks come after a whole input, so that its last burst ends.
+/// How many silent ticks follow a whole input, so that its last burst ends.
 const REST: u32 = 4;
 
-// Drives the input into the device. The lines of its frames are on their way to `out`.
+// Drives the input into the device. When it returns, lines of frames may still wait on their way to
+// `out`.
 fn drive_frames<V: Device, S: Source, O: Sink>(
     device: &mut V,
     lines: &mut TextBuffer,

@@ -1,4 +1,4 @@
-//! The consumer that drives a device and writes the lines of its frames.
+//! The consumer that drives a device, and writes the lines of the frames that it reads.
 ghost use Rattle.std.specs.Prelude.{◌≡◌, ◌<◌, length};
 ghost use Rattle.yasir_ticks.specs.TickRun.{run_ticks, run_items};
 ghost use Rattle.yasir_ticks.specs.declared.tick_run.TickRun.TheVariants.{Bytes, Silence};
@@ -14,7 +14,7 @@ use yasir_ticks::TickRun;
 #[cfg(test)]
 mod turn_tests;
 
-/// Prints a line for each frame that a device reads to a sink.
+/// Prints to a sink a line for each frame that a device reads.
 #[derive(Drop)]
 pub struct FrameLines<'a, V, O> {
     device: &'a mut V,
@@ -23,7 +23,7 @@ pub struct FrameLines<'a, V, O> {
 }
 
 impl<'a, V, O> FrameLines<'a, V, O> {
-    /// Prints to this sink, by way of this text, what this device reads.
+    /// Returns a printer of what `device` reads. The lines wait in `lines` on their way to `out`.
     pub fn new(device: &'a mut V, lines: &'a mut TextBuffer, out: &'a mut O) -> FrameLines<'a, V, O>
         ensures device { result.device ≡ device.entry }
         ensures lines { result.lines ≡ lines.entry }
@@ -34,7 +34,8 @@ impl<'a, V, O> FrameLines<'a, V, O> {
 }
 
 impl<'a, V: Device, O: Sink> FrameLines<'a, V, O> {
-    // Hears a run up to a tick in which a frame is read, and adds its line. Says how many ticks.
+    // Hears a run up to a tick in which a frame is read, and adds the line of this frame. Returns
+    // how many ticks it took.
     #[inline(always)]
     fn print_some(&mut self, run: TickRun<'_>) -> Result<usize, Stop>
         requires some { 0 < length (run_ticks run) }
@@ -52,7 +53,7 @@ impl<'a, V: Device, O: Sink> FrameLines<'a, V, O> {
         }
     }
 
-    // Takes the first of these bytes, and prints the line of the frame that they end, if one does.
+    // Takes the first of these bytes. If they end a frame, prints its line.
     #[inline]
     fn hear_part(&mut self, bytes: &[u8]) -> Result<usize, Stop>
         requires some { 0 < length (run_ticks (Bytes bytes)) }
@@ -63,8 +64,7 @@ impl<'a, V: Device, O: Sink> FrameLines<'a, V, O> {
         self.print_some(TickRun::Bytes(bytes))
     }
 
-    // Takes the first of these silent ticks, and prints the line of the frame that they end, if one
-    // does.
+    // Takes the first of these silent ticks. If they end a frame, prints its line.
     #[inline]
     fn wait_part(&mut self, ticks: u32) -> Result<usize, Stop>
         requires some { 0 < length (run_ticks (Silence ticks)) }
@@ -81,8 +81,8 @@ impl<'a, V: Device, O: Sink> Consumer for FrameLines<'a, V, O> {
 
     ghost meaning = { printing V.Device O.Sink };
 
-    // Takes a run up to a tick in which a frame is read, and adds its line. Either kind has a part
-    // of its own, so that each is compiled for its kind.
+    // Takes a run up to a tick in which a frame is read, and adds the line of this frame. Each kind
+    // of run has a function of its own, so that it is compiled for its kind.
     #[inline(always)]
     fn take_some(&mut self, run: TickRun<'_>) -> Result<usize, Stop> {
         match run {

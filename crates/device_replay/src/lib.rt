@@ -1,4 +1,4 @@
-//! A device over a recorded line: a line of text for each frame that it reads.
+//! A device that reads a recorded line, and a line of text for each frame that it reads.
 //!
 //!     let status = read_frames::<RtuDevice, _, _, _>(&mut input, &mut out, &mut log);
 #![tactic(auto)]

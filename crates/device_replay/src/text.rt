@@ -8,12 +8,12 @@ ghost use Rattle.device_replay.specs.Lines.{frame_line, frame_line_of};
 use replay_status::{append_decimal, append_digits};
 use yasir_io::{Failed, Sink, TextBuffer, TextRoom};
 
-/// The room that a line of a frame needs: 8 bytes of words, a number of 20 digits, a blank, 292
-/// bytes in hex, an LF, and 64 bytes that the last digits may be copied with.
+/// The room that the line of a frame needs: 8 bytes of words, a number of 20 digits, a blank, 292
+/// bytes in hex, an LF, and 64 bytes that may be copied with the last digits.
 pub const LINE_ROOM: usize = 678;
 
-/// Appends these words, at most 8 bytes, and behind them `S HEX` and an LF: the tick of the first
-/// byte of a frame, and its bytes. There must be room for 678 bytes.
+/// Appends `words`, at most 8 bytes, and then `S HEX` and an LF: the tick of the first byte of a
+/// frame, and the frame's bytes. There must be room for 678 bytes.
 #[inline]
 pub fn write_frame_line<const CAP: usize>(
     text: &mut TextRoom<CAP>,
@@ -35,7 +35,7 @@ pub fn write_frame_line<const CAP: usize>(
 }
 
 /// Adds the line `read at S HEX` to a text on its way to a sink: the tick of the first byte of a
-/// frame that is read, and its bytes. The line is written where it waits.
+/// frame that was read, and the frame's bytes. The line is written right into the text that waits.
 #[inline(never)]
 pub fn push_read_line<O: Sink>(
     text: &mut TextBuffer,

@@ -79,7 +79,7 @@ const TEXT: &[u8] = b"+000102030405060708090a0b0c0d0e0f101112131415161718191a1b1
       +41\n\
       -40\n";
 
-// The calls of a device that hears the text.
+// Returns how often a device is called that hears the text.
 fn calls_of(alloc: Global) -> Result<Calls, Fail> {
     let mut device = Deaf::fresh();
     let mut lines = TextBuffer::new();
