@@ -1,4 +1,4 @@
--- The bursts of a line that goes on by one tick. The cut is any number, so that each device has its
+-- The bursts of a line that goes on by one tick. The cut is any number, since each device has its
 -- own.
 use Rattle.std.proofs.Common.{◌≡◌, ℕ, zero, suc, ◌+◌, ◌-◌, ◌<◌, ◌≤◌, nat_lt, cond, List, [], ◌∷◌}
 use Rattle.std.proofs.Common.{◌++◌, length, refl, arith, sym, ◌∙◌, ap, append_assoc, length-append}
@@ -13,18 +13,18 @@ use Rattle.yasir_ticks.specs.declared.tick.Tick.{Tick, TheVariants.Silent, TheVa
 abbrev pub alone : ℕ → ℕ → Burst
 alone m b = record { start = m; body = Byte b ∷ [] }
 
--- a burst, and after it a byte at tick m
+-- a burst that a byte at tick m has joined at its end
 abbrev pub with_last : Burst → ℕ → ℕ → Burst
 with_last d m b = record {
   start = d.start;
   body = d.body ++ (silent (m - end_of d) ++ (Byte b ∷ []));
 }
 
--- a byte at tick n, and after it a burst
+-- a burst that a byte at tick n has joined at its start
 abbrev pub with_first : ℕ → ℕ → Burst → Burst
 with_first n b d = record { start = n; body = Byte b ∷ (silent (d.start - suc n) ++ d.body) }
 
--- a byte at tick m, after these bursts
+-- these bursts, with a byte at tick m put after them
 unfoldable pub extended : ℕ → ℕ → ℕ → List Burst → List Burst
 extended cut m b [] = alone m b ∷ []
 extended cut m b (d ∷ []) =
@@ -57,8 +57,8 @@ module _ (cut : ℕ) where
   unfolding extended
   extended-cons m b d e ds = refl
 
-  -- A byte before these bursts and a byte after them may be added in either order: the only burst
-  -- stands far from the first byte,
+  -- A byte before a single burst and a byte after it may be added in either order, if the first
+  -- byte is too far from the burst to join it.
   both-far : (n m a b : ℕ) (d : Burst) → suc n + cut ≤ d.start
       → extended cut m b (with_byte cut n a (d ∷ []))
       ≡ with_byte cut n a (extended cut m b (d ∷ []))
@@ -90,7 +90,8 @@ module _ (cut : ℕ) where
       ∙ ap (λ k. silent (d.start - suc n) ++ (d.body ++ (silent (m - k) ++ (Byte b ∷ []))))
       (end_of-with_first n a d later))
 
-  -- or near it,
+  -- A byte before a single burst and a byte after it may be added in either order, if the first
+  -- byte joins the burst.
   both-near : (n m a b : ℕ) (d : Burst) → suc n ≤ d.start → d.start < suc n + cut
       → extended cut m b (with_byte cut n a (d ∷ []))
       ≡ with_byte cut n a (extended cut m b (d ∷ []))
@@ -109,13 +110,13 @@ module _ (cut : ℕ) where
       ∙ with_byte-near n a d (alone m b ∷ []) near))
       (cases_lt m (end_of d + cut))
 
-  -- or there is none,
+  -- Two bytes may be added to a line without bursts in either order.
   both-alone : (n m a b : ℕ) → n < m
       → extended cut m b (with_byte cut n a []) ≡ with_byte cut n a (extended cut m b [])
   unfolding with_byte extended
   both-alone n m a b before = rw (add-one n) refl
 
-  -- or there are more.
+  -- A byte before any bursts and a byte after them may be added in either order.
   extended-with_byte : (n m a b : ℕ) (ds : List Burst) → n < m → StartsFrom (suc n) ds
       → extended cut m b (with_byte cut n a ds) ≡ with_byte cut n a (extended cut m b ds)
   extended-with_byte n m a b [] before starts = both-alone n m a b before
@@ -161,7 +162,7 @@ module _ (cut : ℕ) where
       (omega arith) (bursts_from-starts (suc n) l)
   bursts_from-starts n (Byte b ∷ l) = with_byte-starts n b (bursts_from cut (suc n) l)
 
-  -- One more byte is the next byte of the last burst, or a burst of its own.
+  -- One more byte of a line joins the last burst, or is a burst of its own.
   pub bursts_from-byte : (n m b : ℕ) (l : List Tick) → n + length l ≡ m
       → bursts_from cut n (l ++ Byte b ∷ []) ≡ extended cut m b (bursts_from cut n l)
   unfolding bursts_from with_byte extended
@@ -175,7 +176,7 @@ module _ (cut : ℕ) where
       ∙ sym (extended-with_byte n m a b (bursts_from cut (suc n) l) before
       (bursts_from-starts (suc n) l))
 
-  -- Silence at the end changes nothing.
+  -- Silence at the end of a line changes no burst.
   pub bursts_from-silent : (n : ℕ) (l : List Tick)
       → bursts_from cut n (l ++ Silent ∷ []) ≡ bursts_from cut n l
   unfolding bursts_from
@@ -194,7 +195,7 @@ module _ (cut : ℕ) where
   unfolding extended
   extended-nil m b = refl
 
-  -- after bursts that are all closed a byte is a burst of its own
+  -- After bursts that are all closed, a byte is a burst of its own.
   pub extended-closed : (m b : ℕ) (ds : List Burst) → AreClosed cut m ds
       → extended cut m b ds ≡ ds ++ alone m b ∷ []
   extended-closed m b [] closed = extended-nil m b
@@ -202,7 +203,7 @@ module _ (cut : ℕ) where
   extended-closed m b (d ∷ e ∷ ds) closed =
       extended-cons m b d e ds ∙ ap (λ x. d ∷ x) (extended-closed m b (e ∷ ds) closed.1)
 
-  -- a byte that fewer than `cut` silent ticks part from the last burst joins it
+  -- A byte joins the last burst if fewer than `cut` silent ticks separate them.
   pub extended-joins : (m b : ℕ) (front : List Burst) (d : Burst) → m < end_of d + cut
       → extended cut m b (front ++ d ∷ []) ≡ front ++ with_last d m b ∷ []
   extended-joins m b [] d near = extended-near m b d near
@@ -212,7 +213,7 @@ module _ (cut : ℕ) where
       extended-cons m b x e (front ++ d ∷ [])
       ∙ ap (λ y. x ∷ y) (extended-joins m b (e ∷ front) d near)
 
--- bursts that are closed stay so
+-- Bursts that are closed stay closed.
 pub AreClosed-later : (cut m n : ℕ) (ds : List Burst) → m ≤ n → AreClosed cut m ds
     → AreClosed cut n ds
 AreClosed-later cut m n [] le closed = tt

@@ -1,4 +1,4 @@
--- `bursts_from` gives the bursts of a line, and nothing else is its bursts.
+-- `bursts_from` gives the bursts of a line, and a line has no other bursts.
 use Rattle.std.proofs.Common.{◌≡◌, ℕ, zero, suc, ◌+◌, ◌-◌, ◌<◌, List, [], ◌∷◌, ◌++◌, length, refl}
 use Rattle.std.proofs.Common.{arith, sym, ◌∙◌, ap, subst, ⊎_elim, length-append, add-zero}
 use Rattle.std.proofs.lemmas.{Bool.cases_lt, List.append_assoc, List.length-replicate}
@@ -18,7 +18,7 @@ module _ (cut : ℕ) where
   unfolding with_byte
   with_byte-nil n b = refl
 
-  -- silence before the first byte
+  -- Silence before the first byte moves the bursts to later ticks.
   pub bursts_from-silence : (n gap : ℕ) (l : List Tick)
       → bursts_from cut n (silent gap ++ l) ≡ bursts_from cut (n + gap) l
   unfolding bursts_from
@@ -27,13 +27,13 @@ module _ (cut : ℕ) where
       let e : suc n + gap ≡ n + suc gap = omega arith in
       bursts_from-silence (suc n) gap l ∙ ap (λ i. bursts_from cut i l) e
 
-  -- a byte that is alone
+  -- A byte that is far enough before the other bursts is a burst of its own.
   with_byte-alone : (n b : ℕ) (ds : List Burst) → StartsFrom (suc n + cut) ds
       → with_byte cut n b ds ≡ alone n b ∷ ds
   with_byte-alone n b [] far = with_byte-nil n b
   with_byte-alone n b (d ∷ ds) far = with_byte-far cut n b d ds far
 
-  -- Contiguous ticks that `cut` or more silent ticks follow are a burst of their own.
+  -- Contiguous ticks that are followed by `cut` or more silent ticks are a burst of their own.
   pub bursts_from-contiguous : (n : ℕ) (x rest : List Tick) → IsContiguous cut x
       → StartsFrom (n + length x + cut) (bursts_from cut (n + length x) rest)
       → bursts_from cut n (x ++ rest) ≡ record { start = n; body = x }
@@ -75,7 +75,7 @@ module _ (cut : ℕ) where
       → AreBursts cut m l ds
   AreBursts-at n m l ds e are = let P : ℕ → Type 0 = λ i. AreBursts cut i l ds in subst P e are
 
-  -- a byte that is alone before the other bursts
+  -- A byte far enough before the bursts of what follows is a burst of its own before them.
   AreBursts-alone : (n b : ℕ) (l : List Tick) (ds : List Burst) → StartsFrom (suc n + cut) ds
       → AreBursts cut (suc n) l ds
       → AreBursts cut n (Byte b ∷ l) (alone n b ∷ ds)
@@ -116,7 +116,7 @@ module _ (cut : ℕ) where
       (AreBursts-alone n b l (d ∷ ds) far are))
       (cases_lt d.start (suc n + cut))
 
-  -- These are the bursts,
+  -- What `bursts_from` gives are the bursts of the line.
   pub bursts_from-are : (n : ℕ) (l : List Tick) → AreBursts cut n l (bursts_from cut n l)
   unfolding bursts_from
   bursts_from-are n [] = refl
@@ -130,7 +130,7 @@ module _ (cut : ℕ) where
   bursts_from-no_byte n zero = refl
   bursts_from-no_byte n (suc m) = bursts_from-no_byte (suc n) m
 
-  -- and nothing else is.
+  -- Whatever the bursts of the line are, `bursts_from` gives them.
   pub bursts_from-only : (n : ℕ) (l : List Tick) (ds : List Burst) → AreBursts cut n l ds
       → bursts_from cut n l ≡ ds
   bursts_from-only n l [] silence = ap (λ x. bursts_from cut n x) silence
@@ -148,7 +148,7 @@ module _ (cut : ℕ) where
       ∙ (ap (λ x. let e : Burst = record { start = n + are.0; body = d.body } in e ∷ x) others
       ∙ ap (λ i. let e : Burst = record { start = i; body = d.body } in e ∷ ds) (sym are.3))))
 
--- Contiguous ticks that go on after fewer than `cut` silent ones stay contiguous.
+-- Contiguous ticks stay contiguous if, after fewer than `cut` silent ticks, a byte follows.
 pub contiguous-more : (cut : ℕ) (x : List Tick) (gap b : ℕ) → IsContiguous cut x → gap < cut
     → IsContiguous cut (x ++ (silent gap ++ Byte b ∷ []))
 contiguous-more cut x gap b (one c) few = more c gap (Byte b ∷ []) few (one b)

@@ -1,4 +1,4 @@
--- The canonical text of ticks stands for them, and for nothing else.
+-- The canonical text of ticks represents them, and nothing else.
 use Rattle.hex.{proofs.HexLemmas.decode_of-encode_lower, specs.Hex.encode_lower, specs.Hex.IsBytes}
 use Rattle.std.proofs.Common.{◌≡◌, ◌∙◌, ℕ, zero, suc, ◌+◌, ◌-◌, ◌/◌, ◌%◌, ◌^◌, ◌<◌, ◌≤◌, true, List}
 use Rattle.std.proofs.Common.{[], ◌∷◌, ◌++◌, length, map, take, drop, replicate, Some, refl, sym}
@@ -23,7 +23,7 @@ use Rattle.yasir_ticks.specs.declared.tick.Tick.{Tick, TheVariants.Silent, TheVa
 
 -- ---- one line
 
--- the text of these lines, whatever lines follow
+-- Holds if a text adds these items before those of any lines that follow.
 abbrev Adds : List ℕ → List Item → Type 0
 Adds text items = (more : List ℕ) (others : List Item) → all_items (all_lines more) ≡ Some others
     → all_items (all_lines (text ++ more)) ≡ Some (items ++ others)
@@ -65,7 +65,7 @@ adds-bytes : (l : List ℕ) → All (λ b. b < 256) l → 1 ≤ length l → len
 adds-bytes l all some few = adds-line (43 ∷ encode_lower l) (byte_ticks l)
     (pairs_right (encode_lower l) l (decode_of-encode_lower l (bytes_from l all)) (omega arith) few)
 
--- a stretch of at most n bytes
+-- The lines of a stretch of at most n bytes add its bytes.
 adds-lines : (n : ℕ) (l : List ℕ) → length l ≤ n → All (λ b. b < 256) l
     → Adds (stretch_lines (bytes l)) (byte_ticks l)
 adds-lines n [] within all = adds-nil
@@ -92,7 +92,7 @@ adds-lines (suc n) (b ∷ l) within all = elim (cases_lt (length (b ∷ l)) 33) 
 
 -- ---- silence
 
--- the digits of a number, as a line has them
+-- Holds if these are the digits of a number as a line has them.
 record IsCount (n : ℕ) (digits : List ℕ) : Type 0 where
   plain : is_plain_decimal digits ≡ true
   number : number_after 0 digits ≡ n
@@ -126,7 +126,8 @@ adds-silence n some few =
     adds-line (45 ∷ decimal n) (replicate n (tick Silent))
     (number_right (decimal n) n count.plain count.number few)
 
--- a filled line, and then a stretch
+-- If the lines of m silent ticks add these, then the lines of one full line more, k silent ticks,
+-- add those.
 adds-more : (full m k : ℕ) → full ≡ 1000000 → full + m ≡ k
     → Adds (stretch_lines (silence m)) (replicate m (tick Silent))
     → Adds (stretch_lines (silence k)) (replicate k (tick Silent))
@@ -138,7 +139,7 @@ adds-more full m k is sum rest = adds-as (silence_line full ++ stretch_lines (si
     (adds-append (silence_line full) (stretch_lines (silence m)) (replicate full (tick Silent))
     (replicate m (tick Silent)) (adds-silence full (omega arith) (omega arith)) rest)
 
--- a stretch of k silent ticks, at most n
+-- The lines of a stretch of at most n silent ticks add these ticks.
 adds-silences : (n k : ℕ) → k ≤ n
     → Adds (stretch_lines (silence k)) (replicate k (tick Silent))
 adds-silences n zero within = adds-nil
@@ -216,7 +217,7 @@ no_line : all_items (all_lines []) ≡ Some []
 unfolding lines_of line_items
 no_line = refl
 
--- The canonical text stands for its ticks,
+-- The canonical text of ticks represents them.
 pub canonical_text-stands : (ticks : List Tick) → AreTicks ticks
     → IsTickText 0 (canonical_text ticks) (map tick ticks)
 canonical_text-stands ticks are = record {
@@ -226,7 +227,7 @@ canonical_text-stands ticks are = record {
   marked = marks_in-ticks ticks;
 }
 
--- and two lists with the same text are equal.
+-- Two lists of ticks with the same canonical text are equal.
 pub canonical_text-same : (a b : List Tick) → AreTicks a → AreTicks b
     → canonical_text a ≡ canonical_text b → a ≡ b
 canonical_text-same a b are bre same =

@@ -1,4 +1,4 @@
--- How a text goes on that no byte of is refused.
+-- How a text can go on if no byte of it is refused.
 use Rattle.std.proofs.Common.{◌≡◌, ◌∙◌, ℕ, ◌+◌, ◌*◌, ◌<◌, List, [], ◌∷◌, ◌++◌, length, replicate}
 use Rattle.std.proofs.Common.{Some, refl, ap, sym, arith, append_assoc, append-nil}
 use Rattle.yasir_ticks.proofs.Items.{marks_in-append, marks_in-content, all_items_both}
@@ -16,7 +16,7 @@ use Rattle.yasir_ticks.specs.declared.place.Place.{Place, TheVariants.Start}
 use Rattle.yasir_ticks.specs.declared.place.Place.TheVariants.{Comment, Pairs, HalfPair, Minus}
 use Rattle.yasir_ticks.specs.declared.place.Place.TheVariants.{Number, Percent, Returned, Refused}
 
--- how a line goes on to one of a right form, with this many marks
+-- how a line goes on to one of a right form, with `marks` marks
 pub record Completion (marks : ℕ) (line : List ℕ) : Type 0 where
   pub more : List ℕ
   pub items : List Item
@@ -90,7 +90,8 @@ completed_lines : {marks : ℕ} {line : List ℕ} (c : Completion marks line) (l
 completed_lines c left = all_lines-append c.more (mark_lines left)
     ∙ rw (c.single, all_lines-marks left) refl
 
--- a text goes on by what its last line lacks, and then by the marks that are left
+-- A text of which no byte is refused begins a right text: it goes on by what its last line lacks,
+-- and then by the marks that are left.
 pub begins_at : {place : Place} {bytes : List ℕ} {line left marks : ℕ} {text : List ℕ}
     → IsAt place bytes line left marks text → BeginsTickText marks text
 begins_at {place} {bytes} {line} {left} {marks} {text} at =

@@ -1,4 +1,4 @@
--- Lines apart from comments: a CR at the end, bytes that may not come in a content.
+-- Lines that are no comments: a CR at the end, and bytes that may not come in a content.
 use Rattle.std.proofs.Common.{◌≡◌, ◌≢◌, ◌∙◌, ◌==◌, ℕ, suc, Bool, true, false, List, [], ◌∷◌, ◌++◌}
 use Rattle.std.proofs.Common.{length, Option, Some, None, refl, ap, cond, arith, append-nil}
 use Rattle.yasir_ticks.proofs.Digits.{byte_items-bad, silence_items-bad}
@@ -9,7 +9,7 @@ use Rattle.yasir_ticks.specs.Ticks.{Item, Item.mark}
 pub test_of : (a b : ℕ) → a ≢ b → (a == b) ≡ false
 test_of a b h = grind arith
 
--- a line that is no comment stands for its content
+-- A line that is no comment represents its content.
 pub line_items-plain : (x : List ℕ) → starts_comment x ≡ false
     → line_items x ≡ content_items (without_return x)
 unfolding line_items
@@ -21,7 +21,7 @@ without_return-same [] h = refl
 without_return-same (c ∷ []) h = rw h refl
 without_return-same (c ∷ d ∷ x) h = ap (λ l. c ∷ l) (without_return-same (d ∷ x) h)
 
--- what comes before a byte stays
+-- What comes before a byte stays when a CR at the end is left out.
 pub without_return-append : (p : List ℕ) (b : ℕ) (l : List ℕ)
     → without_return (p ++ b ∷ l) ≡ p ++ without_return (b ∷ l)
 without_return-append [] b l = refl
@@ -38,8 +38,8 @@ pub starts_comment-append : (x : List ℕ) (b : ℕ) (l : List ℕ) → starts_c
 starts_comment-append [] b l h n = test_of b 35 n
 starts_comment-append (c ∷ x) b l h n = h
 
--- a byte that isn't CR, in a line that is no comment: what comes before it, the byte, and what
--- follows without a CR at its end
+-- If a byte of a line that is no comment isn't a CR, the content of the line is what comes before
+-- the byte, the byte, and what follows without a CR at its end.
 pub line_items-byte : (x : List ℕ) (b : ℕ) (l : List ℕ) → starts_comment (x ++ b ∷ l) ≡ false
     → b ≢ 13
     → line_items (x ++ b ∷ l) ≡ content_items (x ++ b ∷ without_return l)
@@ -47,21 +47,21 @@ line_items-byte x b l h r =
     line_items-plain (x ++ b ∷ l) h
     ∙ ap content_items (without_return-append x b l ∙ ap (λ y. x ++ y) (without_return-byte b l r))
 
--- a CR that ends the line
+-- A CR that ends a line that is no comment isn't part of its content.
 pub line_items-return : (x : List ℕ) → starts_comment x ≡ false
     → line_items (x ++ 13 ∷ []) ≡ content_items x
 line_items-return x h =
     line_items-plain (x ++ 13 ∷ []) (starts_comment-append x 13 [] h (λ e. absurd (omega arith)))
     ∙ ap content_items (without_return-append x 13 [] ∙ append-nil x)
 
--- a mark and then any byte
+-- A mark followed by any byte has no right form.
 pub mark_items-bad : (x : List ℕ) (b : ℕ) (l : List ℕ)
     → cond (length (x ++ b ∷ l) == 0) (Some (mark ∷ [])) None ≡ None
 mark_items-bad [] b l = rw (test_of (suc (length l)) 0 (λ e. absurd (omega arith))) refl
 mark_items-bad (d ∷ x) b l =
     rw (test_of (suc (length (x ++ b ∷ l))) 0 (λ e. absurd (omega arith))) refl
 
--- a CR within a content
+-- A content that has a CR has no right form.
 pub content_items-return : (x l : List ℕ) → content_items (x ++ 13 ∷ l) ≡ None
 content_items-return [] l = refl
 content_items-return (c ∷ x) l =
@@ -76,7 +76,7 @@ content_items-return (c ∷ x) l =
     by_sign false false true a b c = c
     by_sign false false false a b c = refl
 
--- a CR that more follows in a line that is no comment
+-- A line that is no comment has no right form if a CR in it is followed by more bytes.
 pub line_items-return_inside : (x : List ℕ) (b : ℕ) (l : List ℕ) → starts_comment x ≡ false
     → line_items (x ++ 13 ∷ b ∷ l) ≡ None
 line_items-return_inside x b l h =
@@ -85,7 +85,8 @@ line_items-return_inside x b l h =
     ∙ ap content_items (without_return-append x 13 (b ∷ l))
     ∙ content_items-return x (without_return (b ∷ l))
 
--- a CR behind what is no content, whatever follows
+-- A line that is no comment has no right form if what comes before a CR has none, whatever follows
+-- the CR.
 pub line_items-return_open : (x l : List ℕ) → starts_comment x ≡ false → content_items x ≡ None
     → line_items (x ++ 13 ∷ l) ≡ None
 line_items-return_open x [] h n = line_items-return x h ∙ n

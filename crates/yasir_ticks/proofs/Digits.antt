@@ -1,4 +1,4 @@
--- Digits of `+` and `-` lines: one digit more, and bytes that are no digits.
+-- Digits of `+` and `-` lines: one more digit, and bytes that are no digits.
 use Rattle.hex.proofs.HexLemmas.{decode_of-odd}
 use Rattle.hex.specs.{Hex.decode_of, Hex.is_hex_digit, declared.error.FromHexError.FromHexError}
 use Rattle.std.proofs.Common.{◌≡◌, ◌∙◌, ◌==◌, ◌&&◌, ℕ, ◌+◌, ◌*◌, ◌-◌, ◌%◌, ◌≤◌, ◌<◌, Bool, true}
@@ -16,7 +16,7 @@ and_false : (p q : Bool) → q ≡ false → (p && q) ≡ false
 and_false true q h = h
 and_false false q h = refl
 
--- a test that fails at one element fails for the list
+-- A test that fails at one element fails for the whole list.
 pub list_all-bad : (test : ℕ → Bool) (x : List ℕ) (b : ℕ) (l : List ℕ) → test b ≡ false
     → list_all test (x ++ b ∷ l) ≡ false
 list_all-bad test [] b l h = rw h refl
@@ -25,7 +25,7 @@ list_all-bad test (c ∷ x) b l h = and_false (test c) (list_all test (x ++ b �
 
 -- ---- hex digits
 
--- what stands for bytes, whatever the number of digits is
+-- `byte_items` is `None` for what decodes to no bytes, whatever the number of digits is.
 byte_items-none : (x : List ℕ) → ((bytes : List ℕ) → decode_of x ≡ Ok bytes → ⊥)
     → byte_items x ≡ None
 byte_items-none x h = by_length (leb 1 (length x) && leb (length x) 64) (decode_of x) h

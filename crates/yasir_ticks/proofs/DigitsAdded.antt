@@ -1,4 +1,5 @@
--- Digits behind a line: those of the first 32 bytes of what is left, and those of the last bytes.
+-- Digits that are appended to a line: those of the first 32 bytes of what is left, or those of the
+-- last bytes.
 use Rattle.hex.proofs.HexLemmas.{length-encode_with}
 use Rattle.hex.specs.Hex.{encode_lower, encode_with, lower_digits}
 use Rattle.std.proofs.Common.{◌≡◌, ◌∙◌, ℕ, ◌+◌, ◌*◌, ◌≤◌, List, [], ◌∷◌, ◌++◌, length, take, drop}
@@ -7,7 +8,7 @@ use Rattle.std.proofs.lemmas.List.{append_assoc, append-nil, length-append, take
 use Rattle.std.specs.Prelude.{IsOk, OnOk, Result, Ok, Err}
 use Rattle.yasir_ticks.proofs.hex_digits.DigitEncoding.{encode-append, encode-take}
 
--- what holds of an answer that isn't an error
+-- If a result is `Ok`, then what holds on `Ok` holds.
 pub of-ok : {T E : Type 0} (r : Result T E) (P : Type 0) → IsOk r → OnOk r P → P
 of-ok (Ok x) P ok holds = holds
 of-ok (Err e) P ok holds = absurd cc
@@ -24,7 +25,7 @@ long line new x is =
     let digits = length-encode_with lower_digits x in
     omega (arith, size, digits)
 
--- among the digits of bytes that begin with x, the first ones are those of x
+-- If bytes begin with x, the first of their digits are those of x.
 pub front-digits : (x more full digits : List ℕ) → full ≡ x → digits ≡ encode_lower (full ++ more)
     → take (2 * length x) digits ≡ encode_lower x
 front-digits x more full digits copied is =

@@ -1,4 +1,4 @@
--- One byte more at a place of a text, and its end.
+-- One more byte at a place of a text, and the end of the text.
 use Rattle.std.proofs.Common.{◌≡◌, ◌≢◌, ◌≤◌, inl, inr, ◌∙◌, ◌==◌, ℕ, ◌+◌, List, [], ◌∷◌, ◌++◌, Some}
 use Rattle.std.proofs.Common.{None, Result, Ok, Err, refl, ap, sym, arith, append_assoc, append-nil}
 use Rattle.std.proofs.{Common.unwrap_or, Common.length-append, lemmas.Bool.cases_eq}
@@ -20,7 +20,7 @@ use Rattle.yasir_ticks.specs.declared.place.Place.{Place, TheVariants.Start}
 use Rattle.yasir_ticks.specs.declared.{reader.TickReader.TickReader, run.Run.Run}
 
 module _ (text : List ℕ) where
-  -- the last line goes on, or ends
+  -- A byte other than LF ends no line, so the items of the ended lines stay the same.
   pub items_more : (b : ℕ) (own : List Item) → b ≢ 10 → own ≡ []
       → ended_items (text ++ b ∷ []) ≡ ended_items text ++ own
   items_more b own n e = rw (lines_of-more text b n, e) (sym (append-nil (ended_items text)))
@@ -36,7 +36,7 @@ module _ (text : List ℕ) where
       ∙ ap (λ x. ended_items text ++ x) (append-nil (own)) in
       rw (lines_of-lf text) whole
 
-  -- all lines, where the last one has a right form
+  -- The items of all lines, if the last one has a right form too.
   pub items_whole : (own : List Item) → line_items (lines_of text).last ≡ Some (own)
       → all_items (lines_of text).ended ≡ Some (ended_items text)
       → all_items (all_lines text) ≡ Some (ended_items text ++ own)
@@ -46,7 +46,8 @@ module _ (text : List ℕ) where
       (all_items_cons (lines_of text).last [] (own) [] stands refl)
       ∙ ap (λ x. Some (ended_items text ++ x)) (append-nil (own))
 
--- an LF behind a last line that stands for these items
+-- An LF after a last line that represents these items brings a reader to the start of the next
+-- line.
 pub line_ends : (text new_bytes : List ℕ) (line left marks : ℕ) (own : List Item)
     → all_items (lines_of text).ended ≡ Some (ended_items text) → line ≡ line_after text
     → marks_in (ended_items text) + (marks_in own + left) ≡ marks
@@ -69,7 +70,7 @@ line_ends text new_bytes line left marks own ended counted marked stands =
 
 module _ (place new_place : Place) (bytes new_bytes : List ℕ) (line left new_left marks : ℕ)
     (text : List ℕ) (at : IsAt place bytes line left marks text) where
-  -- a byte within a line
+  -- A byte other than LF that is accepted brings a reader to the new place of the same line.
   pub at_more : (b : ℕ) (own : List Item) → b ≢ 10
       → Accepts place bytes left b (own) new_place new_bytes new_left
       → IsAt new_place new_bytes line new_left marks (text ++ b ∷ [])
@@ -85,15 +86,15 @@ module _ (place new_place : Place) (bytes new_bytes : List ℕ) (line left new_l
     last = rw (lines_of-more text b n) (a.reads n (lines_of text).last at.last);
   }
 
-  -- the LF of a line
+  -- An LF that is accepted brings a reader to the start of the next line.
   at_lf : (own : List Item) → Accepts place bytes left 10 (own) new_place new_bytes new_left
       → IsAt new_place new_bytes (line + 1) new_left marks (text ++ 10 ∷ [])
   at_lf own a = rw (a.start refl) (line_ends text new_bytes line new_left marks own at.ended
       at.counted (omega (arith, a.marked, at.marked, ap marks_at (a.start refl)))
       (a.stands refl (lines_of text).last at.last))
 
--- all lines of a text with a byte behind it and more, where the last line so far is a front of one
--- of them
+-- Holds if `line` comes right after the ended lines of a text, among all lines of a longer text:
+-- the text, one more byte, and any others.
 pub record Split (text : List ℕ) (b : ℕ) (more : List ℕ) (line : List ℕ) : Type 0 where
   pub others : List (List ℕ)
   pub lines : all_lines (text ++ b ∷ more) ≡ (lines_of text).ended ++ line ∷ others
@@ -119,7 +120,7 @@ split_byte text b more n =
       },
     )
 
--- the items of the line in the middle, which has no more marks than are left
+-- In a split of a right text, the line has a right form, and no more marks than are left.
 middle : (text : List ℕ) (b : ℕ) (more line : List ℕ) (left marks : ℕ) (items : List Item)
     → Split text b more line
     → all_items (lines_of text).ended ≡ Some (ended_items text)
@@ -145,7 +146,7 @@ middle text b more line left marks items s ended marked it =
 
 module _ (place : Place) (bytes : List ℕ) (line left marks : ℕ) (text : List ℕ)
     (at : IsAt place bytes line left marks text) where
-  -- no text goes on so
+  -- If a byte is refused, no right text begins with the text and this byte.
   pub refused_at : (b : ℕ) (why : TickFault) → Refuses place bytes left b why
       → ¬ BeginsTickText marks (text ++ b ∷ [])
   refused_at b why r (more, items, it) =
@@ -163,11 +164,12 @@ module _ (place : Place) (bytes : List ℕ) (line left marks : ℕ) (text : List
             omega (arith, r.wrong n (lines_of text).last at.last s.0 own.0 own.1, own.2)
       ]
 
--- ---- what a step of a reader says
+-- ---- what a step of a reader means for its text
 
 module _ (old new : TickReader) (b marks : ℕ) (text : List ℕ)
     (stood : StandsFor old marks text) where
-  -- a byte that goes on with the line, or ends it
+  -- A byte that is accepted brings the reader to its new place, in the same line or in the next
+  -- one.
   pub accepted_at : (own : List Item)
       → Accepts old.place old.bytes.items old.left b own new.place new.bytes.items new.left
       → new.line ≡ line_with old.line b
@@ -226,7 +228,7 @@ module _ (old new : TickReader) (b marks : ℕ) (text : List ℕ)
     sym (s.case.0.cause (lines_of text).last stood.at.last),
   )
 
--- a refused byte leaves the reader in its line
+-- A byte that is refused leaves the reader in its line.
 pub fed_line : (old new : TickReader) (b : ℕ) (result : Result Run BadTicks)
     → Steps old b result new → OnErr result (new.line ≡ old.line)
 fed_line old new b (Ok run) s = tt

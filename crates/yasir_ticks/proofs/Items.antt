@@ -1,4 +1,4 @@
--- The items of lines, and how many marks stand among them.
+-- The items of lines, and how many marks are among them.
 use Rattle.std.proofs.Common.{◌≡◌, ◌∙◌, ℕ, ◌+◌, zero, suc, List, [], ◌∷◌, ◌++◌, map, replicate}
 use Rattle.std.proofs.Common.{Option, Some, None, refl, ap, sym, arith, append_assoc, option_map}
 use Rattle.{std.specs.Option.option_and_then, yasir_ticks.specs.Reader.items_of_content}
@@ -28,7 +28,7 @@ marks_in-content KeptBytes bytes = marks_in-bytes bytes
 marks_in-content (SilentTicks n) bytes = marks_in-silent n
 marks_in-content OneMark bytes = refl
 
--- the items of some lines are those of the first ones, and then those of the others
+-- The items of some lines are those of the first ones, followed by those of the others.
 abbrev both : Option (List Item) → Option (List Item) → Option (List Item)
 both first more = option_and_then (λ items. option_map (λ others. items ++ others) more) first
 
@@ -48,7 +48,7 @@ all_items-append (l ∷ ls) b =
     ap (both (line_items l)) (all_items-append ls b)
     ∙ both_assoc (line_items l) (all_items ls) (all_items b)
 
--- what some items in two parts are
+-- Holds if items are in two parts, those of the first lines and those of the others.
 pub record Parts (first more : Option (List Item)) (items : List Item) : Type 0 where
   pub front : List Item
   pub back : List Item
@@ -85,7 +85,7 @@ pub all_items_cons : (l : List ℕ) (ls : List (List ℕ)) (i j : List Item) →
     → all_items ls ≡ Some j → all_items (l ∷ ls) ≡ Some (i ++ j)
 all_items_cons l ls i j p q = rw (p, q) refl
 
--- lines of a mark each
+-- n lines that are a mark each have n marks.
 pub all_items-marks : (n : ℕ) → (items : List Item)
     × (all_items (replicate n (37 ∷ [])) ≡ Some items) × (marks_in items ≡ n)
 unfolding line_items

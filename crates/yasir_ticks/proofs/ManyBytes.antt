@@ -13,7 +13,7 @@ use Rattle.yasir_ticks.specs.{ReaderStep.Accepts, Slices.GoesOn, TickText.ended_
 use Rattle.yasir_ticks.specs.declared.place.Place.TheVariants.{Comment, Pairs, HalfPair}
 use Rattle.yasir_ticks.specs.declared.reader.TickReader.{TickReader}
 
--- and then some more
+-- If a reader goes on by some bytes, and then by some more, it goes on by all of them.
 pub goes_on_then : (a b c : TickReader) (x y : List ℕ) → GoesOn a x b → GoesOn b y c
     → GoesOn a (x ++ y) c
 goes_on_then a b c x y f g = record {
@@ -27,7 +27,7 @@ goes_on_then a b c x y f g = record {
 quiet_byte : (text : List ℕ) (b : ℕ) → b ≢ 10 → ended_items (text ++ b ∷ []) ≡ ended_items text
 quiet_byte text b n = rw (lines_of-more text b n) refl
 
--- the two digits of a byte
+-- A reader goes on by the two digits of a byte.
 pub goes_on_pair : (old new : TickReader) (h l high low : ℕ) → old.place ≡ Pairs → new.place ≡ Pairs
     → new.line ≡ old.line → new.left ≡ old.left
     → Some high ≡ hex_digit_value h → Some low ≡ hex_digit_value l → length old.bytes.items < 32
@@ -54,7 +54,7 @@ goes_on_pair old new h l high low p q e m first second room kept = record {
     not_second : l ≢ 10
     not_second = hex_not_lf l (ap is_some (sym second))
 
--- one byte more of a comment
+-- A byte other than LF is accepted in a comment of fewer than 120 bytes.
 accepts_comment : (n : ℕ) (bytes : List ℕ) (left b : ℕ) → b ≢ 10 → n < 120
     → Accepts (Comment n) bytes left b [] (Comment (n + 1)) bytes left
 accepts_comment n bytes left b l h = record {
@@ -86,7 +86,7 @@ comment_at more n m bytes line left marks text at free sum within =
       });
     }
 
--- bytes of a comment
+-- A reader goes on by bytes of a comment.
 pub goes_on_comment : (old new : TickReader) (n m : ℕ) (more : List ℕ) → old.place ≡ Comment n
     → new.place ≡ Comment m → new.line ≡ old.line → new.left ≡ old.left
     → new.bytes.items ≡ old.bytes.items → IsFree more → n + length more ≡ m → m ≤ 120
@@ -102,7 +102,8 @@ goes_on_comment old new n m more p q e k kept free sum within = record {
   lines = omega arith;
 }
 
--- bytes of a slice, and then some of the rest
+-- A reader that goes on by the first n bytes of a slice, and then by m of the others, goes on by
+-- the first n + m.
 pub goes_on_slice : (a b c : TickReader) (bytes : List ℕ) (n m : ℕ) → GoesOn a (take n bytes) b
     → GoesOn b (take m (take (length bytes - n) (drop n bytes))) c → GoesOn a (take (n + m) bytes) c
 goes_on_slice a b c bytes n m f g =
@@ -111,20 +112,21 @@ goes_on_slice a b c bytes n m f g =
     rw (take-add n m bytes) (goes_on_then a b c (take n bytes) (take m (drop n bytes)) f
     (subst (λ x. GoesOn b (take m x) c) rest g))
 
--- a byte more of a slice
+-- A reader that goes on by the first n bytes of a slice, and then by the next one, goes on by the
+-- first n + 1.
 pub goes_on_byte : (a b c : TickReader) (bytes : List ℕ) (n : ℕ) → n < length bytes
     → GoesOn a (take n bytes) b → GoesOn b (get_or bytes n 0 ∷ []) c
     → GoesOn a (take (n + 1) bytes) c
 goes_on_byte a b c bytes n h f g = rw (take_more bytes n 0 h)
     (goes_on_then a b c (take n bytes) (get_or bytes n 0 ∷ []) f g)
 
--- a text with a byte more of a slice
+-- A text followed by n bytes of a slice, and by the next one, is followed by n + 1 bytes of it.
 pub text_more : (text bytes : List ℕ) (n : ℕ) → n < length bytes
     → (text ++ take n bytes) ++ get_or bytes n 0 ∷ [] ≡ text ++ take (n + 1) bytes
 text_more text bytes n h = append_assoc text (take n bytes) (get_or bytes n 0 ∷ [])
     ∙ ap (λ x. text ++ x) (sym (take_more bytes n 0 h))
 
--- a byte that was fed
+-- A reader goes on by a byte that ends no line with ticks or a mark.
 pub goes_on_fed : (old new : TickReader) (b : ℕ)
     → ((marks : ℕ) (text : List ℕ) → StandsFor old marks text
     → StandsFor new marks (text ++ b ∷ []))
@@ -137,7 +139,7 @@ goes_on_fed old new b stands run lines = record {
   lines = omega arith;
 }
 
--- what a search for an LF says of the bytes before it
+-- The bytes before the LF that a search found have no LF, nor have all bytes if it found none.
 pub free_front : (bytes : List ℕ) (room : ℕ) (found : Option ℕ) → room ≤ length bytes
     → IsFirstByte (is_byte 10) (take room bytes) found
     → (unwrap_or found room ≤ room) × ((k : ℕ) → k < length (take (unwrap_or found room) bytes)
@@ -157,7 +159,8 @@ free_front bytes room (Some place) fits first =
           ∙ sym (get_or-take place bytes k 0 before) ∙ e)),
     )
 
--- a place behind some bytes of the rest of a slice lies within it, unless these are all
+-- A place after m of the bytes that follow the first n of a slice is within the slice, unless n + m
+-- is its length.
 pub within_slice : (bytes : List ℕ) (n m : ℕ) → n ≤ length bytes
     → m ≤ length (take (length bytes - n) (drop n bytes)) → (n + m ≡ length bytes → ⊥)
     → n + m < length bytes
@@ -167,7 +170,7 @@ within_slice bytes n m h k other = omega (
   length-drop n bytes,
 )
 
--- and of the LF that it found
+-- The place that a search for an LF found is within the room, and has an LF.
 pub feed_found : (bytes : List ℕ) (room place : ℕ) → room ≤ length bytes
     → IsFirstByte (is_byte 10) (take room bytes) (Some place)
     → (place < room) × (get_or bytes place 0 ≡ 10)

@@ -1,4 +1,4 @@
--- Steps of a reader from what its parts do.
+-- Steps of a reader, from what its parts do.
 use Rattle.std.proofs.Common.{◌≡◌, ◌≢◌, ℕ, List, [], Option, Some, None, Result, Ok, Err, ◌∙◌, ap}
 use Rattle.{std.proofs.Common.sym, std.proofs.Common.refl, yasir_ticks.proofs.Contents.test_of}
 use Rattle.yasir_ticks.{proofs.Items.marks_in-content, specs.Reader.items_of_content}
@@ -9,7 +9,7 @@ use Rattle.yasir_ticks.specs.declared.place.Place.{Place, TheVariants.Refused}
 use Rattle.yasir_ticks.specs.declared.reader.TickReader.{TickReader}
 use Rattle.yasir_ticks.specs.declared.run.Run.{Run, TheVariants.Nothing}
 
--- a byte that goes on with the line
+-- These changes of a reader's parts are its step by a byte that goes on with the line.
 pub step_on : (old new : TickReader) (b : ℕ) (result : Result (Option Content) TickFault)
     (place new_place : Place) (new_bytes : List ℕ) (new_left : ℕ)
     → old.place ≡ place → new.place ≡ new_place → new.bytes.items ≡ new_bytes
@@ -20,7 +20,7 @@ pub step_on : (old new : TickReader) (b : ℕ) (result : Result (Option Content)
 step_on old new b result place new_place new_bytes new_left p q x m l e n a =
     record { case = rw e (rw (p, q, x, m) a, rw (test_of b 10 n) l, λ _. refl, refl) }
 
--- the end of a text at a right last line, where no mark is missing
+-- A reader ends the text with this run if the last line has a right form and no mark is missing.
 pub stops_right : (reader : TickReader) (run : Run) (content : Content)
     → Closes reader.place reader.bytes.items content
     → items_of_run run ≡ items_of_content content reader.bytes.items
@@ -34,7 +34,7 @@ stops_right reader run content closes same nothing none = record {
   );
 }
 
--- a byte that is refused
+-- These changes of a reader's parts are its step by a byte that is refused.
 pub step_refused : (old new : TickReader) (b : ℕ) (result : Result (Option Content) TickFault)
     (place : Place) (why : TickFault)
     → old.place ≡ place → result ≡ Err why → new.place ≡ Refused why → new.line ≡ old.line

@@ -1,4 +1,4 @@
--- Silence among ticks: it has no bytes, and is what the end of ticks stands for.
+-- Silence among ticks: it has no bytes, and ticks read past their end are silent.
 use Rattle.std.proofs.Common.{◌≡◌, ℕ, zero, suc, ◌+◌, ◌<◌, List, [], ◌∷◌, ◌++◌, length, refl, ap}
 use Rattle.std.proofs.Common.{arith, get_or}
 use Rattle.yasir_ticks.specs.Ticks.{bytes_in, silent}
@@ -18,7 +18,8 @@ silent_at zero k y few = absurd (omega arith)
 silent_at (suc n) zero y few = refl
 silent_at (suc n) (suc k) y few = silent_at n k y (omega arith)
 
--- silence after some ticks is what their end stands for
+-- Some ticks followed by silence have, at each place, the same tick as without it: past their end
+-- they count as silent.
 pub get_or-silence : (x : List Tick) (n k : ℕ) (y : List Tick) → k < length x + n
     → get_or (x ++ (silent n ++ y)) k Silent ≡ get_or x k Silent
 get_or-silence [] n k y few = let h : k < n = omega arith in silent_at n k y h

@@ -44,7 +44,7 @@ digit_not_lf b h e = both_ways (is_decimal_digit b) (ap is_decimal_digit e) h
 pub digit_not_cr : (b : ℕ) → is_decimal_digit b ≡ true → b ≢ 13
 digit_not_cr b h e = both_ways (is_decimal_digit b) (ap is_decimal_digit e) h
 
--- a line of bytes that pass a test that CR doesn't pass ends in no CR
+-- If the bytes of a line pass a test that a CR doesn't pass, the line doesn't end in a CR.
 ends_in_return-none : (test : ℕ → Bool) → test 13 ≡ false → (c : ℕ) (x : List ℕ) → c ≢ 13
     → list_all test x ≡ true → ends_in_return (c ∷ x) ≡ false
 ends_in_return-none test h c [] n g = test_of c 13 n
@@ -52,7 +52,7 @@ ends_in_return-none test h c (d ∷ x) n g =
     let parts = and_parts (test d) (list_all test x) g in
     ends_in_return-none test h d x (λ e. both_ways (test d) (ap test e ∙ h) parts.0) parts.1
 
--- a line that is no comment, and ends in no CR
+-- Holds for a line that is no comment and doesn't end in a CR.
 pub record IsPlain (line : List ℕ) : Type 0 where
   pub apart : starts_comment line ≡ false
   pub whole : ends_in_return line ≡ false
@@ -82,7 +82,7 @@ plain_number (c ∷ x) h = record {
       (and_parts (not (c == 48)) (list_all is_decimal_digit (c ∷ x)) h).1;
 }
 
--- at the places where a byte may be foreign
+-- The line so far is plain at each place at which a byte may be foreign.
 pub foreign_plain : (place : Place) (b : ℕ) (bytes line : List ℕ) → is_foreign place b ≡ true
     → Reads place bytes line → IsPlain line
 foreign_plain Start b bytes line h r = rw r (record { apart = refl; whole = refl })
@@ -96,7 +96,7 @@ foreign_plain Percent b bytes line h r = rw r (record { apart = refl; whole = re
 foreign_plain (Returned content) b bytes line h r = cc
 foreign_plain (Refused why) b bytes line h r = absurd r
 
--- such a line stands for what is on it
+-- A plain line represents what its content represents.
 pub plain_items : (line : List ℕ) → IsPlain line → line_items line ≡ content_items line
 plain_items line p = line_items-plain line p.apart
     ∙ ap content_items (without_return-same line p.whole)
@@ -151,7 +151,7 @@ closes_returned content bytes = record {
   marked = refl;
 }
 
--- a line of a right form, without an LF
+-- Holds if the line has no LF and represents these items.
 pub record IsRightLine (line : List ℕ) (items : List Item) : Type 0 where
   pub free : IsFree line
   pub stands : line_items line ≡ Some items
@@ -242,7 +242,8 @@ open_minus bytes = record {
 
 -- ---- a byte that goes on with the line
 
--- the form of such a step
+-- A byte other than LF is accepted if the line with it brings a reader to the new place, and a mark
+-- that it adds to the line is no longer left.
 accepts : {place new_place : Place} {bytes new_bytes : List ℕ} {left b new_left : ℕ} → b ≢ 10
     → marks_at new_place + new_left ≡ marks_at place + left
     → ((line : List ℕ) → Reads place bytes line → Reads new_place new_bytes (line ++ b ∷ []))
@@ -296,7 +297,7 @@ accepts_digit n bytes left b d h =
       fits = h;
     })
 
--- the CR behind a content
+-- A CR is accepted after a content that may end.
 pub accepts_return : (place : Place) (bytes : List ℕ) (left : ℕ) (content : Content)
     → is_foreign place 13 ≡ true → Closes place bytes content
     → Accepts place bytes left 13 [] (Returned content) bytes left
@@ -308,7 +309,7 @@ accepts_return place bytes left content f c =
       stands = sym (plain_items line (foreign_plain place 13 bytes line f r)) ∙ c.stands line r;
     })
 
--- the LF of a line
+-- An LF is accepted at a place at which the line may end.
 pub accepts_lf : (place : Place) (bytes new_bytes : List ℕ) (left : ℕ) (content : Content)
     → Closes place bytes content
     → Accepts place bytes left 10 (items_of_content content bytes) Start new_bytes left
@@ -320,7 +321,7 @@ accepts_lf place bytes new_bytes left content c = record {
   marked = omega (arith, marks_in-content content bytes, c.marked);
 }
 
--- ---- a byte that may not come where it stands
+-- ---- a byte that may not come at this place
 
 refuses : {place : Place} {bytes : List ℕ} {left b : ℕ} {why : TickFault} → b ≢ 10
     → ((line : List ℕ) → Reads place bytes line → (more : List ℕ)
@@ -349,7 +350,8 @@ refuses_comment n bytes left b h l =
     (omega (arith, length-append r.after (b ∷ more), r.long))))
     (λ line r. rw r.is refl)
 
--- a byte behind a content: if no content goes on with it, no line does
+-- A byte other than LF and CR is refused, in a line that is no comment, if no content goes on with
+-- it.
 refuses_inside : {place : Place} {bytes : List ℕ} {left b : ℕ} {why : TickFault} → b ≢ 10 → b ≢ 13
     → ((line : List ℕ) → Reads place bytes line → (more : List ℕ)
     → starts_comment (line ++ b ∷ more) ≡ false)
@@ -434,7 +436,7 @@ or_false : (p q : Bool) → (p || q) ≡ false → (p ≡ false) × (q ≡ false
 or_false true q h = cc
 or_false false q h = (refl, h)
 
--- a first byte of a line that is none of the signs: no line begins so
+-- The first byte of a line is refused if it is neither a sign nor an LF nor a CR.
 pub refuses_start : (bytes : List ℕ) (left b : ℕ) → is_foreign Start b ≡ true → b ≢ 10 → b ≢ 13
     → Refuses Start bytes left b Char
 refuses_start bytes left b f l c =
@@ -452,7 +454,7 @@ refuses_start bytes left b f l c =
     none : (more : List ℕ) → content_items (b ∷ more) ≡ None
     none more = rw (signs.1, signs.2, signs.3) refl
 
--- a mark where none is left: no line begins so, but with one mark more
+-- A mark is refused if none is left: a line that begins with it has one mark too many.
 pub refuses_percent : (bytes : List ℕ) (left : ℕ) → left ≡ 0 → Refuses Start bytes left 37 Char
 refuses_percent bytes left none = record {
   wrong = λ _ line r more items e. let some : 0 < marks_in items =
@@ -470,7 +472,7 @@ refuses_percent bytes left none = record {
     one_mark [] items e = let same : mark ∷ [] ≡ items = cc in rw (← same) (omega arith)
     one_mark (c ∷ more) items e = let none = mark_items-bad [] c more in cc
 
--- a byte that no content of this sign has
+-- A foreign byte after this sign is refused if no content with the sign has it.
 refuses_behind_sign : (place : Place) (bytes : List ℕ) (left b : ℕ) → is_foreign place b ≡ true
     → b ≢ 10 → b ≢ 13
     → (sign : ℕ) → (sign == 35) ≡ false
@@ -484,7 +486,7 @@ refuses_behind_sign place bytes left b f l c sign h form none cause =
     (λ line r. let x = form line r in rw x.1
     (cause x.0 (rw x.1 at (foreign_plain place b bytes line f r).whole)))
 
--- another byte that is no part of the content
+-- A foreign byte other than LF and CR is refused.
 pub refuses_foreign : (place : Place) (bytes : List ℕ) (left b : ℕ) → is_foreign place b ≡ true
     → b ≢ 10 → b ≢ 13 → Refuses place bytes left b Char
 refuses_foreign Start bytes left b f l c = refuses_start bytes left b f l c

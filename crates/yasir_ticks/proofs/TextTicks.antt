@@ -1,4 +1,4 @@
--- The ticks that a right text stands for have bytes below 256.
+-- The ticks that a right text represents have bytes below 256.
 use Rattle.hex.proofs.HexLemmas.{decode_of-ok}
 use Rattle.hex.specs.{Hex.decode_of, Hex.IsBytes, declared.error.FromHexError.FromHexError}
 use Rattle.std.proofs.Common.{◌≡◌, ℕ, suc, ◌==◌, ◌&&◌, List, [], ◌∷◌, ◌++◌, length, map, replicate}
@@ -31,7 +31,7 @@ are_ticks-silence n = subst AreTicks (sym (ticks_in-run (Silence n))) (are_silen
 
 -- ---- lines
 
--- what a line stands for, where it has a right form
+-- Holds if a line has no right form, or the ticks that it represents have bytes below 256.
 abbrev HasTicks : Option (List Item) → Type 0
 HasTicks items = IfSome items (λ l. AreTicks (ticks_in l))
 
@@ -81,7 +81,7 @@ all_items-ticks (l ∷ lines) =
     both (Some a) None are others = tt
     both (Some a) (Some b) are others = are_ticks-items a b are others
 
--- what a right text stands for is ticks whose bytes are below 256
+-- If a text is right, the ticks that it represents have bytes below 256.
 pub text-ticks : (marks : ℕ) (text : List ℕ) (items : List Item) → IsTickText marks text items
     → AreTicks (ticks_in items)
 text-ticks marks text items right =

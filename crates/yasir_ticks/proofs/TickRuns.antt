@@ -19,11 +19,11 @@ pub items_of_ticks : (run : TickRun) → run_items run ≡ map tick (run_ticks r
 items_of_ticks (Bytes bytes) = items_of_bytes bytes.now
 items_of_ticks (Silence n) = items_of_silence n
 
--- as many items as ticks
+-- A run has as many items as ticks.
 pub length-run_items : (run : TickRun) → length (run_items run) ≡ length (run_ticks run)
 length-run_items run = ap length (items_of_ticks run) ∙ length-map (run_ticks run) tick
 
--- the ticks among items that are ticks alone
+-- The ticks among items that are all ticks are these ticks.
 pub ticks_in-ticks : (ticks : List Tick) → ticks_in (map tick ticks) ≡ ticks
 ticks_in-ticks [] = refl
 ticks_in-ticks (t ∷ ticks) = ap (λ l. t ∷ l) (ticks_in-ticks ticks)
@@ -31,7 +31,7 @@ ticks_in-ticks (t ∷ ticks) = ap (λ l. t ∷ l) (ticks_in-ticks ticks)
 pub ticks_in-run : (run : TickRun) → ticks_in (run_items run) ≡ run_ticks run
 ticks_in-run run = ap ticks_in (items_of_ticks run) ∙ ticks_in-ticks (run_ticks run)
 
--- the first ticks of a run, and then the others
+-- The items of a run are its first n ticks, and then the others.
 pub run_items-cut : (run : TickRun) (n : ℕ)
     → run_items run ≡ map tick (take n (run_ticks run)) ++ map tick (drop n (run_ticks run))
 run_items-cut run n = items_of_ticks run ∙ ap (map tick) (sym (take-append-drop n (run_ticks run)))

@@ -1,4 +1,4 @@
--- Whole lines of a text, each at once.
+-- Whole lines of a text, each taken at once.
 use Rattle.hex.specs.Hex.{decode_of, decode_pairs, hex_digit_value}
 use Rattle.std.proofs.Common.{◌≡◌, ◌∙◌, ℕ, suc, zero, ◌+◌, ◌-◌, ◌<◌, ◌≤◌, true, List, [], ◌∷◌, ◌++◌}
 use Rattle.std.proofs.Common.{length, take, get_or, Some, None, Ok, Err, Option, Result, inl, inr}
@@ -33,7 +33,8 @@ module _ (text line : List ℕ) (before : (lines_of text).last ≡ []) (free : I
   free_quiet : ended_items (text ++ line) ≡ ended_items text
   free_quiet = rw cut refl
 
-  -- a line and its LF behind whole lines
+  -- Whole lines, followed by a line of a right form without a mark and its LF, bring a reader to
+  -- the start of the next line.
   whole_at : (bytes new_bytes : List ℕ) (n left marks : ℕ) (own : List Item)
       → IsAt Start bytes n left marks text → line_items line ≡ Some own → marks_in own ≡ 0
       → IsAt Start new_bytes (n + 1) left marks ((text ++ line) ++ 10 ∷ [])
@@ -46,7 +47,7 @@ module _ (text line : List ℕ) (before : (lines_of text).last ≡ []) (free : I
   whole_items own stands =
       items_lf (text ++ line) own (rw cut stands) ∙ ap (λ l. l ++ own) free_quiet
 
--- a content with ticks isn't nothing
+-- A content that has ticks, and no items, is that of a line without ticks.
 pub nothing_of : (content : Content) (bytes : List ℕ) → has_ticks content bytes ≡ true
     → items_of_content content bytes ≡ [] → content ≡ NoTick
 nothing_of NoTick bytes h e = refl
@@ -56,7 +57,8 @@ nothing_of (SilentTicks zero) bytes h e = cc
 nothing_of (SilentTicks (suc n)) bytes h e = cc
 nothing_of OneMark bytes h e = cc
 
--- a line that was taken at once, of bytes that begin with it and its LF
+-- If a reader has taken a line at once, and these bytes begin with the line and its LF, then the
+-- reader has ended the line in these bytes.
 pub takes_ends : (old new : TickReader) (content : Content) (bytes : List ℕ) (n m : ℕ)
     → TakesLine old (take n bytes) content new → n < length bytes → get_or bytes n 0 ≡ 10
     → n + 1 ≡ m → EndsLine old bytes m content new
@@ -139,7 +141,7 @@ feeds_err old new b why a = record {
   remembered = record { place = a.case.2; line = refl };
 }
 
--- ---- one byte behind some that went on
+-- ---- one byte after some that ended no line with ticks or a mark
 
 module _ (a b c : TickReader) (bytes : List ℕ) (n : ℕ) (within : n < length bytes)
     (goes : GoesOn a (take n bytes) b) where
@@ -185,7 +187,7 @@ module _ (old new : TickReader) (bytes : List ℕ) (taken : ℕ) where
   line_within (Ok content) t = t.within
   line_within (Err bad) s = omega (arith, s.within)
 
-  -- a line was ended,
+  -- If the bytes ended a line, they were taken up to its end.
   pub line_ended : (content : Content) → EndsLine old bytes taken content new
       → TakesUpTo old bytes taken content new
   line_ended content e = record {
@@ -200,7 +202,8 @@ module _ (old new : TickReader) (bytes : List ℕ) (taken : ℕ) where
     lines = e.lines;
   }
 
-  -- or all bytes were taken
+  -- If all bytes were taken, and ended no line with ticks or a mark, they were taken up to their
+  -- end.
   pub all_taken : taken ≡ length bytes → GoesOn old (take taken bytes) new
       → TakesUpTo old bytes taken NoTick new
   all_taken all goes = record {
@@ -260,7 +263,8 @@ takes_comment old new after p q l m free fits =
           (record { after = after; is = refl; long = refl; fits = fits });
     }) refl refl
 
--- a line of this first byte and then of bytes that a slice begins with
+-- If a reader has taken a line, given its first byte and what follows, then it has ended the line
+-- in all these bytes.
 pub whole_ends : (old new : TickReader) (sign : ℕ) (rest : List ℕ) (whole : Whole)
     → TakesWhole old sign rest new whole
     → EndsLine old (sign ∷ rest) (whole.len + 2) whole.content new
@@ -269,7 +273,8 @@ whole_ends old new sign rest whole t =
     takes_ends old new whole.content (sign ∷ rest) (suc whole.len) (whole.len + 2)
     t.takes (omega (arith, t.within)) t.ends (omega arith)
 
--- a slice cut behind its first byte
+-- If a reader has taken a line, given the first byte of a slice and the others, then it has ended
+-- the line in the slice.
 pub line_behind : (old new : TickReader) (bytes : List ℕ) (whole : Whole)
     → TakesWhole old (get_or bytes 0 0) (take (length bytes - 1) (drop 1 bytes)) new whole
     → EndsLine old bytes (whole.len + 2) whole.content new
@@ -279,7 +284,8 @@ line_behind old new (b ∷ rest) whole t =
     take_all (length (b ∷ rest) - 1) rest (omega arith) in
     whole_ends old new b rest whole (subst (λ l. TakesWhole old b l new whole) all t)
 
--- one digit more of a number
+-- One more digit keeps a number a plain decimal. Its value is then ten times the old one, plus that
+-- of the digit.
 pub digit_more : (bytes : List ℕ) (n number d m : ℕ) → n < length bytes → get_or bytes n 0 ≡ d
     → 48 ≤ d → d ≤ 57 → is_plain_decimal (take n bytes) ≡ true
     → number_after 0 (take n bytes) ≡ number → 10 * number + (d - 48) ≡ m
@@ -295,7 +301,7 @@ digit_more bytes n number d m within is low high plain told sum =
     digit : (d : ℕ) → 48 ≤ d → d ≤ 57 → is_decimal_digit d ≡ true
     digit d low high = grind arith
 
--- one pair more of a few
+-- One more pair of digits decodes to one more byte.
 pub pair_more : (bytes line new : List ℕ) (at high low : ℕ) → at ≡ 2 * length line
     → at + 2 < length bytes → decode_of (take at bytes) ≡ Ok line
     → Some high ≡ hex_digit_value (get_or bytes at 0)
@@ -313,7 +319,7 @@ pub none_decoded : (line : List ℕ) → line ≡ [] → decode_of [] ≡ Ok lin
 unfolding decode_pairs
 none_decoded line none = rw none refl
 
--- a line of a few pairs
+-- A reader takes a line of few pairs at once.
 pub takes_few : (old new : TickReader) (bytes items : List ℕ) (len : ℕ) → old.place ≡ Start
     → new.place ≡ Start → new.line ≡ old.line + 1 → new.left ≡ old.left
     → new.bytes.items ≡ items → IsFewPairs bytes items → len ≡ 2 * length items
@@ -336,7 +342,7 @@ few_ended bytes items n sum within feed decoded some fits = record {
   fits = omega arith;
 }
 
--- one pair of digits, and an LF
+-- One pair of digits and an LF are few pairs.
 pub one_pair : (bytes : List ℕ) (high low : ℕ) → 2 < length bytes → get_or bytes 2 0 ≡ 10
     → Some high ≡ hex_digit_value (get_or bytes 0 0)
     → Some low ≡ hex_digit_value (get_or bytes 1 0)

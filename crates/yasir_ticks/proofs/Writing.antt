@@ -1,5 +1,5 @@
--- The canonical text of ticks begins with the line that their first ones fill, or that the next one
--- ends.
+-- The canonical text of ticks begins with the line of the first ticks, if these fill it or the next
+-- tick ends it.
 use Rattle.std.proofs.Common.{◌≡◌, ◌∙◌, ℕ, zero, suc, ◌+◌, ◌*◌, ◌/◌, ◌%◌, ◌==◌, ◌<◌, ◌≤◌, cond}
 use Rattle.std.proofs.Common.{List, [], ◌∷◌, ◌++◌, length, map, take, drop, replicate, refl, sym}
 use Rattle.std.proofs.{Common.ap, Common.arith, Common.inl, Common.inr, Math.Seq.drop-append-add}
@@ -17,7 +17,7 @@ text_of parts = flat_map stretch_lines parts
 
 -- ---- bytes
 
--- the bytes of one line of a stretch
+-- line i of a stretch of bytes
 abbrev line_at : List ℕ → ℕ → List ℕ
 line_at l i = byte_line (take 32 (drop (32 * i) l))
 
@@ -28,7 +28,8 @@ shifted f g a (suc n) same =
     ap (λ x. x ++ flat_map f (range_with_len (a + 1 + 1) n)) (same a)
     ∙ ap (λ x. g a ++ x) (shifted f g (a + 1) n same)
 
--- a filled line, and then the lines of what follows
+-- A stretch of bytes that begins with 32 of them is one full line, and then the lines of the
+-- others.
 pub full_bytes : (l m : List ℕ) → length l ≡ 32
     → stretch_lines (bytes (l ++ m)) ≡ byte_line l ++ stretch_lines (bytes m)
 full_bytes l m full =
@@ -47,14 +48,14 @@ full_bytes l m full =
         ap (λ k. byte_line (take 32 (drop k (l ++ m)))) e
         ∙ ap (λ x. byte_line (take 32 x)) (drop-append-add l m (32 * i))
 
--- a line alone
+-- A stretch of 1 to 32 bytes is one line.
 pub last_bytes : (l : List ℕ) → 0 < length l → length l ≤ 32 → stretch_lines (bytes l) ≡ byte_line l
 last_bytes l some few =
     let count : (length l + 31) / 32 ≡ 1 = omega arith in
     ap (λ n. flat_map (line_at l) (range_with_len 0 n)) count ∙ append-nil (byte_line (take 32 l))
     ∙ ap byte_line (take_all 32 l few)
 
--- bytes before these stretches
+-- these stretches, with bytes put before them
 abbrev with_bytes : List ℕ → List Stretch → List Stretch
 with_bytes l [] = bytes l ∷ []
 with_bytes l (bytes m ∷ parts) = bytes (l ++ m) ∷ parts
@@ -77,7 +78,8 @@ stretches-bytes b (c ∷ l) more =
     next (bytes m ∷ parts) = refl
     next (silence n ∷ parts) = refl
 
--- a line of these bytes is filled, or these stretches end it
+-- Holds if a line of these bytes is full, or the next of these stretches, if there is one, isn't of
+-- bytes.
 abbrev pub EndsBytes : List ℕ → List Stretch → Type 0
 EndsBytes l [] = Unit {0}
 EndsBytes l (bytes m ∷ parts) = length l ≡ 32
@@ -112,7 +114,7 @@ leads-bytes (b ∷ l) more some few ends = ap text_of (stretches-bytes b l more)
 
 -- ---- silence
 
--- the lines of a silence, from its full lines and what is left
+-- the lines of a silence: a number of full lines, and one line for the ticks that are left
 silence_lines : ℕ → ℕ → List ℕ
 silence_lines full left = flat_map silence_line (replicate full 1000000)
     ++ cond (left == 0) [] (silence_line left)

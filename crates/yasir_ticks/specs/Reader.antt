@@ -33,7 +33,7 @@ marks_of_content KeptBytes = 0
 marks_of_content (SilentTicks n) = 0
 marks_of_content OneMark = 1
 
--- how many marks a line represents that has come to this place: one after `%`
+-- how many marks the line so far represents at this place: one after `%`
 abbrev pub marks_at : Place → ℕ
 marks_at Start = 0
 marks_at (Comment n) = 0
@@ -101,7 +101,7 @@ Reads (Returned content) bytes line = IsReturned content bytes line
 Reads (Refused why) bytes line = ⊥
 
 -- Holds if the beginning of a text with `marks` marks brings a reader to this place. `left` of the
--- marks come after its last line.
+-- marks come after this beginning.
 pub record IsAt (place : Place) (bytes : List ℕ) (line left marks : ℕ) (text : List ℕ) :
     Type 0 where
   pub ended : all_items (lines_of text).ended ≡ Some (ended_items text)

@@ -23,8 +23,8 @@ items_of_ended None bytes = []
 items_of_ended (Some content) bytes = items_of_content content bytes
 
 -- Holds if a byte is accepted. A byte that goes on with the line brings its reader to the new
--- place. An LF ends the line, which represents the items. The marks that the line then represents
--- are subtracted from those that are left.
+-- place. An LF ends the line, which represents the items. A mark that the byte adds to the line is
+-- no longer left.
 pub record Accepts (place : Place) (bytes : List ℕ) (left b : ℕ) (items : List Item)
     (new_place : Place) (new_bytes : List ℕ) (new_left : ℕ) : Type 0 where
   pub nothing : b ≢ line_feed → items ≡ []
@@ -36,7 +36,7 @@ pub record Accepts (place : Place) (bytes : List ℕ) (left b : ℕ) (items : Li
   pub marked : marks_in items + (marks_at new_place + new_left) ≡ marks_at place + left
 
 -- Holds if a byte is refused. No line of a right form goes on with it, unless that line has more
--- marks than are left. An LF ends a line of no right form.
+-- marks than are left. If the byte is an LF, the line that it ends has no right form.
 pub record Refuses (place : Place) (bytes : List ℕ) (left b : ℕ) (why : TickFault) :
     Type 0 where
   pub wrong : b ≢ line_feed → (line : List ℕ) → Reads place bytes line

@@ -36,8 +36,8 @@ pub record TakesLine (old : TickReader) (line : List ℕ) (content : Content) (n
   pub counted : new.line ≡ old.line + 1
   pub left : new.left ≡ old.left
 
--- Holds if a reader has taken a line: its first byte, `sign`, the bytes that the slice begins with,
--- and their LF.
+-- Holds if a reader has taken a line: its first byte, `sign`, then the first `whole.len` bytes of
+-- the slice, and the LF that follows them.
 pub record TakesWhole (old : TickReader) (sign : ℕ) (bytes : List ℕ) (new : TickReader)
     (whole : Whole) : Type 0 where
   pub within : whole.len < length bytes
@@ -96,12 +96,12 @@ pub record StopsAt (old : TickReader) (bytes : List ℕ) (taken : ℕ) (bad : Ba
   pub lines : new.line ≤ old.line + taken
   pub remembered : HasRefused new bad
 
--- what a reader does that is fed bytes up to the end of a line
+-- what a reader does when it is fed bytes up to the end of a line
 abbrev pub FeedsLine : TickReader → List ℕ → ℕ → Result Content BadTicks → TickReader → Type 0
 FeedsLine old bytes taken (Ok content) new = TakesUpTo old bytes taken content new
 FeedsLine old bytes taken (Err bad) new = StopsAt old bytes taken bad new
 
--- what a reader does that is fed one byte
+-- what a reader does when it is fed one byte
 abbrev pub FeedsByte : TickReader → ℕ → Result (Option Content) BadTicks → TickReader → Type 0
 FeedsByte old b (Ok None) new = GoesOn old (b ∷ []) new
 FeedsByte old b (Ok (Some content)) new = EndsLine old (b ∷ []) 1 content new

@@ -41,7 +41,7 @@ byte_items digits =
     then option_map (λ bytes. map (λ b. tick (Byte b)) bytes) (result_ok (decode_of digits))
     else None
 
--- the number that the decimal digits of n spell, followed by these digits
+-- the number that these decimal digits spell when they follow those of n
 abbrev pub number_after : ℕ → List ℕ → ℕ
 number_after n [] = n
 number_after n (d ∷ digits) = number_after (10 * n + (d - digit_zero)) digits

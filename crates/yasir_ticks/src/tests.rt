@@ -349,7 +349,7 @@ fn line_in_front(alloc: Global, line: &[u8]) -> Result<Vec<u8>, Fail> {
     Ok(text)
 }
 
-/// Checks that a new reader takes this line at once, and lends that many bytes.
+/// Checks that a new reader takes this line at once, and then lends `bytes` bytes.
 fn must_take(rt: &impl Abort, alloc: Global, line: &[u8], bytes: usize) -> Result<(), Fail> {
     let text = line_in_front(alloc, line)?;
     let mut reader = TickReader::new(0);

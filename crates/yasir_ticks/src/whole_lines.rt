@@ -1,4 +1,4 @@
-//! A whole line of tick text at once. The reader lends the bytes of the line, so that none is
+//! Takes a whole line of tick text at once. The reader lends the bytes of the line, so that none is
 //! moved.
 ghost use Rattle.std.specs.Prelude.{◌≡◌, ◌+◌, ◌-◌, ◌<◌, ◌≤◌, ◌^◌, length, slice_index, Err};
 ghost use Rattle.std.specs.Prelude.{IfSome, None};

@@ -1,4 +1,4 @@
--- Pairs of hex digits that decode: the digits of all, and one pair more.
+-- Pairs of hex digits that decode: all their bytes are digits, and one more pair decodes too.
 use Rattle.hex.proofs.HexLemmas.{decode_of-ok, decode_of-even}
 use Rattle.hex.{proofs.Pairs.decode_pairs-ok_pair, proofs.Pairs.cons_byte, specs.Hex.decode_of}
 use Rattle.hex.specs.Hex.{decode_pairs, is_hex_digit, hex_digit_value, digit_or_error, pair_value}
@@ -8,14 +8,14 @@ use Rattle.std.proofs.Common.{take, get_or, Some, Result, Ok, Err, refl, ap, sym
 use Rattle.std.proofs.{Common.append_assoc, lemmas.List.length-append, lemmas.List.take_more}
 use Rattle.std.{proofs.lemmas.List.Sums.list_all-from_AllPass, specs.List.list_all}
 
--- digits that decode are hex digits, all of them
+-- Digits that decode are all hex digits.
 pub hex_digits : (x bytes : List ℕ) → decode_of x ≡ Ok bytes → list_all is_hex_digit x ≡ true
 hex_digits x bytes h = list_all-from_AllPass is_hex_digit x (decode_of-ok x bytes h).1
 
 pub hex_length : (x bytes : List ℕ) → decode_of x ≡ Ok bytes → length x ≡ 2 * length bytes
 hex_length x bytes h = (decode_of-ok x bytes h).2
 
--- one pair more
+-- If a result and then a function of it give `Ok`, then each of the two gives `Ok`.
 bind_ok : {A B : Type 0} (r : Result A FromHexError) (f : A → Result B FromHexError) (y : B)
     → (r >>= f) ≡ Ok y → (x : A) × (r ≡ Ok x) × (f x ≡ Ok y)
 bind_ok (Ok x) f y h = (x, refl, h)
@@ -53,7 +53,7 @@ decode_of-more x bytes a b high low e p q =
     decode_of-even (x ++ a ∷ b ∷ []) n ∙ decode_pairs-more 0 x bytes a b high low
     (sym (decode_of-even x ok.0) ∙ e) p q
 
--- the first two bytes behind these
+-- The first n + 2 bytes are the first n and the next two.
 pub take_pair : (bytes : List ℕ) (n : ℕ) → n + 1 < length bytes
     → take (n + 2) bytes ≡ take n bytes ++ get_or bytes n 0 ∷ get_or bytes (n + 1) 0 ∷ []
 take_pair bytes n h =

@@ -1,4 +1,4 @@
--- The digits of bytes in parts, and of 32 bytes by their first and their second digits.
+-- The digits of bytes that are encoded in parts, and those of 32 bytes by first and second digits.
 use Rattle.hex.specs.Hex.{encode_with, encode_lower}
 use Rattle.std.proofs.Common.{◌≡◌, ◌∙◌, ℕ, zero, suc, ◌+◌, ◌-◌, ◌*◌, ◌/◌, ◌%◌, ◌<◌, ◌≤◌, List, []}
 use Rattle.std.proofs.Common.{◌∷◌, ◌++◌, length, take, drop, map, get_or, refl, sym, ap, arith}
@@ -27,7 +27,8 @@ encode-take t (b ∷ x) (suc n) =
 
 -- ---- 32 bytes
 
--- a function at i, at 32 places after it, and so on for n places
+-- the values of a function at i and at i + 32, then at i + 1 and at i + 33, and so on, n pairs of
+-- them
 abbrev pub woven : (ℕ → ℕ) → ℕ → ℕ → List ℕ
 woven f zero i = []
 woven f (suc n) i = f i ∷ f (32 + i) ∷ woven f n (i + 1)

@@ -1,4 +1,4 @@
--- A table of sixteen that stands twice in 32 lanes, read at each lane.
+-- A table of sixteen bytes that is in 32 lanes twice, read at each lane.
 use Rattle.std.proofs.Common.{◌≡◌, ◌∙◌, ℕ, ◌+◌, ◌*◌, ◌/◌, ◌%◌, ◌^◌, ◌<◌, List, map, length, get_or}
 use Rattle.std.proofs.Common.{replicate, bit_and, refl, sym, ap, arith, w8, Fits, true, [], ◌∷◌}
 use Rattle.std.proofs.{Common.nat_eq, lemmas.Bool.agree_below_at, lemmas.Bool.eqb-true}
@@ -34,7 +34,7 @@ low_ok v fits =
     (Each1-zip2 bit_and (λ j. j < 16) v (replicate 32 15)
     (Each2-splat (λ a b. bit_and a b < 16) v 32 15 small))
 
--- a table t of two copies of s, read at the places g x below 16
+-- If a table t is two copies of s, then looking up the places g x, all below 16, reads s at them.
 pub looked_up : (t s : List ℕ) (g : ℕ → ℕ) (v js : List ℕ) → IsBlock v → js ≡ map g v
     → ((x : ℕ) → x < 256 → g x < 16)
     → ((i j : ℕ) → i < 32 → j < 16 → get_or t (16 * ((0 + i) / 16) + j) 0 ≡ get_or s j 0)
@@ -62,7 +62,7 @@ low_bits (b ∷ v) =
     ap (λ d. d ∷ map (λ x. bit_and x 15) v) (and_mask b 4)
     ∙ ap (λ l. b % 16 ∷ l) (low_bits v)
 
--- the digits stand twice in the table
+-- The table has the digits twice.
 pub copied : (i j : ℕ) → i < 32 → j < 16
     → get_or DIGITS (16 * ((0 + i) / 16) + j) 0 ≡ get_or lower_digits j 0
 copied i j within below =

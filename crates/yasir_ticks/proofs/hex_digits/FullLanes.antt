@@ -1,4 +1,4 @@
--- Vectors that decode 64 hex digits whose values stand side by side.
+-- Vectors that decode 64 hex digits, of which the two values of each pair are in adjacent lanes.
 use Rattle.{hex.specs.Hex.decode_of, hex.specs.Hex.hex_digit_value, std.proofs.Common.◌≡◌}
 use Rattle.std.proofs.Common.{◌∙◌, ℕ, zero, suc, ◌+◌, ◌*◌, ◌-◌, ◌/◌, ◌%◌, ◌<◌, ◌≤◌, ◌++◌, inl, inr}
 use Rattle.std.proofs.Common.{List, [], ◌∷◌, length, get_or, take, Ok, ap, map, refl, arith, min}
@@ -9,7 +9,7 @@ use Rattle.std.specs.Simd.Lanes.{chunk, number_l, digits_l, pick_l, Each1}
 use Rattle.yasir_ticks.proofs.hex_digits.PairLanes.{IsPair, found, pairs_decoded}
 use Rattle.yasir_ticks.specs.HexDigits.{lane_value}
 
--- two bytes as one word
+-- two adjacent bytes as one word of 16 bits
 pub word_of_pair : (v : List ℕ) (i : ℕ) → i + 1 < length v
     → number_l 256 (chunk i 2 v) ≡ get_or v i 0 + 256 * get_or v (i + 1) 0
 word_of_pair [] i h = absurd (omega arith)
@@ -20,12 +20,12 @@ word_of_pair (x ∷ y ∷ v) (suc i) h =
     word_of_pair (y ∷ v) i (omega arith)
     ∙ ap (λ k. get_or (y ∷ v) i 0 + 256 * get_or (x ∷ y ∷ v) k 0) next
 
--- both values in the higher byte of a word times 4097
+-- A word of two values, times 4097, has both of them in its higher byte.
 pub word_times : (high low : ℕ) → high < 16 → low < 16
     → (high + 256 * low) * 4097 % 65536 / 256 ≡ high * 16 + low
 word_times high low h l = omega arith
 
--- the steps that join the two values of a word
+-- the operations that join the two values of a word
 abbrev pub join_word : ℕ → ℕ
 join_word w = w * 4097 % 65536 / 256
 
@@ -41,11 +41,11 @@ words_joined v k long bytes low h =
     ∙ word_of_pair v (2 * k) (omega (arith, long)))
     ∙ word_times (get_or v (2 * k) 0) (get_or v (2 * k + 1) 0) (low (2 * k)) (low (2 * k + 1))
 
--- 32 lanes, picked in their order
+-- 32 lanes, picked in their own order, are the same lanes.
 pub all_picked : (v : List ℕ) → length v ≡ 32 → pick_l 0 v (range_with_len 0 32) ≡ v
 all_picked v long = pick_l_whole 0 v 32 long
 
--- two digits and their byte
+-- Two lanes that hold the values of two digits give a pair and its byte.
 digits_pair : (first second high low byte : ℕ) → min 16 high ≡ lane_value first
     → min 16 low ≡ lane_value second → high < 16 → low < 16 → byte ≡ high * 16 + low
     → IsPair first second byte
@@ -57,7 +57,8 @@ digits_pair first second high low byte first_value second_value h l is = record 
   byte_is = is;
 }
 
--- what the vectors of a decoding say of the text
+-- If the vectors of a decoding hold these values, then the first 64 bytes of the text are digits
+-- that spell `front` and then `back`.
 pub full_decoded : (text a b front back : List ℕ)
     → ((k : ℕ) → k < 32 → min 16 (get_or a k 0) ≡ lane_value (get_or text (0 + k) 0))
     → ((k : ℕ) → k < 32 → min 16 (get_or b k 0) ≡ lane_value (get_or text (32 + k) 0))

@@ -5,7 +5,7 @@ use Rattle.std.proofs.Common.{unwrap_or, refl, ap, arith}
 use Rattle.std.proofs.lemmas.{Bool.agree_below_at, Bool.eqb-true, List.get_or_default}
 use Rattle.yasir_ticks.specs.declared.hex_digits.digit.TheConstants.{HEX_VALUES}
 
--- the value of a digit, and 16 of what is none
+-- the value of a digit, and 16 for a byte that is no digit
 abbrev value_or_16 : ℕ → ℕ
 value_or_16 b = unwrap_or (hex_digit_value b) 16
 

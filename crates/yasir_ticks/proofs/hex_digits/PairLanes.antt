@@ -41,12 +41,12 @@ max_lanes a b = sel_l (map (top 7) (zip2 below8 a b)) b a
 abbrev min_lanes : List ℕ → List ℕ → List ℕ
 min_lanes a b = sel_l (map (top 7) (zip2 below8 a b)) a b
 
--- what the operations make of one lane
+-- what the operations compute for one lane
 abbrev value_by_steps : ℕ → ℕ
 value_by_steps c =
     min8 (sub8 (max8 (add8 c 198) 6) 246) (add8 (min8 (sub8 (bit_and c 223) 65) 245) 10)
 
--- and of n lanes
+-- what the operations compute for n lanes
 abbrev values_by_steps : ℕ → List ℕ → List ℕ
 values_by_steps n c =
     min_lanes
@@ -60,7 +60,7 @@ values_are zero (b ∷ c) h = absurd (omega arith)
 values_are (suc n) [] h = absurd (omega arith)
 values_are (suc n) (b ∷ c) h = ap (λ l. value_by_steps b ∷ l) (values_are n c (omega arith))
 
--- the steps give the value of each byte
+-- For each byte the operations give its value, or 16 or more if it is no digit.
 value_is : (c : ℕ) → c < 256 → min 16 (value_by_steps c) ≡ lane_value c
 value_is c h = eqb-true (min 16 (value_by_steps c)) (lane_value c)
     (agree_below_at (λ k. min 16 (value_by_steps k) == lane_value k) (λ k. true) 256 c refl h)
@@ -75,7 +75,7 @@ lanes_values c long bytes = rw (values_are 32 c long) (record {
 
 -- ---- the two bytes of each pair
 
--- a function at n places from i on, two places apart
+-- the values of a function at i, i + 2, and so on, n of them
 abbrev pub every_other : (ℕ → ℕ) → ℕ → ℕ → List ℕ
 every_other f zero i = []
 every_other f (suc n) i = f i ∷ every_other f n (i + 2)
@@ -165,7 +165,7 @@ lanes_raised v long = rw (raised_are 32 v long) (record {
 
 -- ---- how many lanes are digits
 
--- a mask of the lanes that are 128 or more
+-- Holds if each bit k of the mask is 1 exactly if lane k is 128 or more.
 abbrev pub MarksHigh : ℕ → List ℕ → Type 0
 MarksHigh m v = (k : ℕ) → (bit_at m k ≡ 1) ↔ (128 ≤ get_or v k 0)
 
@@ -194,7 +194,7 @@ first_high v m marks long some fits =
 
 -- ---- 64 bytes of text
 
--- two loads, one behind the other
+-- Two loads, one after the other, hold the first 64 bytes of the text.
 pub loaded : (text a b : List ℕ) → HasLanes a (λ k. get_or text (0 + k) 0)
     → HasLanes b (λ k. get_or text (32 + k) 0) → (j : ℕ) → j < 64
     → get_or (a ++ b) j 0 ≡ get_or text j 0
@@ -209,7 +209,7 @@ loaded text a b f g j h = elim (cases_lt j 32) [
       ∙ ap (λ i. get_or text i 0) place
 ]
 
--- two digits and their byte
+-- Holds if two bytes are digits that spell this byte.
 pub record IsPair (first second byte : ℕ) : Type 0 where
   pub high : ℕ
   pub low : ℕ
@@ -227,7 +227,7 @@ pair_fits high low h l = omega arith
 pub both_low : (a b : ℕ) → lane_raised (lane_greater a b) < 128 → (a < 16) × (b < 16)
 both_low a b h = grind arith
 
--- where the greater of the values is low, both are digits
+-- If the greater of two values, raised, is below 128, then both are values of digits.
 pub is_pair : (first second high low : ℕ) → min 16 high ≡ lane_value first
     → min 16 low ≡ lane_value second → lane_raised (lane_greater high low) < 128
     → IsPair first second (lane_pair high low)
@@ -241,7 +241,7 @@ is_pair first second high low first_value second_value h =
       byte_is = pair_fits high low small.0 small.1;
     }
 
--- the bytes of whole pairs
+-- If each of n pairs of a text spells its byte, then the pairs decode to these n bytes.
 pub pairs_decoded : (text bytes : List ℕ) (n : ℕ) → 2 * n ≤ length text → n ≤ length bytes
     → ((k : ℕ) → k < n
     → IsPair (get_or text (2 * k) 0) (get_or text (2 * k + 1) 0) (get_or bytes k 0))
@@ -264,7 +264,8 @@ pairs_decoded text bytes (suc n) h l pairs =
     ∙ ap (λ b. take n bytes ++ b ∷ []) pair.byte_is in
     rw (front, whole) more
 
--- what the vectors of a decoding say of the text
+-- If the vectors of a decoding hold these values, and the first n lanes are below 128, then the
+-- first n pairs of the text decode to the first n bytes.
 pub pairs_of_lanes : (text a b first second high low worst up bytes : List ℕ) (n : ℕ)
     → HasLanes a (λ k. get_or text (0 + k) 0) → HasLanes b (λ k. get_or text (32 + k) 0)
     → HasLanes first (λ k. get_or (a ++ b) (2 * k) 0)

@@ -139,8 +139,8 @@ fn all_digits(a: u8x32, b: u8x32) -> bool
     high_lanes(raised(greater(a, b))) == 0
 }
 
-// Joins each two adjacent values into a byte: 16 bits of two values, times 4097, have both of them
-// in the higher byte.
+// Joins each two adjacent values into a byte. The 16 bits of two values, times 4097, have both of
+// them in the higher byte.
 #[inline(always)]
 fn paired(values: u8x32) -> u8x16
     requires { (k : ℕ) → slice_index values k < 16 }
