@@ -9,7 +9,7 @@ use Rattle.yasir_io.specs.{Disks.Elapses, SlotFiles.ReadsNext}
 use borrow.Rule.Slice.PartMut.{put_mid, post_of}
 use lib.Seq.{take-add, take-append-le}
 
--- a fact of whatever is there
+-- What holds of any value holds of that of a result that is `Ok`.
 pub always_ok : {T E : Type 0} (P : T → Type 0) (r : Result T E) → ((x : T) → P x) → IfOk r P
 always_ok P (Ok x) holds = holds x
 always_ok P (Err e) holds = tt
@@ -29,7 +29,8 @@ slice_range-put_mid a k n xs ys within fits =
     ap (take ((a + n) - a)) (drop_at (take a xs) (ys ++ after) a (length-take-le a xs within))
     ∙ ap (λ m. take m (ys ++ after)) same ∙ take-append-le n ys after fits
 
--- n bytes more are read behind the first ones
+-- If the first bytes of a buffer were read, and n more are read after them, then the first len + n
+-- were read.
 pub read_more : (start before after : Option (List ℕ)) (len n : ℕ) (buf part : List ℕ)
     → len ≤ length buf → n ≤ length part
     → Consumes start before (take len buf) → Consumes before after (take n part)
@@ -42,12 +43,12 @@ read_more start before after len n buf part within fits first more =
     subst (Consumes _ _) (ap (λ l. take len buf ++ l) (sym there) ∙ joined)
     (Consumes-trans start before after (take len buf) (take n part) first more)
 
--- a fact that holds anyway
+-- What holds anyway also holds on `Ok`.
 pub always_on_ok : {T E P : Type 0} (r : Result T E) → P → OnOk r P
 always_on_ok (Ok x) p = p
 always_on_ok (Err e) p = tt
 
--- no time goes by for a disk that tells of no image
+-- For a disk that tells no image, no time goes by.
 pub nothing_elapses : Elapses 0 0 (λ t c. ⊥) (λ t c. ⊥) (λ c. ⊥)
 nothing_elapses = record {
   later = le_refl 0;
@@ -55,7 +56,7 @@ nothing_elapses = record {
   keeps = λ t c le none. none;
 }
 
--- none more
+-- If no more bytes are read, the first bytes of the buffer are still those that were read.
 pub read_none : (start before after : Option (List ℕ)) (len n : ℕ) (buf part : List ℕ)
     → len ≤ length buf → n ≤ length part → n ≡ 0
     → Consumes start before (take len buf) → Consumes before after (take n part)
@@ -66,7 +67,7 @@ read_none start before after len n buf part within fits none first more =
     let same : len + n ≡ len = omega arith in
     subst P same (read_more start before after len n buf part within fits first more)
 
--- bytes that were read, and zeros behind them
+-- Bytes that were read, and zeros after them if the file has ended, are the next ones of the file.
 pub read_and_zeros : {F : Type 0} (read : Read F) (size : ℕ) (old new : F) (n : ℕ)
     (buf front : List ℕ) → length buf ≡ size
     → n ≤ length buf → Consumes (read.remaining old) (read.remaining new) (take n buf)

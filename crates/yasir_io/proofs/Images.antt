@@ -8,7 +8,7 @@ use Rattle.yasir_io.specs.MemSlots.{is_written}
 use Rattle.yasir_io.specs.declared.disk.Slot.{Slot, TheVariants.A, TheVariants.B}
 use Rattle.yasir_io.specs.declared.{disk.TheConstants.SLOT_LEN, mem_slots.Moment.Moment}
 
--- what a crash since t might have left, the moments before being past and the present one this
+-- Holds if a crash since t may leave the image, at the present moment or at one of the past ones.
 abbrev pub Left : List Moment → Moment → ℕ → Slots → Type 0
 Left past present t c = IsImage present c ⊎ IsImageOfAny (drop t past) c
 
@@ -31,7 +31,8 @@ more_of_any [] last c had = absurd had
 more_of_any (m ∷ past) last c (inl now) = inl now
 more_of_any (m ∷ past) last c (inr had) = inr (more_of_any past last c had)
 
--- a call that is recorded, whatever it does to the present moment
+-- If a call adds the moment before it to the past ones, time goes on, whatever the call does to the
+-- present moment.
 pub elapses_recorded : (past new : List Moment) (before after : Moment) → new ≡ past ++ before ∷ []
     → Elapses (length past) (length new) (Left past before) (Left new after) (IsImage after)
 elapses_recorded past new before after added =
@@ -51,7 +52,8 @@ elapses_recorded past new before after added =
           ]));
     }
 
--- a call that isn't recorded, after which a crash may leave no less
+-- If a call adds no moment, and a crash after it may leave all that it might have left before it,
+-- time goes on.
 pub elapses_unrecorded : (past new : List Moment) (before after : Moment) → new ≡ past
     → ((c : Slots) → IsImage before c → IsImage after c)
     → Elapses (length past) (length new) (Left past before) (Left new after) (IsImage after)
@@ -67,14 +69,15 @@ elapses_unrecorded past new before after same more = record {
   ];
 }
 
--- either
+-- If a call may add the moment before it to the past ones, and a crash after it may leave all that
+-- it might have left before it, time goes on.
 pub elapses : (past new : List Moment) (before after : Moment) → MayAdd past before new
     → ((c : Slots) → IsImage before c → IsImage after c)
     → Elapses (length past) (length new) (Left past before) (Left new after) (IsImage after)
 elapses past new before after (inl added) more = elapses_recorded past new before after added
 elapses past new before after (inr same) more = elapses_unrecorded past new before after same more
 
--- A slot is marked as written; it may have been set, too.
+-- Holds if a slot is marked as written, and nothing else has changed except, perhaps, its bytes.
 pub record IsMarked (slot : Slot) (before after : Moment) : Type 0 where
   pub marked : is_written after slot ≡ true
   pub other_mark : is_written after (other_slot slot) ≡ is_written before (other_slot slot)
@@ -82,7 +85,7 @@ pub record IsMarked (slot : Slot) (before after : Moment) : Type 0 where
       ≡ slot_in (slots_at before) (other_slot slot)
   pub old_bytes : old_slots_at after ≡ old_slots_at before
 
--- each image of after is one of before, but for the slot
+-- If a slot was marked, each image of `after` is one of `before`, except for the bytes of the slot.
 pub images_torn : (slot : Slot) (before after : Moment) → IsMarked slot before after → (c : Slots)
     → IsImage after c → (d : Slots) × IsImage before d × Torn slot d c
 images_torn A before after is c image =
@@ -112,7 +115,7 @@ images_torn B before after is c image =
     } in
     (d, was, (c.b, image.size B, refl))
 
--- each image of before is one of after
+-- If a slot was marked, each image of `before` is one of `after`.
 pub images_more : (slot : Slot) (before after : Moment) → IsMarked slot before after → (c : Slots)
     → IsImage before c → IsImage after c
 images_more A before after is c image = record {
@@ -134,7 +137,7 @@ images_more B before after is c image = record {
   old = image.old ∙ sym is.old_bytes;
 }
 
--- whatever such a step makes of an image of before is an image of after
+-- If a slot was marked, any bytes in that slot of an image of `before` give an image of `after`.
 pub images_reached : (slot : Slot) (before after : Moment) → IsMarked slot before after
     → (d : Slots) → IsImage before d → (c : Slots) → Torn slot d c → IsImage after c
 images_reached A before after is d image c torn = subst (IsImage after) (sym torn.2) (record {
@@ -158,7 +161,7 @@ images_reached B before after is d image c torn = subst (IsImage after) (sym tor
   old = image.old ∙ sym is.old_bytes;
 })
 
--- where no slot was written since a sync, the one image is the slots
+-- If no slot was written since the last sync, the slots as they read are the only image.
 pub only_image : (moment : Moment) → ((slot : Slot) → is_written moment slot ≡ false) → (c : Slots)
     → IsImage moment c → Some (slots_at moment) ≡ Some c
 only_image moment settled c image =
@@ -177,7 +180,7 @@ old_untouched : (slot : Slot) (slots : Slots) (bytes : List ℕ)
 old_untouched A slots bytes = refl
 old_untouched B slots bytes = refl
 
--- what marking a slot does
+-- A slot is marked if its mark is set and nothing else changes.
 pub marks : (slot : Slot) (before middle after : Moment) → middle ≡ before
     → slots_at after ≡ slots_at middle
     → is_written after slot ≡ true → is_written after (other_slot slot)
@@ -190,7 +193,7 @@ marks slot before middle after same slots marked other = record {
   old_bytes = ap (λ s. s.old) slots ∙ ap old_slots_at same;
 }
 
--- what setting it does then
+-- A slot that was marked stays marked if bytes are then written to it.
 pub sets : (slot : Slot) (before middle after : Moment) (bytes : List ℕ)
     → IsMarked slot before middle → slots_at after ≡ with_slot (slots_at middle) slot bytes
     → ((slot : Slot) → is_written after slot ≡ is_written middle slot) → IsMarked slot before after
@@ -202,7 +205,8 @@ sets slot before middle after bytes is slots marks = record {
   old_bytes = ap (λ s. s.old) slots ∙ old_untouched slot (slots_at middle) bytes ∙ is.old_bytes;
 }
 
--- a call that changes nothing of the present moment
+-- If a call doesn't change the present moment, time goes on, whether or not it was added to the
+-- past ones.
 pub elapses_unchanged : (past new : List Moment) (before after : Moment) → MayAdd past before new
     → after ≡ before
     → Elapses (length past) (length new) (Left past before) (Left new after) (IsImage after)
@@ -214,7 +218,7 @@ unwritten : (moment : Moment) → moment.a_written ≡ false → moment.b_writte
 unwritten moment a b A = a
 unwritten moment a b B = b
 
--- the same, by the marks of both slots
+-- If neither slot has the mark that it was written, the slots as they read are the only image.
 pub only_image_unmarked : (moment : Moment) (c : Slots) → IsImage moment c
     → moment.a_written ≡ false → moment.b_written ≡ false → Some (slots_at moment) ≡ Some c
 only_image_unmarked moment c image a b = only_image moment (unwritten moment a b) c image

@@ -4,7 +4,8 @@ use Rattle.std.proofs.Common.{inl, inr, arith}
 use Rattle.yasir_io.specs.Disks.{Slots, LeavesOnly}
 
 module _ {D : Type 0} (moment : D → ℕ) (left_since : D → ℕ → Slots → Type 0) where
-  -- some calls, and then some more
+  -- If some calls leave only images that have P, and so do the calls after them, then all these
+  -- calls do.
   pub leaves_then : (old mid new : D) (P : Slots → Type 0)
       → LeavesOnly moment left_since old mid P → LeavesOnly moment left_since mid new P
       → LeavesOnly moment left_since old new P
@@ -23,7 +24,7 @@ module _ {D : Type 0} (moment : D → ℕ) (left_since : D → ℕ → Slots →
             ];
       }
 
-  -- the same, of a weaker fact
+  -- If calls leave only images that have P, and P implies Q, they leave only images that have Q.
   pub leaves_weaker : (old new : D) (P Q : Slots → Type 0) → ((c : Slots) → P c → Q c)
       → LeavesOnly moment left_since old new P → LeavesOnly moment left_since old new Q
   leaves_weaker old new P Q weaker leaves = record {

@@ -6,7 +6,7 @@ use Rattle.std.proofs.lemmas.List.{take_all, length-drop}
 use Rattle.std.specs.Io.KnownBytes.{append_known}
 use Rattle.yasir_io.specs.Output.{Buffered, GotPrefix}
 
--- a fact that holds anyway
+-- What holds anyway also holds on an error.
 pub always_on_err : {T E P : Type 0} (r : Result T E) → P → OnErr r P
 always_on_err (Ok x) p = tt
 always_on_err (Err e) p = p
@@ -20,11 +20,11 @@ pub append_known-twice : (known : Option (List ℕ)) (x y : List ℕ)
 append_known-twice None x y = refl
 append_known-twice (Some xs) x y = ap Some (append_assoc xs x y)
 
--- nothing was written yet
+-- If nothing was written yet, all of the text waits.
 pub nothing_written : (start : Option (List ℕ)) (text : List ℕ) → Buffered start start text text
 nothing_written start text = record { front = []; got = sym (append_known-nil start); all = refl }
 
--- a part of what waits is written
+-- If a part of what waits is written, the others wait.
 pub part_written : (start now after : Option (List ℕ)) (part rest waits text : List ℕ)
     → Buffered start now waits text → waits ≡ part ++ rest → after ≡ append_known now part
     → Buffered start after rest text
@@ -35,7 +35,7 @@ part_written start now after part rest waits text so_far split written = record 
   all = so_far.all ∙ ap (λ l. so_far.front ++ l) split ∙ sym (append_assoc so_far.front part rest);
 }
 
--- a call wrote n bytes of what waits
+-- If a call wrote n bytes of what waits, those after them wait.
 pub some_written : (start now after : Option (List ℕ)) (n : ℕ) (waits text : List ℕ)
     → Buffered start now waits text → after ≡ append_known now (take n waits)
     → Buffered start after (drop n waits) text
@@ -43,7 +43,8 @@ some_written start now after n waits text so_far written =
     part_written start now after (take n waits) (drop n waits) waits text so_far
     (sym (take-append-drop n waits)) written
 
--- the same, where the rest of a slice is spelled as the program spells it
+-- If a call wrote n bytes of what waits, those after them wait, in the form in which the program
+-- slices them.
 pub some_written_of_slice : (start now after : Option (List ℕ)) (n : ℕ) (waits text : List ℕ)
     → Buffered start now waits text → after ≡ append_known now (take n waits)
     → Buffered start after (take (length waits - n) (drop n waits)) text
@@ -53,20 +54,20 @@ some_written_of_slice start now after n waits text so_far written =
     (omega (arith, length-drop n waits))))
     (some_written start now after n waits text so_far written)
 
--- all that waits is written
+-- If all that waits is written, nothing waits.
 pub all_written : (start now after : Option (List ℕ)) (waits text : List ℕ)
     → Buffered start now waits text → after ≡ append_known now waits → Buffered start after [] text
 all_written start now after waits text so_far written =
     part_written start now after waits [] waits text so_far (sym (append-nil waits)) written
 
--- what waits was written in part
+-- If a front of what waits is written, the sink has got a front of the text.
 pub prefix_written : (start now after : Option (List ℕ)) (waits text : List ℕ)
     → Buffered start now waits text → GotPrefix now after waits → GotPrefix start after text
 prefix_written start now after waits text so_far got =
     let more = part_written start now after got.front got.rest waits text so_far got.all got.got in
     record { front = more.front; rest = got.rest; got = more.got; all = more.all }
 
--- of a longer text the sink has got a front, too
+-- If a sink has got a front of a text, it has got a front of any text that begins with that text.
 pub prefix_of_more : (start now : Option (List ℕ)) (text more : List ℕ) → GotPrefix start now text
     → GotPrefix start now (text ++ more)
 prefix_of_more start now text more got = record {
@@ -76,7 +77,7 @@ prefix_of_more start now text more got = record {
   all = ap (λ l. l ++ more) got.all ∙ append_assoc got.front got.rest more;
 }
 
--- a text grows at its end by what waits behind it
+-- A text that grows at its end has more bytes that wait.
 pub more_waits : (start now : Option (List ℕ)) (waits text more : List ℕ)
     → Buffered start now waits text → Buffered start now (waits ++ more) (text ++ more)
 more_waits start now waits text more so_far = record {
@@ -85,7 +86,7 @@ more_waits start now waits text more so_far = record {
   all = ap (λ l. l ++ more) so_far.all ∙ append_assoc so_far.front waits more;
 }
 
--- a piece behind a text that was written whole is written
+-- If nothing of a text waits, and a piece after it is written, nothing of both waits.
 pub piece_written : (start now after : Option (List ℕ)) (text piece waits : List ℕ)
     → Buffered start now [] text → after ≡ append_known now piece → waits ≡ []
     → Buffered start after waits (text ++ piece)
@@ -98,14 +99,15 @@ piece_written start now after text piece waits so_far written none =
       all = more.all ∙ ap (λ l. more.front ++ l) (sym none);
     }
 
--- a piece behind a text that was written whole is written in part
+-- If nothing of a text waits, and a front of a piece after it is written, the sink has got a front
+-- of both.
 pub piece_prefix : (start now after : Option (List ℕ)) (text piece : List ℕ)
     → Buffered start now [] text → GotPrefix now after piece → GotPrefix start after (text ++ piece)
 piece_prefix start now after text piece so_far got =
     prefix_written start now after piece (text ++ piece) (more_waits start now [] text piece so_far)
     got
 
--- a text that was pushed whole, where nothing waits
+-- If nothing of a text waits, the sink has got all of it.
 pub printed : (start now : Option (List ℕ)) (text : List ℕ) → Buffered start now [] text
     → now ≡ append_known start text
 printed start now text buffered =

@@ -1,4 +1,4 @@
--- Lemmas on where a file stands.
+-- Lemmas on the place at which a file is.
 use Rattle.std.proofs.Common.{◌≡◌, ℕ, ◌+◌, List, ◌++◌, Option, Some, None, length, sym, ◌∙◌, subst}
 use Rattle.std.proofs.{Common.length-append, Common.arith, Common.refl, KnownBytes.Appends-trans}
 use Rattle.std.proofs.lemmas.Option.{none-some, same_Some}
@@ -8,7 +8,7 @@ use Rattle.yasir_io.specs.SlotFiles.{IsWrittenUpTo, IsAt, StandsAs, StandsIn}
 use mathlib.Core.Logic.{∥∥₁_elim, ∥∥₁_map, ∥∥₁_prop}
 
 module _ {F : Type 0} (seek : Seek F) (write : Write F) where
-  -- a file that is written on stands farther on
+  -- If more bytes are written to a file at a place, it is at the place after them.
   pub written_on : (place end : ℕ) (old new : F) (bytes : List ℕ) → IsAt seek write place old
       → Appends (write.contents old) (write.contents new) bytes → place + length bytes ≡ end
       → IsAt seek write end new
@@ -24,19 +24,19 @@ module _ {F : Type 0} (seek : Seek F) (write : Write F) where
         let there = w.reach in omega arith;
   })
 
-  -- no place is named where no file is open
+  -- If no file is open, no place is named, and so any file is at it.
   pub unopened_stands : (at : Option ℕ) (old new : Option F) → StandsIn seek write at old
       → old ≡ None → StandsIn seek write at new
   unopened_stands at old new stands none place is =
       ∥∥₁_elim (stands place is) ∥∥₁_prop (λ t. absurd (none-some t.0 (sym none ∙ t.1)))
 
-  -- the file that is open stands there
+  -- The file that is open is at the place that is named, if one is.
   pub open_stands : (at : Option ℕ) (file : Option F) (f : F) → StandsIn seek write at file
       → file ≡ Some f → StandsAs seek write at f
   open_stands at file f stands is place named = ∥∥₁_map (stands place named)
       (λ t. subst (IsWrittenUpTo seek write place) (same_Some t.0 f (sym t.1 ∙ is)) t.2)
 
-  -- a file that stands at a place
+  -- A file at a place is open, and is at the place that is named.
   pub stands_there : (end : ℕ) (f : F) → IsAt seek write end f
       → StandsIn seek write (Some end) (Some f)
   stands_there end f at place is =

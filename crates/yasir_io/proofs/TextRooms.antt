@@ -1,9 +1,10 @@
--- Pieces of a text behind those that wait in a room.
+-- Pieces of a text that are put after those that wait in a room.
 use Rattle.std.proofs.Common.{◌≡◌, ◌∙◌, ℕ, ◌+◌, ◌≤◌, List, ◌++◌, length, take, sym, ap, arith}
 use Rattle.std.proofs.{Common.append_assoc, Math.Seq.take-append-add}
 use Rattle.std.proofs.lemmas.List.{take-append-le, take-take, length-take-le}
 
--- the first bytes of a piece that was written behind the first ones of a room
+-- If a piece is written after the first `len` bytes of a room, the first len + n bytes are then
+-- these and the first n of the piece.
 pub front_held : (len n whole : ℕ) (room piece part behind rest items : List ℕ)
     → part ≡ take (len + whole) room → len + whole ≤ length room → n ≤ length piece
     → items ≡ take len room

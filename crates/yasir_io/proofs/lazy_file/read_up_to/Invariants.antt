@@ -2,7 +2,7 @@ use Rattle.std.proofs.Common.{◌≡◌, ◌-◌, ◌≤◌, length, take}
 use Rattle.std.specs.Io.KnownBytes.{Consumes}
 use Rattle.yasir_io.proofs.lazy_file.read_up_to.Given as goal
 
--- the first bytes are those that were left first
+-- the first `len` bytes of the buffer are those that the file had left first
 abbrev pub invariant-loop-len : goal.invariant-loop-len
 invariant-loop-len g l = record {
   same : length l.buf ≡ length l.initial.buf;
