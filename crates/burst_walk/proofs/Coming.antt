@@ -1,4 +1,4 @@
--- One more tick of a line: how far a causal walk then has come, and what the step answers.
+-- One more tick of a line: how far a causal walk has then come, and what the step returns.
 use Rattle.burst_walk.proofs.Spread.{AreSpread, EndBy, bursts-spread, bursts-end, last_contiguous}
 use Rattle.burst_walk.proofs.{Spread.last_ends, Walks.walked-append, Walks.emitted-append}
 use Rattle.burst_walk.proofs.Walks.{state_after-append, before-early, before-late, adds_one_tick}
@@ -24,7 +24,7 @@ is_other a b h = grind arith
 is_same : (a b : ℕ) → a ≡ b → (a == b) ≡ true
 is_same a b h = grind arith
 
--- Only the last burst of a line may still go on.
+-- Holds if the last burst of a line may still go on at tick m.
 pub record RunsOn (m : ℕ) (ds : List Burst) : Type 0 where
   pub front : List Burst
   pub last : Burst
@@ -56,13 +56,14 @@ closed-or m n (d ∷ e ∷ ds) spread ends =
     (λ on. inr (runs_on-more m d e ds on))
     (closed-or m (end_of d + T3_5_TICKS) (e ∷ ds) spread.2 ends.1)
 
--- all bursts of a line are closed, or the last one may go on
+-- Either all bursts of a line are closed, or the last one may go on.
 pub closed-or-runs_on : (line : List Tick)
     → AreClosed T3_5_TICKS (length line) (bursts line) ⊎ RunsOn (length line) (bursts line)
 closed-or-runs_on line = closed-or (length line) 0 (bursts line) (bursts-spread line)
     (bursts-end line)
 
--- the last burst of a line may go on, as long as its end is near
+-- The last burst of a line may go on if the line ends before the silence after the burst is long
+-- enough to end it.
 may-go_on : (line : List Tick) (front : List Burst) (d : Burst) → bursts line ≡ front ++ d ∷ []
     → length line < end_of d + T3_5_TICKS → MayGoOn d (length line)
 may-go_on line front d is near =
@@ -98,7 +99,7 @@ module _ {S N : Type 0} (w : Walker S N) where
   noted-last s m [] d are = are.0
   noted-last s m (e ∷ a) d are = noted-last (w.next s e) m a d are.1
 
-  -- the notes of noted bursts come before tick m, and none in its step
+  -- If all these bursts are noted before tick m, all their notes come before it.
   noted-before : (s : S) (m : ℕ) (ds : List Burst) → AreNoted w s m ds
       → notes_before m (walked w s ds) ≡ walked w s ds
   noted-before s m [] are = refl
@@ -113,7 +114,7 @@ module _ {S N : Type 0} (w : Walker S N) where
       cond-false _ _ _ (is_other (w.tick s d) m (λ same. omega arith))
       ∙ noted-at (w.next s d) m ds are.1
 
-  -- a burst that waits has its note in the step of tick m, or has none yet
+  -- If the burst that waits is noted at tick m, its note comes in the step of that tick.
   pub note-now : (s : S) (m : ℕ) (d : Burst) → w.tick s d ≡ m
       → notes_at m (walked w s (d ∷ [])) ≡ record { tick = m; note = w.note s d } ∷ []
   note-now s m d now =
@@ -127,7 +128,7 @@ module _ {S N : Type 0} (w : Walker S N) where
   note-later s m (Some d) later = cond-false _ _ _ (is_other (w.tick s d) m (λ same. omega arith))
 
   module _ (begun : S) where
-    -- nothing has come yet
+    -- Before the first tick, no burst has come.
     pub come-begun : HasCome w begun 0 [] begun [] None
     come-begun = record {
       settled = [];
@@ -151,9 +152,9 @@ module _ {S N : Type 0} (w : Walker S N) where
     }
 
     module _ (m : ℕ) (ds : List Burst) (s : S) (emissions : List Burst) where
-      -- ---- judging: whether the burst that waits is noted in the step of tick m
+      -- ---- whether the burst that waits is noted in the step of tick m
 
-      -- it still waits
+      -- If the burst that waits isn't noted at tick m, it still waits after it.
       pub come-waits : (waiting : Option Burst) → HasCome w begun m ds s emissions waiting
           → IfSome waiting (λ d. m + 1 ≤ w.tick s d)
           → HasCome w begun (m + 1) ds s emissions waiting
@@ -166,7 +167,7 @@ module _ {S N : Type 0} (w : Walker S N) where
         emits = come.emits;
       }
 
-      -- it is noted
+      -- If the burst that waits is noted at tick m, none waits after it.
       pub come-noted : (d : Burst) → HasCome w begun m ds s emissions (Some d) → w.tick s d ≡ m
           → HasCome w begun (m + 1) ds (w.next s d) (emissions ++ w.emission s d) None
       come-noted d come now =
@@ -188,10 +189,10 @@ module _ {S N : Type 0} (w : Walker S N) where
                 ∙ ap (λ x. emissions ++ w.emission x d) come.state));
           }
 
-      -- ---- what comes of the bursts
+      -- ---- what the bursts give
 
       module _ (waiting : Option Burst) (come : HasCome w begun m ds s emissions waiting) where
-        -- what all bursts emit
+        -- All bursts emit what the noted ones have emitted, and then what the one that waits emits.
         pub emitted-come : emitted w begun ds ≡ emissions ++ emitted w s (waiting_part waiting)
         emitted-come =
             ap (λ x. emitted w begun x) come.is
@@ -200,7 +201,7 @@ module _ {S N : Type 0} (w : Walker S N) where
             come.emits
             ∙ ap (λ x. emissions ++ emitted w x (waiting_part waiting)) come.state))
 
-        -- the notes in the step of tick m are those of the burst that waits
+        -- The notes in the step of tick m are those of the burst that waits.
         pub notes_at-come : notes_at m (walked w begun ds)
             ≡ notes_at m (walked w s (waiting_part waiting))
         notes_at-come =
@@ -213,7 +214,7 @@ module _ {S N : Type 0} (w : Walker S N) where
             (noted-at begun m come.settled come.are_noted)
             ∙ ap (λ x. notes_at m (walked w x (waiting_part waiting))) come.state)))
 
-        -- all notes before tick m are those of the bursts that don't wait
+        -- All notes before tick m are those of the bursts that don't wait.
         pub notes_before-come : notes_before m (walked w begun ds) ≡ walked w begun come.settled
         notes_before-come =
             let after : S = state_after w begun come.settled in
@@ -235,10 +236,10 @@ module _ {S N : Type 0} (w : Walker S N) where
             none_yet (Some d) waits = before-late m (noted w s d) [] waits
 
 module _ {S N : Type 0} (w : Walker S N) (causal : IsCausal w) (begun : S) (line : List Tick) where
-  -- ---- taking a tick: the burst that waits before it is judged
+  -- ---- taking a tick, before the burst that waits is judged
 
   module _ (s : S) (emissions : List Burst) where
-    -- silence changes no burst
+    -- A silent tick changes no burst.
     pub come-silent : (waiting : Option Burst)
         → HasCome w begun (length line) (bursts line) s emissions waiting
         → HasCome w begun (length line) (bursts (line ++ Silent ∷ [])) s emissions waiting
@@ -247,7 +248,7 @@ module _ {S N : Type 0} (w : Walker S N) (causal : IsCausal w) (begun : S) (line
         waiting
         (sym (bursts_from-silent T3_5_TICKS 0 line)) come
 
-    -- the bursts after a byte
+    -- A byte extends the bursts of a line.
     bursts-byte : (b : ℕ) (ds : List Burst) → bursts line ≡ ds
         → bursts (line ++ Byte b ∷ []) ≡ extended T3_5_TICKS (length line) b ds
     bursts-byte b ds is =
@@ -255,7 +256,7 @@ module _ {S N : Type 0} (w : Walker S N) (causal : IsCausal w) (begun : S) (line
         bursts_from-byte T3_5_TICKS 0 (length line) b line here
         ∙ ap (λ x. extended T3_5_TICKS (length line) b x) is
 
-    -- a burst that waits may go on
+    -- A burst that waits may go on.
     pub waiting-may : (d : Burst) → HasCome w begun (length line) (bursts line) s emissions (Some d)
         → MayGoOn d (length line)
     waiting-may d come =
@@ -266,7 +267,7 @@ module _ {S N : Type 0} (w : Walker S N) (causal : IsCausal w) (begun : S) (line
         let late : length line ≤ w.tick s d = come.waits in
         may-go_on line come.settled d come.is (omega arith)
 
-    -- and does so by a byte
+    -- If a burst waits, a byte joins it, and it still waits.
     pub come-joined : (b : ℕ) (d : Burst)
         → HasCome w begun (length line) (bursts line) s emissions (Some d)
         → HasCome w begun (length line) (bursts (line ++ Byte b ∷ [])) s emissions
@@ -283,7 +284,7 @@ module _ {S N : Type 0} (w : Walker S N) (causal : IsCausal w) (begun : S) (line
           emits = come.emits;
         }
 
-    -- where all bursts are closed, a byte begins one
+    -- If all bursts are closed, a byte begins one, which waits.
     pub come-alone : (b : ℕ) → HasCome w begun (length line) (bursts line) s emissions None
         → AreClosed T3_5_TICKS (length line) (bursts line)
         → HasCome w begun (length line) (bursts (line ++ Byte b ∷ [])) s emissions
@@ -301,7 +302,7 @@ module _ {S N : Type 0} (w : Walker S N) (causal : IsCausal w) (begun : S) (line
           emits = come.emits;
         }
 
-    -- a byte of a burst that is noted changes nothing
+    -- If no burst waits and the last one may go on, a byte joins it, and none waits.
     pub come-runs_on : (b : ℕ) → HasCome w begun (length line) (bursts line) s emissions None
         → RunsOn (length line) (bursts line)
         → HasCome w begun (length line) (bursts (line ++ Byte b ∷ [])) s emissions None
@@ -337,7 +338,7 @@ module _ {S N : Type 0} (w : Walker S N) (causal : IsCausal w) (begun : S) (line
               ∙ (ap (λ ds. emitted w begun ds) (sym whole) ∙ come.emits)));
         }
 
-    -- ---- what a step adds, by the burst that waits after its tick
+    -- ---- what a step adds, given the burst that waits after its tick
 
     module _ (t : Tick) (waiting : Option Burst)
         (come : HasCome w begun (length line) (bursts (line ++ t ∷ [])) s emissions waiting) where
@@ -358,7 +359,8 @@ module _ {S N : Type 0} (w : Walker S N) (causal : IsCausal w) (begun : S) (line
           ∙ ap (λ x. line_of w begun line ++ tick_at x (length line) ∷ [])
           (emitted-come w begun (length line) (bursts (line ++ t ∷ [])) s emissions waiting come)
 
-      -- so a step answers
+      -- A step returns the tick that the emissions have at its place, and the note of the burst
+      -- that waits, if it falls into the step.
       pub answers-step : {A : Type 0} (note_of : N → A) (answer : Tick) (told : Option A)
           → tick_at (emissions ++ emitted w s (waiting_part waiting)) (length line) ≡ answer
           → told_notes note_of (notes_at (length line) (walked w s (waiting_part waiting)))

@@ -11,7 +11,8 @@ pub tick_at-none : (i : ℕ) → tick_at [] i ≡ Silent
 unfolding tick_at
 tick_at-none i = refl
 
--- emissions in front of others hide the same ticks, whatever the others are
+-- If two lists of emissions have the same tick at a place, they still do with the same emissions
+-- before them.
 pub tick_at-front : (front a b : List Burst) (i : ℕ) → tick_at a i ≡ tick_at b i
     → tick_at (front ++ a) i ≡ tick_at (front ++ b) i
 unfolding tick_at
@@ -33,7 +34,7 @@ laid-same a (suc n) f g same =
     (ap (λ l. g a ∷ l) (laid-same (a + 1) n f g
     (λ i below. let h : i < a + suc n = omega arith in same i h)))
 
--- one emission: silence before it, its ticks, and silence after it
+-- For one emission there is silence before it, then its ticks, and then silence.
 pub tick_at-before : (d : Burst) (i : ℕ) → i < d.start → tick_at (d ∷ []) i ≡ Silent
 unfolding tick_at
 tick_at-before d i before = rw (outside d.start (end_of d) i before) refl

@@ -1,5 +1,5 @@
--- Bursts that are laid on a line are the bursts of that line, and laid later they come after
--- silence.
+-- Bursts that are laid on a line are the bursts of that line. If they are laid n ticks later, they
+-- come after n silent ticks.
 use Rattle.burst_walk.proofs.{Emissions.tick_at-none, Spread.AreSpread, Spread.EndBy}
 use Rattle.burst_walk.specs.Laid.{tick_at, laid, later}
 use Rattle.std.proofs.Common.{◌≡◌, ◌∙◌, ◌&&◌, ◌⊎◌, inl, inr, ℕ, zero, suc, ◌+◌, ◌-◌, ◌<◌, ◌≤◌}
@@ -92,7 +92,7 @@ module _ (cut : ℕ) where
   spread-starts n [] spread = tt
   spread-starts n (d ∷ ds) spread = spread.0
 
-  -- before they begin it is dark
+  -- Before the first burst all ticks are silent.
   dark-before : (n i : ℕ) (ds : List Burst) → AreSpread cut n ds → i < n → tick_at ds i ≡ Silent
   dark-before n i [] spread before = tick_at-none i
   dark-before n i (d ∷ ds) spread before =
@@ -146,14 +146,14 @@ module _ (cut : ℕ) where
             (spread-earlier (end_of d) (end_of d + cut) ds apart spread.2) ends.1,
       )
 
-  -- Bursts that are spread over a line are its bursts.
+  -- If bursts are spread over a line, they are the bursts of the line that they are laid on.
   pub bursts-laid : (m : ℕ) (ds : List Burst) → AreSpread cut 0 ds → EndBy m ds
       → bursts_from cut 0 (laid m ds) ≡ ds
   bursts-laid m ds spread ends =
       let here : 0 + m ≡ m = omega arith in
       bursts_from-only cut 0 (laid m ds) ds (laid-are 0 m m ds here spread ends)
 
--- ---- all of it n ticks later
+-- ---- bursts that are laid n ticks later
 
 module _ (n : ℕ) where
   later-dark : (ds : List Burst) (i : ℕ) → i < n → tick_at (map (later n) ds) i ≡ Silent
@@ -174,7 +174,7 @@ module _ (n : ℕ) where
       let back : n + i - (n + d.start) ≡ i - d.start = omega arith in
       rw (sym at, same_place d.start (length d.body) i, back, tick_at-later ds i (n + i) refl) refl
 
-  -- What is laid n ticks later comes after n silent ticks.
+  -- Bursts that are laid n ticks later are laid after n silent ticks.
   pub laid-later : (m : ℕ) (ds : List Burst)
       → laid (n + m) (map (later n) ds) ≡ silent n ++ laid m ds
   laid-later m ds =

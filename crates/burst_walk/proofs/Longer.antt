@@ -1,4 +1,5 @@
--- A causal walk on longer lines: notes and line begin with those of the line.
+-- A causal walk on longer lines: its notes and its other line begin with those that it has for a
+-- front of the line.
 use Rattle.burst_walk.{proofs.Walks.adds_one_tick, specs.Causal.IsCausal, specs.Causal.AddsOneTick}
 use Rattle.burst_walk.specs.{Laid.tick_at, Laid.laid, Longer.Begins, Longer.Extends, Walk.Walker}
 use Rattle.burst_walk.specs.Walk.{walked, emitted, notes_before, notes_at, notes_of, line_of}
@@ -16,7 +17,7 @@ begins-more a b c added is begins = record {
   is = begins.is ∙ (ap (λ x. x ++ begins.rest) is ∙ append_assoc a added begins.rest);
 }
 
--- the line of the link is as long as the device's
+-- The other line is as long as the line.
 pub length-line_of : {S N : Type 0} (w : Walker S N) (s : S) (line : List Tick)
     → length (line_of w s line) ≡ length line
 length-line_of w s line = length-map-range_with_len (λ i. tick_at (emitted w s (bursts line)) i) 0
@@ -56,7 +57,7 @@ module _ {S N : Type 0} (w : Walker S N) (causal : IsCausal w) where
             (subst Q whole rest.ticks);
       }
 
--- ---- silence behind a line: its bursts are the same, and so is all that falls into its own ticks
+-- ---- silence after a line: the bursts and all that falls into the line's own ticks stay the same
 
 module _ {S N : Type 0} (w : Walker S N) (s : S) (line : List Tick) (k : ℕ) where
   pub notes_of-silence : notes_before (length line) (walked w s (bursts (line ++ silent k)))

@@ -1,9 +1,9 @@
--- Tables of small worked lines: what a box makes of each.
+-- Tables of small worked lines, and what a box makes of each.
 use Rattle.std.proofs.Common.{◌≡◌, ℕ, List, map}
 use Rattle.yasir_ticks.specs.declared.tick.Tick.{Tick}
 use Rattle.burst_walk.specs.Walk.{Noted}
 
--- A line, with the number that the box begins behind; what is noted of it, and the other line.
+-- a line, the floor with which the box begins, what it notes, and the other line
 pub record Row (N : Type 0) : Type 0 where
   pub floor : ℕ
   pub line : List Tick
@@ -21,10 +21,10 @@ row floor line notes other = record {
 abbrev pub noted_at : {N : Type 0} → ℕ → N → Noted N
 noted_at tick note = record { tick = tick; note = note }
 
--- a definition of notes says of each row what is there
+-- Holds if a definition of notes gives the notes of each row.
 abbrev pub AreNotes : {N : Type 0} → (ℕ → List Tick → List (Noted N)) → List (Row N) → Type 0
 AreNotes notes_of rows = map (λ r. notes_of r.floor r.line) rows ≡ map (λ r. r.notes) rows
 
--- and so does one of the other line
+-- Holds if a definition of the other line gives that of each row.
 abbrev pub AreOthers : {N : Type 0} → (ℕ → List Tick → List Tick) → List (Row N) → Type 0
 AreOthers other_of rows = map (λ r. other_of r.floor r.line) rows ≡ map (λ r. r.other) rows

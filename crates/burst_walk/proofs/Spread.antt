@@ -1,5 +1,5 @@
--- The bursts of a line: each is contiguous, they stand `cut` silent ticks apart, and they end with
--- the line at the latest.
+-- The bursts of a line: each is contiguous, they are at least `cut` silent ticks apart, and they
+-- end with the line at the latest.
 use Rattle.std.proofs.Common.{◌≡◌, ◌∙◌, ℕ, ◌+◌, ◌≤◌, List, [], ◌∷◌, ◌++◌, length, ap, arith}
 use Rattle.std.proofs.{Common.length-append, lemmas.List.length-replicate}
 use Rattle.yasir_ticks.proofs.{BurstLaws.bursts_from-starts, BurstsOfLaws.bursts_from-are}
@@ -8,13 +8,14 @@ use Rattle.yasir_ticks.specs.BurstsOf.{IsContiguous, StartsFrom, AreBursts}
 use Rattle.yasir_ticks.specs.{Ticks.silent, declared.TheConstants.T3_5_TICKS}
 use Rattle.yasir_ticks.specs.declared.tick.Tick.{Tick, TheVariants.Silent}
 
--- These bursts start at tick n or later, `cut` silent ticks apart.
+-- Holds if these bursts are contiguous, start at tick n or later, and are at least `cut` silent
+-- ticks apart.
 abbrev pub AreSpread : ℕ → ℕ → List Burst → Type 0
 AreSpread cut n [] = Unit {0}
 AreSpread cut n (d ∷ ds) = (n ≤ d.start) × IsContiguous cut d.body
     × AreSpread cut (end_of d + cut) ds
 
--- each of them ends by tick m
+-- Holds if each of these bursts ends by tick m.
 abbrev pub EndBy : ℕ → List Burst → Type 0
 EndBy m [] = Unit {0}
 EndBy m (d ∷ ds) = (end_of d ≤ m) × EndBy m ds
@@ -53,7 +54,7 @@ bursts-end line =
     let here : 0 + length line ≡ length line = omega arith in
     bursts_from-end T3_5_TICKS 0 (length line) line here
 
--- ---- the last of them
+-- ---- the last of these bursts
 
 pub last_contiguous : (n : ℕ) (front : List Burst) (d : Burst)
     → AreSpread T3_5_TICKS n (front ++ d ∷ []) → IsContiguous T3_5_TICKS d.body

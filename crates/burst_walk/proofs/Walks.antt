@@ -64,7 +64,7 @@ module _ {N : Type 0} where
 -- ---- causal walks
 
 module _ {S N : Type 0} (w : Walker S N) (causal : IsCausal w) where
-  -- bursts that start late have late notes
+  -- Bursts that start at tick m or later have no notes before it.
   pub none_before : (s : S) (n m : ℕ) (ds : List Burst) → AreSpread T3_5_TICKS n ds → m ≤ n
       → notes_before m (walked w s ds) ≡ []
   none_before s n m [] spread late = refl
@@ -75,7 +75,7 @@ module _ {S N : Type 0} (w : Walker S N) (causal : IsCausal w) where
       before-late m (noted w s d) (walked w (w.next s d) ds) h
       ∙ none_before (w.next s d) (end_of d + T3_5_TICKS) m ds spread.2 next
 
-  -- Notes come in the order of their ticks.
+  -- The notes before tick m + 1 are those before tick m, followed by those at tick m.
   notes_split : (s : S) (n m : ℕ) (ds : List Burst) → AreSpread T3_5_TICKS n ds
       → notes_before (m + 1) (walked w s ds)
       ≡ notes_before m (walked w s ds) ++ notes_at m (walked w s ds)
@@ -120,7 +120,7 @@ module _ {S N : Type 0} (w : Walker S N) (causal : IsCausal w) where
       (cases_lt (w.tick s d) (m + 1)))
       (cases_lt (w.tick s d) m)
 
-  -- A burst that goes on has the notes before tick m that it had.
+  -- If a burst goes on at tick m, its notes before that tick stay the same.
   same_before : (s : S) (d : Burst) (m b : ℕ) → MayGoOn d m
       → notes_before m (noted w s (going_on d m b) ∷ []) ≡ notes_before m (noted w s d ∷ [])
   same_before s d m b may =
@@ -139,7 +139,7 @@ module _ {S N : Type 0} (w : Walker S N) (causal : IsCausal w) where
   alone_before s m b = before-late m (noted w s (alone m b)) []
       (causal.not_before s (alone m b) (one b))
 
-  -- the notes before a byte at tick m are those without the byte
+  -- A byte at tick m changes no notes before that tick.
   notes_stay : (s : S) (n m b : ℕ) (ds : List Burst) → AreSpread T3_5_TICKS n ds → EndBy m ds
       → notes_before m (walked w s (extended T3_5_TICKS m b ds)) ≡ notes_before m (walked w s ds)
   notes_stay s n m b [] spread ends = ap (λ ds. notes_before m (walked w s ds))
@@ -168,7 +168,7 @@ module _ {S N : Type 0} (w : Walker S N) (causal : IsCausal w) where
       ∙ sym (filter-append (λ n. nat_lt n.tick m) (noted w s d ∷ [])
       (walked w (w.next s d) (e ∷ ds)))))
 
-  -- nor does the other line change before tick m
+  -- A byte at tick m that is a burst of its own has no tick of the other line before that tick.
   alone_dark : (s : S) (m b i : ℕ) → i < m → tick_at (w.emission s (alone m b) ++ []) i ≡ Silent
   alone_dark s m b i before = ap (λ x. tick_at x i) (append-nil (w.emission s (alone m b)))
       ∙ causal.dark_before s (alone m b) i (one b) before
@@ -222,8 +222,8 @@ module _ {S N : Type 0} (w : Walker S N) (causal : IsCausal w) where
       (bursts_from-byte T3_5_TICKS 0 (length line) b line here)
       ∙ ticks_stay s 0 (length line) b i (bursts line) (bursts-spread line) (bursts-end line) before
 
-  -- One more tick adds the notes of its step and one tick of the other line: what stood there
-  -- stays.
+  -- One more tick adds the notes of its step and one tick of the other line. Earlier notes and
+  -- ticks stay as they are.
   pub adds_one_tick : (s : S) (line : List Tick) (t : Tick) → AddsOneTick w s line t
   adds_one_tick s line t =
       let long : length (line ++ t ∷ []) ≡ length line + 1 = length-append line (t ∷ []) in
