@@ -3,7 +3,7 @@ use Rattle.std.proofs.Common.{ℕ, Result, Ok, Bool, false, refl, subst, arith}
 use Rattle.yasir_io.specs.Causes.{HasCause}
 use Rattle.tick_drive.specs.Consumers.{IsDiskCause, IsSinkCause}
 
--- no call
+-- ---- if there is no call
 
 pub cause_none : {T E : Type 0} (x : T) (n : ℕ) → HasCause {T = T} {E = E} n n (Ok x)
 cause_none x n = record { never_falls = omega arith; failed = tt; same = refl }
@@ -20,7 +20,7 @@ sinks_none o l = record {
   log_same = λ _. refl;
 }
 
--- one call more
+-- ---- if there is one more call
 
 pub cause_then : {T U E : Type 0} (x : T) (n0 n1 n2 : ℕ) (result : Result U E)
     → HasCause {T = T} {E = E} n0 n1 (Ok x) → HasCause n1 n2 result → HasCause n0 n2 result

@@ -27,7 +27,7 @@ ended_items-nil = refl
 nothing_behind : (xs ys : List Item) → xs ++ ys ≡ xs → ys ≡ []
 nothing_behind xs ys e = nil_from_length ys (omega (arith, ap length e, length-append xs ys))
 
--- a byte behind which a line with ticks has ended is an LF
+-- If a line with ticks or a mark ends at a byte, the byte is an LF.
 ends_by_line_feed : (text : List ℕ) (byte : ℕ) (line : List Item)
     → ended_items (text ++ byte ∷ []) ≡ ended_items text ++ line → line ≢ [] → byte ≡ line_feed
 ends_by_line_feed text byte line ended some = elim (cases_eq byte line_feed) [
@@ -39,7 +39,8 @@ ends_by_line_feed text byte line ended some = elim (cases_eq byte line_feed) [
     same other = ap (λ lines. flat_map (λ l. unwrap_or (line_items l) []) lines.ended)
         (lines_of-more text byte other)
 
--- the LF ends a line behind these bytes, in which no line with ticks ended
+-- If a line with ticks or a mark is met, an LF ends it, and no such line ended in the bytes before
+-- the LF.
 ends_line : (intake : Intake) (marks : ℕ) (before now : Option (List ℕ)) (text : List ℕ)
     (line : List Item) (met : MeetsLine intake marks before now text line) → line ≢ []
     → EndsLine marks before (text ++ met.front) (ended_items text) line
@@ -57,7 +58,7 @@ ends_line intake marks before now text line met some =
       some = some;
     }
 
--- a line whose bytes are lent
+-- A line that is met with the bytes that are lent is met with any equal bytes.
 pub line_lent : (intake : Intake) (marks : ℕ) (before now : Option (List ℕ)) (text : List ℕ)
     (content : Content) (bytes : List ℕ) → bytes ≡ lent intake
     → MeetsLine intake marks before now text (items_of_content content (lent intake))
@@ -65,7 +66,7 @@ pub line_lent : (intake : Intake) (marks : ℕ) (before now : Option (List ℕ))
 line_lent intake marks before now text content bytes e met =
     subst (λ b. MeetsLine intake marks before now text (items_of_content content b)) (sym e) met
 
--- silence behind a whole input
+-- A whole input is still one with a rest after it.
 rested : (marks rest : ℕ) (before now : Option (List ℕ)) (items : List Item)
     → IsWhole marks 0 before now items → IsWhole marks rest before now (items ++ silent_items rest)
 rested marks rest before now items h = record {
@@ -77,14 +78,14 @@ rested marks rest before now items h = record {
   are = ap (λ items. items ++ silent_items rest) (h.are ∙ append-nil h.told);
 }
 
--- a whole input has few ticks
+-- A whole input has at most `max_ticks` ticks.
 pub few-whole : (marks : ℕ) (before now : Option (List ℕ)) (items : List Item)
     → IsWhole marks 0 before now items → length (ticks_in items) ≤ max_ticks
 few-whole marks before now items h =
     let same : length (ticks_in items) ≡ length (ticks_in h.told) =
     ap (λ l. length (ticks_in l)) (h.are ∙ append-nil h.told) in omega (arith, same, h.few)
 
--- nothing was read
+-- If nothing was read, the input's count of faults stays the same, and is no cause.
 pub read_same : (in0 in1 : ℕ) (is_cause : Bool) → in1 ≡ in0 → is_cause ≡ false
     → IsReadCause in0 in1 is_cause
 read_same in0 in1 is_cause e unless = record {
@@ -94,8 +95,8 @@ read_same in0 in1 is_cause e unless = record {
 }
 
 module _ {C : Type 0} (meaning : Consuming C) where
-  -- So far: the text that was met, whose ended lines the consumer was given, and this many ticks in
-  -- them.
+  -- Holds if a text was met so far, the consumer was given the items of the lines that ended in it,
+  -- and these have `ticks` ticks.
   pub record Progress (marks : ℕ) (before now : Option (List ℕ)) (intake : Intake)
       (start state : C) (ticks : ℕ) : Type 0 where
     pub text : List ℕ
@@ -106,7 +107,7 @@ module _ {C : Type 0} (meaning : Consuming C) where
     pub room : meaning.taken state + max_ticks ≤ MAX_TICKS + ticks
 
 module _ {C : Type 0} (meaning : Consuming C) (joins : AreJoined meaning) where
-  -- nothing met yet
+  -- At the start nothing was met, and nothing was given.
   pub progress_start : (marks : ℕ) (before : Option (List ℕ)) (intake : Intake)
       (start : C) → HasMet intake marks before before []
       → Gives meaning start start [] (Ok tt) → meaning.taken start + max_ticks ≤ MAX_TICKS
@@ -121,7 +122,7 @@ module _ {C : Type 0} (meaning : Consuming C) (joins : AreJoined meaning) where
     room = omega (arith, room);
   }
 
-  -- nothing was met
+  -- If the intake stays the same, so does the progress.
   pub progress_same : (marks : ℕ) (before now : Option (List ℕ)) (old new : Intake)
       (start state : C) (ticks : ℕ) → new ≡ old
       → Progress meaning marks before now old start state ticks
@@ -129,7 +130,7 @@ module _ {C : Type 0} (meaning : Consuming C) (joins : AreJoined meaning) where
   progress_same marks before now old new start state ticks e p =
       subst (λ i. Progress meaning marks before now i start state ticks) (sym e) p
 
-  -- bytes that end no line with ticks
+  -- If bytes are met that end no line with ticks or a mark, the consumer needs to be given nothing.
   pub progress_quiet : (marks : ℕ) (before now later : Option (List ℕ)) (intake next : Intake)
       (start state : C) (ticks : ℕ)
       (p : Progress meaning marks before now intake start state ticks)
@@ -146,7 +147,7 @@ module _ {C : Type 0} (meaning : Consuming C) (joins : AreJoined meaning) where
         room = p.room;
       }
 
-  -- a line that was handed over
+  -- If a line is met and handed over, the consumer was given it and all lines before it.
   pub progress_line : (marks : ℕ) (before now later : Option (List ℕ)) (intake next : Intake)
       (start mid new : C) (ticks sum : ℕ) (line : List Item)
       (p : Progress meaning marks before now intake start mid ticks)
@@ -170,7 +171,7 @@ module _ {C : Type 0} (meaning : Consuming C) (joins : AreJoined meaning) where
         room = omega (arith, p.room, handed.gives.counted, handed.sum_is);
       }
 
-  -- a step that isn't answered ends the run
+  -- If a step returns an end, the drive ends with it.
   pub step_ends : (marks : ℕ) (before now later : Option (List ℕ)) (intake next : Intake)
       (start state : C) (ticks : ℕ) (end : End)
       (p : Progress meaning marks before now intake start state ticks)
@@ -217,7 +218,7 @@ module _ {C : Type 0} (meaning : Consuming C) (joins : AreJoined meaning) where
   step_ends marks before now later intake next start state ticks Whole p h = absurd h
   step_ends marks before now later intake next start state ticks (Stopped stop) p h = absurd h
 
-  -- a text that isn't right at its end
+  -- If a text isn't right at its end, the drive ends with this, and no read fault is the cause.
   pub finish_ends : (marks : ℕ) (before now later : Option (List ℕ)) (intake next : Intake)
       (start state : C) (ticks : ℕ) (end : End)
       (p : Progress meaning marks before now intake start state ticks)
@@ -248,7 +249,8 @@ module _ {C : Type 0} (meaning : Consuming C) (joins : AreJoined meaning) where
   finish_ends marks before now later intake next start state ticks Whole p met h = absurd h
   finish_ends marks before now later intake next start state ticks (Stopped stop) p met h = absurd h
 
-  -- a line that was held back, or at one of whose ticks the consumer stopped, ends the run
+  -- If a line is held back, or the consumer stops at one of its ticks, the drive ends with this,
+  -- and no read fault is the cause.
   pub line_ends : (marks : ℕ) (before now later : Option (List ℕ)) (intake next : Intake)
       (start mid new : C) (ticks : ℕ) (line : List Item) (halt : Halt)
       (p : Progress meaning marks before now intake start mid ticks)
@@ -297,7 +299,7 @@ module _ {C : Type 0} (meaning : Consuming C) (joins : AreJoined meaning) where
         refl,
       )
 
-  -- the last line was handed over
+  -- If the last line is handed over, the drive ends with `Whole`.
   pub last_ends : (marks : ℕ) (before now later : Option (List ℕ)) (intake next : Intake)
       (start mid new : C) (ticks sum : ℕ) (line : List Item)
       (p : Progress meaning marks before now intake start mid ticks)
@@ -319,7 +321,8 @@ module _ {C : Type 0} (meaning : Consuming C) (joins : AreJoined meaning) where
         h.gives;
   }
 
-  -- the last line was held back, or the consumer stopped at one of its ticks
+  -- If the last line is held back, or the consumer stops at one of its ticks, the drive ends with
+  -- this, and no read fault is the cause.
   pub last_line_ends : (marks : ℕ) (before now later : Option (List ℕ)) (intake next : Intake)
       (start mid new : C) (ticks : ℕ) (line : List Item) (halt : Halt)
       (p : Progress meaning marks before now intake start mid ticks)
@@ -365,7 +368,7 @@ module _ {C : Type 0} (meaning : Consuming C) (joins : AreJoined meaning) where
         refl,
       )
 
-  -- the silence behind a whole input was taken
+  -- If the consumer takes the rest after a whole input, the drive with this rest ends with `Whole`.
   pub rest_taken : (marks rest : ℕ) (before now : Option (List ℕ)) (old mid new : C)
       → Drives meaning marks 0 before now old mid Whole
       → Gives meaning mid new (silent_items rest) (Ok tt)
@@ -377,7 +380,8 @@ module _ {C : Type 0} (meaning : Consuming C) (joins : AreJoined meaning) where
         more;
   }
 
-  -- the consumer stopped in it
+  -- If the consumer stops in the rest after a whole input, the drive with this rest ends with this
+  -- stop.
   pub rest_stops : (marks rest : ℕ) (before now : Option (List ℕ)) (old mid new : C)
       (stop : Stop) → Drives meaning marks 0 before now old mid Whole
       → Gives meaning mid new (silent_items rest) (Err stop)
@@ -389,7 +393,7 @@ module _ {C : Type 0} (meaning : Consuming C) (joins : AreJoined meaning) where
         whole.gives more;
   }
 
-  -- silence behind a whole input changes nothing of any other end
+  -- If a drive doesn't end with `Whole`, it ends in the same way with a rest after its input.
   pub other_ends : (marks rest : ℕ) (before now : Option (List ℕ)) (old new : C)
       (end : End) → (end ≡ Whole → ⊥)
       → Drives meaning marks 0 before now old new end

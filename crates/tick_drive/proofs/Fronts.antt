@@ -1,4 +1,4 @@
--- A consumer that takes the first ticks of a run at once where it can, and else one.
+-- A consumer that takes the first ticks of a run at once if it can, and otherwise one tick.
 use Rattle.std.proofs.Common.{◌≡◌, ℕ, ◌≤◌, ◌<◌, List, [], ◌∷◌, ◌++◌, length, take, Result, Ok, Err}
 use Rattle.std.proofs.Common.{ap, subst, sym, arith}
 use Rattle.tick_drive.proofs.Moving.{gives_items, gives_front, gives_then}
@@ -18,7 +18,7 @@ module _ {C : Type 0} (meaning : Consuming C) where
   some_given c0 c1 items n some given =
       record { some = some; within = given.within; gives = given.gives }
 
-  -- nothing was taken, and it may go on
+  -- A consumer that was given nothing may still take the items.
   pub still_may : (c0 c1 : C) (items : List Item) → MayTake meaning c0 items
       → Gives meaning c0 c1 [] (Ok tt) → MayTake meaning c1 items
   still_may c0 c1 items may none =
@@ -26,7 +26,7 @@ module _ {C : Type 0} (meaning : Consuming C) where
 
 module _ {C : Type 0} (meaning : Consuming C) (joins : AreJoined meaning) (c0 c1 c2 : C)
     (items : List Item) (none : Gives meaning c0 c1 [] (Ok tt)) where
-  -- nothing was taken, and then some of the items
+  -- If a consumer was given nothing, and then some of the items, it was given these.
   pub front_then : (result : Result ℕ Stop) → GivesFront meaning c1 c2 items result
       → GivesFront meaning c0 c2 items result
   front_then (Ok n) then = record {
@@ -35,7 +35,7 @@ module _ {C : Type 0} (meaning : Consuming C) (joins : AreJoined meaning) (c0 c1
   }
   front_then (Err stop) then = gives_then meaning joins c0 c1 c2 [] items (Err stop) none then
 
-  -- and then the first one alone
+  -- what was given if a consumer was given nothing, and then the first item by itself
   module _ (item : Item) (rest : List Item) (is : items ≡ item ∷ rest) where
     pub one_given : Gives meaning c1 c2 (item ∷ []) (Ok tt) → GivesFirst meaning c0 c2 items 1
     one_given then = record {

@@ -1,11 +1,11 @@
--- What is known of an input: what was met of it, and then what is to come.
+-- What is known of an input: what was met of it, followed by what is to come.
 use Rattle.std.proofs.Common.{◌≡◌, ◌+◌, ◌-◌, ◌<◌, ◌≤◌, ℕ, List, [], ◌∷◌, ◌++◌, length, take, drop}
 use Rattle.std.proofs.Common.{get_or, Option, Some, None, ap, refl, ◌∙◌, sym, subst, append_assoc}
 use Rattle.std.proofs.Common.{arith}
 use Rattle.std.proofs.lemmas.List.{take_more, take-append-drop, take-take, length-take}
 use Rattle.{std.specs.Io.KnownBytes.prepend_known, tick_drive.specs.Input.ComesFirst}
 
--- some bytes of those that are kept are met
+-- If n of the kept bytes are met, what is known of the input stays the same.
 pub met_some : (before left : Option (List ℕ)) (text kept : List ℕ) (n : ℕ)
     → before ≡ prepend_known text (prepend_known kept left)
     → before ≡ prepend_known (text ++ take n kept) (prepend_known (drop n kept) left)
@@ -15,20 +15,20 @@ met_some before (Some xs) text kept n p =
     ∙ ap (λ l. text ++ l) (sym (append_assoc (take n kept) (drop n kept) xs)
     ∙ ap (λ l. l ++ xs) (take-append-drop n kept))))
 
--- this many bytes and one more
+-- A text followed by n bytes, and by the next one, is followed by n + 1 bytes.
 pub text_more : (text bytes : List ℕ) (n : ℕ) → n < length bytes
     → (text ++ take n bytes) ++ get_or bytes n 0 ∷ [] ≡ text ++ take (n + 1) bytes
 text_more text bytes n h = append_assoc text (take n bytes) (get_or bytes n 0 ∷ [])
     ∙ ap (λ x. text ++ x) (sym (take_more bytes n 0 h))
 
--- this many bytes, the last of them apart
+-- A text followed by n - 1 bytes, and by the next one, is followed by n bytes.
 pub text_last : (text bytes : List ℕ) (n : ℕ) → n ≤ length bytes → 0 < n
     → (text ++ take (n - 1) bytes) ++ get_or bytes (n - 1) 0 ∷ [] ≡ text ++ take n bytes
 text_last text bytes n h some =
     let sum : n - 1 + 1 ≡ n = omega arith in
     text_more text bytes (n - 1) (omega arith) ∙ ap (λ k. text ++ take k bytes) sum
 
--- some bytes of a front of those that are kept are met
+-- If n bytes of a front of the kept ones are met, what is known of the input stays the same.
 pub met_slice : (before left : Option (List ℕ)) (text kept new : List ℕ) (within n : ℕ)
     → n ≤ length (take within kept) → new ≡ drop n kept
     → before ≡ prepend_known text (prepend_known kept left)
@@ -40,7 +40,8 @@ met_slice before left text kept new within n h e p =
     (subst (λ l. before ≡ prepend_known (text ++ take n kept) (prepend_known l left)) (sym e)
     (met_some before left text kept n p))
 
--- and one more
+-- The text that was met, n bytes of a front of the kept ones, and the next one come first in the
+-- input.
 pub met_slice_more : (before left : Option (List ℕ)) (text kept : List ℕ) (within n : ℕ)
     → n < length (take within kept)
     → before ≡ prepend_known text (prepend_known kept left)
@@ -53,7 +54,7 @@ met_slice_more before left text kept within n h p = (
       (sym (text_more text (take within kept) n h)),
 )
 
--- the first byte that is kept is met
+-- The text that was met and the first of the kept bytes come first in the input.
 pub met_first : (before left : Option (List ℕ)) (text kept : List ℕ) → 0 < length kept
     → before ≡ prepend_known text (prepend_known kept left)
     → ComesFirst before (text ++ get_or kept 0 0 ∷ [])

@@ -28,7 +28,7 @@ module _ {C : Type 0} (meaning : Consuming C) where
             (second.at origin (items ++ a) (first origin items stands));
       }
 
-  -- items that follow change nothing of where it stopped
+  -- Where a consumer stopped among some items doesn't depend on the items that follow.
   stops_before : (c0 c1 : C) (a rest : List Item) (stop : Stop) → Stops meaning c0 c1 a stop
       → Stops meaning c0 c1 (a ++ rest) stop
   stops_before c0 c1 a rest stop stops = record {
@@ -39,7 +39,7 @@ module _ {C : Type 0} (meaning : Consuming C) where
         (stops.at origin items stands);
   }
 
-  -- no item
+  -- Giving no item to a consumer leaves it as it is.
   pub gives_none : (c : C) → IsNoneDone meaning → meaning.able c → Gives meaning c c [] (Ok tt)
   gives_none c none able = record {
     moved = λ origin items stands. subst (meaning.stands c origin) (sym (append-nil items)) stands;
@@ -49,7 +49,8 @@ module _ {C : Type 0} (meaning : Consuming C) where
     went = none c able;
   }
 
-  -- a mark, to which a consumer does nothing
+  -- Giving a mark to a consumer leaves it as it is, if a mark changes nothing of what it
+  -- represents.
   pub gives_mark : (c : C) → IsNoneDone meaning → meaning.able c
       → ((origin : meaning.Origin) (items : List Item) → meaning.stands c origin items
       → meaning.stands c origin (items ++ mark ∷ []))
@@ -67,7 +68,7 @@ module _ {C : Type 0} (meaning : Consuming C) where
   gives_items c0 c1 a b result same given =
       subst (λ items. Gives meaning c0 c1 items result) same given
 
-  -- the items that follow the one at which it stopped are not looked at
+  -- A consumer that stopped at one of some items isn't given the items that follow.
   pub gives_front : (c0 c1 : C) (a rest : List Item) (stop : Stop)
       → Gives meaning c0 c1 a (Err stop) → Gives meaning c0 c1 (a ++ rest) (Err stop)
   gives_front c0 c1 a rest stop given = record {
@@ -78,14 +79,14 @@ module _ {C : Type 0} (meaning : Consuming C) where
     went = given.went;
   }
 
-  -- As far as these items are left of all that a consumer must be given, it was given them.
+  -- Holds if a consumer was given all items except those that are left.
   pub record HasGiven (start now : C) (all left : List Item) : Type 0 where
     pub done : List Item
     pub all_are : all ≡ done ++ left
     pub gives : Gives meaning start now done (Ok tt)
 
 module _ {C : Type 0} (meaning : Consuming C) (joins : AreJoined meaning) where
-  -- one call more
+  -- If a consumer was given some items, and then some more, it was given all of them.
   pub gives_then : (c0 c1 c2 : C) (a b : List Item) (result : Result (Unit {0}) Stop)
       → Gives meaning c0 c1 a (Ok tt) → Gives meaning c1 c2 b result
       → Gives meaning c0 c2 (a ++ b) result
