@@ -7,7 +7,7 @@ use Rattle.std.{proofs.lemmas.Fmt.decimal_digit, proofs.lemmas.Fmt.decimal_step,
 abbrev pub pair : ℕ → List ℕ
 pair n = (48 + n / 10) ∷ (48 + n % 10) ∷ []
 
--- the last two digits behind the others
+-- The digits of a number of 100 or more are those of its hundreds, followed by the last two.
 pair-behind : (n : ℕ) → 100 ≤ n → n < 2 ^ 64 → decimal n ≡ decimal (n / 100) ++ pair (n % 100)
 pair-behind n some small =
     let front : n / 10 / 10 ≡ n / 100 = omega arith in
@@ -22,7 +22,7 @@ pair-behind n some small =
       ones,
     )
 
--- the digits of a number as they were appended
+-- A text to which the digits of n were appended in parts has all of them after what it had before.
 module _ (n : ℕ) (before after : List ℕ) where
   pub pair-held : (a b : ℕ) (mid : List ℕ) → a ≡ 48 + n / 10 → b ≡ 48 + n % 10
       → mid ≡ before ++ a ∷ [] → after ≡ mid ++ b ∷ [] → after ≡ before ++ pair n

@@ -1,4 +1,4 @@
--- The causes of the status that a run over an input ends with.
+-- The causes of the status with which a run over an input ends.
 use Rattle.std.proofs.Common.{◌≡◌, ℕ, ◌⊎◌, inl, inr, false, List, refl, sym, subst, arith}
 use Rattle.tick_drive.specs.{Consumers.is_write_fault, Drive.answer_of}
 use Rattle.tick_drive.specs.Input.{IsReadCause, is_read_fault}
@@ -27,7 +27,8 @@ input_cause_of_whole before now status (inl done) same =
 input_cause_of_whole before now status (inr fault) same =
     subst (InputCause before now) (sym fault) (omega (arith, same))
 
--- no write had failed as the input ended
+-- If no write had failed when the input ended, and it isn't whole, the sinks' counts fit the
+-- status.
 pub sink_cause_of_end : (out_before out_now log_before log_now : ℕ) (end : End)
     → is_write_fault (answer_of end) ≡ false
     → (end ≡ Whole → ⊥) → out_now ≡ out_before → log_now ≡ log_before
@@ -49,7 +50,8 @@ sink_cause_of_end out_before out_now log_before log_now (Stopped stops.NoMemory)
 sink_cause_of_end out_before out_now log_before log_now (Stopped stops.WriteFault) other partial out
     log = cc
 
--- the sinks' counts had not changed before the flushes
+-- If the sinks' counts hadn't changed before the flushes, then those that fit the status since the
+-- flushes began also fit it since the run began.
 pub sink_cause_of_whole : (out0 out1 out2 log0 log1 log2 : ℕ) → (out1 ≡ out0) → (log1 ≡ log0)
     → (status : Status)
     → SinkCause out1 out2 log1 log2 status → SinkCause out0 out2 log0 log2 status

@@ -1,4 +1,4 @@
--- When the two sinks are flushed, carried over what came before and behind.
+-- What holds of the flushes of two sinks also holds with the calls before and after them.
 use Rattle.std.proofs.Common.{◌≡◌, inl, inr, refl, sym, subst, [], ◌∙◌}
 use Rattle.yasir_io.{proofs.FlushLaws.none_flushed_then, specs.Causes.Rose}
 use Rattle.yasir_io.specs.Flushed.{IsFlushed, IsNotFlushed, NoneFlushed}
@@ -10,7 +10,8 @@ use Rattle.replay_status.specs.declared.status.Status.TheVariants.{Done, WriteFa
 use Rattle.tick_drive.specs.declared.end.End.{End, TheVariants.Whole}
 use Rattle.tick_drive.specs.declared.end.End.TheVariants.{Refused, TooLong, ReadFault, Stopped}
 
--- a sink that was not flushed before, or is not flushed behind
+-- If a sink isn't flushed by some calls, and is flushed by the next ones, it is flushed by all of
+-- them.
 flushed_then : {S : Type 0} (sink : Sink S) (s0 s1 s2 : S) → IsNotFlushed sink s0 s1
     → IsFlushed sink s1 s2 → IsFlushed sink s0 s2
 flushed_then sink s0 s1 s2 before flushed = record {
@@ -19,7 +20,8 @@ flushed_then sink s0 s1 s2 before flushed = record {
 }
 
 module _ {O L : Type 0} (o : Sink O) (l : Sink L) where
-  -- nothing had been flushed, and the log had not failed, before the sinks were to be flushed
+  -- If neither sink was flushed before the flushes at the end, and the log hadn't failed, then what
+  -- holds of these flushes holds of the whole run.
   pub flushes_of_whole : (out0 out1 out2 : O) (log0 log1 log2 : L)
       → NoneFlushed o l out0 out1 log0 log1 → l.faults log1 ≡ l.faults log0
       → (status : Status) → FlushesAtEnd o l out1 out2 log1 log2 status
@@ -38,7 +40,7 @@ module _ {O L : Type 0} (o : Sink O) (l : Sink L) where
   flushes_of_whole out0 out1 out2 log0 log1 log2 none calm status h =
       none_flushed_then o l out0 out1 out2 log0 log1 log2 none h
 
-  -- a run that was refused, or failed, flushes nothing
+  -- If a run that was refused, or failed, has flushed neither sink, its flushes fit its status.
   pub flushes_of_end : (out0 out1 : O) (log0 log1 : L) (end : End) → (end ≡ Whole → ⊥)
       → NoneFlushed o l out0 out1 log0 log1 → FlushesAtEnd o l out0 out1 log0 log1 (status_of end)
   flushes_of_end out0 out1 log0 log1 Whole partial none = absurd (partial refl)
@@ -49,7 +51,8 @@ module _ {O L : Type 0} (o : Sink O) (l : Sink L) where
   flushes_of_end out0 out1 log0 log1 (Stopped stops.NoMemory) partial none = none
   flushes_of_end out0 out1 log0 log1 (Stopped stops.WriteFault) partial none = inl none
 
-  -- the fault line behind a command is not flushed; Done and WriteFault have none
+  -- The fault line after a command isn't flushed, so the flushes still fit the status. `Done` and
+  -- `WriteFault` have no fault line.
   pub flushes_after : (out0 out1 : O) (log0 log1 log2 : L) (status : Status)
       → FlushesAtEnd o l out0 out1 log0 log1 status
       → (fault_line status ≡ [] → log2 ≡ log1) → IsNotFlushed l log1 log2

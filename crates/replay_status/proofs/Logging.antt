@@ -1,4 +1,4 @@
--- The fault line behind what a command has written to the log, and the sinks' counts with it.
+-- The fault line that follows what a command has written to the log, and the sinks' counts with it.
 use Rattle.replay_status.specs.Causes.{SinkCause, GotLine, LogsFault}
 use Rattle.replay_status.specs.{Statuses.fault_line, declared.status.Status.Status}
 use Rattle.replay_status.specs.declared.status.Status.TheVariants.{Done, WriteFault}
@@ -15,8 +15,8 @@ line-from before now a b c line le got = elim got [
   | inr part ↦ inr (part.0, rose-from a b c le part.1)
 ]
 
--- The log's count of faults may have risen before, in a write that failed alone, behind which no
--- fault line comes.
+-- What holds of the fault line, given the log's faults since the line was begun, also holds given
+-- those since the command began.
 pub logs-from : (out0 out1 before mid after : ℕ) (held_before held_now : Option (List ℕ))
     (status : Status)
     → SinkCause out0 out1 before mid status → LogsFault held_before held_now mid after status
@@ -26,7 +26,8 @@ logs-from out0 out1 before mid after held_before held_now WriteFault sinks logs 
 logs-from out0 out1 before mid after held_before held_now status sinks logs =
     line-from held_before held_now before mid after _ sinks.1 logs
 
--- the sinks' causes with a fault line that was written, or failed
+-- If the sinks' counts fit a status before the fault line, they still do after it, whether the line
+-- was written or failed.
 pub sinks_after : (out_before out_now log_before log_mid log_now : ℕ) (status : Status)
     → SinkCause out_before out_now log_before log_mid status → log_mid ≤ log_now
     → (fault_line status ≡ [] → log_now ≡ log_mid)

@@ -1,4 +1,4 @@
--- A text that was written whole, whatever the flushes behind it gave.
+-- A text that was written whole, whatever the flushes after it returned.
 use Rattle.replay_status.specs.{PrintsText.PrintsText, declared.status.Status.Status}
 use Rattle.replay_status.specs.declared.status.Status.TheVariants.{Done, WriteFault}
 use Rattle.std.proofs.Common.{◌≡◌, ◌⊎◌, ℕ, List, [], Option, inl, inr, subst, sym, append-nil}

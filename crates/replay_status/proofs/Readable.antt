@@ -1,4 +1,4 @@
--- A right text within the limits is refused by nothing but a fault outside.
+-- A right text within the limits isn't refused, and isn't too long.
 use Rattle.{replay_status.specs.Readable.IsReadableWith, std.proofs.Common.◌≡◌}
 use Rattle.std.proofs.Common.{ℕ, ◌+◌, ◌≤◌, inl, inr, List, [], ◌∷◌, ◌++◌, length, length-append}
 use Rattle.std.proofs.Common.{Option, Some, None, subst, sym, ap, ◌∙◌, append-nil, arith}
@@ -12,20 +12,20 @@ use Rattle.yasir_ticks.proofs.TextLaws.{ended_items-begin, IsTickText-one}
 use Rattle.yasir_ticks.specs.{Characters.line_feed, TickText.IsTickText, Ticks.Item, Ticks.ticks_in}
 use Rattle.yasir_ticks.specs.declared.fault.BadTicks.{BadTicks}
 
--- what was met of a told text begins it
+-- What was met of a told text is a front of it.
 pub met_of_told : (text met : List ℕ) (later : Option (List ℕ))
     → Some text ≡ prepend_known met later → (rest : List ℕ) × (text ≡ met ++ rest)
 met_of_told text met None h = cc
 met_of_told text met (Some rest) h = (rest, cc)
 
--- all of a told text was met
+-- If the input has ended, all of a told text was met.
 pub all_of_told : (text met : List ℕ) (now : Option (List ℕ)) → Some text ≡ prepend_known met now
     → IsAtEnd now → text ≡ met
 all_of_told text met None h ended = cc
 all_of_told text met (Some rest) h ended =
     let whole : text ≡ met ++ rest = cc in whole ∙ ap (λ r. met ++ r) ended ∙ append-nil met
 
--- the ticks of a front of some items are no more than all ticks
+-- If some items have few ticks, so does a front of them.
 few_in_front : (items front back : List Item) → items ≡ front ++ back → AreFew items → AreFew front
 few_in_front items front back whole few =
     let sum : length (ticks_in items) ≡ length (ticks_in front) + length (ticks_in back) =
@@ -88,12 +88,12 @@ module _ (marks : ℕ) (text : List ℕ) (items : List Item) (right : IsTickText
 
 module _ {marks : ℕ} (rest : ℕ) (before now : Option (List ℕ)) (taken : List Item)
     (readable : IsReadableWith marks before) where
-  -- no right text is refused
+  -- A right text isn't refused.
   pub not_refused : (bad : BadTicks) → Takes marks rest before now taken (Refused bad) → ⊥
   not_refused bad h = no_refusal marks readable.text readable.items readable.right now taken bad
       (subst (λ left. IsRefused marks left now taken bad) readable.told h)
 
-  -- nor is it too long
+  -- A right text within the limits isn't too long.
   pub not_too_long : (what : TooMuch) (count : ℕ)
       → Takes marks rest before now taken (TooLong what count) → ⊥
   not_too_long Ticks count h = no_line_too_long marks readable.text readable.items
