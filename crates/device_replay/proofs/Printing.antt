@@ -1,4 +1,4 @@
--- How the lines of a device's frames go on by some ticks.
+-- How the lines of the frames that a device reads go on when it hears more ticks.
 use Rattle.device_model.specs.{Frames.FrameRead, declared.device.Device.Ghosts as Device}
 use Rattle.device_replay.specs.FrameLines.{PrintsReads, StopsPrinting, KeepsHeld, printing}
 use Rattle.device_replay.specs.Lines.{frame_line, frame_lines}
@@ -15,7 +15,7 @@ use Rattle.yasir_ticks.{proofs.TickRuns.length-run_items, specs.TickRun.run_tick
 use Rattle.yasir_ticks.specs.{TickRun.run_items, Ticks.Item, Ticks.ticks_in, Ticks.Item.mark}
 use Rattle.yasir_ticks.specs.declared.{tick.Tick.Tick, tick_run.TickRun.TickRun}
 
--- a mark is no tick of the line
+-- A mark is no tick of the line, so it changes nothing of what must be printed.
 pub prints_at_mark : {V O : Type 0} (device : Device V) (o : Sink O) (printer : FrameLines V O)
     (start : Option (List ℕ)) (items : List Item) → PrintsReads device o printer start items
     → PrintsReads device o printer start (items ++ mark ∷ [])
@@ -32,7 +32,8 @@ module _ {V O : Type 0} (device : Device V) (o : Sink O) (old new : FrameLines V
     → device.reads (line ++ ticks_in next) ≡ device.reads line ++ more)
     (start : Option (List ℕ)) (items : List Item)
     (before : PrintsReads device o old start items) where
-  -- what is read with some more, as lines
+  -- The lines of the frames that are read with the next items are the lines so far, followed by
+  -- those of the frames that are read in the next items.
   lines_then : frame_lines (device.reads (ticks_in (items ++ next)))
       ≡ frame_lines (device.reads (ticks_in items)) ++ frame_lines more
   lines_then =
@@ -44,7 +45,8 @@ module _ {V O : Type 0} (device : Device V) (o : Sink O) (old new : FrameLines V
   hears_then = subst (device.stands new.device.now) (sym (ticks_in-append items next))
       (step (ticks_in items) before.hears)
 
-  -- in which nothing is read
+  -- If no frame is read in the next items, and nothing was written, the lines are still those of
+  -- all frames.
   prints_nothing : more ≡ [] → new.lines.now ≡ old.lines.now → new.out.now ≡ old.out.now
       → PrintsReads device o new start (items ++ next)
   prints_nothing none lines_are out_is =
@@ -61,7 +63,7 @@ module _ {V O : Type 0} (device : Device V) (o : Sink O) (old new : FrameLines V
             before.lines));
       }
 
-  -- in which a frame is read
+  -- what is printed if one frame is read in the next items
   module _ (read : FrameRead) (one : more ≡ read ∷ []) where
     line_then : frame_lines (device.reads (ticks_in items)) ++ frame_line read
         ≡ frame_lines (device.reads (ticks_in (items ++ next)))
@@ -69,7 +71,7 @@ module _ {V O : Type 0} (device : Device V) (o : Sink O) (old new : FrameLines V
         ∙ ap (λ l. frame_lines (device.reads (ticks_in items)) ++ frame_lines l) one
         ∙ ap (λ l. frame_lines (device.reads (ticks_in items)) ++ l) (append-nil (frame_line read)))
 
-    -- its line is pushed
+    -- If the line of the frame is pushed, the lines are still those of all frames.
     prints_line : ((text : List ℕ)
         → Buffered start (o.held old.out.now) (waiting_bytes old.lines.now) text
         → Buffered start (o.held new.out.now) (waiting_bytes new.lines.now)
@@ -81,7 +83,7 @@ module _ {V O : Type 0} (device : Device V) (o : Sink O) (old new : FrameLines V
           (push _ before.lines);
     }
 
-    -- its line fails
+    -- If writing the line of the frame fails, the printing stops there.
     stops_at_line : ((text : List ℕ)
         → Buffered start (o.held old.out.now) (waiting_bytes old.lines.now) text
         → GotPrefix start (o.held new.out.now) (text ++ frame_line read))
@@ -91,7 +93,7 @@ module _ {V O : Type 0} (device : Device V) (o : Sink O) (old new : FrameLines V
       lines = subst (GotPrefix start (o.held new.out.now)) line_then (push _ before.lines);
     }
 
--- The device has heard this many first ticks of a run, and read this in them.
+-- The device has heard the first n ticks of a run, and has read the frames `more` in them.
 module _ {V O : Type 0} (device : Device V) (o : Sink O) (old new : FrameLines V O)
     (run : TickRun) (n : ℕ) (more : List FrameRead)
     (some : 0 < n) (within : n ≤ length (run_ticks run))
@@ -144,7 +146,7 @@ module _ {V O : Type 0} (device : Device V) (o : Sink O) (old new : FrameLines V
       (λ start items before. prints_line device o old new front more stands_front answer_front
       start items before read one (push start)) keeps
 
-  -- its line failed
+  -- If one frame is read, and writing its line fails, the consumer stops with `WriteFault`.
   pub one_failed : (read : FrameRead) → more ≡ read ∷ []
       → ((start : Option (List ℕ)) (text : List ℕ)
       → Buffered start (o.held old.out.now) (waiting_bytes old.lines.now) text

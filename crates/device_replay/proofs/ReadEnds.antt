@@ -55,7 +55,7 @@ module _ {V O : Type 0} (device : Device V) (o : Sink O)
 module _ (reads : List Tick → List FrameRead)
     (before now out_before out_now out_last : Option (List ℕ))
     (waits : List ℕ) where
-  -- the lines of an end that is no stop are on their way
+  -- If the end is no stop, the lines of all frames were written, or wait.
   waiting : (end : End) → ((stop : Stop) → end ≡ Stopped stop → ⊥) → (items : List Item)
       → LinesAtEnd reads before now out_before out_now waits items end
       → Buffered out_before out_now waits (frame_lines (reads (ticks_in items)))
@@ -65,7 +65,8 @@ module _ (reads : List Tick → List FrameRead)
   waiting (TooLong what count) other items lines = lines
   waiting ReadFault other items lines = lines
 
-  -- the lines that waited failed
+  -- If writing the lines that wait fails, the run has printed a front of the lines, as for
+  -- `WriteFault`.
   pub drain_fails : (end : End) → ((stop : Stop) → end ≡ Stopped stop → ⊥)
       → DrivesFrames reads before now out_before out_now waits end
       → ((text : List ℕ) → Buffered out_before out_now waits text
@@ -80,7 +81,8 @@ module _ (reads : List Tick → List FrameRead)
         (sym (take-length driven.items)) (drain _ (waiting end other driven.items driven.lines));
   }
 
-  -- all lines were written, and the input was no whole one
+  -- If all lines were written, and the input isn't whole, the run has printed what it must for the
+  -- status of its end.
   pub refusal_prints : (end : End) → ((stop : Stop) → end ≡ Stopped stop → ⊥) → (end ≡ Whole → ⊥)
       → DrivesFrames reads before now out_before out_now waits end
       → ((text : List ℕ) → Buffered out_before out_now waits text
@@ -104,7 +106,8 @@ module _ (reads : List Tick → List FrameRead)
     printed = printed _ _ _ (drain _ driven.lines);
   }
 
-  -- all lines of a whole input were written, and the sinks flushed or not
+  -- If all lines of a whole input were written, the run has printed what it must for `Done` and for
+  -- `WriteFault`, whichever of them the flushes give.
   pub whole_prints : (status : Status) → (status ≡ Done) ⊎ (status ≡ WriteFault)
       → DrivesFrames reads before now out_before out_now waits Whole
       → ((text : List ℕ) → Buffered out_before out_now waits text
@@ -129,7 +132,7 @@ module _ (reads : List Tick → List FrameRead)
             (record { front = whole.front; rest = []; got = whole.got; all = whole.all });
       })
 
--- no write had failed as the input ended
+-- If the input ended without a stop, no write had failed.
 pub no_write_failed : (out_before out_now : ℕ) (end : End)
     → ((stop : Stop) → end ≡ Stopped stop → ⊥) → HasCause out_before out_now (answer_of end)
     → (is_write_fault (answer_of end) ≡ false) × (out_now ≡ out_before)
