@@ -154,7 +154,7 @@ module _ {S N : Type 0} (w : Walker S N) where
     module _ (m : ℕ) (ds : List Burst) (s : S) (emissions : List Burst) where
       -- ---- whether the burst that waits is noted in the step of tick m
 
-      -- If the burst that waits isn't noted at tick m, it still waits after it.
+      -- If the burst that waits isn't noted at tick m, it still waits after that tick.
       pub come-waits : (waiting : Option Burst) → HasCome w begun m ds s emissions waiting
           → IfSome waiting (λ d. m + 1 ≤ w.tick s d)
           → HasCome w begun (m + 1) ds s emissions waiting

@@ -174,7 +174,8 @@ module _ (n : ℕ) where
       let back : n + i - (n + d.start) ≡ i - d.start = omega arith in
       rw (sym at, same_place d.start (length d.body) i, back, tick_at-later ds i (n + i) refl) refl
 
-  -- Bursts that are laid n ticks later are laid after n silent ticks.
+  -- The line of bursts that are laid n ticks later is n silent ticks, and then the line of the
+  -- bursts.
   pub laid-later : (m : ℕ) (ds : List Burst)
       → laid (n + m) (map (later n) ds) ≡ silent n ++ laid m ds
   laid-later m ds =

@@ -25,7 +25,7 @@ module _ {S N A : Type 0} (w : Walker S N) (note_of : N → A) (begun : S) where
         ∙ (rest.notes ∙ first.notes);
   }
 
-  -- A tick with a step that has no note is a run of one tick.
+  -- If no note falls into the step of a tick, this tick is a run.
   pub run-tick : (line : List Tick) (t answer : Tick)
       → AnswersTick w note_of begun line t answer None → Run line (t ∷ []) (answer ∷ [])
   run-tick line t answer step = record {

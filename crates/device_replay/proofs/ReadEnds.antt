@@ -65,7 +65,7 @@ module _ (reads : List Tick → List FrameRead)
   waiting (TooLong what count) other items lines = lines
   waiting ReadFault other items lines = lines
 
-  -- If writing the lines that wait fails, the run has printed a front of the lines, as for
+  -- If writing the lines that wait fails, the run has printed a front of the lines, as it must for
   -- `WriteFault`.
   pub drain_fails : (end : End) → ((stop : Stop) → end ≡ Stopped stop → ⊥)
       → DrivesFrames reads before now out_before out_now waits end

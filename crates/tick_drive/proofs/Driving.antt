@@ -66,7 +66,7 @@ pub line_lent : (intake : Intake) (marks : ℕ) (before now : Option (List ℕ))
 line_lent intake marks before now text content bytes e met =
     subst (λ b. MeetsLine intake marks before now text (items_of_content content b)) (sym e) met
 
--- A whole input is still one with a rest after it.
+-- A whole input is still whole with a rest after it.
 rested : (marks rest : ℕ) (before now : Option (List ℕ)) (items : List Item)
     → IsWhole marks 0 before now items → IsWhole marks rest before now (items ++ silent_items rest)
 rested marks rest before now items h = record {
@@ -218,7 +218,7 @@ module _ {C : Type 0} (meaning : Consuming C) (joins : AreJoined meaning) where
   step_ends marks before now later intake next start state ticks Whole p h = absurd h
   step_ends marks before now later intake next start state ticks (Stopped stop) p h = absurd h
 
-  -- If a text isn't right at its end, the drive ends with this, and no read fault is the cause.
+  -- If a text isn't right at its end, the drive ends there, and no read fault is the cause.
   pub finish_ends : (marks : ℕ) (before now later : Option (List ℕ)) (intake next : Intake)
       (start state : C) (ticks : ℕ) (end : End)
       (p : Progress meaning marks before now intake start state ticks)
@@ -249,8 +249,8 @@ module _ {C : Type 0} (meaning : Consuming C) (joins : AreJoined meaning) where
   finish_ends marks before now later intake next start state ticks Whole p met h = absurd h
   finish_ends marks before now later intake next start state ticks (Stopped stop) p met h = absurd h
 
-  -- If a line is held back, or the consumer stops at one of its ticks, the drive ends with this,
-  -- and no read fault is the cause.
+  -- If a line is held back, or the consumer stops at one of its ticks, the drive ends there, and no
+  -- read fault is the cause.
   pub line_ends : (marks : ℕ) (before now later : Option (List ℕ)) (intake next : Intake)
       (start mid new : C) (ticks : ℕ) (line : List Item) (halt : Halt)
       (p : Progress meaning marks before now intake start mid ticks)
@@ -321,8 +321,8 @@ module _ {C : Type 0} (meaning : Consuming C) (joins : AreJoined meaning) where
         h.gives;
   }
 
-  -- If the last line is held back, or the consumer stops at one of its ticks, the drive ends with
-  -- this, and no read fault is the cause.
+  -- If the last line is held back, or the consumer stops at one of its ticks, the drive ends there,
+  -- and no read fault is the cause.
   pub last_line_ends : (marks : ℕ) (before now later : Option (List ℕ)) (intake next : Intake)
       (start mid new : C) (ticks : ℕ) (line : List Item) (halt : Halt)
       (p : Progress meaning marks before now intake start mid ticks)

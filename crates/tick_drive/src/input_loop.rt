@@ -21,7 +21,7 @@ pub const MAX_INPUT_TICKS: u32 = 16_777_216;
 // Why handing over lines stopped. It is small, so that a result stays in registers.
 #[derive(Clone, Copy)]
 enum Halt {
-    // there are this many ticks with those of the line, more than may be taken
+    // how many ticks there would be with those of the line, more than may be taken
     TooMany(u64),
     // the consumer stopped
     ByConsumer(Stop),

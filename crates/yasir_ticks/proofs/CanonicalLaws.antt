@@ -126,8 +126,8 @@ adds-silence n some few =
     adds-line (45 ∷ decimal n) (replicate n (tick Silent))
     (number_right (decimal n) n count.plain count.number few)
 
--- If the lines of m silent ticks add these, then the lines of one full line more, k silent ticks,
--- add those.
+-- If the lines of m silent ticks add these ticks, then the lines of k silent ticks, one full line
+-- more, add those.
 adds-more : (full m k : ℕ) → full ≡ 1000000 → full + m ≡ k
     → Adds (stretch_lines (silence m)) (replicate m (tick Silent))
     → Adds (stretch_lines (silence k)) (replicate k (tick Silent))

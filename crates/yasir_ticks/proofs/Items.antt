@@ -28,7 +28,7 @@ marks_in-content KeptBytes bytes = marks_in-bytes bytes
 marks_in-content (SilentTicks n) bytes = marks_in-silent n
 marks_in-content OneMark bytes = refl
 
--- The items of some lines are those of the first ones, followed by those of the others.
+-- the items of some lines, given those of the first lines and those of the others
 abbrev both : Option (List Item) → Option (List Item) → Option (List Item)
 both first more = option_and_then (λ items. option_map (λ others. items ++ others) more) first
 

@@ -47,7 +47,7 @@ module _ (text line : List ℕ) (before : (lines_of text).last ≡ []) (free : I
   whole_items own stands =
       items_lf (text ++ line) own (rw cut stands) ∙ ap (λ l. l ++ own) free_quiet
 
--- A content that has ticks, and no items, is that of a line without ticks.
+-- If `has_ticks` holds of a content that has no items, the content is `NoTick`.
 pub nothing_of : (content : Content) (bytes : List ℕ) → has_ticks content bytes ≡ true
     → items_of_content content bytes ≡ [] → content ≡ NoTick
 nothing_of NoTick bytes h e = refl

@@ -42,7 +42,7 @@ rows : (line_items (codes "%1") ≡ None) × (line_items (codes "-07") ≡ None)
 unfolding line_items decode_pairs
 rows = (refl, refl, refl, refl, refl, refl, refl)
 
--- Why a byte, or the end, is refused. `Count` is for a number that begins with 0 or is too large:
+-- Why a byte, or the end, is refused. `Count` is for a number that begins with 0 or is too large.
 counts : (fault_after (codes "-") 48 ≡ Count) × (fault_after (codes "-100000") 49 ≡ Count)
 unfolding lines_of
 counts = (refl, refl)

@@ -40,7 +40,7 @@ fn full_lines(alloc: Global) -> Result<Vec<u8>, Fail> {
 }
 
 // Returns how many lines are taken at once up to the end of the input, and how many steps are
-// needed besides.
+// needed for the other bytes.
 fn turns_over(source: &mut CountedSource<'_>) -> Result<(u32, u32), Fail> {
     let mut intake = Intake::new(0);
     let (mut usual, mut steps) = (0_u32, 0_u32);
