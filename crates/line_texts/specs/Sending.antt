@@ -1,5 +1,5 @@
--- The two texts of what is made of a line: another line, whose text goes to `out`, and notes, whose
--- lines go to the log.
+-- The two texts that are made of a line: the text of another line, which goes to `out`, and the
+-- lines of notes, which go to the log.
 use Rattle.std.specs.Prelude.{◌≡◌, ℕ, ◌≤◌, ◌⊎◌, List, [], ◌++◌, Option, Result, OnOk, OnErr}
 use Rattle.std.specs.Io.KnownBytes.{append_known}
 use Rattle.yasir_io.specs.Causes.{Rose}
@@ -15,14 +15,14 @@ pub record LineAndNotes : Type 0 where
   pub other_line : List Tick → List Tick
   pub note_lines : List Tick → List ℕ
 
--- Behind a line these ticks come. They are answered with these ticks of the other line, and this is
--- noted in them.
+-- If `run` follows `line`, it adds the ticks `answer` to the other line, and `note` to the lines of
+-- notes.
 pub record AnswersNoted (made : LineAndNotes) (line run answer : List Tick) (note : List ℕ) :
     Type 0 where
   pub ticks_are : made.other_line (line ++ run) ≡ made.other_line line ++ answer
   pub note_is : made.note_lines (line ++ run) ≡ made.note_lines line ++ note
 
--- what the two sinks hold, each where it is told
+-- what each of the two sinks holds, or `None` if the sink doesn't tell
 pub record SinkTexts : Type 0 where
   pub out : Option (List ℕ)
   pub log : Option (List ℕ)
@@ -30,8 +30,8 @@ pub record SinkTexts : Type 0 where
 abbrev pub sink_texts : Option (List ℕ) → Option (List ℕ) → SinkTexts
 sink_texts out log = record { out = out; log = log }
 
--- what waits for a sink: the ticks of the last line, which isn't filled, and the bytes of the lines
--- and the notes before
+-- what waits for the sinks: the ticks of the last line, which isn't filled yet, and the bytes of
+-- the lines and of the notes before it
 pub record Waiting : Type 0 where
   pub writer : LineWriter
   pub ticks : List ℕ
@@ -47,9 +47,9 @@ pub record WritesTicks (waits : Waiting) (before now : Option (List ℕ)) (ticks
   pub written : HasWritten waits.writer ticks answered
   pub text : Buffered before now waits.ticks answered
 
--- Of the ticks that `out` has got a byte of, each note that falls into their steps is in the
--- log: after some first ticks of the line, what `out` has got is of their text, and what the log
--- has got begins with all their notes.
+-- Each note that falls into ticks of which `out` has got a byte is in the log: the line begins with
+-- some ticks `early`, what `out` has got is a front of the text of these, and what the log has got
+-- begins with all their notes.
 pub record NotesFirst (made : LineAndNotes) (line : List Tick) (front note_front : List ℕ) : Type 0 where
   pub early : List Tick
   pub later : List Tick
@@ -67,21 +67,21 @@ pub record SendsTexts (made : LineAndNotes) (waits : Waiting) (before now : Sink
   pub note_text : Buffered before.log now.log waits.notes (made.note_lines line)
   pub notes_first : NotesFirst made line text.text.front note_text.front
 
--- The sinks have got it, all of it.
+-- The sinks have got all that is made of a line.
 pub record HasSent (made : LineAndNotes) (before now : SinkTexts) (line : List Tick) : Type 0 where
   pub are : AreTicks (made.other_line line)
   pub text : now.out ≡ append_known before.out (canonical_text (made.other_line line))
   pub note_text : now.log ≡ append_known before.log (made.note_lines line)
 
--- The sinks have got a front of each, the notes first.
+-- Each sink has got a front of its text, the notes first.
 pub record HasSentFronts (made : LineAndNotes) (before now : SinkTexts) (line : List Tick) : Type 0 where
   pub are : AreTicks (made.other_line line)
   pub text : GotPrefix before.out now.out (canonical_text (made.other_line line))
   pub note_text : GotPrefix before.log now.log (made.note_lines line)
   pub notes_first : NotesFirst made line text.front note_text.front
 
--- A call that writes to both sinks fails only where the count of one rose, and any other answer
--- leaves both as they were.
+-- A call that writes to both sinks fails only if a count of faults rose, that of `out` or that of
+-- the log. If it doesn't fail, both counts are as they were. Neither count ever falls.
 pub record HaveCause {T E : Type 0} (out_before out_now log_before log_now : ℕ)
     (result : Result T E) : Type 0 where
   pub out_never_falls : out_before ≤ out_now
@@ -90,8 +90,8 @@ pub record HaveCause {T E : Type 0} (out_before out_now log_before log_now : ℕ
   pub out_same : OnOk result (out_now ≡ out_before)
   pub log_same : OnOk result (log_now ≡ log_before)
 
--- The text of the ticks, and of the notes, is on its way, or a front of it where a write failed.
--- Either nothing has gone out, or all notes went to the log before.
+-- The texts of the ticks and of the notes are on their way. If a write failed, each sink has got a
+-- front of its text. Either nothing has gone to `out`, or all notes went to the log before.
 pub record PushesTexts {T E : Type 0} (before now : SinkTexts)
     (ticks_wait notes_wait text notes : List ℕ)
     (result : Result T E) : Type 0 where

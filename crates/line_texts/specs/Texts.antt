@@ -1,4 +1,4 @@
--- What calls do to the two texts on their way, and to the two sinks that these go to.
+-- What calls do to the two texts that are on their way, and to the two sinks that they go to.
 use Rattle.std.specs.Prelude.{◌≡◌, ℕ, ◌+◌, ◌≤◌, ◌<◌, List, [], length, take, Result, Ok, Err}
 use Rattle.std.specs.Prelude.{OnOk}
 use Rattle.yasir_io.specs.Flushed.{NoneFlushed}
@@ -26,14 +26,14 @@ module _ {O L : Type 0} (o : Sink O) (l : Sink L) where
   abbrev pub texts_held : Writing O L → SinkTexts
   texts_held at = sink_texts (o.held at.out) (l.held at.log)
 
-  -- A sink failed where this is the answer, and none was flushed.
+  -- A call with this result failed only if one of the sinks did, and it flushed neither.
   pub record Writes (old new : Writing O L) (result : Result (Unit {0}) Failed) : Type 0 where
     pub cause : HaveCause (o.faults old.out) (o.faults new.out) (l.faults old.log)
         (l.faults new.log) result
     pub flushes : NoneFlushed o l old.out new.out old.log new.log
 
-  -- There is room for a line. Where there was none, the notes went to the log, and then the ticks
-  -- went out.
+  -- There is room for a line. If there was none before, the notes went to the log, and then the
+  -- ticks went out.
   pub record MakesRoom (old new : Writing O L) (result : Result (Unit {0}) Failed) : Type 0 where
     pub writer : new.texts.writer ≡ old.texts.writer
     pub adds : PushesTexts (texts_held old) (texts_held new) new.texts.ticks.items
@@ -49,13 +49,14 @@ module _ {O L : Type 0} (o : Sink O) (l : Sink L) where
         (texts_held new) run note result
     pub writes : Writes old new result
 
-  -- this many of these ticks were added, at least one
+  -- the first `count` of these ticks were added, at least one
   pub record PushesFirst (old new : Writing O L) (run : List Tick) (count : ℕ) : Type 0 where
     pub some : 0 < count
     pub within : count ≤ length run
     pub pushes : Pushes old new (take count run) [] (Ok tt)
 
-  -- It answers how many of these ticks were added, or that a write failed in them.
+  -- `Ok` holds how many of these ticks were added. After `Err`, when a write failed, the writer has
+  -- taken all of them.
   abbrev pub PushesSome : Writing O L → Writing O L → List Tick → Result ℕ Failed → Type 0
   PushesSome old new run (Ok count) = PushesFirst old new run count
   PushesSome old new run (Err failed) = Pushes old new run [] (Err failed)

@@ -1,4 +1,4 @@
--- What a writer of lines stands for: ticks, the text of the lines that they have completed, and a
+-- What a writer of lines represents: ticks, the text of the lines that they have completed, and a
 -- line that isn't filled yet.
 use Rattle.std.specs.Prelude.{◌≡◌, ℕ, ◌+◌, ◌<◌, ◌≤◌, List, ◌++◌, length, map, take}
 use Rattle.yasir_ticks.specs.CanonicalText.{canonical_text}
@@ -14,33 +14,35 @@ abbrev pub unfilled : LineWriter → List Tick
 unfilled writer = map Byte (take writer.count writer.bytes) ++ silent writer.silence
 
 -- The writer has taken these ticks, and they have completed this text. Whatever ticks follow, the
--- canonical text of all begins with it, and goes on with the text of the line that isn't filled and
--- of what follows.
+-- canonical text of all is this text, and then the canonical text of the line that isn't filled and
+-- of the ticks that follow.
 pub record HasWritten (writer : LineWriter) (ticks : List Tick) (answered : List ℕ) : Type 0 where
   pub text : (more : List Tick) → answered ++ canonical_text (unfilled writer ++ more)
       ≡ canonical_text (ticks ++ more)
   pub are : AreTicks ticks
 
--- The writer has taken a run of ticks more, which completes this text.
+-- The writer has taken one more run, which completes this text.
 abbrev pub Takes : LineWriter → LineWriter → List Tick → List ℕ → Type 0
 Takes old new run text = (ticks : List Tick) (answered : List ℕ) → HasWritten old ticks answered
     → HasWritten new (ticks ++ run) (answered ++ text)
 
--- It has, and the text that the run completes comes after what was there.
+-- The writer has taken one more run, and the text that the run completes was appended to what was
+-- there.
 pub record TakesInto (old new : LineWriter) (run : List Tick) (before after : List ℕ) :
     Type 0 where
   pub line : List ℕ
   pub added : after ≡ before ++ line
   pub taken : Takes old new run line
 
--- The line that isn't filled was written behind what was there, and so all of the text.
+-- The text of the line that isn't filled was appended to what was there, which completes the text
+-- of all ticks.
 pub record Ends (writer : LineWriter) (before after : List ℕ) : Type 0 where
   pub line : List ℕ
   pub added : after ≡ before ++ line
   pub whole : (ticks : List Tick) (answered : List ℕ) → HasWritten writer ticks answered
       → answered ++ line ≡ canonical_text ticks
 
--- These ticks complete a line: they end one of the other kind, or fill one of their own.
+-- These ticks complete a line: they end one of the other kind, or fill one of their own kind.
 abbrev pub Completes : LineWriter → TickRun → Type 0
 Completes writer (Bytes bytes) = (0 < length bytes.now)
     × (writer.silence ≡ 0 → 32 ≤ writer.count + length bytes.now)

@@ -1,6 +1,6 @@
-//! The texts that are made of a line, on their way to two sinks: another line as canonical tick
+//! The two texts that are made of a line, on their way to two sinks: another line as canonical tick
 //! text, and a line of text for each note. No byte of the ticks goes out before the notes that fall
-//! into them.
+//! into those ticks.
 //!
 //! A run of bytes and one of silence, as tick text:
 //!

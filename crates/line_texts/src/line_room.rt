@@ -1,4 +1,4 @@
-//! Lines of tick text in a fixed room.
+//! A room of fixed size for lines of tick text.
 ghost use Rattle.std.specs.Prelude.{◌≡◌, ◌+◌, ◌*◌, ◌≤◌, [], ◌++◌, length, take, true};
 ghost use Rattle.yasir_ticks.specs.CanonicalText.{byte_line, silence_line};
 
@@ -7,14 +7,14 @@ use std::marker::Model;
 use yasir_io::{Failed, Sink, write_all};
 use yasir_ticks::digits_of;
 
-/// The most bytes of text that wait.
+/// The most bytes of text that a room holds.
 const ROOM: usize = 65_536;
 
-/// The most bytes that a line of tick text has.
+/// The most bytes that a line of text has: `+`, the digits of 32 bytes, and an LF.
 const LONGEST_LINE: usize = 66;
 
-/// Lines of tick text on their way to a sink, written where they wait: up to 65,536 bytes. Those
-/// that are let go stay where they lie, so that to empty it costs nothing.
+/// Lines of tick text that wait for a sink: up to 65,536 bytes. Each line is written in place.
+/// Emptying the room leaves the bytes where they are, so it costs nothing.
 #[derive(Drop)]
 pub struct LineRoom {
     bytes: [u8; 65536],
@@ -37,7 +37,7 @@ impl LineRoom {
     ghost use Rattle.yasir_io.specs.Causes.{HasCause};
     ghost use Rattle.yasir_io.specs.Output.{Buffered, GotPrefix};
 
-    /// No text yet.
+    /// Returns a room that holds no text.
     pub(crate) fn new() -> LineRoom
         ensures { result.items ≡ [] }
     {
@@ -47,7 +47,7 @@ impl LineRoom {
         }
     }
 
-    /// The text that waits.
+    /// Returns the text that waits.
     #[inline]
     fn as_slice(&self) -> &[u8]
         ensures { result.now ≡ self.now.items }
@@ -63,7 +63,8 @@ impl LineRoom {
         self.len <= ROOM - LONGEST_LINE
     }
 
-    // Appends the first bytes of a piece, this many. All of it is copied: that takes no loop.
+    // Appends the first `count` bytes of a piece. It copies the whole piece, since a copy of fixed
+    // length needs no loop.
     #[inline(always)]
     fn extend_front<const N: usize>(&mut self, piece: &[u8; N], count: usize)
         requires within { count ≤ N }
@@ -86,7 +87,7 @@ impl LineRoom {
         self.len = after;
     }
 
-    /// Appends the line `+` of the first `count` of these bytes.
+    /// Appends the `+` line of the first `count` of these bytes.
     #[inline(always)]
     pub(crate) fn push_byte_line(&mut self, bytes: &[u8; 32], count: usize)
         requires within { count ≤ 32 }
@@ -99,7 +100,7 @@ impl LineRoom {
         self.extend_front(b"\n", 1);
     }
 
-    // Appends the line `-` of a hundred silent ticks or more. It is kept separate, since most
+    // Appends the `-` line of a hundred silent ticks or more. It is a separate function, since most
     // silence is shorter.
     #[inline(never)]
     fn push_long_silence(&mut self, ticks: u32)
@@ -112,7 +113,7 @@ impl LineRoom {
         self.extend(b"\n");
     }
 
-    /// Appends the line `-` of this many silent ticks.
+    /// Appends the `-` line of `ticks` silent ticks.
     #[inline(always)]
     pub(crate) fn push_silence_line(&mut self, ticks: u32)
         requires { length self.old.items + 66 ≤ 65536 }
@@ -128,7 +129,7 @@ impl LineRoom {
         }
     }
 
-    /// Lets all text go.
+    /// Discards the text that waits.
     #[inline]
     pub(crate) fn empty(&mut self)
         ensures { self.new.items ≡ [] }
@@ -136,7 +137,7 @@ impl LineRoom {
         self.len = 0;
     }
 
-    /// Makes room for a line: where there is none, what waits goes to the sink.
+    /// Makes room for a line: if there is none, writes what waits to the sink.
     pub(crate) fn make_room<S: Sink>(&mut self, sink: &mut S) -> Result<(), Failed>
         ensures ok { OnOk result ((start : Option (List ℕ)) (text : List ℕ)
             → Buffered start (S.held sink.old) self.old.items text
@@ -154,7 +155,7 @@ impl LineRoom {
         self.drain(sink)
     }
 
-    /// Writes what waits to the sink. A flush is the caller's.
+    /// Writes what waits to the sink, and leaves the flush to the caller.
     pub(crate) fn drain<S: Sink>(&mut self, sink: &mut S) -> Result<(), Failed>
         ensures ok { OnOk result ((start : Option (List ℕ)) (text : List ℕ)
             → Buffered start (S.held sink.old) self.old.items text

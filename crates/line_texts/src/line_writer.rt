@@ -7,14 +7,15 @@ ghost use Rattle.yasir_ticks.specs.declared.tick.Tick.TheVariants.{Byte};
 use crate::line_room::LineRoom;
 use yasir_ticks::TickRun;
 
-/// The most bytes that one line stands for.
+/// The most bytes that one line represents.
 const MAX_BYTES: usize = 32;
 
-/// The most silent ticks that one line stands for.
+/// The most silent ticks that one line represents.
 const MAX_SILENCE: u32 = 1_000_000;
 
-/// Writes ticks as canonical tick text into a room, a line as soon as ticks complete it. What it
-/// keeps is the line that isn't filled: fewer than 32 bytes, or fewer than 1,000,000 silent ticks.
+/// Writes ticks as canonical tick text into a room, each line as soon as ticks complete it. It
+/// keeps only the line that isn't filled yet: fewer than 32 bytes, or fewer than 1,000,000 silent
+/// ticks.
 #[derive(Drop)]
 pub struct LineWriter {
     bytes: [u8; 32],
@@ -28,7 +29,7 @@ pub struct LineWriter {
 impl LineWriter {
     ghost use Rattle.line_texts.specs.Writer.{HasWritten, Takes, TakesInto, Ends, Completes};
 
-    /// A writer that has taken no tick.
+    /// Returns a writer that has taken no tick.
     pub(crate) fn new() -> LineWriter
         ensures { HasWritten result [] [] }
     {
@@ -39,7 +40,7 @@ impl LineWriter {
         }
     }
 
-    // Takes bytes, one a tick, if they complete no line, and returns whether they do not.
+    // Takes bytes, one for each tick, if they complete no line. Returns whether it took them.
     #[inline(always)]
     fn join_bytes(&mut self, bytes: &[u8]) -> bool
         ensures joined { result ≡ true → Takes self.old self.new (map Byte bytes.now) [] }
@@ -63,7 +64,7 @@ impl LineWriter {
         true
     }
 
-    // Takes silent ticks if they complete no line, and returns whether they do not.
+    // Takes silent ticks if they complete no line. Returns whether it took them.
     #[inline(always)]
     fn join_silence(&mut self, ticks: u32) -> bool
         ensures joined { result ≡ true → Takes self.old self.new (silent ticks) [] }
@@ -85,7 +86,8 @@ impl LineWriter {
         true
     }
 
-    // The line of silence that comes before these bytes, of which it takes the first.
+    // Writes the line of silence that these bytes end, takes up to 31 of the bytes, and returns how
+    // many.
     #[inline(always)]
     fn end_silence(&mut self, room: &mut LineRoom, bytes: &[u8]) -> usize
         requires begun { 0 < self.old.silence }
@@ -104,7 +106,8 @@ impl LineWriter {
         count
     }
 
-    // The line of the first of these bytes, where none is begun.
+    // Writes the first 32 of these bytes as a line of their own, since no line is begun. Returns
+    // how many it took.
     #[inline(always)]
     fn write_whole(&mut self, room: &mut LineRoom, bytes: &[u8]) -> usize
         requires none { self.old.count ≡ 0 }
@@ -123,7 +126,8 @@ impl LineWriter {
         MAX_BYTES
     }
 
-    // The line of bytes that the first of these bytes fill.
+    // Fills the line of bytes that is begun with the first of these bytes, and writes it. Returns
+    // how many it took.
     #[inline(always)]
     fn fill(&mut self, room: &mut LineRoom, bytes: &[u8]) -> usize
         requires no_silence { self.old.silence ≡ 0 }
@@ -161,7 +165,8 @@ impl LineWriter {
         self.fill(room, bytes)
     }
 
-    // The line of bytes that comes before these silent ticks, of which it takes the first.
+    // Writes the line of bytes that these silent ticks end, takes up to 999,999 of the ticks, and
+    // returns how many.
     #[inline(always)]
     fn end_bytes(&mut self, room: &mut LineRoom, ticks: u32) -> u32
         requires begun { 0 < self.old.count }
@@ -179,7 +184,7 @@ impl LineWriter {
         taken
     }
 
-    // Writes the first line that these silent ticks complete, and returns how many it took.
+    // Writes the first line that these silent ticks complete, and returns how many of them it took.
     #[inline(always)]
     fn complete_by_silence(&mut self, room: &mut LineRoom, ticks: u32) -> u32
         requires some { 0 < ticks }
@@ -199,7 +204,7 @@ impl LineWriter {
         taken
     }
 
-    /// Takes the ticks of a run if they complete no line, and returns whether they do not.
+    /// Takes the ticks of a run if they complete no line. Returns whether it took them.
     #[inline(always)]
     pub(crate) fn join(&mut self, run: TickRun<'_>) -> bool
         ensures joined { result ≡ true → Takes self.old self.new (run_ticks run.entry) [] }
@@ -212,7 +217,8 @@ impl LineWriter {
         }
     }
 
-    /// Writes the first line that the ticks of a run complete, and returns how many it took.
+    /// Writes the first line that the ticks of a run complete, and returns how many of them it
+    /// took.
     #[inline(always)]
     pub(crate) fn complete(&mut self, room: &mut LineRoom, run: TickRun<'_>) -> usize
         requires completes { Completes self.old run }
@@ -228,7 +234,7 @@ impl LineWriter {
         }
     }
 
-    /// Writes the line that isn't filled.
+    /// Writes the line that isn't filled yet, if there is one.
     pub(crate) fn finish(&self, room: &mut LineRoom)
         requires { length room.old.items + 66 ≤ 65536 }
         ensures { Ends self.now room.old.items room.new.items }

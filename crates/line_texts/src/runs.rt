@@ -15,7 +15,8 @@ use crate::texts::Texts;
 use yasir_io::{Failed, Sink};
 use yasir_ticks::TickRun;
 
-// After a failed write the writer alone takes what is left of a run, and its lines are lost.
+// Lets only the writer take a run, after a write has failed. The lines that the run completes are
+// lost.
 #[inline(never)]
 pub(crate) fn skip_run(writer: &mut LineWriter, run: TickRun<'_>)
     ensures { TakesRun writer.old writer.new (run_ticks run.entry) }
@@ -29,8 +30,7 @@ pub(crate) fn skip_run(writer: &mut LineWriter, run: TickRun<'_>)
     }
 }
 
-// Adds the first of these ticks, up to and with the first one that completes a line, and returns
-// how many.
+// Adds the first ticks of a run, which complete one line, and returns how many it added.
 #[inline(always)]
 fn push_line<O: Sink, L: Sink>(
     texts: &mut Texts,
@@ -51,7 +51,7 @@ fn push_line<O: Sink, L: Sink>(
     }
 }
 
-// Adds the first of these ticks, those of one line at most, and returns how many.
+// Adds the first ticks of a run, which complete at most one line, and returns how many it added.
 #[inline(always)]
 fn push_some<O: Sink, L: Sink>(
     texts: &mut Texts,
@@ -89,7 +89,7 @@ fn push_long_run<O: Sink, L: Sink>(
     Ok(())
 }
 
-// Adds the ticks of a run that complete a line.
+// Adds a run whose ticks complete at least one line.
 #[inline(always)]
 fn push_several<O: Sink, L: Sink>(
     texts: &mut Texts,
@@ -112,8 +112,9 @@ fn push_several<O: Sink, L: Sink>(
     push_long_run(texts, out, log, left)
 }
 
-// Adds bytes that complete a line. It is a function of its own, so that a run that completes no line
-// costs little. A loop would cost more: the compiler makes ready before it what few lines need.
+// Adds bytes that complete a line. It is a separate function, so that a run that completes no line
+// costs little. A loop here would cost more, since the compiler prepares before a loop what few
+// lines need.
 #[inline(never)]
 fn push_completing_bytes<O: Sink, L: Sink>(
     texts: &mut Texts,
@@ -128,7 +129,8 @@ fn push_completing_bytes<O: Sink, L: Sink>(
     push_several(texts, out, log, TickRun::Bytes(bytes))
 }
 
-// Adds silent ticks that complete a line, by a function of its own too.
+// Adds silent ticks that complete a line. It is a separate function, so that a run that completes
+// no line costs little.
 #[inline(never)]
 fn push_completing_silence<O: Sink, L: Sink>(
     texts: &mut Texts,
@@ -143,7 +145,8 @@ fn push_completing_silence<O: Sink, L: Sink>(
     push_several(texts, out, log, TickRun::Silence(ticks))
 }
 
-// Adds a run that completes a line, each kind by a function that is compiled for it.
+// Adds a run that completes a line, with a function that is compiled for its kind: bytes or
+// silence.
 #[inline(always)]
 fn push_completing_run<O: Sink, L: Sink>(
     texts: &mut Texts,
@@ -161,8 +164,8 @@ fn push_completing_run<O: Sink, L: Sink>(
     }
 }
 
-/// Adds the ticks of a run to the text of the other line. Of a run that completes no line, the
-/// writer alone hears.
+/// Adds the ticks of a run to the text of the other line. If they complete no line, only the writer
+/// takes them.
 #[inline(always)]
 pub fn push_run<O: Sink, L: Sink>(
     texts: &mut Texts,
@@ -179,7 +182,8 @@ pub fn push_run<O: Sink, L: Sink>(
     push_completing_run(texts, out, log, run)
 }
 
-/// What is answered to a run of ticks: these bytes, or this many silent ticks where there is none.
+/// Returns what a run of `count` ticks puts on the other line: the bytes `sent`, or `count` silent
+/// ticks if there are none.
 #[inline]
 pub fn answer_run(count: u32, sent: &[u8]) -> TickRun<'_>
     ensures { run_ticks result ≡ answered count sent.now }

@@ -1,4 +1,5 @@
-//! The text of a line and the lines of notes, written so that a note goes out before its ticks.
+//! The text of a line and the lines of notes, written so that a note goes out before the ticks into
+//! which it falls.
 ghost use Rattle.std.specs.Prelude.{◌≡◌, List, [], ◌∷◌, OnOk, OnErr};
 ghost use Rattle.yasir_io.specs.Flushed.{NoneFlushed};
 ghost use Rattle.yasir_io.specs.TextBuffer.{waiting_bytes};
@@ -25,7 +26,7 @@ pub struct Texts {
 }
 
 impl Texts {
-    /// No text yet.
+    /// Returns texts to which nothing has been added.
     pub fn new() -> Texts
         ensures written { HasWritten result.writer [] [] }
         ensures ticks { result.ticks.items ≡ [] }
@@ -38,8 +39,8 @@ impl Texts {
         }
     }
 
-    // The notes go to the log, and then the ticks go out. It is kept separate, since few lines find
-    // no room.
+    // Writes the notes to the log, and then the ticks to `out`. It is a separate function, since
+    // few lines find no room.
     #[inline(never)]
     fn drain<O: Sink, L: Sink>(&mut self, out: &mut O, log: &mut L) -> Result<(), Failed>
         ensures { MakesRoom O.Sink L.Sink (writing self.old out.old log.old)
@@ -82,8 +83,9 @@ impl Texts {
         }
     }
 
-    /// Adds a line to the text of the notes, and behind it the ticks of a run in which it falls to
-    /// that of the other line. Few ticks have a note, so its callers are kept separate.
+    /// Adds a note's line to the text of the notes, and then the run into which the note falls to
+    /// the text of the other line. Few ticks have a note, so the callers of this function are
+    /// separate functions.
     #[inline(always)]
     pub fn push_noted<O: Sink, L: Sink>(
         &mut self,
