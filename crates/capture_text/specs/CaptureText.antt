@@ -1,6 +1,7 @@
--- A text capture: lines of a time in seconds, a blank, and the bytes of a record in pairs of hex
--- digits of either case, as `1690000000.000123456 010300000002`. The time is that of the record's
--- first byte. The format is this project's own; a field and the time of `tshark -T fields` have it.
+-- A text capture: each record is a line with a time in seconds, a blank, and the bytes of the
+-- record in pairs of hex digits of either case, such as `1690000000.000123456 010300000002`. The
+-- time is that of the record's first byte. The format is this project's own. `tshark -T fields`
+-- writes it from the time and a field of bytes.
 use Rattle.std.specs.Prelude.{◌≡◌, ℕ, ◌+◌, ◌*◌, ◌-◌, ◌/◌, ◌<◌, ◌^◌, ◌==◌, ◌||◌, Bool, true, not}
 use Rattle.std.specs.Prelude.{false, List, [], ◌∷◌, ◌++◌, length, map, Option, Some, nat_lt}
 use Rattle.std.specs.Prelude.{if◌then◌else◌}
@@ -27,24 +28,25 @@ is_blank b = b == 32 || b == 9
 abbrev pub ends_line : ℕ → Bool
 ends_line b = b == line_feed || b == carriage_return
 
--- what digits behind a point count, the first of them this many nanoseconds, and each further one a
--- tenth of the digit before it: the tenth one behind the point and those that follow count nothing
+-- the nanoseconds of digits after a point: the first counts `counts`, and each later one a tenth of
+-- the one before it, so the tenth digit after the point and those that follow it count nothing
 abbrev pub fraction_value : ℕ → List ℕ → ℕ
 fraction_value counts [] = 0
 fraction_value counts (d ∷ digits) =
     (d - digit_zero) * counts + fraction_value (counts / 10) digits
 
--- the nanoseconds of a time of these digits before and behind the point
+-- the nanoseconds of a time with these digits before and after the point
 abbrev pub nanoseconds : List ℕ → List ℕ → ℕ
 nanoseconds whole fraction =
     1000000000 * number_after 0 whole + fraction_value 100000000 fraction
 
--- a point and the digits behind it, or nothing where there are none
+-- a point and the digits after it, or nothing if there are none
 abbrev pub with_point : List ℕ → List ℕ
 with_point [] = []
 with_point (d ∷ digits) = point ∷ d ∷ digits
 
--- A time: digits of whole seconds, at least one, and maybe a point and digits behind it.
+-- A time: digits of whole seconds, at least one, and maybe a point and digits after it. It is below
+-- 2^64 nanoseconds.
 pub record IsTime (text : List ℕ) (time : ℕ) : Type 0 where
   pub whole : List ℕ
   pub fraction : List ℕ
@@ -71,17 +73,17 @@ ArePairs (high ∷ []) bytes = ⊥
 ArePairs (high ∷ low ∷ digits) [] = ⊥
 ArePairs (high ∷ low ∷ digits) (byte ∷ bytes) = IsPair high low byte × ArePairs digits bytes
 
--- a byte of a record of this time; a text has one way
+-- a byte of a record with this time, on way A, since a text capture has only one way
 abbrev pub capture_byte : ℕ → Bool → ℕ → CaptureByte
 capture_byte time first byte = record { way = A; start = time; first = first; byte = byte }
 
--- the bytes of a record of this time
+-- the bytes of a record with this time
 abbrev pub recorded : ℕ → List ℕ → List CaptureByte
 recorded time [] = []
 recorded time (byte ∷ bytes) =
     capture_byte time true byte ∷ map (capture_byte time false) bytes
 
--- A record of this time: the time, a blank and pairs of digits, at least one.
+-- A record with this time: the time, a blank and pairs of hex digits, at least one.
 pub record IsRecord (line : List ℕ) (time : ℕ) (items : List CaptureByte) : Type 0 where
   pub seconds : List ℕ
   pub blank : ℕ
@@ -98,7 +100,7 @@ pub record IsRecord (line : List ℕ) (time : ℕ) (items : List CaptureByte) : 
 abbrev pub stays_in_line : ℕ → Bool
 stays_in_line b = not (b == line_feed)
 
--- `#` and what follows it on its line
+-- a comment: `#` and what follows it on its line
 pub record IsComment (line : List ℕ) : Type 0 where
   pub after : List ℕ
   pub is : line ≡ number_sign ∷ after
@@ -111,20 +113,21 @@ pub data IsContent : List ℕ → List CaptureByte → Type 0 where
   stamped : (content : List ℕ) (time : ℕ) (items : List CaptureByte)
       → IsRecord content time items → IsContent content items
 
--- A line, without its LF: a content, and a CR may follow.
+-- A line without its LF: its content, which a CR may follow.
 pub data IsLine : List ℕ → List CaptureByte → Type 0 where
   plain : (content : List ℕ) (items : List CaptureByte) → IsContent content items
       → IsLine content items
   returned : (content : List ℕ) (items : List CaptureByte) → IsContent content items
       → IsLine (content ++ carriage_return ∷ []) items
 
--- Lines that an LF ended, one after the other.
+-- Lines one after the other, each of which an LF ends.
 pub data AreLines : List ℕ → List CaptureByte → Type 0 where
   none : AreLines [] []
   more : (text line : List ℕ) (items others : List CaptureByte) → AreLines text items
       → IsLine line others → AreLines (text ++ (line ++ line_feed ∷ [])) (items ++ others)
 
--- A text capture of these bytes: lines that an LF ended, and a last line, which may be empty.
+-- A text capture of these bytes: lines that an LF ends, and a last line without an LF, which may be
+-- empty.
 pub record IsTextCapture (text : List ℕ) (items : List CaptureByte) : Type 0 where
   pub ended : List ℕ
   pub last : List ℕ
@@ -135,13 +138,14 @@ pub record IsTextCapture (text : List ℕ) (items : List CaptureByte) : Type 0 w
   pub lines : AreLines ended items_before
   pub last_line : IsLine last items_last
 
--- what comes after the first blank of a line
+-- what follows the first blank of a line, or nothing if it has none
 abbrev pub behind_blank : List ℕ → List ℕ
 behind_blank [] = []
 behind_blank (b ∷ line) = if is_blank b then line else behind_blank line
 
--- Why a byte, or the end of the text, is refused after this beginning of its line: a digit because
--- of the time that it makes, and an end of the line because a digit or all bytes are missing.
+-- Why a byte, or the end of the text, is refused after this beginning of its line: a decimal digit
+-- because of the time that it makes, and an end of the line because a digit of a pair or all bytes
+-- of the record are missing.
 abbrev pub fault_in_line : List ℕ → Option ℕ → TextFault
 fault_in_line line next =
     if ends_in_return line then Char
@@ -160,7 +164,7 @@ pub record IsCause (text : List ℕ) (next : Option ℕ) (why : TextFault) : Typ
   pub one_line : list_all stays_in_line line ≡ true
   pub why_is : why ≡ fault_in_line line next
 
--- how many lines an LF ended
+-- how many lines of a text an LF ends
 abbrev pub lines_ended : List ℕ → ℕ
 lines_ended [] = 0
 lines_ended (b ∷ text) = (if b == line_feed then 1 else 0) + lines_ended text

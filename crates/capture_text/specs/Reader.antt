@@ -1,4 +1,4 @@
--- What a reader of a text capture stands for.
+-- What a reader of a text capture represents.
 use Rattle.std.specs.Prelude.{◌≡◌, ℕ, ◌+◌, List, length, map, Option, Some, None, Ok}
 use Rattle.line_stamps.specs.declared.capture.CaptureByte.{CaptureByte}
 use Rattle.byte_walk.specs.Walks.{walk}
@@ -13,19 +13,19 @@ use Rattle.capture_text.specs.declared.reader.TextReader.{TextReader}
 abbrev pub bytes_taken : TextReader → ℕ
 bytes_taken reader = reader.taken
 
--- The reader has taken this text, no byte of which it refused, and these are the bytes of the
--- capture so far.
+-- The reader has taken this text and refused no byte of it, and these are the bytes of the capture
+-- so far.
 pub record StandsFor (reader : TextReader) (text : List ℕ) (items : List CaptureByte) : Type 0 where
   pub walks : walk step_at Start text ≡ Ok (reader.place, items)
   pub open_yet : reader.refused ≡ None
   pub counted : reader.taken ≡ length text
   pub lines : reader.ended ≡ lines_ended text
 
--- The reader has refused its text so, and answers so from then on.
+-- The reader has refused its text with this refusal, and returns it from then on.
 abbrev pub HasRefused : TextReader → BadText → Type 0
 HasRefused reader bad = reader.refused ≡ Some bad
 
--- A refusal tells the place behind this text, and its line.
+-- A refusal gives the place after this text, and its line.
 pub record IsPlaceOf (bad : BadText) (text : List ℕ) : Type 0 where
   pub offset : bad.offset ≡ length text
   pub line : bad.line ≡ lines_ended text + 1
@@ -36,13 +36,13 @@ pub record IsSeenText (text : List ℕ) (items : List Seen) : Type 0 where
   pub right : IsTextCapture text bytes
   pub items_are : items ≡ map Byte bytes
 
--- The reader has taken this text, no byte of which it refused, and these are the items so far.
+-- The reader has taken this text and refused no byte of it, and this is what was seen so far.
 pub record HasSeen (reader : TextReader) (text : List ℕ) (items : List Seen) : Type 0 where
   pub bytes : List CaptureByte
   pub stands : StandsFor reader text bytes
   pub items_are : items ≡ map Byte bytes
 
--- After this text a byte, or the end, is refused with this place and cause.
+-- A byte, or the end of the text, is refused after this text, with this place and cause.
 pub record Refuses (text : List ℕ) (items : List Seen) (next : Option ℕ) (bad : BadText) : Type 0 where
   pub place : IsPlaceOf bad text
   pub cause : IsCause text next bad.why

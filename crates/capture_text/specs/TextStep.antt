@@ -1,5 +1,5 @@
--- What one byte of a text capture does at each place of its line. It is a second view of the format
--- of CaptureText.antt, and is proved equal to it.
+-- What one byte of a text capture does at each place of its line. It describes the format of
+-- CaptureText.antt a second time, and the two are proved equal.
 use Rattle.std.specs.Prelude.{◌≡◌, ℕ, ◌+◌, ◌*◌, ◌-◌, ◌/◌, ◌^◌, ◌==◌, nat_lt, Bool, true, false}
 use Rattle.std.specs.Prelude.{if◌then◌else◌, Option, Some, None, Result, Ok, Err}
 use Rattle.hex.specs.Hex.{hex_digit_value}
@@ -21,11 +21,12 @@ Stepped = Result (Place × Option CaptureByte) TextFault
 abbrev pub fitting : ℕ → Option ℕ
 fitting time = if nat_lt time (2 ^ 64) then Some time else None
 
--- a time of whole seconds with one digit more
+-- a time of whole seconds with one more digit, if it is below 2^64
 abbrev pub whole_time : ℕ → ℕ → Option ℕ
 whole_time time digit = fitting (10 * time + (digit - digit_zero) * 1000000000)
 
--- a time with one digit more behind its point, which counts this many nanoseconds
+-- a time with one more digit after its point, which counts `counts` nanoseconds, if it is below
+-- 2^64
 abbrev pub fraction_time : ℕ → ℕ → ℕ → Option ℕ
 fraction_time time counts digit = fitting (time + (digit - digit_zero) * counts)
 
@@ -55,12 +56,12 @@ to_fraction counts None = Err Late
 abbrev pub after_fraction : ℕ → ℕ → ℕ → Stepped
 after_fraction time counts b = to_fraction counts (fraction_time time counts b)
 
--- the first digit of a pair, or what else may come there
+-- what the first digit of a pair does, or `other` if the byte isn't a hex digit
 abbrev pub to_half : ℕ → Bool → Option ℕ → Stepped → Stepped
 to_half time first (Some high) other = Ok (Half time first high, None)
 to_half time first None other = other
 
--- the second digit of a pair
+-- what the second digit of a pair does, or `other` if the byte isn't a hex digit
 abbrev pub to_pairs : ℕ → Bool → ℕ → Option ℕ → Stepped → Stepped
 to_pairs time first high (Some low) other =
     Ok (Pairs time, Some (capture_byte time first (high * 16 + low)))
@@ -86,7 +87,7 @@ step_at (Half time first high) b =
     to_pairs time first high (hex_digit_value b) (Err (fault_in_pair b))
 step_at Returned b = if b == line_feed then Ok (Start, None) else Err Char
 
--- whether a line may end here
+-- whether a line may end at a place
 abbrev pub may_end : Place → Bool
 may_end Start = true
 may_end Comment = true
@@ -98,7 +99,7 @@ may_end (Pairs time) = true
 may_end (Half time first high) = false
 may_end Returned = true
 
--- why the text is refused that ends here, if it is
+-- why a text that ends at a place is refused, or `None` if it isn't
 abbrev pub end_fault_at : Place → Option TextFault
 end_fault_at Start = None
 end_fault_at Comment = None
@@ -110,7 +111,7 @@ end_fault_at (Pairs time) = None
 end_fault_at (Half time first high) = Some Odd
 end_fault_at Returned = None
 
--- the digit of a pair is one
+-- whether the digit that a place holds, if any, is below 16
 abbrev pub is_sound : Place → Bool
 is_sound (Half time first high) = nat_lt high 16
 is_sound Start = true

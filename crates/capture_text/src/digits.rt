@@ -1,4 +1,4 @@
-//! Digits of numbers: decimal ones of a time, and hex ones of a byte.
+//! Decimal digits of a time, and hex digits of a byte.
 ghost use Rattle.std.specs.Prelude.{◌≡◌, ◌+◌, ◌-◌, ◌*◌, ◌<◌, ◌^◌, ◌↔◌, nat_lt, if◌then◌else◌};
 ghost use Rattle.std.specs.Prelude.{IsTrue, true, Some, None, SomeIff};
 ghost use Rattle.hex.specs.Hex.{hex_digit_value};
@@ -12,7 +12,7 @@ pub fn is_digit(b: u8) -> bool
     b'0' <= b && b <= b'9'
 }
 
-/// The value of a hex digit of either case.
+/// Returns the value of a hex digit of either case, or `None` if the byte isn't one.
 #[inline]
 pub fn hex_value(b: u8) -> Option<u8>
     ensures { result ≡ hex_digit_value b }

@@ -5,7 +5,7 @@
 pub enum TextFault {
     /// A byte that may not come at its place.
     Char,
-    /// A digit of a time that makes it 2^64 nanoseconds or more, some 584 years.
+    /// A digit of a time that makes it 2^64 nanoseconds (about 584 years) or more.
     Late,
     /// The end of a line after an odd number of hex digits.
     Odd,
@@ -18,7 +18,7 @@ pub enum TextFault {
 pub struct BadText {
     /// How many bytes come before the refused one, or before the end of the text.
     pub offset: u64,
-    /// The line, counted from 1, in which the refused byte or the end of the text stands.
+    /// The line, counted from 1, that holds the refused byte or the end of the text.
     pub line: u64,
     pub why: TextFault,
 }

@@ -1,4 +1,4 @@
-//! Captures as text: lines of a time in seconds and the bytes of a record in hex digits.
+//! Captures as text: a line for each record, with its time in seconds and its bytes in hex digits.
 //!
 //! The bytes of a capture, each with the time of its record:
 //!

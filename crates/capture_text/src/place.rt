@@ -11,44 +11,44 @@ use line_stamps::{CaptureByte, Way};
 /// The nanoseconds of a second.
 const SECOND: u64 = 1_000_000_000;
 
-/// The nanoseconds that the first digit behind the point of a time counts.
+/// How many nanoseconds the first digit after the point of a time counts.
 const TENTH: u32 = 100_000_000;
 
 /// Where in a line of a text capture its reader is.
 #[derive(Clone, Copy, Debug, PartialEq, Eq)]
 pub enum Place {
-    /// Before its first byte.
+    /// Before the first byte of the line.
     Start,
     /// In a comment.
     Comment,
-    /// After digits of whole seconds, this time in nanoseconds.
+    /// After digits of whole seconds. Holds the time so far, in nanoseconds.
     Whole(u64),
-    /// After these and a point.
+    /// After digits of whole seconds and a point. Holds the time so far, in nanoseconds.
     Point(u64),
-    /// After digits behind the point, this time in nanoseconds. The next digit counts as
-    /// many nanoseconds as the second number says.
+    /// After at least one digit after the point. Holds the time so far, in nanoseconds, and how
+    /// many nanoseconds the next digit counts.
     Fraction(u64, u32),
-    /// After a time and a blank.
+    /// After a time and a blank. Holds the time.
     Blank(u64),
-    /// After a time, a blank and whole pairs of hex digits, at least one.
+    /// After a time, a blank and whole pairs of hex digits, at least one. Holds the time.
     Pairs(u64),
-    /// After whole pairs of hex digits and one digit more, of this value. The byte of the pair is
-    /// the first one of its record, or not.
+    /// After a time, a blank, any number of whole pairs of hex digits, and the first digit of a
+    /// pair. Holds the time, whether the byte of this pair is the first one of its record, and the
+    /// value of the digit.
     Half(u64, bool, u8),
     /// After the CR at the end of a line.
     Returned,
 }
 
-/// What one byte of a line comes to: the next place and the byte of the capture that it ends, or
-/// why
-/// it is refused.
+/// What one byte of a line results in: the next place and, if the byte completes one, a byte of the
+/// capture, or why it is refused.
 pub type Step = Result<(Place, Option<CaptureByte>), TextFault>;
 
 ghost use Rattle.capture_text.specs.TextStep.{step_at, after_line, after_time, after_fraction};
 ghost use Rattle.capture_text.specs.TextStep.{is_sound, IsSoundStep, whole_time, fraction_time};
 ghost use Rattle.capture_text.specs.TextStep.{fault_without_bytes, end_fault_at};
 
-/// The time that one more digit of whole seconds makes, if it fits.
+/// Returns the time with one more digit of whole seconds, if it is below 2^64 nanoseconds.
 fn with_digit(time: u64, digit: u8) -> Option<u64>
     requires { is_decimal_digit digit ≡ true }
     ensures { result ≡ whole_time time digit }
@@ -57,7 +57,7 @@ fn with_digit(time: u64, digit: u8) -> Option<u64>
         .checked_add(u64::from(digit - b'0') * SECOND)
 }
 
-/// The time that one more digit behind the point makes, if it fits.
+/// Returns the time with one more digit after the point, if it is below 2^64 nanoseconds.
 fn with_fraction(time: u64, counts: u32, digit: u8) -> Option<u64>
     requires { is_decimal_digit digit ≡ true }
     ensures { result ≡ fraction_time time counts digit }
@@ -65,7 +65,7 @@ fn with_fraction(time: u64, counts: u32, digit: u8) -> Option<u64>
     time.checked_add(u64::from(digit - b'0') * u64::from(counts))
 }
 
-/// Why a byte is refused before the bytes of a record.
+/// Returns why a byte is refused that comes before the bytes of a record.
 fn without_bytes(b: u8) -> TextFault
     ensures { result ≡ fault_without_bytes b }
 {
@@ -75,7 +75,7 @@ fn without_bytes(b: u8) -> TextFault
     }
 }
 
-/// The line ends here, or is refused.
+/// Ends the line with an LF or a CR, or refuses the byte.
 fn end_line(b: u8) -> Step
     ensures { result ≡ after_line b }
 {
@@ -86,7 +86,7 @@ fn end_line(b: u8) -> Step
     }
 }
 
-/// A blank follows the time, or a byte that is refused.
+/// Ends the time with a blank, or refuses the byte.
 fn end_time(time: u64, b: u8) -> Step
     ensures { result ≡ after_time time b }
 {
@@ -119,7 +119,7 @@ fn in_whole(time: u64, b: u8) -> Step
     }
 }
 
-/// A digit behind the point that counts this many nanoseconds.
+/// Takes a digit after the point, which counts `counts` nanoseconds.
 fn in_fraction(time: u64, counts: u32, b: u8) -> Step
     requires { is_decimal_digit b ≡ true }
     ensures { result ≡ after_fraction time counts b }
@@ -130,7 +130,7 @@ fn in_fraction(time: u64, counts: u32, b: u8) -> Step
     }
 }
 
-/// The first digit of a pair, if it is one.
+/// Takes the second digit of a pair, or refuses the byte.
 fn in_pair(time: u64, first: bool, high: u8, b: u8) -> Step
     requires { high < 16 }
     ensures { result ≡ step_at (Place.Half time first high) b }
@@ -152,7 +152,7 @@ fn in_pair(time: u64, first: bool, high: u8, b: u8) -> Step
     }
 }
 
-/// What one byte does at a place.
+/// Returns what one byte does at a place.
 #[inline]
 pub fn step(place: Place, b: u8) -> Step
     requires { is_sound place ≡ true }
@@ -196,7 +196,7 @@ pub fn step(place: Place, b: u8) -> Step
     }
 }
 
-/// Why a text is refused that ends at a place, if it is.
+/// Returns why a text that ends at a place is refused, or `None` if it isn't.
 pub fn end_fault(place: Place) -> Option<TextFault>
     ensures { result ≡ end_fault_at place }
 {

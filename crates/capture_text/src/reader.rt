@@ -10,8 +10,8 @@ use crate::place::{Place, end_fault, step};
 use crate::{BadText, MAX_BYTES, TextFault};
 use line_stamps::{CaptureByte, CaptureReader, Seen};
 
-/// A reader of a text capture, byte by byte, in constant memory. It gives each byte of the capture
-/// as soon as its second digit has come.
+/// A reader of a text capture, byte by byte, in constant memory. It returns each byte of the
+/// capture as soon as its second digit has come.
 #[derive(Drop)]
 pub struct TextReader {
     place: Place,
@@ -24,7 +24,7 @@ pub struct TextReader {
     ghost bounded: { taken ≤ MAX_BYTES },
 }
 
-/// A byte of the capture as an item of it.
+/// Returns a byte of the capture as a `Seen`.
 #[inline]
 fn seen(byte: Option<CaptureByte>) -> Option<Seen>
     ensures { result ≡ option_map SeenByte byte }
@@ -42,7 +42,7 @@ impl TextReader {
     ghost use Rattle.capture_text.specs.Reader.{StandsFor, HasRefused, bytes_taken, IsPlaceOf};
     ghost use Rattle.capture_text.specs.declared.fault.BadText.{BadText};
 
-    /// A reader before its text.
+    /// Returns a reader that has taken nothing of its text.
     pub fn new() -> TextReader
         ensures stands { StandsFor result [] [] }
         ensures begins { Begins IsTextCapture [] [] }
@@ -56,14 +56,14 @@ impl TextReader {
         }
     }
 
-    /// How many bytes it took.
+    /// Returns how many bytes the reader took.
     pub fn taken(&self) -> u64
         ensures { result ≡ bytes_taken self.now }
     {
         self.taken
     }
 
-    /// Refuses the text where the reader is, for good.
+    /// Refuses the text for good, at the place that the reader has reached.
     fn refuse(&mut self, why: TextFault) -> BadText
         requires { bytes_taken self.old < MAX_BYTES }
         ensures place { (text : List ℕ) (items : List CaptureByte) → StandsFor self.old text items
@@ -80,16 +80,16 @@ impl TextReader {
         bad
     }
 
-    /// Takes the next byte of the text, and returns the byte of the capture whose digits it ends. A
-    /// refusal is for good.
+    /// Takes the next byte of the text, and returns the byte of the capture that it completes, if
+    /// any. A refusal is for good.
     #[inline]
     pub fn feed(&mut self, b: u8) -> Result<Option<CaptureByte>, BadText>
         requires { bytes_taken self.old < MAX_BYTES }
-        // A text so far stands for the bytes that were returned.
+        // The text so far represents the bytes that were returned.
         ensures stands { (text : List ℕ) (items : List CaptureByte) → StandsFor self.old text items
             → IfOk result (λ byte. StandsFor self.new (text ++ b ∷ [])
             (items ++ option_to_list byte)) }
-        // Some text capture goes on so, and each that does has these bytes first.
+        // Some text capture begins with the text so far, and each that does has these bytes first.
         ensures begins { (text : List ℕ) (items : List CaptureByte) → StandsFor self.old text items
             → IfOk result (λ byte. Begins IsTextCapture (text ++ b ∷ [])
             (items ++ option_to_list byte)) }

@@ -12,10 +12,10 @@ use itoa::Buffer;
 /// The nanoseconds of a second.
 const SECOND: u64 = 1_000_000_000;
 
-/// What a line has before the digits of its bytes.
+/// How the line of a record begins: what comes before the digits of its bytes.
 pub type LineFront = ArrayVec<u8, 32>;
 
-/// Appends the digit that counts how often `counts` fits, and returns the remainder.
+/// Appends the digit that says how often `counts` fits into `remainder`, and returns what remains.
 fn push_digit(front: &mut LineFront, remainder: u32, counts: u32) -> u32
     requires room { length front.old.items < 32 }
     requires some { 0 < counts }
@@ -27,7 +27,7 @@ fn push_digit(front: &mut LineFront, remainder: u32, counts: u32) -> u32
     remainder % counts
 }
 
-/// Appends the nine digits of nanoseconds behind a point.
+/// Appends the nine digits of nanoseconds that follow a point.
 fn push_fraction(front: &mut LineFront, nanoseconds: u32)
     requires room { length front.old.items ≤ 23 }
     requires digits { nanoseconds < 1000000000 }
@@ -44,7 +44,7 @@ fn push_fraction(front: &mut LineFront, nanoseconds: u32)
     push_digit(front, remainder, 1);
 }
 
-/// Appends a number.
+/// Appends the decimal digits of a number.
 fn push_number(front: &mut LineFront, n: u64)
     requires { length front.old.items ≤ 12 }
     ensures digits { front.new.items ≡ front.old.items ++ decimal n }
@@ -54,8 +54,9 @@ fn push_number(front: &mut LineFront, n: u64)
     let _ = front.try_extend_from_slice(buffer.format(n).as_bytes());
 }
 
-/// The time of a record, in nanoseconds, as its line has it, and a space. The bytes of the record
-/// follow, in hex digits, and an LF.
+/// Returns how the line of a record begins: its time in seconds, with nine digits after the point,
+/// and a space. `start` is that time in nanoseconds. The bytes of the record in hex digits and an
+/// LF must follow.
 pub fn line_front(start: u64) -> LineFront
     ensures line { (bytes : List ℕ) → 0 < length bytes → IsBytes bytes
         → IsRecord (result.items ++ encode_lower bytes) start (recorded start bytes) }
