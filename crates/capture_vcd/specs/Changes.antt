@@ -29,8 +29,8 @@ change_if time way false false = []
 abbrev pub changes_at : ℕ → BothLevels → Bool → Bool → List Change
 changes_at time before a b = change_if time A before.a a ++ change_if time B before.b b
 
--- The changes of two wires that have these levels, of which the first ones are those of this bit,
--- behind a bit of these two.
+-- The changes of two wires that have these levels from bit `bit` on, and the levels `before` in the
+-- bit before it.
 unfoldable pub changes_from : Rate → ℕ → BothLevels → List Bool → List Bool → List Change
 changes_from rate bit before [] ys = []
 changes_from rate bit before (a ∷ xs) [] = []
@@ -38,11 +38,11 @@ changes_from rate bit before (a ∷ xs) (b ∷ ys) =
     changes_at (bit_start rate bit) before a b
     ++ changes_from rate (bit + 1) (record { a = a; b = b }) xs ys
 
--- a line, and silence behind it up to the end of the other one
+-- a line, and silence after it up to the end of the other one
 abbrev pub padded : List Tick → List Tick → List Tick
 padded line other = line ++ silent (length other - length line)
 
--- The changes of a dump of two lines as long as each other: for one character both wires are quiet,
+-- The changes of a dump of two lines of the same length. Both wires are quiet for one character,
 -- and then tick 0 begins.
 abbrev pub ticks_changes : Rate → List Tick → List Tick → List Change
 ticks_changes rate a b =

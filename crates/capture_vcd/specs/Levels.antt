@@ -1,6 +1,6 @@
 -- The level of a wire, bit by bit, as a UART has it: a wire is high while it is quiet. A byte is a
--- start bit, which is low, eight bits of data, the lowest first, an even parity bit where a
--- character has 11 bits, and a stop bit, which is high.
+-- start bit, which is low, eight bits of data, the lowest first, an even parity bit if a character
+-- has 11 bits, and a stop bit, which is high.
 use Rattle.std.specs.Prelude.{ℕ, zero, suc, ◌/◌, ◌%◌, ◌==◌, count_ones, if◌then◌else◌, Bool, true, false}
 use Rattle.std.specs.Prelude.{List, [], ◌∷◌, ◌++◌, replicate}
 use Rattle.std.specs.List.{flat_map}
@@ -12,7 +12,7 @@ unfoldable pub data_levels : ℕ → ℕ → List Bool
 data_levels zero byte = []
 data_levels (suc n) byte = (byte % 2 == 1) ∷ data_levels n (byte / 2)
 
--- the parity bit: with it the number of high bits is even
+-- the parity bit, if a character has 11 bits: it makes the number of high bits even
 abbrev pub parity_levels : ℕ → ℕ → List Bool
 parity_levels bits byte = if bits == 11 then (count_ones byte % 2 == 1) ∷ [] else []
 

@@ -1,4 +1,4 @@
-//! When the levels of two wires change in a tick, as text.
+//! The changes of the levels of two wires in a tick, as text.
 ghost use Rattle.std.specs.Prelude.{◌≡◌, ◌+◌, ◌*◌, ◌<◌, ◌≤◌, ◌^◌, ◌++◌, length};
 ghost use Rattle.std.specs.List.{flat_map};
 ghost use Rattle.capture_vcd.specs.Levels.{tick_levels};
@@ -21,9 +21,9 @@ pub struct BothLevels {
 /// A change of a wire's level.
 #[derive(Clone, Copy, Debug, PartialEq, Eq)]
 pub struct Change {
-    /// When it is, in nanoseconds since the start of the dump.
+    /// When the level changes, in nanoseconds since the start of the dump.
     pub time: u64,
-    /// Which wire it is, by the way of the line that it carries.
+    /// Which wire changes, by the way of the line that it carries.
     pub way: Way,
     /// The level from then on.
     pub high: bool,
@@ -32,7 +32,7 @@ pub struct Change {
 /// The text of the changes in a tick: at most 22 of them.
 pub type TickText = ArrayVec<u8, 704>;
 
-/// A bit of a dump, and the levels of the bit before it.
+/// A bit of a dump, and the levels of both wires in the bit before it.
 #[derive(Clone, Copy, Debug)]
 struct Cursor {
     rate: Rate,
@@ -40,7 +40,8 @@ struct Cursor {
     before: BothLevels,
 }
 
-/// When a bit of a dump starts, in nanoseconds since bit 0: the nearest whole number, a half up.
+/// Returns when a bit of a dump starts, in nanoseconds since bit 0: the nearest whole number, a
+/// half up.
 pub fn bit_start(rate: Rate, bit: u64) -> u64
     requires { bit < 2 ^ 28 }
     ensures { result ≡ bit_start rate bit }
@@ -101,7 +102,7 @@ fn push_bit(text: &mut TickText, cursor: Cursor, a: bool, b: bool)
     push_change(text, time, Way::B, cursor.before.b, b);
 }
 
-/// Appends the changes of two wires that have these levels from a bit on.
+/// Appends the changes of two wires that have these levels from the cursor's bit on.
 fn push_bits(text: &mut TickText, cursor: Cursor, a: &[bool], b: &[bool])
     requires room { length text.old.items + 50 * length a.now ≤ 704 }
     requires early { cursor.bit + length a.now ≤ 2 ^ 28 }
@@ -123,8 +124,8 @@ fn push_bits(text: &mut TickText, cursor: Cursor, a: &[bool], b: &[bool])
     push_bits(text, next, more_a, more_b);
 }
 
-/// The text of a tick whose first bit is this bit of a dump. Both wires are high in the bit before
-/// it.
+/// Returns the text of a tick that starts at this bit of a dump. Both wires are high in the bit
+/// before it.
 pub fn tick_text(rate: Rate, bit: u64, a: Tick, b: Tick) -> TickText
     requires { bit + 11 ≤ 2 ^ 28 }
     ensures { result.items ≡ flat_map change_text (changes_from rate bit quiet

@@ -1,4 +1,5 @@
-//! A dump has all that its lines have: who looks at its wires once in each bit gets the ticks back.
+//! A dump loses nothing of its lines: whoever looks at its wires once in each bit gets the ticks
+//! back.
 ghost use Rattle.std.specs.Prelude.{◌≡◌, ℕ, ◌<◌, ◌≤◌, List, length, get_or, true};
 ghost use Rattle.yasir_ticks.specs.Ticks.{IsTick};
 ghost use Rattle.yasir_ticks.specs.declared.tick.Tick.{Tick};
@@ -9,7 +10,7 @@ ghost use Rattle.capture_vcd.specs.Levels.{tick_levels};
 ghost use Rattle.capture_vcd.specs.Changes.{dump_changes, padded};
 ghost use Rattle.capture_vcd.specs.Looks.{IsWithin, level_at, tick_of};
 
-/// At each time within a bit of a tick a wire has the level of this bit, by the changes of the
+/// At each time within a bit of a tick, a wire has the level of that bit by the changes of the
 /// dump.
 pub fn looks_give_the_levels()
     ensures way_a { (rate : Rate) (a b : List Tick) (tick bit time : ℕ)
@@ -22,7 +23,7 @@ pub fn looks_give_the_levels()
         ≡ get_or (tick_levels rate.bits (get_or (padded b a) tick Silent)) bit true }
 {}
 
-/// The levels of a tick give it back.
+/// The tick can be read back from its levels.
 pub fn levels_give_the_tick()
     ensures { (bits : ℕ) (tick : Tick) → 10 ≤ bits → IsTick tick
         → tick_of (tick_levels bits tick) ≡ tick }

@@ -8,7 +8,7 @@ use yasir_ticks::Tick;
 /// Levels of a wire, bit by bit: `true` is high, the level of silence.
 pub type Levels = ArrayVec<bool, 11>;
 
-/// Appends this many bits of a byte, the lowest first.
+/// Appends `count` bits of a byte, the lowest first.
 fn push_data(levels: &mut Levels, byte: u8, count: u8)
     requires { length levels.old.items + count ≤ 11 }
     ensures levels { levels.new.items ≡ levels.old.items ++ data_levels count byte }
@@ -21,7 +21,7 @@ fn push_data(levels: &mut Levels, byte: u8, count: u8)
     push_data(levels, byte / 2, count - 1);
 }
 
-/// The levels of a quiet wire.
+/// Returns the levels of a quiet wire for `bits` bits.
 #[tactic(auto, using(crate::proofs::LevelLaws::high_front))]
 fn high_levels(bits: u8) -> Levels
     requires { bits ≤ 11 }
@@ -32,7 +32,7 @@ fn high_levels(bits: u8) -> Levels
     levels
 }
 
-/// Appends the parity bit of a byte, if a character has one: with it the number of high bits is
+/// Appends the parity bit of a byte if a character has 11 bits. It makes the number of high bits
 /// even.
 fn push_parity(levels: &mut Levels, bits: u8, byte: u8)
     requires { length levels.old.items < 11 }
@@ -45,8 +45,8 @@ fn push_parity(levels: &mut Levels, bits: u8, byte: u8)
     levels.push(byte.count_ones() % 2 == 1);
 }
 
-/// The levels of a byte: a start bit, eight bits of data, the lowest first, an even parity bit
-/// where a character has 11 bits, and a stop bit.
+/// Returns the levels of a byte: a start bit, eight bits of data, the lowest first, an even parity
+/// bit if a character has 11 bits, and a stop bit.
 fn byte_levels(bits: u8, byte: u8) -> Levels
     ensures { result.items ≡ byte_levels bits byte }
 {
@@ -58,7 +58,7 @@ fn byte_levels(bits: u8, byte: u8) -> Levels
     levels
 }
 
-/// The levels of a wire in a tick, at this many bits a character.
+/// Returns the levels of a wire in a tick, with `bits` bits for each character.
 pub fn tick_levels(bits: u8, tick: Tick) -> Levels
     requires { bits ≤ 11 }
     ensures { result.items ≡ tick_levels bits tick }

@@ -1,8 +1,8 @@
 //! A line as a value change dump (VCD): the levels of its wires, bit by bit, for tools that decode
-//! a serial line of it.
+//! a serial line from them.
 //!
-//! The dump of the two ways of a line as a whole is `dump(alloc, rate, a, b)?`; or a tick of both
-//! at a time:
+//! `dump(alloc, rate, a, b)?` returns the whole dump of the two ways of a line. A `DumpWriter`
+//! writes it tick by tick:
 //!
 //!     let mut writer = DumpWriter::new(rate, Wires::Two);
 //!     out.extend_from_slice(writer.front())?;
@@ -26,5 +26,5 @@ pub use lines::dump;
 pub use text::{ChangeText, Wires, change_text};
 pub use writer::DumpWriter;
 
-/// A dump has at most this many ticks: 2^24.
+/// The most ticks that a dump has: 2^24.
 pub const MAX_TICKS: u32 = 16_777_216;

@@ -1,4 +1,4 @@
-//! The dump of two lines, as a whole.
+//! The whole dump of two lines.
 ghost use Rattle.std.specs.Prelude.{◌≡◌, ◌<◌, ◌≤◌, ◌^◌, length, get_or, max, IfOk};
 ghost use Rattle.yasir_ticks.specs.declared.tick.Tick.TheVariants.{Silent};
 ghost use Rattle.capture_vcd.specs.Dump.{dump_text, wires_for};
@@ -9,7 +9,8 @@ use line_stamps::Rate;
 use std::alloc::{AllocError, Global};
 use yasir_ticks::Tick;
 
-/// The wires that a dump has whose way B is this line: that of way B, if it has ticks.
+/// Returns the wires of a dump whose way B is this line: both if the line has ticks, otherwise only
+/// that of way A.
 fn wires_for(b: &[Tick]) -> Wires
     ensures { result ≡ wires_for b.now }
 {
@@ -19,7 +20,7 @@ fn wires_for(b: &[Tick]) -> Wires
     }
 }
 
-/// A tick of a line, which is silent behind its end.
+/// Returns tick `n` of a line, which is silent after its end.
 fn tick_at(line: &[Tick], n: usize) -> Tick
     ensures { result ≡ get_or line.now n Silent }
 {
@@ -30,15 +31,15 @@ fn tick_at(line: &[Tick], n: usize) -> Tick
     }
 }
 
-/// How many ticks the longer one of two lines has.
+/// Returns how many ticks the longer of two lines has.
 fn longest(a: &[Tick], b: &[Tick]) -> usize
     ensures { result ≡ max (length a.now) (length b.now) }
 {
     if a.len() < b.len() { b.len() } else { a.len() }
 }
 
-/// The dump of the two ways of a line, each of which has at most 2^24 ticks. The shorter one is
-/// silent behind its end.
+/// Returns the dump of the two ways of a line, each of which has at most 2^24 ticks. The shorter
+/// one is silent after its end.
 pub fn dump(alloc: Global, rate: Rate, a: &[Tick], b: &[Tick]) -> Result<Vec<u8>, AllocError>
     requires a { length a.now ≤ 2 ^ 24 }
     requires b { length b.now ≤ 2 ^ 24 }

@@ -10,7 +10,7 @@ use line_stamps::Way;
 /// The wires that a dump has.
 #[derive(Clone, Copy, Debug, PartialEq, Eq)]
 pub enum Wires {
-    /// The wire of way A.
+    /// Only the wire of way A.
     One,
     /// The wires of both ways.
     Two,
@@ -19,7 +19,7 @@ pub enum Wires {
 /// The text of a change.
 pub type ChangeText = ArrayVec<u8, 32>;
 
-/// The head of a dump, and the levels of its wires at its begin.
+/// Returns the head of a dump, and the levels of its wires at the start.
 pub fn dump_front(wires: Wires) -> &'static [u8]
     ensures { result.now ≡ dump_front wires }
 {
@@ -31,7 +31,7 @@ pub fn dump_front(wires: Wires) -> &'static [u8]
     }
 }
 
-/// What a dump calls a wire.
+/// Returns the sign with which a dump names a wire.
 fn wire_sign(way: Way) -> u8
     ensures { result ≡ wire_sign way }
 {
@@ -41,7 +41,7 @@ fn wire_sign(way: Way) -> u8
     }
 }
 
-/// The line of a time, in nanoseconds since the start of a dump.
+/// Returns the line of a time, in nanoseconds since the start of a dump.
 pub fn time_line(time: u64) -> ChangeText
     ensures line { result.items ≡ time_line time }
     ensures long { length result.items ≤ 22 }
@@ -54,7 +54,7 @@ pub fn time_line(time: u64) -> ChangeText
     text
 }
 
-/// The text of a change: the line of its time, and that of its level.
+/// Returns the text of a change: the line of its time, and the line of its level.
 pub fn change_text(change: Change) -> ChangeText
     ensures text { result.items ≡ change_text change }
     ensures long { length result.items ≤ 25 }

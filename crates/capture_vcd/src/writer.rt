@@ -8,8 +8,8 @@ use crate::text::{ChangeText, Wires, dump_front, time_line};
 use line_stamps::Rate;
 use yasir_ticks::Tick;
 
-/// A writer of a dump, in constant memory. It is given the ticks of both wires one by one, and
-/// returns the text of each.
+/// A writer of a dump, in constant memory. It takes one tick of both wires at a time, and returns
+/// its text.
 #[derive(Clone, Copy, Debug)]
 pub struct DumpWriter {
     rate: Rate,
@@ -21,7 +21,7 @@ pub struct DumpWriter {
 impl DumpWriter {
     ghost use Rattle.capture_vcd.specs.Writer.{HasWritten, rate_of, wires_of, ticks_of};
 
-    /// A writer before its first tick, behind the front of its dump.
+    /// Returns a writer that was given no tick. The front of its dump counts as written.
     pub fn new(rate: Rate, wires: Wires) -> DumpWriter
         ensures begins { HasWritten result [] [] (dump_front wires) }
         ensures rate { rate_of result ≡ rate }
@@ -35,21 +35,22 @@ impl DumpWriter {
         }
     }
 
-    /// The front of the dump, which comes before all ticks.
+    /// Returns the front of the dump, which comes before all ticks.
     pub fn front(&self) -> &'static [u8]
         ensures { result.now ≡ dump_front (wires_of self.now) }
     {
         dump_front(self.wires)
     }
 
-    /// How many ticks it was given.
+    /// Returns how many ticks the writer was given.
     pub fn ticks(&self) -> u32
         ensures { result ≡ ticks_of self.now }
     {
         self.ticks
     }
 
-    /// The text of the next tick of both wires. A dump with one wire has silence on the other one.
+    /// Returns the text of the next tick of both wires. For a dump with one wire, give silence for
+    /// the other one.
     pub fn tick(&mut self, a: Tick, b: Tick) -> TickText
         requires { ticks_of self.old < 2 ^ 24 }
         ensures writes { (xs ys : List Tick) (text : List ℕ) → HasWritten self.old xs ys text
@@ -64,7 +65,7 @@ impl DumpWriter {
         text
     }
 
-    /// The end of the dump, behind its last tick.
+    /// Returns the end of the dump, which follows its last tick.
     pub fn end(&self) -> ChangeText
         ensures end { result.items ≡ dump_end (rate_of self.now) (ticks_of self.now) }
         ensures whole { (a b : List Tick) (text : List ℕ) → HasWritten self.now a b text
