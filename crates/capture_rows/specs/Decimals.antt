@@ -19,7 +19,7 @@ abbrev pub and_then : Option ℕ → (ℕ → Option ℕ) → Option ℕ
 and_then (Some n) next = next n
 and_then None next = None
 
--- the number of a value and the digits that follow it
+-- the number that a value and the digits after it make
 unfoldable pub number_from : ℕ → List ℕ → Option ℕ
 number_from value [] = Some value
 number_from value (digit ∷ digits) =
@@ -27,9 +27,8 @@ number_from value (digit ∷ digits) =
     then and_then (with_digit value digit) (λ longer. number_from longer digits)
     else None
 
--- A time and the digits behind its point: the first one counts this many nanoseconds, and each
--- further one a tenth of the one before it. Those that count less than one nanosecond count
--- nothing.
+-- A time with the digits after its point: the first counts `counts` nanoseconds, and each later one
+-- a tenth of the one before it. Digits that would count less than one nanosecond count nothing.
 unfoldable pub fraction_from : ℕ → ℕ → List ℕ → Option ℕ
 fraction_from time counts [] = Some time
 fraction_from time counts (digit ∷ digits) =
@@ -37,7 +36,7 @@ fraction_from time counts (digit ∷ digits) =
     then and_then (with_fraction time counts digit) (λ longer. fraction_from longer (counts / 10) digits)
     else None
 
--- a whole number of units of this many nanoseconds
+-- the nanoseconds of a whole number of units, each of `unit` nanoseconds
 abbrev pub whole_at : ℕ → List ℕ → Option ℕ
 whole_at unit digits =
     if length digits == 0 then None
@@ -48,6 +47,7 @@ by_point unit text None = whole_at unit text
 by_point unit text (Some k) = and_then (whole_at unit (take k text)) (λ time.
     if k + 1 == length text then None else fraction_from time (unit / 10) (drop (k + 1) text))
 
--- A time in units of this many nanoseconds: digits, and maybe a point and digits behind it.
+-- A time in nanoseconds, from a text that has it in units of `unit` nanoseconds: digits, and maybe
+-- a point and digits after it.
 abbrev pub time_at : ℕ → List ℕ → Option ℕ
 time_at unit text = by_point unit text (place_of 46 text)

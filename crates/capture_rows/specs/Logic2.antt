@@ -1,8 +1,8 @@
--- The table that Saleae Logic 2 exports of its Async Serial analyzers: fields apart by commas, each
--- maybe in quotes. A heading names them: name, type, start_time, duration, data and error. Each
--- further row is a byte: the name of its analyzer, `data`, the time of its start in seconds, how
--- long it took, the byte as `0x41`, and the error that it has, if it has one. No field has a comma
--- in it.
+-- The table that Saleae Logic 2 exports from its Async Serial analyzers: fields separated by
+-- commas, each maybe in quotes. A heading names them: name, type, start_time, duration, data and
+-- maybe error. Each row after the heading is a byte: the name of its analyzer, `data`, the time of
+-- its start in seconds, how long it took, the byte such as `0x41`, and its error, if it has one. No
+-- field has a comma in it.
 use Rattle.std.specs.Prelude.{ℕ, ◌+◌, ◌*◌, ◌==◌, ◌&&◌, ◌||◌, if◌then◌else◌, Bool, List, [], ◌∷◌}
 use Rattle.std.specs.Prelude.{length, Option, Some, None, Result, Ok, Err, bytes_eq, codes, option_map}
 use Rattle.hex.specs.Hex.{hex_digit_value}
@@ -46,7 +46,7 @@ pair_value (Some high) (Some low) = Some (high * 16 + low)
 pair_value (Some high) None = None
 pair_value None low = None
 
--- a byte in two hex digits behind `0x`
+-- a byte in two hex digits after `0x`
 abbrev pub byte_in : List ℕ → Option ℕ
 byte_in (first ∷ second ∷ high ∷ low ∷ []) =
     if first == 48 && second == 120 then pair_value (hex_digit_value high) (hex_digit_value low) else None
@@ -77,19 +77,19 @@ row_time line = time_at 1000000000 (logic2_field (others (others line)))
 abbrev pub data_text : List ℕ → List ℕ
 data_text line = others (others (others (others line)))
 
--- what a row has in its fifth and sixth field
+-- what the fifth and the sixth field of a row say
 abbrev pub row_what : List ℕ → Option What
 row_what line =
     what_in (logic2_field (data_text line)) (logic2_field (others (data_text line)))
 
--- a row of a byte or of an error
+-- what the row of a byte or an error means, or why it is refused
 abbrev pub data_row : List ℕ → Result Row RowFault
 data_row line =
     if bytes_eq (logic2_field (others line)) (codes "data")
     then timed_row (row_time line) (row_what line)
     else Err Line
 
--- a line: the heading first, and then rows
+-- what a line means at a stage: the heading comes first, and then rows
 abbrev pub logic2_row : Stage → List ℕ → Result Row RowFault
 logic2_row Start line =
     if is_heading line then Ok (record { next = Rows; item = None }) else Err Line

@@ -6,7 +6,7 @@ use Rattle.line_stamps.specs.declared.capture.Way.TheVariants.{A, B}
 use Rattle.capture_rows.specs.declared.TheConstants.{MAX_NAME}
 use Rattle.capture_rows.specs.declared.names.Names.{Names}
 
--- the names of the first and of the second channel: empty where it hasn't come yet
+-- the names of the first and the second channel, each empty if the channel hasn't come yet
 pub record ChannelNames : Type 0 where
   pub first : List ℕ
   pub second : List ℕ
@@ -14,8 +14,8 @@ pub record ChannelNames : Type 0 where
 abbrev pub no_names : ChannelNames
 no_names = record { first = []; second = [] }
 
--- The way of the channel of this name, and the names then. A third channel has none, and a name has
--- 1 to 64 bytes.
+-- The way of the channel with this name, and the names after it has come. A third channel has no
+-- way, nor has one whose name doesn't have 1 to 64 bytes.
 abbrev pub way_in : ChannelNames → List ℕ → Option (ChannelNames × Way)
 way_in names name =
     if length name == 0 then None

@@ -3,7 +3,7 @@ use Rattle.std.specs.Prelude.{ℕ, ◌+◌, ◌-◌, ◌==◌, nat_lt, if◌then
 use Rattle.std.specs.Prelude.{Option, Some, None, slice_index, bytes_eq}
 use Rattle.memchr.specs.Find.{first_of, places, is_byte}
 
--- the first place of a byte
+-- the first place of a byte in a text
 abbrev pub place_of : ℕ → List ℕ → Option ℕ
 place_of byte text = first_of (places (is_byte byte) text)
 
@@ -15,15 +15,15 @@ abbrev pub behind_at : List ℕ → Option ℕ → List ℕ
 behind_at text (Some k) = drop (k + 1) text
 behind_at text None = []
 
--- what comes before the first such byte: the whole text where there is none
+-- what comes before the first such byte, or the whole text if there is none
 abbrev pub front : ℕ → List ℕ → List ℕ
 front byte text = front_at text (place_of byte text)
 
--- what comes after it: nothing where there is none
+-- what comes after the first such byte, or nothing if there is none
 abbrev pub behind : ℕ → List ℕ → List ℕ
 behind byte text = behind_at text (place_of byte text)
 
--- what comes after a literal at the begin of a text: nothing where the text begins otherwise
+-- what comes after a literal at the start of a text, or nothing if the text doesn't start with it
 abbrev pub skip : List ℕ → List ℕ → List ℕ
 skip literal text =
     if nat_lt (length text) (length literal) then []

@@ -1,4 +1,4 @@
--- An export in rows: what a line does to its reader, of what it says by its form.
+-- An export in rows: what a line does to its reader, given what the line means by its form.
 use Rattle.std.specs.Prelude.{◌≡◌, ℕ, ◌-◌, ◌≤◌, ◌==◌, ◌&&◌, nat_lt, not, if◌then◌else◌, Bool, true}
 use Rattle.std.specs.Prelude.{false, List, [], ◌∷◌, ◌++◌, length, take, Option, Some, None, Result, Ok, Err}
 use Rattle.std.specs.Prelude.{slice_index}
@@ -27,7 +27,7 @@ pub record RowState : Type 0 where
 abbrev pub first_state : RowState
 first_state = record { stage = Start; names = no_names }
 
--- an export may end here
+-- whether an export may end at a stage
 abbrev pub may_end : Stage → Bool
 may_end Start = false
 may_end Rows = true
@@ -43,7 +43,7 @@ without_return line =
     else if slice_index line (length line - 1) == carriage_return then take (length line - 1) line
     else line
 
--- what a row says, on its way: each byte is a record of its own
+-- what a row says, on the way of its channel: each byte is a record of its own
 abbrev pub seen_at : ℕ → Way → What → Seen
 seen_at time on_way (Byte value) =
     SeenByte (record { way = on_way; start = time; first = true; byte = value })
@@ -64,7 +64,7 @@ abbrev pub ended_line : Result (RowState × Option Seen) RowFault
 ended_line (Ok after) = Ok ((after.0, []), after.1)
 ended_line (Err why) = Err why
 
--- an export may end here: before a line
+-- whether an export may end at a place: only before the first byte of a line
 abbrev pub may_end_at : (RowState × List ℕ) → Bool
 may_end_at place = may_end place.0.stage && (length place.1 == 0)
 
@@ -81,12 +81,12 @@ module _ (row_at : Stage → List ℕ → Result Row RowFault) (name_of : List �
   after_row names line (Ok row) = with_item names line row.next row.item
   after_row names line (Err why) = Err why
 
-  -- a line at a state
+  -- what a line does in a state: the next state and what is seen, or why it is refused
   abbrev pub line_at : RowState → List ℕ → Result (RowState × Option Seen) RowFault
   line_at state line =
       after_row state.names (without_return line) (row_at state.stage (without_return line))
 
-  -- Lines that an LF ended, one after the other, each of at most 255 bytes.
+  -- Lines one after the other, each of at most 255 bytes and ended by an LF.
   pub data AreRows : RowState → List ℕ → List Seen → Type 0 where
     none : AreRows first_state [] []
     more : (before after : RowState) (text line : List ℕ) (items : List Seen) (item : Option Seen)
@@ -100,8 +100,8 @@ module _ (row_at : Stage → List ℕ → Result Row RowFault) (name_of : List �
     pub rows : AreRows last text items
     pub ends : may_end last.stage ≡ true
 
-  -- A line of which so much has come, and what one byte makes of it. It is a second view of the
-  -- format, and is proved equal to it.
+  -- What one byte does after this much of a line. It describes the format a second time, and the
+  -- two are proved equal.
   unfoldable pub step_at : (RowState × List ℕ) → ℕ
       → Result ((RowState × List ℕ) × Option Seen) RowFault
   step_at place b =

@@ -1,7 +1,7 @@
--- The trace that sigrok-cli writes of its UART decoder with --protocol-decoder-jsontrace: Google
--- Trace Events, one a line. Each event has a line where it begins and one where it ends, its time
--- in microseconds, the decoder, the row that it is in, and its name: the byte in hex digits, or
--- what is wrong.
+-- The trace that sigrok-cli writes from its UART decoder with --protocol-decoder-jsontrace: Google
+-- Trace Events, one on each line. An event has a line where it begins and a line where it ends.
+-- Each has its time in microseconds, the decoder, the row that it is in, and its name: the byte in
+-- hex digits, or what is wrong.
 use Rattle.std.specs.Prelude.{ℕ, if◌then◌else◌, List, [], ◌∷◌}
 use Rattle.std.specs.Prelude.{Option, Some, None, Result, Ok, Err, bytes_eq, codes, option_map}
 use Rattle.hex.specs.Hex.{hex_digit_value}
@@ -24,7 +24,7 @@ quote = 34
 abbrev pub space : ℕ
 space = 32
 
--- an event from its phase on, from its time on, from its row on, and from its name on
+-- the line of an event from its phase on, from its time on, from its row on, and from its name on
 abbrev pub phase_text : List ℕ → List ℕ
 phase_text line = skip (codes "{\"ph\": \"") line
 
@@ -42,7 +42,8 @@ abbrev pub byte_named : List ℕ → Option ℕ
 byte_named (high ∷ low ∷ []) = pair_value (hex_digit_value high) (hex_digit_value low)
 byte_named _ = None
 
--- What an event of this name says: bytes are in the rows `RX` and `TX` alone.
+-- What an event with this name says. Bytes are only in rows without a space in their name, which
+-- are `RX` and `TX`.
 abbrev pub what_named : List ℕ → List ℕ → Option What
 what_named row name =
     if bytes_eq name (codes "Frame error") then Some (Event 7)
@@ -51,7 +52,8 @@ what_named row name =
     else if bytes_eq (front space row) row then option_map Byte (byte_named name)
     else None
 
--- what may follow an event that ends so: a comma comes before a further one
+-- what may follow an event whose line ends like this: another event if there is a comma, otherwise
+-- the last line
 abbrev pub after_event : List ℕ → Option Stage
 after_event end =
     if bytes_eq end (codes "},") then Some More
@@ -66,7 +68,8 @@ abbrev pub timed_event : Option ℕ → Option What → Result (Option RowItem) 
 timed_event (Some time) said = said_at time said
 timed_event None said = Err Time
 
--- whether an event begins or ends, its time, and what it says
+-- whether an event begins or ends, its time in nanoseconds, and what it says by its row and its
+-- name
 abbrev pub event_phase : List ℕ → List ℕ
 event_phase line = front quote (phase_text line)
 
@@ -76,7 +79,7 @@ event_time line = time_at 1000 (front comma (time_text line))
 abbrev pub event_what : List ℕ → Option What
 event_what line = what_named (front quote (row_text line)) (front quote (name_text line))
 
--- what an event says where it begins, and nothing where it ends
+-- what the line of an event says: something if the event begins there, and nothing if it ends
 abbrev pub event_said : List ℕ → Result (Option RowItem) RowFault
 event_said line =
     if bytes_eq (event_phase line) (codes "E") then Ok None

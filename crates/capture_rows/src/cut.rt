@@ -1,10 +1,10 @@
-//! Parts of a line: before and behind a byte, behind a literal, within quotes.
+//! Parts of a line: before and after a byte, after a literal, within quotes.
 ghost use Rattle.std.specs.Prelude.{◌≡◌, ◌<◌, length, IfSome};
 ghost use Rattle.capture_rows.specs.Parts.{place_of, front, behind, skip, unquoted};
 
 use memchr::memchr;
 
-/// The first place of a byte in a text.
+/// Returns the first place of a byte in a text, or `None` if it isn't there.
 #[inline]
 pub fn place_of(byte: u8, text: &[u8]) -> Option<usize>
     ensures place { result ≡ place_of byte text.now }
@@ -13,7 +13,7 @@ pub fn place_of(byte: u8, text: &[u8]) -> Option<usize>
     memchr(byte, text)
 }
 
-/// What comes before the first such byte; the whole text where there is none.
+/// Returns what comes before the first such byte, or the whole text if there is none.
 pub fn front(byte: u8, text: &[u8]) -> &[u8]
     ensures { result.now ≡ front byte text.now }
 {
@@ -23,7 +23,7 @@ pub fn front(byte: u8, text: &[u8]) -> &[u8]
     }
 }
 
-/// What comes after the first such byte; nothing where there is none.
+/// Returns what comes after the first such byte, or nothing if there is none.
 pub fn behind(byte: u8, text: &[u8]) -> &[u8]
     ensures { result.now ≡ behind byte text.now }
 {
@@ -33,7 +33,8 @@ pub fn behind(byte: u8, text: &[u8]) -> &[u8]
     }
 }
 
-/// What comes after a literal at the begin of a text; nothing where the text begins otherwise.
+/// Returns what comes after a literal at the start of a text, or nothing if the text doesn't start
+/// with it.
 pub fn skip<'t>(literal: &[u8], text: &'t [u8]) -> &'t [u8]
     ensures { result.now ≡ skip literal.now text.now }
 {
@@ -47,7 +48,7 @@ pub fn skip<'t>(literal: &[u8], text: &'t [u8]) -> &'t [u8]
     }
 }
 
-/// A text without the quotes around it, if it has both.
+/// Returns a text without the quotes around it, if it has both.
 pub fn unquoted(text: &[u8]) -> &[u8]
     ensures { result.now ≡ unquoted text.now }
 {

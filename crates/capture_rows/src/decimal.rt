@@ -7,7 +7,7 @@ ghost use Rattle.capture_rows.specs.Decimals.{fraction_from, whole_at, time_at};
 use crate::cut::place_of;
 use capture_text::is_digit;
 
-/// A number with one digit more, if it is below 2^64.
+/// Returns a number with one more digit, if it is below 2^64.
 fn with_digit(value: u64, digit: u8) -> Option<u64>
     requires { is_decimal_digit digit ≡ true }
     ensures { result ≡ with_digit value digit }
@@ -15,7 +15,8 @@ fn with_digit(value: u64, digit: u8) -> Option<u64>
     value.checked_mul(10)?.checked_add(u64::from(digit - b'0'))
 }
 
-/// A time with one digit more behind its point, which counts this many nanoseconds.
+/// Returns a time with one more digit after its point, which counts `counts` nanoseconds, if it is
+/// below 2^64.
 fn with_fraction(time: u64, counts: u64, digit: u8) -> Option<u64>
     requires small { counts < 1000000000 }
     requires digit { is_decimal_digit digit ≡ true }
@@ -24,7 +25,8 @@ fn with_fraction(time: u64, counts: u64, digit: u8) -> Option<u64>
     time.checked_add(u64::from(digit - b'0') * counts)
 }
 
-/// The number of a value and the digits that follow it, if it is below 2^64.
+/// Returns the number that a value and the digits after it make, or `None` if a byte isn't a digit
+/// or the number isn't below 2^64.
 fn number_from(value: u64, digits: &[u8]) -> Option<u64>
     ensures { result ≡ number_from value digits.now }
 {
@@ -42,7 +44,8 @@ fn number_from(value: u64, digits: &[u8]) -> Option<u64>
     }
 }
 
-/// A time and the digits behind its point, the first of which counts this many nanoseconds.
+/// Returns a time with the digits after its point, the first of which counts `counts` nanoseconds,
+/// or `None` if a byte isn't a digit or the time isn't below 2^64.
 fn fraction_from(time: u64, counts: u64, digits: &[u8]) -> Option<u64>
     requires { counts < 1000000000 }
     ensures { result ≡ fraction_from time counts digits.now }
@@ -61,7 +64,7 @@ fn fraction_from(time: u64, counts: u64, digits: &[u8]) -> Option<u64>
     }
 }
 
-/// A whole number of units of this many nanoseconds.
+/// Returns the nanoseconds of a whole number of units, each of `unit` nanoseconds.
 fn whole_at(unit: u64, digits: &[u8]) -> Option<u64>
     ensures { result ≡ whole_at unit digits.now }
 {
@@ -74,7 +77,7 @@ fn whole_at(unit: u64, digits: &[u8]) -> Option<u64>
     }
 }
 
-/// A time in units of this many nanoseconds, in whole nanoseconds.
+/// Returns a time in whole nanoseconds, from a text that has it in units of `unit` nanoseconds.
 pub fn time_at(unit: u64, text: &[u8]) -> Option<u64>
     requires { unit < 10000000000 }
     ensures { result ≡ time_at unit text.now }

@@ -5,17 +5,17 @@
 pub enum RowFault {
     /// A line of more than 255 bytes.
     Long,
-    /// A line that is none of this form, or that can't be at its place: another heading, or a row
-    /// behind the end of a trace.
+    /// A line that isn't one of this form, such as a wrong heading, or that can't come at its
+    /// place, such as a row after the end of a trace.
     Line,
-    /// A time that isn't written as digits, with or without a point and digits behind it, or one of
+    /// A time that isn't written as digits, with or without a point and digits after it, or one of
     /// 2^64 nanoseconds or more.
     Time,
-    /// A row that has neither a byte in two hex digits nor an error that is known.
+    /// A row that has neither a byte in two hex digits nor a known error.
     Data,
-    /// A third channel, or one with a name of more than 64 bytes.
+    /// A third channel, or one whose name is empty or has more than 64 bytes.
     Channel,
-    /// The export ends within a line, or before its last one.
+    /// The export ends within a line, or before its last line.
     End,
 }
 

@@ -1,7 +1,7 @@
-//! Captures in rows of text, as other tools export them: the table that Saleae Logic 2 exports of
-//! its Async Serial analyzers, and the trace that sigrok-cli writes of its UART decoder.
+//! Captures in rows of text, as other tools export them: the table that Saleae Logic 2 exports from
+//! its Async Serial analyzers, and the trace that sigrok-cli writes from its UART decoder.
 //!
-//! What a table has in it, each byte with its way and its time:
+//! What a table says, each byte and each error with its way and its time:
 //!
 //!     let mut reader = Logic2Reader::start();
 //!     for b in table {
@@ -35,8 +35,8 @@ pub type Logic2Reader = RowReader<Logic2>;
 /// A reader of the trace that sigrok-cli writes.
 pub type SigrokReader = RowReader<Sigrok>;
 
-/// How many bytes a line has at most, its LF not counted.
+/// The most bytes that a line has, its LF not counted.
 pub const MAX_LINE: usize = 255;
 
-/// How many bytes the name of a channel has at most.
+/// The most bytes that the name of a channel has.
 pub const MAX_NAME: usize = 64;

@@ -1,4 +1,4 @@
-//! The table that Saleae Logic 2 exports of its Async Serial analyzers.
+//! The table that Saleae Logic 2 exports from its Async Serial analyzers.
 ghost use Rattle.std.specs.Prelude.{◌≡◌, false};
 ghost use Rattle.capture_rows.specs.Logic2.{logic2_field, is_heading, byte_in, what_in, data_row, timed_row};
 ghost use Rattle.capture_rows.specs.Logic2.{row_time, data_text, row_what, logic2_row, logic2_name};
@@ -11,18 +11,18 @@ use capture_text::hex_value;
 /// The nanoseconds of a second.
 const SECOND: u64 = 1_000_000_000;
 
-/// The table that Logic 2 exports: a heading, and a row a byte.
+/// The table that Logic 2 exports: a heading, and a row for each byte.
 #[derive(Clone, Copy, Debug, Drop)]
 pub struct Logic2 {}
 
-/// What comes before a line's next comma, without its quotes.
+/// Returns the first field of a text: what comes before its first comma, without quotes around it.
 fn field(line: &[u8]) -> &[u8]
     ensures { result.now ≡ logic2_field line.now }
 {
     unquoted(front(b',', line))
 }
 
-/// Whether a line is the heading: name, type, start time, duration and data, and maybe an error.
+/// Whether a line is the heading: name, type, start_time, duration and data, and maybe error.
 fn is_heading(line: &[u8]) -> bool
     ensures { result ≡ is_heading line.now }
 {
@@ -49,7 +49,7 @@ fn is_heading(line: &[u8]) -> bool
     error.is_empty() || error == b"error".as_slice()
 }
 
-/// The byte of a field, as `0x41`.
+/// Returns the byte of a field such as `0x41`, or `None` if the field isn't written like this.
 fn byte_in(text: &[u8]) -> Option<u8>
     ensures { result ≡ byte_in text.now }
 {
@@ -73,7 +73,7 @@ fn byte_in(text: &[u8]) -> Option<u8>
     }
 }
 
-/// What a row says: its byte, or the error in place of it.
+/// Returns what a row says: its byte, or the error in place of it.
 fn what_in(value: &[u8], error: &[u8]) -> Option<What>
     ensures { result ≡ what_in value.now error.now }
 {
@@ -92,7 +92,7 @@ fn what_in(value: &[u8], error: &[u8]) -> Option<What>
     }
 }
 
-/// The row of a byte, or of an error, whose time and data are these, if they are right.
+/// Joins the time of a row with what it says, or refuses the row if either is missing.
 fn timed_row(start: Option<u64>, what: Option<What>) -> Result<Row, RowFault>
     ensures { result ≡ timed_row start what }
 {
@@ -108,7 +108,7 @@ fn timed_row(start: Option<u64>, what: Option<What>) -> Result<Row, RowFault>
     }
 }
 
-/// The time of a row, in its third field.
+/// Returns the time of a row in nanoseconds, from its third field.
 fn row_time(line: &[u8]) -> Option<u64>
     ensures { result ≡ row_time line.now }
 {
@@ -116,7 +116,7 @@ fn row_time(line: &[u8]) -> Option<u64>
     time_at(SECOND, field(start))
 }
 
-/// A row from its fifth field on.
+/// Returns a row from its fifth field on.
 fn data_text(line: &[u8]) -> &[u8]
     ensures { result.now ≡ data_text line.now }
 {
@@ -124,7 +124,7 @@ fn data_text(line: &[u8]) -> &[u8]
     behind(b',', behind(b',', start))
 }
 
-/// What a row has in its fifth and sixth field.
+/// Returns what the fifth and the sixth field of a row say.
 fn row_what(line: &[u8]) -> Option<What>
     ensures { result ≡ row_what line.now }
 {
@@ -132,7 +132,7 @@ fn row_what(line: &[u8]) -> Option<What>
     what_in(field(data), field(behind(b',', data)))
 }
 
-/// A row of a byte or of an error.
+/// Returns what the row of a byte or an error means, or why it is refused.
 fn data_row(line: &[u8]) -> Result<Row, RowFault>
     ensures { result ≡ data_row line.now }
 {

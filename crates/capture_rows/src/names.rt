@@ -6,14 +6,14 @@ use crate::MAX_NAME;
 use arrayvec::ArrayVec;
 use line_stamps::Way;
 
-/// The names of the channels so far. One that hasn't come yet is empty.
+/// The names of the channels so far. The name of a channel that hasn't come yet is empty.
 #[derive(Drop)]
 pub struct Names {
     first: ArrayVec<u8, MAX_NAME>,
     second: ArrayVec<u8, MAX_NAME>,
 }
 
-/// A name as it is kept.
+/// Returns a name as it is kept.
 fn kept(name: &[u8]) -> ArrayVec<u8, MAX_NAME>
     requires { length name.now ≤ 64 }
     ensures { result.items ≡ name.now }
@@ -24,7 +24,7 @@ fn kept(name: &[u8]) -> ArrayVec<u8, MAX_NAME>
 }
 
 impl Names {
-    /// No name has come.
+    /// Returns the names before any channel has come.
     pub fn new() -> Names
         ensures { names_of result ≡ no_names }
     {
@@ -34,8 +34,9 @@ impl Names {
         }
     }
 
-    /// The way of the channel of this name: the first channel that comes is way A, and the second
-    /// one way B.
+    /// Returns the way of the channel with this name, and keeps a new name. The first channel that
+    /// comes is way A, and the second one way B. A third channel has no way, nor has one whose name
+    /// is empty or too long.
     pub fn way_of(&mut self, name: &[u8]) -> Option<Way>
         ensures { Finds self.old name.now result self.new }
     {

@@ -8,7 +8,7 @@ use crate::RowFault;
 pub enum Stage {
     /// Before its first line.
     Start,
-    /// Rows may follow, and it may end.
+    /// Rows may follow, and the export may end.
     Rows,
     /// A row or the last line follows.
     First,
@@ -16,7 +16,7 @@ pub enum Stage {
     More,
     /// The last line follows.
     Last,
-    /// Behind its last line.
+    /// After its last line.
     Done,
 }
 
@@ -25,54 +25,54 @@ pub enum Stage {
 pub enum What {
     /// A byte.
     Byte(u8),
-    /// An event of this number, as RTAC serial captures count them: 7 is a framing error, 8 a
+    /// An event with this number, as RTAC serial captures number them: 7 is a framing error, 8 a
     /// parity error and 9 a break.
     Event(u8),
 }
 
-/// What a row says, and when that was, in nanoseconds.
+/// What a row says, and its time in nanoseconds.
 #[derive(Clone, Copy, Debug, PartialEq, Eq)]
 pub struct RowItem {
     pub start: u64,
     pub what: What,
 }
 
-/// A line: what may follow it, and what it says, if it says anything.
+/// What a line means: what may follow it, and what it says, if it says anything.
 #[derive(Clone, Copy, Debug, PartialEq, Eq)]
 pub struct Row {
     pub next: Stage,
     pub item: Option<RowItem>,
 }
 
-/// A form of exports that have a row a line.
+/// A form of exports that have one row on each line.
 pub trait RowForm: Drop {
     ghost use Rattle.std.specs.Prelude.{◌≡◌, ℕ, List, Result, Bool};
     ghost use Rattle.capture_rows.specs.declared.fault.RowFault.{RowFault};
     ghost use Rattle.capture_rows.specs.declared.row.Row.{Row};
     ghost use Rattle.capture_rows.specs.declared.row.Stage.{Stage};
 
-    // What a line is at this stage, or why it is refused.
+    // What a line means at this stage, or why it is refused.
     ghost row_at: { Stage → List ℕ → Result Row RowFault };
 
     // The name of a row's channel.
     ghost name_of: { List ℕ → List ℕ };
 
-    // Whether the row of an error follows the row of the byte that it tells of. Else it is in the
+    // Whether the row of an error follows the row of the byte with this error. If not, it takes the
     // place of that row.
     ghost error_follows: { Bool };
 
     fn form() -> Self;
 
-    /// What a line is at this stage, or why it is refused.
+    /// Returns what a line means at this stage, or why it is refused.
     fn row(&self, stage: Stage, line: &[u8]) -> Result<Row, RowFault>
         ensures { result ≡ row_at stage line.now };
 
-    /// The name of a row's channel.
+    /// Returns the name of a row's channel.
     fn name<'t>(&self, line: &'t [u8]) -> &'t [u8]
         ensures { result.now ≡ name_of line.now };
 
-    /// Whether the row of an error follows the row of the byte that it tells of. Else it is in the
-    /// place of that row.
+    /// Whether the row of an error follows the row of the byte with this error. If not, it takes
+    /// the place of that row.
     fn errors_follow() -> bool
         ensures { result ≡ error_follows };
 }

@@ -1,4 +1,4 @@
-//! A reader of exports that have a row a line.
+//! A reader of exports that have one row on each line.
 ghost use Rattle.std.specs.Prelude.{◌≡◌, ℕ, ◌+◌, ◌<◌, ◌≤◌, ◌++◌, ◌∷◌, [], List, length, Ok, Err, None};
 ghost use Rattle.std.specs.Prelude.{Option, Result, OnOk, IfErr};
 ghost use Rattle.line_stamps.specs.declared.TheConstants.{MAX_BYTES};
@@ -9,8 +9,8 @@ use crate::{BadRow, MAX_LINE, RowFault, RowForm, RowItem, Stage, What};
 use arrayvec::ArrayVec;
 use line_stamps::{CaptureByte, CaptureReader, LineEvent, Seen, Way};
 
-/// A reader of an export that has a row a line, byte by byte, in constant memory. It gives what a
-/// row says with the LF at its end.
+/// A reader of an export that has one row on each line, byte by byte, in constant memory. It
+/// returns what a row says when it takes the LF at the end of the row.
 #[derive(Drop)]
 pub struct RowReader<F> {
     form: F,
@@ -19,7 +19,8 @@ pub struct RowReader<F> {
     // the bytes of the line so far
     line: ArrayVec<u8, MAX_LINE>,
     refused: Option<BadRow>,
-    // how many bytes it took, how many of them before the line, and how many lines
+    // how many bytes it took, how many of them come before the line so far, and how many lines
+    // ended
     taken: u64,
     begun: u64,
     ended: u64,
@@ -28,7 +29,7 @@ pub struct RowReader<F> {
     ghost bounded: { taken ≤ MAX_BYTES },
 }
 
-/// What a row says on its way.
+/// Returns what a row says, on the way of its channel.
 fn seen_on(way: Way, item: RowItem) -> Seen
     ensures { result ≡ seen_of way item }
 {
@@ -48,7 +49,7 @@ fn seen_on(way: Way, item: RowItem) -> Seen
     }
 }
 
-/// A line without the CR at its end, if it has one.
+/// Returns a line without the CR at its end, if it has one.
 fn without_return(line: &[u8]) -> &[u8]
     ensures { result.now ≡ without_return line.now }
 {
@@ -62,7 +63,7 @@ fn without_return(line: &[u8]) -> &[u8]
     }
 }
 
-/// Whether an export may end here.
+/// Whether an export may end at a stage.
 fn may_end(stage: Stage) -> bool
     ensures { result ≡ may_end_in stage }
 {
@@ -98,7 +99,7 @@ impl<F: RowForm> RowReader<F> {
         Ok(Some(seen_on(way, item)))
     }
 
-    /// Takes one byte into its line.
+    /// Takes one byte: an LF ends the line, and any other byte is added to it.
     #[inline]
     fn step(&mut self, b: u8) -> Result<Option<Seen>, RowFault>
         requires { bytes_taken self.old < MAX_BYTES }
@@ -129,7 +130,7 @@ impl<F: RowForm> RowReader<F> {
         may_end(self.stage) && self.line.is_empty()
     }
 
-    /// A refusal of the line.
+    /// Returns a refusal of the line so far.
     fn refusal(&self, why: RowFault) -> BadRow
         ensures offset { result.offset ≡ self.now.begun }
         ensures line { result.line ≡ self.now.ended + 1 }

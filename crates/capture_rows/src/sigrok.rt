@@ -1,4 +1,5 @@
-//! The trace that sigrok-cli writes of its UART decoder, as Google Trace Events, one a line.
+//! The trace that sigrok-cli writes from its UART decoder, as Google Trace Events, one on each
+//! line.
 ghost use Rattle.std.specs.Prelude.{◌≡◌, true};
 ghost use Rattle.capture_rows.specs.Sigrok.{phase_text, time_text, row_text, name_text, byte_named};
 ghost use Rattle.capture_rows.specs.Sigrok.{what_named, event_phase, event_time, event_what};
@@ -10,28 +11,28 @@ use crate::decimal::time_at;
 use crate::{Row, RowFault, RowForm, RowItem, Stage, What};
 use capture_text::hex_value;
 
-/// The nanoseconds of a unit of the times of a trace.
+/// The unit of the times of a trace, in nanoseconds.
 const MICROSECOND: u64 = 1_000;
 
-/// The trace of sigrok's UART decoder: its first line, an event a line, and its last line.
+/// The trace of sigrok's UART decoder: a first line, one event on each line, and a last line.
 #[derive(Clone, Copy, Debug, Drop)]
 pub struct Sigrok {}
 
-/// The line of an event, from its phase on.
+/// Returns the line of an event from its phase on.
 fn phase_text(line: &[u8]) -> &[u8]
     ensures { result.now ≡ phase_text line.now }
 {
     skip(b"{\"ph\": \"".as_slice(), line)
 }
 
-/// The line of an event, from its time on.
+/// Returns the line of an event from its time on.
 fn time_text(line: &[u8]) -> &[u8]
     ensures { result.now ≡ time_text line.now }
 {
     skip(b", \"ts\": ".as_slice(), behind(b'"', phase_text(line)))
 }
 
-/// The line of an event, from the row of the decoder on.
+/// Returns the line of an event from the row of the decoder on.
 fn row_text(line: &[u8]) -> &[u8]
     ensures { result.now ≡ row_text line.now }
 {
@@ -41,14 +42,14 @@ fn row_text(line: &[u8]) -> &[u8]
     )
 }
 
-/// The line of an event, from its name on.
+/// Returns the line of an event from its name on.
 fn name_text(line: &[u8]) -> &[u8]
     ensures { result.now ≡ name_text line.now }
 {
     skip(b", \"name\": \"".as_slice(), behind(b'"', row_text(line)))
 }
 
-/// The byte of two hex digits.
+/// Returns the byte that two hex digits name, or `None` if the name isn't two hex digits.
 fn byte_named(name: &[u8]) -> Option<u8>
     ensures { result ≡ byte_named name.now }
 {
@@ -66,7 +67,7 @@ fn byte_named(name: &[u8]) -> Option<u8>
     }
 }
 
-/// What an event of this name says in this row of the decoder.
+/// Returns what an event with this name says in this row of the decoder.
 fn what_named(row: &[u8], name: &[u8]) -> Option<What>
     ensures { result ≡ what_named row.now name.now }
 {
@@ -88,7 +89,8 @@ fn what_named(row: &[u8], name: &[u8]) -> Option<What>
     }
 }
 
-/// What may follow an event that ends so: a comma comes before a further one.
+/// Returns what may follow an event whose line ends like this: another event if there is a comma,
+/// otherwise the last line.
 fn after_event(end: &[u8]) -> Option<Stage>
     ensures { result ≡ after_event end.now }
 {
@@ -101,7 +103,7 @@ fn after_event(end: &[u8]) -> Option<Stage>
     None
 }
 
-/// What an event says whose time and name are these, if they are right.
+/// Joins the time of an event with what its name says, or refuses the event if either is missing.
 fn timed_event(start: Option<u64>, what: Option<What>) -> Result<Option<RowItem>, RowFault>
     ensures { result ≡ timed_event start what }
 {
@@ -114,28 +116,29 @@ fn timed_event(start: Option<u64>, what: Option<What>) -> Result<Option<RowItem>
     }
 }
 
-/// Whether an event begins or ends.
+/// Returns the phase of an event, which says whether it begins or ends.
 fn event_phase(line: &[u8]) -> &[u8]
     ensures { result.now ≡ event_phase line.now }
 {
     front(b'"', phase_text(line))
 }
 
-/// The time of an event.
+/// Returns the time of an event, in nanoseconds.
 fn event_time(line: &[u8]) -> Option<u64>
     ensures { result ≡ event_time line.now }
 {
     time_at(MICROSECOND, front(b',', time_text(line)))
 }
 
-/// What an event says.
+/// Returns what an event says by its row and its name.
 fn event_what(line: &[u8]) -> Option<What>
     ensures { result ≡ event_what line.now }
 {
     what_named(front(b'"', row_text(line)), front(b'"', name_text(line)))
 }
 
-/// What an event says that begins, or ends; none at its end.
+/// Returns what the line of an event says: something if the event begins there, and nothing if it
+/// ends.
 fn event_said(line: &[u8]) -> Result<Option<RowItem>, RowFault>
     ensures { result ≡ event_said line.now }
 {
@@ -149,7 +152,7 @@ fn event_said(line: &[u8]) -> Result<Option<RowItem>, RowFault>
     timed_event(event_time(line), event_what(line))
 }
 
-/// The line of an event.
+/// Returns what the line of an event means, or why it is refused.
 fn event_row(line: &[u8]) -> Result<Row, RowFault>
     ensures { result ≡ event_row line.now }
 {
@@ -162,7 +165,7 @@ fn event_row(line: &[u8]) -> Result<Row, RowFault>
     }
 }
 
-/// The last line.
+/// Returns what the last line means, or refuses any other line.
 fn last_row(line: &[u8]) -> Result<Row, RowFault>
     ensures { result ≡ last_row line.now }
 {

@@ -6,8 +6,8 @@ use std::alloc::Global;
 use std::process::Abort;
 use std::test::Fail;
 
-/// What sigrok-cli 0.7.2 writes of a wire with a parity error, a frame error, a break and a byte on
-/// the other wire.
+/// What sigrok-cli 0.7.2 writes for a wire with a parity error, a frame error and a break, and a
+/// byte on the other wire.
 const TRACE: &[u8] = b"{\"traceEvents\": [
 {\"ph\": \"B\", \"ts\": 1104.200000, \"pid\": \"uart-1\", \"tid\": \"RX\", \"name\": \"82\"},
 {\"ph\": \"E\", \"ts\": 1937.500000, \"pid\": \"uart-1\", \"tid\": \"RX\", \"name\": \"82\"},
@@ -32,7 +32,7 @@ fn trace_seen() -> [Seen; 5] {
     ]
 }
 
-/// A trace without events, as sigrok-cli writes it of a quiet wire.
+/// A trace without events, as sigrok-cli writes it for a quiet wire.
 const QUIET: &[u8] = b"{\"traceEvents\": [\n]}\n";
 
 /// A table of two analyzers.
@@ -70,7 +70,7 @@ fn event(start: u64, event: u8) -> Seen {
     })
 }
 
-/// What is seen of a text, and its end.
+/// Collects what is seen in a text, and returns the refusal, if there is one.
 fn read<F: RowForm>(text: &[u8], seen: &mut Vec<Seen>) -> Result<Result<(), BadRow>, Fail> {
     let mut reader = RowReader::<F>::start();
     for b in text {
@@ -86,7 +86,7 @@ fn read<F: RowForm>(text: &[u8], seen: &mut Vec<Seen>) -> Result<Result<(), BadR
     Ok(reader.finish())
 }
 
-/// A text has these bytes and events, and ends so.
+/// Checks that a text has these bytes and events, and that reading it ends like this.
 fn check<F: RowForm>(
     rt: &impl Abort,
     alloc: Global,
