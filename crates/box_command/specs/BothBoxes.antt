@@ -1,4 +1,4 @@
--- A box of each direction of a line, which take the two recordings of an input.
+-- A box for each direction of a line, which take the two recordings of an input.
 use Rattle.std.specs.Prelude.{◌≡◌, ℕ, ◌+◌, List, ◌++◌, length, ⊤}
 use Rattle.yasir_ticks.specs.Ticks.{Item, ticks_in}
 use Rattle.yasir_ticks.specs.declared.tick.Tick.{Tick}
@@ -17,7 +17,7 @@ pub record Setups : Type 0 where
 
 module _ {S C A B : Type 0} (s : LinkBox S A) (sent_line : A → List ℕ) (c : LinkBox C B)
     (got_line : B → List ℕ) where
-  -- how many ticks were taken of both recordings
+  -- how many ticks of both recordings were taken
   abbrev pub both_taken : BothBoxes S C → ℕ
   both_taken both = ticks_kept both.outgoing + ticks_kept both.incoming
 
@@ -25,26 +25,27 @@ module _ {S C A B : Type 0} (s : LinkBox S A) (sent_line : A → List ℕ) (c : 
     pub outgoing : IsSteady s sent_line both.outgoing
     pub incoming : IsSteady c got_line both.incoming
 
-  -- The box of the outgoing direction has taken this line of a device, and that of the incoming one
-  -- this link.
+  -- The box of the outgoing direction has taken this line of a device, and the box of the incoming
+  -- direction this link.
   pub record KeepsBoth (both : BothBoxes S C) (setups : Setups) (device link : List Tick) :
       Type 0 where
     pub outgoing : KeepsLine s sent_line both.outgoing setups.outgoing device
     pub incoming : KeepsLine c got_line both.incoming setups.incoming link
 
-  -- They have taken these items: the ticks before the mark, and those behind it.
+  -- The boxes have taken these items: the ticks before the mark, and those after it.
   pub record KeepsItems (both : BothBoxes S C) (setups : Setups) (items : List Item) : Type 0 where
     pub keeps : KeepsBoth both setups (before_mark items) (behind_mark items)
     pub marked : both.marked ≡ has_mark items
 
-  -- They have taken these items more.
+  -- The boxes have taken the items `more`, after those that they had taken.
   pub record BothGoOn (old new : BothBoxes S C) (more : List Item) : Type 0 where
     pub moved : (setups : Setups) (items : List Item) → KeepsItems old setups items
         → KeepsItems new setups (items ++ more)
     pub counted : both_taken new ≡ both_taken old + length (ticks_in more)
     pub steady : AreSteady new
 
-  -- What is said of such a consumer: it stops only where there is no memory, and writes nothing.
+  -- The meaning of both boxes as one consumer: it stops only if there is no memory, and writes
+  -- nothing.
   abbrev pub keeping : Consuming (BothBoxes S C)
   keeping = record {
     Origin = Setups;

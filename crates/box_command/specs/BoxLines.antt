@@ -1,4 +1,4 @@
--- What is said of a consumer that drives a box over its journal.
+-- A consumer that drives a box over its journal: what it means, and what its calls do.
 use Rattle.std.specs.Prelude.{◌≡◌, ℕ, ◌≤◌, List, [], ◌∷◌, ◌++◌, Option, Some, IfSome, Result}
 use Rattle.yasir_io.specs.Disks.{Slots, LeavesOnly}
 use Rattle.yasir_io.specs.Flushed.{NoneFlushed}
@@ -33,21 +33,21 @@ pub record BoxOrigin : Type 0 where
   pub setup : Setup
   pub texts : SinkTexts
 
--- what the sinks hold and the slots read as, each where it is told
+-- what the sinks hold and the slots read as, each `None` if it isn't told
 pub record Outputs : Type 0 where
   pub out : Option (List ℕ)
   pub log : Option (List ℕ)
   pub slots : Option Slots
 
--- the slots, where told, have this floor for a link
+-- if the slots are told, they have this floor for a link
 abbrev pub ToldFloor : LinkId → ℕ → Option Slots → Type 0
 ToldFloor link n told = IfSome told (λ slots. floor_of link slots ≡ Some n)
 
 abbrev pub texts_in : Outputs → SinkTexts
 texts_in outputs = sink_texts outputs.out outputs.log
 
--- what a call changes: a box with its journal and its texts, the two sinks that these go to, and
--- the disk
+-- what a call changes: a box with its journal and its texts, the two sinks that the texts go to,
+-- and the disk
 pub record State (B O L D : Type 0) : Type 0 where
   pub lines : BoxLines B
   pub out : O
@@ -65,7 +65,8 @@ module _ {B N : Type 0} (b : LinkBox B N) (line_of : N → List ℕ) where
   abbrev made_of : BoxOrigin → Boxed
   made_of origin = boxed_of b.walking line_of origin.setup
 
-  -- The box and its journal have taken these items' ticks, and what it makes of them is on its way.
+  -- The box and its journal have taken the ticks of these items, and what the box makes of them is
+  -- on its way.
   pub record DrivesBox (lines : BoxLines B) (origin : BoxOrigin) (outputs : Outputs)
       (items : List Item) : Type 0 where
     pub steps : b.stands lines.line_box (journal_floor lines.journal) origin.setup (ticks_in items)
@@ -76,8 +77,8 @@ module _ {B N : Type 0} (b : LinkBox B N) (line_of : N → List ℕ) where
     pub link_is : journal_link lines.journal ≡ origin.link
     pub floor_told : ToldFloor origin.link (journal_floor lines.journal) outputs.slots
 
-  -- The step of the last of these items failed at its number; what the box makes of those before it
-  -- is on its way.
+  -- The step of the last of these items failed at its number. What the box makes of the items
+  -- before it is on its way.
   pub record StopsAtNumber (lines : BoxLines B) (origin : BoxOrigin) (outputs : Outputs)
       (items : List Item) : Type 0 where
     pub front : List Item
@@ -89,7 +90,7 @@ module _ {B N : Type 0} (b : LinkBox B N) (line_of : N → List ℕ) where
     pub fails : FailsBox origin.link (made_of origin) (ticks_in front) last outputs.slots
     pub floor : journal_floor lines.journal ≡ (made_of origin).number (ticks_in front)
 
-  -- A write failed after the step of the last of these items had answered.
+  -- A write failed after the step of the last of these items had returned.
   pub record StopsAtWrite (lines : BoxLines B) (origin : BoxOrigin) (outputs : Outputs)
       (items : List Item) : Type 0 where
     pub sent : HasSentFronts (made_of origin) origin.texts (texts_in outputs) (ticks_in items)
@@ -97,7 +98,7 @@ module _ {B N : Type 0} (b : LinkBox B N) (line_of : N → List ℕ) where
     pub floor : journal_floor lines.journal ≡ (made_of origin).number (ticks_in items)
     pub floor_told : ToldFloor origin.link (journal_floor lines.journal) outputs.slots
 
-  -- why a box was stopped at the last of these items; it takes no memory
+  -- why a box was stopped at the last of these items, which is never for lack of memory
   abbrev pub StopsBox : BoxLines B → Stop → BoxOrigin → Outputs → List Item → Type 0
   StopsBox lines JournalFault origin outputs items = StopsAtNumber lines origin outputs items
   StopsBox lines WriteFault origin outputs items = StopsAtWrite lines origin outputs items
@@ -111,8 +112,9 @@ module _ {B O L D : Type 0} (o : Sink O) (l : Sink L) (d : SlotDisk D) where
     slots = d.told state.disk;
   }
 
-  -- The disk's images, at any moment of a call and after it, whether the box stopped or not: no
-  -- image has a floor below the journal's, which serves the same link and doesn't fall.
+  -- Whether the box stopped or not, the journal serves the same link as before, and its floor
+  -- doesn't fall. If the journal was crash-safe, it stays so, and at no moment of the calls does
+  -- the disk have an image with a floor below the one that the journal had before them.
   pub record KeepsImages (old new : State B O L D) : Type 0 where
     pub link : journal_link new.lines.journal ≡ journal_link old.lines.journal
     pub rises : journal_floor old.lines.journal ≤ journal_floor new.lines.journal
@@ -121,8 +123,8 @@ module _ {B O L D : Type 0} (o : Sink O) (l : Sink L) (d : SlotDisk D) where
     pub any_moment : IsCrashSafe old.lines.journal (d.told old.disk) (d.may_leave old.disk)
         → LeavesOnly d.moment d.left_since old.disk new.disk (HasFloorFrom old.lines.journal)
 
-  -- What calls do beside, the last of which answered so: the images are kept, each fault has its
-  -- cause, and no sink is flushed.
+  -- What calls do apart from taking ticks, the last of them with this result: the images are kept,
+  -- each fault has its cause, and no sink is flushed.
   pub record GoesOn (old new : State B O L D) (result : Result (Unit {0}) Stop) : Type 0 where
     pub images : KeepsImages old new
     pub disk : IsDiskCause (d.faults old.disk) (d.faults new.disk) (is_journal_fault result)

@@ -1,4 +1,5 @@
--- What calls of a driven box do beside, one after the other.
+-- What calls of a driven box do apart from taking ticks: the laws for no call, and for calls that
+-- follow calls.
 use Rattle.std.specs.Prelude.{◌≡◌, ℕ, ◌≤◌, List, Option, Some, None, IsSomeAnd}
 use Rattle.std.proofs.Common.{◌∙◌, refl, subst, inl}
 use Rattle.std.proofs.Math.Nat.{le_refl, le_trans}
@@ -27,14 +28,15 @@ pub floor_from_less : (link : LinkId) (m n : ℕ) → m ≤ n → (c : Slots) �
     → HasFloorAtLeast link m c
 floor_from_less link m n le c has = from_less m n (floor_of link c) le has
 
--- nor is one that isn't below the floor of a journal after a step below that of the one before it
+-- a floor that isn't below the floor of a journal isn't below the floor that the journal had
+-- earlier
 pub floor_from_later : (old new : Journal) → journal_link new ≡ journal_link old
     → journal_floor old ≤ journal_floor new → (c : Slots) → HasFloorFrom new c → HasFloorFrom old c
 floor_from_later old new same le c has =
     floor_from_less (journal_link old) (journal_floor old) (journal_floor new) le c
     (subst (λ link. HasFloorAtLeast link (journal_floor new) c) same has)
 
--- where no call was made yet, no moment has passed
+-- if no call was made, only the images of the present moment count
 leaves_now : {D : Type 0} (d : SlotDisk D) (disk : D) (P : Slots → Type 0)
     → ((c : Slots) → d.left_since disk (d.moment disk) c → P c)
     → LeavesOnly d.moment d.left_since disk disk P

@@ -14,7 +14,8 @@ use Rattle.box_command.specs.CheckLines.{check_line}
 abbrev pub check_lines : List (Noted FullNote) → List ℕ
 check_lines notes = flat_map (λ n. check_line n.note) (told_notes brief_note notes)
 
--- what the receiver of a profile and a protocol makes of a link, whose journal begins at this floor
+-- what the receiver of a profile and a protocol makes of a link, if its journal begins at this
+-- floor
 abbrev pub checking : Profile → Rules → ℕ → Boxed
 checking profile rules floor = record {
   other_line = λ link. received_line profile rules floor link;

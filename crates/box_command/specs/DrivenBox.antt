@@ -1,4 +1,4 @@
--- What is said of a box that is driven by references to it and to what it writes to.
+-- The meaning, as a consumer, of a box that is driven by references to it and to what it writes to.
 use Rattle.std.specs.Prelude.{◌≡◌, ℕ, List, Result}
 use Rattle.std.proofs.Common.{◌∙◌, refl}
 use Rattle.yasir_io.specs.Disks.{Slots}
@@ -11,11 +11,11 @@ use Rattle.box_command.specs.BoxLines.{State, state_of, GoesOn, driving}
 use Rattle.box_command.specs.BoxLinesLaws.{drives-none, drives-then}
 use Rattle.box_command.specs.declared.driven_box.DrivenBox.{DrivenBox}
 
--- what comes after the references
+-- the present state of what the references refer to
 abbrev pub state_in : {B O L D : Type 0} → DrivenBox B O L D → State B O L D
 state_in driven = state_of driven.lines.now driven.out.now driven.log.now driven.disk.now
 
--- The references are those that were held before.
+-- The references are the same as before.
 pub record HoldsSame {B O L D : Type 0} (old new : DrivenBox B O L D) : Type 0 where
   pub lines : new.lines.ghost_name ≡ old.lines.ghost_name
   pub out : new.out.ghost_name ≡ old.out.ghost_name
@@ -24,7 +24,7 @@ pub record HoldsSame {B O L D : Type 0} (old new : DrivenBox B O L D) : Type 0 w
 
 module _ {B N O L D : Type 0} (b : LinkBox B N) (line_of : N → List ℕ) (o : Sink O) (l : Sink L)
     (d : SlotDisk D) where
-  -- what calls do behind the references, which stay what they are
+  -- what calls do to what the references refer to, while the references stay the same
   pub record GoesOnBehind (old new : DrivenBox B O L D) (result : Result (Unit {0}) Stop) :
       Type 0 where
     pub went : GoesOn o l d (state_in old) (state_in new) result

@@ -1,4 +1,4 @@
--- What a command is given that is right: a key, and a journal.
+-- What a command must be given: a right key, and a journal.
 use Rattle.std.specs.Prelude.{◌≡◌, ℕ, List, Option, Some}
 use Rattle.yasir_io.specs.Disks.{Slots}
 use Rattle.sequence_journal.specs.declared.link.LinkId.{LinkId}
@@ -12,7 +12,7 @@ pub record HasKey (told : Option (List ℕ)) : Type 0 where
   pub is : told ≡ Some text
   pub right : IsKeyText text key
 
--- Slots are told that have a floor for the link.
+-- The slots are told, and have a floor for the link.
 pub record HoldsJournal (link : LinkId) (told : Option Slots) : Type 0 where
   pub slots : Slots
   pub floor : ℕ

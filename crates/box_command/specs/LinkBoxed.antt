@@ -7,7 +7,7 @@ use Rattle.link_format.specs.Setup.{Setup}
 use Rattle.link_box.specs.Walking.{Walking, full_notes, other_line, frames_of, number_after}
 use Rattle.box_command.specs.Boxes.{Boxed}
 
--- what it makes of a line by its walk, as it is set up, with these lines of its notes
+-- what a box with this walk and this setup makes of a line, if its notes have these lines
 abbrev pub boxed_of : {A : Type 0} → Walking A → (A → List ℕ) → Setup → Boxed
 boxed_of walking line_of setup = record {
   other_line = λ line. other_line walking setup line;

@@ -21,15 +21,15 @@ use Rattle.box_command.specs.KeptBox.{TimedBox}
 use Rattle.box_command.specs.TimedLines.{lines_before}
 use Rattle.box_command.specs.declared.recording.Recorded.{Recorded}
 
--- how many silent ticks come after the longer one of both recordings
+-- how many silent ticks follow the longer one of the two recordings
 abbrev pub both_rest : ℕ
 both_rest = 320
 
--- how many ticks both are filled to
+-- the length in ticks to which both recordings are filled
 abbrev pub steps_of : List Tick → List Tick → ℕ
 steps_of device link = max (length device) (length link) + both_rest
 
--- a recording with silence behind it, up to this many ticks
+-- a recording, filled with silence up to this many ticks
 abbrev pub filled : ℕ → List Tick → List Tick
 filled steps line = line ++ silent (steps - length line)
 
@@ -39,8 +39,9 @@ pub record BothTexts : Type 0 where
   pub device : List ℕ
   pub notes : List ℕ
 
--- What both boxes make of the line of a device and a link: both are filled, so that tick i of both
--- goes into step i, and the notes are in the order of steps, the outgoing box's first.
+-- What both boxes make of the line of a device and of a link. Both recordings are filled, so that
+-- tick i of each goes into step i. The notes are in the order of steps, and within a step the one
+-- of the outgoing box comes first.
 abbrev pub both_texts : TimedBox → TimedBox → List Tick → List Tick → BothTexts
 both_texts outgoing incoming device link =
     let steps : ℕ = steps_of device link in
@@ -51,32 +52,32 @@ both_texts outgoing incoming device link =
           (incoming.note_lines (filled steps link));
     }
 
--- the boxes with this key, of this direction of the line and of the other one, whose numbers begin
--- at 1
+-- what two boxes with this key make of their recordings, one box of this direction and one of the
+-- opposite direction, if their numbers begin at 1
 abbrev pub both_with : (Setup → TimedBox) → (Setup → TimedBox) → List ℕ → Dir → List Tick
     → List Tick → BothTexts
 both_with outgoing incoming key dir =
     both_texts (outgoing (setup_of key dir 0)) (incoming (setup_of key (opposite_of dir) 0))
 
--- the text of both lines, which a mark parts
+-- the texts of both lines, separated by a mark
 abbrev pub both_lines : BothTexts → List ℕ
 both_lines texts = texts.link ++ codes "%\n" ++ texts.device
 
--- These texts are kept.
+-- What was recorded holds these texts.
 pub record HoldsTexts (recorded : Recorded) (texts : BothTexts) : Type 0 where
   pub link : recorded.link.items ≡ texts.link
   pub device : recorded.device.items ≡ texts.device
   pub notes : recorded.notes.items ≡ texts.notes
 
 module _ (texts_of : List Tick → List Tick → BothTexts) (before now : Option (List ℕ)) where
-  -- The whole input was read, a right text with one mark, and what is made of its recordings is
-  -- kept.
+  -- The whole input was read, it is a right text with one mark, and what is made of its two
+  -- recordings is kept.
   pub record RecordsWhole (recorded : Recorded) : Type 0 where
     pub items : List Item
     pub whole : IsWhole 1 0 before now items
     pub holds : HoldsTexts recorded (texts_of (before_mark items) (behind_mark items))
 
-  -- The input ended otherwise, or there was no memory for what is made of it.
+  -- The input isn't whole, or there was no memory for what is made of it.
   pub record EndsOtherwise (end : End) : Type 0 where
     pub items : List Item
     pub takes : Takes 1 0 before now items end
@@ -93,8 +94,8 @@ pub record GotBoth (texts : BothTexts) (out_before out_now log_before log_now : 
   pub out : out_now ≡ append_known out_before (both_lines texts)
   pub log : log_now ≡ append_known log_before texts.notes
 
--- A write failed: each has got a front of its text, and `out` nothing before the log has got all
--- notes.
+-- A write failed. Each sink has got a front of its text, and `out` got nothing before the log had
+-- got all notes.
 pub record GotFronts (texts : BothTexts) (out_before out_now log_before log_now : Option (List ℕ)) :
     Type 0 where
   pub out : GotPrefix out_before out_now (both_lines texts)

@@ -37,7 +37,7 @@ use Rattle.line_texts.specs.Sending.{SinkTexts, sink_texts}
 use Rattle.box_command.specs.Sending.{HasSent, HasSentFronts}
 use Rattle.box_command.specs.BoxLines.{ToldFloor}
 
--- what a box's run is handed beside the box's key
+-- what a run of a box is given apart from the key
 pub record Around (S O L D : Type 0) : Type 0 where
   pub input : S
   pub out : O
@@ -50,33 +50,34 @@ around input out log disk = record { input = input; out = out; log = log; disk =
 abbrev pub around_of : {K S O L D : Type 0} → Outside K S O L D → Around S O L D
 around_of outside = around outside.input outside.out outside.log outside.disk
 
--- what a box makes of a line, with this key and direction, for a floor of its journal
+-- what a box with this key, this direction and this floor of its journal makes of a line
 abbrev pub boxed_with : (Setup → Boxed) → List ℕ → Dir → ℕ → Boxed
 boxed_with boxed key dir floor = boxed (setup_of key dir floor)
 
 module _ {D : Type 0} (d : SlotDisk D) (link : LinkId) where
-  -- Where a crash before the run left the slots as read, none at its end leaves a floor below this
-  -- number.
+  -- If a crash before the run would have left the slots as they read, each image that a crash
+  -- leaves at the end of the run has a floor of `n` or more.
   abbrev pub KeepsFloor : ℕ → D → D → Type 0
   KeepsFloor n old new = OneImage (d.told old) (d.may_leave old)
       → (image : Slots) → d.may_leave new image → HasFloorAtLeast link n image
 
-  -- Where a crash before the run left the slots as read, each image that one leaves now makes the
-  -- whole an uptime with these numbers.
+  -- If a crash before the run would have left the slots as they read, each image that a crash
+  -- leaves now makes the run an uptime with these numbers.
   abbrev pub LeavesUptime : List ℕ → D → D → Type 0
   LeavesUptime numbers old new = OneImage (d.told old) (d.may_leave old) → (begins : Slots)
       → d.told old ≡ Some begins
       → (image : Slots) → d.may_leave new image → IsUptime link begins numbers image
 
-  -- Where a crash before the run left the slots as read, and they have a floor, the slots that one
-  -- at any moment of it leaves have none below, or were being taken over.
+  -- If a crash before the run would have left the slots as they read, and they have a floor, then
+  -- the slots that a crash at any moment of the run leaves have no lower floor, or were being taken
+  -- over.
   abbrev pub KeepsFloorThroughout : D → D → Type 0
   KeepsFloorThroughout old new = OneImage (d.told old) (d.may_leave old)
       → (slots : Slots) (floor : ℕ) → d.told old ≡ Some slots → floor_of link slots ≡ Some floor
       → LeavesOnly d.moment d.left_since old new (KeepsLoadable link slots floor)
 
-  -- From the end of the load on, where a crash before the run left the slots as read, one at any
-  -- moment leaves no floor below the one loaded.
+  -- If a crash before the run would have left the slots as they read, then from the end of the load
+  -- on, each image that a crash leaves at any moment has at least the floor that was loaded.
   pub record KeepsFloorFromLoad (floor : ℕ) (old new : D) : Type 0 where
     pub loaded : D
     pub found : MayTakeOver link (d.told old) (d.told loaded)
@@ -88,16 +89,18 @@ texts_of o l at = sink_texts (o.held at.out) (l.held at.log)
 
 module _ {S O L D : Type 0} (s : Source S) (o : Sink O) (l : Sink L) (d : SlotDisk D)
     (link : LinkId) where
-  -- The sinks have got all that the box makes of this line, and each image of the disk has the last
-  -- number of it, and makes an uptime with the numbers of it.
+  -- The sinks have got all that the box makes of this line. If a crash before the run would have
+  -- left the slots as they read, no image of the disk has a floor below the last number that the
+  -- box used for the line, and each makes an uptime with all numbers that it used for it.
   pub record Replays (box : Boxed) (before after : Around S O L D) (line : List Tick) : Type 0 where
     pub sent : HasSent box (texts_of o l before) (texts_of o l after) line
     pub images : KeepsFloor d link (box.number line) before.disk after.disk
     pub uptime : LeavesUptime d link (box.numbers line) before.disk after.disk
 
-  -- The box by the floor of its journal, and how many silent ticks come after a whole input.
+  -- `box` is what the box makes of a line, by the floor of its journal, and `rest` is how many
+  -- silent ticks follow a whole input.
   module _ (box : ℕ → Boxed) (rest : ℕ) (before after : Around S O L D) where
-    -- The input ended so, and the box has answered each of its ticks.
+    -- The input ended like this, and the sinks have got what the box makes of all its ticks.
     pub record EndsBox (end : End) : Type 0 where
       pub floor : ℕ
       pub items : List Item
@@ -107,8 +110,8 @@ module _ {S O L D : Type 0} (s : Source S) (o : Sink O) (l : Sink L) (d : SlotDi
       pub from_load : KeepsFloorFromLoad d link floor before.disk after.disk
       pub floor_told : ToldFloor link ((box floor).number (ticks_in items)) (d.told after.disk)
 
-    -- The disk failed as a step used its number: the sinks have got what the box makes of the ticks
-    -- before it.
+    -- The disk failed when a step used its number. The sinks have got what the box makes of the
+    -- ticks before this step.
     pub record FailsAtNumber : Type 0 where
       pub floor : ℕ
       pub items : List Item
@@ -123,11 +126,11 @@ module _ {S O L D : Type 0} (s : Source S) (o : Sink O) (l : Sink L) (d : SlotDi
       pub from_load : KeepsFloorFromLoad d link floor before.disk after.disk
       pub fails : FailsBox link (box floor) line last (d.told after.disk)
 
-    -- A write failed: of what the box makes of this many ticks the sinks have got a front. Its last
-    -- number is committed, and it may be that of the next tick is; each image makes an uptime with
-    -- the numbers of these ticks. Nor has an image a floor below the last number within the whole
-    -- lines that `out` got: as many ticks as are in these lines were answered there, since a box
-    -- answers each tick with one.
+    -- A write failed. The sinks have got a front of what the box makes of the first `ticks` ticks.
+    -- The last number of these ticks is committed, and that of the next tick may be. Each image
+    -- makes an uptime with the numbers of these ticks. No image has a floor below the last number
+    -- of the first m ticks, where m is how many ticks are in the whole lines that `out` got: the
+    -- box returns one tick for each, so it made these lines of those m ticks.
     pub record WritesFronts : Type 0 where
       pub floor : ℕ
       pub items : List Item
@@ -149,7 +152,7 @@ module _ {S O L D : Type 0} (s : Source S) (o : Sink O) (l : Sink L) (d : SlotDi
           (IsEitherFloor link ((box floor).number (take ticks (ticks_in items)))
           ((box floor).number (take (ticks + 1) (ticks_in items))))
 
-    -- The journal was looked at, and nothing else was touched.
+    -- The journal was looked at, and nothing was changed.
     pub record LooksAtJournal : Type 0 where
       pub input : after.input ≡ before.input
       pub out : after.out ≡ before.out
@@ -158,8 +161,8 @@ module _ {S O L D : Type 0} (s : Source S) (o : Sink O) (l : Sink L) (d : SlotDi
       pub images : NoMore (d.may_leave before.disk) (d.may_leave after.disk)
       pub images_back : NoMore (d.may_leave after.disk) (d.may_leave before.disk)
 
-    -- The disk failed as the journal was loaded: nothing else was touched, and an old journal may
-    -- be taken over, in part or whole.
+    -- The disk failed while the journal was loaded. Nothing but the disk was touched, and an old
+    -- journal may have been taken over, in part or whole.
     pub record FailsAtLoad : Type 0 where
       pub input : after.input ≡ before.input
       pub out : after.out ≡ before.out
@@ -168,13 +171,13 @@ module _ {S O L D : Type 0} (s : Source S) (o : Sink O) (l : Sink L) (d : SlotDi
       pub images : (c : Slots) → d.may_leave after.disk c
           → MayLeaveLoading (d.told before.disk) (d.may_leave before.disk) c
 
-    -- What each status says of a run with this key and direction, from the journal on.
+    -- What each status says of a run of this box, from the loading of the journal on.
     abbrev pub RunsBox : Status → Type 0
     RunsBox Done = EndsBox Whole
     RunsBox (BadTicks bad) = EndsBox (Refused bad)
     RunsBox (TooLong what count) = EndsBox (ends.TooLong what count)
     RunsBox ReadFault = EndsBox ends.ReadFault
-    -- in a step, or as the journal was loaded
+    -- in a step, or while the journal was loaded
     RunsBox JournalFault = FailsAtNumber ⊎ FailsAtLoad
     RunsBox WriteFault = WritesFronts
     RunsBox (BadJournal a b) = FindsNone (d.told before.disk) a b × LooksAtJournal
@@ -185,7 +188,7 @@ module _ {K S O L D : Type 0} (k : Source K) (s : Source S) (o : Sink O) (l : Si
     (d : SlotDisk D)
     (boxed : Setup → Boxed) (link : LinkId) (dir : Dir) (rest : ℕ)
     (before after : Outside K S O L D) where
-  -- A right key text was met, and with its key the status says this.
+  -- A right key text was read, and the status says this of the run with its key.
   pub record RunsKeyed (status : Status) : Type 0 where
     pub text : List ℕ
     pub key : List ℕ
@@ -195,7 +198,7 @@ module _ {K S O L D : Type 0} (k : Source K) (s : Source S) (o : Sink O) (l : Si
     pub runs : RunsBox s o l d link (boxed_with boxed key dir) rest (around_of before)
         (around_of after) status
 
-  -- What was met of the key is no key text, and nothing else was touched.
+  -- What was read of the key isn't a key text, and nothing else was touched.
   pub record RefusesKey (place : ℕ) : Type 0 where
     pub text : List ℕ
     pub met : IsKeyMet (k.left before.key) (k.left after.key) text
@@ -214,7 +217,9 @@ module _ {K S O L D : Type 0} (k : Source K) (s : Source S) (o : Sink O) (l : Si
   ReplaysBox ReadFault = FailsAtKey ⊎ RunsKeyed ReadFault
   ReplaysBox status = RunsKeyed status
 
--- The disk's count rose where a commit or a read of the journal failed. A write may fail after it.
+-- The disk's count of faults rose if the status is `JournalFault`: a commit or a read of the
+-- journal failed. It may have risen if the status is `WriteFault`, since a write may fail after the
+-- disk did. Otherwise it is as it was.
 abbrev pub BoxDiskCause : ℕ → ℕ → Status → Type 0
 BoxDiskCause before now WriteFault = before ≤ now
 BoxDiskCause before now JournalFault = Rose before now

@@ -15,7 +15,7 @@ use Rattle.box_command.specs.SealLines.{seal_line}
 abbrev pub seal_lines : List (Noted FullNote) → List ℕ
 seal_lines notes = flat_map (λ n. seal_line n.note) (told_notes brief_note notes)
 
--- what the transmitter of a profile and a protocol makes of a line, whose journal begins at this
+-- what the transmitter of a profile and a protocol makes of a line, if its journal begins at this
 -- floor
 abbrev pub sealing : Profile → Rules → ℕ → Boxed
 sealing profile rules floor = record {

@@ -9,14 +9,14 @@ use Rattle.box_command.specs.Boxes.{Boxed}
 abbrev pub made_by : Boxed → LineAndNotes
 made_by box = record { other_line = box.other_line; note_lines = box.note_lines }
 
--- they are on their way to the two sinks, the notes first
+-- what a box makes of a line is on its way to the two sinks, the notes first
 abbrev pub SendsBoxed : Boxed → Waiting → SinkTexts → SinkTexts → List Tick → Type 0
 SendsBoxed box = SendsTexts (made_by box)
 
--- the sinks have got them, all of them
+-- the sinks have got all that a box makes of a line
 abbrev pub HasSent : Boxed → SinkTexts → SinkTexts → List Tick → Type 0
 HasSent box = texts.HasSent (made_by box)
 
--- the sinks have got a front of each, the notes first
+-- each sink has got a front of what a box makes of a line, the notes first
 abbrev pub HasSentFronts : Boxed → SinkTexts → SinkTexts → List Tick → Type 0
 HasSentFronts box = texts.HasSentFronts (made_by box)

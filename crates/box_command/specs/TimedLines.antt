@@ -4,7 +4,7 @@ use Rattle.std.specs.List.{flat_map}
 use Rattle.burst_walk.specs.Walk.{Noted}
 use Rattle.replay_lists.specs.FrameList.{Kept}
 
--- the line of each note, with the tick of the step that the note falls into at its head
+-- the line of each note, headed by the tick of the step into which the note falls
 abbrev pub timed_lines : {A : Type 0} → (A → List ℕ) → List (Noted A) → List (Kept ℕ)
 timed_lines line_of notes = map (λ n. record { head = n.tick; frame = line_of n.note }) notes
 
@@ -12,14 +12,14 @@ timed_lines line_of notes = map (λ n. record { head = n.tick; frame = line_of n
 abbrev pub lines_at : ℕ → List (Kept ℕ) → List ℕ
 lines_at n lines = flat_map (λ line. cond (eqb line.head n) line.frame []) lines
 
--- the lines of the steps before this tick, in the order of steps; of a step those of the first box
--- come before those of the second one
+-- the lines of the steps before this tick, in the order of steps; within a step, those of the first
+-- box come before those of the second one
 abbrev pub lines_before : ℕ → List (Kept ℕ) → List (Kept ℕ) → List ℕ
 lines_before zero first second = []
 lines_before (suc n) first second =
     lines_before n first second ++ (lines_at n first ++ lines_at n second)
 
--- The steps of these lines rise, from the one tick on and up to before the other one.
+-- The steps of these lines rise: none is before tick `from`, and all are before tick `to`.
 abbrev pub AreInOrder : ℕ → ℕ → List (Kept ℕ) → Type 0
 AreInOrder from to [] = from ≤ to
 AreInOrder from to (line ∷ lines) = (from ≤ line.head) × AreInOrder (line.head + 1) to lines

@@ -18,8 +18,9 @@ use Rattle.replay_status.specs.declared.status.Status.{Status}
 use Rattle.box_command.specs.Boxes.{Boxed}
 use Rattle.box_command.specs.ReplaysBox.{RunsKeyed, boxed_with}
 
--- A box, by the floor of its journal, has loaded the floor of these slots and answered these ticks,
--- and was an uptime with the numbers that it used for them.
+-- The box with the floor of the slots `begins` has taken a line, and with the numbers that it used
+-- for this line that was an uptime. `box` is what the box makes of a line, by the floor of its
+-- journal.
 pub record WasUptime (link : LinkId) (box : ℕ → Boxed) (begins image : Slots) : Type 0 where
   pub floor : ℕ
   pub line : List Tick
@@ -38,13 +39,13 @@ module _ {K S O L D : Type 0} (k : Source K) (s : Source S) (o : Sink O) (l : Si
     (d : SlotDisk D)
     (boxed : Setup → Boxed) (link : LinkId) (dir : Dir) (rest : ℕ)
     (before after : Outside K S O L D) where
-  -- The run was an uptime of the box with the key that it met.
+  -- The run was an uptime of the box with the key that was read.
   pub record RanAsUptime (status : Status) (begins image : Slots) : Type 0 where
     pub ran : RunsKeyed k s o l d boxed link dir rest before after status
     pub was : WasUptime link (boxed_with boxed ran.key dir) begins image
 
-  -- The run was an uptime, or has left the slots as they were, or was cut off by a fault as it took
-  -- an old journal over.
+  -- The run was an uptime, or it left the slots as they were, or a fault cut it off while it took
+  -- over an old journal.
   abbrev pub IsUptimeOrNone : Status → Slots → Slots → Type 0
   IsUptimeOrNone status begins image = RanAsUptime status begins image
       ⊎ ((image ≡ begins) ⊎ WasTakenOver link begins image)

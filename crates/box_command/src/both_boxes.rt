@@ -1,4 +1,4 @@
-//! A box of each direction of a line, and the two recordings of an input that they take.
+//! A box for each direction of a line, and the two recordings of an input that the boxes take.
 ghost use Rattle.std.specs.Prelude.{◌≡◌, ◌+◌, ◌≤◌, [], length, false};
 ghost use Rattle.yasir_ticks.specs.Ticks.{silent};
 ghost use Rattle.yasir_ticks.specs.TickRun.{run_ticks, run_items};
@@ -18,8 +18,8 @@ use tick_drive::{Consumer, Stop};
 use yasir_io::NoMemory;
 use yasir_ticks::{MAX_TICKS, TickRun};
 
-/// A box of the outgoing direction of a line, which takes the ticks before a mark, and one of the
-/// incoming direction, which takes those behind it. Neither knows of the other.
+/// A box of the outgoing direction of a line, which takes the ticks before a mark, and a box of the
+/// incoming direction, which takes those after it. Neither knows of the other.
 #[derive(Drop)]
 pub(crate) struct BothBoxes<S, C> {
     pub(crate) outgoing: KeptBox<S>,
@@ -28,7 +28,7 @@ pub(crate) struct BothBoxes<S, C> {
 }
 
 impl<S: LineBox, C: LineBox> BothBoxes<S, C> {
-    /// Boxes that have taken no tick.
+    /// Returns boxes that have taken no tick.
     pub(crate) fn new(alloc: Global, key: &[u8], outgoing: Dir) -> BothBoxes<S, C>
         requires outgoing { S.widths_fit }
         requires incoming { C.widths_fit }

@@ -24,11 +24,11 @@ use yasir_ticks::{Tick, TickRun};
 #[cfg(test)]
 mod turn_tests;
 
-// How many ticks a box is asked to answer at once at most.
+// The most ticks that one call of the box's `pass` is given.
 const MAX_RUN: usize = 4_294_967_295;
 
-/// Drives a box over its journal: the other line goes on as canonical tick text, and a line for
-/// each note to the log.
+/// A box over its journal, and the texts that are made of its line: the other line as canonical
+/// tick text, and a line for each note, which goes to the log.
 #[derive(Drop)]
 pub struct BoxLines<B> {
     line_box: B,
@@ -37,7 +37,7 @@ pub struct BoxLines<B> {
 }
 
 impl<B: LineBox> BoxLines<B> {
-    /// A box that has taken no tick, over this journal, and no text yet.
+    /// Returns a box that has taken no tick, over this journal, with no text yet.
     pub fn new(key: &[u8], dir: Dir, journal: Journal) -> BoxLines<B>
         requires { B.widths_fit }
         ensures taken { B.taken result.line_box ≡ 0 }
@@ -60,7 +60,7 @@ impl<B: LineBox> BoxLines<B> {
         }
     }
 
-    // Takes the first ticks of this run, as far as the box forwards them, and returns how many.
+    // Takes as many of the first ticks of this run as the box forwards, and returns how many.
     #[inline(always)]
     fn forward<O: Sink, L: Sink, D: SlotDisk>(
         &mut self,
@@ -86,8 +86,8 @@ impl<B: LineBox> BoxLines<B> {
         }
     }
 
-    // Takes the first ticks of this run, as far as the box answers them with silence or with bytes,
-    // and returns how many.
+    // Takes as many of the first ticks of this run as the box takes at once while the other line
+    // has only silence or only bytes, and returns how many.
     #[inline(always)]
     fn pass<O: Sink, L: Sink, D: SlotDisk>(
         &mut self,
@@ -116,7 +116,7 @@ impl<B: LineBox> BoxLines<B> {
         }
     }
 
-    // Takes one tick. It is kept separate from runs, since few ticks go alone.
+    // Takes one tick. It is a separate function, since most ticks are taken in runs.
     #[inline(never)]
     fn step<O: Sink, L: Sink, D: SlotDisk>(
         &mut self,
@@ -141,8 +141,8 @@ impl<B: LineBox> BoxLines<B> {
         }
     }
 
-    /// Takes the first ticks of this run: as many as the box has an answer to at once, and else
-    /// one.
+    /// Takes the first ticks of this run: as many as the box takes at once, or one tick if that is
+    /// none. Returns how many.
     #[inline(always)]
     pub fn take_some<O: Sink, L: Sink, D: SlotDisk>(
         &mut self,

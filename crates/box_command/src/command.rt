@@ -22,7 +22,7 @@ use sequence_journal::{Journal, LinkId, LoadError};
 use tick_drive::{End, Stop, drive_to_rest};
 use yasir_io::{Failed, Sink, SlotDisk, Source};
 
-// Whether a write failed.
+// Whether the drive ended because a write failed.
 fn is_write_stop(end: &End) -> bool
     ensures { result ≡ is_write_fault (answer_of end.now) }
 {
@@ -92,8 +92,8 @@ fn replay_keyed<B: LineBox, K: Source, S: Source, O: Sink, L: Sink, D: SlotDisk>
 }
 
 /// Reads a key, loads the journal of this link that the disk holds, and replays the input through a
-/// box of this link: its other line goes to `out`, and a line for each note to the log. Behind a
-/// whole input follow `rest` silent ticks.
+/// box of this link: the other line goes to `out`, and a line for each note to the log. After an
+/// input that was read to its end, `rest` silent ticks follow.
 pub fn replay_box<B: LineBox, K: Source, S: Source, O: Sink, L: Sink, D: SlotDisk>(
     link: &LinkId,
     dir: Dir,

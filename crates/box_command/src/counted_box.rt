@@ -10,8 +10,7 @@ use sequence_journal::{Journal, JournalFault, LinkId};
 use yasir_io::SlotDisk;
 use yasir_ticks::{Tick, TickRun};
 
-/// How often a box was asked to forward a run, how often to answer one, and how often it took a
-/// single tick.
+/// How often `forward`, `pass` and `step` of a box were called.
 #[derive(Clone, Copy, Debug, PartialEq, Eq)]
 pub(crate) struct Calls {
     pub(crate) forward: u32,

@@ -8,7 +8,7 @@ use tick_drive::{Consumer, Stop};
 use yasir_io::{Sink, SlotDisk};
 use yasir_ticks::TickRun;
 
-/// A box and what it writes to, by references.
+/// References to a box and to what it writes to.
 #[derive(Drop)]
 pub struct DrivenBox<'a, B, O, L, D> {
     lines: &'a mut BoxLines<B>,
@@ -20,7 +20,8 @@ pub struct DrivenBox<'a, B, O, L, D> {
 impl<'a, B, O, L, D> DrivenBox<'a, B, O, L, D> {
     ghost use Rattle.box_command.specs.DrivenBox.{state_in};
 
-    /// Drives this box, which writes to these sinks and commits to this disk.
+    /// Returns a consumer that drives this box, which writes to these sinks and commits to this
+    /// disk.
     pub fn new(
         lines: &'a mut BoxLines<B>,
         out: &'a mut O,
@@ -52,7 +53,7 @@ impl<'a, B: LineBox, O: Sink, L: Sink, D: SlotDisk> Consumer for DrivenBox<'a, B
         self.lines.take_some(self.out, self.log, self.disk, run)
     }
 
-    // A mark is no tick of the line.
+    // A mark isn't a tick of the line, so nothing is done.
     fn take_mark(&mut self) -> Result<(), Stop> {
         Ok(())
     }

@@ -1,4 +1,4 @@
-//! A box of one direction of a line over a new journal, and what it has made of the line, kept in
+//! A box for one direction of a line, over a new journal, and what it has made of the line, kept in
 //! memory.
 ghost use Rattle.std.specs.Prelude.{◌≡◌, ℕ, ◌+◌, ◌<◌, ◌≤◌, List, [], ◌∷◌, ◌++◌, length, OnOk, IfOk};
 ghost use Rattle.std.specs.Prelude.{Option, None, Some};
@@ -32,7 +32,7 @@ use yasir_ticks::{MAX_TICKS, Tick, TickRun};
 #[cfg(test)]
 mod turn_tests;
 
-// How many ticks a box is asked to answer at once at most.
+// The most ticks that one call of the box's `pass` is given.
 const MAX_RUN: usize = 4_294_967_295;
 
 /// A box over a new journal on a disk that never fails, and what it has made of a line.
@@ -57,7 +57,7 @@ pub(crate) struct KeptTexts {
     pub(crate) notes: FrameList<u64>,
 }
 
-// A new journal of this link, on a disk whose slots hold no number.
+// Returns a new journal of this link, on a disk whose slots hold no number.
 fn new_journal(disk: &mut SteadySlots, link: &LinkId) -> Journal
     requires none { greatest (steady_slots disk.old) ≡ None }
     requires link { IsLink link.now }
@@ -68,7 +68,7 @@ fn new_journal(disk: &mut SteadySlots, link: &LinkId) -> Journal
     Journal::init(disk, link).unwrap()
 }
 
-// Adds the line of the note of a step, if there is one.
+// Adds the line of a step's note, if the step has one.
 fn push_note<B: LineBox>(
     notes: &mut FrameList<u64>,
     tick: u64,
@@ -88,7 +88,7 @@ fn push_note<B: LineBox>(
 }
 
 impl<B: LineBox> KeptBox<B> {
-    /// A box that has taken no tick.
+    /// Returns a box that has taken no tick.
     pub(crate) fn new(alloc: Global, key: &[u8], dir: Dir) -> KeptBox<B>
         requires widths { B.widths_fit }
         requires links { AreLinks B.link_in }
@@ -111,7 +111,7 @@ impl<B: LineBox> KeptBox<B> {
         }
     }
 
-    // Takes one tick. It is kept separate from runs, since few ticks go alone.
+    // Takes one tick. It is a separate function, since most ticks are taken in runs.
     #[inline(never)]
     fn step(&mut self, tick: Tick) -> Result<(), NoMemory>
         requires room { ticks_kept self.old < MAX_TICKS }
@@ -135,7 +135,7 @@ impl<B: LineBox> KeptBox<B> {
         Ok(())
     }
 
-    // Takes the first ticks of this run, as far as the box forwards them, and returns how many.
+    // Takes as many of the first ticks of this run as the box forwards, and returns how many.
     #[inline(always)]
     fn forward(&mut self, run: TickRun<'_>) -> Result<usize, NoMemory>
         requires room { ticks_kept self.old + length (run_ticks run) ≤ MAX_TICKS }
@@ -152,8 +152,8 @@ impl<B: LineBox> KeptBox<B> {
         Ok(count)
     }
 
-    // Takes the first ticks of this run, as far as the box answers them with silence or with bytes,
-    // and returns how many.
+    // Takes as many of the first ticks of this run as the box takes at once while the other line
+    // has only silence or only bytes, and returns how many.
     #[inline(always)]
     fn pass(&mut self, run: TickRun<'_>) -> Result<usize, NoMemory>
         requires room { ticks_kept self.old + length (run_ticks run) ≤ MAX_TICKS }
@@ -173,8 +173,8 @@ impl<B: LineBox> KeptBox<B> {
         Ok(count)
     }
 
-    /// Takes the first ticks of this run: as many as the box has an answer to at once, and else
-    /// one.
+    /// Takes the first ticks of this run: as many as the box takes at once, or one tick if that is
+    /// none. Returns how many.
     #[inline(always)]
     pub(crate) fn take_some(&mut self, run: TickRun<'_>) -> Result<usize, NoMemory>
         requires some { 0 < length (run_ticks run) }
@@ -204,7 +204,7 @@ impl<B: LineBox> KeptBox<B> {
         }
     }
 
-    /// Takes this many silent ticks.
+    /// Takes `ticks` silent ticks.
     pub(crate) fn wait(&mut self, ticks: u32) -> Result<(), NoMemory>
         requires room { ticks_kept self.old + ticks ≤ MAX_TICKS }
         requires steady { IsSteady B.LinkBox B.line_of self.old }
@@ -220,7 +220,7 @@ impl<B: LineBox> KeptBox<B> {
         Ok(())
     }
 
-    /// Ends the text of the other line.
+    /// Ends the text of the other line, and returns it with the lines of the notes.
     pub(crate) fn finish(self) -> Result<KeptTexts, NoMemory>
         requires { IsSteady B.LinkBox B.line_of self }
         ensures whole { IfOk result (λ texts. IsWhole texts.notes) }

@@ -13,12 +13,12 @@ ghost use Rattle.box_command.specs.Uptimes.{IsUptimeOrNone};
 
 use yasir_io::{Sink, SlotDisk, Source};
 
-/// A law of what each status says of a box's command, for every box, over a disk that tells its
-/// slots and of which a crash before the run would have left them as they read: each image that a
-/// crash may leave at the run's end, however it ended, makes the run an uptime of the box, or is
-/// the slots as they were, or, where a fault cut the taking over of an old journal off, makes the
-/// run an uptime that has loaded no floor. So the runs of a command over one disk are uptimes that
-/// share it.
+/// A law about what each status says of a box's command, for every box, over a disk that tells its
+/// slots, if a crash before the run would have left them as they read. Each image that a crash may
+/// leave at the end of the run, however it ended, is one of three: it makes the run an uptime of
+/// the box, it is the slots as they were, or, after a fault that cut off the taking over of an old
+/// journal, it makes the run an uptime that has loaded no floor. So the runs of a command over one
+/// disk are uptimes that share it.
 pub fn runs_are_uptimes<K: Source, S: Source, O: Sink, L: Sink, D: SlotDisk>()
     ensures { (boxed : Setup → Boxed) (link : LinkId) (dir : Dir) (rest : ℕ)
         (before after : Outside K S O L D) (status : Status) (begins image : Slots)

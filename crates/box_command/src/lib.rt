@@ -1,7 +1,7 @@
-//! The commands `seal` and `check`: a box between two lines over a recorded line. The other line
-//! goes out as text, and so does a line for each of its notes.
+//! The commands `seal` and `check`: a recorded line goes through a box. The other line goes out as
+//! text, and a line of text for each note goes to the log.
 //!
-//! The command `seal rtu ab`, with 24 silent ticks behind the input:
+//! The command `seal rtu ab`, with 24 silent ticks after the input:
 //!
 //!     let link = LinkId { label: 1, dir: 0, profile: 18 };
 //!     let status = replay_box::<Sealer<Rtu, HmacSha1, 2>, _, _, _, _, _>(

@@ -1,4 +1,4 @@
-//! What a command asks of a box: a line of text for each note.
+//! What a command needs from a box: a line of text for each note.
 ghost use Rattle.std.specs.Prelude.{◌≡◌, ℕ, List};
 ghost use Rattle.yasir_ticks.specs.declared.tick.Tick.{Tick};
 ghost use Rattle.burst_walk.specs.Causal.{IsCausal};
@@ -10,20 +10,20 @@ ghost use Rattle.sequence_journal.specs.Uptimes.{RiseFrom};
 use crate::note_lines::NoteLine;
 use link_box::LinkBox;
 
-/// A box of a link whose notes are told by lines of text.
+/// A box of a link, with a line of text for each of its notes.
 pub trait LineBox: LinkBox {
     /// The line of a note.
     ghost line_of: { Self.Note → List ℕ };
 
-    /// The line of a note.
+    /// Returns the line of a note.
     fn note_line(note: &Self::Note) -> NoteLine
         ensures { result.items ≡ line_of note.now };
 
-    /// The numbers that it uses rise from the floor of its journal, so none is used twice.
+    /// The numbers that the box uses rise from the floor of its journal, so none is used twice.
     ghost rising: { (setup : Setup) (line : List Tick)
         → RiseFrom setup.floor (numbers_of (frames_of Self.walking setup line)) };
 
-    /// A box needs no tick of its line before its time.
+    /// The walk of the box is causal: it needs no tick of its line before its time.
     ghost causal: { (value : Self) (last : ℕ) (setup : Setup) (line : List Tick)
         → Self.stands value last setup line → IsCausal (Self.walking.walker setup) };
 }

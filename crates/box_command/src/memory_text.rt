@@ -5,7 +5,7 @@ ghost use Rattle.box_command.specs.MemoryText.{text_bytes};
 use std::alloc::Global;
 use yasir_io::{Failed, Sink};
 
-/// A text in memory, of any length. A write fails where there is no memory for it.
+/// A text in memory, of any length. A write fails if there is no memory for it.
 #[derive(Drop)]
 pub(crate) struct MemoryText {
     pub(crate) bytes: Vec<u8>,
@@ -15,7 +15,7 @@ pub(crate) struct MemoryText {
 }
 
 impl MemoryText {
-    /// No text yet.
+    /// Returns an empty text.
     pub(crate) fn new(alloc: Global) -> MemoryText
         ensures { text_bytes result ≡ [] }
     {

@@ -1,16 +1,16 @@
-//! What the lines of all notes are alike in.
+//! What the lines of all notes have in common.
 ghost use Rattle.std.specs.Prelude.{◌≡◌, ◌≤◌, ◌++◌, length};
 ghost use Rattle.box_command.specs.NoteLines.{numbered_line, placed_line};
 
 use arrayvec::ArrayVec;
 use replay_status::push_decimal;
 
-/// The line of a note, LF included.
+/// The line of a note, including its LF.
 pub type NoteLine = ArrayVec<u8, 80>;
 
-/// `WORD N at S len L` of a frame with a number, its start and its length. The longest has a word
-/// of 7 bytes with the space behind it, three numbers of up to 20 digits, 9 bytes between them and
-/// an LF.
+/// Returns the line `WORD N at S len L` of a frame: its number, its start and its length. The
+/// longest has a word of 7 bytes with the space after it, three numbers of up to 20 digits, 9 bytes
+/// between them and an LF.
 #[inline(always)]
 pub(crate) fn numbered_line(word: &[u8], number: u64, start: u64, len: u16) -> NoteLine
     requires { length word.now ≤ 7 }
@@ -27,8 +27,8 @@ pub(crate) fn numbered_line(word: &[u8], number: u64, start: u64, len: u16) -> N
     line
 }
 
-/// `WORD at S WHY` of a burst with no frame that is let through, and why. The space before the
-/// reason and the LF stand with it.
+/// Returns the line `WORD at S WHY` of a burst from which no frame gets through: its start, and
+/// why. `word` includes ` at `, and `why` includes the space before the reason and the LF.
 pub(crate) fn placed_line(word: &[u8], start: u64, why: &[u8]) -> NoteLine
     requires word { length word.now ≤ 12 }
     requires why { length why.now ≤ 9 }

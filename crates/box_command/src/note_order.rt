@@ -1,4 +1,4 @@
-//! The lines of the notes of two boxes, in the order of the steps that they fall into.
+//! The lines of the notes of two boxes, in the order of the steps into which the notes fall.
 ghost use Rattle.std.specs.Prelude.{◌≡◌, ℕ, ◌<◌, ◌≤◌, ◌⊎◌, ◌++◌, List, [], length, drop, OnOk, IfOk};
 ghost use Rattle.std.specs.Prelude.{true, false, slice_index_or};
 ghost use Rattle.replay_lists.specs.FrameList.{Kept, Holds, IsWhole, list_len};
@@ -9,15 +9,15 @@ use replay_lists::FrameList;
 use std::alloc::Global;
 use yasir_io::NoMemory;
 
-/// Which lines of two lists are the next ones.
+/// The places of the next lines in two lists.
 #[derive(Clone, Copy)]
 pub(crate) struct Places {
     first: usize,
     second: usize,
 }
 
-// Whether the next line is one of the first list: its step is no later than that of the next one of
-// the second list.
+// Whether the next line comes from the first list: that list has a line left, and the second list's
+// next line, if there is one, isn't of an earlier step.
 fn is_of_first(first: &FrameList<u64>, second: &FrameList<u64>, places: Places) -> bool
     requires first { places.first ≤ list_len first.now }
     requires second { places.second ≤ list_len second.now }
@@ -51,7 +51,7 @@ fn push_line(text: &mut Vec<u8>, lines: &FrameList<u64>, place: usize) -> Result
     }
 }
 
-// Adds the next line.
+// Adds the next line, and returns the places after it.
 fn push_next(
     text: &mut Vec<u8>,
     first: &FrameList<u64>,
@@ -82,7 +82,8 @@ fn push_next(
     })
 }
 
-/// The lines of two lists in the order of their steps, of a step the first list's first.
+/// Returns the lines of two lists in the order of their steps. Within a step, the line of the first
+/// list comes first.
 pub(crate) fn merge_lines(
     alloc: Global,
     first: &FrameList<u64>,

@@ -8,8 +8,8 @@ use line_texts::Texts;
 use yasir_io::{Failed, Sink};
 use yasir_ticks::{Tick, TickRun};
 
-// Adds the line of a note, and the tick of its step. It is kept separate, since few steps have a
-// note.
+// Adds the line of a note, and the tick of its step. It is a separate function, since few steps
+// have a note.
 #[inline(never)]
 fn push_note<B: LineBox, O: Sink, L: Sink>(
     texts: &mut Texts,
@@ -28,7 +28,8 @@ fn push_note<B: LineBox, O: Sink, L: Sink>(
     }
 }
 
-// Adds the tick of a step to the text of the other line, and its note to that of the log.
+// Adds the tick of a step to the text of the other line, and the line of its note, if it has one,
+// to the text of the log.
 #[inline]
 pub(crate) fn push_step<B: LineBox, O: Sink, L: Sink>(
     texts: &mut Texts,

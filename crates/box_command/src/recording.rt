@@ -1,4 +1,5 @@
-//! Both recordings of an input, through a box of each direction of a line, and what they become.
+//! The two recordings of an input, which go through a box for each direction of a line, and the
+//! texts that this results in.
 ghost use Rattle.std.specs.Prelude.{◌≡◌, ◌⊎◌, ◌+◌, ◌≤◌, ◌++◌, List, length, codes, OnOk, OnErr, IfOk};
 ghost use Rattle.std.specs.Io.KnownBytes.{append_known};
 ghost use Rattle.yasir_io.specs.Causes.{HasCause};
@@ -24,7 +25,7 @@ use std::alloc::Global;
 use tick_drive::{End, Stop, drive};
 use yasir_io::{Failed, NoMemory, Sink, Source, write_all};
 
-/// How many silent ticks come after the longer one of both recordings, so that what passes leaves
+/// How many silent ticks follow the longer one of the two recordings, so that what passes leaves
 /// the receiver.
 const BOTH_REST: u64 = 320;
 
@@ -36,8 +37,8 @@ pub struct Recorded {
     notes: Vec<u8>,
 }
 
-// Fills both recordings with silence to the longer one's length and the ticks behind it, and ends
-// both texts.
+// Fills both recordings with silence to the length of the longer one and the ticks that follow it,
+// and ends both texts.
 fn finish_both<S: LineBox, C: LineBox>(
     alloc: Global,
     both: BothBoxes<S, C>,
@@ -81,12 +82,13 @@ fn finish_both<S: LineBox, C: LineBox>(
     }
 }
 
-/// Takes two recordings that a mark parts in the input: the line of a device, through a box of the
-/// line's direction `outgoing`, and the link, through one of its other direction. Both are filled
-/// with silence to the longer one's length, and 320 silent ticks come after them. The boxes have
-/// this key, and journals of their own, whose numbers begin at 1.
+/// Takes two recordings, which a mark separates in the input: the line of a device, through a box
+/// of the direction `outgoing`, and the link, through a box of the opposite direction. Both are
+/// filled with silence to the length of the longer one, and 320 silent ticks follow them. Both
+/// boxes have this key, and each has a journal of its own, so its numbers begin at 1.
 ///
-/// It fails as the input does, and with `Stop::NoMemory` where there is no memory for the texts.
+/// If the input isn't whole, it returns how the input ended. If there is no memory for the texts,
+/// it returns `Stop::NoMemory`.
 pub fn record_both<S: LineBox, C: LineBox, I: Source>(
     alloc: Global,
     key: &[u8],

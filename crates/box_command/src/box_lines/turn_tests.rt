@@ -1,5 +1,5 @@
-//! How often the loops over a text call a box: a run is handed over whole, so that each line of the
-//! text costs a few calls. No clause says so.
+//! How often the loops over a text call a box: each run is handed over whole, so that a line of the
+//! text costs only a few calls. No contract says so.
 ghost use Rattle.std.specs.Prelude.{◌≡◌};
 ghost use Rattle.link_box.specs.Links.{AreLinks};
 
@@ -24,7 +24,7 @@ const TEXT: &[u8] = b"+000102030405060708090a0b0c0d0e0f101112131415161718191a1b1
       +41\n\
       -40\n";
 
-// The calls of a box as the text is driven into it.
+// Returns how often a box is called while the text is driven into it.
 fn calls_of<X: LineBox>(alloc: Global) -> Result<Calls, Fail>
     requires widths { X.widths_fit }
     requires links { AreLinks X.link_in }
@@ -43,9 +43,9 @@ fn calls_of<X: LineBox>(alloc: Global) -> Result<Calls, Fail>
     }
 }
 
-// Each of the four lines with ticks is handed over at once. Both boxes take alone the tick in which
-// a burst is judged, and the receiver the one in which a burst begins; all else they take in runs,
-// the transmitter by forwarding it.
+// Each of the four lines with ticks is handed over at once. For both boxes the tick in which a
+// burst is judged is a step of its own, and for the receiver also the tick in which a burst begins.
+// All other ticks are taken in runs, which the transmitter forwards.
 #[test]
 fn a_line_of_text_costs_few_calls_of_the_box(rt: HostRuntime) -> Result<(), Fail> {
     let sealing = calls_of::<Sealer<Rtu, HmacSha1, 2>>(rt.alloc())?;

@@ -1,5 +1,5 @@
-//! How often a box is called as it takes a line into memory: silence and bursts go through in runs,
-//! so that they cost a few calls however long they are. No clause says so.
+//! How often a box is called while what it makes of a line is kept in memory: it takes silence and
+//! bursts in runs, so that they cost only a few calls however long they are. No contract says so.
 ghost use Rattle.std.specs.Prelude.{◌≡◌, ◌+◌, ◌≤◌, length, OnOk};
 ghost use Rattle.yasir_ticks.specs.declared.TheConstants.{MAX_TICKS};
 ghost use Rattle.link_box.specs.Links.{AreLinks};
@@ -17,7 +17,7 @@ use std::test::Fail;
 use yasir_io::NoMemory;
 use yasir_ticks::TickRun;
 
-// Takes all of these bytes, one a tick.
+// Takes all of these bytes, one for each tick.
 fn take_bytes<B: LineBox>(kept: &mut KeptBox<B>, bytes: &[u8]) -> Result<(), NoMemory>
     requires room { ticks_kept kept.old + length bytes.now ≤ MAX_TICKS }
     requires steady { IsSteady B.LinkBox B.line_of kept.old }
@@ -34,7 +34,7 @@ fn take_bytes<B: LineBox>(kept: &mut KeptBox<B>, bytes: &[u8]) -> Result<(), NoM
     Ok(())
 }
 
-// Takes this many silent ticks.
+// Takes `ticks` silent ticks.
 fn take_silence<B: LineBox>(kept: &mut KeptBox<B>, ticks: u32) -> Result<(), NoMemory>
     requires room { ticks_kept kept.old + ticks ≤ MAX_TICKS }
     requires steady { IsSteady B.LinkBox B.line_of kept.old }
@@ -44,10 +44,10 @@ fn take_silence<B: LineBox>(kept: &mut KeptBox<B>, ticks: u32) -> Result<(), NoM
     kept.wait(ticks)
 }
 
-// A burst of this many bytes, which is no frame, between two long silences.
+// A burst that is no frame, to come between two long silences.
 const BURST: [u8; 500] = [0x41; 500];
 
-// The calls of a box that takes them.
+// Returns how often a box is called that takes the burst and the two silences.
 fn calls_of<X: LineBox>(alloc: Global) -> Result<Calls, Fail>
     requires widths { X.widths_fit }
     requires links { AreLinks X.link_in }
@@ -60,8 +60,9 @@ fn calls_of<X: LineBox>(alloc: Global) -> Result<Calls, Fail>
 }
 
 // The transmitter forwards each silence at once, and the live bytes of the burst in runs of at most
-// 64; the bytes behind them cost a call, and the tick that closes the burst is one by itself. The
-// receiver takes the first byte or two alone, and a few ticks where the burst is judged.
+// 64. The bytes after them cost one call, and the tick that closes the burst is a step of its own.
+// The receiver takes the first byte or two in steps of their own, and also a few ticks when the
+// burst is judged.
 #[test]
 fn long_silence_and_long_bursts_cost_few_calls(rt: HostRuntime) -> Result<(), Fail> {
     let sealing = calls_of::<Sealer<Rtu, HmacSha1, 2>>(rt.alloc())?;
