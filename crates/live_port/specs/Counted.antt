@@ -1,4 +1,4 @@
--- Counts that stay at their last value.
+-- Counts that stay at their greatest value.
 use Rattle.std.specs.Prelude.{ℕ, ◌-◌, ◌^◌, min}
 
 -- a count of 32 bits

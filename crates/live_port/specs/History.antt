@@ -1,18 +1,18 @@
--- The history of an input and two outputs, and what was read, written and flushed by it.
+-- The history of an input and two outputs, and what was read, written and flushed according to it.
 use Rattle.std.specs.Prelude.{◌≡◌, ◌≢◌, ℕ, List, [], ◌∷◌, ◌++◌, Bool, true, false, Option, Some}
 use Rattle.std.specs.Prelude.{None, Result, OnOk}
 use Rattle.std.specs.List.{flat_map}
 use Rattle.live_port.specs.declared.port.Output.{Output}
 use Rattle.live_port.specs.declared.port.Output.TheVariants.{Out, Log}
 
--- A call of a port: a read gave these bytes, none at the end of the input, or failed; these bytes
--- were written; a flush ended well, or failed.
+-- A call of a port: a read that returned these bytes (none at the end of the input) or failed, a
+-- write of these bytes, or a flush that succeeded or failed.
 pub data Event : Type 0 where
   reads : Option (List ℕ) → Event
   writes : Output → List ℕ → Event
   flushes : Output → Bool → Event
 
--- the history as told, and then these calls
+-- the history, followed by these calls, or `None` if the history isn't told
 abbrev pub told_then : Option (List Event) → List Event → Option (List Event)
 told_then None more = None
 told_then (Some events) more = Some (events ++ more)
@@ -41,7 +41,7 @@ written_by to (flushes other well) = []
 abbrev pub written : Output → List Event → List ℕ
 written to events = flat_map (written_by to) events
 
--- whether an output is flushed behind a call, where it was, or was not, before
+-- whether an output is flushed after a call, given whether it was before
 abbrev pub flushed_by : Output → Bool → Event → Bool
 flushed_by to before (reads got) = before
 flushed_by Out before (writes Out bytes) = false
@@ -58,11 +58,11 @@ abbrev pub flushed_from : Output → Bool → List Event → Bool
 flushed_from to before [] = before
 flushed_from to before (event ∷ events) = flushed_from to (flushed_by to before event) events
 
--- whether a flush of the output has ended well behind each write to it
+-- whether a flush that succeeded follows each write to the output
 abbrev pub is_flushed : Output → List Event → Bool
 is_flushed to events = flushed_from to true events
 
--- The bytes of a piece were written, or a front of them where the write failed.
+-- The bytes of a piece were written, or a front of them if the write failed.
 pub record WritesFront {T E : Type 0} (before now : Option (List Event)) (to : Output)
     (piece : List ℕ) (result : Result T E) : Type 0 where
   pub front : List ℕ

@@ -1,4 +1,4 @@
--- What a reader of lines as they come has read.
+-- What a `LineReader` has read.
 use Rattle.std.specs.Prelude.{◌≡◌, ℕ, ◌<◌, ◌≤◌, List, [], ◌++◌, length, take, true, false, Some}
 use Rattle.std.specs.Prelude.{Result, Ok, Err, slice_index}
 use Rattle.yasir_ticks.specs.Ticks.{Item, items_of_run, marks_in}
@@ -20,7 +20,7 @@ pub record AreWholeLines (text : List ℕ) : Type 0 where
   pub right : all_items (lines_of text).ended ≡ Some (ended_items text)
   pub unmarked : marks_in (ended_items text) ≡ 0
 
--- The reader has read this text, and no byte of it is refused: whole lines, and then what its own
+-- The reader has read this text and refused no byte of it: whole lines, and then what its own
 -- reader was fed.
 pub record HasRead (lines : LineReader) (text : List ℕ) : Type 0 where
   pub whole : List ℕ
@@ -33,11 +33,12 @@ pub record HasRead (lines : LineReader) (text : List ℕ) : Type 0 where
   pub ends : lines.ended ≡ true → (lines_of part).last ≡ []
   pub quiet : lines.ended ≡ false → ended_items part ≡ []
 
--- the bytes of the line that ended last, where it was one of bytes
+-- the bytes of the line that ended last, if it was a line of bytes
 abbrev pub lent : LineReader → List ℕ
 lent lines = lent_bytes lines.reader
 
--- So many bytes were read behind a text, and these are the items of the line that ended with them.
+-- The first `taken` of these bytes were read after a text, and these are the items of the line that
+-- ended with them.
 pub record ReadsLine (lines : LineReader) (text bytes : List ℕ) (taken : ℕ) (items : List Item) :
     Type 0 where
   pub some : 0 < taken
@@ -45,7 +46,7 @@ pub record ReadsLine (lines : LineReader) (text bytes : List ℕ) (taken : ℕ) 
   pub has_read : HasRead lines (text ++ take taken bytes)
   pub ended : ended_items (text ++ take taken bytes) ≡ ended_items text ++ items
 
--- A byte is refused behind a text, and no line with ticks ended before it.
+-- A byte is refused after a text, and no line with ticks ended before it.
 pub record RefusesByte (text bytes : List ℕ) (bad : BadTicks) : Type 0 where
   pub taken : ℕ
   pub within : taken < length bytes
@@ -54,7 +55,7 @@ pub record RefusesByte (text bytes : List ℕ) (bad : BadTicks) : Type 0 where
   pub line : bad.line ≡ capped (line_after (text ++ take taken bytes))
   pub why : bad.why ≡ fault_after (text ++ take taken bytes) (slice_index bytes taken)
 
--- So many last bytes of a text end no line with ticks.
+-- The last `count` bytes of a text end no line with ticks.
 pub record EndsNoLine (text : List ℕ) (count : ℕ) : Type 0 where
   pub whole : List ℕ
   pub part : List ℕ
@@ -62,13 +63,13 @@ pub record EndsNoLine (text : List ℕ) (count : ℕ) : Type 0 where
   pub counted : count ≡ length part
   pub none : ended_items text ≡ ended_items whole
 
--- The end comes of the text alone.
+-- Only the text causes this end: it is refused, or too long.
 abbrev pub IsOfText : End → Type 0
 IsOfText (Refused bad) = Unit {0}
 IsOfText (TooLong what count) = Unit {0}
 IsOfText end = ⊥
 
--- what the answer says where bytes were to be read behind a text
+-- what the result of `feed` says, if it is given these bytes after a text
 abbrev pub FeedAnswer : LineReader → List ℕ → List ℕ → Result ReadBytes End → Type 0
 FeedAnswer lines text bytes (Ok found) =
     ReadsLine lines text bytes found.taken (items_of_content found.content (lent lines))
@@ -77,13 +78,13 @@ FeedAnswer lines text bytes (Err (TooLong Bytes count)) =
     (2147483648 < count) × EndsNoLine text count
 FeedAnswer lines text bytes (Err end) = ⊥
 
--- The whole text is no right one.
+-- The whole text isn't a right one.
 pub record RefusesText (text : List ℕ) (bad : BadTicks) : Type 0 where
   pub refused : ¬ ((items : List Item) × IsTickText 0 text items)
   pub line : bad.line ≡ capped (line_after text)
   pub why : bad.why ≡ fault_at_end text
 
--- what the answer says at the end of a text
+-- what the result of `finish` says at the end of a text
 abbrev pub FinishAnswer : List ℕ → Result Run End → Type 0
 FinishAnswer text (Ok run) = IsTickText 0 text (ended_items text ++ items_of_run run)
 FinishAnswer text (Err (Refused bad)) = RefusesText text bad

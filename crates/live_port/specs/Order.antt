@@ -1,4 +1,4 @@
--- In which order a live line reads, writes and flushes.
+-- The order in which a live line reads, writes and flushes.
 use Rattle.std.specs.Prelude.{◌≡◌, ℕ, List, [], ◌∷◌, ◌++◌, true, Option}
 use Rattle.yasir_ticks.specs.Ticks.{ticks_in}
 use Rattle.yasir_ticks.specs.TickText.{ended_items}
@@ -21,8 +21,8 @@ module _ (made : LineAndNotes) where
     pub out_flushed : is_flushed Out events ≡ true
     pub log_flushed : is_flushed Log events ≡ true
 
-  -- With these bytes `out` has got a front of what is made of some first ticks of a line, and all
-  -- notes that fall into these ticks are written and flushed.
+  -- With these bytes, `out` has got a front of a text of what is made of some first ticks of a
+  -- line, and all notes that fall into these ticks are written and flushed.
   pub record HasNoted (line : List Tick) (events : List Event) (bytes : List ℕ) : Type 0 where
     pub early : List Tick
     pub later : List Tick
@@ -39,18 +39,19 @@ module _ (made : LineAndNotes) where
   MayCome line before (writes Log bytes) = Unit {0}
   MayCome line before (flushes to well) = Unit {0}
 
-  -- Each of these calls may come where it comes.
+  -- Each of these calls comes when it may come.
   abbrev pub IsInOrder : List Tick → List Event → Type 0
   IsInOrder line events = (before after : List Event) (event : Event)
       → events ≡ before ++ event ∷ after → MayCome line before event
 
-  -- the same of calls behind some first ones, call by call
+  -- each of the calls `events`, which follow the calls `before`, comes when it may come: stated
+  -- call by call
   abbrev pub EachMayCome : List Tick → List Event → List Event → Type 0
   EachMayCome line before [] = Unit {0}
   EachMayCome line before (event ∷ events) =
       MayCome line before event × EachMayCome line (before ++ event ∷ []) events
 
-  -- Since a start this was read, and what is made of this line is written and flushed.
+  -- Since `start`, this was read, and what is made of this line was written and flushed, in order.
   pub record Handed (start now : Option (List Event)) (read : List ℕ) (line : List Tick) :
       Type 0 where
     pub events : List Event
@@ -62,7 +63,8 @@ module _ (made : LineAndNotes) where
     pub log_flushed : is_flushed Log events ≡ true
     pub in_order : EachMayCome line [] events
 
-  -- A write or a flush failed: the outputs have got a front of it each.
+  -- A write or a flush failed: since `start`, each output has got a front of what is made of this
+  -- line.
   pub record HandedFronts (start now : Option (List Event)) (read : List ℕ) (line : List Tick) :
       Type 0 where
     pub events : List Event

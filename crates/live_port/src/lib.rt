@@ -1,7 +1,7 @@
-//! The outside of a live line: an input and two outputs with one history, what is handed on to
-//! them, and a reader of the lines that come.
+//! The outside of a live line: an input and two outputs with one history, what is handed on to the
+//! outputs, and a reader of the lines that come in.
 //!
-//! Each note is handed on before the ticks that it is about:
+//! Each note is handed on before the ticks into which it falls:
 //!
 //!     let mut port = Streams::new(&mut input, &mut out, &mut log);
 //!     let count = read_on(&mut port, &mut buffer)?;

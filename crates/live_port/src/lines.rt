@@ -1,4 +1,4 @@
-//! Lines of tick text as they come, without a limit of lines.
+//! A reader of lines of tick text as they come, with no limit on how many there are.
 ghost use Rattle.std.specs.Prelude.{◌≡◌, ℕ, ◌+◌, ◌-◌, ◌<◌, ◌≤◌, List, [], length, true, false};
 ghost use Rattle.yasir_ticks.specs.Reader.{reader_line};
 ghost use Rattle.live_port.specs.Counted.{capped};
@@ -6,10 +6,10 @@ ghost use Rattle.live_port.specs.Counted.{capped};
 use tick_drive::{End, TooMuch};
 use yasir_ticks::{BadTicks, Content, FedLine, Run, TickReader};
 
-/// The most bytes that may come one after the other and end no line with ticks.
+/// The most bytes that may come one after the other without ending a line with ticks.
 const MAX_LINE: u32 = 2_147_483_648;
 
-/// How many bytes were read, up to the end of a line at most, and what the line stands for that
+/// How many bytes were read, at most up to the end of a line, and what the line represents that
 /// ended with them.
 #[derive(Drop)]
 pub struct ReadBytes {
@@ -17,8 +17,8 @@ pub struct ReadBytes {
     pub content: Content,
 }
 
-/// A reader of tick text without marks, for a text of any length: each line is read anew, and lines
-/// are counted beside. The count stays at its last value.
+/// A reader of tick text without marks, for a text of any length: a new reader takes over after
+/// each line, and lines are counted separately. The count stays at its greatest value.
 #[derive(Drop)]
 pub struct LineReader {
     reader: TickReader,
@@ -31,7 +31,8 @@ pub struct LineReader {
     ghost lines: { reader_line reader ≤ since + 1 },
 }
 
-// A refusal behind a line, with its line in the whole text.
+// Returns a refusal with its line in the whole text, from a refusal by a reader that began in line
+// `line`.
 fn in_text(line: u32, bad: BadTicks) -> BadTicks
     ensures line { result.line ≡ capped (line + (bad.line - 1)) }
     ensures why { result.why ≡ bad.why }
@@ -46,7 +47,7 @@ impl LineReader {
     ghost use Rattle.std.specs.Prelude.{IfOk, IfErr};
     ghost use Rattle.live_port.specs.Lines.{HasRead, FeedAnswer, FinishAnswer, IsOfText, lent};
 
-    /// A reader of a text of which nothing has come.
+    /// Returns a reader of a text of which nothing has come.
     pub fn new() -> LineReader
         ensures { HasRead result [] }
     {
@@ -58,7 +59,7 @@ impl LineReader {
         }
     }
 
-    /// The bytes of the line that ended last, where it was one of bytes.
+    /// Returns the bytes of the line that ended last, if it was a line of bytes.
     #[inline]
     pub fn line_bytes(&self) -> &[u8]
         ensures bytes { result.now ≡ lent self.now }
@@ -67,7 +68,7 @@ impl LineReader {
         self.reader.line_bytes()
     }
 
-    // Begins anew behind a line that has ended.
+    // Starts a new reader, if a line has ended.
     fn renew(&mut self)
         ensures read { (text : List ℕ) → HasRead self.old text → HasRead self.new text }
         ensures begun { self.new.ended ≡ false }
@@ -82,7 +83,7 @@ impl LineReader {
         self.ended = false;
     }
 
-    /// Reads bytes up to and with the end of the line, or all of them.
+    /// Reads bytes up to and including the end of the line, or all of them if the line doesn't end.
     pub fn feed(&mut self, bytes: &[u8]) -> Result<ReadBytes, End>
         requires some { 0 < length bytes.now }
         requires few { length bytes.now ≤ 65536 }

@@ -14,7 +14,7 @@ use yasir_io::Failed;
 pub enum Output {
     /// The other line, as tick text.
     Out,
-    /// The notes, a line of text each.
+    /// The notes, a line of text for each.
     Log,
 }
 
@@ -22,10 +22,10 @@ pub enum Output {
 pub trait Port {
     ghost use Rattle.live_port.specs.History.{WritesFront};
 
-    /// The calls so far, in order, where the port tells them.
+    /// The calls so far, in order, if the port tells them.
     ghost history: { Self → Option (List Event) };
 
-    /// The bytes that the input has left, where the port tells them.
+    /// The bytes that the input has left, if the port tells them.
     ghost left: { Self → Option (List ℕ) };
 
     /// How often a read has failed.
@@ -35,8 +35,8 @@ pub trait Port {
     ghost write_faults: { Self → Output → ℕ };
 
     /// Moves the next bytes of the input into the front of `buf`, and returns how many, which is at
-    /// most its length; 0 only at the end, or where `buf` has no room. It waits for the first of
-    /// them alone.
+    /// most its length. It returns 0 only at the end of the input, or if `buf` has no room. It
+    /// waits only for the first of the bytes.
     fn read(&mut self, buf: &mut [u8]) -> Result<usize, Failed>
         ensures within { IfOk result (λ n. n ≤ length buf.new) }
         ensures bytes { IfOk result (λ n. history self.new
@@ -50,7 +50,7 @@ pub trait Port {
         ensures cause { HasCause (read_faults self.old) (read_faults self.new) result }
         ensures outputs { (to : Output) → write_faults self.new to ≡ write_faults self.old to };
 
-    /// Writes the whole piece to an output. After an error a front of it was written.
+    /// Writes the whole piece to an output. If that fails, a front of the piece was written.
     fn write(&mut self, to: Output, piece: &[u8]) -> Result<(), Failed>
         ensures wrote { WritesFront (history self.old) (history self.new) to piece.now result }
         ensures input { left self.new ≡ left self.old }
@@ -58,7 +58,7 @@ pub trait Port {
         ensures beside { KeepsFaults (read_faults self.old) (read_faults self.new)
             (write_faults self.old) (write_faults self.new) to };
 
-    /// Hands on what was written to an output.
+    /// Flushes an output, so that what was written to it is handed on.
     fn flush(&mut self, to: Output) -> Result<(), Failed>
         ensures ok { OnOk result (history self.new
             ≡ told_then (history self.old) (flushes to true ∷ [])) }

@@ -1,4 +1,5 @@
-//! Reads of a live line: each comes once all that was decided is written and flushed.
+//! Reads of a live line: each comes only after all that is made of the lines read before is written
+//! and flushed.
 ghost use Rattle.std.specs.Prelude.{◌≡◌, ℕ, ◌≤◌, ◌<◌, ◌++◌, List, length, take, Option, IfOk, OnErr};
 ghost use Rattle.std.specs.Io.KnownBytes.{prepend_known, IsAtEnd};
 ghost use Rattle.yasir_io.specs.Causes.{HasCause};
@@ -13,9 +14,9 @@ ghost use Rattle.live_port.specs.declared.port.Output.{Output};
 use crate::Port;
 use yasir_io::Failed;
 
-/// Reads the next bytes of a line into the front of `buf`, where what is made of all lines that
-/// have ended is written and flushed. Returns how many; 0 only at the end, or where `buf` has no
-/// room.
+/// Reads the next bytes of a line into the front of `buf`, for a caller that has written and
+/// flushed what is made of all lines that have ended. Returns how many: 0 only at the end of the
+/// input, or if `buf` has no room.
 pub fn read_on<P: Port>(port: &mut P, buf: &mut [u8]) -> Result<usize, Failed>
     ensures within { IfOk result (λ n. n ≤ length buf.new) }
     ensures bytes { IfOk result (λ n. (made : LineAndNotes) (start : Option (List Event))
@@ -38,9 +39,9 @@ pub fn read_on<P: Port>(port: &mut P, buf: &mut [u8]) -> Result<usize, Failed>
     }
 }
 
-/// A law of histories: where what is made of a line is handed on, each call came where it may come.
-/// Before each read, all that was decided by what was read before was written and flushed; before
-/// each write of the other line's text, the notes of its ticks.
+/// A law of histories: if what is made of a line is handed on, each call came when it may come.
+/// Before each read, all that is made of the lines read before was written and flushed. Before each
+/// write of the other line's text, the notes that fall into its ticks were.
 pub fn handed_lines_are_in_order()
     ensures { (made : LineAndNotes) (start now : Option (List Event)) (read : List ℕ)
         (line : List Tick) → Handed made start now read line

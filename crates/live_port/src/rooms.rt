@@ -1,4 +1,4 @@
-//! The text of what is answered to a run or to a tick.
+//! The text of what a run or a tick puts on the other line.
 ghost use Rattle.std.specs.Prelude.{◌≡◌, ◌+◌, ◌<◌, ◌≤◌, ◌++◌, ◌∷◌, [], length};
 ghost use Rattle.yasir_ticks.specs.CanonicalText.{byte_line, silence_line};
 ghost use Rattle.burst_walk.specs.Answered.{answered};
@@ -11,10 +11,10 @@ use yasir_ticks::{Tick, push_digits};
 /// The text of one answer.
 pub type AnswerText = ArrayVec<u8, 256>;
 
-/// The most bytes that one line stands for.
+/// The most bytes that one line represents.
 const MAX_BYTES: usize = 32;
 
-// Appends the line `+` of these bytes.
+// Appends the `+` line of these bytes.
 fn push_bytes(text: &mut AnswerText, bytes: &[u8])
     requires some { 0 < length bytes.now }
     requires few { length bytes.now ≤ 32 }
@@ -27,7 +27,7 @@ fn push_bytes(text: &mut AnswerText, bytes: &[u8])
     text.push(b'\n');
 }
 
-// Appends the line `-` of this many silent ticks.
+// Appends the `-` line of `ticks` silent ticks.
 fn push_silence(text: &mut AnswerText, ticks: u32)
     requires room { length text.old.items + 22 ≤ 256 }
     ensures line { text.new.items ≡ text.old.items ++ silence_line ticks }
@@ -38,8 +38,8 @@ fn push_silence(text: &mut AnswerText, ticks: u32)
     text.push(b'\n');
 }
 
-/// The text of what is answered to a run: these bytes, or this many silent ticks where there is
-/// none.
+/// Returns the text of what a run of `count` ticks puts on the other line: the bytes `sent`, or
+/// `count` silent ticks if there are none.
 pub fn text_of_answer(count: u32, sent: &[u8]) -> AnswerText
     requires some { 0 < count }
     requires short { count ≤ 1000000 }
@@ -61,7 +61,7 @@ pub fn text_of_answer(count: u32, sent: &[u8]) -> AnswerText
     text
 }
 
-/// The text of one tick.
+/// Returns the text of one tick.
 pub fn text_of_tick(tick: Tick) -> AnswerText
     ensures { IsTextOf result.items (tick ∷ []) }
 {

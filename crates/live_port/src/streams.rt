@@ -1,5 +1,5 @@
-//! A source and two sinks as one port. Streams of the system tell no history, and so this port
-//! tells none.
+//! A source and two sinks as one port. Streams of the system tell no history, so this port tells
+//! none.
 ghost use Rattle.std.specs.Prelude.{◌≡◌, ◌≤◌, ◌∷◌, [], take, length, Some, None, true, false};
 ghost use Rattle.std.specs.Prelude.{IfOk, OnOk, OnErr};
 ghost use Rattle.std.specs.Io.KnownBytes.{prepend_known, append_known, IsAtEnd};
@@ -9,7 +9,7 @@ ghost use Rattle.live_port.specs.Streams.{stream_faults};
 use crate::{Output, Port};
 use yasir_io::{Failed, Sink, Source, write_all};
 
-/// An input and two outputs, by references.
+/// References to an input and two outputs.
 #[derive(Drop)]
 pub struct Streams<'a, S, O, L> {
     input: &'a mut S,
@@ -18,7 +18,7 @@ pub struct Streams<'a, S, O, L> {
 }
 
 impl<'a, S, O, L> Streams<'a, S, O, L> {
-    /// A port over these.
+    /// Returns a port over this input and these outputs.
     pub fn new(input: &'a mut S, out: &'a mut O, log: &'a mut L) -> Streams<'a, S, O, L>
         ensures input { result.input ≡ input.entry }
         ensures out { result.out ≡ out.entry }
