@@ -1,11 +1,11 @@
--- Pieces of lines behind those that wait.
+-- Pieces of lines after those that wait.
 use Rattle.hex.specs.Hex.{encode_lower, encode_with, lower_digits}
 use Rattle.std.proofs.Common.{◌≡◌, ◌∙◌, ℕ, zero, suc, ◌+◌, ◌*◌, ◌<◌, ◌≤◌, ◌/◌, ◌%◌, List, [], ◌∷◌}
 use Rattle.std.proofs.Common.{◌++◌, length, take, get_or, refl, sym, ap, arith, append_assoc}
 use Rattle.std.{proofs.lemmas.Fmt.decimal_digit, proofs.lemmas.Fmt.decimal_step, specs.Fmt.decimal}
 use Rattle.yasir_ticks.specs.{CanonicalText.byte_line, Characters.plus_sign, Characters.line_feed}
 
--- the digits of the first bytes
+-- the digits of the first `n` bytes
 encode-take : (t x : List ℕ) (n : ℕ) → take (2 * n) (encode_with t x) ≡ encode_with t (take n x)
 unfolding encode_with
 encode-take t x zero = refl
@@ -15,7 +15,8 @@ encode-take t (b ∷ x) (suc n) =
     ap (λ k. take k (encode_with t (b ∷ x))) e
     ∙ ap (λ l. get_or t (b / 16) 0 ∷ get_or t (b % 16) 0 ∷ l) (encode-take t x n)
 
--- the same between a sign and a line feed
+-- If a sign, the digits of the first `n` bytes and a line feed are added to a text, the line of
+-- these bytes is added.
 pub byte_line_held : (n : ℕ) (before bytes digits a b c : List ℕ) → digits ≡ encode_lower bytes
     → a ≡ before ++ plus_sign ∷ [] → b ≡ a ++ take (2 * n) digits → c ≡ b ++ line_feed ∷ []
     → c ≡ before ++ byte_line (take n bytes)

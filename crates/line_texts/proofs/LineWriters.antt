@@ -31,7 +31,7 @@ bytes_are writer none =
 pub silence_is : (writer : LineWriter) → writer.count ≡ 0 → unfilled writer ≡ silent writer.silence
 silence_is writer none = ap (λ n. map Byte (take n writer.bytes) ++ silent writer.silence) none
 
--- bytes have no silence beside them
+-- If the writer holds bytes, it holds no silence.
 pub not_silent : (writer : LineWriter) → 0 < writer.count → writer.silence ≡ 0
 not_silent writer some = by writer.silence writer.single
   where
@@ -52,7 +52,7 @@ takes old new run text are step = λ ticks answered has. record {
   are = are_ticks-append ticks run has.are are;
 }
 
--- ticks that complete no line
+-- more ticks of the same kind, which complete no line
 joins : (old new : LineWriter) (run : List Tick) → AreTicks run
     → unfilled new ≡ unfilled old ++ run → Takes old new run []
 joins old new run are is = takes old new run [] are (λ more. ap (λ l. canonical_text (l ++ more)) is)
@@ -70,7 +70,7 @@ silence_joined old new n none still is = joins old new (silent n) (are_silent n)
     (silence_is new still ∙ ap silent is ∙ sym (replicate-append-replicate old.silence n Silent)
     ∙ ap (λ l. l ++ silent n) (sym (silence_is old none)))
 
--- ticks that fill a line
+-- ticks that fill the line, which is then complete
 pub bytes_filled : (old new : LineWriter) (line x : List ℕ) → AreTicks (map Byte x)
     → old.silence ≡ 0 → new.count ≡ 0 → new.silence ≡ 0
     → line ≡ take old.count old.bytes ++ x → length line ≡ 32
@@ -98,7 +98,7 @@ silence_filled old new n m none no_byte no_silence sum full =
     (ap silent (sym sum) ∙ sym (replicate-append-replicate old.silence n Silent)
     ∙ ap (λ l. l ++ silent n) (sym (silence_is old none))))
 
--- ticks of the other kind
+-- Ticks of the other kind end the line.
 pub bytes_ended : (old new : LineWriter) (n : ℕ) → 0 < old.count → old.count ≤ length old.bytes
     → new.count ≡ 0 → new.silence ≡ n → 0 < n
     → Takes old new (silent n) (byte_line (take old.count old.bytes))

@@ -1,4 +1,4 @@
--- How runs of ticks go to the text of the other line, a line after the other.
+-- How runs of ticks go to the text of the other line, one line after another.
 use Rattle.line_texts.proofs.Sending.{front_of_nothing, texts_after_note, part_before}
 use Rattle.line_texts.proofs.Sending.{buffered_then, part_then, buffered_on, part_on}
 use Rattle.line_texts.specs.Runs.{TakesRun}
@@ -19,7 +19,7 @@ use Rattle.yasir_io.specs.{TextBuffer.waiting_bytes, declared.Failed.Failed}
 use Rattle.yasir_io.specs.declared.{sink.Sink.Ghosts as Sink, text_buffer.TextBuffer.TextBuffer}
 use Rattle.yasir_ticks.specs.declared.tick.Tick.{Tick}
 
--- what has gone on by nothing
+-- If a text is empty, so are its front and what waits of it.
 nil_front : (front waits : List ℕ) → front ++ waits ≡ [] → (front ≡ []) × (waits ≡ [])
 nil_front [] waits is = (refl, is)
 nil_front (b ∷ front) waits is = cc
@@ -35,7 +35,7 @@ nothing_got a b text none got =
     let parts = nil_front got.front got.rest (sym got.all ∙ none) in
     got.got ∙ (ap (λ f. append_known a f) parts.0 ∙ append_known-nil a)
 
--- a line was added to texts on their way
+-- A line is added to texts on their way.
 module _ {X F T E : Type 0} (s0 s1 s2 : SinkTexts)
     (wait1 wait2 notes1 notes2 text line notes : List ℕ) (result : Result T E) (x : X)
     (first : PushesTexts {T = X} {E = F} s0 s1 wait1 notes1 text notes (Ok x))
@@ -86,7 +86,7 @@ module _ {X F T E : Type 0} (s0 s1 s2 : SinkTexts)
     ];
   }
 
--- nothing was added
+-- nothing is added
 texts_still : (texts : SinkTexts) (ticks notes : List ℕ)
     → PushesTexts {T = Unit {0}} {E = Failed} texts texts ticks notes ticks notes (Ok tt)
 texts_still texts ticks notes = record {
@@ -97,7 +97,7 @@ texts_still texts ticks notes = record {
   notes_first = inl (refl, refl);
 }
 
--- no tick yet
+-- no tick is added
 pub pushes_none : {T E : Type 0} (x : T) (waits : Waiting) (texts : SinkTexts)
     → PushesTicks {T = T} {E = E} waits waits texts texts [] [] (Ok x)
 pushes_none x waits texts = record {
@@ -139,7 +139,7 @@ pushes_line x w0 w1 w2 s0 s1 s2 run more line result pushed goes then = record {
       (w0.notes ++ []) result x pushed.pushes then);
 }
 
--- one run after the other
+-- one run after another
 pub pushes_then : {X F T E : Type 0} (x : X) (w0 w1 w2 : Waiting) (s0 s1 s2 : SinkTexts)
     (run more : List Tick) (result : Result T E)
     → PushesTicks {T = X} {E = F} w0 w1 s0 s1 run [] (Ok x)
@@ -165,7 +165,7 @@ takes_then w0 w1 w2 run more first line goes = record {
       (goes (ticks ++ run) (answered ++ first.line) (first.written ticks answered before)));
 }
 
--- A writer has taken these of all ticks, and these are left.
+-- A writer has taken the first of `all` ticks, and `left` is the rest of them.
 pub record HasSkipped (start now : LineWriter) (all left : List Tick) : Type 0 where
   pub done : List Tick
   pub all_are : all ≡ done ++ left
@@ -224,14 +224,14 @@ module _ {O L : Type 0} (o : Sink O) (l : Sink L) where
         second.flushes;
   }
 
-  -- no tick
+  -- no tick is added
   pub pushed_none : (at : Writing O L) → Pushes o l at at [] [] (Ok tt)
   pushed_none at = record {
     adds = pushes_none tt (waiting_in at.texts) (texts_held o l at);
     writes = writes_none at;
   }
 
-  -- one run after the other
+  -- one run after another
   pub pushed_then : (a b c : Writing O L) (run more : List Tick)
       (result : Result (Unit {0}) Failed)
       → Pushes o l a b run [] (Ok tt) → Pushes o l b c more [] result
@@ -254,7 +254,7 @@ module _ {O L : Type 0} (o : Sink O) (l : Sink L) where
     writes = let none = writes_none at in record { cause = none.cause; flushes = none.flushes };
   }
 
-  -- there is room already
+  -- There is already room for a line.
   pub room_stands : (at : Writing O L) → length at.texts.ticks.items + 66 ≤ 65536
       → MakesRoom o l at at (Ok tt)
   room_stands at fits = record {
@@ -291,7 +291,7 @@ module _ {O L : Type 0} (o : Sink O) (l : Sink L) where
         writes = record { cause = room.writes.cause; flushes = room.writes.flushes };
       }
 
-  -- after a failed write the writer alone goes on
+  -- After a failed write only the writer goes on.
   pub pushed_lost : (at made : Writing O L) (writer : LineWriter) (run : List Tick) (e : Failed)
       → MakesRoom o l at made (Err e) → TakesRun made.texts.writer writer run
       → Pushes o l at (record made { texts = record made.texts { writer = writer } }) run []
@@ -324,9 +324,9 @@ module _ {O L : Type 0} (o : Sink O) (l : Sink L) where
       → run ≡ all → Pushes o l a b run [] result → Pushes o l a b all [] result
   pushed_as a b run all result is pushed = subst (λ r. Pushes o l a b r [] result) is pushed
 
-  -- ---- a note, and behind it a run
+  -- ---- a note, and a run after it
 
-  -- A note was added, and the run behind it.
+  -- A note was added, and then a run.
   pub pushed_noted : (at : Writing O L) (notes : TextBuffer) (log : L) (next : Writing O L)
       (run : List Tick) (note : List ℕ) (result : Result (Unit {0}) Failed)
       → Buffered (l.held at.log) (l.held log) (waiting_bytes notes)
@@ -359,7 +359,7 @@ module _ {O L : Type 0} (o : Sink O) (l : Sink L) where
     };
   }
 
-  -- The note failed, and the writer alone goes on.
+  -- The write of the note failed, and only the writer goes on.
   pub note_lost : (at : Writing O L) (notes : TextBuffer) (log : L) (writer : LineWriter)
       (run : List Tick) (note : List ℕ) (e : Failed)
       → GotPrefix (l.held at.log) (l.held log) (waiting_bytes at.texts.notes ++ note)
@@ -395,7 +395,7 @@ module _ {O L : Type 0} (o : Sink O) (l : Sink L) where
 
   -- ---- a run in parts
 
-  -- As far as these ticks are left of all, they were added.
+  -- The first of `all` ticks were added, and `left` is the rest of them.
   pub record HasPushed (start now : Writing O L) (all left : List Tick) : Type 0 where
     pub done : List Tick
     pub all_are : all ≡ done ++ left

@@ -1,4 +1,4 @@
--- How what is made of a line goes on to the two sinks, by some ticks, and how it ends.
+-- How what is made of a line goes on to the two sinks as ticks are taken, and how it ends.
 use Rattle.line_texts.specs.Sending.{LineAndNotes, AnswersNoted, SinkTexts, sink_texts, Waiting}
 use Rattle.line_texts.specs.Sending.{waiting, NotesFirst, SendsTexts, HasSent, HasSentFronts}
 use Rattle.line_texts.specs.{Sending.PushesTexts, Sending.PushesTicks, Writer.HasWritten}
@@ -13,7 +13,7 @@ use Rattle.yasir_ticks.specs.{CanonicalText.canonical_text, Ticks.AreTicks, decl
 
 -- ---- texts on their way
 
--- of what waited some more is on its way
+-- More of what waited is on its way.
 pub buffered_then : (a b c : Option (List ℕ)) (text waits left : List ℕ) → Buffered a b waits text
     → Buffered b c left waits
     → Buffered a c left text
@@ -36,7 +36,7 @@ part_then a b c text waits first then = record {
       ∙ sym (append_assoc first.front then.front then.rest);
 }
 
--- of what waited, and a piece behind it
+-- A piece was added after what waited, and more of both is on its way.
 pub buffered_on : (a b c : Option (List ℕ)) (text waits piece left : List ℕ)
     → Buffered a b waits text
     → Buffered b c left (waits ++ piece) → Buffered a c left (text ++ piece)
@@ -56,7 +56,7 @@ part_on a b c text waits piece first then =
       all = ap (λ l. l ++ piece) first.all ∙ append_assoc first.front waits piece;
     }) then
 
--- a piece behind what waits
+-- A piece is added after what waits.
 pub buffered_more : (a b : Option (List ℕ)) (text waits piece all : List ℕ)
     → all ≡ waits ++ piece → Buffered a b waits text → Buffered a b all (text ++ piece)
 buffered_more a b text waits piece all is goes = record {
@@ -93,7 +93,7 @@ pub on_ok_both : {T E A B C : Type 0} (r : Result T E) → (A → B → C) → O
 on_ok_both (Ok x) both a b = both a b
 on_ok_both (Err e) both a b = tt
 
--- a note was pushed, and then the texts were
+-- A note was pushed, and then the texts were.
 pub texts_after_note : {T E : Type 0} (result : Result T E)
     (out0 out2 log0 log1 log2 : Option (List ℕ))
     (ticks_wait notes_wait text notes mid : List ℕ) → Buffered log0 log1 mid notes
@@ -120,7 +120,7 @@ texts_after_note result out0 out2 log0 log1 log2 ticks_wait notes_wait text note
       ];
     }
 
--- what a writer has answered begins the text of its ticks
+-- what a writer has completed begins the text of its ticks
 pub answered-begins : (writer : LineWriter) (ticks : List Tick) (answered : List ℕ)
     → HasWritten writer ticks answered
     → (rest : List ℕ) × (answered ++ rest ≡ canonical_text ticks)
@@ -131,7 +131,7 @@ answered-begins writer ticks answered has = (
 
 -- ---- the notes go first
 
--- nothing went out
+-- Nothing more went to `out`.
 pub notes_later : (made : LineAndNotes) (line more next : List Tick) (front note_front note_more : List ℕ)
     → next ≡ line ++ more
     → NotesFirst made line front note_front → NotesFirst made next front (note_front ++ note_more)
@@ -147,7 +147,7 @@ notes_later made line more next front note_front note_more on first = record {
       ∙ append_assoc (made.note_lines first.early) first.more note_more;
 }
 
--- all notes went to the log
+-- All notes went to the log.
 pub notes_all : (made : LineAndNotes) (line : List Tick) (front rest : List ℕ)
     → AreTicks (made.other_line line)
     → canonical_text (made.other_line line) ≡ front ++ rest
@@ -195,7 +195,7 @@ begins made writer ticks notes texts no_tick no_note written no_ticks no_notes =
       };
     }
 
--- ---- some ticks more
+-- ---- some more ticks
 
 -- a text that is on its way to `out`, and the text of its ticks
 text_on : (writer : LineWriter) (ticks : List Tick) (answered front left : List ℕ)
@@ -206,7 +206,7 @@ text_on writer ticks answered front left has all =
     let rest = answered-begins writer ticks answered has in
     sym rest.1 ∙ ap (λ l. l ++ rest.0) all ∙ append_assoc front left rest.0
 
--- A run was answered with these ticks and a note, which are added to what waits.
+-- For a run, these ticks and a note were returned, and they are added to what waits.
 module _ (made : LineAndNotes) (line run answer : List Tick) (note : List ℕ)
     (answers : AnswersNoted made line run answer note)
     (old new : Waiting) (before s0 s1 : SinkTexts) (sends : SendsTexts made old before s0 line) where
@@ -229,7 +229,7 @@ module _ (made : LineAndNotes) (line run answer : List Tick) (note : List ℕ)
   all_with piece = ap (λ l. l ++ piece) sends.text.text.all
       ∙ append_assoc sends.text.text.front old.ticks piece
 
-  -- all notes went to the log
+  -- All notes went to the log.
   notes_of : s1.log ≡ append_known s0.log (old.notes ++ note)
       → s1.log ≡ append_known before.log (made.note_lines next)
   notes_of log = log ∙ ap (λ known. append_known known (old.notes ++ note)) sends.note_text.got
@@ -237,7 +237,7 @@ module _ (made : LineAndNotes) (line run answer : List Tick) (note : List ℕ)
       ∙ ap (append_known before.log) (sym (answers.note_is ∙ ap (λ l. l ++ note) sends.note_text.all
       ∙ append_assoc sends.note_text.front old.notes note))
 
-  -- both were added
+  -- The ticks and the note were added.
   pub sends_more : {T E : Type 0} (x : T) → Pushes {E = E} (Ok x)
       → SendsTexts made new before s1 next
   sends_more x pushed = elim pushed.pushes.notes_first [
@@ -286,7 +286,7 @@ module _ (made : LineAndNotes) (line run answer : List Tick) (note : List ℕ)
         }
   ]
 
-  -- one was added in part
+  -- A write failed, and a front was sent.
   pub sent_in_part : {T E : Type 0} (e : E) → Pushes {T = T} (Err e)
       → HasSentFronts made before s1 next
   sent_in_part e pushed = elim pushed.pushes.notes_first [
@@ -358,7 +358,7 @@ module _ (made : LineAndNotes) (line : List Tick) (waits : Waiting) (before s0 s
         sends.note_text notes_go);
   }
 
-  -- the notes went in part
+  -- Only a front of the notes was written.
   pub finish_keeps : s1.out ≡ s0.out → GotPrefix s0.log s1.log waits.notes
       → HasSentFronts made before s1 line
   finish_keeps still stops = record {
@@ -381,7 +381,7 @@ module _ (made : LineAndNotes) (line : List Tick) (waits : Waiting) (before s0 s
         stops.front (sym (append-nil line)) sends.notes_first;
   }
 
-  -- the notes went, and the ticks in part
+  -- All notes were written, and only a front of the ticks was.
   pub finish_stops : GotPrefix s0.out s1.out (waits.ticks ++ last)
       → Buffered s0.log s1.log [] waits.notes → HasSentFronts made before s1 line
   finish_stops stops notes_go =
