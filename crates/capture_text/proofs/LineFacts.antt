@@ -1,4 +1,4 @@
--- What the bytes of a line are, and what follows for the causes of its refusals.
+-- Which bytes a line can have, and what follows from this for the causes of its refusals.
 use Rattle.capture_text.specs.CaptureText.{point, is_blank, with_point, IsTime, ArePairs, IsPair}
 use Rattle.capture_text.specs.CaptureText.{fraction_value, stays_in_line, behind_blank}
 use Rattle.hex.specs.Hex.{hex_digit_value}
@@ -7,7 +7,7 @@ use Rattle.std.proofs.Common.{[], ◌∷◌, ◌++◌, Some, None, refl, ap, ari
 use Rattle.std.{proofs.lemmas.Bool.and_parts, specs.List.list_all}
 use Rattle.yasir_ticks.specs.TickText.{is_decimal_digit, ends_in_return}
 
--- the bytes of a time
+-- whether a byte can be in a time
 abbrev pub is_time_byte : ℕ → Bool
 is_time_byte b = is_decimal_digit b || b == point
 
@@ -33,7 +33,7 @@ all_weaker test other w (c ∷ x) h =
     let parts = and_parts (test c) (list_all test x) h in
     rw (w c parts.0, all_weaker test other w x parts.1) refl
 
--- ---- which bytes are apart
+-- ---- which bytes differ from which
 
 pub digit_is_time_byte : (b : ℕ) → is_decimal_digit b ≡ true → is_time_byte b ≡ true
 digit_is_time_byte b h = rw h refl
@@ -107,7 +107,7 @@ time_bytes text time t =
     (all_weaker is_decimal_digit is_time_byte digit_is_time_byte t.whole t.digits)
     (fraction_bytes t.fraction t.fraction_digits)
 
--- what the next digit behind these counts, where the first one counts this
+-- what the digit after these digits counts, in nanoseconds, if the first of them counts `counts`
 abbrev pub counts_after : ℕ → List ℕ → ℕ
 counts_after counts [] = counts
 counts_after counts (d ∷ digits) = counts_after (counts / 10) digits

@@ -1,4 +1,4 @@
--- What a line so far is at each place of its reader, and what one byte more makes of it.
+-- What a line so far is at each place of its reader, and what one more byte makes of it.
 use Rattle.capture_text.proofs.LineFacts.{is_time_byte, all_more, all_weaker, digit_is_time_byte}
 use Rattle.capture_text.proofs.LineFacts.{time_byte_no_return, hex_no_return, blank_no_return}
 use Rattle.capture_text.proofs.LineFacts.{blank_stays, hex_stays, digit_stays, no_hex_no_digit}
@@ -29,14 +29,14 @@ use Rattle.std.{proofs.lemmas.Bool.ltb-true, proofs.lemmas.List.length-append, s
 use Rattle.{std.specs.Option.option_to_list, yasir_ticks.proofs.Digits.number_after-append}
 use Rattle.yasir_ticks.specs.TickText.{is_decimal_digit, number_after, ends_in_return}
 
--- digits of whole seconds
+-- The line so far is the digits of whole seconds.
 pub record IsWhole (line : List ℕ) (time : ℕ) : Type 0 where
   pub digits : list_all is_decimal_digit line ≡ true
   pub some : 0 < length line
   pub value : time ≡ 1000000000 * number_after 0 line
   pub fits : time < 2 ^ 64
 
--- digits before and behind a point
+-- The line so far is digits, a point and at least one more digit.
 pub record IsFraction (line : List ℕ) (time counts : ℕ) : Type 0 where
   pub whole : List ℕ
   pub first : ℕ
@@ -49,7 +49,7 @@ pub record IsFraction (line : List ℕ) (time counts : ℕ) : Type 0 where
   pub counts_is : counts ≡ counts_after 100000000 (first ∷ others)
   pub fits : time < 2 ^ 64
 
--- a time, a blank, pairs and one digit more
+-- The line so far is a time, a blank, pairs of digits, and the first digit of another pair.
 pub record IsHalf (line : List ℕ) (time : ℕ) (first : Bool) (high : ℕ) (items : List CaptureByte) :
     Type 0 where
   pub seconds : List ℕ
@@ -65,7 +65,7 @@ pub record IsHalf (line : List ℕ) (time : ℕ) (first : Bool) (high : ℕ) (it
   pub first_is : first ≡ (length bytes == 0)
   pub items_are : items ≡ recorded time bytes
 
--- the line so far brings its reader to this place, and stands for these bytes
+-- The line so far brings its reader to this place, and represents these bytes.
 pub data At : Place → List ℕ → List CaptureByte → Type 0 where
   start : At Start [] []
   in_comment : (line : List ℕ) → IsComment line → At Comment line []
@@ -83,27 +83,28 @@ pub data At : Place → List ℕ → List CaptureByte → Type 0 where
   after_return : (content : List ℕ) (items : List CaptureByte) → IsContent content items
       → At Returned (content ++ 13 ∷ []) items
 
--- one byte more ends the line
+-- One more byte ends the line.
 pub record Ends (line : List ℕ) (items : List CaptureByte) (b : ℕ)
     (next : Place × Option CaptureByte) : Type 0 where
   pub feed : b ≡ 10
   pub next_is : next ≡ (Start, None)
   pub is_line : IsLine line items
 
--- one byte more goes on with the line
+-- One more byte joins the line.
 pub record GoesOn (line : List ℕ) (items : List CaptureByte) (b : ℕ)
     (next : Place × Option CaptureByte) : Type 0 where
   pub stays : stays_in_line b ≡ true
   pub at : At next.0 (line ++ b ∷ []) (items ++ option_to_list next.1)
 
--- what one byte more makes of a line
+-- what one more byte makes of a line
 abbrev pub Goes : List ℕ → List CaptureByte → ℕ → Stepped → Type 0
 Goes line items b (Ok next) = Ends line items b next ⊎ GoesOn line items b next
 Goes line items b (Err why) = fault_in_line line (Some b) ≡ why
 
 -- ---- causes
 
--- a line that holds no CR at its end and nothing behind a blank
+-- If a line doesn't end in CR and has nothing after a blank, a byte other than a digit is refused
+-- as in a line without bytes.
 fault_plain : (line : List ℕ) (b : ℕ) → ends_in_return line ≡ false → behind_blank line ≡ []
     → is_decimal_digit b ≡ false → fault_in_line line (Some b) ≡ fault_without_bytes b
 fault_plain line b h g d = rw (h, g, d) refl
@@ -149,7 +150,7 @@ stays_of b e = rw e refl
 no_end : (b : ℕ) → (b == 10) ≡ false → (b == 13) ≡ false → ends_line b ≡ false
 no_end b e f = rw (e, f) refl
 
--- at the end of a content
+-- at the end of a content, after which only the line can end
 line_goes : (line : List ℕ) (items : List CaptureByte) (b : ℕ) → IsContent line items
     → is_decimal_digit b ≡ false → Goes line items b (after_line b)
 line_goes line items b content d =
@@ -206,7 +207,7 @@ no_return line time t =
 some_more : (x : List ℕ) (b : ℕ) → 0 < length (x ++ b ∷ [])
 some_more x b = omega (arith, length-append x (b ∷ []))
 
--- at the front of a line
+-- at the start of a line
 start_goes : (b : ℕ) → Goes [] [] b (step_at Start b)
 unfolding step_at
 start_goes b =
@@ -288,7 +289,7 @@ whole_goes line b time w =
         let Q : ℕ → Type 0 = λ c. At (Point time) (line ++ c ∷ []) [] in
         record { stays = rw e refl; at = subst Q (sym e) (after_point line time w) }
 
--- a digit behind the point
+-- at a digit after the point
 fraction_digit : (line : List ℕ) (b time counts : ℕ) → IsFraction line time counts
     → is_decimal_digit b ≡ true → Goes line [] b (after_fraction time counts b)
 fraction_digit line b time counts f d =
@@ -531,7 +532,8 @@ time_empty : (line : List ℕ) (time : ℕ) → IsTime line time → fault_in_li
 time_empty line time t =
     fault_empty line (no_return line time t) (behind_blank-none line (time_bytes line time t))
 
--- where the text may not end, it is refused for this cause
+-- Holds of the result of `end_fault`: the text may end at this place, or it is refused for this
+-- cause.
 abbrev pub EndGoes : List ℕ → Place → Option TextFault → Type 0
 EndGoes line place None = may_end place ≡ true
 EndGoes line place (Some why) = (may_end place ≡ false) × (fault_in_line line None ≡ why)

@@ -1,4 +1,4 @@
--- What a text so far is where its reader has come to a place.
+-- What a text so far is if its reader has come to a place.
 use Rattle.byte_walk.{proofs.WalkLaws.walk_keeps, specs.Walks.walk}
 use Rattle.capture_text.proofs.LineFacts.{all_more}
 use Rattle.capture_text.proofs.Places.{At, Goes, Ends, GoesOn, step_goes, end_goes, EndGoes}
@@ -88,7 +88,7 @@ reached_more place next text items b item r e =
       | inr g ↦ goes_on_so place next text items b item r g
     ]
 
--- a walk from the front of a text comes to a place that the text has reached
+-- If a walk from the start of a text comes to a place, the text has reached this place.
 pub reached : (place : Place) (text : List ℕ) (items : List CaptureByte)
     → walk step_at Start text ≡ Ok (place, items) → Reached place text items
 reached place text items e = walk_keeps step_at Reached reached_more Start place [] text [] items
@@ -109,7 +109,7 @@ reached_cause place text items b why r e =
       why_is = sym (subst Q e (step_goes place r.line r.these b r.at));
     }
 
--- where a line may end, it is one
+-- If a text may end at a place, the line so far is a whole line.
 ends_so : (place : Place) (line : List ℕ) (items : List CaptureByte) → At place line items
     → may_end place ≡ true → IsLine line items
 ends_so place line items start m = plain [] [] nothing

@@ -15,7 +15,7 @@ use Rattle.std.proofs.Common.{◌≡◌, ℕ, ◌+◌, ◌*◌, ◌<◌, ◌^◌
 use Rattle.std.proofs.Common.{None, Ok, Err, refl, sym, arith}
 use Rattle.std.specs.Option.{option_to_list}
 
--- from this place a text can still come to its end
+-- From this place, a text can still be continued to a right text.
 abbrev GoesOn : Place → Type 0
 GoesOn place = GoesOnFrom step_at Start may_end IsTextCapture place
 
@@ -79,7 +79,7 @@ reads_text = record {
       let walks = text_walk bytes items t in (walks.place, walks.walks, walks.end);
 }
 
--- ---- what a reader says of a text that it came to a place over
+-- ---- what a reader says of a text, if it came to a place over it
 
 module _ (place : Place) (text : List ℕ) (items : List CaptureByte)
     (walks : walk step_at Start text ≡ Ok (place, items)) where

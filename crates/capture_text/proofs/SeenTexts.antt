@@ -1,4 +1,4 @@
--- A text capture as a list of items: its bytes, each as one.
+-- A text capture as a list of items, one for each of its bytes.
 use Rattle.byte_walk.specs.Walks.{Begins, BeginsNone}
 use Rattle.capture_text.specs.{CaptureText.IsTextCapture, Reader.IsSeenText}
 use Rattle.line_stamps.specs.declared.capture.CaptureByte.{CaptureByte}
@@ -25,7 +25,7 @@ seen_more bytes byte items e =
     ∙ ap (λ x. map Byte bytes ++ x) (sym (seen-one byte))
     ∙ sym (seen-append bytes (option_to_list byte))
 
--- each text that goes on so has these items first
+-- Each right text that begins with this text has these items first.
 pub seen_each : (text : List ℕ) (bytes : List CaptureByte) (items : List Seen)
     → Begins IsTextCapture text bytes → items ≡ map Byte bytes → (more : List ℕ) (all : List Seen)
     → IsSeenText (text ++ more) all → (others : List Seen) × (all ≡ items ++ others)

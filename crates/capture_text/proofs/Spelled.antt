@@ -1,4 +1,4 @@
--- What a reader comes to over the lines of a right text.
+-- The places to which the lines of a right text bring its reader.
 use Rattle.byte_walk.proofs.WalkLaws.{walk-join, walk-more, walk-cons}
 use Rattle.{byte_walk.specs.Walks.walk, capture_text.proofs.LineFacts.counts_after}
 use Rattle.capture_text.specs.CaptureText.{point, is_blank, with_point, IsTime, ArePairs}
@@ -61,7 +61,7 @@ fraction_walk time counts (d ∷ digits) h fits =
     (omega (arith, fits))
     ∙ ap (λ t. Ok (Fraction t (counts_after (counts / 10) digits), [])) sum)
 
--- where a time brings its reader
+-- A time brings the reader to this place, and a blank after it to `Blank`.
 record TimeWalk (seconds : List ℕ) (time : ℕ) : Type 0 where
   pub place : Place
   pub walks : walk step_at Start seconds ≡ Ok (place, [])
@@ -181,14 +181,14 @@ bytes_walk time (d ∷ e ∷ digits) (b ∷ bytes) h some =
 
 -- ---- lines
 
--- where a line brings its reader
+-- A line brings the reader to this place, at which the line and the text may end.
 pub record LineWalk (line : List ℕ) (items : List CaptureByte) : Type 0 where
   pub place : Place
   pub walks : walk step_at Start line ≡ Ok (place, items)
   pub end : may_end place ≡ true
   pub feed : step_at place 10 ≡ Ok (Start, None)
 
--- where a content brings its reader, and a CR behind it
+-- A content brings the reader to the place of `line`, and a CR after it to `behind`.
 record ContentWalk (content : List ℕ) (items : List CaptureByte) : Type 0 where
   pub line : LineWalk content items
   pub behind : Place
@@ -281,7 +281,7 @@ lines_walk text items (more before line these others h l) =
     (walk-more step_at Start walks.place Start line others 10 None walks.walks walks.feed
     ∙ ap (λ x. Ok (Start, x)) (append-nil others))
 
--- where a text brings its reader
+-- A text brings the reader to this place, at which the text may end.
 pub record TextWalk (text : List ℕ) (items : List CaptureByte) : Type 0 where
   pub place : Place
   pub walks : walk step_at Start text ≡ Ok (place, items)

@@ -1,4 +1,4 @@
--- A time that is written, and digits of bytes behind it, are a record.
+-- A time as it is written, with the digits of bytes after it, is a record.
 use Rattle.capture_text.proofs.LineFacts.{all_more}
 use Rattle.capture_text.specs.CaptureText.{IsTime, IsRecord, IsPair, ArePairs, recorded, point}
 use Rattle.capture_text.specs.{CaptureText.fraction_value, Writing.fraction_digits}
@@ -54,7 +54,7 @@ spelled n fits = decimal_by_steps IsSpelled one more n fits
       some = omega (arith, length-append digits ((48 + n % 10) ∷ []));
     }
 
--- one digit in front of those that what is left makes
+-- Digits represent `n` if the first is `n / counts` and the others represent the rest of `n`.
 value_step : (counts n rest : ℕ) → n / counts * counts + n % counts ≡ n → rest ≡ n % counts
     → (48 + n / counts - 48) * counts + rest ≡ n
 value_step counts n rest e f =
@@ -130,7 +130,7 @@ written_record start front fits e bytes some h =
       items_are = refl;
     }
 
--- the same from the parts in the order in which they are written
+-- The parts of a record, in the order in which they are written, are a record.
 pub written_parts : (start : ℕ) (none whole pointed fractioned front : List ℕ) → start < 2 ^ 64
     → none ≡ [] → whole ≡ none ++ decimal (start / 1000000000) → pointed ≡ whole ++ point ∷ []
     → fractioned ≡ pointed ++ fraction_digits (start % 1000000000)

@@ -20,5 +20,6 @@ pub struct BadText {
     pub offset: u64,
     /// The line, counted from 1, that holds the refused byte or the end of the text.
     pub line: u64,
+    /// Why the text is refused.
     pub why: TextFault,
 }
