@@ -42,7 +42,7 @@ none_of_b rate bit before [] ys h = changes_none rate bit before ys
 none_of_b rate bit before (x ∷ xs) [] h = changes_one rate bit before x xs
 none_of_b rate bit before (x ∷ xs) (y ∷ ys) h = absurd (omega arith)
 
--- the changes at the first bit, and those behind it
+-- The changes are those at the first bit, and those at the bits after it.
 pub bits_more : (rate : Rate) (bit : ℕ) (before : BothLevels) (xs ys : List Bool) → 1 ≤ length xs
     → 1 ≤ length ys
     → changes_from rate bit before xs ys
@@ -91,7 +91,7 @@ line_more bits line tick =
     flat_map-append (tick_levels bits) line (tick ∷ [])
     ∙ ap (λ x. line_levels bits line ++ x) (append-nil (tick_levels bits tick))
 
--- A tick more adds the changes in it, behind bits of two quiet wires.
+-- One more tick adds the changes in it, as they are after a bit in which both wires are quiet.
 pub ticks_more : (rate : Rate) (xs ys : List Tick) (a b : Tick) (n : ℕ) → length xs ≡ n
     → length ys ≡ n
     → ticks_changes rate (xs ++ a ∷ []) (ys ++ b ∷ [])
@@ -122,7 +122,7 @@ ticks_more rate xs ys a b n of_a of_b =
     ∙ ap (λ q. changes_from rate rate.bits quiet la lb
     ++ changes_from rate ((n + 1) * rate.bits) q ta tb) ends
 
--- a line and the silence behind it
+-- the length of a line with the silence after it
 pub length_padded : (line other : List Tick) → length (padded line other)
     ≡ length line + (length other - length line)
 length_padded line other =

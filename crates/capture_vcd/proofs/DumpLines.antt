@@ -16,7 +16,7 @@ written_so writer xs ys more_x more_y text more s of_x of_y is =
     let R : List ℕ → Type 0 = λ t. HasWritten writer more_x more_y t in
     subst R (sym is) (subst Q of_y (subst P of_x s))
 
--- a tick more of both lines
+-- one more tick of both lines
 pub tick_more : (writer : DumpWriter) (a b : List Tick) (n : ℕ) (x y : Tick) (text more : List ℕ)
     → n < max (length a) (length b) → x ≡ get_or a n Silent → y ≡ get_or b n Silent
     → HasWritten writer (take n (padded a b) ++ x ∷ []) (take n (padded b a) ++ y ∷ []) text

@@ -1,4 +1,4 @@
--- The levels of ticks: how many they are, that they end high, and that they give their ticks back.
+-- The levels of ticks: how many there are, that they end high, and that they give the ticks back.
 use Rattle.capture_vcd.specs.Levels.{data_levels, parity_levels, byte_levels, tick_levels}
 use Rattle.capture_vcd.specs.{Levels.line_levels, Looks.value_of, Looks.tick_of}
 use Rattle.std.proofs.Common.{◌≡◌, ◌∙◌, ℕ, zero, suc, ◌+◌, ◌-◌, ◌*◌, ◌/◌, ◌%◌, ◌^◌, ◌<◌, ◌≤◌, ◌==◌}
@@ -23,7 +23,7 @@ unfolding data_levels
 data_levels_some zero byte h = absurd (omega arith)
 data_levels_some (suc n) byte h = let e : suc n - 1 ≡ n = omega arith in rw e refl
 
--- a bit that was pushed, and the bits behind it
+-- If a bit is pushed and then the bits after it, the levels of the data are pushed.
 pub data_more : (old pushed all : List Bool) (count byte : ℕ) → 0 < count
     → pushed ≡ old ++ (byte % 2 == 1) ∷ [] → all ≡ pushed ++ data_levels (count - 1) (byte / 2)
     → all ≡ old ++ data_levels count byte

@@ -1,4 +1,4 @@
--- Who looks at a wire of a dump within a bit sees the level of this bit.
+-- Whoever looks at a wire of a dump within a bit sees the level of this bit.
 use Rattle.capture_vcd.proofs.ChangeLaws.{changes_none, changes_one, changes_more, length_padded}
 use Rattle.capture_vcd.proofs.LevelLaws.{length_line, level_in_line}
 use Rattle.capture_vcd.specs.Changes.{bit_start, quiet, change_if, changes_at, changes_from, padded}
@@ -29,7 +29,7 @@ start_rises rate first second h =
     let few : 300 ≤ rate.baud = rate.slowest in
     rounded_rises rate.baud (first * 1000000000) (second * 1000000000) (omega arith) (omega arith)
 
--- ---- what a change is to one who looks before it, and behind it
+-- ---- what a change means at a time before it, and at a time after it
 
 looked_both : (way : Way) (time : ℕ) (before : Bool) (first second : List Change)
     → level_at way time before (first ++ second)

@@ -13,7 +13,7 @@ use Rattle.std.proofs.lemmas.List.{take_all, take_more, get_or_append_left, get_
 use Rattle.std.specs.List.{flat_map}
 use Rattle.yasir_ticks.specs.declared.tick.Tick.{Tick, TheVariants.Silent}
 
--- the text of the first bit, and that of those behind it
+-- The text is that of the changes at the first bit, and that of the bits after it.
 pub bits_text : (rate : Rate) (bit : ℕ) (before : BothLevels) (xs ys : List Bool)
     (old now all : List ℕ) → 1 ≤ length xs → 1 ≤ length ys
     → now ≡ old ++ flat_map change_text
@@ -83,7 +83,7 @@ silent_behind [] n h = refl
 silent_behind (tick ∷ line) zero h = absurd (omega arith)
 silent_behind (tick ∷ line) (suc n) h = silent_behind line n (omega arith)
 
--- a tick of a line with the silence behind it
+-- a tick of a line that is filled with silence
 tick_of_padded : (line other : List Tick) (n : ℕ)
     → get_or (padded line other) n Silent ≡ get_or line n Silent
 tick_of_padded line other n =
@@ -95,19 +95,19 @@ tick_of_padded line other n =
     ∙ sym (silent_behind line n behind))
     (cases_lt n (length line))
 
--- one tick more of it
+-- The first `n` ticks of the filled line and its next tick are its first `n + 1` ticks.
 pub front_more : (line other : List Tick) (n : ℕ) → n < max (length line) (length other)
     → take n (padded line other) ++ get_or line n Silent ∷ [] ≡ take (n + 1) (padded line other)
 front_more line other n h =
     ap (λ t. take n (padded line other) ++ t ∷ []) (sym (tick_of_padded line other n))
     ∙ sym (take_more (padded line other) n Silent (omega (arith, length_padded line other)))
 
--- all of it
+-- As many ticks as the longer line has are the whole filled line.
 pub front_all : (line other : List Tick) (n : ℕ) → n ≡ max (length line) (length other)
     → take n (padded line other) ≡ padded line other
 front_all line other n h = take_all n (padded line other) (omega (arith, length_padded line other))
 
--- The silence behind the shorter line says nothing more.
+-- The silence after the shorter line changes nothing in the dump.
 pub dump_padded : (rate : Rate) (wires : Wires) (a b : List Tick)
     → dump_text rate wires (padded a b) (padded b a) ≡ dump_text rate wires a b
 dump_padded rate wires a b =

@@ -14,7 +14,9 @@ use yasir_ticks::Tick;
 /// The levels of both wires.
 #[derive(Clone, Copy, Debug, PartialEq, Eq)]
 pub struct BothLevels {
+    /// Whether the wire of way A is high.
     pub a: bool,
+    /// Whether the wire of way B is high.
     pub b: bool,
 }
 

@@ -3,7 +3,7 @@ use Rattle.capture_vcd.specs.Writer.{HasWritten, rate_of, wires_of, ticks_of}
 use Rattle.std.proofs.Common.{◌≡◌, take}
 use Rattle.capture_vcd.proofs.lines.dump.Given as goal
 
--- the ticks so far were written
+-- The ticks so far were written.
 abbrev pub invariant-loop-n : goal.invariant-loop-n
 invariant-loop-n l = record {
   written : HasWritten l.writer (take l.n (padded l.a l.b)) (take l.n (padded l.b l.a)) l.text.items;
