@@ -6,7 +6,7 @@ use Rattle.std.proofs.lemmas.List.{take_all}
 use Rattle.yasir_ticks.specs.TickText.{is_decimal_digit}
 use Rattle.capture_rows.specs.Decimals.{with_digit, with_fraction, and_then, number_from, fraction_from}
 
--- what comes after the first digit
+-- the digits after the first one
 behind_first : (digit : ℕ) (digits : List ℕ)
     → take (length (digit ∷ digits) - 1) (drop 1 (digit ∷ digits)) ≡ digits
 behind_first digit digits = take_all (length (digit ∷ digits) - 1) digits (omega arith)

@@ -24,7 +24,7 @@ lines_more text b before after e is =
     is ∙ one_more (b == 10) before ∙ ap (λ n. n + (if b == 10 then 1 else 0)) e
     ∙ sym (lines_ended-more text b)
 
--- the refusal of a line is that of the LF that ends it
+-- If the LF that ends a line is refused, its line is refused for the same reason.
 line_err : (r : Result (RowState × Option Seen) RowFault) (why : RowFault)
     → ended_line r ≡ Err why → r ≡ Err why
 line_err (Ok after) why e = cc
@@ -40,7 +40,7 @@ never r next why e f = cc
 is_long : (r : Stepped) (why : RowFault) → r ≡ Err Long → r ≡ Err why → why ≡ Long
 is_long r why e f = cc
 
--- a byte that doesn't join its line
+-- If a byte that stays in its line is refused, the line is too long.
 too_long : (next : (RowState × List ℕ) × Option Seen) (n : ℕ) (why : RowFault) (r : Stepped)
     → r ≡ (if nat_lt n MAX_LINE then Ok next else Err Long) → r ≡ Err why
     → (MAX_LINE ≤ n) × (why ≡ Long)
@@ -52,7 +52,7 @@ too_long next n why r is e =
 
 module _ {F : Type 0} (row_at : Stage → List ℕ → Result Row RowFault) (name_of : List ℕ → List ℕ)
   where
-    -- A refusal with the begin and the number of the reader's line is one of its text.
+    -- A refusal with the start and the number of the reader's line is a right refusal of the text.
     pub refuses_line : (reader : RowReader F) (text : List ℕ) (items : List Seen)
         (following : Option ℕ) (bad : BadRow) → StandsFor row_at name_of reader text items
         → bad.offset ≡ reader.begun → bad.line ≡ reader.ended + 1

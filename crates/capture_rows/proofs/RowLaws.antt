@@ -35,7 +35,7 @@ all_more test (c ∷ x) b h e =
 other_byte : (b : ℕ) → (b == line_feed) ≡ false → stays_in b ≡ true
 other_byte b e = rw e refl
 
--- a line that came to its end
+-- A line has ended, and the reader has come to this place.
 record CameLine (r : Result (RowState × Option Seen) RowFault) (next : Place) (item : Option Seen) :
     Type 0 where
   pub after : RowState
@@ -59,7 +59,7 @@ came_line (Ok after) next item e = record {
     place_in d (Err why) = d
 came_line (Err why) next item e = cc
 
--- a byte that joined its line
+-- A byte has joined its line, and the reader has come to this place.
 record CameByte (state : RowState) (line : List ℕ) (b : ℕ) (next : Place) (item : Option Seen) :
     Type 0 where
   pub next_is : next ≡ (state, line ++ b ∷ [])
@@ -92,7 +92,7 @@ module _ (row_at : Stage → List ℕ → Result Row RowFault) (name_of : List �
   abbrev start : Place
   start = (first_state, [])
 
-  -- what came before the line of a place, and the line
+  -- The text so far is lines that have ended, and the line so far.
   pub record At (place : Place) (text : List ℕ) (items : List Seen) : Type 0 where
     pub ended : List ℕ
     pub text_is : text ≡ ended ++ place.1
@@ -109,7 +109,7 @@ module _ (row_at : Stage → List ℕ → Result Row RowFault) (name_of : List �
     short = omega arith;
   }
 
-  -- ---- a byte more
+  -- ---- one more byte
 
   pub plain_step : (state : RowState) (line : List ℕ) (b : ℕ) → (b == line_feed) ≡ false
       → length line < MAX_LINE
@@ -251,7 +251,7 @@ module _ (row_at : Stage → List ℕ → Result Row RowFault) (name_of : List �
   pub reads_rows : ReadsFormat step start may_end_at (IsExport row_at name_of)
   reads_rows = record { sound = sound; complete = complete }
 
-  -- ---- what a reader says of a text that it came to a place over
+  -- ---- what a reader says of a text, if it came to a place over it
 
   module _ (place : Place) (text : List ℕ) (items : List Seen)
       (walks : walk step start text ≡ Ok (place, items)) where

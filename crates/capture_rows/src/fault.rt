@@ -26,5 +26,6 @@ pub struct BadRow {
     pub offset: u64,
     /// The refused line, counted from 1.
     pub line: u64,
+    /// Why the line is refused.
     pub why: RowFault,
 }

@@ -33,14 +33,18 @@ pub enum What {
 /// What a row says, and its time in nanoseconds.
 #[derive(Clone, Copy, Debug, PartialEq, Eq)]
 pub struct RowItem {
+    /// The time of the row, in nanoseconds.
     pub start: u64,
+    /// What the row says of its channel.
     pub what: What,
 }
 
 /// What a line means: what may follow it, and what it says, if it says anything.
 #[derive(Clone, Copy, Debug, PartialEq, Eq)]
 pub struct Row {
+    /// The stage after the line: what may follow it.
     pub next: Stage,
+    /// What the line says, or `None` if it says nothing, as a heading does.
     pub item: Option<RowItem>,
 }
 
@@ -61,6 +65,7 @@ pub trait RowForm: Drop {
     // place of that row.
     ghost error_follows: { Bool };
 
+    /// Returns the form. Every value of its type means the same.
     fn form() -> Self;
 
     /// Returns what a line means at this stage, or why it is refused.
