@@ -1,4 +1,4 @@
--- A text behind whole lines.
+-- A text after whole lines.
 use Rattle.live_port.specs.{Counted.capped, Lines.AreWholeLines}
 use Rattle.std.proofs.Common.{◌≡◌, ◌∙◌, ℕ, ◌+◌, ◌-◌, List, [], ◌∷◌, ◌++◌, length, Some, refl, ap}
 use Rattle.std.proofs.Common.{sym, subst, arith, append-nil, append_assoc, length-append}
@@ -105,7 +105,7 @@ pub end_behind : (whole part : List ℕ) → (lines_of whole).last ≡ []
 end_behind whole part closed =
     rw (ap (λ (l : Lines). l.last) (lines_behind whole part closed)) refl
 
--- whole lines, and then more
+-- Whole lines, and after them lines without a mark, are whole lines.
 pub whole_then : (whole part : List ℕ) → AreWholeLines whole → (lines_of part).last ≡ []
     → all_items (lines_of part).ended ≡ Some (ended_items part)
     → marks_in (ended_items part) ≡ 0 → AreWholeLines (whole ++ part)

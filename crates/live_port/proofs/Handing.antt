@@ -1,4 +1,4 @@
--- What calls add to a history, and what is handed on by them.
+-- What calls add to a history, and what they hand on.
 use Rattle.line_texts.specs.Sending.{LineAndNotes, AnswersNoted}
 use Rattle.live_port.proofs.Texts.{text_then, text_as, text_nil}
 use Rattle.live_port.specs.History.{Event, told_then, bytes_read, read_by, written, written_by}
@@ -111,12 +111,12 @@ quiet_of Out more (inr is) = subst IsQuiet (sym is)
 quiet_of Log more (inr is) = subst IsQuiet (sym is)
     (record { read = refl; out = refl; log = refl; each = λ made line front. (tt, tt) })
 
--- ---- one answer
+-- ---- what is returned for one run
 
 module _ (made : LineAndNotes) (start : Option (List Event)) (read : List ℕ) (line run answer : List Tick)
     (note text : List ℕ) (answers : AnswersNoted made line run answer note)
     (text_is : IsTextOf text answer) where
-  -- its note is written and flushed
+  -- The note was written and flushed.
   pub record Noted (now : Option (List Event)) : Type 0 where
     pub events : List Event
     pub is : now ≡ told_then start events
@@ -168,7 +168,7 @@ module _ (made : LineAndNotes) (start : Option (List Event)) (read : List ℕ) (
       (made.other_line line ++ answer) (made.other_line (line ++ run)) refl
       (sym answers.ticks_are) (text_then written_so text (made.other_line line) answer is text_is)
 
-  -- the note broke off
+  -- Only a front of the note was written, or its flush failed.
   pub noted_cut : (now next : Option (List Event)) (front rest : List ℕ) (more : List Event)
       → note ≡ front ++ rest → (more ≡ []) ⊎ (more ≡ flushes Log false ∷ [])
       → Handed made start now read line → next ≡ told_then now (writes Log front ∷ more)
@@ -217,7 +217,7 @@ module _ (made : LineAndNotes) (start : Option (List Event)) (read : List ℕ) (
     flushed = flushed;
   }
 
-  -- the text broke off
+  -- The note was handed on. Only a front of the text was written, or its flush failed.
   pub text_cut : (now next : Option (List Event)) (front rest : List ℕ) (more : List Event)
       → text ≡ front ++ rest → (more ≡ []) ⊎ (more ≡ flushes Out false ∷ [])
       → Noted now → next ≡ told_then now (writes Out front ∷ more)

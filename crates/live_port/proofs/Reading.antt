@@ -1,4 +1,4 @@
--- What a reader of lines has read, by some bytes more.
+-- What a reader of lines has read, as more bytes come.
 use Rattle.live_port.proofs.Behind.{items_in, whole_then, line_behind, capped_then, ended_behind}
 use Rattle.live_port.proofs.Behind.{refused_behind, fault_behind, text_behind, text_front}
 use Rattle.live_port.{proofs.Behind.end_behind, specs.Counted.capped}
@@ -94,7 +94,7 @@ module _ (old : LineReader) (text bytes : List ℕ) (has : HasRead old text) (ta
       ap (λ l. (lines_of l).last) last
       ∙ ap (λ (l : Lines). l.last) (lines_of-lf (has.part ++ take (taken - 1) bytes))
 
-  -- a byte that is no LF ends no line
+  -- A byte other than LF ends no line.
   unended_by : taken ≤ length bytes → 0 < taken → get_or bytes (taken - 1) 0 ≢ 10
       → ended_items (has.part ++ take (taken - 1) bytes) ≡ ended_items has.part
       → ended_items own ≡ ended_items has.part
@@ -170,7 +170,7 @@ module _ (old : LineReader) (text bytes : List ℕ) (has : HasRead old text) (ta
             ∙ rw whole_is refl));
       }
 
--- what a reader was fed in a line that has not ended
+-- If the last line hasn't ended, what the reader was fed since its start ends no line.
 pub fed_unended : (lines : LineReader) (text : List ℕ) (count : ℕ) → HasRead lines text
     → lines.ended ≡ false → count ≡ lines.since → EndsNoLine text count
 fed_unended lines text count has begun counted = record {
@@ -183,7 +183,8 @@ fed_unended lines text count has begun counted = record {
       ∙ append-nil (ended_items has.whole)));
 }
 
--- the end of the text
+-- If the part of a text that the reader was fed is right with the run of its last line, so is the
+-- whole text.
 pub finished : (old : LineReader) (text : List ℕ) (run : Run) → HasRead old text
     → ((marks : ℕ) (part : List ℕ) → StandsFor old.reader marks part
     → IsTickText marks part (ended_items part ++ items_of_run run))

@@ -1,4 +1,4 @@
--- What calls that write to a port do, one after the other.
+-- What calls that write to a port do, one after another.
 use Rattle.live_port.proofs.Handing.{told_twice, noted_none, noted_sent, noted_cut, text_cut}
 use Rattle.live_port.{proofs.Handing.text_sent, specs.History.Event, specs.History.told_then}
 use Rattle.live_port.specs.History.{WritesFront, KeepsFaults, Event.writes, Event.flushes}
@@ -131,7 +131,7 @@ module _ {P : Type 0} (p : Port P) where
 
   -- ---- a note, and then a text
 
-  -- no note: the text
+  -- There is no note, and the text was sent, or sending it failed.
   pub hands_text : (old new : P) (note text : List ℕ) (answer : List Tick)
       (result : Result (Unit {0}) Failed) → note ≡ [] → IsTextOf text answer
       → Sends p old new Out text result → Hands p old new answer note result
@@ -154,7 +154,7 @@ module _ {P : Type 0} (p : Port P) where
     cause = sends.cause;
   }
 
-  -- a note that broke off
+  -- Sending the note failed.
   pub hands_note : (old new : P) (note text : List ℕ) (answer : List Tick) (e : Failed)
       → IsTextOf text answer → Sends p {T = Unit {0}} old new Log note (Err e)
       → Hands p {T = Unit {0}} old new answer note (Err e)
@@ -167,7 +167,7 @@ module _ {P : Type 0} (p : Port P) where
     cause = sends.cause;
   }
 
-  -- a note and a text
+  -- The note was sent, and then the text, or sending the text failed.
   pub hands_both : (old mid new : P) (note text : List ℕ) (answer : List Tick)
       (result : Result (Unit {0}) Failed) → IsTextOf text answer
       → Sends p {T = Unit {0}} {E = Failed} old mid Log note (Ok tt)

@@ -11,7 +11,7 @@ use Rattle.yasir_ticks.specs.declared.tick.Tick.{Tick, TheVariants.Byte}
 pub text_nil : IsTextOf [] []
 text_nil = record { pieces = []; ticks_are = refl; text_is = refl }
 
--- one piece
+-- The canonical text of some ticks is a text of them in one piece.
 pub text_one : (ticks : List Tick) → IsTextOf (canonical_text ticks) ticks
 text_one ticks = record {
   pieces = ticks ∷ [];
@@ -19,7 +19,7 @@ text_one ticks = record {
   text_is = sym (append-nil (canonical_text ticks));
 }
 
--- a text, and then one
+-- A text of some ticks and a text of more ticks are a text of all of them.
 pub text_then : (x y : List ℕ) (a b : List Tick) → IsTextOf x a → IsTextOf y b
     → IsTextOf (x ++ y) (a ++ b)
 text_then x y a b first second = record {
@@ -45,7 +45,7 @@ text_silence n some few = text_as (canonical_text (silent n)) (silence_line n) (
     (ap canonical_text (sym (append-nil (silent n))) ∙ (leads-silence n [] some few tt
     ∙ append-nil (silence_line n))) refl (text_one (silent n))
 
--- ---- what is answered to a run
+-- ---- what is returned for a run
 
 pub answer_silence : (new left : List ℕ) (n : ℕ) → left ≡ [] → 0 < n → n ≤ 1000000
     → new ≡ [] ++ silence_line n → IsTextOf new (answered n left)

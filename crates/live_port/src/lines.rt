@@ -13,7 +13,10 @@ const MAX_LINE: u32 = 2_147_483_648;
 /// ended with them.
 #[derive(Drop)]
 pub struct ReadBytes {
+    /// How many bytes were read, from the front of those given.
     pub taken: usize,
+    /// What the line represents that ended with the last of them, or `NoTick` if no line with ticks
+    /// ended.
     pub content: Content,
 }
 
