@@ -1,4 +1,4 @@
--- A box at its first tick, and what each tick more changes.
+-- What one more tick adds to the ticks of items, and that a mark changes nothing for a box.
 use Rattle.box_command.specs.BoxLines.{BoxOrigin, Outputs, DrivesBox}
 use Rattle.box_command.specs.declared.box_lines.BoxLines.{BoxLines}
 use Rattle.link_box.specs.declared.box_trait.LinkBox.{Ghosts as LinkBox}
@@ -11,7 +11,7 @@ pub one_more : (items : List Item) (t : Tick)
     → ticks_in (items ++ tick t ∷ []) ≡ ticks_in items ++ t ∷ []
 one_more items t = ticks_in-append items (tick t ∷ [])
 
--- a mark is no tick of the line
+-- A mark isn't a tick of the line, so the box stays as it was.
 pub drives_at_mark : {B N : Type 0} (b : LinkBox B N) (line_of : N → List ℕ) (lines : BoxLines B)
     (origin : BoxOrigin) (outputs : Outputs) (items : List Item)
     → DrivesBox b line_of lines origin outputs items

@@ -1,4 +1,4 @@
--- What calls do to a box that is driven by references, and behind these.
+-- What calls do to a box that is driven by references, and to what these refer to.
 use Rattle.box_command.specs.BoxLines.{State, state_of, driving}
 use Rattle.box_command.specs.DrivenBox.{state_in, HoldsSame, driven_by}
 use Rattle.box_command.specs.declared.{box_lines.BoxLines.BoxLines, driven_box.DrivenBox.DrivenBox}
@@ -66,7 +66,7 @@ module _ {B N O L D : Type 0} (b : LinkBox B N) (line_of : N → List ℕ) (o : 
     went = given.went.went;
   }
 
-  -- what a drive did behind the references that it began with, where these are known again
+  -- What a drive by references did to what these refer to, if they are still the same references.
   module _ (old new : DrivenBox B O L D) (begun : State B O L D) (is : state_in old ≡ begun)
       (lines_name out_name log_name disk_name : GName)
       (lines_is : old.lines.ghost_name ≡ lines_name) (out_is : old.out.ghost_name ≡ out_name)

@@ -1,4 +1,4 @@
--- What both boxes have taken of an input, by some items more.
+-- What both boxes have taken of an input, as more items come.
 use Rattle.box_command.specs.BothBoxes.{Setups, AreSteady, KeepsBoth, KeepsItems, keeping}
 use Rattle.box_command.specs.KeptBox.{KeepsSome}
 use Rattle.box_command.specs.declared.{both_boxes.BothBoxes.BothBoxes, kept_box.KeptBox.KeptBox}
@@ -49,7 +49,7 @@ module _ {S C A B : Type 0} (s : LinkBox S A) (sent_line : A → List ℕ) (c : 
     abbrev front : List Item
     front = take n (run_items run)
 
-    -- before the mark
+    -- Before the mark, the box of the outgoing direction takes ticks.
     pub gives-outgoing : (new : KeptBox S) → old.marked ≡ false
         → KeepsSome s sent_line old.outgoing new (run_ticks run) n
         → GivesFirst (keeping s sent_line c got_line) old (record old { outgoing = new })
@@ -78,7 +78,7 @@ module _ {S C A B : Type 0} (s : LinkBox S A) (sent_line : A → List ℕ) (c : 
       };
     }
 
-    -- behind it
+    -- After the mark, the box of the incoming direction takes ticks.
     pub gives-incoming : (new : KeptBox C) → old.marked ≡ true
         → KeepsSome c got_line old.incoming new (run_ticks run) n
         → GivesFirst (keeping s sent_line c got_line) old (record old { incoming = new })
@@ -117,7 +117,7 @@ module _ {S C A B : Type 0} (s : LinkBox S A) (sent_line : A → List ℕ) (c : 
   none-yet : KeepsItems s sent_line c got_line old setups []
   none-yet = record { keeps = begun; marked = unmarked }
 
-  -- both boxes have taken the whole input
+  -- If the input is whole, both boxes have taken all of it.
   pub keeps-whole : (whole : end ≡ Whole) → KeepsBoth s sent_line c got_line new setups
       (before_mark driven.items) (behind_mark driven.items)
   keeps-whole whole =
@@ -126,7 +126,7 @@ module _ {S C A B : Type 0} (s : LinkBox S A) (sent_line : A → List ℕ) (c : 
       driven.gives in
       (gives.moved setups [] none-yet).keeps
 
-  -- they stopped for nothing but want of memory
+  -- If the boxes stopped, it was for lack of memory.
   pub only-memory : (stop : Stop) → end ≡ Stopped stop → stop ≡ NoMemory
   only-memory stop is =
       let gives : Gives (keeping s sent_line c got_line) old new driven.items (Err stop) =

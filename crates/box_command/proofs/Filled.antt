@@ -14,7 +14,7 @@ use Rattle.yasir_io.{proofs.OutputLemmas.append_known-twice, specs.Output.GotPre
 use Rattle.yasir_ticks.specs.{CanonicalText.canonical_text, Ticks.silent}
 use Rattle.yasir_ticks.specs.declared.tick.Tick.{Tick, TheVariants.Silent}
 
--- a line with silence up to a length has this length
+-- A line that is filled to a length has this length.
 pub length-filled : (steps : ℕ) (line : List Tick) → length line ≤ steps
     → length (filled steps line) ≡ steps
 length-filled steps line within =
@@ -25,7 +25,7 @@ length-filled steps line within =
       within,
     )
 
--- this many silent ticks, as they were counted
+-- A line with as many silent ticks as it lacks, by the count of its ticks, is filled.
 pub filled-by : (ticks left steps : ℕ) (line : List Tick) → ticks ≡ length line
     → left ≡ steps - ticks → line ++ silent left ≡ filled steps line
 filled-by ticks left steps line counted is =

@@ -1,4 +1,5 @@
--- What the images of the disk keep from the loading of the journal on, and the causes at the disk.
+-- What the images of the disk keep from the loading of the journal on, and when the disk's count of
+-- faults rises.
 use Rattle.sequence_journal.proofs.LoadLemmas.{found_loaded}
 use Rattle.sequence_journal.proofs.SlotLemmas.{at_some, if_some_weaker}
 use Rattle.sequence_journal.specs.Journal.{journal_link, journal_floor, IsCrashSafe}
@@ -17,7 +18,7 @@ use Rattle.replay_status.specs.Endings.{status_of}
 use Rattle.tick_drive.specs.declared.end.End.{End, TheVariants.Whole}
 use Rattle.tick_drive.specs.declared.end.End.TheVariants.{Refused, TooLong, ReadFault, Stopped}
 
--- A journal was loaded of a disk for a link.
+-- A journal was loaded from a disk, for a link.
 module _ {D : Type 0} (d : SlotDisk D) (link : LinkId) (journal : Journal) (old loaded : D)
     (load : IsLoaded link (d.told old) (d.told loaded) (d.may_leave old) (d.may_leave loaded)
     journal)
@@ -28,8 +29,8 @@ module _ {D : Type 0} (d : SlotDisk D) (link : LinkId) (journal : Journal) (old 
       (λ slots. floor_of link slots ≡ Some (journal_floor journal)) (d.told old)
       (λ slots same. ap (floor_of link) same ∙ load.floor) load.are_read
 
-  -- no image has a floor below the last journal's at the end of the run, where a crash left the
-  -- slots as read
+  -- If a crash before the run would have left the slots as they read, no image at the end of the
+  -- run has a floor below that of the last journal.
   pub keeps_floor : (begun last : Journal) (new : D) → begun ≡ journal
       → (IsCrashSafe begun (d.told loaded) (d.may_leave loaded)
       → IsCrashSafe last (d.told new) (d.may_leave new))
@@ -39,7 +40,8 @@ module _ {D : Type 0} (d : SlotDisk D) (link : LinkId) (journal : Journal) (old 
       ((drive (subst (λ j. IsCrashSafe j (d.told loaded) (d.may_leave loaded)) (sym same)
       (safe one))).floors c left)
 
-  -- nor below the loaded one's at any moment from the end of the load on
+  -- If a crash before the run would have left the slots as they read, no image at any moment from
+  -- the end of the load on has a floor below the one that was loaded.
   since_load : (begun : Journal) (new : D) → begun ≡ journal
       → (IsCrashSafe begun (d.told loaded) (d.may_leave loaded)
       → LeavesOnly d.moment d.left_since loaded new (HasFloorFrom begun))
@@ -62,7 +64,8 @@ module _ {D : Type 0} (d : SlotDisk D) (link : LinkId) (journal : Journal) (old 
     keeps = since_load begun new same drive;
   }
 
-  -- nor below that of the slots at any moment of the run, but where they were being taken over
+  -- If a crash before the run would have left the slots as they read, no image at any moment of the
+  -- run has a floor below that of the slots, except while an old journal was being taken over.
   pub keeps_throughout : (begun : Journal) (new : D) → begun ≡ journal
       → ((slots : Slots) (floor : ℕ) → d.told old ≡ Some slots
       → OneImage (d.told old) (d.may_leave old) → floor_of link slots ≡ Some floor

@@ -1,4 +1,4 @@
--- A box and its texts have taken a run, of which nothing is noted: what that does to the consumer.
+-- A box and its texts have taken a run in which nothing is noted: what that does to the consumer.
 use Rattle.box_command.proofs.{AnsweredRuns.run_noted, Walking.run-answers}
 use Rattle.box_command.specs.BoxLines.{BoxOrigin, DrivesBox, State, writing_at, outputs_of, driving}
 use Rattle.box_command.specs.{BoxLinesLaws.images_none, Boxes.AnswersBoxRun, LinkBoxed.boxed_of}
@@ -22,7 +22,7 @@ use Rattle.yasir_ticks.proofs.TickRuns.{length-run_items}
 use Rattle.yasir_ticks.specs.{TickRun.run_ticks, TickRun.run_items, Ticks.Item, Ticks.ticks_in}
 use Rattle.yasir_ticks.specs.declared.{tick.Tick.Tick, tick_run.TickRun.TickRun}
 
--- the first ones of a front are the first ones
+-- the first `n` ticks of a front are the first `n` ticks of the whole
 pub front_first : (n most : ℕ) (all front : List Tick) → front ≡ take most all → n ≤ length front
     → (n ≤ length all) × (take n front ≡ take n all)
 front_first n most all front is within =
@@ -32,7 +32,7 @@ front_first n most all front is within =
       ap (take n) is ∙ take-take n most all few,
     )
 
--- The box has taken this many first ticks of a run, which are these.
+-- The box has taken the first `n` ticks of a run, which are `ticks`.
 module _ {B N O L D : Type 0} (b : LinkBox B N) (line_of : N → List ℕ) (o : Sink O) (l : Sink L)
     (d : SlotDisk D)
     (causal : (value : B) (last : ℕ) (setup : Setup) (line : List Tick)
@@ -51,7 +51,7 @@ module _ {B N O L D : Type 0} (b : LinkBox B N) (line_of : N → List ℕ) (o : 
   more before = ap (λ x. ticks_in before ++ x) (first ∙ sym (ticks_in-front run n))
       ∙ sym (ticks_in-append before front)
 
-  -- Its texts have taken the answer.
+  -- The texts have taken the ticks that the box returned.
   module _ (texts : Texts) (out : O) (log : L) (answer : List Tick)
       (takes : TakesRun b.walking b.stands old.lines.line_box box ticks answer) where
     taken : (origin : BoxOrigin) (before : List Item)
@@ -68,7 +68,7 @@ module _ {B N O L D : Type 0} (b : LinkBox B N) (line_of : N → List ℕ) (o : 
         (causal old.lines.line_box (journal_floor old.lines.journal) origin.setup (ticks_in before)
         drives.steps) (ticks_in before) ticks answer (taken origin before drives).answers
 
-    -- the number stays what it was
+    -- The run changes no number, so the journal's floor is the number of the line with the run.
     number_on : (origin : BoxOrigin) (before : List Item)
         → DrivesBox b line_of old.lines origin (outputs_of o l d old) before
         → journal_floor old.lines.journal
@@ -179,7 +179,7 @@ module _ {B N O L D : Type 0} (b : LinkBox B N) (line_of : N → List ℕ) (o : 
           };
         }
 
-  -- it took none
+  -- If the box took no tick, nothing but the box itself may differ.
   pub none_taken : n ≡ 0 → (answer : List Tick)
       → TakesRun b.walking b.stands old.lines.line_box box ticks answer
       → GivesUpTo (driving b line_of o l d) old

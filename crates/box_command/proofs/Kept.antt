@@ -1,4 +1,4 @@
--- What a box has made of a line, by some ticks more.
+-- What a box has made of a line, as more ticks come.
 use Rattle.box_command.proofs.NotesInOrder.{order-more, order-to}
 use Rattle.box_command.specs.KeptBox.{timed_of, line_alone, KeepsLine, IsSteady, KeepsOn, KeepsUpTo}
 use Rattle.box_command.specs.KeptBox.{KeepsSome, KeepsWaiting, ticks_kept}
@@ -23,9 +23,9 @@ use Rattle.yasir_io.specs.{TextBuffer.waiting_bytes, declared.Failed.Failed}
 use Rattle.yasir_ticks.specs.{Bursts.bursts_from, Ticks.silent}
 use Rattle.yasir_ticks.specs.declared.tick.Tick.{Tick, TheVariants.Silent}
 
--- ---- beside
+-- ---- lines, fronts and texts
 
--- a walk over no line
+-- a walk over no line notes nothing
 no-note : {S N : Type 0} (w : Walker S N) (s : S) → notes_of w s [] ≡ []
 unfolding bursts_from
 no-note w s = refl
@@ -34,7 +34,7 @@ no-tick : {S N : Type 0} (w : Walker S N) (s : S) → line_of w s [] ≡ []
 unfolding bursts_from
 no-tick w s = refl
 
--- the first ones of a front are the first ones
+-- the first `n` ticks of a front are the first `n` ticks of the whole
 pub first-front : (n most : ℕ) (all front : List Tick) → front ≡ take most all → n ≤ length front
     → (n ≤ length all) × (take n front ≡ take n all)
 first-front n most all front is within =
@@ -48,7 +48,7 @@ first-front n most all front is within =
 pub text-of : (bytes text : List ℕ) → Some bytes ≡ append_known (Some []) text → bytes ≡ text
 text-of bytes text is = cc
 
--- ---- a box
+-- ---- what one call adds
 
 module _ {B N : Type 0} (b : LinkBox B N) (line_of : N → List ℕ) where
   abbrev lines : Setup → List Tick → List (Kept ℕ)
@@ -57,7 +57,7 @@ module _ {B N : Type 0} (b : LinkBox B N) (line_of : N → List ℕ) where
   abbrev texts_in : KeptBox B → SinkTexts
   texts_in value = sink_texts (Some (text_bytes value.text)) (Some (text_bytes value.log))
 
-  -- the lines in order, by what one tick adds
+  -- With the line of a step's note, if it has one, the lines are in order up to the next tick.
   order-step : (m : ℕ) (before : List (Kept ℕ)) (note : Option N) → AreInOrder 0 m before
       → AreInOrder 0 (m + 1) (before ++ timed_lines line_of (note_in m note))
   order-step m before None order =
@@ -70,7 +70,7 @@ module _ {B N : Type 0} (b : LinkBox B N) (line_of : N → List ℕ) where
     Pushed answer = PushesTicks {T = Unit {0}} {E = Failed} (waiting_in old.texts) (waiting_in new.texts) (texts_in old)
         (texts_in new) answer [] (Ok tt)
 
-    -- a run without a note
+    -- The box takes a run without a note.
     pub keeps-run : (run answer : List Tick)
         → TakesRun b.walking b.stands old.line_box new.line_box run answer
         → new.journal ≡ old.journal → new.notes ≡ old.notes
@@ -97,7 +97,7 @@ module _ {B N : Type 0} (b : LinkBox B N) (line_of : N → List ℕ) where
               (omega (arith, size)));
         }
 
-    -- a tick, and the note of its step
+    -- The box takes a tick, and the line of its step's note, if it has one, is kept.
     pub keeps-step : (t tick : Tick) (note : Option N)
         → Steps b.walking b.stands old.line_box (journal_floor old.journal) new.line_box
         (journal_floor new.journal) t tick note
@@ -154,7 +154,7 @@ module _ {B N : Type 0} (b : LinkBox B N) (line_of : N → List ℕ) where
       → KeepsOn b line_of x z same
   on-as x z run same is on = subst (KeepsOn b line_of x z) is on
 
-  -- a front that took none, and then another one
+  -- The first call took no tick, and the second one took a front of the run.
   pub up-again : (x y z : KeptBox B) (run : List Tick) (none n : ℕ) → none ≤ 0
       → KeepsUpTo b line_of x y run none → KeepsUpTo b line_of y z run n
       → KeepsUpTo b line_of x z run n
@@ -167,7 +167,7 @@ module _ {B N : Type 0} (b : LinkBox B N) (line_of : N → List ℕ) where
             then.goes;
       }
 
-  -- a front that took none, and then one tick
+  -- A call took no tick, and then one tick was taken.
   pub some-one : (x y z : KeptBox B) (run : List Tick) (n : ℕ) → n ≤ 0
       → KeepsUpTo b line_of x y run n → (t : Tick) (rest : List Tick) → run ≡ t ∷ rest
       → KeepsOn b line_of y z (t ∷ []) → KeepsSome b line_of x z run 1

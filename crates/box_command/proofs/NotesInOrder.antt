@@ -19,20 +19,20 @@ order-from : (from m to : ℕ) (lines : List (Kept ℕ)) → m ≤ from → AreI
 order-from from m to [] below order = omega (arith, below, order)
 order-from from m to (k ∷ lines) below order = (omega (arith, below, order.0), order.1)
 
--- one more at their end
+-- Lines in order stay in order with one more line at their end, of the step of tick `to`.
 pub order-more : (from to : ℕ) (lines : List (Kept ℕ)) (k : Kept ℕ) → AreInOrder from to lines
     → k.head ≡ to → AreInOrder from (to + 1) (lines ++ k ∷ [])
 order-more from to [] k order is = (omega (arith, order, is), omega (arith, is))
 order-more from to (l ∷ lines) k order is =
     (order.0, order-more (l.head + 1) to lines k order.1 is)
 
--- and the same ones up to a later tick
+-- Lines that are in order up to a tick are in order up to a later tick.
 pub order-to : (from to m : ℕ) (lines : List (Kept ℕ)) → AreInOrder from to lines → to ≤ m
     → AreInOrder from m lines
 order-to from to m [] order later = omega (arith, order, later)
 order-to from to m (k ∷ lines) order later = (order.0, order-to (k.head + 1) to m lines order.1 later)
 
--- ---- none falls into earlier steps
+-- ---- no lines in earlier steps
 
 none-at : (n from to : ℕ) (lines : List (Kept ℕ)) → AreInOrder from to lines → n < from
     → lines_at n lines ≡ []
@@ -71,7 +71,7 @@ cases-last h n below = elim (cases_lt h n) [
 
 -- ---- the next line
 
--- a line that comes before all
+-- A line before the first of two texts is before both.
 front-of : (x p q r : List ℕ) → (x ++ p) ++ (q ++ r) ≡ x ++ (p ++ (q ++ r))
 front-of x p q r = append_assoc x p (q ++ r)
 
@@ -112,13 +112,13 @@ second-out (suc n) to until a k b first second below = elim (cases-last k.head n
       ) refl
 ]
 
--- nothing is left
+-- If no lines are left, nothing is left to merge.
 none-left : (n : ℕ) → lines_before n [] [] ≡ []
 none-left n = none-before n n n n [] [] (omega arith) (omega arith) (omega arith)
 
 -- ---- the places
 
--- the line at a place, and those behind it
+-- the line at a place, and those after it
 next-at : (lines : List (Kept ℕ)) (i : ℕ) (d : Kept ℕ) → i < length lines
     → drop i lines ≡ get_or lines i d ∷ drop (i + 1) lines
 next-at lines i d within = drop-cons lines i d within
@@ -185,7 +185,7 @@ module _ (n : ℕ) (a b : List (Kept ℕ)) (text : List ℕ) (i j : ℕ) (d : Ke
         second_in_order = order-from (k.head + 1) 0 n rest (omega arith) order.1;
       }
 
--- ---- the start and the end
+-- ---- the end
 
 pub all-merged : (n : ℕ) (a b : List (Kept ℕ)) (text : List ℕ) (i j : ℕ) → length a ≤ i
     → length b ≤ j → MergedTo n a b text i j → text ≡ lines_before n a b

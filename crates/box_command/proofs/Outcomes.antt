@@ -1,4 +1,4 @@
--- From how the run over the input of a box ended to what the status says of it.
+-- What the status says of a run of a box, from how the drive over the input ended.
 use Rattle.{burst_walk.specs.Causal.IsCausal, hmac_tag.specs.declared.dir.Dir.Dir}
 use Rattle.link_box.specs.{Walking.frames_of, declared.box_trait.LinkBox.Ghosts as LinkBox}
 use Rattle.link_format.specs.{NumberedFrame.numbers_of, Setup.Setup, Setup.setup_of}
@@ -42,7 +42,7 @@ use Rattle.tick_drive.specs.declared.end.End.TheVariants.{Refused, TooLong, Read
 
 -- ---- whole lines
 
--- the whole lines of a front of a canonical text stand for a front of its ticks
+-- the whole lines of a front of a canonical text represent a front of its ticks
 whole_lines-begin : (ticks : List Tick) (front rest : List ℕ) → AreTicks ticks
     → canonical_text ticks ≡ front ++ rest
     → (more : List Tick) × (ticks ≡ ticks_in (ended_items front) ++ more)
@@ -55,15 +55,15 @@ whole_lines-begin ticks front rest are is =
           ∙ ticks_in-append (ended_items front) begins.0,
     )
 
--- the last number of a front of a line isn't above that of the line
+-- The last number of a front of a line isn't above that of the line.
 number-take : (box : Boxed) (floor : ℕ) (line : List Tick) (p : ℕ) → IsBoxed box floor
     → box.number (take p line) ≤ box.number line
 number-take box floor line p laws =
     subst (λ l. box.number (take p line) ≤ box.number l) (take-append-drop p line)
     (laws.rises (take p line) (drop p line))
 
--- A box makes as many ticks as it takes, so no number within the whole lines is above the last one
--- of the ticks taken.
+-- If the whole lines that `out` got have `p` ticks, the last number of the first `p` ticks isn't
+-- above that of the ticks taken, since a box makes as many ticks as it takes.
 number_of_lines : (box : Boxed) (floor : ℕ) (all : List Tick) (k : ℕ) (before now : SinkTexts)
     → IsBoxed box floor
     → (sent : HasSentFronts box before now (take k all))
@@ -86,15 +86,15 @@ number_of_lines box floor all k before now laws sent =
         sym (ap (take p) (sym (take-append-drop k all))
         ∙ take-append-le p (take k all) (drop k all) within)
 
--- ---- one line that was sent
+-- ---- what is weaker than what was shown
 
--- a floor is one of two
+-- A floor that is `n` is `n` or `m`.
 either_of : (link : LinkId) (n m : ℕ) (told : Option Slots) → ToldFloor link n told
     → IfSome told (IsEitherFloor link n m)
 either_of link n m None floor = tt
 either_of link n m (Some slots) floor = inl floor
 
--- what was sent whole was sent in part
+-- If all of two texts was sent, fronts of them were.
 fronts_of_all : (box : Boxed) (before now : SinkTexts) (line : List Tick)
     → HasSent box before now line
     → HasSentFronts box before now line
@@ -116,15 +116,16 @@ fronts_of_all box before now line sent = record {
       (sym (append-nil _));
 }
 
--- the ticks of the first of some items, and then the others
+-- The ticks of some items are those of the first `n` and then those of the others.
 ticks_in-cut : (items : List Item) (n : ℕ)
     → ticks_in items ≡ ticks_in (take n items) ++ ticks_in (drop n items)
 ticks_in-cut items n = ap ticks_in (sym (take-append-drop n items))
     ∙ ticks_in-append (take n items) (drop n items)
 
--- A box that was driven over an input, with its key and direction, over the journal of its link: what
--- is around it before the journal is loaded, and as the drive has ended; the disk as the journal was
--- loaded; and the box as the drive began and ended. Behind a whole input come `rest` silent ticks.
+-- A box with its key and direction, over the journal of its link, that was driven over an input.
+-- `before` is what was outside before the journal was loaded, and `ended` what was there when the
+-- drive had ended. `loaded` is the disk after the loading, and `old` and `new` are the box before
+-- and after the drive. After a whole input, `rest` silent ticks follow.
 pub record BoxDrive (B S O L D : Type 0) : Type 0 where
   pub link : LinkId
   pub key : List ℕ
@@ -137,11 +138,11 @@ pub record BoxDrive (B S O L D : Type 0) : Type 0 where
   pub old : BoxLines B
   pub new : BoxLines B
 
--- as it was set up
+-- the box's setup
 abbrev pub setup_in : {B S O L D : Type 0} → BoxDrive B S O L D → Setup
 setup_in drive = setup_of drive.key drive.dir (journal_floor drive.journal)
 
--- what was driven, as the drive began and ended
+-- what was driven, as it was when the drive began, and when it ended
 abbrev pub begun_state : {B S O L D : Type 0} → BoxDrive B S O L D → State B O L D
 begun_state drive = state_of drive.old drive.before.out drive.before.log drive.loaded
 
@@ -150,12 +151,12 @@ ended_state drive = state_of drive.new drive.ended.out drive.ended.log drive.end
 
 module _ {B N S O L D : Type 0} (b : LinkBox B N) (line_of : N → List ℕ) (s : Source S)
     (o : Sink O) (l : Sink L) (d : SlotDisk D) (drive : BoxDrive B S O L D) where
-  -- It was driven, and the input ended so.
+  -- The box was driven, and the input ended as `end` says.
   abbrev pub HasDriven : End → Type 0
   HasDriven end = Drives (driving b line_of o l d) 0 drive.rest (s.left drive.before.input)
       (s.left drive.ended.input) (begun_state drive) (ended_state drive) end
 
-  -- What is known of it from the loading of its journal on.
+  -- What is known of the run from the loading of its journal on.
   pub record IsRun : Type 0 where
     pub laws : IsBoxed (boxed_of b.walking line_of (setup_in drive)) (journal_floor drive.journal)
     pub begun : (texts : SinkTexts) → DrivesBox b line_of drive.old
@@ -168,7 +169,7 @@ module _ {B N S O L D : Type 0} (b : LinkBox B N) (line_of : N → List ℕ) (s 
         drive.ended.disk
     pub throughout : KeepsFloorThroughout d drive.link drive.before.disk drive.ended.disk
 
-  -- the journal was loaded, the box was begun over it, and the drive kept the images
+  -- If the journal was loaded, and the box began over it and was driven, then `IsRun` holds.
   pub is_run : ((value : B) (last : ℕ) (setup : Setup) (line : List Tick)
       → b.stands value last setup line → IsCausal (b.walking.walker setup))
       → ((setup : Setup) (line : List Tick)
@@ -208,7 +209,7 @@ module _ {B N S O L D : Type 0} (b : LinkBox B N) (line_of : N → List ℕ) (s 
             safe drive.old.journal drive.ended.disk same loading images.any_moment;
       }
 
--- A box was driven, and then what waited was written, or not.
+-- A box was driven, and then what waited was written, whole or in part.
 module _ {B N S O L D : Type 0} (b : LinkBox B N) (line_of : N → List ℕ) (s : Source S)
     (o : Sink O) (l : Sink L) (d : SlotDisk D) (drive : BoxDrive B S O L D)
     (run : IsRun b line_of s o l d drive) where
@@ -246,8 +247,8 @@ module _ {B N S O L D : Type 0} (b : LinkBox B N) (line_of : N → List ℕ) (s 
   keeps n served is = subst (λ m. KeepsFloor d drive.link m drive.before.disk drive.ended.disk)
       is (run.images served)
 
-  -- each image makes an uptime: the box's numbers rise from the floor that the slots had, and the
-  -- last isn't above the image's
+  -- Each image makes an uptime: the box's numbers rise from the floor that the slots had, and the
+  -- last one isn't above the image's floor.
   uptime_to : (line : List Tick) → journal_link drive.new.journal ≡ drive.link
       → journal_floor drive.new.journal ≡ box.number line
       → LeavesUptime d drive.link (box.numbers line) drive.before.disk drive.ended.disk
@@ -259,7 +260,7 @@ module _ {B N S O L D : Type 0} (b : LinkBox B N) (line_of : N → List ℕ) (s 
         (keeps _ served is one image left);
   }
 
-  -- what the sinks got of it
+  -- the sinks at the end of the run
   module _ (out : O) (log : L) where
     abbrev after : Around S O L D
     after = around drive.ended.input out log drive.ended.disk
@@ -320,7 +321,7 @@ module _ {B N S O L D : Type 0} (b : LinkBox B N) (line_of : N → List ℕ) (s 
       fails = at.fails;
     }
 
-    -- fronts of what the box makes of the first of the ticks
+    -- The sinks have got fronts of what the box makes of `line`, the first of the ticks.
     writes_fronts : (end : End) (items : List Item) (line more : List Tick)
         → Took items end → ticks_in items ≡ line ++ more
         → HasSentFronts box texts (texts_of o l after) line
@@ -356,7 +357,7 @@ module _ {B N S O L D : Type 0} (b : LinkBox B N) (line_of : N → List ℕ) (s 
               front told;
         }
 
-    -- the ticks were taken, and then a write failed
+    -- All ticks of the items were taken, and then a write failed.
     fronts_of_taken : (end : End) (items : List Item) → Took items end → Moved items → SendsPart
         → Fronts
     fronts_of_taken end items takes moved finish =
@@ -396,7 +397,7 @@ module _ {B N S O L D : Type 0} (b : LinkBox B N) (line_of : N → List ℕ) (s 
         (either_of drive.link _ _ slots
         (subst (λ n. ToldFloor drive.link n slots) at.floor at.floor_told))
 
-    -- a write failed in a step
+    -- A write failed during the drive.
     pub write_stops : (end : End) → is_write_fault (answer_of end) ≡ true → Driven end
         → texts_of o l after ≡ texts_of o l drive.ended → Fronts
     write_stops Whole write driven still = cc
@@ -410,7 +411,7 @@ module _ {B N S O L D : Type 0} (b : LinkBox B N) (line_of : N → List ℕ) (s 
         fronts_of_stopped driven.items (stop.place + 1) driven.takes
         (stop.at origin [] (run.begun texts)) still
 
-    -- what waited was written in part
+    -- What waited at the end was written in part.
     pub finish_fails : (end : End) → is_write_fault (answer_of end) ≡ false → Driven end
         → SendsPart → Fronts
     finish_fails Whole other driven finish =
@@ -429,7 +430,7 @@ module _ {B N S O L D : Type 0} (b : LinkBox B N) (line_of : N → List ℕ) (s 
         absurd (driven.gives.stopped.at origin [] (run.begun texts))
     finish_fails (Stopped stops.WriteFault) other driven finish = cc
 
-    -- it was written, and the input was no whole one
+    -- What waited was written, and the input isn't a whole one.
     pub refusal_runs : (end : End) → is_write_fault (answer_of end) ≡ false → (end ≡ Whole → ⊥)
         → Driven end → Sends
         → RunsBox s o l d drive.link boxes drive.rest drive.before after (status_of end)
@@ -448,7 +449,7 @@ module _ {B N S O L D : Type 0} (b : LinkBox B N) (line_of : N → List ℕ) (s 
         absurd (driven.gives.stopped.at origin [] (run.begun texts))
     refusal_runs (Stopped stops.WriteFault) other partial driven finish = cc
 
-    -- it was written, and the sinks flushed or not
+    -- What waited was written, and the sinks were flushed, or a flush failed.
     pub whole_runs : (status : Status) → (status ≡ Done) ⊎ (status ≡ WriteFault) → Driven Whole
         → Sends → RunsBox s o l d drive.link boxes drive.rest drive.before after status
     whole_runs status (inl done) driven finish =

@@ -1,4 +1,5 @@
--- A right key, a number in a slot and a right input are refused by nothing but a fault outside.
+-- If the key, the journal and the input are right, only a fault outside keeps a run from being
+-- done.
 use Rattle.box_command.specs.{Boxes.Boxed, Given.HasKey, Given.HoldsJournal}
 use Rattle.box_command.specs.ReplaysBox.{ReplaysBox, BoxDiskCause, IsReplayable}
 use Rattle.{hex.proofs.HexLemmas.decode_of-ok, hmac_tag.specs.declared.dir.Dir.Dir}
@@ -64,7 +65,7 @@ no_key_refused given met now place read none =
           absurd (omega (arith, long, all, short))
     ]
 
--- nor are slots that hold a journal of the link
+-- Slots that have a floor for the link aren't refused.
 module _ {link : LinkId} {told : Option Slots} (given : HoldsJournal link told) where
   pub no_journal_refused : (a b : List ℕ) → IsLink link → FindsNone told a b → ⊥
   no_journal_refused a b right found =

@@ -1,4 +1,5 @@
--- Each end of a run of a box leaves an uptime, or the slots as they were.
+-- However a run of a box ends, it leaves an uptime, or the slots as they were, or an old journal
+-- that was being taken over.
 use Rattle.box_command.specs.{BoxLines.ToldFloor, Boxes.Boxed}
 use Rattle.box_command.specs.ReplaysBox.{Around, around_of, boxed_with, LeavesUptime, EndsBox}
 use Rattle.box_command.specs.ReplaysBox.{LooksAtJournal, FailsAtLoad, RunsBox, RunsKeyed}
@@ -22,7 +23,7 @@ use Rattle.yasir_io.specs.declared.disk.{Slot.TheVariants.A, SlotDisk.Ghosts as 
 use Rattle.yasir_io.specs.declared.{sink.Sink.Ghosts as Sink, source.Source.Ghosts as Source}
 use Rattle.yasir_ticks.specs.declared.tick.Tick.{Tick}
 
--- a floor that is told is that of the slots
+-- A floor that is told is the floor of the slots that are told.
 floor-told : (link : LinkId) (floor : ℕ) (told : Option Slots) (begins : Slots)
     → told ≡ Some begins → ToldFloor link floor told → floor_of link begins ≡ Some floor
 floor-told link floor told begins is has = subst (λ t. ToldFloor link floor t) is has
@@ -60,7 +61,7 @@ module _ {S O L D : Type 0} (s : Source S) (o : Sink O) (l : Sink L) (d : SlotDi
       let same : Some begins ≡ Some image = sym told ∙ one image (h.images image left) in
       cc
 
-  -- an image of before, where it is the slots as they were
+  -- If the image is one that a crash before the run would have left, it is the slots as they were.
   still : d.may_leave before.disk image → image ≡ begins
   still was = let same : Some begins ≡ Some image = sym told ∙ one image was in cc
 
@@ -109,7 +110,7 @@ module _ {K S O L D : Type 0} (k : Source K) (s : Source S) (o : Sink O) (l : Si
     (begins image : Slots) (told : d.told before.disk ≡ Some begins)
     (one : OneImage (d.told before.disk) (d.may_leave before.disk))
     (left : d.may_leave after.disk image) where
-  -- nothing but the key was touched
+  -- If nothing but the key was touched, the image is the slots as they were.
   untouched : around_of after ≡ around_of before → image ≡ begins
   untouched same =
       let disk : after.disk ≡ before.disk = ap (λ a. a.disk) same in

@@ -1,4 +1,5 @@
--- What the definitions of the two commands show is what the walks of the boxes give.
+-- What the definitions of the commands `seal` and `check` say of their boxes is what the walks of
+-- the boxes give.
 use Rattle.box_command.specs.{CheckBoxed.checking, CheckLines.check_line, LinkBoxed.boxed_of}
 use Rattle.box_command.specs.{SealBoxed.sealing, SealLines.seal_line}
 use Rattle.{check_receiver.specs.Boxed.check_walking, hmac_tag.specs.declared.tag.Mac.Ghosts as Mac}

@@ -1,4 +1,5 @@
--- A box and its texts have taken a tick: what that does to the consumer.
+-- What a step does to the consumer: the box has taken a tick, and its texts have, or the step has
+-- failed.
 use Rattle.burst_walk.specs.declared.box_step.BoxStep.{BoxStep}
 use Rattle.link_box.specs.Stepping.{HasStepped, Steps, FailsStep, KeepsJournal}
 use Rattle.link_box.specs.Walking.{frames_of, number_after}
@@ -29,7 +30,7 @@ module _ {B N O L D : Type 0} (b : LinkBox B N) (line_of : N → List ℕ) (o : 
   abbrev Keeps : Result (BoxStep N) JournalFault → Type 0
   Keeps result = KeepsJournal d old.lines.journal journal old.disk disk result
 
-  -- ---- it failed
+  -- ---- the step failed
 
   abbrev failed : State B O L D
   failed = record old {
@@ -81,7 +82,7 @@ module _ {B N O L D : Type 0} (b : LinkBox B N) (line_of : N → List ℕ) (o : 
     };
   }
 
-  -- ---- it answered, and the texts took the tick and the line of the note
+  -- ---- the step returned, and the texts took the tick and the line of the note
 
   module _ (step : BoxStep N) (keeps : Keeps (Ok step))
       (counts : b.taken box ≡ b.taken old.lines.line_box + 1)

@@ -1,5 +1,5 @@
--- A box of a link as a command shows it: what is asked of a box, and what its steps and its runs
--- answer, follow from its walk.
+-- A box of a link as a command shows it. What a box must satisfy, and what its steps and runs
+-- return, follow from its walk.
 use Rattle.box_command.specs.Boxes.{Boxed, IsBoxed, AnswersBox, AnswersBoxRun, FailsBox}
 use Rattle.box_command.specs.{Boxes.line_of_note, LinkBoxed.boxed_of}
 use Rattle.burst_walk.proofs.Longer.{extends, length-line_of}
@@ -31,7 +31,7 @@ last_number-more : (floor : ℕ) (frames : List NumberedFrame) (f : NumberedFram
 last_number-more floor [] f = refl
 last_number-more floor (g ∷ frames) f = last_number-more g.number frames f
 
--- Where their numbers rise, the last one isn't below the floor,
+-- If the numbers of frames rise, the last one isn't below the floor.
 last-above : (floor : ℕ) (frames : List NumberedFrame) → RiseFrom floor (numbers_of frames)
     → floor ≤ last_number floor frames
 last-above floor [] rise = omega arith
@@ -40,14 +40,14 @@ last-above floor (f ∷ frames) rise =
     let rest : f.number ≤ last_number f.number frames = last-above f.number frames rise.1 in
     omega arith
 
--- it doesn't fall as more frames follow,
+-- If the numbers of frames rise, the last one doesn't fall as more frames follow.
 last-longer : (floor : ℕ) (front back : List NumberedFrame)
     → RiseFrom floor (numbers_of (front ++ back))
     → last_number floor front ≤ last_number floor (front ++ back)
 last-longer floor [] back rise = last-above floor back rise
 last-longer floor (f ∷ front) back rise = last-longer f.number front back rise.1
 
--- and a further frame has a greater one.
+-- If the numbers of frames rise, one more frame has a greater number than those before it.
 last-next : (floor : ℕ) (front : List NumberedFrame) (f : NumberedFrame)
     → RiseFrom floor (numbers_of (front ++ f ∷ []))
     → last_number floor front < f.number
@@ -59,9 +59,9 @@ line_of_step : {A : Type 0} (note_line : A → List ℕ) (m : ℕ) (note : Optio
 line_of_step note_line m None = refl
 line_of_step note_line m (Some note) = append-nil (note_line note)
 
--- ---- lists that begin alike
+-- ---- lists that begin in the same way
 
--- a list that begins so and is no longer is that list
+-- a list that begins with `front` and is no longer than it is `front`
 begins-all : {A : Type 0} (front whole : List A) → Begins front whole
     → length whole ≡ length front → whole ≡ front
 begins-all front whole begins same = all-of front whole begins.rest begins.is same
@@ -72,14 +72,14 @@ begins-all front whole begins same = all-of front whole begins.rest begins.is sa
     all-of front whole (x ∷ rest) is same =
         absurd (omega (arith, same, ap length is, length-append front (x ∷ rest)))
 
--- as many notes are told as there are
+-- As many notes are told as there are.
 length-told : {N A : Type 0} (brief : N → A) (notes : List (Noted N))
     → length (told_notes brief notes) ≡ length notes
 length-told brief notes = length-map notes (λ n. record { tick = n.tick; note = brief n.note })
 
 -- ---- the box of a walk
 
--- The walk of a box of a link, the lines of its notes, and how it is set up.
+-- The walk of a box of a link, the lines of its notes, and its setup.
 module _ {A : Type 0} (walking : Walking A) (note_line : A → List ℕ) (setup : Setup) where
   abbrev box : Boxed
   box = boxed_of walking note_line setup
@@ -98,7 +98,7 @@ module _ {A : Type 0} (walking : Walking A) (note_line : A → List ℕ) (setup 
       → frames_in (n ∷ []) ≡ f ∷ []
   frame-alone n f is = rw is refl
 
-  -- a step of the walk is one of the box
+  -- What the walk returns for a step is what the box returns for it.
   pub step-answers : (line : List Tick) (t tick : Tick) (note : Option A)
       → AnswersTick (walking.walker setup) walking.brief (walking.begun setup) line t tick note
       → AnswersBox box line t tick (line_of_note note_line note)
@@ -112,10 +112,11 @@ module _ {A : Type 0} (walking : Walking A) (note_line : A → List ℕ) (setup 
             ∙ ap (λ l. flat_map f told ++ l) (line_of_step note_line (length line) note));
       }
 
-  -- The numbers of its frames rise from the floor.
+  -- The numbers of the box's frames rise from the floor.
   module _ (rising : (line : List Tick)
       → RiseFrom setup.floor (numbers_of (frames_of walking setup line))) where
-    -- A step failed in which a frame is noted: the slots have the number before it, or its own.
+    -- If a step failed into which the note of a frame falls, the slots, if told, have the number of
+    -- this frame as their floor, or the number before it.
     pub step-fails : {X : Type 0} (standing : X → ℕ → Setup → List Tick → Type 0) (value : X)
         (old new : Journal) (line : List Tick) (t : Tick) (told_old told : Option Slots)
         → FailsStep walking standing value old new t told_old told
@@ -144,13 +145,13 @@ module _ {A : Type 0} (walking : Walking A) (note_line : A → List ℕ) (setup 
               fails.failed.floor_told);
         }
 
-  -- It needs no tick before its time.
+  -- The walk is causal: it needs no tick before its time.
   module _ (causal : IsCausal (walking.walker setup)) where
     notes-begin : (line more : List Tick) → Begins (notes line) (notes (line ++ more))
     notes-begin line more =
         (extends (walking.walker setup) causal (walking.begun setup) line more).notes
 
-    -- a run without a note adds no note that isn't told
+    -- A run for which no note is told has no note.
     notes-stay : (line run answer : List Tick)
         → AnswersRun (walking.walker setup) walking.brief (walking.begun setup) line run answer
         → notes (line ++ run) ≡ notes line
@@ -159,7 +160,7 @@ module _ {A : Type 0} (walking : Walking A) (note_line : A → List ℕ) (setup 
         (sym (length-told walking.brief (notes (line ++ run)))
         ∙ ap length answers.notes ∙ length-told walking.brief (notes line))
 
-    -- a run of the walk is one of the box
+    -- What the walk returns for a run is what the box returns for it.
     pub run-answers : (line run answer : List Tick)
         → AnswersRun (walking.walker setup) walking.brief (walking.begun setup) line run answer
         → AnswersBoxRun box line run answer
@@ -171,7 +172,8 @@ module _ {A : Type 0} (walking : Walking A) (note_line : A → List ℕ) (setup 
 
     module _ (rising : (line : List Tick)
         → RiseFrom setup.floor (numbers_of (frames_of walking setup line))) where
-      -- the frames of a longer line begin with those of the line
+      -- The number doesn't fall as the line goes on, since the frames of a longer line begin with
+      -- those of the line.
       number-rises : (line more : List Tick)
           → number_after walking setup line ≤ number_after walking setup (line ++ more)
       number-rises line more =

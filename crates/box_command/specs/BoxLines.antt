@@ -90,7 +90,7 @@ module _ {B N : Type 0} (b : LinkBox B N) (line_of : N → List ℕ) where
     pub fails : FailsBox origin.link (made_of origin) (ticks_in front) last outputs.slots
     pub floor : journal_floor lines.journal ≡ (made_of origin).number (ticks_in front)
 
-  -- A write failed after the step of the last of these items had returned.
+  -- A write failed after the box had taken the last of these items.
   pub record StopsAtWrite (lines : BoxLines B) (origin : BoxOrigin) (outputs : Outputs)
       (items : List Item) : Type 0 where
     pub sent : HasSentFronts (made_of origin) origin.texts (texts_in outputs) (ticks_in items)

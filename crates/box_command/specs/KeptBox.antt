@@ -58,8 +58,8 @@ module _ {B N : Type 0} (b : LinkBox B N) (line_of : N → List ℕ) where
     pub notes : Holds value.notes ((timed_of b.walking line_of setup).note_lines line)
     pub in_order : AreInOrder 0 (length line) ((timed_of b.walking line_of setup).note_lines line)
 
-  -- The journal is that of the box's link, the disk is the journal's, the box has counted as many
-  -- ticks as were kept, and the bytes of the notes are whole.
+  -- The journal is that of the box's link, the slots of the disk are those of the journal, the box
+  -- has counted as many ticks as were kept, and the bytes of the notes are whole.
   pub record IsSteady (value : KeptBox B) : Type 0 where
     pub of_link : journal_link value.journal ≡ b.link_of value.line_box
     pub fits : Fits value.journal (Some (steady_slots value.disk))

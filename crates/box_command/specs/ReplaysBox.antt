@@ -100,7 +100,8 @@ module _ {S O L D : Type 0} (s : Source S) (o : Sink O) (l : Sink L) (d : SlotDi
   -- `box` is what the box makes of a line, by the floor of its journal, and `rest` is how many
   -- silent ticks follow a whole input.
   module _ (box : ℕ → Boxed) (rest : ℕ) (before after : Around S O L D) where
-    -- The input ended like this, and the sinks have got what the box makes of all its ticks.
+    -- The input ended as `end` says, and the sinks have got what the box makes of all ticks that it
+    -- took.
     pub record EndsBox (end : End) : Type 0 where
       pub floor : ℕ
       pub items : List Item
@@ -128,9 +129,9 @@ module _ {S O L D : Type 0} (s : Source S) (o : Sink O) (l : Sink L) (d : SlotDi
 
     -- A write failed. The sinks have got a front of what the box makes of the first `ticks` ticks.
     -- The last number of these ticks is committed, and that of the next tick may be. Each image
-    -- makes an uptime with the numbers of these ticks. No image has a floor below the last number
-    -- of the first m ticks, where m is how many ticks are in the whole lines that `out` got: the
-    -- box returns one tick for each, so it made these lines of those m ticks.
+    -- makes an uptime with the numbers of these ticks. If the whole lines that `out` got have `m`
+    -- ticks, the box has returned these for the first `m` ticks, one for each, and no image has a
+    -- floor below the last number of those.
     pub record WritesFronts : Type 0 where
       pub floor : ℕ
       pub items : List Item

@@ -11,7 +11,7 @@ use Rattle.sequence_journal.specs.Uptimes.{RiseFrom}
 use Rattle.seal_judgements.specs.Sealing.{sealed}
 use Rattle.seal_judgements.proofs.Numbers.{sealed-numbered}
 
--- frames whose numbers follow a floor one by one have numbers that rise from it
+-- if the numbers of frames follow a floor one by one, they rise from it
 rise-counted : (floor : ℕ) (frames : List NumberedFrame)
     → numbers_of frames ≡ range_with_len (floor + 1) (length frames)
     → RiseFrom floor (numbers_of frames)

@@ -18,9 +18,9 @@ use Rattle.replay_status.specs.declared.status.Status.{Status}
 use Rattle.box_command.specs.Boxes.{Boxed}
 use Rattle.box_command.specs.ReplaysBox.{RunsKeyed, boxed_with}
 
--- The box with the floor of the slots `begins` has taken a line, and with the numbers that it used
--- for this line that was an uptime. `box` is what the box makes of a line, by the floor of its
--- journal.
+-- The box began with the floor of the slots `begins` and took a line, and the numbers that it used
+-- for this line make an uptime from `begins` to `image`. `box` is what the box makes of a line, by
+-- the floor of its journal.
 pub record WasUptime (link : LinkId) (box : ℕ → Boxed) (begins image : Slots) : Type 0 where
   pub floor : ℕ
   pub line : List Tick

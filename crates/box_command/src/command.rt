@@ -92,8 +92,8 @@ fn replay_keyed<B: LineBox, K: Source, S: Source, O: Sink, L: Sink, D: SlotDisk>
 }
 
 /// Reads a key, loads the journal of this link that the disk holds, and replays the input through a
-/// box of this link: the other line goes to `out`, and a line for each note to the log. After an
-/// input that was read to its end, `rest` silent ticks follow.
+/// box of this link: the other line goes to `out`, and a line for each note to the log. After a
+/// whole input, `rest` silent ticks follow.
 pub fn replay_box<B: LineBox, K: Source, S: Source, O: Sink, L: Sink, D: SlotDisk>(
     link: &LinkId,
     dir: Dir,

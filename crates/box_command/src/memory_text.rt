@@ -1,4 +1,4 @@
-//! A text in memory, and a sink for it.
+//! A text in memory, as a sink.
 ghost use Rattle.std.specs.Prelude.{◌≡◌, [], Some};
 ghost use Rattle.box_command.specs.MemoryText.{text_bytes};
 

@@ -1,5 +1,5 @@
 //! The two recordings of an input, which go through a box for each direction of a line, and the
-//! texts that this results in.
+//! texts that the boxes make of them.
 ghost use Rattle.std.specs.Prelude.{◌≡◌, ◌⊎◌, ◌+◌, ◌≤◌, ◌++◌, List, length, codes, OnOk, OnErr, IfOk};
 ghost use Rattle.std.specs.Io.KnownBytes.{append_known};
 ghost use Rattle.yasir_io.specs.Causes.{HasCause};

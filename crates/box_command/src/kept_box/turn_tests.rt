@@ -44,10 +44,10 @@ fn take_silence<B: LineBox>(kept: &mut KeptBox<B>, ticks: u32) -> Result<(), NoM
     kept.wait(ticks)
 }
 
-// A burst that is no frame, to come between two long silences.
+// A burst that is no frame. It comes between two long silences.
 const BURST: [u8; 500] = [0x41; 500];
 
-// Returns how often a box is called that takes the burst and the two silences.
+// Returns how often a box is called when it takes the burst and the two silences.
 fn calls_of<X: LineBox>(alloc: Global) -> Result<Calls, Fail>
     requires widths { X.widths_fit }
     requires links { AreLinks X.link_in }

@@ -19,7 +19,7 @@ returns-in-Err-pass g c = again_stopped c.requires.may c.in-Ok.ensures
     (drives-then g.B.LinkBox g.B.LineBox.line_of g.O.Sink g.L.Sink g.D.SlotDisk)
     c.in-Err-pass.ensures
 
--- what both ways took
+-- what both ways took together
 both : (g : _) (c : In-Ok-pass g)
     → GivesUpTo (driving g.B.LinkBox g.B.LineBox.line_of g.O.Sink g.L.Sink g.D.SlotDisk)
     (state_of c.args.self.now c.args.out.now c.args.log.now c.args.disk.now)
