@@ -1,4 +1,4 @@
--- The frames that a device reads, compared with those that it is to read.
+-- The frames that a device reads, compared with those that it should read.
 use Rattle.std.specs.Prelude.{◌≡◌, ℕ, suc, ◌+◌, ◌==◌, ◌&&◌, Bool, false, List, [], ◌∷◌, length, map}
 use Rattle.std.specs.Prelude.{bytes_eq, Option, Some, None, option_map, if◌then◌else◌}
 use Rattle.yasir_ticks.specs.declared.tick.Tick.{Tick}
@@ -11,8 +11,8 @@ use Rattle.replay_lists.specs.declared.comparison.Comparison.{Comparison}
 abbrev pub is_same_read : FrameRead → FrameRead → Bool
 is_same_read f g = f.start == g.start && bytes_eq f.frame g.frame
 
--- The first place, counted from 0, at which two lists of them differ: there both have a frame and
--- not the same one, or one of them has ended.
+-- The first place, counted from 0, at which two lists of such frames differ: the two frames there
+-- aren't the same, or only one of the lists has a frame there. `None` if there is no such place.
 abbrev pub first_difference : List FrameRead → List FrameRead → Option ℕ
 first_difference [] [] = None
 first_difference [] (g ∷ y) = Some 0
@@ -20,16 +20,16 @@ first_difference (f ∷ x) [] = Some 0
 first_difference (f ∷ x) (g ∷ y) =
     if is_same_read f g then option_map suc (first_difference x y) else Some 0
 
--- a frame that passed, as it is read this many ticks later
+-- a frame that passed, as it is read `late` ticks later
 abbrev pub read_later : ℕ → NumberedFrame → FrameRead
 read_later late f = record { start = late + f.start; frame = f.frame }
 
--- the frames that passed, as they are to be read where a receiver is so late
+-- the frames that should be read, given those that passed: each of them, `late` ticks later
 abbrev pub expected_reads : ℕ → List NumberedFrame → List FrameRead
 expected_reads late passed_ones = map (read_later late) passed_ones
 
--- The place, counted from 0, of the first frame that was read though another one is expected there,
--- or none. Frames that are still expected count for nothing.
+-- The place, counted from 0, of the first frame that was read and isn't the one expected there.
+-- `None` if there is no such frame. Expected frames that haven't been read yet don't count.
 abbrev pub first_unexpected : List FrameRead → List FrameRead → Option ℕ
 first_unexpected [] [] = None
 first_unexpected [] (g ∷ y) = Some 0
@@ -42,13 +42,14 @@ abbrev pub is_next : List FrameRead → FrameRead → Bool
 is_next [] g = false
 is_next (f ∷ x) g = is_same_read f g
 
--- What was found of the frames that were read: how many there are, and the place of the first one
--- that isn't expected. Nothing else is kept of them.
+-- What a comparison holds of the frames that were read: how many there are, and the place of the
+-- first one that isn't expected. Nothing else is kept of them.
 pub record Found (value : Comparison) (expected reads : List FrameRead) : Type 0 where
   pub count : value.read ≡ length reads
   pub place : value.unexpected ≡ first_unexpected expected reads
 
--- The device has heard this line, and what it has read was compared with what was expected.
+-- Holds if the device has heard this line, and what it has read was compared with what was
+-- expected.
 pub record Compares {V : Type 0} (device : Device V) (value : V) (comparison : Comparison)
     (expected : List FrameRead) (line : List Tick) : Type 0 where
   pub hears : device.stands value line

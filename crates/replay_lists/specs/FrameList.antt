@@ -3,30 +3,32 @@ use Rattle.std.specs.Prelude.{◌≡◌, ℕ, ◌+◌, ◌-◌, ◌≤◌, List,
 use Rattle.replay_lists.specs.declared.frame_list.Entry.{Entry}
 use Rattle.replay_lists.specs.declared.frame_list.FrameList.{FrameList}
 
--- a frame with what is kept of it beside its bytes
+-- a frame, and what is kept of it besides its bytes
 pub record Kept (K : Type 0) : Type 0 where
   pub head : K
   pub frame : List ℕ
 
--- the frames of these entries, whose bytes stand one after the other, from a place on
+-- The frames of these entries. Their bytes follow one another in `bytes`, from the place `start`
+-- on.
 abbrev pub frames_from : {K : Type 0} → ℕ → List (Entry K) → List ℕ → List (Kept K)
 frames_from start [] bytes = []
 frames_from start (e ∷ entries) bytes =
     record { head = e.head; frame = take (e.end - start) (drop start bytes) }
     ∷ frames_from e.end entries bytes
 
--- as many bytes as the longest frame of a protocol has
+-- how many bytes the longest frame of a protocol has
 abbrev pub longest_frame : ℕ
 longest_frame = 292
 
--- Each frame ends where it starts or behind it, as far as a frame is long, and the last one at this
--- place.
+-- Holds if each frame, the first of which begins at `start`, ends no earlier than it begins and has
+-- at most as many bytes as the longest frame, and the last one ends at `end`.
 abbrev pub AreEnds : {K : Type 0} → ℕ → List (Entry K) → ℕ → Type 0
 AreEnds start [] end = start ≡ end
 AreEnds start (e ∷ entries) end =
     (start ≤ e.end) × (e.end ≤ start + longest_frame) × AreEnds e.end entries end
 
--- the bytes of the list are those of its frames
+-- Holds if the bytes of the list are exactly those of its frames, each of which has at most
+-- `longest_frame` bytes.
 abbrev pub IsWhole : {K : Type 0} → FrameList K → Type 0
 IsWhole list = AreEnds 0 list.entries.items (length list.bytes.items)
 

@@ -1,4 +1,4 @@
--- What a box or a device that takes some ticks leaves of them.
+-- How what is kept of a line grows as a box or a device takes more ticks.
 use Rattle.std.specs.Prelude.{◌≡◌, ℕ, ◌+◌, ◌≤◌, List, ◌++◌, length}
 use Rattle.yasir_ticks.specs.declared.tick.Tick.{Tick}
 use Rattle.link_format.specs.NumberedFrame.{NumberedFrame}
@@ -13,8 +13,9 @@ use Rattle.replay_lists.specs.declared.frame_box.FrameBox.{Ghosts as FrameBox}
 use Rattle.replay_lists.specs.declared.frame_box.Numbered.{Numbered}
 use Rattle.replay_lists.specs.declared.frame_list.FrameList.{FrameList}
 
--- These ticks more were taken and counted, a frame a tick at most was met in them, and where there
--- was what is made of a line, there is what is made of the line with these ticks.
+-- Holds if the ticks `more` were taken and counted, at most as many frames as ticks were added, and
+-- whatever line the value and what is kept represented before, they now represent that line
+-- followed by these ticks.
 pub record GoesOn {O S L : Type 0} (taken : S → ℕ) (size : L → ℕ)
     (keeps : O → S → L → List Tick → Type 0) (old new : S) (before after : L)
     (more : List Tick) : Type 0 where
@@ -23,14 +24,14 @@ pub record GoesOn {O S L : Type 0} (taken : S → ℕ) (size : L → ℕ)
   pub kept : (origin : O) (line : List Tick) → keeps origin old before line
       → keeps origin new after (line ++ more)
 
--- A box, however it was set up, takes these ticks more, and its frames are kept.
+-- Holds if a box, whatever its setup, takes these ticks too, and its frames are kept.
 abbrev pub TakesOn : {B : Type 0} → FrameBox B → B → B → FrameList Numbered → FrameList Numbered
     → List Tick → Type 0
 TakesOn box = GoesOn box.taken (λ (list : FrameList Numbered). list_len list)
     (λ (setup : Setup) value list line. KeepsFrames box value list setup line)
 
--- A device hears these ticks more, and what it reads is compared with what has passed so long
--- before.
+-- Holds if a device hears these ticks too, and what it reads is compared with what passed `late`
+-- ticks earlier.
 abbrev pub HearsOn : {V : Type 0} → Device V → ℕ → FrameList Numbered → V → V → Comparison
     → Comparison → List Tick → Type 0
 HearsOn device late passed = GoesOn device.taken (λ (comparison : Comparison). comparison.read)

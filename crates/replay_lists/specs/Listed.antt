@@ -11,13 +11,13 @@ use Rattle.replay_lists.specs.ReplayLists.{HasListed, IsReady, lists_taken}
 use Rattle.replay_lists.specs.declared.frame_box.FrameBox.{Ghosts as FrameBox}
 use Rattle.replay_lists.specs.declared.replay_lists.ReplayLists.{ReplayLists}
 
--- So many silent ticks come after the recording behind the mark: the last verdict falls in them,
--- and all that the receiver holds back leaves and is read.
+-- How many silent ticks follow the recording after the mark: enough for the last verdict to fall in
+-- them, and for all that the receiver holds back to leave and be read.
 abbrev pub link_rest : ℕ
 link_rest = 320
 
 module _ {S C V : Type 0} (s : FrameBox S) (c : FrameBox C) (v : Device V) where
-  -- Lists that have taken no item, set up somehow.
+  -- Lists that have taken no item, with some setup.
   pub record MayList (lists : ReplayLists S C V) : Type 0 where
     pub none : lists_taken s c v lists ≡ 0
     pub ready : IsReady s c v lists
@@ -25,8 +25,9 @@ module _ {S C V : Type 0} (s : FrameBox S) (c : FrameBox C) (v : Device V) where
     pub setup : Setup
     pub listed : HasListed s c v lists setup [] []
 
-  -- The input is a whole text with one mark. The lists are those of the recording before it, with
-  -- this many silent ticks behind it, and of the one behind it, with the silence of a link.
+  -- Holds if the input is a whole text with one mark, and the lists are those of its two
+  -- recordings: the one before the mark followed by `device_rest` silent ticks, and the one after
+  -- the mark followed by `link_rest` silent ticks.
   pub record ListsBoth (device_rest : ℕ) (old new : ReplayLists S C V)
       (before now : Option (List ℕ)) : Type 0 where
     pub items : List Item
@@ -35,8 +36,8 @@ module _ {S C V : Type 0} (s : FrameBox S) (c : FrameBox C) (v : Device V) where
         → HasListed s c v new setup (before_mark takes.told ++ silent device_rest)
         (behind_mark takes.told ++ silent link_rest)
 
-  -- What was taken of the input as the listing ended so; where it didn't end well the lists are of
-  -- no use.
+  -- What was taken of the input when the listing ended with `end`. Unless it ended well, the lists
+  -- are of no use.
   pub record EndsListing (before now : Option (List ℕ)) (end : End) : Type 0 where
     pub items : List Item
     pub takes : Takes 1 link_rest before now items end

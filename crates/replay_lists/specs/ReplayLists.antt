@@ -21,8 +21,8 @@ pub record KeepsFrames {B : Type 0} (box : FrameBox B) (value : B) (list : Frame
   pub steps : box.stands value setup line
   pub holds : Holds list (kept_frames ((box.numbering setup).frames line))
 
--- The box has taken one tick more than this line, the list holds its frames, and it has answered
--- with this tick.
+-- Holds if the box has taken this line and then `t`, the list holds its frames, and `tick` is what
+-- the box returned for `t`.
 pub record StepsInto {B : Type 0} (box : FrameBox B) (value : B) (list : FrameList Numbered)
     (setup : Setup) (line : List Tick) (t tick : Tick) : Type 0 where
   pub keeps : KeepsFrames box value list setup (line ++ t ∷ [])
@@ -65,21 +65,22 @@ module _ {S C V : Type 0} (s : FrameBox S) (c : FrameBox C) (v : Device V) where
     pub checker : c.able lists.checker
     pub taken : v.taken lists.device ≡ c.taken lists.checker
 
-  -- The boxes have taken these items: the ticks before the mark, and those behind it.
+  -- The transmitter has taken the ticks of these items that come before the mark, and the receiver
+  -- those that come after it.
   pub record ListsItems (lists : ReplayLists S C V) (setup : Setup) (items : List Item) :
       Type 0 where
     pub listed : HasListed lists setup (before_mark items) (behind_mark items)
     pub marked : lists.marked ≡ has_mark items
 
-  -- After these items more the boxes stand for them too, they have counted them, and they may go
-  -- on.
+  -- Holds if the boxes took the items `more`, whatever they had taken before, counted their ticks,
+  -- and may take others.
   pub record GoesOnBy (old new : ReplayLists S C V) (more : List Item) : Type 0 where
     pub moved : (setup : Setup) (items : List Item) → ListsItems old setup items
         → ListsItems new setup (items ++ more)
     pub counted : lists_taken new ≡ lists_taken old + length (ticks_in more)
     pub ready : IsReady new
 
-  -- What is said of such a consumer: it stops only where there is no memory, and writes nothing.
+  -- What holds for this consumer: it stops only if there is no memory, and writes nothing.
   abbrev pub listing : Consuming (ReplayLists S C V)
   listing = record {
     Origin = Setup;

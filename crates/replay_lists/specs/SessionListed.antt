@@ -14,7 +14,7 @@ use Rattle.replay_lists.specs.declared.frame_box.FrameBox.{Ghosts as FrameBox}
 use Rattle.replay_lists.specs.declared.session_lists.SessionLists.{SessionLists}
 
 module _ {S C V : Type 0} (s : FrameBox S) (c : FrameBox C) (v : Device V) where
-  -- Lists that have taken no item, set up somehow.
+  -- Lists that have taken no item, with some setup.
   pub record MayListSession (lists : SessionLists S C V) : Type 0 where
     pub none : boxes_taken s c v lists ≡ 0
     pub able : IsOpen s c v lists
@@ -24,7 +24,7 @@ module _ {S C V : Type 0} (s : FrameBox S) (c : FrameBox C) (v : Device V) where
     pub setups : Setups
     pub has : HasSession s c v lists setups [] [] []
 
-  -- The lists are those of these recordings, each with its silence behind it.
+  -- The lists are those of these recordings, each followed by its silence.
   pub record ListsLines (old new : SessionLists S C V) (device link received : List Tick) :
       Type 0 where
     pub has : (setups : Setups) → HasSession s c v old setups [] [] []
@@ -33,16 +33,16 @@ module _ {S C V : Type 0} (s : FrameBox S) (c : FrameBox C) (v : Device V) where
     pub able : IsOpen s c v new
     pub few : session_taken s c v new < 2 ^ 32
 
-  -- The input is a whole text with two marks. The lists are those of the three recordings that
-  -- these part.
+  -- Holds if the input is a whole text with two marks, and the lists are those of the three
+  -- recordings that the marks separate.
   pub record ListsThree (old new : SessionLists S C V) (before now : Option (List ℕ)) :
       Type 0 where
     pub items : List Item
     pub takes : IsWhole 2 0 before now items
     pub lists : ListsLines old new (part 0 takes.told) (part 1 takes.told) (part 2 takes.told)
 
-  -- What was taken of the input as the listing ended so; where it didn't end well the lists are of
-  -- no use.
+  -- What was taken of the input when the listing ended with `end`. Unless it ended well, the lists
+  -- are of no use.
   pub record EndsThree (before now : Option (List ℕ)) (end : End) : Type 0 where
     pub items : List Item
     pub takes : Takes 2 0 before now items end

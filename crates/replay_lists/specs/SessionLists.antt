@@ -18,27 +18,29 @@ use Rattle.replay_lists.specs.declared.frame_box.FrameBox.{Ghosts as FrameBox}
 use Rattle.replay_lists.specs.declared.session_lists.SessionLists.{SessionLists}
 use Rattle.replay_lists.specs.declared.session_lists.Timing.{Timing}
 
--- how the two boxes of a session are set up, and the ticks that are waited for
+-- how the two boxes of a session are set up, how late the receiver is, and how many silent ticks
+-- follow each recording
 pub record Setups : Type 0 where
   pub sent : Setup
   pub got : Setup
   pub timing : Timing
 
--- how many silent ticks there are behind all three
+-- how many silent ticks follow the three recordings in all
 abbrev pub all_rests : Timing → ℕ
 all_rests timing = timing.sent_rest + timing.link_rest + timing.received_rest
 
--- The link is ended by the second mark, and its silence comes after it from there on.
+-- The silence that has come after the link when this many marks have come. The second mark ends the
+-- link, so there is none before it.
 abbrev pub rest_after : ℕ → ℕ → List Tick
 rest_after rest zero = []
 rest_after rest (suc zero) = []
 rest_after rest (suc (suc more)) = silent rest
 
--- what the receiver has taken of these items
+-- what the receiver has taken when these items have come
 abbrev pub link_of : ℕ → List Item → List Tick
 link_of rest items = part 1 items ++ rest_after rest (marks_in items)
 
--- how many ticks of the link's silence are still to come
+-- how many ticks of the link's silence are still to come while the next tick belongs to this place
 abbrev pub rest_left : ℕ → Place → ℕ
 rest_left rest place.First = rest
 rest_left rest place.Second = rest
@@ -46,13 +48,13 @@ rest_left rest place.Third = 0
 rest_left rest place.None = 0
 
 module _ {S C V : Type 0} (s : FrameBox S) (c : FrameBox C) (v : Device V) where
-  -- the frames that are to be read where this link has passed
+  -- the frames that should be read if this is the link
   abbrev pub expected_of : Setups → List Tick → List FrameRead
   expected_of setups link =
       expected_reads setups.timing.late ((c.numbering setups.got).frames link)
 
-  -- The lists hold what is sealed of this line of a device, and what passes of this link; and what
-  -- is read of this line was compared with what has passed.
+  -- Holds if the lists hold what is sealed of the line `device` and what passes of the line `link`,
+  -- and what is read of the line `received` was compared with what has passed.
   pub record HasSession (lists : SessionLists S C V) (setups : Setups)
       (device link received : List Tick) : Type 0 where
     pub seals : KeepsFrames s lists.sealer lists.sealed setups.sent device
@@ -60,8 +62,9 @@ module _ {S C V : Type 0} (s : FrameBox S) (c : FrameBox C) (v : Device V) where
     pub reads : Compares v lists.device lists.read (expected_of setups link) received
     pub timing_is : lists.timing ≡ setups.timing
 
-  -- The boxes and the device have taken these items, each its part. Behind a third mark the device
-  -- hears what is no part of the three.
+  -- The boxes and the device have taken these items, each its own part. After a third mark the
+  -- device hears ticks that belong to none of the three parts, and nothing is said of what it
+  -- reads.
   pub record TakesParts (lists : SessionLists S C V) (setups : Setups) (items : List Item) :
       Type 0 where
     pub seals : KeepsFrames s lists.sealer lists.sealed setups.sent (part 0 items)
@@ -78,7 +81,8 @@ module _ {S C V : Type 0} (s : FrameBox S) (c : FrameBox C) (v : Device V) where
   abbrev pub boxes_taken : SessionLists S C V → ℕ
   boxes_taken lists = s.taken lists.sealer + c.taken lists.checker + v.taken lists.device
 
-  -- and with them the link's silence, which may be to come
+  -- how many ticks were taken of all recordings and of the link's silence, which counts even if it
+  -- is still to come
   abbrev pub session_taken : SessionLists S C V → ℕ
   session_taken lists = boxes_taken lists + rest_left lists.timing.link_rest lists.place
 
@@ -88,8 +92,8 @@ module _ {S C V : Type 0} (s : FrameBox S) (c : FrameBox C) (v : Device V) where
     pub link : List Tick
     pub passes : KeepsFrames c lists.checker lists.passed setup link
 
-  -- Both boxes may take a tick, each list has a frame a tick at most, and no more frames were read
-  -- than ticks heard.
+  -- Both boxes may take a tick, each list has at most as many frames as its box has taken ticks,
+  -- and the device has read at most as many frames as it has heard ticks.
   pub record IsOpen (lists : SessionLists S C V) : Type 0 where
     pub sealer : s.able lists.sealer
     pub checker : c.able lists.checker
@@ -98,7 +102,7 @@ module _ {S C V : Type 0} (s : FrameBox S) (c : FrameBox C) (v : Device V) where
     pub few_read : lists.read.read ≤ v.taken lists.device
     pub holds : HoldsPassed lists
 
-  -- What is said of such a consumer: it stops only where there is no memory, and writes nothing.
+  -- What holds for this consumer: it stops only if there is no memory, and writes nothing.
   abbrev pub parting : Consuming (SessionLists S C V)
   parting = record {
     Origin = Setups;

@@ -1,4 +1,5 @@
-//! What a device reads, compared frame by frame with what has passed. No frame is kept.
+//! Compares the frames that a device reads, one by one, with those that have passed. The frames
+//! read aren't kept.
 ghost use Rattle.std.specs.Prelude.{◌≡◌, ℕ, ◌+◌, ◌<◌, ◌≤◌, ◌++◌, ◌∷◌, [], ◌==◌, ◌&&◌, List, bytes_eq};
 ghost use Rattle.std.specs.Prelude.{drop, length, IfSome};
 ghost use Rattle.yasir_ticks.specs.declared.TheConstants.{MAX_TICKS};
@@ -11,14 +12,15 @@ ghost use Rattle.replay_lists.specs.FrameList.{Holds, IsWhole};
 use crate::frame_box::Numbered;
 use crate::frame_list::FrameList;
 
-/// The frames that have passed, and how many ticks later they are read.
+/// The frames that have passed, and how many ticks later each one must be read.
 #[derive(Clone, Copy)]
 pub(crate) struct Passed<'a> {
     pub(crate) late: u64,
     pub(crate) frames: &'a FrameList<Numbered>,
 }
 
-// Whether a frame that passed is read this many ticks later, in this tick and with these bytes.
+// Whether a frame that was read, with these bytes from tick `at` on, is the frame that passed and
+// started in tick `start`, exactly `late` ticks earlier.
 fn is_read(late: u64, start: u64, frame: &[u8], at: u64, bytes: &[u8]) -> bool
     ensures { result ≡ (late + start == at && bytes_eq frame.now bytes.now) }
 {
@@ -32,8 +34,8 @@ pub(crate) struct Read<'a> {
     pub(crate) bytes: &'a [u8],
 }
 
-// Whether this frame is read so much later as the frame that has passed at a place, if there is
-// one.
+// Whether this frame is the one that passed at `place`, read `late` ticks later. False if no frame
+// passed there.
 fn is_next(passed: Passed<'_>, place: u64, read: Read<'_>) -> bool
     requires { IsWhole passed.frames.now }
     ensures { (passed_ones : List NumberedFrame)
@@ -56,8 +58,8 @@ fn is_next(passed: Passed<'_>, place: u64, read: Read<'_>) -> bool
     )
 }
 
-/// The frames that a device has read so far, compared with those that have passed: how many there
-/// are, and the first place at which they aren't the same.
+/// How the frames that a device has read so far compare with those that have passed: how many were
+/// read, and the place of the first one that isn't the frame that passed there.
 #[derive(Clone, Copy, Debug, PartialEq, Eq)]
 pub struct Comparison {
     read: u64,
@@ -65,7 +67,7 @@ pub struct Comparison {
 }
 
 impl Comparison {
-    /// Of no frame.
+    /// The comparison before any frame is read.
     pub(crate) fn new() -> Comparison
         ensures none { result.read ≡ 0 }
         ensures found { (expected : List FrameRead) → Found result expected [] }
@@ -109,8 +111,9 @@ impl Comparison {
         self.read
     }
 
-    /// The first place, counted from 0, at which the frames that were read aren't those that
-    /// passed, or one of the two has ended.
+    /// Returns the first place, counted from 0, at which the frames that were read and those that
+    /// passed differ: the two frames there aren't the same, or only one of the two lists has a
+    /// frame there.
     pub fn difference(&self, passed: &FrameList<Numbered>) -> Option<u64>
         ensures within { (expected reads : List FrameRead) → Found self.now expected reads
             → IfSome result (λ place. place ≤ self.now.read) }

@@ -1,4 +1,4 @@
-//! What a recording asks of a box: the frames that it seals or passes, with their bytes.
+//! What listing a recording needs from a box: the frames that it seals or passes, with their bytes.
 ghost use Rattle.std.specs.Prelude.{◌≡◌, ℕ, ◌+◌, ◌<◌, ◌≤◌, List, [], ◌∷◌, ◌++◌, length};
 ghost use Rattle.std.specs.Prelude.{map, take};
 ghost use Rattle.yasir_ticks.specs.Ticks.{silent};
@@ -15,14 +15,14 @@ use burst_walk::RunBytes;
 use hmac_tag::Dir;
 use yasir_ticks::{MAX_TICKS, Tick};
 
-/// The number of a frame that falls into a step, and the tick of its first byte.
+/// The number of a frame that a box seals or passes, and the tick of its first byte.
 #[derive(Clone, Copy, Debug, PartialEq, Eq)]
 pub struct Numbered {
     pub number: u64,
     pub start: u64,
 }
 
-/// What a box answers to a tick: the tick of the other line, and the frame that it seals or passes
+/// What a box returns for a tick: the tick of the other line, and the frame that it seals or passes
 /// in this step, if there is one.
 #[derive(Clone, Copy, Debug, PartialEq, Eq)]
 pub struct FrameStep {
@@ -33,16 +33,16 @@ pub struct FrameStep {
 /// A box between two lines that seals frames or passes them, with numbers above the floor that it
 /// is made with. It shows the bytes of each.
 pub trait FrameBox: Drop {
-    /// Begun with this setup, the box has taken these ticks.
+    /// Holds if a box that was made with this setup has taken these ticks.
     ghost stands: { Self → Setup → List Tick → Type 0 };
 
     /// How many ticks it has taken.
     ghost taken: { Self → ℕ };
 
-    /// It may take a tick.
+    /// Whether it may take a tick.
     ghost able: { Self → Type 0 };
 
-    /// What it makes of a line.
+    /// What a box with this setup makes of a line.
     ghost numbering: { Setup → Numbering };
 
     /// What must hold of the widths that it is made with.
@@ -72,9 +72,9 @@ pub trait FrameBox: Drop {
         ensures answer { (setup : Setup) (line : List Tick) → stands self.old setup line
             → AnswersFrame (numbering setup) line t result (shown self.new) };
 
-    /// Takes the first of these bytes, one a tick, as far as the box answers all of them with
-    /// silence or all of them with bytes, and seals or passes no frame; returns how many it took.
-    /// Puts the bytes of the answer into `sent`, or none for silence. With 0 the caller goes on by
+    /// Takes the first of these bytes, one a tick, and returns how many. While it takes them, it
+    /// sends either only silence or only bytes, and seals or passes no frame. Puts the bytes that
+    /// it sends into `sent`, or none for silence. If the result is 0, the caller goes on with
     /// `step`.
     fn pass_bytes(&mut self, _bytes: &[u8], sent: &mut RunBytes) -> usize
         requires room { taken self.old + length _bytes.now ≤ MAX_TICKS }
@@ -92,9 +92,9 @@ pub trait FrameBox: Drop {
         0
     }
 
-    /// Takes the first of this many silent ticks, as far as the box answers all of them with
-    /// silence or all of them with bytes, and seals or passes no frame; returns how many it took.
-    /// Puts the bytes of the answer into `sent`, or none for silence. With 0 the caller goes on by
+    /// Takes the first of this many silent ticks, and returns how many. While it takes them, it
+    /// sends either only silence or only bytes, and seals or passes no frame. Puts the bytes that
+    /// it sends into `sent`, or none for silence. If the result is 0, the caller goes on with
     /// `step`.
     fn pass_silence(&mut self, _ticks: u32, sent: &mut RunBytes) -> u32
         requires room { taken self.old + _ticks ≤ MAX_TICKS }
@@ -112,7 +112,7 @@ pub trait FrameBox: Drop {
         0
     }
 
-    /// The bytes of the frame of the step before, where it had one.
+    /// The bytes of the frame of the last step, if that step had one.
     fn bytes(&self) -> &[u8]
         ensures bytes { result.now ≡ shown self.now }
         ensures short { length result.now ≤ longest_frame };

@@ -6,22 +6,22 @@ ghost use Rattle.replay_lists.specs.FrameList.{Kept, Holds, IsWhole, list_len, l
 use std::alloc::Global;
 use yasir_io::NoMemory;
 
-/// What is kept of a frame beside its bytes, and where these end among those of all frames.
+/// What is kept of a frame besides its bytes, and where its bytes end in the buffer of all frames.
 #[derive(Clone, Copy)]
 struct Entry<K> {
     head: K,
     end: usize,
 }
 
-/// Where the bytes of a frame stand among those of all: from `start` up to `end`.
+/// Where the bytes of a frame are in the buffer of all frames: `start..end`.
 struct Bounds {
     start: usize,
     end: usize,
 }
 
 /// Frames in memory, in the order in which they came, each with a head of its own. The bytes of all
-/// are in one buffer, one frame after the other. Where there was no memory for a frame, the list
-/// is not used again.
+/// frames are in one buffer, one frame after the other. If there was no memory for a frame, the
+/// list isn't used again.
 #[derive(Drop)]
 pub struct FrameList<K> {
     entries: Vec<Entry<K>>,
@@ -29,7 +29,7 @@ pub struct FrameList<K> {
 }
 
 impl<K: Copy + Drop> FrameList<K> {
-    /// No frame.
+    /// A list of no frames.
     pub fn new(alloc: Global) -> FrameList<K>
         ensures { Holds result [] }
     {
@@ -39,7 +39,7 @@ impl<K: Copy + Drop> FrameList<K> {
         }
     }
 
-    /// Adds a frame behind the others, of no more bytes than the longest frame has.
+    /// Adds a frame at the end. It has at most as many bytes as the longest frame.
     #[inline(never)]
     pub fn push(&mut self, head: K, bytes: &[u8]) -> Result<(), NoMemory>
         requires { length bytes.now ≤ longest_frame }
@@ -68,7 +68,7 @@ impl<K: Copy + Drop> FrameList<K> {
         self.entries.as_slice().len()
     }
 
-    /// The head of a frame, counted from 0.
+    /// The head of the frame at `index`, counted from 0.
     pub fn head(&self, index: usize) -> K
         requires { index < list_len self.now }
         ensures { (frames : List (Kept K)) (other : Kept K) → Holds self.now frames
@@ -77,7 +77,7 @@ impl<K: Copy + Drop> FrameList<K> {
         self.entries[index].head
     }
 
-    /// The bytes of a frame, counted from 0.
+    /// The bytes of the frame at `index`, counted from 0.
     pub fn bytes(&self, index: usize) -> &[u8]
         requires within { index < list_len self.now }
         requires whole { IsWhole self.now }
@@ -89,7 +89,7 @@ impl<K: Copy + Drop> FrameList<K> {
         &self.bytes.as_slice()[start..end]
     }
 
-    // Where the bytes of a frame stand.
+    // Where the bytes of the frame at `index` are in the buffer.
     fn bounds(&self, index: usize) -> Bounds
         requires within { index < list_len self.now }
         requires whole { IsWhole self.now }

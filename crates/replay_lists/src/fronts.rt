@@ -1,4 +1,4 @@
-//! The first ticks of a run, as many as a box or a device takes at once, and one at least.
+//! Gives a box or a device the first ticks of a run: as many as it takes at once, and at least one.
 ghost use Rattle.std.specs.Prelude.{◌+◌, ◌<◌, ◌≤◌, [], ◌∷◌, length, take, IfOk, OnOk};
 ghost use Rattle.yasir_ticks.specs.TickRun.{run_ticks};
 ghost use Rattle.yasir_ticks.specs.declared.TheConstants.{MAX_TICKS};
@@ -15,7 +15,7 @@ use device_model::{Device, hear_run};
 use yasir_io::NoMemory;
 use yasir_ticks::{Tick, TickRun};
 
-// A box takes one tick, and its frame is kept.
+// Gives a box one tick, and keeps the frame of that step, if there is one.
 #[inline(never)]
 fn take_tick<B: FrameBox>(
     line_box: &mut B,
@@ -34,8 +34,8 @@ fn take_tick<B: FrameBox>(
     }
 }
 
-/// A box takes the first ticks of this run: at once where it has an answer to them, and else one
-/// alone, whose frame is kept. Returns how many.
+/// Gives a box the first ticks of this run: as many as it takes at once or, if it takes none at
+/// once, a single one, whose frame is kept. Returns how many it took.
 #[inline(always)]
 pub(crate) fn take_front<B: FrameBox>(
     line_box: &mut B,
@@ -62,8 +62,8 @@ pub(crate) fn take_front<B: FrameBox>(
     }
 }
 
-/// A device hears the first ticks of this run, up to the first one in which it reads a frame, which
-/// is compared. Returns how many.
+/// Lets a device hear the first ticks of this run, up to and including the first one in which it
+/// reads a frame, and compares that frame. Returns how many ticks it heard.
 #[inline(always)]
 pub(crate) fn hear_front<V: Device>(
     device: &mut V,

@@ -1,4 +1,4 @@
-//! A device that hears runs of ticks, and the frames that it reads in them.
+//! Lets a device hear runs of ticks, and keeps the frames that it reads in them.
 ghost use Rattle.std.specs.Prelude.{◌≡◌, ℕ, ◌+◌, ◌<◌, ◌≤◌, List, ◌++◌, length, map, take, IfOk, OnOk};
 ghost use Rattle.yasir_ticks.specs.Ticks.{silent};
 ghost use Rattle.yasir_ticks.specs.declared.tick.Tick.{Tick};
@@ -30,8 +30,8 @@ pub(crate) fn keep_lent<V: Device>(
     }
 }
 
-// A device hears bytes up to the first one in which it reads a frame, which is kept. Returns how
-// many.
+// Lets a device hear these bytes, up to and including the first one in which it reads a frame, and
+// keeps that frame. Returns how many bytes it heard.
 pub(crate) fn hear_some<V: Device>(
     device: &mut V,
     frames: &mut FrameList<u64>,
@@ -54,8 +54,8 @@ pub(crate) fn hear_some<V: Device>(
     }
 }
 
-// A device hears this many silent ticks, up to the first one in which it reads a frame, which is
-// kept. Returns how many.
+// Lets a device hear up to `ticks` silent ticks. It stops after the first one in which it reads a
+// frame, which is kept. Returns how many ticks it heard.
 #[inline]
 pub(crate) fn wait_some<V: Device>(
     device: &mut V,
@@ -79,7 +79,7 @@ pub(crate) fn wait_some<V: Device>(
     }
 }
 
-// A device hears all of these bytes.
+// Lets a device hear all of these bytes, and keeps the frames that it reads.
 fn hear_bytes<V: Device>(
     device: &mut V,
     frames: &mut FrameList<u64>,
@@ -100,7 +100,7 @@ fn hear_bytes<V: Device>(
     Ok(())
 }
 
-// A device hears this many silent ticks.
+// Lets a device hear `ticks` silent ticks, and keeps the frames that it reads.
 #[inline(always)]
 pub(crate) fn hear_silence<V: Device>(
     device: &mut V,
@@ -123,8 +123,8 @@ pub(crate) fn hear_silence<V: Device>(
     Ok(())
 }
 
-// A device hears what a box answers to a run of this many ticks. It is kept separate from silence,
-// which is answered more often and comes without a call.
+// Lets a device hear what a box sent for a run of `count` ticks. It is a function of its own so
+// that silence, which is more frequent, needs no call.
 #[inline(never)]
 fn hear_run<V: Device>(
     device: &mut V,
@@ -145,7 +145,8 @@ fn hear_run<V: Device>(
     }
 }
 
-// A device hears what a box answers to a run of this many ticks: as many bytes, or silence.
+// Lets a device hear what a box sent for a run of `count` ticks: the bytes in `sent`, or silence if
+// there are none.
 #[inline(always)]
 pub(crate) fn hear_answered<V: Device>(
     device: &mut V,

@@ -1,9 +1,11 @@
-//! Recordings: a line of a device goes through a transmitter, a link through a receiver, and a line
-//! to a device. What is sealed and passed is kept as lists of frames in memory. So is what is read
-//! of two recordings in one input; of three, which come in one input or each as a list of ticks, it
-//! is compared with what has passed.
+//! Lists the frames of recordings. A line of a device goes through a transmitter, a link through a
+//! receiver, and a line to a device. The frames that are sealed and those that pass are kept in
+//! memory as lists.
 //!
-//! The frames of three recordings of a session, which two marks part in the input:
+//! Of two recordings in one input, the frames that the device reads are kept too. Of three, which
+//! come in one input or each as a list of ticks, they are compared with those that have passed.
+//!
+//! The frames of three recordings of a session, which two marks separate in the input:
 //!
 //!     let mut lists = SessionLists::<S, C, RtuDevice>::new(alloc, &key, dir, floors, timing);
 //!     match list_session(&mut lists, &mut input) {

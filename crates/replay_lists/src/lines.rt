@@ -1,5 +1,5 @@
-//! A box takes ticks one by one, and its frames are kept; a device hears them, and what it reads is
-//! compared with what has passed.
+//! Gives ticks one by one to a box and keeps its frames, or lets a device hear them and compares
+//! what it reads with what has passed.
 ghost use Rattle.std.specs.Prelude.{◌≡◌, ◌+◌, ◌<◌, ◌≤◌, ◌++◌, [], ◌∷◌, List, length, take, OnOk};
 ghost use Rattle.yasir_ticks.specs.Ticks.{silent};
 ghost use Rattle.yasir_ticks.specs.declared.TheConstants.{MAX_TICKS};
@@ -18,7 +18,7 @@ use device_model::Device;
 use yasir_io::NoMemory;
 use yasir_ticks::Tick;
 
-// A box takes these ticks, and its frames are kept.
+// Gives these ticks to a box, and keeps its frames.
 pub(crate) fn take_line<B: FrameBox>(
     line_box: &mut B,
     frames: &mut FrameList<Numbered>,
@@ -38,7 +38,7 @@ pub(crate) fn take_line<B: FrameBox>(
     Ok(())
 }
 
-// A box takes this many silent ticks, and its frames are kept.
+// Gives `ticks` silent ticks to a box, and keeps its frames.
 pub(crate) fn take_silence<B: FrameBox>(
     line_box: &mut B,
     frames: &mut FrameList<Numbered>,
@@ -84,7 +84,7 @@ pub(crate) fn take_lent<V: Device>(
     }
 }
 
-// A device hears one tick.
+// Lets a device hear one tick, and compares the frame that it reads in it, if there is one.
 #[inline]
 fn hear_tick<V: Device>(device: &mut V, read: &mut Comparison, passed: Passed<'_>, tick: Tick)
     requires room { V.taken device.old < MAX_TICKS }
@@ -97,7 +97,7 @@ fn hear_tick<V: Device>(device: &mut V, read: &mut Comparison, passed: Passed<'_
     take_lent(device, start, read, passed);
 }
 
-/// A device hears these ticks.
+/// Lets a device hear these ticks, and compares the frames that it reads.
 pub(crate) fn hear_line<V: Device>(
     device: &mut V,
     read: &mut Comparison,
@@ -115,7 +115,7 @@ pub(crate) fn hear_line<V: Device>(
     }
 }
 
-/// A device hears this many silent ticks.
+/// Lets a device hear `ticks` silent ticks, and compares the frames that it reads.
 pub(crate) fn hear_rest<V: Device>(
     device: &mut V,
     read: &mut Comparison,

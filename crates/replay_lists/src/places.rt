@@ -1,4 +1,4 @@
-//! Frames that are numbered in turn, each looked up at the place of its number.
+//! Looks up frames that are numbered one after the other, each at the place of its number.
 ghost use Rattle.std.specs.Prelude.{◌≡◌, List};
 ghost use Rattle.link_format.specs.NumberedFrame.{NumberedFrame};
 ghost use Rattle.replay_lists.specs.FrameBox.{kept_frames};
@@ -8,8 +8,9 @@ ghost use Rattle.replay_lists.specs.Places.{stands_at_its_number};
 use crate::frame_box::Numbered;
 use crate::frame_list::FrameList;
 
-/// Whether a frame has these bytes at the place of this number, among frames that are numbered in
-/// turn from this floor on: no other one is looked at.
+/// Whether the frame at the place of this number has these bytes, among frames that are numbered
+/// one after the other from `floor + 1` on. False if there is no frame at that place. No other
+/// frame is looked at.
 pub fn is_at_its_number(frames: &FrameList<Numbered>, floor: u64, number: u64, bytes: &[u8]) -> bool
     requires { IsWhole frames.now }
     ensures { (listed : List NumberedFrame) (f : NumberedFrame)

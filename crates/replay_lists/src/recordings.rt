@@ -1,4 +1,4 @@
-//! The frames of two recordings in one input, with silence behind each.
+//! Lists the frames of two recordings in one input, with silence after each.
 ghost use Rattle.std.specs.Prelude.{◌≡◌, List, []};
 ghost use Rattle.yasir_io.specs.Flushed.{NoneFlushed};
 ghost use Rattle.tick_drive.specs.Input.{IsReadCause, is_read_fault};
@@ -10,13 +10,12 @@ use device_model::Device;
 use tick_drive::{End, Stop, drive_to_rest};
 use yasir_io::{NoMemory, Sink, Source};
 
-/// How many silent ticks come after the recording behind the mark, so that what passes is sent
-/// and read.
+/// How many silent ticks follow the recording after the mark, so that what passes is sent and read.
 const LINK_REST: u32 = 320;
 
-/// Lists the frames of two recordings, which a mark parts in the input. Behind the one before it
-/// stand `device_rest` silent ticks, so that its last burst is judged and its trailer is sent.
-/// Nothing is written.
+/// Lists the frames of two recordings, which a mark separates in the input. The one before the mark
+/// is followed by `device_rest` silent ticks, so that its last burst is judged and its trailer is
+/// sent. Nothing is written.
 pub fn list_recordings<S: FrameBox, C: FrameBox, V: Device + Drop, I: Source, O: Sink, L: Sink>(
     device_rest: u32,
     lists: &mut ReplayLists<S, C, V>,

@@ -27,7 +27,8 @@ use yasir_ticks::{MAX_TICKS, Tick, TickRun};
 #[cfg(test)]
 pub(crate) mod turn_tests;
 
-// One step of a box, whose frame is kept. Returns the tick of the other line.
+// Makes one step of a box, and keeps the frame that falls into it, if there is one. Returns the
+// tick of the other line.
 #[inline]
 pub(crate) fn step_into<B: FrameBox>(
     line_box: &mut B,
@@ -53,8 +54,8 @@ pub(crate) fn step_into<B: FrameBox>(
     }
 }
 
-// A box takes the first ticks of this run at once. Returns how many, and puts the bytes of the
-// answer into `sent`, or none for silence.
+// Gives this run to a box, which takes the first ticks at once. Returns how many it took, and puts
+// the bytes that it sent into `sent`, or none for silence.
 #[inline(always)]
 pub(crate) fn pass_run<B: FrameBox>(
     line_box: &mut B,
@@ -78,7 +79,7 @@ pub(crate) fn pass_run<B: FrameBox>(
     }
 }
 
-// One step of a device, whose frame is kept.
+// Makes one step of a device, and keeps the frame that it reads in it, if there is one.
 #[inline]
 pub(crate) fn hear_into<V: Device>(
     device: &mut V,
@@ -95,9 +96,9 @@ pub(crate) fn hear_into<V: Device>(
     keep_lent(device, start, frames)
 }
 
-/// Takes two recordings that a mark parts: the device's line, which a transmitter `S` takes, and
-/// the link, which a receiver `C` takes, and a device `V` the receiver's line. It keeps the frames
-/// that are sealed, passed and read, and writes nothing.
+/// Takes two recordings that a mark separates: the device's line, which goes to a transmitter `S`,
+/// and the link, which goes to a receiver `C`. A device `V` hears what the receiver sends. The
+/// frames that are sealed, passed and read are kept, and nothing is written.
 #[derive(Drop)]
 pub struct ReplayLists<S, C, V> {
     sealer: S,
@@ -117,7 +118,7 @@ impl<S: FrameBox, C: FrameBox, V: Device + Drop> ReplayLists<S, C, V> {
     ghost use Rattle.replay_lists.specs.Listed.{MayList};
     ghost use Rattle.replay_lists.specs.ReplayLists.{kept_reads};
 
-    /// Lists of no frame, and boxes that have taken no tick, for a key of any length and a
+    /// Lists of no frames, with boxes that have taken no tick, for a key of any length and a
     /// direction.
     pub fn new(alloc: Global, key: &[u8], dir: Dir) -> ReplayLists<S, C, V>
         requires sealer { S.widths_fit }
@@ -158,7 +159,7 @@ impl<S: FrameBox, C: FrameBox, V: Device + Drop> ReplayLists<S, C, V> {
         }
     }
 
-    // Gives a tick to the receiver, and the tick that it answers to the device.
+    // Gives a tick to the receiver, and the tick that the receiver returns to the device.
     #[inline]
     fn check(&mut self, t: Tick) -> Result<(), NoMemory>
         requires room { C.taken self.old.checker < MAX_TICKS }
@@ -203,8 +204,8 @@ impl<S: FrameBox, C: FrameBox, V: Device + Drop> ReplayLists<S, C, V> {
         pass_run(&mut self.sealer, run, &mut sent)
     }
 
-    // Gives the first ticks of this run to the receiver at once, and what it answers to the device.
-    // Returns how many.
+    // Gives the first ticks of this run to the receiver at once, and what it sends for them to the
+    // device. Returns how many.
     #[inline(always)]
     fn check_run(&mut self, run: TickRun<'_>) -> Result<usize, NoMemory>
         requires room { C.taken self.old.checker + length (run_ticks run) ≤ MAX_TICKS }
@@ -232,7 +233,7 @@ impl<S: FrameBox, C: FrameBox, V: Device + Drop> ReplayLists<S, C, V> {
         }
     }
 
-    // Takes the first ticks of this run at once, and returns how many.
+    // Takes the first ticks of this run at once, and returns how many, which may be 0.
     #[inline(always)]
     fn take_front(&mut self, run: TickRun<'_>) -> Result<usize, NoMemory>
         requires room { lists_taken S.FrameBox C.FrameBox V.Device self.old
@@ -299,7 +300,7 @@ impl<S: FrameBox, C: FrameBox, V: Device + Drop> ReplayLists<S, C, V> {
         &self.read
     }
 
-    /// Gives this many silent ticks to the transmitter, behind the recording before the mark.
+    /// Gives the transmitter `ticks` silent ticks after its recording, the one before the mark.
     pub fn rest(&mut self, ticks: u32) -> Result<(), NoMemory>
         requires room { S.taken self.old.sealer + ticks ≤ MAX_TICKS }
         requires able { S.able self.old.sealer }
@@ -317,7 +318,7 @@ impl<S: FrameBox, C: FrameBox, V: Device + Drop> Consumer for ReplayLists<S, C, 
 
     ghost meaning = { listing S.FrameBox C.FrameBox V.Device };
 
-    // The first ticks go at once where the box has an answer to them, and else one goes alone.
+    // Gives as many ticks at once as the box takes that way or, if it takes none, a single one.
     #[inline(always)]
     fn take_some(&mut self, run: TickRun<'_>) -> Result<usize, Stop> {
         let count = match self.take_front(run) {

@@ -37,30 +37,31 @@ mod turn_tests;
 /// The last numbers that the boxes of a session had used before it.
 #[derive(Clone, Copy, Debug, PartialEq, Eq)]
 pub struct Floors {
-    /// That the transmitter had used.
+    /// The last number that the transmitter had used.
     pub sent: u64,
-    /// That the receiver had passed.
+    /// The last number that the receiver had passed.
     pub got: u64,
 }
 
 /// How late a receiver is, and how many silent ticks come after each of three recordings.
 #[derive(Clone, Copy, Debug, PartialEq, Eq)]
 pub struct Timing {
-    /// How many ticks later a frame is read than it passed.
+    /// How many ticks after its start on the link a frame starts on the line of the device that
+    /// receives.
     pub late: u64,
-    /// Behind the line of the device that sends.
+    /// How many silent ticks follow the line of the device that sends.
     pub sent_rest: u32,
-    /// Behind the link.
+    /// How many silent ticks follow the link.
     pub link_rest: u32,
-    /// Behind the line of the device that receives.
+    /// How many silent ticks follow the line of the device that receives.
     pub received_rest: u32,
 }
 
-/// Takes three recordings of a session that two marks part: the line of the device that sends,
-/// which a transmitter `S` takes, the link, which a receiver `C` takes, and the line of the device
-/// that receives, which a device `V` hears. It keeps the frames that are sealed and passed. A frame
-/// that is read is compared with the one that has passed in its place, and let go. No tick is kept,
-/// and nothing is written.
+/// Takes three recordings of a session that two marks separate. The line of the device that sends
+/// goes to a transmitter `S`, the link goes to a receiver `C`, and a device `V` hears the line of
+/// the device that receives. The frames that are sealed and passed are kept. A frame that is read
+/// is compared with the one that has passed at its place, and isn't kept. No tick is kept, and
+/// nothing is written.
 #[derive(Drop)]
 pub struct SessionLists<S, C, V> {
     sealer: S,
@@ -74,8 +75,8 @@ pub struct SessionLists<S, C, V> {
 }
 
 impl<S: FrameBox, C: FrameBox, V: Device + Drop> SessionLists<S, C, V> {
-    /// Lists of no frame, and boxes that have taken no tick, for a key of any length, a direction,
-    /// and the floors of transmitter and receiver.
+    /// Lists of no frames, with boxes that have taken no tick, for a key of any length, a
+    /// direction, and the floors of transmitter and receiver.
     pub fn new(
         alloc: Global,
         key: &[u8],
@@ -107,7 +108,7 @@ impl<S: FrameBox, C: FrameBox, V: Device + Drop> SessionLists<S, C, V> {
         }
     }
 
-    // Takes the first ticks of this run, and returns how many.
+    // Takes the first ticks of this run, at least one, and returns how many.
     #[inline(always)]
     fn take_front(&mut self, run: TickRun<'_>) -> Result<usize, NoMemory>
         requires some { 0 < length (run_ticks run) }
@@ -158,7 +159,7 @@ impl<S: FrameBox, C: FrameBox, V: Device + Drop> SessionLists<S, C, V> {
         &self.passed
     }
 
-    /// What was found of the frames that were read.
+    /// How the frames that were read compare with those that have passed.
     pub fn read(&self) -> Comparison
         ensures few { IsOpen S.FrameBox C.FrameBox V.Device self.now
             → result.read ≤ session_taken S.FrameBox C.FrameBox V.Device self.now }
@@ -170,7 +171,7 @@ impl<S: FrameBox, C: FrameBox, V: Device + Drop> SessionLists<S, C, V> {
         self.read
     }
 
-    /// Takes three recordings from memory, and the link's silence.
+    /// Takes three recordings from memory, and the link's silence after the link.
     pub(crate) fn take_lines(
         &mut self,
         device: &[Tick],
@@ -210,7 +211,7 @@ impl<S: FrameBox, C: FrameBox, V: Device + Drop> SessionLists<S, C, V> {
         Ok(())
     }
 
-    /// Takes the silent ticks behind the two lines of devices. Those behind the link were taken
+    /// Takes the silent ticks after the lines of the two devices. Those after the link were taken
     /// before the last line began.
     pub(crate) fn rest(&mut self) -> Result<(), NoMemory>
         requires room { session_taken S.FrameBox C.FrameBox V.Device self.old
@@ -241,7 +242,8 @@ impl<S: FrameBox, C: FrameBox, V: Device + Drop> SessionLists<S, C, V> {
         Ok(())
     }
 
-    // The link has ended: takes the silence behind it, so that all its frames have passed.
+    // Takes the silence after the link, which has ended. So all frames of the link that pass have
+    // done so before the last line begins.
     fn end_link(&mut self) -> Result<(), NoMemory>
         requires room { session_taken S.FrameBox C.FrameBox V.Device self.old ≤ MAX_TICKS }
         requires second { self.old.place ≡ Second }

@@ -1,4 +1,4 @@
-//! The frames of three recordings in one input, with silence behind each.
+//! Lists the frames of three recordings, in one input or in memory, with silence after each.
 ghost use Rattle.std.specs.Prelude.{◌+◌, ◌≤◌, ◌^◌, length, OnOk};
 ghost use Rattle.tick_drive.specs.Input.{IsReadCause, is_read_fault};
 ghost use Rattle.replay_lists.specs.SessionListed.{ListsLines, ListsSession, MayListSession};
@@ -10,8 +10,8 @@ use tick_drive::{End, Stop, drive_with_room};
 use yasir_io::{NoMemory, Source};
 use yasir_ticks::Tick;
 
-/// Lists the frames of three recordings, which two marks part in the input, each with its silence
-/// behind it.
+/// Lists the frames of three recordings, which two marks separate in the input. Each is followed by
+/// its silence.
 pub fn list_session<S: FrameBox, C: FrameBox, V: Device + Drop, I: Source>(
     lists: &mut SessionLists<S, C, V>,
     input: &mut I,
@@ -31,7 +31,7 @@ pub fn list_session<S: FrameBox, C: FrameBox, V: Device + Drop, I: Source>(
     }
 }
 
-/// Lists the frames of three recordings in memory, each with its silence behind it.
+/// Lists the frames of three recordings in memory. Each is followed by its silence.
 pub fn list_lines<S: FrameBox, C: FrameBox, V: Device + Drop>(
     lists: &mut SessionLists<S, C, V>,
     device: &[Tick],

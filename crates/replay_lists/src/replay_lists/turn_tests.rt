@@ -1,5 +1,5 @@
 //! How often the loops over two recordings call the boxes and the device: a run is handed over
-//! whole, and so is what the receiver answers to it. No clause says so.
+//! whole, and so is what the receiver sends for it. No contract says so.
 ghost use Rattle.std.specs.Prelude.{[], refl};
 
 use super::ReplayLists;
@@ -14,7 +14,7 @@ use tick_drive::End;
 use yasir_io::{MemSink, Plan, SteadySource};
 use yasir_ticks::Tick;
 
-/// How often something took runs of bytes, runs of silence, and single ticks.
+/// How many calls took a run of bytes, a run of silence, and a single tick.
 #[derive(Clone, Copy, Debug, PartialEq, Eq)]
 pub(crate) struct Calls {
     pub(crate) bytes: u32,
@@ -28,7 +28,7 @@ const NO_CALLS: Calls = Calls {
     step: 0,
 };
 
-/// A wire: it sends on what it takes, as it is, and counts the calls.
+/// A box that is a mere wire: it sends on what it takes, unchanged, and counts the calls.
 #[derive(Drop)]
 pub(crate) struct Wire {
     taken: u64,
@@ -140,10 +140,10 @@ impl Device for Deaf {
     }
 }
 
-/// How many silent ticks the transmitter gets behind its recording.
+/// How many silent ticks the transmitter gets after its recording.
 const DEVICE_REST: u32 = 24;
 
-// The mark parts two lines of bytes and two of silence from one line of each.
+// Two lines of bytes and two of silence before the mark, and one line of each after it.
 const TEXT: &[u8] = b"+000102030405060708090a0b0c0d0e0f101112131415161718191a1b1c1d1e1f\n\
       -1000000\n\
       +41\n\
@@ -152,7 +152,7 @@ const TEXT: &[u8] = b"+000102030405060708090a0b0c0d0e0f101112131415161718191a1b1
       +000102030405060708090a0b0c0d0e0f101112131415161718191a1b1c1d1e1f\n\
       -1000000\n";
 
-// The lists of wires and of a device that reads nothing, behind both recordings.
+// The lists after both recordings, with two wires as the boxes and a device that reads nothing.
 fn listed(alloc: Global) -> Result<ReplayLists<Wire, Wire, Deaf>, Fail> {
     let mut lists: ReplayLists<Wire, Wire, Deaf> = ReplayLists::new(alloc, &[0; 16], Dir::Ab);
     let mut input = SteadySource::new(TEXT);
@@ -164,8 +164,9 @@ fn listed(alloc: Global) -> Result<ReplayLists<Wire, Wire, Deaf>, Fail> {
     }
 }
 
-// Each line of a recording goes to its box at once, and what the receiver answers to the device.
-// The silence behind a link is one run more, and what comes after the device's line goes alone.
+// Each line of a recording goes to its box in one call, and what the receiver sends for it goes to
+// the device in one call. The silence after the link is one more run, and the silence after the
+// device's line goes tick by tick.
 #[test]
 fn a_line_of_text_costs_a_call_of_its_box(rt: HostRuntime) -> Result<(), Fail> {
     let lists = listed(rt.alloc())?;

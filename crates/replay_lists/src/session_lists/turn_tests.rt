@@ -1,5 +1,5 @@
 //! How often the loop over three recordings calls the boxes and the device: each run is handed over
-//! whole. No clause says so.
+//! whole. No contract says so.
 use super::{Floors, SessionLists, Timing};
 use crate::replay_lists::turn_tests::{Calls, Deaf, Wire};
 use crate::sessions::list_session;
@@ -9,8 +9,8 @@ use std::test::Fail;
 use tick_drive::End;
 use yasir_io::SteadySource;
 
-// The first mark parts a line of bytes and one of silence from one of each, and the second these
-// from two lines of bytes and one of silence.
+// Three recordings, separated by marks: a line of bytes and one of silence, then one of each, then
+// two lines of bytes and one of silence.
 const TEXT: &[u8] = b"+000102030405060708090a0b0c0d0e0f101112131415161718191a1b1c1d1e1f\n\
       -1000000\n\
       %\n\
@@ -30,7 +30,8 @@ const TIMING: Timing = Timing {
     received_rest: 4,
 };
 
-// The lists of wires and of a device that reads nothing, behind all three recordings.
+// The lists after all three recordings, with two wires as the boxes and a device that reads
+// nothing.
 fn listed(alloc: Global) -> Result<SessionLists<Wire, Wire, Deaf>, Fail> {
     let mut lists: SessionLists<Wire, Wire, Deaf> = SessionLists::new(
         alloc,
@@ -46,7 +47,7 @@ fn listed(alloc: Global) -> Result<SessionLists<Wire, Wire, Deaf>, Fail> {
     }
 }
 
-// Each line of a recording goes to its box, or to the device, at once. The silence behind a
+// Each line of a recording goes to its box, or to the device, in one call. The silence after a
 // recording goes tick by tick.
 #[test]
 fn a_line_of_three_costs_one_call(rt: HostRuntime) -> Result<(), Fail> {
