@@ -10,7 +10,8 @@ use Rattle.recordings_replay.specs.Keyed.{ReadsKeyFirst, LeavesAll}
 use Rattle.recordings_replay.specs.Listing.{Listing}
 use Rattle.recordings_replay.specs.Recorded.{PrintsRecorded}
 
--- `listing_by` is what is listed of both recordings with a key.
+-- What each status says of a run that reads a key and then two recordings. `listing_by` gives the
+-- listing of both recordings with a key.
 abbrev pub PrintsKeyed : {K S O L D : Type 0} → Source K → Source S → Sink O
     → (List ℕ → List Tick → List Tick → Listing) → ℕ → Outside K S O L D → Outside K S O L D
     → Status → Type 0

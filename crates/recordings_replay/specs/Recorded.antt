@@ -1,4 +1,4 @@
--- What is printed of recordings that marks part in the input, and when each status comes.
+-- What is printed of recordings that marks separate in the input, and what each status says.
 use Rattle.std.specs.Prelude.{◌≡◌, ℕ, List, ◌++◌, Option}
 use Rattle.std.specs.Io.KnownBytes.{append_known}
 use Rattle.yasir_io.specs.Output.{GotPrefix}
@@ -17,8 +17,8 @@ use Rattle.replay_status.specs.declared.status.Status.TheVariants.{Done, BadTick
 use Rattle.replay_status.specs.declared.status.Status.TheVariants.{WriteFault, TooLong, NoMemory}
 use Rattle.recordings_replay.specs.Listing.{Listing, listing_text}
 
--- The whole input was met and is a right text with this many marks. It has these items, and all of
--- them were taken.
+-- Holds if the whole input was met and is a right text with this many marks and these items, and
+-- has no more ticks than may be taken.
 pub record IsRecordedWith (marks : ℕ) (before now : Option (List ℕ)) (items : List Item) : Type 0
   where
     pub text : List ℕ
@@ -26,36 +26,37 @@ pub record IsRecordedWith (marks : ℕ) (before now : Option (List ℕ)) (items 
     pub right : IsTickText marks text items
     pub few : AreFew items
 
--- two recordings, which one mark parts
+-- two recordings, which one mark separates
 abbrev pub IsRecorded : Option (List ℕ) → Option (List ℕ) → List Item → Type 0
 IsRecorded before now items = IsRecordedWith 1 before now items
 
--- the line of the device, which is recorded before the mark, and this many silent ticks behind it
+-- the device's line: the recording before the mark, followed by `device_rest` silent ticks
 abbrev pub device_line : ℕ → List Item → List Tick
 device_line device_rest items = before_mark items ++ silent device_rest
 
--- the link, which is recorded behind the mark, and silence enough behind it that all that passes
--- leaves the receiver and is read
+-- the link: the recording after the mark, followed by enough silence that all that passes leaves
+-- the receiver and is read
 abbrev pub link_ticks : List Item → List Tick
 link_ticks items = behind_mark items ++ silent link_rest
 
--- `text_of` is what is printed of the items. Behind the last recording stand this many silent
--- ticks.
+-- `text_of` gives the text that is printed for the items. `rest` silent ticks follow the last
+-- recording.
 module _ (marks rest : ℕ) (text_of : List Item → List ℕ)
     (in_before in_now out_before out_now : Option (List ℕ)) where
-  -- `out` has got the text of the recordings, and nothing else.
+  -- Holds if `out` has got the whole text of the recordings, and nothing else.
   pub record PrintsWhole : Type 0 where
     pub items : List Item
     pub recorded : IsRecordedWith marks in_before in_now items
     pub printed : out_now ≡ append_known out_before (text_of items)
 
-  -- A write failed: `out` has got a front of it.
+  -- Holds if a write failed, and `out` has got a front of the text of the recordings.
   pub record PrintsFront : Type 0 where
     pub items : List Item
     pub recorded : IsRecordedWith marks in_before in_now items
     pub printed : GotPrefix out_before out_now (text_of items)
 
-  -- The input ended so, or there was no memory for what was taken of it; `out` has got nothing.
+  -- Holds if the input ended with `end`, which may be that there was no memory for what was taken
+  -- of it, and `out` has got nothing.
   pub record PrintsNothing (end : End) : Type 0 where
     pub items : List Item
     pub takes : Takes marks rest in_before in_now items end
@@ -71,12 +72,12 @@ module _ (marks rest : ℕ) (text_of : List Item → List ℕ)
   PrintsItems NoMemory = PrintsNothing (Stopped stops.NoMemory)
   PrintsItems status = ⊥
 
--- the lines of two recordings
+-- the text that is printed for the items of two recordings
 abbrev pub lines_of : (List Tick → List Tick → Listing) → ℕ → List Item → List ℕ
 lines_of listing device_rest items =
     listing_text (listing (device_line device_rest items) (link_ticks items))
 
--- What each status says of two recordings and their lines.
+-- What each status says of two recordings and of the lines printed for them.
 abbrev pub PrintsRecorded : (List Tick → List Tick → Listing) → ℕ → Option (List ℕ)
     → Option (List ℕ) → Option (List ℕ) → Option (List ℕ) → Status → Type 0
 PrintsRecorded listing device_rest = PrintsItems 1 link_rest (lines_of listing device_rest)

@@ -16,18 +16,18 @@ use Rattle.receiver_laws.specs.Reading.{delivered}
 use Rattle.receiver_laws.specs.Untouched.{AreSpaced, numbered}
 use Rattle.recordings_replay.specs.Listing.{Listing, forged_in}
 
--- how many silent ticks come after the line of a device, so that its last burst is closed and its
--- trailer sent
+-- how many silent ticks follow the line of a device, so that its last burst is closed and its
+-- trailer is sent
 abbrev pub device_rest : Profile → ℕ
 device_rest profile = delay profile + 6
 
--- No number stands at two places.
+-- Holds if no number occurs twice.
 abbrev pub HasNoNumberTwice : List ℕ → Type 0
 HasNoNumberTwice numbers = AllPairs (λ m n. m ≢ n) numbers
 
--- The link has brought all of the line of a device: each of its frames was sealed and has passed,
--- none is forged, and the receiver's line is silence for the receiver's delay, then the device's
--- line, and then silence.
+-- Holds if the link has brought all of the line of a device: each of its frames was sealed and has
+-- passed, none is forged, and the receiver's line is silence for the receiver's delay, then the
+-- device's line, and then silence.
 pub record DeliversLine (profile : Profile) (rules : Rules) (device link : List Tick) (rest : ℕ)
     (listing : Listing) : Type 0 where
   pub none_forged : forged_in listing ≡ []
@@ -36,29 +36,30 @@ pub record DeliversLine (profile : Profile) (rules : Rules) (device link : List 
   pub received : received_line profile rules 0 link
       ≡ silent (delay profile) ++ (device ++ silent (6 + rest))
 
--- What the lists of the line of a device and a link say of one another. Nothing ties the link to
--- the line: it may be the transmitter's, altered, cut, repeated or reordered, or any other.
+-- What the lists of a device's line and a link say of one another. Nothing ties the link to the
+-- line: it may be the transmitter's, altered, cut, repeated or reordered, or any other.
 pub record TellsOf (profile : Profile) (rules : Rules) (device link : List Tick)
     (listing : Listing) : Type 0 where
-  -- The device reads the frames that have passed, in their order and no other, each the receiver's
-  -- delay later.
+  -- The device reads exactly the frames that have passed, in the same order, each of them later by
+  -- the receiver's delay.
   pub reads_what_passed : listing.reads ≡ map (delivered profile) listing.passed
-  -- What has passed and isn't forged is a subsequence of what was sealed, each frame with its
-  -- number.
+  -- The frames that have passed and aren't forged are a subsequence of the sealed ones, each with
+  -- its number.
   pub passes_what_was_sealed :
       IsSubsequence (pairs_of (rightly_passed listing.sealed listing.passed))
       (pairs_of listing.sealed)
-  -- Unless a frame is forged, the frames that the device reads are a subsequence of those that
-  -- were sealed.
+  -- If no frame is forged, the frames that the device reads are a subsequence of those that were
+  -- sealed.
   pub reads_what_was_sealed : forged_in listing ≡ []
       → IsSubsequence (bytes_read listing.reads) (bytes_sealed listing.sealed)
-  -- Each number at most once, among the sealed and among the passed, forged ones included.
+  -- Each number is used at most once among the sealed frames, and at most once among the passed
+  -- ones, forged ones included.
   pub sealed_rise : RiseFrom 0 (numbers_of listing.sealed)
   pub sealed_once : HasNoNumberTwice (numbers_of listing.sealed)
   pub passed_rise : RiseFrom 0 (numbers_of listing.passed)
   pub passed_once : HasNoNumberTwice (numbers_of listing.passed)
-  -- An untouched link, whatever silence comes after it, brings all of a line whose frames are
-  -- spaced.
+  -- If the link is untouched, with any silence after it, and the frames of the line are spaced, the
+  -- link brings all of the line.
   pub untouched : (rest : ℕ)
       → link ≡ link_line profile rules 0 (device ++ silent (device_rest profile)) ++ silent rest
       → AreSpaced profile rules 0 (bursts device)

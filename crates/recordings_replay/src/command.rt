@@ -21,7 +21,8 @@ use std::alloc::Global;
 use tick_drive::End;
 use yasir_io::{Sink, SlotDisk, Source};
 
-// Lists the frames of both recordings with this key, and prints them once the input has ended well.
+// Lists the frames of both recordings with this key, and prints them after the input has ended
+// well.
 fn replay_keyed<
     S: FrameBox,
     C: FrameBox,
@@ -66,13 +67,14 @@ fn replay_keyed<
     print_listing(lists.sealed(), lists.passed(), lists.read(), out, log)
 }
 
-/// Reads a key, and takes two recordings that a mark parts in the input: the line of a device, with
-/// `device_rest` silent ticks behind it, goes through a transmitter `S`, and the link through a
-/// receiver `C` and a device `V` behind it. Once the input has ended well, `out` gets a line for
-/// each frame that was sealed, then for each that has passed, that was read, and that has passed
-/// and was never sealed with its number. Before that it gets nothing. The disk isn't touched.
+/// Reads a key, and takes two recordings that a mark separates in the input. The line of a device,
+/// followed by `device_rest` silent ticks, goes through a transmitter `S`. The link goes through a
+/// receiver `C`, and a device `V` reads what the receiver sends. After the input has ended well,
+/// `out` gets a line for each frame that was sealed, then for each that has passed, then for each
+/// that was read, and then for each that has passed and was never sealed with its number. Before
+/// that it gets nothing. The disk isn't touched.
 ///
-/// The frames are kept in memory: where there is none, it returns `Status::NoMemory`.
+/// The frames are kept in memory. If there isn't enough of it, `Status::NoMemory` is returned.
 pub fn replay_recordings<
     S: FrameBox,
     C: FrameBox,

@@ -1,4 +1,4 @@
-//! The four groups of lines that `replay` prints, added to a text on its way.
+//! The four groups of lines that `replay` prints. Each is added to a text on its way to a sink.
 ghost use Rattle.std.specs.Prelude.{◌≡◌, ◌≤◌, ℕ, List, length, OnOk, OnErr};
 ghost use Rattle.std.specs.Prelude.{codes};
 ghost use Rattle.yasir_io.specs.Causes.{HasCause};
@@ -18,7 +18,7 @@ use device_replay::push_read_line;
 use replay_lists::{FrameList, Numbered, is_at_its_number};
 use yasir_io::{Failed, Sink, TextBuffer};
 
-/// Adds a line for each of these frames, with their numbers.
+/// Adds a line for each of these numbered frames.
 pub fn push_numbered<O: Sink>(
     text: &mut TextBuffer,
     out: &mut O,
@@ -101,8 +101,8 @@ fn push_if_forged<O: Sink>(
     }
 }
 
-/// Adds a line for each of the frames that passed and was never sealed with its number. The sealed
-/// ones are numbered in turn.
+/// Adds a line for each frame that passed and was never sealed with its number. The sealed frames
+/// must be numbered one after the other, from 1 on.
 pub fn push_forged<O: Sink>(
     text: &mut TextBuffer,
     out: &mut O,

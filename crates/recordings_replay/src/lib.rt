@@ -1,6 +1,6 @@
-//! Two recordings, a line of a device and a link, and what becomes of their frames: a line of text
-//! for each frame that is sealed of the one, and passed and read of the other, and for each that
-//! has passed and was never sealed.
+//! Prints the frames of two recordings, a line of a device and a link: a line of text for each
+//! frame that is sealed of the device's line, for each that passes of the link, for each that a
+//! device reads of what passes, and for each that has passed and was never sealed with its number.
 //!
 //! A box shows its frames as `ShownFrames`, of `session_audit`. `S` and `C` are such boxes:
 //!

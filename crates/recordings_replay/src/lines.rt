@@ -9,13 +9,13 @@ use replay_lists::Numbered;
 use replay_status::{append_decimal, append_digits};
 use yasir_io::{Failed, Sink, TextBuffer, TextRoom};
 
-// The room that the line of a numbered frame needs: 6 bytes of its name, two numbers of 20 digits,
-// 6 bytes between them and the frame, 292 bytes in hex, an LF, and 64 bytes that the last digits
-// may be copied with.
+// The room that the line of a numbered frame needs: 6 bytes for its name, 20 digits for each of two
+// numbers, 6 bytes between these parts, 292 bytes in hex, an LF, and 64 more bytes that
+// `append_digits` needs.
 const LINE_ROOM: usize = 701;
 
-// Appends `NAME N at S HEX` and an LF: the bytes of a frame, its number, and the tick of its first
-// byte. There must be room for 701 bytes.
+// Appends the line `NAME N at S HEX` with an LF: a name, the number of a frame, the tick of its
+// first byte, and its bytes. There must be room for 701 bytes.
 fn write_numbered_line<const CAP: usize>(
     text: &mut TextRoom<CAP>,
     name: &[u8],
@@ -38,7 +38,8 @@ fn write_numbered_line<const CAP: usize>(
     text.append(b"\n");
 }
 
-/// Adds the line `NAME N at S HEX` to a text on its way to a sink. It is written where it waits.
+/// Adds the line `NAME N at S HEX` to a text on its way to a sink. It is written directly where the
+/// text waits.
 pub(crate) fn push_numbered_line<O: Sink>(
     text: &mut TextBuffer,
     out: &mut O,

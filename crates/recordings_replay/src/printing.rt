@@ -1,4 +1,4 @@
-//! The whole text of `replay`, printed once the input has ended well.
+//! The whole text of `replay`, which is printed after the input has ended well.
 ghost use Rattle.std.specs.Prelude.{◌≡◌, ◌⊎◌, OnOk, OnErr};
 ghost use Rattle.yasir_io.specs.Causes.{HasCause};
 ghost use Rattle.yasir_io.specs.TextBuffer.{waiting_bytes};
@@ -48,7 +48,8 @@ fn push_listing<O: Sink>(
     }
 }
 
-/// Prints a line for each frame that was sealed, passed, read and forged, in this order.
+/// Prints a line for each frame that was sealed, then for each that passed, for each that was read
+/// and for each that is forged. Returns `Status::Done`, or `Status::WriteFault` if a sink failed.
 pub fn print_listing<O: Sink, L: Sink>(
     sealed: &FrameList<Numbered>,
     passed: &FrameList<Numbered>,
