@@ -1,4 +1,4 @@
--- The audit of three recordings that two marks part in an input.
+-- The audit of three recordings that two marks separate in an input.
 use Rattle.std.specs.Prelude.{◌≡◌, ◌≢◌, ℕ, List, Option, Result, Ok, Err}
 use Rattle.yasir_ticks.specs.Ticks.{Item}
 use Rattle.yasir_ticks.specs.declared.tick.Tick.{Tick}
@@ -10,15 +10,16 @@ use Rattle.session_audit.specs.declared.verdict.Verdict.{Verdict}
 
 module _ (verdict_on_three : List Tick → List Tick → List Tick → Verdict)
     (before now : Option (List ℕ)) where
-  -- The input is a whole text with two marks. The verdict is that on the recordings before the
-  -- first mark, between the marks, and behind the second.
+  -- Holds if the input is a whole text with two marks, and the verdict is that on the recordings
+  -- before the first mark, between the marks, and after the second.
   pub record FindsVerdict (verdict : Verdict) : Type 0 where
     pub items : List Item
     pub takes : IsWhole 2 0 before now items
     pub found : verdict
         ≡ verdict_on_three (part 0 takes.told) (part 1 takes.told) (part 2 takes.told)
 
-  -- The input ended otherwise, or there was no memory for what was taken of it.
+  -- Holds if the input didn't end whole but with `end`, or there was no memory for what was taken
+  -- of it.
   pub record FindsNone (end : End) : Type 0 where
     pub items : List Item
     pub takes : Takes 2 0 before now items end

@@ -1,4 +1,4 @@
--- The bytes of the burst of a line that is running or was the last.
+-- The bytes of the running or last burst of a line.
 use Rattle.std.specs.Prelude.{◌≡◌, ℕ, List, [], Option, Some, None, take}
 use Rattle.yasir_ticks.specs.Bursts.{Burst}
 use Rattle.yasir_ticks.specs.Ticks.{bytes_in}
@@ -11,12 +11,12 @@ abbrev pub burst_bytes_in : Option Burst → List ℕ
 burst_bytes_in None = []
 burst_bytes_in (Some d) = bytes_in d.body
 
--- all bytes of the last burst
+-- all bytes of the line's last burst
 abbrev pub burst_bytes_so_far : List Tick → List ℕ
 burst_bytes_so_far line = burst_bytes_in (last_burst line)
 
--- It has taken this line, and keeps the first bytes of the last burst, as many as the longest frame
--- has.
+-- Holds if `value` has taken this line, and keeps the first bytes of the last burst, at most as
+-- many as the longest frame has.
 pub record BurstFor (value : BurstBytes) (line : List Tick) : Type 0 where
   pub quiet_is : value.quiet ≡ quiet_so_far line
   pub kept : value.bytes.items ≡ take longest_frame (burst_bytes_so_far line)

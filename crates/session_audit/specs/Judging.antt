@@ -1,4 +1,4 @@
--- What the audit asks of its lists of frames, and of what was found of the frames read.
+-- What the audit needs of its lists of frames, and of what was found of the frames read.
 use Rattle.std.specs.Prelude.{ℕ, ◌<◌, ◌^◌, List, [], ◌∷◌, Option, Some, None}
 use Rattle.device_model.specs.Frames.{FrameRead}
 use Rattle.link_format.specs.NumberedFrame.{NumberedFrame}
@@ -13,13 +13,13 @@ abbrev pub first_head : List NumberedFrame → Option Numbered
 first_head [] = None
 first_head (f ∷ more) = Some (record { number = f.number; start = f.start })
 
--- The lists' lengths, and the count of what was read, are numbers of 32 bits.
+-- The lengths of the lists and the count of what was read fit 32 bits.
 pub record AreShort (sealed passed : FrameList Numbered) (read : Comparison) : Type 0 where
   pub sealed_ones : list_len sealed < 2 ^ 32
   pub passed_ones : list_len passed < 2 ^ 32
   pub read_ones : read.read < 2 ^ 32
 
--- Some frames were read and compared.
+-- Holds if `read` compares some frames that were read with some that were expected.
 pub record IsFound (read : Comparison) : Type 0 where
   pub expected : List FrameRead
   pub reads : List FrameRead

@@ -1,4 +1,5 @@
--- Tags that nobody asks for, and the frames that a transmitter seals all the same.
+-- Tags of zeros in place of tags that nobody needs, and the frames that a transmitter seals all the
+-- same.
 use Rattle.std.specs.Prelude.{◌≡◌, ℕ, ◌<◌, ◌≤◌, List, length, take, replicate, All, ⊤}
 use Rattle.std.proofs.Common.{arith, subst, sym, ⊎_elim}
 use Rattle.std.proofs.lemmas.List.{length-take-le, length-replicate}
@@ -27,7 +28,7 @@ pub All-no_tag : (size : ℕ) → All (λ b. b < 256) (no_tag size)
 All-no_tag size = All-take (λ b. b < 256) size (replicate 16 0)
     (All-replicate (λ b. b < 256) 16 0 (omega arith))
 
--- the MAC that makes such tags in place of another one
+-- the MAC whose tags are zeros, as many as those of `macs` have bytes
 abbrev pub untagged : {M : Type 0} → Mac M → Mac (Untagged M)
 untagged macs = record {
   tag_of = λ key text. no_tag macs.TAG;
@@ -38,8 +39,8 @@ untagged macs = record {
   tag_bytes = λ key text. All-no_tag macs.TAG;
 }
 
--- The frames are those that a transmitter seals that makes its tags by `macs`. The other line is
--- what one sends that makes them by `blank`.
+-- The numbering of a transmitter whose frames are those that one with tags by `macs` seals, and
+-- whose other line is what one with tags by `blank` sends.
 abbrev pub sealed_numbering : {R M U : Type 0} → LineRules R → Mac M → Mac U → ℕ → Setup → Numbering
 sealed_numbering proto macs blank word_len setup = record {
   other_line = other_line (seal_walking proto blank word_len) setup;

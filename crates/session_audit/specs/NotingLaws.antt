@@ -1,4 +1,4 @@
--- The notes of transmitter and receiver have their frames.
+-- `HasFrames` holds for the notes of the transmitter and of the receiver.
 use Rattle.std.proofs.Common.{◌≡◌, IfSome, refl}
 use Rattle.yasir_ticks.specs.Bursts.{Burst}
 use Rattle.line_rules.specs.Rules.{Rules}

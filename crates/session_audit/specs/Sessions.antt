@@ -23,24 +23,24 @@ use Rattle.session_audit.specs.Verdicts.{verdict_on}
 use Rattle.session_audit.specs.declared.session.Session.{Session}
 use Rattle.session_audit.specs.declared.verdict.Verdict.{Verdict}
 
--- There are such a protocol and such a profile, and the floors are numbers of frames.
+-- Holds if the label and the profile are among those that exist, and each floor is at most `LIMIT`.
 pub record IsSession (session : Session) : Type 0 where
   pub label : (session.label ≡ 1) ⊎ (session.label ≡ 2)
   pub profile : (session.profile ≡ 18) ⊎ (session.profile ≡ 24)
   pub sent : session.sent_floor ≤ LIMIT
   pub got : session.got_floor ≤ LIMIT
 
--- as long as a recording may be
+-- how many ticks a recording may have
 abbrev pub max_recorded : ℕ
 max_recorded = 16777216
 
--- No recording is longer.
+-- Holds if none of the recordings has more than `max_recorded` ticks.
 pub record AreRecordings (device link received : List Tick) : Type 0 where
   pub device_len : length device ≤ max_recorded
   pub link_len : length link ≤ max_recorded
   pub received_len : length received ≤ max_recorded
 
--- both boxes as they were set up
+-- how the boxes were set up: here the transmitter, and below it the receiver
 abbrev pub sent_setup : Session → Setup
 sent_setup session = setup_of session.key.now session.dir session.sent_floor
 
@@ -49,8 +49,8 @@ got_setup session = setup_of session.key.now session.dir session.got_floor
 
 -- ---- the protocol and the profile of a session
 
--- the profile of a link as a box is set up, the rules of its protocol, and what the stated device
--- of the protocol reads
+-- what belongs to a protocol and a profile: the profile of the link for a setup, the rules of the
+-- protocol, and what the protocol's stated device reads
 pub record LinkKind : Type 0 where
   pub profile : Setup → Profile
   pub rules : Rules
@@ -77,21 +77,23 @@ module _ (kind : LinkKind) (session : Session) where
   abbrev pub got_profile : Profile
   got_profile = kind.profile (got_setup session)
 
-  -- the frames that are sealed of the line of the device that sends, whose last burst is closed and
-  -- whose last trailer is sent
+  -- the frames that are sealed of the line of the device that sends, with so much silence after it
+  -- that its last burst is closed and its last trailer is sent
   abbrev pub sealed_in : List Tick → List NumberedFrame
   sealed_in device =
       sealed sent_profile kind.rules session.sent_floor (device ++ silent (delay sent_profile + 6))
 
-  -- the frames that pass of the link, up to the last verdict
+  -- the frames that pass of the link, with so much silence after it that the last verdict has
+  -- fallen
   abbrev pub passed_in : List Tick → List NumberedFrame
   passed_in link = passed got_profile kind.rules session.got_floor (link ++ silent link_rest)
 
-  -- the frames that the device reads that receives, whose last burst is closed
+  -- the frames that the device that receives reads, with so much silence after its line that its
+  -- last burst is closed
   abbrev pub read_in : List Tick → List FrameRead
   read_in received = kind.reads (received ++ silent T3_5_TICKS)
 
-  -- what the session's receiver sends of the link, up to the last byte that it holds back
+  -- what the session's receiver sends for the link, up to the last byte that it holds back
   abbrev pub line_received : List Tick → List Tick
   line_received link =
       received_line got_profile kind.rules session.got_floor (link ++ silent link_rest)

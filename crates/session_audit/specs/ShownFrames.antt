@@ -18,15 +18,15 @@ pub record IsSteady {X R K : Type 0} (link_of : X → LinkId) (told : K → Opti
   pub of_link : journal_link value.journal ≡ link_of value.line_box
   pub fits : Fits value.journal (told value.disk)
 
--- what a box makes of a line, as it is set up
+-- what a box with this setup makes of a line
 abbrev pub numbering_of : {A : Type 0} → Walking A → Setup → Numbering
 numbering_of walking setup = record {
   other_line = other_line walking setup;
   frames = frames_of walking setup;
 }
 
--- Set up so, the box has taken this line, and the bytes are those of the line's last burst, among
--- which there is room for each frame.
+-- Holds if the box, with this setup, has taken this line, the bytes that are kept are those of the
+-- line's last burst, and there is room for each frame among them.
 pub record ShowsFrames {X R K : Type 0} (proto : LineRules R)
     (stands : X → ℕ → Setup → List Tick → Type 0) (value : ShownFrames X R K)
     (setup : Setup) (line : List Tick) : Type 0 where

@@ -1,4 +1,4 @@
--- The verdict on three recordings by boxes and a device, and the lists that it comes of.
+-- The verdict on three recordings by boxes and a device, and the lists that it is made from.
 use Rattle.std.specs.Prelude.{ℕ, ◌+◌, ◌<◌, ◌^◌, List, ◌++◌}
 use Rattle.yasir_ticks.specs.Ticks.{silent}
 use Rattle.yasir_ticks.specs.declared.TheConstants.{T3_5_TICKS}
@@ -14,7 +14,7 @@ use Rattle.session_audit.specs.Verdicts.{verdict_on}
 use Rattle.session_audit.specs.declared.session.Session.{Session}
 use Rattle.session_audit.specs.declared.verdict.Verdict.{Verdict}
 
--- how much silence comes after each recording, where a receiver is so late
+-- how late the receiver is, and how much silence follows each recording
 abbrev pub timing_of : ℕ → Timing
 timing_of late = record {
   late = late;
@@ -38,7 +38,7 @@ module _ {S C V : Type 0} (s : FrameBox S) (c : FrameBox C) (v : Device V)
       ((c.numbering (got_setup session)).frames (link ++ silent link_rest))
       (v.reads (received ++ silent T3_5_TICKS))
 
-  -- The lists are those of these recordings of the session.
+  -- Holds if the lists are those of these recordings of the session, each followed by its silence.
   pub record HasTaken (late : ℕ) (lists : SessionLists S C V)
       (device link received : List Tick) : Type 0 where
     pub has : HasSession s c v lists (setups_of late session) (device ++ silent (late + 6))
@@ -46,7 +46,7 @@ module _ {S C V : Type 0} (s : FrameBox S) (c : FrameBox C) (v : Device V)
     pub able : IsOpen s c v lists
     pub few : session_taken s c v lists < 2 ^ 32
 
-  -- The lists are those of some recordings of the session.
+  -- Holds if the lists are those of some recordings of the session.
   pub record HasTakenSome (lists : SessionLists S C V) : Type 0 where
     pub late : ℕ
     pub device : List Tick

@@ -7,14 +7,14 @@ use Rattle.replay_lists.specs.Comparison.{expected_reads, first_difference}
 use Rattle.session_audit.specs.declared.verdict.Verdict.{Verdict}
 use Rattle.session_audit.specs.declared.verdict.Verdict.TheVariants.{Clean, Forged, Differs}
 
--- The first forged frame counts before all else, then the first difference. Where there is neither
--- the verdict is the clean one.
+-- The verdict is the first forged frame if there is one, otherwise the first difference if there is
+-- one, and otherwise the clean verdict.
 abbrev pub verdict_by : List NumberedFrame → Option ℕ → Verdict → Verdict
 verdict_by (f ∷ more) place clean = Forged f.number f.start
 verdict_by [] (Some place) clean = Differs place
 verdict_by [] None clean = clean
 
--- the verdict on these frames, where a receiver is so late
+-- the verdict on the frames that were sealed, passed and read, if the receiver is `late` ticks late
 abbrev pub verdict_on : ℕ → List NumberedFrame → List NumberedFrame → List FrameRead → Verdict
 verdict_on late sealed_ones passed_ones reads =
     verdict_by (forged sealed_ones passed_ones)

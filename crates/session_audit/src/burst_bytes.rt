@@ -1,4 +1,4 @@
-//! The bytes of the burst that is running or was the last, kept beside a box.
+//! The bytes of the running or last burst of a line, which are kept beside a box.
 ghost use Rattle.std.specs.Prelude.{◌≡◌, ◌<◌, ◌≤◌, List, [], ◌∷◌, ◌++◌, length, map, take};
 ghost use Rattle.yasir_ticks.specs.Ticks.{silent};
 ghost use Rattle.yasir_ticks.specs.declared.tick.Tick.{Tick};
@@ -10,8 +10,8 @@ ghost use Rattle.session_audit.specs.BurstBytes.{BurstFor, burst_bytes_so_far};
 use crate::frame_room::{FrameRoom, LONGEST};
 use yasir_ticks::{T3_5_TICKS, Tick};
 
-/// The first bytes of the burst of a line that is running or was the last, as many as the longest
-/// frame has. The live ones, which can be a frame, stand at their front, whatever the rules are.
+/// The first bytes of the running or last burst of a line, at most as many as the longest frame
+/// has. The live bytes, which can be a frame, come first among them, whatever the rules are.
 #[derive(Drop)]
 pub struct BurstBytes {
     // silent ticks since the last byte, counted up to `T3_5_TICKS`
@@ -20,7 +20,7 @@ pub struct BurstBytes {
 }
 
 impl BurstBytes {
-    /// The bytes of no tick.
+    /// No bytes, before any tick was taken.
     pub fn new() -> BurstBytes
         ensures { BurstFor result [] }
     {
@@ -30,7 +30,7 @@ impl BurstBytes {
         }
     }
 
-    // Keeps these further bytes, as far as there is room.
+    // Adds these bytes to those that are kept, as far as there is room.
     #[inline]
     fn keep(&mut self, bytes: &[u8])
         ensures quiet { self.new.quiet ≡ self.old.quiet }
@@ -42,7 +42,8 @@ impl BurstBytes {
         self.bytes.append(&bytes[..count]);
     }
 
-    // A byte comes, which begins a burst behind silence that closes one.
+    // Prepares for a byte. If it comes after silence that closes a burst, it begins a new one, and
+    // the bytes of the old one are let go.
     #[inline]
     fn wake(&mut self)
         ensures quiet { self.new.quiet ≡ 0 }

@@ -13,7 +13,7 @@ use hmac_tag::Mac;
 use line_rules::LineRules;
 use replay_lists::Numbered;
 
-/// The frames that the receiver passes.
+/// Tells the frames that the receiver passes.
 impl<R: LineRules, M: Mac, const B: usize, const D: usize> NotingBox<R> for Checker<R, M, B, D> {
     ghost told = { passed_told };
 

@@ -1,4 +1,4 @@
-//! Bytes in a room for the longest frame.
+//! Room for the bytes of the longest frame.
 ghost use Rattle.std.specs.Prelude.{◌≡◌, ◌+◌, ◌≤◌, [], ◌++◌, length};
 ghost use Rattle.replay_lists.specs.FrameList.{longest_frame};
 
@@ -7,7 +7,7 @@ use std::marker::Model;
 /// How many bytes the longest frame has.
 pub(crate) const LONGEST: usize = 292;
 
-/// Up to `LONGEST` bytes. Those that are let go stay where they lie, so that to empty it costs
+/// Up to `LONGEST` bytes. Bytes that are let go aren't overwritten, so emptying the room costs
 /// nothing.
 #[derive(Drop)]
 pub(crate) struct FrameRoom {
@@ -27,7 +27,7 @@ impl Model for FrameRoom {
 }
 
 impl FrameRoom {
-    /// No bytes yet.
+    /// A room without bytes.
     pub(crate) fn new() -> FrameRoom
         ensures { result.items ≡ [] }
     {

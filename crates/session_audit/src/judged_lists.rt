@@ -1,4 +1,4 @@
-//! The lists that an audit takes of a session, and the verdict on them.
+//! The lists that an audit makes of the recordings of a session, and the verdict on them.
 ghost use Rattle.std.specs.Prelude.{◌≡◌, ℕ, List, []};
 ghost use Rattle.yasir_ticks.specs.declared.tick.Tick.{Tick};
 ghost use Rattle.link_format.specs.NumberedFrame.{AreNumberedFrom};
@@ -17,7 +17,7 @@ use replay_lists::{Floors, FrameBox, SessionLists, Timing};
 use std::alloc::Global;
 use yasir_ticks::T3_5_TICKS;
 
-// How much silence comes after each recording, where a receiver is so late.
+// How late the receiver is, and how much silence follows each recording.
 fn timing_of(late: u8) -> Timing
     ensures { result ≡ timing_of late }
 {
@@ -29,7 +29,8 @@ fn timing_of(late: u8) -> Timing
     }
 }
 
-/// Lists of no frame, for a session by a transmitter, a receiver that is so late, and a device.
+/// Lists of no frames for a session, by a transmitter `S`, a receiver `C` that is `late` ticks
+/// late, and a device `V`.
 pub(crate) fn lists_for<S: FrameBox, C: FrameBox, V: Device + Drop>(
     alloc: Global,
     late: u8,
@@ -49,7 +50,7 @@ pub(crate) fn lists_for<S: FrameBox, C: FrameBox, V: Device + Drop>(
     SessionLists::new(alloc, session.key, session.dir, floors, timing_of(late))
 }
 
-/// The verdict on what was listed of the session's recordings.
+/// Returns the verdict on what was listed of the session's recordings.
 pub(crate) fn judge_lists<S: FrameBox, C: FrameBox, V: Device + Drop>(
     session: &Session<'_>,
     lists: &SessionLists<S, C, V>,

@@ -12,8 +12,8 @@ ghost use Rattle.session_audit.specs.Verdicts.{verdict_on};
 use crate::Verdict;
 use replay_lists::{Comparison, FrameList, Numbered, is_at_its_number};
 
-// The first frame that passed and wasn't sealed with its number. The sealed ones are numbered in
-// turn from the floor on.
+// Returns number and start of the first frame that passed and wasn't sealed with its number. The
+// sealed frames must be numbered one after the other, from `floor + 1` on.
 fn first_forged(
     floor: u64,
     sealed: &FrameList<Numbered>,
@@ -35,8 +35,9 @@ fn first_forged(
     None
 }
 
-/// The verdict on what was sealed and what passed, by what was found of the frames that were read.
-/// The sealed frames are numbered in turn from the floor on.
+/// Returns the verdict on the frames that were sealed and those that passed. What was read is given
+/// as its comparison with what passed. The sealed frames must be numbered one after the other, from
+/// `floor + 1` on.
 pub(crate) fn judge(
     floor: u64,
     sealed: &FrameList<Numbered>,

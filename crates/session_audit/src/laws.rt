@@ -12,9 +12,9 @@ use receiver_laws::{recorded_line_reads_all_that_passed, stated_profiles_are_fit
 use rtu_frame::Rtu;
 
 /// A law of the audit's definitions, for each session and any three lists of ticks, whoever made
-/// them: where the verdict is clean, the frames read from the third are, in order, a subsequence of
-/// the frames sealed from the first, with each number used at most once. They are the frames that
-/// passed of the second, each as late as the receiver is.
+/// them: if the verdict is clean, the frames read from the third list are, in order, a subsequence
+/// of the frames sealed from the first, and each number is used at most once. They are the frames
+/// that passed from the second list, each as late as the receiver is.
 pub fn clean_recordings_have_only_sealed_frames()
     ensures { (session : Session) (device link received : List Tick)
         (sealed_ones passed_ones read_ones : ℕ)
@@ -23,10 +23,10 @@ pub fn clean_recordings_have_only_sealed_frames()
         read_ones }
 {}
 
-/// A law of the audit's definitions, for each session, line of a device and link: where the third
-/// recording is what the session's receiver sends of that link, recorded until all has left, the
-/// verdict is never that they differ. So where it is, the third recording isn't this receiver's
-/// line of this link, or it ends too early.
+/// A law of the audit's definitions, for each session, line of a device and link: if the third
+/// recording is what the session's receiver sends for that link, recorded until all has left, the
+/// verdict is never `Differs`. So if a verdict is `Differs`, the third recording isn't this
+/// receiver's line for this link, or it ends too early.
 pub fn own_line_of_a_receiver_never_differs()
     ensures { (session : Session) (device link : List Tick) → AreTicks link → (place : ℕ)
         → verdict_of session device link (line_received (kind_of session) session link)

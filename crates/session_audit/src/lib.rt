@@ -1,9 +1,9 @@
 //! An audit of a session that has ended, by three recordings of it: which frames were sealed, which
 //! passed, and what a device read.
 //!
-//! Transmitter and receiver are run anew as boxes that show the frames that they number. A box
-//! itself shows none; the bytes are those of the burst that is running or was the last, which are
-//! kept beside it. These boxes are here, below the commands that show frames.
+//! The transmitter and the receiver are run anew, as boxes that show the frames that they number. A
+//! box itself doesn't show the bytes of a frame, so the bytes of the running or last burst are kept
+//! beside it. These boxes are in this crate so that the commands that show frames can use them too.
 //!
 //! The verdict on a session of Modbus RTU with the profile y18, whose boxes had new journals:
 //!

@@ -1,15 +1,15 @@
-//! The boxes of each protocol and profile, which show their frames, and the silence behind a
-//! recording that they take.
+//! The boxes of each protocol and profile, which show their frames, and how many silent ticks they
+//! take after a recording.
 
-/// How many silent ticks come after the link, so that the last verdict falls in them.
+/// How many silent ticks follow the link, so that the last verdict falls in them.
 pub(crate) const LINK_REST: u32 = 320;
 
-/// How many silent ticks more than the receiver's delay come after the line of the device that
-/// sends, so that its last burst is closed and its trailer is sent.
+/// How many silent ticks, beyond the receiver's delay, follow the line of the device that sends, so
+/// that its last burst is closed and its trailer is sent.
 pub(crate) const DEVICE_REST: u32 = 6;
 
-/// Audits by the transmitter and the receiver of such a row, both of which show their frames, and
-/// by its device.
+/// Calls `$audit` with the transmitter, the receiver and the device of one row of `with_boxes`.
+/// Both boxes show their frames.
 macro_rules! audit_through {
     (
         [$rules:ty, $device:ty, $mac:ty, $word:literal, $delay:literal],
@@ -28,9 +28,9 @@ macro_rules! audit_through {
     };
 }
 
-/// Audits with what the protocol and the profile of a session are made of, each row of which stands
-/// here and nowhere else: the rules of the protocol and its device, the MAC, the bytes of a number
-/// on the link, and the receiver's delay in ticks.
+/// Calls `$audit` with the row for the protocol and the profile of a session. These rows are
+/// written only here. A row has the rules of the protocol and its device, the MAC, how many bytes a
+/// word has, and the receiver's delay in ticks.
 macro_rules! with_boxes {
     ($alloc:expr, $session:expr, $audit:ident, $more:tt, $given:expr) => {
         match ($session.label == 1, $session.profile == 18) {

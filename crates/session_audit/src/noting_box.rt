@@ -1,4 +1,4 @@
-//! What an audit asks of a box: which frame a note numbers.
+//! What an audit needs from a box: which frame a note numbers.
 ghost use Rattle.std.specs.Prelude.{◌≡◌, ℕ, List, Option};
 ghost use Rattle.yasir_ticks.specs.declared.tick.Tick.{Tick};
 ghost use Rattle.burst_walk.specs.Causal.{IsCausal};
@@ -11,8 +11,8 @@ use line_rules::LineRules;
 use link_box::LinkBox;
 use replay_lists::Numbered;
 
-/// A box of a link, by the rules `R`, whose notes tell which frames it numbers, each in a step in
-/// which the frame's bytes are the live bytes of the line's last burst.
+/// A box of a link, by the rules `R`, whose notes tell which frames it numbers. In the step of such
+/// a note, the bytes of its frame are the live bytes of the line's last burst.
 pub trait NotingBox<R: LineRules>: LinkBox {
     /// Number and start of the frame of a note, if it has one.
     ghost told: { Self.Note → Option Numbered };
@@ -27,11 +27,11 @@ pub trait NotingBox<R: LineRules>: LinkBox {
             → Self.stands self.now last setup line
             → R.stands result.now (live_bytes_so_far R.rules line) };
 
-    /// A box needs no tick of its line before its time.
+    /// The box needs no tick of its line before its time.
     ghost causal: { (value : Self) (last : ℕ) (setup : Setup) (line : List Tick)
         → Self.stands value last setup line → IsCausal (Self.walking.walker setup) };
 
-    /// The notes have their frames.
+    /// The frame of a note has the live bytes of its burst, and `told` gives its number and start.
     ghost has_frames: { (setup : Setup)
         → HasFrames (Self.walking.walker setup) R.rules Self.walking.frame_in Self.walking.brief
         told };

@@ -17,7 +17,8 @@ use std::alloc::Global;
 use tick_drive::End;
 use yasir_io::Source;
 
-// The verdict by a transmitter, a receiver that is so late, and a device.
+// Returns the verdict by a transmitter `S`, a receiver `C` that is `late` ticks late, and a device
+// `V`.
 fn audit_input_by<S: FrameBox, C: FrameBox, V: Device + Drop, I: Source>(
     alloc: Global,
     late: u8,
@@ -43,10 +44,10 @@ fn audit_input_by<S: FrameBox, C: FrameBox, V: Device + Drop, I: Source>(
     Ok(judge_lists(session, &lists))
 }
 
-/// Judges a session that has ended by three recordings of it in an input, which two marks part, as
-/// `audit` does. No tick is kept, and of the frames those that were sealed and those that passed.
-/// Where there is no memory for them the answer is `End::Stopped`; every other `End` says how the
-/// input ended otherwise than whole.
+/// Judges a session that has ended, as `audit` does, by three recordings of it in one input, which
+/// two marks separate. No tick is kept. The frames that were sealed and those that passed are kept,
+/// and if there is no memory for them, `End::Stopped` is returned. Any other `End` says why the
+/// input didn't end whole.
 pub fn audit_input<I: Source>(
     alloc: Global,
     session: &Session<'_>,

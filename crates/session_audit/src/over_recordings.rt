@@ -22,7 +22,8 @@ struct Lines<'a> {
     received: &'a [Tick],
 }
 
-// The verdict by a transmitter, a receiver that is so late, and a device.
+// Returns the verdict by a transmitter `S`, a receiver `C` that is `late` ticks late, and a device
+// `V`.
 fn audit_by<S: FrameBox, C: FrameBox, V: Device + Drop>(
     alloc: Global,
     late: u8,
@@ -47,13 +48,13 @@ fn audit_by<S: FrameBox, C: FrameBox, V: Device + Drop>(
 }
 
 /// Judges a session that has ended by three recordings of it: the line of the device that sends,
-/// the link, and the line of the device that receives, tick by tick, of at most 16,777,216 ticks
-/// each. The transmitter's frames are sealed anew, the link is checked anew, and the third line is
-/// read anew, each with silence behind it until all has come. Nothing is said of who made the
+/// the link, and the line of the device that receives, each as a list of at most 16,777,216 ticks.
+/// The transmitter's frames are sealed anew, the link is checked anew, and the third line is read
+/// anew, each with so much silence after it that all has come. Nothing is said of who made the
 /// recordings.
 ///
-/// The frames that are sealed and those that pass are kept in memory. Where there is none, the
-/// answer is `NoMemory`.
+/// The frames that are sealed and those that pass are kept in memory. If there isn't enough of it,
+/// `NoMemory` is returned.
 pub fn audit(
     alloc: Global,
     session: &Session<'_>,

@@ -12,7 +12,7 @@ use line_rules::LineRules;
 use replay_lists::Numbered;
 use seal_transmitter::{SealNote, Sealer};
 
-/// The frames that the transmitter seals.
+/// Tells the frames that the transmitter seals.
 impl<R: LineRules, M: Mac, const B: usize> NotingBox<R> for Sealer<R, M, B> {
     ghost told = { sealed_told };
 

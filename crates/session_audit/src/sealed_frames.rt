@@ -1,4 +1,4 @@
-//! The frames that a transmitter seals, where nobody asks for its tags.
+//! The frames that a transmitter seals, if its tags aren't needed.
 ghost use Rattle.std.specs.Prelude.{◌≤◌};
 ghost use Rattle.hmac_tag.specs.Tag.{direction_number};
 ghost use Rattle.link_box.specs.Links.{AreLinks, link_by};
@@ -15,7 +15,7 @@ use seal_transmitter::Sealer;
 use yasir_ticks::Tick;
 
 /// The frames that a transmitter seals, by the rules `R`, with words of `B` bytes and tags by `M`.
-/// None of these tags is made: no frame, number or place depends on one.
+/// The tags aren't made, since no frame, number or place depends on one.
 #[derive(Drop)]
 pub struct SealedFrames<R, M, const B: usize, K> {
     shown: ShownFrames<Sealer<R, Untagged<M>, B>, R, K>,

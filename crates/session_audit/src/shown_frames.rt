@@ -15,7 +15,7 @@ use sequence_journal::Journal;
 use std::marker::PhantomData;
 use yasir_ticks::{Tick, TickRun};
 
-// Number and start of the frame of a step's note.
+// Returns number and start of the frame of a step's note, if the note has one.
 #[inline]
 fn numbered<R: LineRules, X: NotingBox<R>>(note: Option<X::Note>) -> Option<Numbered>
     ensures { result ≡ told_by X.told note }
@@ -26,8 +26,8 @@ fn numbered<R: LineRules, X: NotingBox<R>>(note: Option<X::Note>) -> Option<Numb
     }
 }
 
-/// A box by the rules `R`, over a new journal with a floor, on a disk of its own that never fails;
-/// and the bytes of the frames that it numbers.
+/// A box by the rules `R`, with a new journal that begins at a floor, on a disk of its own that
+/// never fails, and the bytes of the frames that it numbers.
 #[derive(Drop)]
 pub struct ShownFrames<X, R, K> {
     line_box: X,

@@ -8,13 +8,13 @@ ghost use Rattle.sequence_journal.specs.declared.numbers.TheConstants.{LIMIT};
 use sequence_journal::{Journal, LinkId};
 use yasir_io::{SlotDisk, SteadySlots};
 
-/// A disk of which no call fails.
+/// A disk whose calls never fail.
 pub trait SteadyDisk: SlotDisk + Drop {
-    /// A disk whose slots hold no number, for whatever link.
+    /// A disk whose slots hold no number of any link.
     fn blank() -> Self
         ensures { IsSomeAnd (Self.SlotDisk.told result) (λ slots. greatest slots ≡ None) };
 
-    // Its count of faults never rises.
+    // Its count of faults is always 0.
     ghost steady: { (disk : Self) → Self.SlotDisk.faults disk ≡ 0 };
 }
 
@@ -28,7 +28,7 @@ impl SteadyDisk for SteadySlots {
     ghost steady = { λ disk. refl };
 }
 
-// A new journal of this link on a blank disk, whose last number is this floor.
+// Returns a new journal for this link, on a blank disk, whose last number is `floor`.
 pub(crate) fn journal_at<K: SteadyDisk>(disk: &mut K, link: &LinkId, floor: u64) -> Journal
     requires blank { IsSomeAnd (K.told disk.old) (λ slots. greatest slots ≡ None) }
     requires within { floor ≤ LIMIT }

@@ -1,4 +1,4 @@
-//! A MAC for a transmitter whose tags nobody asks for.
+//! A MAC for a transmitter whose tags aren't needed.
 ghost use Rattle.std.specs.Prelude.{◌≡◌, ◌≤◌, ⊤};
 ghost use Rattle.arrayvec.specs.ArrayVec.{array_vec_len};
 ghost use Rattle.session_audit.specs.NoTags.{no_tag, length-no_tag, All-no_tag};
@@ -21,8 +21,9 @@ fn zeros(size: usize) -> TagBytes
     tag
 }
 
-/// In place of a tag by `M`, as many zeros: no text is hashed, and nothing is guarded. It serves
-/// where the frames are listed that a transmitter seals, since none depends on the tags.
+/// A MAC whose tags are zeros, as many as a tag by `M` has bytes. No text is hashed, and such a tag
+/// protects nothing. It serves to list the frames that a transmitter seals, since these don't
+/// depend on the tags.
 #[derive(Drop)]
 pub struct Untagged<M> {
     mac: PhantomData<M>,
