@@ -1,5 +1,5 @@
-//! Files at their edge: short calls, calls that fail, how a file is opened, and what reaches a
-//! sync.
+//! Tests of files: short calls, calls that fail, how a file is opened, and that what is written is
+//! synced.
 ghost use Rattle.std.specs.Io.{ReadsAtMost, WritesAtMost};
 
 use std::alloc::{Allocator, Global};
@@ -13,11 +13,11 @@ use yasir_io::{Failed, FileSlots, FileSource, Lock, Slot, SlotBytes, SlotDisk, S
 
 const ROOM: usize = 88;
 
-// The one path: blanks belong to it, and it is longer than 64 bytes.
+// The only path of the file system. Its blanks belong to it, and it is longer than 64 bytes.
 const PATH: &str =
     " a folder whose name is rather long/another one that is in it/the file of slots ";
 
-// A file system of one file. A call moves at most `piece` bytes; call `fail`, counted from 1,
+// A file system with one file. A call moves at most `piece` bytes, and call `fail`, counted from 1,
 // fails.
 #[derive(Drop)]
 struct OneFile {
@@ -32,7 +32,8 @@ struct OneFile {
     syncs: Cell<u32>,
     data_syncs: Cell<u32>,
     unsynced: Cell<bool>,
-    // Its length has grown since it was synced whole: a sync of its data alone leaves it unsynced.
+    // Whether the file has become longer since it was last synced whole. If so, a sync of only its
+    // data leaves it unsynced.
     longer: Cell<bool>,
 }
 
@@ -47,7 +48,7 @@ impl OneFile {
     }
 }
 
-// A file whose first bytes are 0, 1, 2, .. An earlier run has left it unsynced.
+// A file of `len` bytes: 0, 1, 2 and so on. An earlier run has left it unsynced.
 fn file_of(len: usize, piece: usize, fail: u32) -> OneFile {
     let mut bytes = [0; ROOM];
     let mut next = 0u8;
@@ -259,8 +260,7 @@ fn name(alloc: Global) -> Result<Option<String>, Fail> {
     Ok(Some(String::from_str(alloc, PATH)?))
 }
 
-// Whether the first of these bytes, this many of them, count up from this one, and the others are
-// 0.
+// Whether the first `len` of these bytes count up from `first`, and the others are 0.
 fn counts_up(bytes: &[u8], first: u8, len: usize) -> bool {
     let mut next = first;
     let mut left = len;
@@ -275,7 +275,8 @@ fn counts_up(bytes: &[u8], first: u8, len: usize) -> bool {
     true
 }
 
-// Whether an answer is a slot's front of this many of its bytes, or a failure.
+// Whether the answer to a read of a slot has `front` bytes that count up from `first`, followed by
+// zeros. With no `front`, whether the read failed.
 fn is_front<const N: usize>(
     answer: Result<[u8; N], Failed>,
     first: u8,
@@ -288,25 +289,26 @@ fn is_front<const N: usize>(
     }
 }
 
-// How many bytes a file has, the most that a call on it moves, the call that fails; how often it is
-// opened then, and how many bytes of the file the reads of old slots A and B and of slots A and B
-// give.
+// How many bytes a file has, how many a call on it moves at most, and which call fails. Then how
+// often the file is opened, and how many bytes of the file the reads of old slots A and B and of
+// slots A and B give, or none if the read fails.
 type Reads = (usize, usize, u32, u32, [Option<usize>; 4]);
 
 const READS: [Reads; 13] = [
     (80, 88, 0, 1, [Some(16), Some(16), Some(24), Some(24)]),
     (88, 5, 0, 1, [Some(16), Some(16), Some(24), Some(24)]),
     (67, 7, 0, 1, [Some(16), Some(16), Some(24), Some(11)]),
-    // A file of the first version, one that ends inside a slot of it, and an empty one.
+    // A file of the first version, which has only old slots, one that ends inside an old slot, and
+    // an empty one.
     (32, 88, 0, 1, [Some(16), Some(16), Some(0), Some(0)]),
     (19, 7, 0, 1, [Some(16), Some(3), Some(0), Some(0)]),
     (0, 88, 0, 1, [Some(0); 4]),
-    // The opening, the lock and the first sync fail: the file isn't open then.
+    // In turn, these fail: the opening, the lock and the first sync. The file isn't open then.
     (80, 88, 1, 1, [None, Some(16), Some(24), Some(24)]),
     (80, 88, 2, 2, [None, Some(16), Some(24), Some(24)]),
     (80, 88, 3, 2, [None, Some(16), Some(24), Some(24)]),
-    // The seek and the read for the first slot fail, the second of its reads, the read for the next
-    // slot, and the seek for the last one.
+    // In turn, these fail: the seek for the first slot, the second of the reads for it, the read
+    // for the next slot, and the seek for the last one.
     (80, 88, 4, 1, [None, Some(16), Some(24), Some(24)]),
     (80, 9, 6, 1, [None, Some(16), Some(24), Some(24)]),
     (80, 88, 7, 1, [Some(16), None, Some(24), Some(24)]),
@@ -336,15 +338,16 @@ fn a_slot_is_read_whole_or_not_at_all(rt: HostRuntime) -> Result<(), Fail> {
     Ok(())
 }
 
-// The most that a call moves, the call that fails, whether a write and the sync behind it are done;
-// how often the file is opened and synced then.
+// How many bytes a call moves at most, which call fails, whether a write and the sync after it are
+// done, and how often the file is then opened and synced whole.
 type Writes = (usize, u32, bool, bool, u32, u32);
 
 const WRITES: [Writes; 9] = [
     (88, 0, true, true, 1, 2),
     (24, 0, true, true, 1, 2),
     (23, 0, false, true, 1, 2),
-    // The opening, the lock, the first sync, the seek and the write fail, and the sync behind it.
+    // In turn, these fail: the opening, the lock, the first sync, the seek, the write, and the sync
+    // after it.
     (88, 1, false, true, 1, 2),
     (88, 2, false, true, 2, 2),
     (88, 3, false, true, 2, 2),
@@ -353,7 +356,7 @@ const WRITES: [Writes; 9] = [
     (88, 6, true, false, 1, 1),
 ];
 
-// A write of bytes 99 to slot B and a sync behind it.
+// Writes bytes 99 to slot B, syncs, and checks what the row says.
 fn write_and_sync(rt: &impl Abort, alloc: Global, row: &Writes) -> Result<(), Fail> {
     let (piece, fail, written, synced, openings, syncs) = *row;
     let file = file_of(88, piece, fail);
@@ -369,7 +372,7 @@ fn write_and_sync(rt: &impl Abort, alloc: Global, row: &Writes) -> Result<(), Fa
     Ok(())
 }
 
-// Only slot B was written, if anything was.
+// Checks that nothing outside slot B was written, and that slot B was if `written` says so.
 fn holds(rt: &impl Abort, bytes: [u8; ROOM], written: bool) {
     assert!(rt; counts_up(bytes.get(..56).unwrap_or(&[1]), 0, 56));
     assert!(rt; counts_up(bytes.get(80..).unwrap_or(&[1]), 80, 8));
@@ -386,9 +389,9 @@ fn a_slot_is_written_whole_or_a_fault(rt: HostRuntime) -> Result<(), Fail> {
     Ok(())
 }
 
-// Slots one after the other, and how often the file has been synced whole, and its data alone,
-// behind each: the opening is synced whole, and the first write of a slot, which may make the file
-// longer.
+// Slots that are written one after the other, and after each of them how often the file has been
+// synced whole, and how often only its data. It is synced whole when it is opened, and after the
+// first write of each slot, which may make the file longer.
 const NUMBERS: [(Slot, SlotBytes, u32, u32); 5] = [
     (Slot::A, *b"the number one, and then", 2, 0),
     (Slot::B, *b"a number of three bytes.", 3, 0),
@@ -425,8 +428,9 @@ enum Act {
     Sync,
 }
 
-// Acts one after the other, and how many calls on the file each takes. The first one opens, locks
-// and syncs it. A write is a seek and a write, but slot B right behind slot A is a write alone.
+// Acts one after the other, and how many calls on the file each takes. The first one also opens,
+// locks and syncs the file. A write of a slot is a seek and a write. But if slot B is written after
+// slot A, with nothing but a sync between them, no seek is needed.
 const ACTS: [(Act, u32); 16] = [
     (Act::Write(Slot::A), 5),
     (Act::Write(Slot::B), 1),
@@ -446,7 +450,7 @@ const ACTS: [(Act, u32); 16] = [
     (Act::Write(Slot::B), 1),
 ];
 
-// The slots of a file, A in front of B.
+// The bytes of slot A and then of slot B.
 fn slots_of(file: &OneFile) -> [u8; 48] {
     let bytes = file.bytes.get();
     let mut slots = [0; 48];
@@ -490,13 +494,14 @@ fn slot_b_follows_slot_a_without_a_seek(rt: HostRuntime) -> Result<(), Fail> {
     Ok(())
 }
 
-// The call that fails, whether writes of slots A, B and B are done, and how many calls on the file
-// they take, with its opening, lock and sync.
+// Which call fails, whether writes of slot A, of slot B and of slot B once more are done, and how
+// many calls on the file all this takes, with its opening, lock and first sync.
 type Faults = (u32, [bool; 3], u32);
 
 const FAULTS: [Faults; 5] = [
     (0, [true; 3], 8),
-    // The seek to slot A fails, its write, and the writes of slot B.
+    // In turn, these fail: the seek to slot A, its write, and the first and the second write of
+    // slot B.
     (4, [false, true, true], 8),
     (5, [false, true, true], 9),
     (6, [true, false, true], 8),
@@ -543,7 +548,8 @@ fn a_write_cut_short_is_followed_by_a_seek(rt: HostRuntime) -> Result<(), Fail> 
     Ok(())
 }
 
-// A sync that fails leaves the next one whole: the sixth call is the one behind the write.
+// If a whole sync fails, the next sync is whole too. Call 6, which fails, is the sync after the
+// write.
 #[test]
 fn a_longer_file_is_synced_whole_in_the_end(rt: HostRuntime) -> Result<(), Fail> {
     let file = file_of(32, 88, 6);
@@ -594,7 +600,7 @@ fn a_missing_file_is_made_where_it_is_said(rt: HostRuntime) -> Result<(), Fail> 
 
 #[test]
 fn a_file_gives_each_byte_once(rt: HostRuntime) -> Result<(), Fail> {
-    // most of a call, the call that fails, and how many answers of a failure come
+    // how many bytes a call moves at most, which call fails, and how many reads fail
     let rows: [(usize, u32, u32); 5] = [(88, 0, 0), (7, 0, 0), (7, 1, 1), (7, 3, 1), (9, 6, 1)];
     for (piece, fail, failed) in rows {
         let file = file_of(88, piece, fail);
@@ -617,8 +623,8 @@ fn a_file_gives_each_byte_once(rt: HostRuntime) -> Result<(), Fail> {
     Ok(())
 }
 
-// How many bytes a file has, the place of its one byte that isn't 0, and whether a new disk writes
-// its first slot there.
+// How many bytes a file has, the place of the only byte that isn't 0, if there is one, and whether
+// a new disk writes its slots to this file.
 type First = (usize, Option<usize>, bool);
 
 const FIRST: [First; 11] = [
@@ -626,7 +632,8 @@ const FIRST: [First; 11] = [
     (20, None, true),
     (80, None, true),
     (88, Some(80), true),
-    // The first digit of a key, old slots, and slots that a write has torn.
+    // These aren't written over: the first digit of a key, old slots, and slots that a write has
+    // torn.
     (1, Some(0), false),
     (88, Some(0), false),
     (32, Some(31), false),

@@ -27,7 +27,7 @@ const DNP_BA_24: LinkId = LinkId {
     profile: 24,
 };
 
-// The bytes of three words, the highest first.
+// The bytes of three words, the highest byte of each first.
 fn bytes_of(words: &[u64; 3]) -> [u8; 24] {
     let mut bytes = [0; 24];
     bytes[..8].copy_from_slice(&words[0].to_be_bytes());
@@ -69,8 +69,9 @@ fn a_slot_holds_a_number_for_a_link(rt: HostRuntime) {
     }
 }
 
-// Nothing written, no complement, one that is wrong in its first or last bit, a number above the
-// limit, a version of 1, a label of 3, a direction of 2 and a profile of 20.
+// Slots that hold no number: nothing written, no complement, a complement that is wrong in its
+// first bit, one that is wrong in its last bit, a number above the limit, a version of 1, a label
+// of 3, a direction of 2 and a profile of 20.
 const NONE_HELD: [[u64; 3]; 9] = [
     [0, 0, 0],
     [0x1111111111111111, 0x1111111111111111, 0x1111111111111111],
@@ -105,8 +106,8 @@ fn an_old_slot_holds_a_number(rt: HostRuntime) {
             0x0000ffffffffffff_ffff000000000000,
             Some(281_474_976_710_655),
         ),
-        // Nothing written, a complement that is wrong in its first or last bit, a number above the
-        // limit.
+        // Nothing written, no complement, a complement that is wrong in its first bit, one that is
+        // wrong in its last bit, and a number above the limit.
         (0, None),
         (0x11111111111111111111111111111111, None),
         (0x0000000000000005_7ffffffffffffffa, None),
@@ -146,7 +147,7 @@ fn a_word_stands_for_the_next_number_that_has_it(rt: HostRuntime) {
     }
 }
 
-// The slots of a disk: old A and B, A and B.
+// The bytes of all slots of a disk: old slots A and B, then slots A and B.
 type AllBytes = ([u8; 16], [u8; 16], [u8; 24], [u8; 24]);
 
 // A disk with these slots, whose call `fail` fails.
@@ -157,7 +158,7 @@ fn disk_of(alloc: Global, slots: &AllBytes, fail: u32) -> Result<MemSlots, Fail>
     Ok(MemSlots::with_room(alloc, old_a, old_b, a, b, 16, plan)?)
 }
 
-// A disk whose old slots are blank.
+// A disk with these slots A and B and blank old slots, whose call `fail` fails.
 fn new_disk_of(alloc: Global, a: [u8; 24], b: [u8; 24], fail: u32) -> Result<MemSlots, Fail> {
     disk_of(alloc, &(OLD_BLANK, OLD_BLANK, a, b), fail)
 }
@@ -170,7 +171,7 @@ const BLANK: [u8; 24] = [0; 24];
 
 const ONES: [u8; 24] = [0x11; 24];
 
-// An old slot.
+// An old slot that holds this number.
 fn old(n: u64) -> [u8; 16] {
     ((u128::from(n) << 64) | u128::from(!n)).to_be_bytes()
 }
@@ -195,14 +196,14 @@ fn slots_of(disk: &MemSlots) -> AllBytes {
 
 #[test]
 fn the_greater_number_is_the_floor(rt: HostRuntime) -> Result<(), Fail> {
-    // The slots, the floor, slot A once loaded, and the slot that the next commit writes.
+    // The slots, the floor, slot A after the load, and the slot that the next commit writes.
     let rows: [(AllBytes, u64, [u8; 24], Slot); 9] = [
         ((OLD_BLANK, OLD_BLANK, own(5), ONES), 5, own(5), Slot::B),
         ((OLD_BLANK, OLD_ONES, ONES, own(5)), 5, ONES, Slot::A),
         ((OLD_ONES, OLD_BLANK, own(5), own(6)), 6, own(5), Slot::A),
         ((OLD_ONES, OLD_ONES, own(6), own(5)), 6, own(6), Slot::B),
         ((OLD_BLANK, OLD_BLANK, own(5), own(5)), 5, own(5), Slot::B),
-        // Beside another link's number, and beside old ones.
+        // A number beside another link's number, and one beside old numbers.
         (
             (OLD_BLANK, OLD_BLANK, another(9), own(5)),
             5,
@@ -210,7 +211,7 @@ fn the_greater_number_is_the_floor(rt: HostRuntime) -> Result<(), Fail> {
             Slot::A,
         ),
         ((old(7), old(4), own(5), ONES), 7, own(5), Slot::B),
-        // Old ones alone are taken over.
+        // If there are only old numbers, the greatest of them is taken over.
         ((old(5), OLD_ONES, BLANK, BLANK), 5, own(5), Slot::B),
         ((old(5), old(6), ONES, ONES), 6, own(6), Slot::B),
     ];
@@ -243,7 +244,7 @@ fn other_disks_are_refused(rt: HostRuntime) -> Result<(), Fail> {
         ((OLD_BLANK, OLD_ONES, BLANK, another(6)), second),
         ((OLD_BLANK, OLD_ONES, another(5), another(6)), second),
         ((OLD_BLANK, OLD_ONES, another(5), another(4)), first),
-        // Old numbers are no longer heeded then.
+        // Old numbers don't count if there is a number for another link.
         ((old(9), old(8), another(5), BLANK), first),
     ];
     for row in &rows {
@@ -255,10 +256,11 @@ fn other_disks_are_refused(rt: HostRuntime) -> Result<(), Fail> {
     Ok(())
 }
 
-// Which call fails, whether the commit is done, slot B then, and the floor that a later run loads.
+// Which call fails, whether the commit is done, what slot B then holds, and the floor that a later
+// run loads.
 type CommitRow = (u32, bool, [u8; 24], u64);
 
-// Number 6 is committed behind 5.
+// Commits number 6 after number 5, and checks what the row says.
 fn commit_keeps_the_floor(rt: &impl Abort, alloc: Global, row: &CommitRow) -> Result<(), Fail> {
     let (fail, done, b, later) = row;
     let mut disk = new_disk_of(alloc, own(5), ONES, *fail)?;
@@ -274,7 +276,7 @@ fn commit_keeps_the_floor(rt: &impl Abort, alloc: Global, row: &CommitRow) -> Re
     Ok(())
 }
 
-// Nothing is loaded where call `fail` fails.
+// Checks that nothing is loaded if call `fail` fails.
 fn load_fails(rt: &impl Abort, alloc: Global, fail: u32) -> Result<(), Fail> {
     let mut disk = new_disk_of(alloc, own(5), ONES, fail)?;
     assert!(rt; matches!(Journal::load(&mut disk, &RTU_AB), Err(LoadError::Fault)));
@@ -298,7 +300,8 @@ fn a_fault_of_a_commit_keeps_the_floor(rt: HostRuntime) -> Result<(), Fail> {
     Ok(())
 }
 
-// Call `fail` fails while number 5 of an old slot is taken over, and slot A is this one then.
+// Checks that the floor stays 5 if call `fail` fails while number 5 of an old slot is taken over,
+// and that slot A then holds the bytes `a`.
 fn taking_over_keeps_the_floor(
     rt: &impl Abort,
     alloc: Global,
@@ -317,7 +320,7 @@ fn a_fault_of_a_taking_over_keeps_the_floor(rt: HostRuntime) -> Result<(), Fail>
     // Call 5 is the write and call 6 the sync.
     taking_over_keeps_the_floor(&rt, rt.alloc(), 5, &BLANK)?;
     taking_over_keeps_the_floor(&rt, rt.alloc(), 6, &own(5))?;
-    // A slot that a crash tore: it holds nothing, or reads as another link's.
+    // A slot that a crash tore. It holds no number, or reads as one for another link.
     let mut torn = disk_of(rt.alloc(), &(old(5), OLD_ONES, ONES, BLANK), 0)?;
     assert_eq!(rt; Journal::load(&mut torn, &RTU_AB)?.floor(), 5);
     let mut torn = disk_of(rt.alloc(), &(old(5), OLD_ONES, another(9), BLANK), 0)?;
@@ -326,7 +329,8 @@ fn a_fault_of_a_taking_over_keeps_the_floor(rt: HostRuntime) -> Result<(), Fail>
     Ok(())
 }
 
-// Slots with a number for whatever link are no new disk, and stay.
+// Checks that slots with a number, for whatever link, aren't taken for a new disk, and stay as they
+// are.
 fn numbers_stay(rt: &impl Abort, alloc: Global, slots: &AllBytes, floor: u64) -> Result<(), Fail> {
     let mut disk = disk_of(alloc, slots, 0)?;
     let stands = InitError::Stands { floor };
@@ -335,7 +339,7 @@ fn numbers_stay(rt: &impl Abort, alloc: Global, slots: &AllBytes, floor: u64) ->
     Ok(())
 }
 
-// Call `fail` fails, and slot A is this one then.
+// Checks that no journal begins if call `fail` fails, and that slot A then holds the bytes `a`.
 fn init_fails(rt: &impl Abort, alloc: Global, fail: u32, a: &[u8; 24]) -> Result<(), Fail> {
     let mut disk = new_disk_of(alloc, BLANK, BLANK, fail)?;
     assert!(rt; matches!(Journal::init(&mut disk, &RTU_AB), Err(InitError::Fault)));
@@ -350,7 +354,7 @@ fn a_new_journal_stands_at_zero(rt: HostRuntime) -> Result<(), Fail> {
     assert_eq!(rt; Journal::init(&mut disk, &RTU_AB)?.floor(), 0);
     assert!(rt; slots_of(&disk) == (OLD_ONES, OLD_BLANK, own(0), ONES));
     numbers_stay(&rt, rt.alloc(), &slots_of(&disk), 0)?;
-    // The greatest number is there.
+    // The floor that is found is the greatest number, for whatever link.
     numbers_stay(
         &rt,
         rt.alloc(),
@@ -367,8 +371,8 @@ fn a_new_journal_stands_at_zero(rt: HostRuntime) -> Result<(), Fail> {
     Ok(())
 }
 
-// An uptime that returns one number, the next one, and ends inside the commit of the one after it:
-// nobody hears what that commit returns.
+// An uptime that commits the next number, and ends inside the commit of the one after it, whose
+// result nobody hears. Returns the first of the two numbers.
 fn answer_one<D: SlotDisk>(disk: &mut D, link: &LinkId) -> Option<u64>
     requires { IsLink link.now }
     ensures next { IfSome result (λ n. (begins : Slots) (floor : ℕ) → D.told disk.old ≡ Some begins
@@ -393,7 +397,7 @@ fn answer_one<D: SlotDisk>(disk: &mut D, link: &LinkId) -> Option<u64>
     Some(number)
 }
 
-// An uptime that ends inside its load, of which nobody hears an answer.
+// An uptime that ends inside its load, whose result nobody hears.
 fn answer_none<D: SlotDisk>(disk: &mut D, link: &LinkId)
     requires { IsLink link.now }
     ensures idle { (begins image : Slots) (floor : ℕ) → D.told disk.old ≡ Some begins
@@ -403,7 +407,7 @@ fn answer_none<D: SlotDisk>(disk: &mut D, link: &LinkId)
     let _ = Journal::load(disk, link);
 }
 
-// Two of the first kind, where the second begins on an image that the first left.
+// Two uptimes as in `answer_one`. The second one begins on an image that the first one left.
 fn answer_twice<D: SlotDisk>(first: &mut D, second: &mut D, link: &LinkId) -> Option<(u64, u64)>
     requires { IsLink link.now }
     ensures are_uptimes { IfSome result (λ n. (begins image last : Slots) (floor : ℕ)
@@ -421,7 +425,7 @@ fn answer_twice<D: SlotDisk>(first: &mut D, second: &mut D, link: &LinkId) -> Op
 
 #[test]
 fn an_uptime_ends_inside_a_commit(rt: HostRuntime) -> Result<(), Fail> {
-    // Call 7 is the write of 2 into slot A, where a crash may then leave anything, as this.
+    // Call 7 is the write of 2 into slot A. A crash in it may leave anything there, such as this.
     let torn = bytes_of(&[2, 0x01001202_ffffffff, 0xffffffff_feffedfd]);
     let mut first = new_disk_of(rt.alloc(), own(0), BLANK, 7)?;
     let mut second = new_disk_of(rt.alloc(), torn, own(1), 0)?;
@@ -436,7 +440,7 @@ fn an_uptime_ends_inside_a_commit(rt: HostRuntime) -> Result<(), Fail> {
 
 #[test]
 fn an_uptime_ends_inside_its_load(rt: HostRuntime) -> Result<(), Fail> {
-    // Call 5 is the write of 5 into slot A, where a crash may then leave anything.
+    // Call 5 is the write of 5 into slot A. A crash in it may leave anything there.
     let mut first = disk_of(rt.alloc(), &(old(5), OLD_ONES, BLANK, BLANK), 5)?;
     answer_none(&mut first, &RTU_AB);
     let mut second = disk_of(rt.alloc(), &(old(5), OLD_ONES, ONES, BLANK), 0)?;

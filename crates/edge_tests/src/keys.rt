@@ -5,13 +5,13 @@ use std::process::Abort;
 use std::test::Fail;
 use yasir_io::{MemSource, Plan};
 
-/// Sixteen digits and the eight bytes that they spell; the digits of each text here are these over
-/// and over.
+/// Sixteen digits, which each key text in these tests repeats. `BYTES` are the eight bytes that
+/// they spell.
 const DIGITS: &[u8; 16] = b"0123456789aBcDEf";
 
 const BYTES: [u8; 8] = [0x01, 0x23, 0x45, 0x67, 0x89, 0xab, 0xcd, 0xef];
 
-// What is read of this many digits and what comes after them, in pieces of this many bytes.
+// Reads a key text of this many digits, followed by `behind`, in pieces of up to `piece` bytes.
 fn read(
     rt: &impl Abort,
     alloc: Global,
@@ -31,7 +31,7 @@ fn read(
 
 #[test]
 fn reads_the_key_of_a_right_text(rt: HostRuntime) -> Result<(), Fail> {
-    // digits, what comes after them
+    // how many digits, what comes after them
     let rows: [(usize, &[u8]); 6] = [
         (32, b""),
         (32, b"\n"),
@@ -57,7 +57,7 @@ fn reads_the_key_of_a_right_text(rt: HostRuntime) -> Result<(), Fail> {
 
 #[test]
 fn refuses_what_is_no_key_text(rt: HostRuntime) -> Result<(), Fail> {
-    // digits, what comes after them, place
+    // how many digits, what comes after them, the place that is refused
     let rows: [(usize, &[u8], u32); 16] = [
         (0, b"", 0),
         (0, b"\n", 0),

@@ -1,7 +1,7 @@
 //! Tests of the edge of the program: streams, files and disks with calls that fail, journals, keys,
 //! and the texts that are written.
 //!
-//! They are proved apart from the crates that they test, since a crate with tests is proved twice.
+//! They are a crate of their own, since a crate with tests is proved twice.
 #![tactic(auto)]
 
 #[cfg(test)]

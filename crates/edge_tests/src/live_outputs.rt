@@ -1,11 +1,12 @@
-//! What two sinks have got of a note and a text, where a call fails too.
+//! Tests of what two sinks get of a note and a text, also if a call fails.
 use live_port::{Streams, hand_on};
 use std::alloc::Global;
 use std::test::Fail;
 use yasir_io::{MemSink, MemSource, Plan};
 
-/// The sinks of the text and of the note behind one answer, and whether it was handed on. The log
-/// takes two bytes a call, and fails at this one; at none where it is 0.
+/// Hands on a note and a text. Returns the sink of the text, the sink of the note, and whether both
+/// were handed on. The log takes two bytes a call, and its call `fails` fails, or no call if
+/// `fails` is 0.
 fn handed(alloc: Global, fails: u32) -> Result<(MemSink, MemSink, bool), Fail> {
     let mut plan = Plan::new();
     if fails > 0 {
@@ -32,7 +33,7 @@ fn a_note_and_a_text_are_flushed(rt: HostRuntime) -> Result<(), Fail> {
 
 #[test]
 fn no_text_goes_out_before_its_note(rt: HostRuntime) -> Result<(), Fail> {
-    // three writes, and then the flush
+    // which call fails, of three writes and then the flush, and what the log holds then
     let rows: [(u32, &[u8]); 4] = [(1, b""), (2, b"no"), (3, b"note"), (4, b"note\n")];
     for (fails, got) in &rows {
         let (out, log, well) = handed(rt.alloc(), *fails)?;

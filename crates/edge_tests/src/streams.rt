@@ -13,14 +13,14 @@ use yasir_io::{
     TellsHeld, TellsLeft, TextBuffer, write_all,
 };
 
-// These calls fail; no call is the one of number 0.
+// A plan by which these calls fail. A 0 is no call.
 fn plan(calls: [u32; 2]) -> Plan {
     let mut plan = Plan::new();
     let _ = plan.try_extend_from_slice(&calls);
     plan
 }
 
-// Whether a sink takes the first bytes of a text, and how many of them it holds then.
+// Whether a sink takes the first `len` bytes of a text, and how many bytes it holds then.
 fn taken(
     rt: &impl Abort,
     alloc: Global,
@@ -57,7 +57,8 @@ fn a_sink_takes_what_it_has_room_for(rt: HostRuntime) -> Result<(), Fail> {
     Ok(())
 }
 
-// Takes bytes until the end is returned twice, and counts the failed calls.
+// Asks forty times for a byte, which is past the end of each source here, and keeps the bytes that
+// come. Returns how many of the calls failed.
 fn drained<S: Source>(pieces: &mut Pieces, source: &mut S, out: &mut Vec<u8>) -> Result<u32, Fail> {
     let mut failed = 0u32;
     for _ in 0..40 {
@@ -70,7 +71,7 @@ fn drained<S: Source>(pieces: &mut Pieces, source: &mut S, out: &mut Vec<u8>) ->
     Ok(failed)
 }
 
-// A source gives its text, of whose calls this many fail.
+// Checks that a source gives this text, and that `failed` of its calls fail.
 fn gives<S: Source>(
     rt: &impl Abort,
     alloc: Global,
@@ -114,8 +115,8 @@ fn a_read_gives_what_its_slice_has_room_for(rt: HostRuntime) {
     assert!(rt; source.read(&mut two) == Ok(0));
 }
 
-// Whether a buffer writes pieces of these lengths to a sink, up to the first 0, and how many bytes
-// the sink holds then.
+// Whether a buffer writes pieces of these lengths to a sink, of which 0 is no piece, and how many
+// bytes the sink holds then.
 fn buffered(
     rt: &impl Abort,
     alloc: Global,
@@ -156,7 +157,7 @@ fn a_buffer_writes_a_text_in_order(rt: HostRuntime) -> Result<(), Fail> {
     Ok(())
 }
 
-// The slot has these bytes, beside an old one of zeros.
+// Checks that the slot has these bytes, and that its old slot is all zeros.
 fn steady_slot_is(rt: &impl Abort, disk: &mut SteadySlots, slot: Slot, want: &[u8; 24]) {
     assert_eq!(rt; disk.read_old(slot), Ok([0; 16]));
     assert_eq!(rt; disk.read_slot(slot), Ok(*want));
@@ -172,8 +173,8 @@ fn steady_slots_hold_what_is_written(rt: HostRuntime) {
     steady_slot_is(&rt, &mut disk, Slot::B, &[3; 24]);
 }
 
-// What stands outside: it moves a byte or two a call, its second call fails, and it takes six
-// bytes.
+// A stream outside the program. A read moves one byte, and a write up to two, six in all. The
+// second read or write fails, and so does the second flush.
 #[derive(Drop)]
 struct Outside {
     bytes: Vec<u8>,
@@ -260,7 +261,7 @@ fn a_reader_is_read_to_its_end(rt: HostRuntime) -> Result<(), Fail> {
     Ok(())
 }
 
-// The first bytes of a slice, by standard input.
+// Reads the first bytes of a slice through a `StdinSource`.
 fn front_of(bytes: &[u8], buf: &mut [u8]) -> Result<usize, Failed>
     ensures { IfOk result (λ n. take n buf.new ≡ take n bytes.now) }
 {
@@ -275,7 +276,7 @@ fn a_reader_that_tells_gives_its_bytes(rt: HostRuntime) -> Result<(), Fail> {
     Ok(())
 }
 
-// A whole buffer goes out by one call of a writer that takes all.
+// A writer that takes all gets a whole buffer in one call.
 #[test]
 fn a_writer_gets_a_whole_buffer_at_once(rt: HostRuntime) -> Result<(), Fail> {
     let mut long = Vec::new(rt.alloc());
@@ -327,12 +328,12 @@ fn a_writer_gets_each_piece_at_once(rt: HostRuntime) -> Result<(), Fail> {
     Ok(())
 }
 
-// Slots of bytes 1 and 2 beside old ones of bytes 5 and 6.
+// A disk whose slots A and B have bytes 1 and 2, and whose old slots have bytes 5 and 6.
 fn slots_of(alloc: Global, calls: usize, fail: Plan) -> Result<MemSlots, NoMemory> {
     MemSlots::with_room(alloc, [5; 16], [6; 16], [1; 24], [2; 24], calls, fail)
 }
 
-// The slot has these bytes, beside these old ones.
+// Checks that the slot has the bytes `new`, and its old slot the bytes `old`.
 fn slot_is(rt: &impl Abort, disk: &mut MemSlots, slot: Slot, old: &[u8; 16], new: &[u8; 24]) {
     assert!(rt; disk.read_old(slot) == Ok(*old));
     assert!(rt; disk.old_slot(slot) == *old);
@@ -347,8 +348,9 @@ fn slots_in_memory_are_read(rt: HostRuntime) -> Result<(), Fail> {
     Ok(())
 }
 
-// Which calls are done, of a write of bytes 3 to a slot B of bytes 2, a sync, and a read of it, on
-// a disk with room for this many of them. The slot has such bytes then, and slot A those of before.
+// Writes bytes 3 to slot B, which has bytes 2, syncs, and reads the slot, on a disk with room for
+// `calls` calls, of which call `fail` fails. Returns which of the three are done. Checks that slot
+// B then has bytes `byte`, and that slot A and old slot B are as they were.
 fn done_of(
     rt: &impl Abort,
     alloc: Global,
@@ -368,8 +370,8 @@ fn done_of(
 
 #[test]
 fn slots_in_memory_fail_where_they_are_told_to(rt: HostRuntime) -> Result<(), Fail> {
-    // The calls are a write, a sync and a read of slot B: the call that fails, which are done, and
-    // the bytes of the slot then.
+    // How many calls there is room for, which call fails, which are done of the write, the sync and
+    // the read of slot B, and the bytes of the slot then.
     let rows = [
         (2, 1, [false, true, false], 2),
         (3, 0, [true, true, true], 3),
@@ -387,7 +389,7 @@ fn slots_in_memory_fail_where_they_are_told_to(rt: HostRuntime) -> Result<(), Fa
     Ok(())
 }
 
-// A path of this process's own, where no file stands.
+// A path that only this process uses, and at which there is no file.
 fn fresh_path(rt: &HostRuntime, name: &str) -> Result<String, Fail> {
     let folder = env::temp_dir(rt)?;
     let id = std::process::id(rt.process());
@@ -420,7 +422,7 @@ fn slots_stand_in_a_file(rt: HostRuntime) -> Result<(), Fail> {
     assert_eq!(rt; again.read_slot(Slot::B), Ok([b'b'; 24]));
     assert_eq!(rt; again.read_old(Slot::B), Ok([0; 16]));
     fs::remove_file(&rt, path.as_str())?;
-    // A folder, and no path.
+    // The path of a folder, and no path at all.
     let folder = String::from_str(rt.alloc(), ".")?;
     for path in [Some(folder), None] {
         let mut disk = FileSlots::new(&rt, path, SlotFile::New);
@@ -432,7 +434,7 @@ fn slots_stand_in_a_file(rt: HostRuntime) -> Result<(), Fail> {
     Ok(())
 }
 
-// How many reads of a file fail, and the bytes that come.
+// Returns how many reads of a file fail, and the bytes that come.
 fn read_file(rt: &HostRuntime, path: Option<String>) -> Result<(u32, Vec<u8>), Fail> {
     let mut out = Vec::new(rt.alloc());
     let mut source = FileSource::new(rt, path);
@@ -440,7 +442,7 @@ fn read_file(rt: &HostRuntime, path: Option<String>) -> Result<(u32, Vec<u8>), F
     Ok((failed, out))
 }
 
-// Forty reads fail, and no byte comes.
+// Whether all of forty reads fail, and no byte comes.
 fn gives_nothing(rt: &HostRuntime, path: Option<String>) -> Result<bool, Fail> {
     let (failed, bytes) = read_file(rt, path)?;
     Ok(failed == 40 && bytes.is_empty())

@@ -1,17 +1,17 @@
-//! Known texts, and how often a sink is written to.
+//! Tests of texts that are written, by known ones, and of how often a sink is written to.
 use line_texts::{Texts, answer_run, push_run};
 use std::alloc::Global;
 use std::test::Fail;
 use yasir_io::{Failed, MemSink, Plan, Sink};
 use yasir_ticks::{Tick, TickRun};
 
-/// 40 bytes 7, and the two lines of them.
+/// Forty bytes of 7. `LINES_OF_SEVENS` is their text, which has two lines.
 const SEVENS: [u8; 40] = [7; 40];
 
 const LINES_OF_SEVENS: &[u8] =
     b"+0707070707070707070707070707070707070707070707070707070707070707\n+0707070707070707\n";
 
-/// The text of runs, each of which is added as one.
+/// Writes the text of these runs to a sink, each run in one call, and returns the sink.
 fn written(alloc: Global, runs: &[TickRun<'_>]) -> Result<MemSink, Fail> {
     let mut out = MemSink::with_room(alloc, 200, 512, Plan::new())?;
     let mut log = MemSink::with_room(alloc, 0, 512, Plan::new())?;
@@ -135,7 +135,8 @@ impl Sink for CountedSink {
     }
 }
 
-// 992 lines of 66 bytes fill a buffer of 65,536, so 2,000 of them go out by three writes.
+// A buffer of 65,536 bytes is full after 992 lines of 66 bytes, so 2,000 lines go out in three
+// writes.
 #[test]
 fn lines_go_out_by_full_buffers(rt: HostRuntime) -> Result<(), Fail> {
     let mut out = NO_WRITES;
