@@ -1,4 +1,4 @@
-//! Bounds on the size of both boxes: neither has room for the longest frame beside its parts.
+//! Bounds on the size of both boxes: besides its parts, neither has room for the longest frame.
 use check_receiver::Checker;
 use delay_ring::DelayRing;
 use dnp_link_frame::Dnp;
@@ -8,8 +8,8 @@ use rtu_frame::Rtu;
 use seal_transmitter::Sealer;
 use spoiler::Outlet;
 
-// A room for the longest frame would be 256 bytes of Modbus RTU in its rules, and 292 in a box. A
-// box has at most this many bytes more than its parts have.
+// Room for the longest frame would take 256 bytes in the rules of Modbus RTU, and 292 in a box. A
+// box has at most this many bytes besides those of its parts.
 const BESIDE_THE_PARTS: usize = 280;
 
 const _: () = prove!(size_of::<Rtu>() <= 128);
@@ -42,7 +42,8 @@ const _: () = prove!(
             + BESIDE_THE_PARTS
 );
 
-// Words of four bytes, and tags by SHA-256: no box has more than its parts and these bytes.
+// With words of four bytes and tags by HMAC-SHA-256, a box has at most `BESIDE_THE_PARTS` bytes
+// besides those of its parts.
 const _: () = prove!(
     size_of::<Sealer<Rtu, HmacSha256, 4>>()
         <= size_of::<Rtu>() + size_of::<HmacSha256>() + BESIDE_THE_PARTS
@@ -69,8 +70,8 @@ const _: () = prove!(
             + BESIDE_THE_PARTS
 );
 
-// How many bytes a box has at most. Bounds by its parts say nothing where a part itself grows; by
-// this number no part has grown by a room for the longest frame.
+// How many bytes a box has at most. A bound by its parts says nothing if a part itself grows. This
+// number rules out that a part has grown by room for the longest frame.
 const SEALER_MOST: usize = 512;
 
 const CHECKER_MOST: usize = 1_056;
@@ -91,7 +92,7 @@ const _: () = prove!(size_of::<Checker<Rtu, HmacSha256, 4, 24>>() <= CHECKER_MOS
 
 const _: () = prove!(size_of::<Checker<Dnp, HmacSha256, 4, 24>>() <= CHECKER_MOST);
 
-// What leaves for the bytes 01 7e 80, which have a right ending and are no frame.
+// What leaves for the last of the bytes 01 7e 80, which have a right ending and are no frame.
 fn last_byte(passed: bool) -> u8 {
     let mut outlet = Outlet::<Rtu>::new();
     outlet.begin();

@@ -17,15 +17,15 @@ const AT_65536: Held = Held::Number(65_536);
 
 const AT_BEFORE_LIMIT: Held = Held::Number(281_474_976_710_654);
 
-/// The packet of number 1, which the transmitter makes of a request, and the ticks that it passes
-/// as.
+/// The packet of number 1, which the transmitter makes of a request. The next two lines are what
+/// the receiver sends for it if it passes, and if it is refused.
 const PACKET: &[u8] = b"+01030000000ac5cd\n-3\n+0001014c5b8d33c6d29a347013b0\n-47\n";
 
 const PASSED_LINE: &[u8] = b"-18\n+01030000000ac5cd\n-366\n";
 
 const REFUSED_LINE: &[u8] = b"-18\n+01030000000ac5cc\n-366\n";
 
-/// The packet passes.
+/// A row in which the packet passes.
 const WHOLE: Row = Row {
     dir: Dir::Ab,
     key: KEY,
@@ -39,7 +39,7 @@ const WHOLE: Row = Row {
     slots_now: (AT_0, AT_1),
 };
 
-/// Nothing passes.
+/// A row in which nothing passes.
 const REFUSED: Row = Row {
     out: REFUSED_LINE,
     log: b"refused at 0 tag\n",
@@ -47,8 +47,9 @@ const REFUSED: Row = Row {
     ..WHOLE
 };
 
-// Ticks and notes here were computed from the rules of `docs/LINK.md` by a program in another
-// language, over whole lines; each tag by openssl, as those of the sealed lines.
+// The ticks and notes in these rows were computed from the rules of `docs/LINK.md`, over whole
+// lines, by a program in another language. Each tag is by openssl, as in the tests of the
+// transmitter.
 const CHECKED: [Row; 9] = [
     WHOLE,
     // The last byte of the tag is wrong, so the last byte of the frame leaves spoiled.
@@ -56,7 +57,7 @@ const CHECKED: [Row; 9] = [
         text: b"+01030000000ac5cd\n-3\n+0001014c5b8d33c6d29a347013b1\n-47\n",
         ..REFUSED
     },
-    // A wrong ending isn't spoiled: that might make it right.
+    // A wrong ending isn't spoiled, since that might make it right.
     Row {
         text: b"+01030000000ac5cc\n-4\n",
         out: b"-18\n+01030000000ac5cc\n-306\n",
@@ -70,7 +71,7 @@ const CHECKED: [Row; 9] = [
         log: b"refused at 0 trailer\n",
         ..REFUSED
     },
-    // The packet twice: the second time its word stands for 65,537.
+    // The packet comes twice. The second time its word stands for 65,537.
     Row {
         text: b"+01030000000ac5cd\n-3\n+0001014c5b8d33c6d29a347013b0\n-47\n+01030000000ac5cd\n\
             -3\n+0001014c5b8d33c6d29a347013b0\n-47\n",
@@ -78,12 +79,13 @@ const CHECKED: [Row; 9] = [
         log: b"passed 1 at 0 len 8\nrefused at 72 tag\n",
         ..WHOLE
     },
-    // A byte directly behind the trailer is swallowed.
+    // A byte directly after the trailer is swallowed.
     Row {
         text: b"+01030000000ac5cd\n-3\n+0001014c5b8d33c6d29a347013b000\n-46\n",
         ..WHOLE
     },
-    // 257 bytes without a right ending: the last one isn't live, and the last but one stays.
+    // 257 bytes without a right ending. The last one isn't live, and the one before it leaves as it
+    // came.
     Row {
         text: b"+0000000000000000000000000000000000000000000000000000000000000000\n\
             +0000000000000000000000000000000000000000000000000000000000000000\n\
@@ -135,9 +137,9 @@ const CHECKED: [Row; 9] = [
     },
 ];
 
-/// What is refused for the key, the direction or the number, and at the edges.
+/// What is refused because of the key, the direction or the number, and other edge cases.
 const EDGES: [Row; 8] = [
-    // A pause of two ticks inside a frame: what comes behind it isn't live.
+    // A pause of two ticks inside a frame: what comes after it isn't live.
     Row {
         text: b"+010300\n-2\n+00000ac5cd\n-3\n+0001014c5b8d33c6d29a347013b0\n-40\n",
         out: b"-18\n+010300\n-366\n",
@@ -153,7 +155,7 @@ const EDGES: [Row; 8] = [
         key: b"000102030405060708090a0b0c0d0e0e",
         ..REFUSED
     },
-    // A burst that starts while the bytes of the one before still leave.
+    // A burst that starts while bytes of the one before are still leaving.
     Row {
         text: b"+01030000000ac5cc\n-4\n+010300000001840a\n-40\n+01030000000ac5cd\n-3\n\
             +0001014c5b8d33c6d29a347013b0\n-40\n",
@@ -168,7 +170,7 @@ const EDGES: [Row; 8] = [
         slots_now: (AT_0, AT_65536),
         ..WHOLE
     },
-    // The greatest number, and none behind it.
+    // The greatest number, after which there is none.
     Row {
         slots: (AT_BEFORE_LIMIT, NOTHING),
         text: b"+01030000000ac5cd\n-3\n+ffff710643be303e9adae9527b89\n-47\n",
@@ -200,7 +202,7 @@ fn checks_links_at_the_edges(rt: HostRuntime) -> Result<(), Fail> {
     compare_all(&rt, rt.alloc(), BoxKind::CheckRtu, &EDGES)
 }
 
-/// Three requests, as they were sealed and stood on a link.
+/// A row with three requests on a link, as they were sealed.
 const EXCHANGE: Row = Row {
     text: b"+01030000000ac5cd\n-3\n+0001014c5b8d33c6d29a347013b0\n-40\n+010300000001840a\n-3\n\
         +0002ee5b1d1d6fc159af2411aeb5\n-40\n+1103006b00037687\n-3\n\
@@ -214,7 +216,7 @@ const EXCHANGE: Row = Row {
 /// The recorded link as it was, and altered by hand in seven ways.
 const ALTERED: [Row; 8] = [
     EXCHANGE,
-    // In the first request 0b for 0a, so that it asks for one register more.
+    // 0b in place of 0a in the first request, so that it asks for one more register.
     Row {
         text: b"+01030000000bc5cd\n-3\n+0001014c5b8d33c6d29a347013b0\n-40\n+010300000001840a\n\
             -3\n+0002ee5b1d1d6fc159af2411aeb5\n-40\n+1103006b00037687\n-3\n\
@@ -254,7 +256,7 @@ const ALTERED: [Row; 8] = [
         slots_now: (AT_0, AT_2),
         ..EXCHANGE
     },
-    // The first packet comes again behind itself.
+    // The first packet comes twice.
     Row {
         text: b"+01030000000ac5cd\n-3\n+0001014c5b8d33c6d29a347013b0\n-40\n+01030000000ac5cd\n\
             -3\n+0001014c5b8d33c6d29a347013b0\n-40\n+010300000001840a\n-3\n\
@@ -290,8 +292,8 @@ fn notes_how_a_link_was_altered(rt: HostRuntime) -> Result<(), Fail> {
     compare_all(&rt, rt.alloc(), BoxKind::CheckRtu, &ALTERED)
 }
 
-/// Seven packets, 100 ticks apart: of the second a byte is altered, the third comes twice, and the
-/// sixth before the fifth.
+/// Seven packets, 100 ticks apart. The one with number 2 has an altered byte, the one with number 3
+/// comes twice, and the one with number 6 comes before the one with number 5.
 const SEVEN_PACKETS: &[u8] =
     b"+01030000000ac5cd\n-3\n+0001014c5b8d33c6d29a347013b0\n-75\n+010300000001840b\n-3\n\
         +0002ee5b1d1d6fc159af2411aeb5\n-75\n+1103006b00037687\n-3\n\
@@ -345,8 +347,8 @@ const THREE_NOTES: [&[u8]; 4] = [
     b"passed 1 at 0 len 8\npassed 2 at 29 len 8\npassed 3 at 58 len 8\n",
 ];
 
-/// What is answered of three packets up to the tick of the last byte of the first trailer, of the
-/// second and of the third, and up to the end.
+/// What the receiver sends for three packets before the tick of the last byte of the first trailer,
+/// of the second and of the third, and up to the end.
 const BEFORE_ONE: &[u8] = b"-18\n+01030000000a\n";
 
 const BEFORE_TWO: &[u8] = b"-18\n+01030000000ac5cd\n-21\n+010300000001\n";
@@ -382,7 +384,7 @@ fn a_failed_call_of_the_disk_passes_no_number_twice(rt: HostRuntime) -> Result<(
     )
 }
 
-/// Nothing is written but the fault line.
+/// A row in which nothing is written but the fault line.
 const UNTOUCHED: Row = Row {
     status: Status::ReadFault,
     exit_status: 5,
@@ -392,7 +394,8 @@ const UNTOUCHED: Row = Row {
     ..WHOLE
 };
 
-/// The packet passes, without the silence of a whole input, and then something fails.
+/// A row in which the packet passes, and then something fails. The silence after a whole input
+/// doesn't come.
 const CUT_SHORT: Row = Row {
     status: Status::ReadFault,
     exit_status: 5,
@@ -438,7 +441,7 @@ const NOT_DONE: [Row; 7] = [
         log: b"passed 1 at 0 len 8\nfault: line 5 char\n",
         ..CUT_SHORT
     },
-    // The first read gives the whole text, the next one fails.
+    // The first read gives the whole text, and the next one fails.
     Row {
         failing: Failing { input: 2, ..STEADY },
         ..CUT_SHORT
@@ -453,7 +456,7 @@ const NOT_DONE: [Row; 7] = [
         failing: Failing { out: 1, ..STEADY },
         ..WRITE_FAULT
     },
-    // The flush.
+    // The flush of the output fails.
     Row {
         failing: Failing { out: 2, ..STEADY },
         out: PASSED_LINE,

@@ -7,10 +7,10 @@ use replay_status::Status;
 use std::alloc::{AllocError, Global};
 use std::test::Fail;
 
-/// A packet of number 1, of a frame without user data.
+/// The packet of number 1 for a frame without user data.
 const PACKET: &[u8] = b"+056405c001000004e921\n-3\n+0001793484b9bdf858bbd82b559e\n-47\n";
 
-/// That frame is sealed. The tags here are by openssl:
+/// A row in which the frame of `PACKET` is sealed. The tags in this file are by openssl:
 ///   printf 0200056405c001000004e9210000000000000001 | xxd -r -p
 ///     | openssl dgst -sha1 -mac HMAC -macopt hexkey:000102030405060708090a0b0c0d0e0f
 ///     | cut -c1-24
@@ -27,8 +27,8 @@ const SEALED: Row = Row {
     slots_now: (AT_0, AT_1),
 };
 
-// Ticks and notes here were computed from the rules of `docs/LINK.md` and `docs/DNP3.md` by a
-// program in another language, over whole lines.
+// The ticks and notes in these rows were computed from the rules of `docs/LINK.md` and
+// `docs/DNP3.md`, over whole lines, by a program in another language.
 const SEALS: [Row; 5] = [
     SEALED,
     Row {
@@ -84,7 +84,7 @@ fn seals_frames_of_dnp3(rt: HostRuntime) -> Result<(), Fail> {
     compare_all(&rt, rt.alloc(), BoxKind::SealDnp, &SEALS)
 }
 
-/// The packet passes.
+/// A row in which the packet passes.
 const PASSED: Row = Row {
     text: PACKET,
     out: b"-18\n+056405c001000004e921\n-366\n",
@@ -92,7 +92,7 @@ const PASSED: Row = Row {
     ..SEALED
 };
 
-/// Nothing passes.
+/// A row in which nothing passes.
 const REFUSED: Row = Row {
     log: b"refused at 0 trailer\n",
     slots_now: FRESH,
@@ -139,7 +139,8 @@ const CHECKS: [Row; 10] = [
         log: b"passed 1 at 0 len 292\n",
         ..PASSED
     },
-    // A header alone that says 292 bytes: it is filled, and all that comes meanwhile is dropped.
+    // Only a header, which says 292 bytes. It is filled up to these, and all that comes meanwhile
+    // is dropped.
     Row {
         text: b"+0564ffc4010000042727\n-90\n+056405c001000004e921\n-3\n\
             +0001793484b9bdf858bbd82b559e\n-183\n+056405c001000004e921\n-3\n\
@@ -165,7 +166,7 @@ const CHECKS: [Row; 10] = [
         log: b"dropped at 0 head\n",
         ..REFUSED
     },
-    // The bad header with a silent tick behind each byte: the first byte would leave in the very
+    // A bad header with a silent tick after each byte. Its first byte would leave in the very
     // step in which the tenth comes.
     Row {
         text: b"+05\n-1\n+64\n-1\n+05\n-1\n+c0\n-1\n+01\n-1\n+00\n-1\n+00\n-1\n+04\n-1\n+e9\n-1\n\
@@ -174,14 +175,14 @@ const CHECKS: [Row; 10] = [
         log: b"dropped at 0 head\n",
         ..REFUSED
     },
-    // Three bytes that no frame begins with, and too short for a header.
+    // Three bytes with which no frame begins, and which are too few for a header.
     Row {
         text: b"+ffff05\n-4\n",
         out: b"-327\n",
         log: b"dropped at 0 head\n",
         ..REFUSED
     },
-    // A frame whose last CRC is 0000, without it: a fill of 00 alone would make it whole.
+    // A frame without its last CRC, which is 0000. A fill of nothing but 00 would make it whole.
     Row {
         text: b"+056409c401000004437ac0c17f03\n-4\n",
         out: b"-18\n+056409c401000004437ac0c17f030001\n-304\n",
@@ -203,7 +204,7 @@ fn checks_packets_of_dnp3(rt: HostRuntime) -> Result<(), Fail> {
     compare_all(&rt, rt.alloc(), BoxKind::CheckDnp, &CHECKS)
 }
 
-/// What a device reads behind the receiver, by the places of the rows in the table above.
+/// What a device behind the receiver reads, for each row of `CHECKS` in turn.
 const FRAMES: [&[u8]; 10] = [
     b"read at 18 056405c001000004e921\n",
     b"",
@@ -257,7 +258,7 @@ const LARGEST: [u8; 292] = [
 
 const DIGITS: &[u8; 16] = b"0123456789abcdef";
 
-// The first bytes of the longest frame, silence up to tick 700, and there a packet.
+// The first `len` bytes of the longest frame, silence up to tick 700, and a packet from there on.
 fn cut_at(alloc: Global, len: usize) -> Result<Vec<u8>, AllocError> {
     let mut text = Vec::new(alloc);
     for byte in LARGEST.iter().take(len) {
@@ -273,8 +274,8 @@ fn cut_at(alloc: Global, len: usize) -> Result<Vec<u8>, AllocError> {
     Ok(text)
 }
 
-// The longest frame cut at every length: what is refused is filled, so that the device is ready for
-// the packet behind it.
+// The longest frame, cut at every length. A refused frame is filled, so that the device is ready
+// for the packet after it.
 #[test]
 fn a_cut_frame_costs_no_other(rt: HostRuntime) -> Result<(), Fail> {
     for len in 1..292 {

@@ -1,5 +1,5 @@
-//! How many turns a packet takes each box of the program, and how often the program reads and
-//! writes. No clause says that a run is taken at once, nor how much a call reads or writes.
+//! Tests of how many turns each box of the program needs for a packet, and how often the program
+//! writes. No contract says that a run is taken at once, nor how much a call writes.
 ghost use Rattle.std.specs.Prelude.{◌≡◌, ℕ, ◌+◌, ◌<◌, ◌≤◌, length, IfOk, OnOk, None, Some};
 ghost use Rattle.yasir_io.specs.Steady.{steady_slots};
 ghost use Rattle.link_box.specs.Links.{AreLinks};
@@ -27,13 +27,13 @@ use std::test::Fail;
 use yasir_io::{Failed, Sink, SteadySlots, SteadySource};
 use yasir_ticks::{Tick, TickRun};
 
-/// A box that takes ticks that are alike, as many as it can at once.
+/// A box that takes ticks that are all bytes or all silence, as many of them at once as it can.
 trait Turning: Drop {
     ghost taken: { Self → ℕ };
 
     ghost able: { Self → Type 0 };
 
-    /// Takes the first of these bytes, one at least, and returns how many.
+    /// Takes the first of these bytes, at least one, and returns how many.
     fn turn_bytes(&mut self, bytes: &[u8]) -> Result<usize, Fail>
         requires able { able self.old }
         requires some { 0 < length bytes.now }
@@ -43,7 +43,7 @@ trait Turning: Drop {
         ensures within { IfOk result (λ count. count ≤ length bytes.now) }
         ensures taken { IfOk result (λ count. taken self.new ≡ taken self.old + count) };
 
-    /// Takes the first of these silent ticks, one at least, and returns how many.
+    /// Takes the first of these silent ticks, at least one, and returns how many.
     fn turn_silence(&mut self, ticks: u32) -> Result<u32, Fail>
         requires able { able self.old }
         requires some { 0 < ticks }
@@ -63,7 +63,7 @@ struct Journaled<B> {
 }
 
 impl<B: LineBox> Journaled<B> {
-    // A box that has taken no tick, over a journal at 0.
+    // A box that has taken no tick, over a journal with floor 0.
     fn new() -> Result<Journaled<B>, Fail>
         requires widths { B.widths_fit }
         requires links { AreLinks B.link_in }
@@ -172,7 +172,8 @@ impl<X: FrameBox> Turning for Shown<X> {
     }
 }
 
-// What a box takes at once of letters that are alike, of which a point is silence.
+// Gives a box letters that are all points, which are silence, or all bytes. Returns how many it
+// took at once.
 fn turn<X: Turning>(line_box: &mut X, part: &[u8]) -> Result<usize, Fail>
     requires able { X.able line_box.old }
     requires some { 0 < length part.now }
@@ -191,7 +192,7 @@ fn turn<X: Turning>(line_box: &mut X, part: &[u8]) -> Result<usize, Fail>
     }
 }
 
-// How many turns a line takes a box that has taken nothing.
+// How many turns a box that has taken nothing needs for a line.
 fn turns<X: Turning>(rt: &impl Abort, line_box: &mut X, line: &[u8]) -> Result<usize, Fail>
     requires able { X.able line_box.old }
     requires begun { X.taken line_box.old ≡ 0 }
@@ -209,8 +210,8 @@ fn turns<X: Turning>(rt: &impl Abort, line_box: &mut X, line: &[u8]) -> Result<u
     Ok(turns)
 }
 
-// These ticks and as much silence as a trailer or the receiver's delay needs, and more, take a box
-// this many turns at most.
+// Checks that a box takes these ticks, and more silence after them than a trailer or the receiver's
+// delay needs, in at most `most` turns.
 fn takes<X: Turning>(
     rt: &impl Abort,
     alloc: Global,
@@ -231,12 +232,12 @@ fn takes<X: Turning>(
 
 const RTU_FRAME: &[u8] = b"\x01\x03\x00\x00\x00\x0a\xc5\xcd";
 
-// Behind a frame so little silence that its trailer is still on its way as the next burst begins.
+// A frame, and a burst that begins while the trailer of the frame is still being sent.
 const EARLY_BURST: &[u8] = b"\x01\x03\x00\x00\x00\x0a\xc5\xcd......AAAAAAAAAAAAAAAAAAAA";
 
 const DNP_FRAME: &[u8] = b"\x05\x64\x05\xc0\x01\x00\x00\x04\xe9\x21";
 
-// A transmitter takes these ticks in this many turns at most.
+// Checks that a transmitter takes these ticks in at most `most` turns.
 fn seals(
     rt: &impl Abort,
     alloc: Global,
@@ -264,7 +265,7 @@ fn seals(
     }
 }
 
-// A receiver takes these ticks in this many turns at most.
+// Checks that a receiver takes these ticks in at most `most` turns.
 fn checks(
     rt: &impl Abort,
     alloc: Global,
@@ -292,7 +293,8 @@ fn checks(
     }
 }
 
-// The frame of a packet, this many silent ticks and a burst of this many bytes, at a transmitter.
+// Checks that a transmitter takes the frame of a packet, `pause` silent ticks and a burst of
+// `count` bytes in at most `most` turns.
 fn seals_frame(
     rt: &impl Abort,
     alloc: Global,
@@ -307,7 +309,8 @@ fn seals_frame(
     seals(rt, alloc, link, line.as_slice(), most)
 }
 
-// A packet and a burst of this many bytes that joins it, at a receiver.
+// Checks that a receiver takes a packet and a burst of `count` bytes that joins it in at most
+// `most` turns.
 fn checks_packet(
     rt: &impl Abort,
     alloc: Global,
@@ -320,7 +323,8 @@ fn checks_packet(
     checks(rt, alloc, link, line.as_slice(), most)
 }
 
-// The frame of a packet, this many silent ticks and a burst of this many bytes, at a receiver.
+// Checks that a receiver takes the frame of a packet, `pause` silent ticks and a burst of `count`
+// bytes in at most `most` turns.
 fn checks_frame(
     rt: &impl Abort,
     alloc: Global,
@@ -335,13 +339,13 @@ fn checks_frame(
     checks(rt, alloc, link, line.as_slice(), most)
 }
 
-// A frame is forwarded at once, and so are the silent ticks behind it but for the one that closes
-// it, which goes alone; then the trailer goes out at once, and then there is silence.
+// These take one turn each: the frame, the silence after it up to the tick that closes it, that
+// tick, the trailer, and the silence after the trailer.
 const TURNS_OF_A_FRAME: usize = 5;
 
-// The first byte of an early burst goes alone, and the others are a run. The tick that closes a
-// burst goes alone, and the silence up to it and behind it are runs. So there are five turns more,
-// and one more where a part of the trailer goes out before the burst or behind it.
+// An early burst takes four turns more than there are without it: its first byte, its other bytes,
+// the silence up to the tick that closes it, and this tick. It takes a fifth one if it divides the
+// trailer, or the silence after it.
 const TURNS_OF_AN_EARLY_BURST: usize = 10;
 
 #[test]
@@ -357,33 +361,33 @@ fn bursts_that_are_not_sealed_take_few_turns(rt: HostRuntime) -> Result<(), Fail
     for link in LINKS {
         let packet = packet_of(link);
         let behind = packet.len() + 1 - alike(packet, 1000).min(packet.len());
-        // Early, while the trailer goes out, and behind it.
+        // A burst that is early while the trailer goes out, and one that is early after it.
         seals_frame(&rt, rt.alloc(), link, 6, 8, TURNS_OF_AN_EARLY_BURST)?;
         seals_frame(&rt, rt.alloc(), link, behind, 4, TURNS_OF_AN_EARLY_BURST)?;
-        // Bytes that join the frame and aren't live are a run more.
+        // Bytes that join the frame and aren't live are one more run.
         seals_frame(&rt, rt.alloc(), link, 2, 5, 6)?;
     }
     Ok(())
 }
 
-// The frame's bytes come while nothing leaves, and so do the silent ticks behind it and the first
-// bytes of the trailer; with the others but the last one the frame leaves. The trailer's last byte
-// brings the verdict and goes alone, as does the tick in which the frame's last byte leaves; then
-// there is silence.
+// Three runs are taken while nothing leaves: the frame's bytes, the silent ticks after them, and
+// the first bytes of the trailer. The next bytes of the trailer are a run while the frame leaves.
+// Two ticks go alone: the trailer's last byte, which brings the verdict, and the tick in which the
+// frame's last byte leaves. The silence after them is the last run.
 const TURNS_OF_A_PACKET: usize = 7;
 
 #[test]
 fn packets_are_checked_in_few_turns(rt: HostRuntime) -> Result<(), Fail> {
     for link in LINKS {
         checks_packet(&rt, rt.alloc(), link, 0, TURNS_OF_A_PACKET)?;
-        // Bytes that join it are a run more.
+        // Bytes that join the packet are one more run.
         checks_packet(&rt, rt.alloc(), link, 200, TURNS_OF_A_PACKET + 1)?;
     }
     Ok(())
 }
 
-// Silence comes in place of the trailer, in as many turns. A burst that comes too soon goes with
-// its first byte alone, for its note, and is a run.
+// Silence in place of the trailer takes as many turns as the trailer. A burst that comes too soon
+// takes two more: its first byte goes alone, because of its note, and the others are a run.
 #[test]
 fn bursts_that_do_not_pass_take_few_turns(rt: HostRuntime) -> Result<(), Fail> {
     for link in LINKS {
@@ -397,7 +401,7 @@ type ShownSealer<R> = SealedFrames<R, HmacSha1, 2, SteadySlots>;
 
 type ShownChecker<R> = ShownFrames<Checker<R, HmacSha1, 2, 18>, R, SteadySlots>;
 
-// The boxes of `replay` take as many.
+// The boxes of `replay` need no more turns than those of `seal` and `check`.
 #[test]
 fn frames_and_packets_take_the_boxes_of_replay_few_turns(rt: HostRuntime) -> Result<(), Fail> {
     let (rt, alloc) = (&rt, rt.alloc());
@@ -413,12 +417,12 @@ fn frames_and_packets_take_the_boxes_of_replay_few_turns(rt: HostRuntime) -> Res
     takes(rt, alloc, line_box, DNP_PACKET, TURNS_OF_A_PACKET)
 }
 
-/// How many boxes of a kind wait through a run of silence, one after the other. It is as long as a
-/// run can be, some 4,000,000,000 ticks, so that a body that takes it tick by tick inside one call
-/// doesn't come to an end in the time that a test has.
+/// How many boxes of each kind wait through a run of silence, one after the other. It is as long as
+/// a run can be, some 4,000,000,000 ticks, so that a body that takes it tick by tick inside one
+/// call doesn't end in the time that a test has.
 const WAITING: u32 = 25;
 
-// A box that has taken nothing takes a run of silence at once.
+// Checks that a box that has taken nothing takes a run of silence at once.
 fn waits<X: Turning>(rt: &impl Abort, mut line_box: X) -> Result<(), Fail>
     requires able { X.able line_box }
     requires begun { X.taken line_box ≡ 0 }
@@ -484,16 +488,16 @@ impl Sink for CountedSink {
 /// How many requests are sealed.
 const REQUESTS: u64 = 7000;
 
-/// How many bytes the link has for each of them: a line of 18 bytes, `-3`, a line of 30 and one of
-/// silence.
+/// How many bytes of text the link has for each request: a line of 18 bytes, `-3`, a line of 30,
+/// and one of silence.
 const LINK_TEXT: u64 = 18 + 3 + 30 + 4;
 
-/// So many bytes wait at least as a buffer is written: 65,536 less a line, the longest of which, a
-/// note's, has 80.
+/// How many bytes at least wait when a buffer is written: 65,536 less the longest line, which is
+/// that of a note and has 80.
 const LEAST_WRITTEN: u64 = 65_536 - 80;
 
-// Text goes out by full buffers, and by what is left at the end. Before ticks go out the notes that
-// wait do.
+// Text goes out in full buffers, and at the end what is left goes out. The notes that wait go out
+// before ticks do.
 #[test]
 fn text_goes_out_by_full_buffers(rt: HostRuntime) -> Result<(), Fail> {
     let mut text = Vec::new(rt.alloc());

@@ -1,7 +1,7 @@
 //! Tests of the libraries under the program: recorded lines as a device reads them, as the
 //! transmitter seals them, and as the receiver checks them.
 //!
-//! Its calls are used by its own tests alone:
+//! Its functions are used only by its own tests:
 //!
 //!     has_read::<RtuDevice>(&rt, alloc, &line, &frames)?;
 #![tactic(auto)]

@@ -5,11 +5,12 @@ use hmac_tag::Dir;
 use replay_status::Status;
 use std::test::Fail;
 
-/// How many bursts the line has: the text of its link is longer than what waits for a sink at most.
+/// How many bursts the line has. The text of its link is longer than what can wait for a sink.
 const BURSTS: usize = 1500;
 
-// The first write of ticks comes as a whole buffer of them waits. It fails here, as if the program
-// were killed then: the log has the notes of all the trailers that wait with them.
+// The first write of ticks comes when a whole buffer of them waits. It fails here, as if the
+// program were killed then. By then the log has the notes of all the trailers among the ticks that
+// wait.
 #[test]
 fn notes_go_to_the_log_before_ticks_go_out(rt: HostRuntime) -> Result<(), Fail> {
     let mut text = Vec::new(rt.alloc());
@@ -34,7 +35,7 @@ fn notes_go_to_the_log_before_ticks_go_out(rt: HostRuntime) -> Result<(), Fail> 
             .held()
             .starts_with(b"sealed 1 at 0 len 8\nsealed 2 at 48 len 8\n")
     );
-    // at least 74 bursts and their trailers fit into what waits; a note has at least 20 bytes
+    // at least 74 bursts and their trailers fit into what waits, and a note has at least 20 bytes
     assert!(rt; ran.log.held().len() >= 74 * 20);
     Ok(())
 }

@@ -1,8 +1,9 @@
 //! Which calls fail in a test, and how many bytes a call moves.
 use yasir_io::Plan;
 
-/// What fails outside: the call of the key, the input, the output, the log and the disk, counted
-/// from 1, or none where it is 0, and the most bytes that a call moves.
+/// What fails outside: for the key, the input, the output, the log and the disk the number of the
+/// call that fails, counted from 1, or 0 if none does. `piece` is how many bytes a call moves at
+/// most.
 #[derive(Clone, Copy, Drop)]
 pub struct Failing {
     pub piece: u16,
@@ -24,7 +25,7 @@ pub const STEADY: Failing = Failing {
 
 pub const BYTE_BY_BYTE: Failing = Failing { piece: 1, ..STEADY };
 
-/// This call fails, and none where it is 0.
+/// A plan by which this call fails, or no call if it is 0.
 pub fn plan(call: u32) -> Plan {
     let mut plan = Plan::new();
     if call > 0 {

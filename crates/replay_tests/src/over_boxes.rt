@@ -47,7 +47,7 @@ pub type Numbers = (Held, Held);
 
 pub const FRESH: Numbers = (AT_0, NOTHING);
 
-/// A box of the program: what its words ask for.
+/// A box of the program, which the program's words ask for.
 #[derive(Clone, Copy, Drop)]
 pub enum BoxKind {
     SealRtu,
@@ -81,7 +81,7 @@ fn link_of(kind: BoxKind, dir: Dir) -> LinkId
     }
 }
 
-/// A slot that holds this for a link.
+/// The bytes of a slot that holds this for a link.
 pub fn slot_at(held: Held, link: &LinkId) -> [u8; 24]
     requires { IsLink link.now }
 {
@@ -94,7 +94,8 @@ pub fn slot_at(held: Held, link: &LinkId) -> [u8; 24]
 
 const BLANK: [u8; 16] = [0; 16];
 
-// A disk whose slots hold this for a link, the old ones being blank.
+// A disk whose slots A and B hold this for a link, and whose old slots are blank. Call `fail`
+// fails.
 fn disk_of(alloc: Global, slots: Numbers, link: &LinkId, fail: u32) -> Result<MemSlots, Fail>
     requires { IsLink link.now }
 {
@@ -112,7 +113,7 @@ pub struct Ran {
     pub disk: MemSlots,
 }
 
-/// A recorded line, what fails as a box takes it, and what comes of it.
+/// A recorded line, what fails while a box takes it, and the results that are expected.
 #[derive(Clone, Copy, Drop)]
 pub struct Row {
     pub dir: Dir,
@@ -127,7 +128,7 @@ pub struct Row {
     pub slots_now: Numbers,
 }
 
-// The line of this text through a box with this key, with the fault line behind its notes.
+// Runs a box with this key over the line of this text. The fault line follows the notes in the log.
 fn replay_by<B: LineBox>(
     alloc: Global,
     rest: u32,
@@ -165,8 +166,8 @@ fn replay_by<B: LineBox>(
     })
 }
 
-/// The line of this text through a box with this key, with the fault line behind its notes. The
-/// silent ticks behind a whole input are as many as the program has.
+/// Runs a box of the program with this key over the line of this text. The fault line follows the
+/// notes in the log. As many silent ticks follow a whole input as in the program.
 pub fn replay(
     alloc: Global,
     kind: BoxKind,
@@ -218,19 +219,19 @@ pub fn replay_on(
     }
 }
 
-// A disk's slots hold this for the link of a box.
+// Checks that a disk's slots hold this for the link of a box.
 fn has_slots(rt: &impl Abort, disk: &MemSlots, slots: Numbers, kind: BoxKind, dir: Dir) {
     let link = link_of(kind, dir);
     assert!(rt; disk.slot(Slot::A) == slot_at(slots.0, &link));
     assert!(rt; disk.slot(Slot::B) == slot_at(slots.1, &link));
 }
 
-/// The sink holds these bytes.
+/// Checks that the sink holds these bytes.
 pub fn holds(rt: &impl Abort, sink: &MemSink, bytes: &[u8]) {
     assert_eq!(rt; sink.held(), bytes);
 }
 
-/// A row comes out as it says.
+/// Runs a box over the line of a row, and checks that the results are those of the row.
 pub fn compare(rt: &impl Abort, alloc: Global, kind: BoxKind, row: &Row) -> Result<(), Fail> {
     let ran = replay(
         alloc,
@@ -249,7 +250,7 @@ pub fn compare(rt: &impl Abort, alloc: Global, kind: BoxKind, row: &Row) -> Resu
     Ok(())
 }
 
-/// The rows come out as they say.
+/// Runs a box over the line of each row, and checks that the results are those of the row.
 pub fn compare_all(
     rt: &impl Abort,
     alloc: Global,
@@ -265,7 +266,8 @@ pub fn compare_all(
 /// A link, the notes on it, and the frames that a device behind the receiver reads.
 pub type Reading = (&'static [u8], &'static [u8], &'static [u8]);
 
-/// A device behind the receiver reads these frames of a link with these notes.
+/// Checks that a receiver notes this on a link, and that a device behind the receiver reads these
+/// frames.
 pub fn has_passed<D: Device + Drop>(
     rt: &impl Abort,
     alloc: Global,
@@ -290,11 +292,11 @@ fn floor_of(a: [u8; 24], b: [u8; 24], link: &LinkId) -> Option<u64>
     }
 }
 
-/// The call of the disk that fails, what is answered, how many of the notes are written, and the
-/// floor that a later run loads.
+/// Which call of the disk fails, what the box sends, how many notes are written, and the floor that
+/// a later run loads.
 pub type DiskFault = (u32, &'static [u8], usize, u64);
 
-// The log has these notes, and the fault line behind them where the journal failed.
+// The text of the log: these notes, and the fault line after them if the journal failed.
 fn log_of(alloc: Global, notes: &[u8], has_failed: bool) -> Result<Vec<u8>, Fail> {
     let mut log = notes.to_vec(alloc)?;
     if has_failed {
@@ -303,7 +305,8 @@ fn log_of(alloc: Global, notes: &[u8], has_failed: bool) -> Result<Vec<u8>, Fail
     Ok(log)
 }
 
-// A later run loads this floor. Where a sync failed, the slot that was written may be torn.
+// Checks that a later run loads this floor. If a sync failed, the slot that was written may be
+// torn, and the floor before it is loaded.
 fn loads(rt: &impl Abort, disk: &MemSlots, link: &LinkId, call: u32, floor: u64)
     requires { IsLink link.now }
 {
@@ -343,9 +346,9 @@ fn fail_call(
     Ok(())
 }
 
-/// A line of three frames, from a fresh journal on, in whose run each call of the disk fails in
-/// turn: a journal is loaded with four calls, and each number costs a write and a sync. `notes` are
-/// those of none of the frames, of one, of two and of all.
+/// Runs a box over a line of three frames, with a fresh journal, and lets each call of the disk
+/// fail in turn. A journal is loaded with four calls, and each number costs a write and a sync.
+/// `notes` has the notes on none of the frames, on one, on two and on all three.
 pub fn fail_each_call(
     rt: &impl Abort,
     alloc: Global,

@@ -29,7 +29,7 @@ pub enum Link {
     WideDnp,
 }
 
-/// All of them.
+/// All links.
 pub const LINKS: [Link; 4] = [Link::Rtu, Link::Dnp, Link::WideRtu, Link::WideDnp];
 
 /// The packet of number 1.

@@ -1,4 +1,5 @@
-//! Tests of a Modbus RTU device over recorded lines, and the calls that read a line in a test.
+//! Tests of a Modbus RTU device over recorded lines, and the functions with which tests read a
+//! line.
 use crate::outside::{BYTE_BY_BYTE, Failing, STEADY, plan};
 use crate::over_boxes::holds;
 use device_model::{Device, RtuDevice};
@@ -11,7 +12,7 @@ use tick_drive::TooMuch;
 use yasir_io::{MemSink, MemSource, Sink};
 use yasir_ticks::{BadTicks, TickFault};
 
-/// A request and silence behind it, and the line that is printed of it.
+/// A request and the silence after it. `REQUEST_LINE` is the line that is printed for it.
 const REQUEST: &[u8] = b"+01030000000ac5cd\n-4\n";
 
 const REQUEST_LINE: &[u8] = b"read at 0 01030000000ac5cd\n";
@@ -24,12 +25,12 @@ pub struct Ran {
     pub log: MemSink,
 }
 
-/// What a Modbus RTU device reads of this text, with the fault line behind it.
+/// Prints what a Modbus RTU device reads of this text, and then the fault line.
 pub fn read(rt: &impl Abort, alloc: Global, text: &[u8], outside: &Failing) -> Result<Ran, Fail> {
     read_by::<RtuDevice>(rt, alloc, text, outside)
 }
 
-/// What a device reads of this text, with the fault line behind it.
+/// Prints what a device reads of this text, and then the fault line.
 pub fn read_by<D: Device + Drop>(
     rt: &impl Abort,
     alloc: Global,
@@ -46,7 +47,7 @@ pub fn read_by<D: Device + Drop>(
     Ok(Ran { status, out, log })
 }
 
-/// A device reads these frames of a line.
+/// Checks that a device reads these frames of a line.
 pub fn has_read<D: Device + Drop>(
     rt: &impl Abort,
     alloc: Global,
@@ -59,7 +60,7 @@ pub fn has_read<D: Device + Drop>(
     Ok(())
 }
 
-/// A text, what fails as it is read, and what comes of it.
+/// A text, what fails while it is read, and the results that are expected.
 #[derive(Clone, Copy, Drop)]
 struct Row {
     text: &'static [u8],
@@ -79,7 +80,8 @@ fn check(rt: &impl Abort, alloc: Global, row: &Row, outside: &Failing) -> Result
     Ok(())
 }
 
-// The rows come out as they say, in pieces of up to 512 bytes and byte by byte.
+// Checks that the results are those of the row, for each row, with calls that move up to 512 bytes
+// and with calls that move one.
 fn check_all(rt: &impl Abort, alloc: Global, rows: &[Row]) -> Result<(), Fail> {
     for row in rows {
         check(rt, alloc, row, &STEADY)?;
@@ -185,7 +187,8 @@ fn with_millions(alloc: Global, before: &[u8], behind: &[u8]) -> Result<Vec<u8>,
     Ok(text)
 }
 
-// This many ticks are too much.
+// Checks that this text has too many ticks, `count` of them up to the end of the line that is
+// refused.
 fn is_too_long(
     rt: &impl Abort,
     alloc: Global,
@@ -276,19 +279,19 @@ fn answers_what_failed_outside(rt: HostRuntime) -> Result<(), Fail> {
         // The first read gives the whole text, the next one fails.
         read_fault(failing(512, 2, 0, 0), REQUEST_LINE),
         read_fault(failing(512, 1, 0, 0), b""),
-        // The first read gives the line of the request alone, without the silence behind it.
+        // The first read gives only the line of the request, without the silence after it.
         read_fault(failing(18, 2, 0, 0), b""),
         // The first call on an empty output is its flush.
         write_fault_of(b"", failing(512, 0, 1, 0), b""),
         write_fault_of(REQUEST, failing(512, 0, 1, 0), b""),
-        // A write in the middle of the line, and the flush behind it.
+        // A write in the middle of the line fails, and the flush after the line.
         write_fault_of(REQUEST, failing(10, 0, 2, 0), b"read at 0 "),
         write_fault_of(REQUEST, failing(512, 0, 2, 0), REQUEST_LINE),
-        // The flush of the log.
+        // The flush of the log fails.
         write_fault_of(REQUEST, failing(512, 0, 0, 1), REQUEST_LINE),
         // A read fails, and then the write of the lines so far.
         write_fault_of(REQUEST, failing(512, 2, 1, 0), b""),
-        // The fault line fails, which changes no answer.
+        // The write of the fault line fails, which doesn't change the status.
         Row {
             outside: failing(512, 0, 0, 1),
             ..refused(b"-0", 1, TickFault::Count, b"", b"")
@@ -319,7 +322,7 @@ fn long_answer(alloc: Global) -> Result<Vec<u8>, Fail> {
     Ok(lines)
 }
 
-// The call of the output fails, and a front of the lines is written.
+// Checks that a front of the lines is written if call `call` of the output fails.
 fn is_cut(
     rt: &impl Abort,
     alloc: Global,

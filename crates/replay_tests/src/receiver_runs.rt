@@ -1,5 +1,5 @@
-//! Runs of ticks are answered as their single ticks are, whatever their lengths and wherever a link
-//! is cut into them.
+//! Tests that the receiver returns for a run of ticks what it returns for them one by one, whatever
+//! the length of the runs and wherever a link is cut into them.
 ghost use Rattle.std.specs.Prelude.{◌≡◌, ◌+◌, ◌<◌, ◌≤◌, length, OnOk, IfOk};
 ghost use Rattle.link_box.specs.Links.{link_by};
 ghost use Rattle.sequence_journal.specs.Journal.{journal_link, Fits};
@@ -26,7 +26,7 @@ type DnpChecker = Checker<Dnp, HmacSha1, 2, 18>;
 
 type WideRtuChecker = Checker<Rtu, HmacSha256, 4, 24>;
 
-// How many of the first letters are all silence or all bytes, and this many at most.
+// How many of the first letters are all silence or all bytes, at most `most`.
 pub fn alike(link: &[u8], most: usize) -> usize
     ensures { result ≤ length link.now }
 {
@@ -41,7 +41,7 @@ pub fn alike(link: &[u8], most: usize) -> usize
     link.len()
 }
 
-// What the receiver takes of letters that are alike, as a run.
+// Gives the receiver letters that are all silence or all bytes, as a run. Returns how many it took.
 fn pass<R: LineRules, M: Mac, const B: usize, const D: usize>(
     checker: &mut Checker<R, M, B, D>,
     part: &[u8],
@@ -58,7 +58,8 @@ fn pass<R: LineRules, M: Mac, const B: usize, const D: usize>(
     }
 }
 
-// Whether this many ticks have no note, and are these bytes, or silence where there are none.
+// Whether the first `count` of these steps have no note, and return the bytes `sent`, or silence if
+// there are none.
 fn are_answered(wanted: &[BoxStep<CheckNote>], count: usize, sent: &[u8]) -> bool {
     if !sent.is_empty() && sent.len() != count {
         return false;
@@ -76,8 +77,8 @@ fn are_answered(wanted: &[BoxStep<CheckNote>], count: usize, sent: &[u8]) -> boo
     true
 }
 
-// Takes letters that are alike as a run, as far as the receiver does so, or else the first of them
-// by a step. Returns how many it took, each of them as wanted.
+// Gives the receiver letters that are all silence or all bytes: as a run or, if it takes none so,
+// the first one by a step. Checks that it returns what is wanted. Returns how many letters it took.
 fn take<R: LineRules, M: Mac, S: SlotDisk, const B: usize, const D: usize>(
     rt: &impl Abort,
     checker: &mut Checker<R, M, B, D>,
@@ -110,9 +111,9 @@ fn take<R: LineRules, M: Mac, S: SlotDisk, const B: usize, const D: usize>(
     Ok(1)
 }
 
-// Compares a receiver that takes a link by runs with the steps of one that takes it tick by tick.
-// One run ends at the cut, and those behind it have this many ticks at most. Returns how many runs
-// and single steps it took.
+// Compares a receiver that takes a link by runs with the steps of one that takes it tick by tick. A
+// run ends at the cut, and those after it have at most `most` ticks. Returns how many runs and
+// single steps it took.
 fn follow<R: LineRules, M: Mac, S: SlotDisk, const B: usize, const D: usize>(
     rt: &impl Abort,
     checker: &mut Checker<R, M, B, D>,
@@ -151,7 +152,7 @@ enum Receiver {
     WideRtu,
 }
 
-// The packet that it lets pass.
+// The packet that this receiver passes.
 fn packet_of(receiver: Receiver) -> &'static [u8] {
     match receiver {
         Receiver::Rtu => RTU_PACKET,
@@ -160,7 +161,8 @@ fn packet_of(receiver: Receiver) -> &'static [u8] {
     }
 }
 
-// What each of them returns for the ticks of a link, and whether its runs come to the same.
+// For each receiver there are two functions: what it returns for the ticks of a link, one by one,
+// and a comparison of that with what it returns for runs.
 fn rtu_steps(alloc: Global, link: &[u8]) -> Result<Vec<BoxStep<CheckNote>>, Fail>
     requires short { length link.now < 1000 }
 {
@@ -300,8 +302,8 @@ fn add(link: &mut Vec<u8>, letter: u8, times: usize) -> Result<(), AllocError> {
     Ok(())
 }
 
-// The first ticks of the packet, this many and one of them wrong, then this many silent ticks, a
-// burst of this many bytes, and silence.
+// The first `kept` ticks of the packet, with the one at place `wrong` altered if it is among them,
+// then `pause` silent ticks, a burst of `count` bytes, and silence.
 pub fn link_of(
     alloc: Global,
     packet: &[u8],
@@ -320,8 +322,8 @@ pub fn link_of(
     Ok(link)
 }
 
-// Compares runs with ticks over such a link, cut at each place, and by runs of each length up to
-// its own.
+// Compares runs with single ticks over a link by `link_of`, with a cut at each place, and with runs
+// of each length up to that of the link.
 fn compare_runs(
     rt: &impl Abort,
     alloc: Global,
@@ -341,7 +343,8 @@ fn compare_runs(
     Ok(())
 }
 
-// Each beginning of the packet, and the whole packet with each of its ticks wrong.
+// Compares runs with single ticks for each beginning of the packet, and for the whole packet with
+// each one of its ticks altered.
 fn compare_trailers(rt: &impl Abort, alloc: Global, receiver: Receiver) -> Result<(), Fail> {
     let whole = packet_of(receiver).len();
     for place in 0..whole {
@@ -351,8 +354,8 @@ fn compare_trailers(rt: &impl Abort, alloc: Global, receiver: Receiver) -> Resul
     Ok(())
 }
 
-// Behind a packet comes a burst that joins it, one that comes too soon, and one in time, some of
-// them longer than a burst has room.
+// Compares runs with single ticks for a packet and a burst after it, which joins it, comes too
+// soon, or comes in time. Some bursts are longer than the room that there is for one.
 fn compare_bursts(rt: &impl Abort, alloc: Global, receiver: Receiver) -> Result<(), Fail> {
     let whole = packet_of(receiver).len();
     for pause in [0, 4, 24] {
@@ -371,7 +374,7 @@ fn compare_silence(rt: &impl Abort, alloc: Global, receiver: Receiver) -> Result
     compare_runs(rt, alloc, receiver, whole, whole, 200, 3)
 }
 
-// Compares all of these.
+// Makes all of these comparisons.
 fn compare_all(rt: &impl Abort, alloc: Global, receiver: Receiver) -> Result<(), Fail> {
     compare_trailers(rt, alloc, receiver)?;
     compare_bursts(rt, alloc, receiver)?;
@@ -394,7 +397,7 @@ fn runs_are_checked_as_their_ticks_by_the_second_profile(rt: HostRuntime) -> Res
 }
 
 // Five runs: the frame, the pause, the trailer's bytes while nothing leaves, those while the frame
-// leaves, and the silence behind. Two single steps: the verdict, and the frame's last byte.
+// leaves, and the silence after them. Two single steps: the verdict, and the frame's last byte.
 #[test]
 fn a_packet_is_taken_in_seven_turns(rt: HostRuntime) -> Result<(), Fail> {
     let link = link_of(

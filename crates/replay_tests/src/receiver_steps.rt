@@ -1,4 +1,4 @@
-//! What the receiver returns for each tick of some links.
+//! Tests of what the receiver returns for each tick of some links.
 ghost use Rattle.std.specs.Prelude.{◌≡◌, ◌<◌, length};
 ghost use Rattle.link_box.specs.Links.{link_by};
 ghost use Rattle.sequence_journal.specs.Journal.{journal_link, Fits};
@@ -16,7 +16,7 @@ use std::test::Fail;
 use yasir_io::{SlotDisk, SteadySlots};
 use yasir_ticks::Tick;
 
-// A tick as the texts here have it: a point is silence.
+// The tick of a letter in the texts here: a point is silence.
 pub fn tick_of(letter: u8) -> Tick {
     match letter {
         b'.' => Tick::Silent,
@@ -45,7 +45,7 @@ pub fn steps<R: LineRules, M: Mac, S: SlotDisk, const B: usize, const D: usize>(
     Ok(steps)
 }
 
-// What a receiver by y18 for Modbus RTU sends, and notes, on a link, from a fresh journal on.
+// Checks what a receiver by y18 for Modbus RTU, over a fresh journal, sends and notes for a link.
 fn compare(
     rt: &impl Abort,
     alloc: Global,

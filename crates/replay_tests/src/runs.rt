@@ -1,4 +1,4 @@
-//! A line comes to the same however many of its bytes are in one line of text.
+//! Tests that the results for a line don't depend on how many of its bytes are in one line of text.
 ghost use Rattle.std.specs.Prelude.{◌<◌};
 
 use crate::outside::STEADY;
@@ -8,7 +8,7 @@ use replay_status::Status;
 use std::alloc::Global;
 use std::test::Fail;
 
-// Adds a burst of this many bytes, in lines of at most this many.
+// Adds a burst of `len` bytes, in lines of at most `most`.
 fn push_burst(text: &mut Vec<u8>, len: usize, most: usize) -> Result<(), Fail>
     requires { 0 < most }
 {
@@ -27,7 +27,8 @@ fn push_burst(text: &mut Vec<u8>, len: usize, most: usize) -> Result<(), Fail>
     Ok(())
 }
 
-// A frame, a burst that starts before its trailer is sent, and one that may be sealed.
+// Seals a line of a frame, a burst that starts before the frame's trailer is sent, and a burst that
+// isn't early.
 fn seal_bursts(alloc: Global, len: usize, most: usize) -> Result<Ran, Fail>
     requires { 0 < most }
 {
@@ -46,8 +47,9 @@ fn seal_bursts(alloc: Global, len: usize, most: usize) -> Result<Ran, Fail>
     )
 }
 
-// Bursts of each length, past the room of a frame too, in single bytes and in lines of each length:
-// the one is early, so that the trailer goes out over it, and the other is forwarded.
+// Bursts of many lengths, some longer than the longest frame, in single bytes and in lines of each
+// length. The first burst is early, so that the trailer goes out over it, and the second one is
+// forwarded.
 #[test]
 fn runs_are_sealed_as_their_bytes(rt: HostRuntime) -> Result<(), Fail> {
     for len in [

@@ -17,7 +17,7 @@ const AT_6: Held = Held::Number(6);
 
 const SEALED_WHOLE: &[u8] = b"+01030000000ac5cd\n-3\n+0001014c5b8d33c6d29a347013b0\n-47\n";
 
-/// A request, the silence behind it, and what they are sealed to in direction `ab` with number 1.
+/// A row in which a request, with silence after it, is sealed in direction `ab` with number 1.
 const WHOLE: Row = Row {
     dir: Dir::Ab,
     key: KEY,
@@ -65,7 +65,7 @@ const SEALED: [Row; 10] = [
             +0001014c5b8d33c6d29a347013b0\n-7\n",
         ..WHOLE
     },
-    // A pause of two ticks inside a frame: what comes behind it isn't live.
+    // A pause of two ticks inside a frame: what comes after it isn't live.
     Row {
         text: b"+010300\n-2\n+00000ac5cd\n",
         out: b"+010300\n-31\n",
@@ -73,7 +73,7 @@ const SEALED: [Row; 10] = [
         slots_now: FRESH,
         ..WHOLE
     },
-    // A byte behind a frame, before four silent ticks have closed it.
+    // A byte after a frame, before four silent ticks have closed it.
     Row {
         text: b"+01030000000ac5cd\n-3\n+00\n",
         out: b"+01030000000ac5cd\n-28\n",
@@ -81,7 +81,7 @@ const SEALED: [Row; 10] = [
         slots_now: FRESH,
         ..WHOLE
     },
-    // The greatest number is used.
+    // The greatest number is already used.
     Row {
         slots: (AT_LIMIT, NOTHING),
         out: b"+01030000000ac5cd\n-64\n",
@@ -89,7 +89,7 @@ const SEALED: [Row; 10] = [
         slots_now: (AT_LIMIT, NOTHING),
         ..WHOLE
     },
-    // A slot that holds no number isn't the floor's.
+    // A slot that holds no number doesn't count for the floor.
     Row {
         slots: (AT_5, NO_NUMBER),
         out: b"+01030000000ac5cd\n-3\n+0006bffa8bcd3f6ad232de11820a\n-47\n",
@@ -111,7 +111,7 @@ fn seals_the_frames_of_a_line(rt: HostRuntime) -> Result<(), Fail> {
     compare_all(&rt, rt.alloc(), BoxKind::SealRtu, &SEALED)
 }
 
-// 254 bytes 00 and their CRC, and what comes after them.
+// 254 bytes 00 and their CRC, followed by `behind`.
 fn longest_frame(alloc: Global, behind: &[u8]) -> Result<Vec<u8>, Fail> {
     let mut text = Vec::new(alloc);
     for _ in 0..7 {
@@ -152,8 +152,8 @@ const THREE_NOTES: [&[u8]; 4] = [
     b"sealed 1 at 0 len 8\nsealed 2 at 29 len 8\nsealed 3 at 58 len 8\n",
 ];
 
-/// What is answered of three frames up to the closing tick of the first, the second and the third,
-/// and up to the end.
+/// What the transmitter sends for three frames before the tick that closes the first, the second
+/// and the third, and up to the end.
 const ONE_CLOSED: &[u8] = b"+01030000000ac5cd\n-3\n";
 
 const TWO_CLOSED: &[u8] =
@@ -194,7 +194,7 @@ fn a_failed_call_of_the_disk_loses_no_number(rt: HostRuntime) -> Result<(), Fail
     )
 }
 
-/// Nothing is written but the fault line.
+/// A row in which nothing is written but the fault line.
 const REFUSED: Row = Row {
     status: Status::ReadFault,
     exit_status: 5,
@@ -204,7 +204,8 @@ const REFUSED: Row = Row {
     ..WHOLE
 };
 
-/// The request is sealed, without the silence of a whole input, and then something fails.
+/// A row in which the request is sealed, and then something fails. The silence after a whole input
+/// doesn't come.
 const CUT_SHORT: Row = Row {
     status: Status::ReadFault,
     exit_status: 5,
@@ -262,7 +263,7 @@ const NOT_DONE: [Row; 9] = [
         log: b"sealed 1 at 0 len 8\nfault: line 3 char\n",
         ..CUT_SHORT
     },
-    // The first read gives the whole text, the next one fails.
+    // The first read gives the whole text, and the next one fails.
     Row {
         failing: Failing { input: 2, ..STEADY },
         ..CUT_SHORT
@@ -277,7 +278,7 @@ const NOT_DONE: [Row; 9] = [
         failing: Failing { out: 1, ..STEADY },
         ..WRITE_FAULT
     },
-    // The flush.
+    // The flush of the output fails.
     Row {
         failing: Failing { out: 2, ..STEADY },
         out: SEALED_WHOLE,

@@ -1,4 +1,5 @@
-//! Both boxes by the profile with words of four bytes and tags of sixteen by HMAC-SHA-256.
+//! Tests of both boxes by y24, the profile with words of four bytes and tags of sixteen bytes by
+//! HMAC-SHA-256.
 
 use crate::outside::STEADY;
 use crate::over_boxes::{
@@ -21,8 +22,8 @@ const AT_65538: Held = Held::Number(65_538);
 /// A request with the trailer of number 1.
 const PACKET: &[u8] = b"+01030000000ac5cd\n-3\n+0000000165d245ba109509aa6c32ac3cfa228fd6\n-47\n";
 
-/// The request, and what it is sealed to in direction `ab` with number 1. The tags here are by
-/// openssl:
+/// A row in which the request is sealed in direction `ab` with number 1. The tags in this file are
+/// by openssl:
 ///   printf 010001030000000ac5cd0000000000000001 | xxd -r -p
 ///     | openssl dgst -sha256 -mac HMAC -macopt hexkey:000102030405060708090a0b0c0d0e0f
 ///     | cut -c1-32
@@ -69,7 +70,7 @@ const SEALS: [Row; 7] = [
         slots_now: (AT_65535, AT_65536),
         ..SEALED
     },
-    // The greatest number is used.
+    // The greatest number is already used.
     Row {
         slots: (AT_LIMIT, NOTHING),
         out: b"+01030000000ac5cd\n-70\n",
@@ -96,7 +97,7 @@ const SEALED_DNP3: Row = Row {
     ..SEALED
 };
 
-/// The packet passes.
+/// A row in which the packet passes.
 const PASSED: Row = Row {
     text: PACKET,
     out: b"-24\n+01030000000ac5cd\n-366\n",
@@ -104,7 +105,7 @@ const PASSED: Row = Row {
     ..SEALED
 };
 
-/// Nothing passes.
+/// A row in which nothing passes.
 const REFUSED: Row = Row {
     out: b"-24\n+01030000000ac5cc\n-366\n",
     log: b"refused at 0 trailer\n",
@@ -112,8 +113,8 @@ const REFUSED: Row = Row {
     ..PASSED
 };
 
-// A link, and what a device behind the receiver reads of it. Ticks and notes here were computed
-// from the rules of `docs/LINK.md` by a program in another language, over whole lines.
+// Links, and what the receiver sends and notes for them. The ticks and notes were computed from the
+// rules of `docs/LINK.md`, over whole lines, by a program in another language.
 const CHECKS: [Row; 9] = [
     PASSED,
     // The last byte of the tag is wrong.
@@ -132,7 +133,7 @@ const CHECKS: [Row; 9] = [
         text: b"+01030000000ac5cd\n-3\n+0001014c5b8d33c6d29a347013b0\n-53\n",
         ..REFUSED
     },
-    // The packet twice: the second time its word stands for a number that has another tag.
+    // The packet comes twice. The second time its word stands for a number that has another tag.
     Row {
         text: b"+01030000000ac5cd\n-3\n+0000000165d245ba109509aa6c32ac3cfa228fd6\n-4\n\
             +01030000000ac5cd\n-3\n+0000000165d245ba109509aa6c32ac3cfa228fd6\n-47\n",
@@ -140,7 +141,7 @@ const CHECKS: [Row; 9] = [
         log: b"passed 1 at 0 len 8\nrefused at 35 tag\n",
         ..PASSED
     },
-    // So many packets were lost that two bytes would not tell.
+    // So many packets were lost that a word of two bytes wouldn't tell the number.
     Row {
         text: b"+01030000000ac5cd\n-3\n+000100024eb47d60fe5ca0143bf0e199d071f864\n-47\n",
         log: b"passed 65538 at 0 len 8\n",
@@ -154,7 +155,7 @@ const CHECKS: [Row; 9] = [
         slots_now: (AT_LIMIT, NOTHING),
         ..REFUSED
     },
-    // The last byte of the burst before leaves in the tick in which the second one starts.
+    // The last byte of the first burst leaves in the tick in which the second one starts.
     Row {
         text: b"+01030000000ac5cd\n-23\n+010300000001840a\n-40\n",
         out: b"-24\n+01030000000ac5cc\n-367\n",
@@ -169,7 +170,7 @@ const CHECKS: [Row; 9] = [
     },
 ];
 
-/// What a device reads behind the receiver, by the places of the rows in the table above.
+/// What a device behind the receiver reads, for each row of `CHECKS` in turn.
 const READ: [&[u8]; 9] = [
     b"read at 24 01030000000ac5cd\n",
     b"",
@@ -182,15 +183,15 @@ const READ: [&[u8]; 9] = [
     b"",
 ];
 
-/// Behind the header of a frame of 292 bytes, without the others: a packet as the last of the bytes
-/// leaves that are filled in, and one tick later.
+/// The header of a frame of 292 bytes, without its other bytes, and then a packet. In `TOO_SOON` it
+/// starts as the last byte of the fill leaves, and in `SOON_ENOUGH` one tick later.
 const TOO_SOON: &[u8] = b"+0564ffc4010000042727\n-305\n+056405c001000004e921\n-3\n\
         +00000001cd525d6a6c119047d45db5ba9f9e4290\n-47\n";
 
 const SOON_ENOUGH: &[u8] = b"+0564ffc4010000042727\n-306\n+056405c001000004e921\n-3\n\
         +00000001cd525d6a6c119047d45db5ba9f9e4290\n-47\n";
 
-// A link of DNP3, the notes of it, and what a device behind the receiver reads of it.
+// Links of DNP3, the notes on each, and what a device behind the receiver reads.
 const DNP3_CHECKS: [Reading; 3] = [
     (
         DNP3_PACKET,

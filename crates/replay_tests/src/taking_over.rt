@@ -1,5 +1,5 @@
-//! A box over a journal whose slots name no link: it is taken over, also where a call of the disk
-//! fails; and over one that names another link.
+//! Tests of a box over a journal with old slots, which name no link and are taken over, also if a
+//! call of the disk fails, and of a box over a journal of another link.
 use crate::outside::{Failing, STEADY, plan};
 use crate::over_boxes::{BoxKind, KEY, Ran, holds, replay_on};
 use hmac_tag::Dir;
@@ -36,7 +36,7 @@ const REQUEST: &[u8] = b"+01030000000ac5cd\n-40\n";
 //     | cut -c1-24
 const SEALED_AT_6: &[u8] = b"+01030000000ac5cd\n-3\n+0006bffa8bcd3f6ad232de11820a\n-47\n";
 
-// The request through the transmitter, over old slots and these new ones.
+// Runs the transmitter on the request, over a disk with old slots and these slots A and B.
 fn seal_over(
     alloc: Global,
     dir: Dir,
@@ -88,7 +88,7 @@ fn a_taking_over_that_fails_loses_no_number(rt: HostRuntime) -> Result<(), Fail>
         dir: 0,
         profile: 18,
     };
-    // Call 5 is the write, and call 6 the sync; slot A then.
+    // Call 5 is the write, and call 6 the sync. `a` is what slot A holds then.
     for (call, a) in [(5, BLANK), (6, NUMBER_5)] {
         let failing = Failing {
             disk: call,
