@@ -1,4 +1,5 @@
--- A frame more that was read, and how the first difference comes of what was found.
+-- What is found when one more frame is read, and how the first difference follows from what was
+-- found.
 use Rattle.std.proofs.Common.{◌≡◌, ◌∙◌, ℕ, suc, ◌+◌, ◌<◌, ◌≤◌, ◌==◌, ◌&&◌, Bool, true, false, List, [], ◌∷◌, ◌++◌}
 use Rattle.std.proofs.Common.{length, drop, map, get_or, bytes_eq, Option, Some, None, option_map}
 use Rattle.std.proofs.Common.{refl, sym, ap, arith, length-append, ⊎_elim, if◌then◌else◌}
@@ -35,13 +36,13 @@ place-behind : (next : Bool) (n : ℕ)
 place-behind true n = refl
 place-behind false n = refl
 
--- ---- one frame more
+-- ---- one more frame
 
 pub unexpected-none : (x : List FrameRead) → first_unexpected x [] ≡ None
 unexpected-none [] = refl
 unexpected-none (f ∷ x) = refl
 
--- Where none was read it is nothing to what is expected.
+-- If no frame was read, what is found doesn't depend on what is expected.
 pub found-none : (value : Comparison) (x z y : List FrameRead) → y ≡ [] → Found value x y
     → Found value z y
 found-none value x z y none found = record {
@@ -80,7 +81,7 @@ unexpected-next (f ∷ x) (h ∷ y) g none =
     (λ other. let never : Some 0 ≡ None = sym (cond-false _ _ _ other) ∙ none in cc)
     (cases_Bool (is_same_read f h))
 
--- what is found of one frame more, behind one that wasn't expected
+-- If an earlier frame wasn't the expected one, one more frame leaves its place as it is.
 pub found-more : (old new : Comparison) (expected reads : List FrameRead) (g : FrameRead) (i : ℕ)
     → old.unexpected ≡ Some i → new.read ≡ old.read + 1 → new.unexpected ≡ old.unexpected
     → Found old expected reads → Found new expected (reads ++ g ∷ [])
@@ -89,7 +90,7 @@ found-more old new expected reads g i is counts same found = record {
   place = same ∙ is ∙ sym (unexpected-stays expected reads g i (sym found.place ∙ is));
 }
 
--- and where all were expected so far
+-- If all frames so far were the expected ones, only the new frame can be the first that isn't.
 pub found-next : (old new : Comparison) (expected reads : List FrameRead) (g : FrameRead)
     (next : Bool) → old.unexpected ≡ None → new.read ≡ old.read + 1
     → next ≡ is_next (drop old.read expected) g

@@ -1,4 +1,4 @@
--- A device that hears a run of ticks.
+-- What a device hears of a run of ticks.
 use Rattle.burst_walk.specs.Answered.{answered}
 use Rattle.device_model.specs.declared.device.Device.{Ghosts as Device}
 use Rattle.replay_lists.specs.{ReplayLists.Listens, declared.frame_list.FrameList.FrameList}
@@ -9,13 +9,14 @@ use Rattle.std.proofs.lemmas.List.{map-append, length-map, take_all, replicate-a
 use Rattle.yasir_ticks.specs.Ticks.{silent}
 use Rattle.yasir_ticks.specs.declared.tick.Tick.{Tick, TheVariants.Silent, TheVariants.Byte}
 
--- nothing was heard yet
+-- If no more ticks come, the list holds what the device has read as before.
 pub hears-nothing : {V : Type 0} (device : Device V) (value : V) (list : FrameList ℕ)
     (line : List Tick) → Listens device value list line → Listens device value list (line ++ [])
 hears-nothing device value list line listens =
     subst (Listens device value list) (sym (append-nil line)) listens
 
--- what is heard of the answer to a run of this many ticks: its bytes, and then silence
+-- The answer to a run of `count` ticks is the bytes that are heard, and then silence for the ticks
+-- that are left of the run.
 pub answered-heard : (line : List Tick) (count : ℕ) (left : List ℕ) (heard : ℕ)
     → heard ≡ min (length left) count → length (answered count left) ≡ count
     → (line ++ map Byte (take heard left)) ++ silent (count - heard) ≡ line ++ answered count left
@@ -34,14 +35,14 @@ answered-heard line count (b ∷ x) heard is long =
 
 -- ---- ticks in their order
 
--- what comes after a place of a list, as a slice has it
+-- To take as many bytes after a place as follow it is to take all of them.
 pub slice_rest : (bytes : List ℕ) (i : ℕ)
     → take (length bytes - i) (drop i bytes) ≡ drop i bytes
 slice_rest bytes i =
     let long = length-drop i bytes in
     take_all (length bytes - i) (drop i bytes) (omega arith)
 
--- some bytes more
+-- The first `i` bytes of a list and then the next `n` are its first `i + n` bytes.
 pub bytes_on : (line : List Tick) (bytes : List ℕ) (i n : ℕ)
     → (line ++ map Byte (take i bytes)) ++ map Byte (take n (drop i bytes))
     ≡ line ++ map Byte (take (i + n) bytes)

@@ -1,4 +1,4 @@
--- A frame at its place, and as it was kept there.
+-- A frame at the place of its number, and as a list keeps it there.
 use Rattle.{link_format.specs.NumberedFrame.NumberedFrame, replay_lists.specs.FrameBox.kept_frames}
 use Rattle.replay_lists.specs.{FrameBox.kept_numbered, Places.place_of, Places.stands_at_its_number}
 use Rattle.std.proofs.Common.{◌≡◌, ◌∙◌, ℕ, ◌+◌, ◌-◌, ◌<◌, ◌≤◌, ◌&&◌, Bool, true, false, List}
@@ -10,7 +10,7 @@ pub kept-at : (frames : List NumberedFrame) (d : NumberedFrame) (i : ℕ) → i 
 kept-at frames d i within =
     ap (λ k. k.frame) (get_or-map kept_numbered frames i d (kept_numbered d) within)
 
--- ---- whether a frame stands at the place of its number
+-- ---- whether a frame is at the place of its number
 
 module _ (floor : ℕ) (frames : List NumberedFrame) (f : NumberedFrame) where
   abbrev same : ℕ → Bool

@@ -1,4 +1,4 @@
--- What is kept of a line, and of one tick more.
+-- What is kept of a line after a step of a box, or after some ticks at a device.
 use Rattle.device_model.specs.{Frames.FrameRead, declared.device.Device.Ghosts as Device}
 use Rattle.link_format.specs.Setup.{Setup}
 use Rattle.replay_lists.specs.FrameBox.{AnswersFrame, frame_told, kept_numbered, kept_frames}
@@ -17,7 +17,8 @@ module _ {B : Type 0} (box : FrameBox B) (old new : B) (before after : FrameList
   abbrev now : List Tick
   now = line ++ t ∷ []
 
-  -- with a frame, which was pushed
+  -- If the step has a frame, and it was pushed into the list, the list holds the frames of the
+  -- longer line.
   pub steps-frame : (head : Numbered) → step.frame ≡ Some head
       → KeepsFrames box old before setup line → box.stands new setup now
       → AnswersFrame (box.numbering setup) line t step (box.shown new)
@@ -46,7 +47,8 @@ module _ {B : Type 0} (box : FrameBox B) (old new : B) (before after : FrameList
 
 module _ {V : Type 0} (device : Device V) (old new : V) (before after : FrameList ℕ)
     (run : List Tick) (frames : List FrameRead) where
-  -- in which these frames are read, and kept
+  -- If these frames are read in the run, and were added to the list, the list holds what the device
+  -- has read.
   pub listens-more : ((line : List Tick) → device.stands old line
       → device.stands new (line ++ run))
       → ((line : List Tick) → device.stands old line

@@ -20,7 +20,8 @@ module _ {S C V : Type 0} (s : FrameBox S) (c : FrameBox C) (v : Device V)
   abbrev HasDriven : End → Type 0
   HasDriven end = Drives (listing s c v) 1 320 before now old new end
 
-  -- what a whole input leaves in the lists
+  -- After a whole input, the lists are those of the recordings before and after the mark, the
+  -- second of which is followed by 320 silent ticks.
   pub listed-whole : (driven : HasDriven Whole) (setup : Setup) → HasListed s c v old setup [] []
       → HasListed s c v new setup (before_mark driven.takes.told)
       (behind_mark driven.takes.told ++ silent 320)
@@ -37,7 +38,8 @@ module _ {S C V : Type 0} (s : FrameBox S) (c : FrameBox C) (v : Device V)
       (subst (λ link. HasListed s c v new setup (before_mark driven.items) link) second
       (driven.gives.moved setup [] (record { listed = listed; marked = may.unmarked })).listed)
 
-  -- there is room for some silent ticks more
+  -- The items of a whole input, with 320 silent ticks after them, have at most `max_ticks + 320`
+  -- ticks.
   few-whole : (items : List Item) → IsWhole 1 320 before now items
       → length (ticks_in items) ≤ max_ticks + 320
   few-whole items whole =
@@ -55,7 +57,7 @@ module _ {S C V : Type 0} (s : FrameBox S) (c : FrameBox C) (v : Device V)
   room-whole driven =
       omega (arith, driven.gives.counted, may.none, few-whole driven.items driven.takes)
 
-  -- an input that isn't listed to its end
+  -- If the input didn't end whole, `ListsRecordings` holds for the way in which it ended.
   pub ends-listing : (end : End) → (end ≡ Whole → ⊥) → HasDriven end
       → (device_rest : ℕ) → ListsRecordings s c v device_rest old new before now end
   ends-listing Whole other driven rest = absurd (other refl)

@@ -1,4 +1,4 @@
--- What two recordings keep, by one item more.
+-- What is kept of two recordings after more items.
 use Rattle.device_model.specs.declared.device.Device.{Ghosts as Device}
 use Rattle.link_format.specs.Setup.{Setup}
 use Rattle.replay_lists.proofs.Marks.{has_mark-mark, before_mark-mark, behind_mark-mark}
@@ -40,7 +40,8 @@ module _ {S C V : Type 0} (s : FrameBox S) (c : FrameBox C) (v : Device V)
           taken = rw (checker, device) ready.taken;
         }
 
-    -- the line of the device goes on
+    -- If the transmitter takes more of the line of the device, the lists are those of the longer
+    -- line.
     pub listed-sealed : (setup : Setup) (line link more : List Tick)
         → (KeepsFrames s old.sealer old.sealed setup line
         → KeepsFrames s new.sealer new.sealed setup (line ++ more))
@@ -67,7 +68,7 @@ lists-marked s c v lists setup items before = record {
   marked = sym (has_mark-mark items);
 }
 
--- ---- what a call does that gives some items
+-- ---- what a call does that gives some items to the lists
 
 module _ {S C V : Type 0} (s : FrameBox S) (c : FrameBox C) (v : Device V) where
   pub gives-items : (old new : ReplayLists S C V) (more : List Item) → GoesOnBy s c v old new more
@@ -80,7 +81,7 @@ module _ {S C V : Type 0} (s : FrameBox S) (c : FrameBox C) (v : Device V) where
     went = tt;
   }
 
-  -- there was no memory for a frame of them
+  -- A call that gives at least one item may end because there is no memory for a frame.
   pub gives-no_memory : (old new : ReplayLists S C V) (more : List Item) → 0 < length more
       → Gives (listing s c v) old new more (Err NoMemory)
   gives-no_memory old new more some = record {

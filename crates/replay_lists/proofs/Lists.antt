@@ -1,4 +1,4 @@
--- The frames of a list: one more, and the one at a place.
+-- The frames of a list: one more frame, and the frame at a place.
 use Rattle.replay_lists.specs.FrameList.{Kept, Holds, IsWhole, frames_from, AreEnds, longest_frame}
 use Rattle.replay_lists.specs.declared.frame_list.{Entry.Entry, FrameList.FrameList}
 use Rattle.std.proofs.Common.{◌≡◌, ◌∙◌, ℕ, zero, suc, ◌+◌, ◌-◌, ◌<◌, ◌≤◌, List, [], ◌∷◌, ◌++◌}
@@ -11,7 +11,7 @@ module _ {K : Type 0} where
   ends-rise start end [] ends = omega (arith, ends)
   ends-rise start end (e ∷ entries) ends = omega (arith, ends.0, ends-rise e.end end entries ends.2)
 
-  -- ---- one more
+  -- ---- one more frame
 
   ends-more : (start end m : ℕ) (entries : List (Entry K)) (e : Entry K) → AreEnds start entries end
       → end ≤ m → m ≤ end + longest_frame → e.end ≡ m → AreEnds start (entries ++ e ∷ []) m
@@ -57,7 +57,7 @@ module _ {K : Type 0} where
             (omega (arith, short)) end);
       }
 
-  -- ---- the one at a place
+  -- ---- the frame at a place
 
   length-frames : (start : ℕ) (entries : List (Entry K)) (bytes : List ℕ)
       → length (frames_from start entries bytes) ≡ length entries
@@ -78,7 +78,7 @@ module _ {K : Type 0} where
   head-at start (d ∷ entries) bytes (suc i) e other within =
       head-at d.end entries bytes i e other (omega arith)
 
-  -- where the frame at a place starts
+  -- where the bytes of the frame at a place start
   abbrev pub start_at : ℕ → List (Entry K) → Entry K → ℕ → ℕ
   start_at start entries e zero = start
   start_at start entries e (suc i) = (slice_index_or entries i e).end
@@ -95,7 +95,8 @@ module _ {K : Type 0} where
   frame-at start (d ∷ entries) bytes (suc (suc i)) e other within =
       frame-at d.end entries bytes (suc i) e other (omega arith)
 
-  -- the ends of the frame at a place
+  -- The bytes of the frame at a place end no earlier than they start, no later than the longest
+  -- frame would, and within the bytes of the list.
   pub ends-at : (start end : ℕ) (entries : List (Entry K)) (i : ℕ) (e : Entry K)
       → AreEnds start entries end → i < length entries
       → (start_at start entries e i ≤ (slice_index_or entries i e).end)
@@ -125,9 +126,9 @@ module _ {K : Type 0} where
       sym (frame-at 0 list.entries.items list.bytes.items i e other within)
       ∙ ap (λ l. (slice_index_or l i other).frame) holds.is
 
-  -- ---- by two entries
+  -- ---- a frame by its own entry and the one before it
 
-  -- a later one
+  -- The bytes of a frame that isn't the first start where those of the frame before it end.
   pub holds-later : (list : FrameList K) (i before : ℕ) (e : Entry K) (frames : List (Kept K))
       (other : Kept K) → before + 1 ≡ i → i < length list.entries.items → Holds list frames
       → take ((slice_index_or list.entries.items i e).end
@@ -153,7 +154,7 @@ module _ {K : Type 0} where
       subst P next (ends-at 0 (length list.bytes.items) list.entries.items (suc before) e whole
       (omega (arith, is, within))).0
 
-  -- no frame is longer than the longest one
+  -- A frame that isn't the first is no longer than the longest one.
   short-later : (list : FrameList K) (i before : ℕ) (e : Entry K) → before + 1 ≡ i
       → i < length list.entries.items → IsWhole list
       → (slice_index_or list.entries.items i e).end
@@ -170,7 +171,7 @@ module _ {K : Type 0} where
   ends-within list i e within whole =
       (ends-at 0 (length list.bytes.items) list.entries.items i e whole within).2
 
-  -- the entry at a place, and the one before it, as they were looked up
+  -- `last` is the entry at place `i`, and `before` is the one before it, as they were looked up.
   module _ (list : FrameList K) (i : ℕ) (last before d e : Entry K) (some : i ≡ 0 → ⊥)
       (within : i < length list.entries.items)
       (last_is : last ≡ slice_index_or list.entries.items i d)

@@ -1,4 +1,4 @@
--- Two recordings, and one item more.
+-- What more items change in two recordings.
 use Rattle.replay_lists.specs.Recordings.{has_mark, before_mark, behind_mark}
 use Rattle.std.proofs.Common.{◌≡◌, ℕ, zero, suc, true, List, [], ◌∷◌, ◌++◌, refl, ap}
 use Rattle.tick_drive.proofs.ItemLaws.{ticks_in-append, ticks_in-mark}
@@ -6,9 +6,10 @@ use Rattle.tick_drive.specs.Items.{silent_items}
 use Rattle.yasir_ticks.specs.Ticks.{Item, ticks_in, marks_in, silent, Item.tick, Item.mark}
 use Rattle.yasir_ticks.specs.declared.tick.Tick.TheVariants.{Silent}
 
--- ---- a tick
+-- ---- one more mark
 
--- ---- a mark
+-- A mark at the end of some items is among them, and leaves the ticks before and after the first
+-- mark as they were.
 
 pub has_mark-mark : (items : List Item) → has_mark (items ++ mark ∷ []) ≡ true
 has_mark-mark [] = refl
@@ -25,7 +26,7 @@ behind_mark-mark [] = refl
 behind_mark-mark (tick u ∷ items) = behind_mark-mark items
 behind_mark-mark (mark ∷ items) = ticks_in-mark items
 
--- ---- several items behind a mark
+-- ---- several items after a mark
 
 pub has_mark-some : (items : List Item) (n : ℕ) → marks_in items ≡ suc n → has_mark items ≡ true
 has_mark-some [] n some = cc

@@ -1,4 +1,4 @@
--- The parts of some items, with the ticks of a run more.
+-- The parts of some items that the ticks of a run follow.
 use Rattle.std.proofs.Common.{◌≡◌, ◌∙◌, ◌≤◌, ℕ, zero, suc, List, [], ◌∷◌, ◌++◌, map, take, refl, ap}
 use Rattle.std.proofs.{Common.sym, Common.append-nil, Common.arith, lemmas.List.take-map}
 use Rattle.tick_lists.specs.{Parts.part, Places.place_after}
@@ -18,7 +18,7 @@ part-no : (n : ℕ) (ticks : List Tick) → part (suc n) (map tick ticks) ≡ []
 part-no n [] = refl
 part-no n (t ∷ ticks) = part-no n ticks
 
--- they go to the part behind all marks
+-- Ticks that follow some items are added to the part after the last mark.
 run-here : (n : ℕ) (items : List Item) (ticks : List Tick) → marks_in items ≡ n
     → part n (items ++ map tick ticks) ≡ part n items ++ ticks
 run-here zero [] ticks marks = part-all ticks
@@ -28,7 +28,8 @@ run-here (suc n) (tick u ∷ items) ticks marks = run-here (suc n) items ticks m
 run-here zero (mark ∷ items) ticks marks = cc
 run-here (suc n) (mark ∷ items) ticks marks = run-here n items ticks (omega arith)
 
--- and to no other one
+-- Ticks that follow some items aren't added to any part before the last mark, nor to one that
+-- hasn't begun.
 run-there : (n : ℕ) (items : List Item) (ticks : List Tick) → (marks_in items ≡ n → ⊥)
     → part n (items ++ map tick ticks) ≡ part n items
 run-there zero [] ticks differ = absurd (differ refl)
@@ -39,7 +40,7 @@ run-there zero (mark ∷ items) ticks differ = refl
 run-there (suc n) (mark ∷ items) ticks differ =
     run-there n items ticks (λ same. differ (ap suc same))
 
--- a part that hasn't begun
+-- A part that hasn't begun is empty.
 pub part-empty : (n : ℕ) (items : List Item) → suc (marks_in items) ≤ n → part n items ≡ []
 part-empty zero items few = absurd (omega (arith, few))
 part-empty (suc n) [] few = refl
@@ -56,7 +57,7 @@ marks-ticks [] ticks = no-mark ticks
 marks-ticks (tick u ∷ items) ticks = marks-ticks items ticks
 marks-ticks (mark ∷ items) ticks = ap suc (marks-ticks items ticks)
 
--- the first ticks of a run as items
+-- The first items of a run are its first ticks.
 front-items : (run : TickRun) (n : ℕ) → take n (run_items run) ≡ map tick (take n (run_ticks run))
 front-items run n = ap (take n) (items_of_ticks run) ∙ take-map tick n (run_ticks run)
 

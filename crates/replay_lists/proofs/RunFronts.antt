@@ -7,7 +7,8 @@ use Rattle.{replay_lists.specs.declared.frame_list.FrameList.FrameList, std.proo
 use Rattle.std.proofs.Common.{ℕ, ◌+◌, ◌≤◌, List, [], ◌∷◌, ◌++◌, length, take, ap, sym, subst, arith}
 use Rattle.{std.proofs.lemmas.List.length-take-le, yasir_ticks.specs.declared.tick.Tick.Tick}
 
--- a box has taken some ticks at once, in which there is no frame
+-- If a box has taken the first ticks of a run at once, and no frame falls into them, the list of
+-- its frames is complete without a change.
 pub passes-on : {B : Type 0} (box : FrameBox B) (old new : B) (list : FrameList Numbered)
     (ticks answer : List Tick) (n : ℕ) → n ≤ length ticks → box.taken new ≡ box.taken old + n
     → ((setup : Setup) (line : List Tick) → box.stands old setup line
@@ -24,7 +25,7 @@ passes-on box old new list ticks answer n within counts stands answers =
           (stands setup line keeps.steps) (answers setup line keeps.steps);
     }
 
--- none was taken, and then one alone
+-- If no tick was taken at once, and then one tick by itself, the first tick of the run was taken.
 pub one-on : {O S L : Type 0} (taken : S → ℕ) (size : L → ℕ)
     (keeps : O → S → L → List Tick → Type 0) (a b c : S) (x y z : L) (ticks rest : List Tick) (t : Tick) (n : ℕ) → n ≤ 0 → ticks ≡ t ∷ rest
     → GoesOn taken size keeps a b x y (take n ticks) → GoesOn taken size keeps b c y z (t ∷ [])

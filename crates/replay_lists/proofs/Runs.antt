@@ -1,4 +1,4 @@
--- What a run of ticks changes: of items, and of what two recordings keep.
+-- What a run of ticks changes in the items and in what is kept of two recordings.
 use Rattle.device_model.specs.declared.device.Device.{Ghosts as Device}
 use Rattle.{link_format.specs.Setup.Setup, replay_lists.proofs.Listing.checks-same}
 use Rattle.replay_lists.proofs.{Listing.ready-same, Marks.before_mark-more, Marks.behind_mark-more}
@@ -15,7 +15,7 @@ use Rattle.yasir_ticks.specs.TickRun.{run_ticks, run_items}
 use Rattle.yasir_ticks.specs.Ticks.{Item, ticks_in, Item.tick, Item.mark}
 use Rattle.yasir_ticks.specs.declared.{tick.Tick.Tick, tick_run.TickRun.TickRun}
 
--- ---- no mark among them
+-- ---- items without a mark
 
 no_mark-ticks : (ticks : List Tick) → has_mark (map tick ticks) ≡ false
 no_mark-ticks [] = refl
@@ -76,7 +76,7 @@ module _ {S C V : Type 0} (s : FrameBox S) (c : FrameBox C) (v : Device V)
   size : length run ≡ length (ticks_in more)
   size = ap length (sym run_is)
 
-  -- the transmitter has taken the run
+  -- If the transmitter has taken the run, and it comes before the mark, the lists go on by it.
   pub seals-on : new ≡ record old { sealer = new.sealer; sealed = new.sealed }
       → old.marked ≡ false → s.taken new.sealer ≡ s.taken old.sealer + length run
       → s.able new.sealer → IsReady s c v old
@@ -104,7 +104,7 @@ module _ {S C V : Type 0} (s : FrameBox S) (c : FrameBox C) (v : Device V)
         ready = ready-same s c v old new others able ready;
       }
 
-  -- the receiver has
+  -- If the receiver has taken the run, and it comes after the mark, the lists go on by it.
   pub checks-on : new ≡ record old {
     checker = new.checker;
     device = new.device;

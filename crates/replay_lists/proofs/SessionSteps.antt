@@ -1,4 +1,4 @@
--- What three recordings keep, by the first ticks of a run more.
+-- What is kept of three recordings after the first ticks of a run.
 use Rattle.device_model.specs.{Frames.FrameRead, declared.device.Device.Ghosts as Device}
 use Rattle.link_format.specs.NumberedFrame.{NumberedFrame}
 use Rattle.std.proofs.Common.{◌≡◌, ◌∙◌, ℕ, ◌+◌, ◌≤◌, ◌<◌, List, [], ◌∷◌, ◌++◌, length, take, suc}
@@ -31,14 +31,14 @@ use Rattle.replay_lists.specs.declared.session_lists.{SessionLists.SessionLists,
 use Rattle.tick_lists.proofs.Parting.{marks-mark, part-mark}
 
 module _ {V : Type 0} (v : Device V) (value : V) (comparison : Comparison) where
-  -- what is expected, and what was heard, are said otherwise
+  -- A comparison holds for whatever equals what is expected and what was heard.
   compares-so : (e1 e2 : List FrameRead) (l1 l2 : List Tick) → e2 ≡ e1 → l2 ≡ l1
       → Compares v value comparison e1 l1 → Compares v value comparison e2 l2
   compares-so e1 e2 l1 l2 expected line compares =
       subst (λ l. Compares v value comparison e2 l) (sym line)
       (subst (λ e. Compares v value comparison e l1) (sym expected) compares)
 
-  -- As long as nothing was heard, all the same is expected.
+  -- If nothing was heard, a comparison holds whatever is expected.
   compares-nothing : (e1 e2 : List FrameRead) (l1 l2 : List Tick) → v.reads [] ≡ [] → l1 ≡ []
       → l2 ≡ l1 → Compares v value comparison e1 l1 → Compares v value comparison e2 l2
   compares-nothing e1 e2 l1 l2 nothing empty line compares =
@@ -49,7 +49,8 @@ module _ {V : Type 0} (v : Device V) (value : V) (comparison : Comparison) where
             compares.found;
       })
 
--- The device has heard some ticks more, and what it read was compared with what has passed.
+-- If the device hears more ticks, and what it reads is compared with what has passed, the
+-- comparison holds for the longer line.
 pub hears-on : {V : Type 0} (v : Device V) (t1 t2 : Timing) → t1 ≡ t2
     → (passed : FrameList Numbered) (frames : List NumberedFrame)
     → Holds passed (kept_frames frames) → (old new : V) (before after : Comparison)
@@ -71,7 +72,7 @@ module _ {S C V : Type 0} (s : FrameBox S) (c : FrameBox C) (v : Device V)
   fits : k ≤ length (run_items run)
   fits = omega (arith, within, length-run_items run)
 
-  -- the transmitter has taken them
+  -- Before the first mark, the lists go on if the transmitter has taken the first ticks of the run.
   pub first-goes : (sealer : S) (sealed : FrameList Numbered) → old.place ≡ place.First
       → s.able sealer
       → TakesOn s old.sealer sealer old.sealed sealed (take k (run_ticks run))
@@ -118,7 +119,7 @@ module _ {S C V : Type 0} (s : FrameBox S) (c : FrameBox C) (v : Device V)
     };
   }
 
-  -- the receiver has
+  -- Between the two marks, the lists go on if the receiver has taken the first ticks of the run.
   pub second-goes : (checker : C) (passed : FrameList Numbered) → old.place ≡ place.Second
       → c.able checker
       → TakesOn c old.checker checker old.passed passed (take k (run_ticks run))
@@ -164,7 +165,7 @@ module _ {S C V : Type 0} (s : FrameBox S) (c : FrameBox C) (v : Device V)
     };
   }
 
-  -- the device has
+  -- After the second mark, the lists go on if the device has heard the first ticks of the run.
   pub third-goes : (device : V) (read : Comparison)
       → ((m : ℕ) → old.place ≡ place_after m → 2 ≤ m)
       → HearsOn v old.timing.late old.passed old.device device old.read read
@@ -215,7 +216,7 @@ module _ {S C V : Type 0} (s : FrameBox S) (c : FrameBox C) (v : Device V)
     };
   }
 
--- a mark that isn't the link's end leaves what is to come of its silence
+-- A mark that doesn't end the link leaves what is still to come of the link's silence as it is.
 rest-kept : (rest : ℕ) (p : Place) → (p ≡ place.Second → ⊥)
     → rest_left rest (place_behind p) ≡ rest_left rest p
 rest-kept rest place.First other = refl
@@ -224,7 +225,7 @@ rest-kept rest place.Third other = refl
 rest-kept rest place.None other = refl
 
 module _ {S C V : Type 0} (s : FrameBox S) (c : FrameBox C) (v : Device V) where
-  -- there was no memory for a frame of some items
+  -- A call that gives at least one item may end because there is no memory for a frame.
   pub gives-none : (old new : SessionLists S C V) (more : List Item) → 0 < length more
       → Gives (parting s c v) old new more (Err NoMemory)
   gives-none old new more some = record {
@@ -235,7 +236,7 @@ module _ {S C V : Type 0} (s : FrameBox S) (c : FrameBox C) (v : Device V) where
     went = tt;
   }
 
-  -- a mark that isn't the link's end
+  -- A mark that doesn't end the link changes only the place.
   pub gives-mark : (lists : SessionLists S C V) (p : Place) → IsOpen s c v lists
       → (lists.place ≡ place.Second → ⊥) → p ≡ place_behind lists.place
       → Gives (parting s c v) lists (record lists { place = p }) (mark ∷ []) (Ok tt)
@@ -276,7 +277,7 @@ module _ {S C V : Type 0} (s : FrameBox S) (c : FrameBox C) (v : Device V) where
         went = tt;
       }
 
-  -- the one that is, behind which the receiver has taken the link's silence
+  -- At the mark that ends the link, the lists go on if the receiver has taken the link's silence.
   pub gives-end : (lists : SessionLists S C V) (checker : C) (passed : FrameList Numbered)
       → IsOpen s c v lists → lists.place ≡ place.Second → c.able checker
       → TakesOn c lists.checker checker lists.passed passed (silent lists.timing.link_rest)
@@ -323,7 +324,7 @@ module _ {S C V : Type 0} (s : FrameBox S) (c : FrameBox C) (v : Device V) where
         went = tt;
       }
 
--- ---- the silence behind the lines of both devices
+-- ---- the silence after the lines of both devices
 
 module _ {S C V : Type 0} (s : FrameBox S) (c : FrameBox C) (v : Device V)
     (old : SessionLists S C V) (open_old : IsOpen s c v old)
@@ -451,7 +452,8 @@ module _ {S C V : Type 0} (s : FrameBox S) (c : FrameBox C) (v : Device V)
     all-told : (items : List Item) (whole : IsWhole 2 0 before now items) → items ≡ whole.told
     all-told items whole = whole.are ∙ append-nil whole.told
 
-    -- what a whole input leaves in the lists
+    -- After a whole input, the lists are those of the three recordings, the second of which is
+    -- followed by the link's silence.
     pub session-whole : (driven : HasDriven Whole) (setups : Setups)
         → HasSession s c v old setups [] [] []
         → HasSession s c v new setups (part 0 driven.takes.told)
@@ -481,7 +483,7 @@ module _ {S C V : Type 0} (s : FrameBox S) (c : FrameBox C) (v : Device V)
           timing_is = parts.timing_is;
         })
 
-    -- The timing is that of before.
+    -- A whole input leaves the timing as it was.
     pub timing-same : HasDriven Whole → new.timing ≡ old.timing
     timing-same driven =
         (session-whole driven may.setups may.has).timing_is ∙ sym may.has.timing_is
@@ -494,7 +496,7 @@ module _ {S C V : Type 0} (s : FrameBox S) (c : FrameBox C) (v : Device V)
         ap (rest_left old.timing.link_rest) may.first in
         omega (arith, driven.gives.counted, may.none, may.short, left, same, whole.few)
 
-    -- an input that isn't listed to its end
+    -- If the input didn't end whole, `ListsSession` holds for the way in which it ended.
     pub ends-session : (end : End) → (end ≡ Whole → ⊥) → HasDriven end
         → ListsSession s c v old new before now end
     ends-session Whole other driven = absurd (other refl)

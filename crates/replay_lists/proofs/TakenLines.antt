@@ -1,4 +1,4 @@
--- Ticks that are taken one behind the other, and what is kept of them.
+-- Ticks that are taken one after the other, and what is kept of them.
 use Rattle.device_model.specs.{Frames.FrameRead, declared.device.Device.Ghosts as Device}
 use Rattle.link_format.specs.{NumberedFrame.NumberedFrame, Setup.Setup}
 use Rattle.replay_lists.proofs.HeardRuns.{silent_on}
@@ -37,7 +37,8 @@ module _ {O S L : Type 0} (taken : S → ℕ) (size : L → ℕ)
               (then.kept origin (line ++ first) (on.kept origin line keep));
         }
 
-    -- one tick of a line more
+    -- If the first `i` ticks of a line were taken, and then the next one, its first `i + 1` ticks
+    -- were taken.
     pub goes-tick : (line : List Tick) (i : ℕ) (d : Tick) → i < length line
         → On a b x y (take i line) → On b c y z (get_or line i d ∷ [])
         → On a c x z (take (i + 1) line)
@@ -45,7 +46,7 @@ module _ {O S L : Type 0} (taken : S → ℕ) (size : L → ℕ)
         subst (On a c x z) (sym (take_more line i d within))
         (goes-then (take i line) (get_or line i d ∷ []) on then)
 
-    -- one silent tick more
+    -- If `n` silent ticks were taken, and then one more, `n + 1` were taken.
     pub goes-silent : (n : ℕ) → On a b x y (silent n) → On b c y z (Silent ∷ [])
         → On a c x z (silent (n + 1))
     goes-silent n on then =

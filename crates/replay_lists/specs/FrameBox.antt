@@ -39,5 +39,6 @@ kept_numbered f = record {
   frame = f.frame;
 }
 
+-- these frames, each as a list in memory keeps it
 abbrev pub kept_frames : List NumberedFrame → List (Kept Numbered)
 kept_frames frames = map kept_numbered frames

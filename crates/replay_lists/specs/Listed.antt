@@ -36,12 +36,13 @@ module _ {S C V : Type 0} (s : FrameBox S) (c : FrameBox C) (v : Device V) where
         → HasListed s c v new setup (before_mark takes.told ++ silent device_rest)
         (behind_mark takes.told ++ silent link_rest)
 
-  -- What was taken of the input when the listing ended with `end`. Unless it ended well, the lists
-  -- are of no use.
+  -- Holds if the input ended with `end` after these items. Nothing is said of the lists, which are
+  -- of use only if the input ended whole.
   pub record EndsListing (before now : Option (List ℕ)) (end : End) : Type 0 where
     pub items : List Item
     pub takes : Takes 1 link_rest before now items end
 
+  -- What each end of the listing says of the input and the lists.
   abbrev pub ListsRecordings : ℕ → ReplayLists S C V → ReplayLists S C V → Option (List ℕ)
       → Option (List ℕ) → End → Type 0
   ListsRecordings device_rest old new before now Whole = ListsBoth device_rest old new before now

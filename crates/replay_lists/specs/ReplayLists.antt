@@ -29,9 +29,11 @@ pub record StepsInto {B : Type 0} (box : FrameBox B) (value : B) (list : FrameLi
   pub answers : (box.numbering setup).other_line (line ++ t ∷ [])
       ≡ (box.numbering setup).other_line line ++ tick ∷ []
 
+-- a frame that was read, as a list in memory keeps it
 abbrev pub kept_read : FrameRead → Kept ℕ
 kept_read f = record { head = f.start; frame = f.frame }
 
+-- these frames that were read, each as a list in memory keeps it
 abbrev pub kept_reads : List FrameRead → List (Kept ℕ)
 kept_reads reads = map kept_read reads
 

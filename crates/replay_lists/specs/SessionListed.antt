@@ -41,12 +41,13 @@ module _ {S C V : Type 0} (s : FrameBox S) (c : FrameBox C) (v : Device V) where
     pub takes : IsWhole 2 0 before now items
     pub lists : ListsLines old new (part 0 takes.told) (part 1 takes.told) (part 2 takes.told)
 
-  -- What was taken of the input when the listing ended with `end`. Unless it ended well, the lists
-  -- are of no use.
+  -- Holds if the input ended with `end` after these items. Nothing is said of the lists, which are
+  -- of use only if the input ended whole.
   pub record EndsThree (before now : Option (List ℕ)) (end : End) : Type 0 where
     pub items : List Item
     pub takes : Takes 2 0 before now items end
 
+  -- What each end of the listing says of the input and the lists.
   abbrev pub ListsSession : SessionLists S C V → SessionLists S C V → Option (List ℕ)
       → Option (List ℕ) → End → Type 0
   ListsSession old new before now Whole = ListsThree old new before now

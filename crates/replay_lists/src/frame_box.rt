@@ -18,7 +18,9 @@ use yasir_ticks::{MAX_TICKS, Tick};
 /// The number of a frame that a box seals or passes, and the tick of its first byte.
 #[derive(Clone, Copy, Debug, PartialEq, Eq)]
 pub struct Numbered {
+    /// The number with which the box seals or passes the frame.
     pub number: u64,
+    /// The tick of the frame's first byte on the line that the box takes, counted from 0.
     pub start: u64,
 }
 
@@ -26,7 +28,9 @@ pub struct Numbered {
 /// in this step, if there is one.
 #[derive(Clone, Copy, Debug, PartialEq, Eq)]
 pub struct FrameStep {
+    /// The next tick of the other line.
     pub tick: Tick,
+    /// The frame that the box seals or passes in this step, if there is one.
     pub frame: Option<Numbered>,
 }
 
