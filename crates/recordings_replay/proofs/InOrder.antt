@@ -38,7 +38,7 @@ module _ (w0 w1 w2 w3 : OnTheWay) (a b c d : List ℕ) where
         pub adds-all : (w4 : OnTheWay) → AddsText w3 w4 d → AddsText w0 w4 all
         adds-all w4 fourth = adds-then w0 w3 w4 (a ++ b ++ c) d three fourth
 
--- a text that was written whole, and the sinks flushed or not
+-- A text that was written whole was printed, whether or not the sinks were flushed.
 pub prints-by : (text : List ℕ) (before now : Option (List ℕ)) (status : Status)
     → (status ≡ Done) ⊎ (status ≡ WriteFault) → now ≡ append_known before text
     → PrintsText text before now status

@@ -1,4 +1,5 @@
--- A run that reads a key first, with another statement of what it does with each key.
+-- What is said of a run that reads a key first also holds with another statement of what the run
+-- does with each key, if that one follows from the first.
 use Rattle.std.proofs.Common.{ℕ, List, inl, inr}
 use Rattle.yasir_io.specs.declared.source.Source.{Ghosts as Source}
 use Rattle.replay_status.specs.declared.status.Status.{Status}

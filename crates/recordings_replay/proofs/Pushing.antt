@@ -1,4 +1,4 @@
--- A text that is added to one on its way to a sink, line by line of the frames of a list.
+-- Text that is added to a text on its way to a sink, a line for each frame of a list.
 use Rattle.{device_model.specs.Frames.FrameRead, device_replay.specs.Lines.frame_line}
 use Rattle.{device_replay.specs.Lines.frame_lines, link_format.specs.NumberedFrame.NumberedFrame}
 use Rattle.receiver_laws.specs.Accounted.{forged, is_among}
@@ -76,7 +76,7 @@ kept-is : {K : Type 0} (x e : Kept K) → e.head ≡ x.head → e.frame ≡ x.fr
 kept-is x e head frame = ap (λ h. record { head = h; frame = x.frame }) (sym head)
     ∙ ap (λ f. record { head = e.head; frame = f }) (sym frame)
 
--- the frame at a place, as it was looked up, and its line
+-- The frame at place `i`, whose head and bytes were looked up, and its line `x`.
 module _ {K : Type 0} (line : Kept K → List ℕ) (list : FrameList K) (i n : ℕ) (head : K)
     (bytes : List ℕ) (within : i < n)
     (len_is : (frames : List (Kept K)) → Holds list frames → n ≡ length frames)
@@ -106,7 +106,8 @@ module _ {K : Type 0} (line : Kept K → List ℕ) (list : FrameList K) (i n : �
   item-breaks held breaks = line-breaks line kept i item inside at_place a b before held
       (subst (BreaksOff b held) is breaks)
 
--- all of them
+-- If the lines of the first `i` frames were added, and there are no more than `i`, all lines were
+-- added.
 pub all-added : {K : Type 0} (line : Kept K → List ℕ) (list : FrameList K) (i n : ℕ)
     (len_is : (frames : List (Kept K)) → Holds list frames → n ≡ length frames) → n ≤ i
     → (a b : OnTheWay) (kept : List (Kept K)) → Holds list kept
@@ -126,7 +127,7 @@ kept_line name k = numbered_line name (numbered_of k)
 abbrev pub kept_read_line : Kept ℕ → List ℕ
 kept_read_line k = frame_line (record { start = k.head; frame = k.frame })
 
--- the line of a frame that was never sealed, or nothing
+-- the line of a frame if it was never sealed with its number, otherwise nothing
 abbrev pub forged_line : List NumberedFrame → Kept Numbered → List ℕ
 forged_line sealed_ones k = line_if_forged sealed_ones (numbered_of k)
 

@@ -1,4 +1,4 @@
--- From what is known of recordings to what is printed of them.
+-- If the recordings are known, and their text was printed or broken off, `PrintsItems` holds.
 use Rattle.recordings_replay.specs.Printing.{PrintsText}
 use Rattle.recordings_replay.specs.Recorded.{IsRecordedWith, PrintsItems}
 use Rattle.replay_status.specs.declared.status.Status.{Status, TheVariants.Done}

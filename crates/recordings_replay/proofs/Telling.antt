@@ -1,5 +1,5 @@
--- What the lists of two recordings say of one another follows from the laws of transmitter,
--- receiver and device.
+-- What the lists of two recordings say of one another follows from the laws of the transmitter, the
+-- receiver and the device.
 use Rattle.device_model.specs.Frames.{FrameRead}
 use Rattle.line_rules.specs.{Rules.Rules, RulesLaws.IsLawful, RulesLaws.IsFramed}
 use Rattle.link_format.specs.NumberedFrame.{NumberedFrame, numbers_of}
@@ -46,7 +46,7 @@ never-twice floor numbers rise i j d before within = λ same.
     let apart = rise-apart floor i j d numbers rise before within in
     omega (arith, apart, same)
 
--- ---- a list of which nothing is forged
+-- ---- a list of passed frames of which none is forged
 
 same-here : (f : NumberedFrame) → is_same_pair f f ≡ true
 same-here f =

@@ -24,7 +24,8 @@ module _ {K : Type 0} (k : Source K) (before after : K) (runs : List ℕ → Sta
     pub calm : k.faults after ≡ k.faults before
     pub does : runs key status
 
-  -- Holds if what was met of the key is no right key text, and nothing else was touched.
+  -- Holds if what was met of the key is no right key text, `place` is its refused place, and
+  -- nothing else was touched.
   pub record RefusesKeyAt (place : ℕ) : Type 0 where
     pub text : List ℕ
     pub met : IsKeyMet (k.left before) (k.left after) text

@@ -30,6 +30,7 @@ abbrev pub numbered_line : List ℕ → NumberedFrame → List ℕ
 numbered_line name f = name ++ codes " " ++ decimal f.number ++ codes " at " ++ decimal f.start
     ++ codes " " ++ encode_lower f.frame ++ codes "\n"
 
+-- the lines of these frames, in order, each of which begins with this name
 abbrev pub numbered_lines : List ℕ → List NumberedFrame → List ℕ
 numbered_lines name frames = flat_map (numbered_line name) frames
 

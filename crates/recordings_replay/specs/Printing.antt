@@ -16,6 +16,7 @@ pub record OnTheWay : Type 0 where
   pub held : Option (List ℕ)
   pub waits : List ℕ
 
+-- the record of these two values
 abbrev pub on_the_way : Option (List ℕ) → List ℕ → OnTheWay
 on_the_way held waits = record { held = held; waits = waits }
 

@@ -26,7 +26,8 @@ pub record IsRecordedWith (marks : ℕ) (before now : Option (List ℕ)) (items 
     pub right : IsTickText marks text items
     pub few : AreFew items
 
--- two recordings, which one mark separates
+-- Holds if the whole input was met, is a right text with one mark, so with two recordings, and has
+-- these items, with no more ticks than may be taken.
 abbrev pub IsRecorded : Option (List ℕ) → Option (List ℕ) → List Item → Type 0
 IsRecorded before now items = IsRecordedWith 1 before now items
 

@@ -58,8 +58,8 @@ pub record TellsOf (profile : Profile) (rules : Rules) (device link : List Tick)
   pub sealed_once : HasNoNumberTwice (numbers_of listing.sealed)
   pub passed_rise : RiseFrom 0 (numbers_of listing.passed)
   pub passed_once : HasNoNumberTwice (numbers_of listing.passed)
-  -- If the link is untouched, with any silence after it, and the frames of the line are spaced, the
-  -- link brings all of the line.
+  -- If the link is what the transmitter sends for the line, followed by any silence, and the frames
+  -- of the line are spaced, the link brings all of the line.
   pub untouched : (rest : ℕ)
       → link ≡ link_line profile rules 0 (device ++ silent (device_rest profile)) ++ silent rest
       → AreSpaced profile rules 0 (bursts device)
