@@ -44,7 +44,7 @@ none-later : (o : Option ℕ) → option_map suc o ≡ None → o ≡ None
 none-later None none = refl
 none-later (Some i) none = cc
 
--- lists without a difference are equal
+-- Two lists without a difference are equal.
 pub no-difference : (x y : List FrameRead) → first_difference x y ≡ None → x ≡ y
 no-difference [] [] none = refl
 no-difference [] (g ∷ y) none = cc
@@ -58,14 +58,15 @@ no-difference (f ∷ x) (g ∷ y) none =
     (λ other. let never : Some 0 ≡ None = sym (cond-false _ _ _ other) ∙ none in cc)
     (cases_Bool (is_same_read f g))
 
--- and equal lists have none
+-- A list doesn't differ from itself.
 pub differs-nowhere : (x : List FrameRead) → first_difference x x ≡ None
 differs-nowhere [] = refl
 differs-nowhere (f ∷ x) = cond-true _ _ _ (read-itself f) ∙ ap (option_map suc) (differs-nowhere x)
 
 -- ---- verdicts
 
--- what a clean verdict comes of
+-- What must hold for a clean verdict: no frame is forged, there is no difference, and the counts
+-- are those of the lists.
 record Cleans (frames : List NumberedFrame) (place : Option ℕ) (a b c sealed passed read : ℕ) :
     Type 0 where
   pub unforged : frames ≡ []
@@ -145,7 +146,7 @@ module _ (kind : LinkKind) (session : Session) where
       (first_difference (map (delivered profile) P) X) (length (sealed_in kind session device))
       (length P) (length X) place none
 
--- what holds of both protocols by both profiles holds of each session's
+-- What holds for both protocols with both profiles holds for each session.
 pub each-kind : (P : LinkKind → Type 0)
     → P (record { profile = y18 1 LIMIT; rules = rtu_rules; reads = rtu_reads })
     → P (record { profile = y24 1 LIMIT; rules = rtu_rules; reads = rtu_reads })
@@ -165,7 +166,8 @@ each-kind P rtu18 rtu24 dnp18 dnp24 session =
 
 -- ---- a session whose protocol and profile were told apart
 
--- the kind by whether the protocol is Modbus RTU, and the profile that of 18 ticks
+-- the kind of a link: `rtu` says whether the protocol is Modbus RTU, and `short` whether the
+-- profile is y18
 abbrev pub kind_at : Bool → Bool → LinkKind
 kind_at rtu short =
     if rtu then record {

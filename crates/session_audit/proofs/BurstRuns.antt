@@ -1,4 +1,4 @@
--- The bytes of a line's last burst, by one tick more, and by a run.
+-- The bytes of a line's last burst after one more tick, and after a run.
 use Rattle.frame_ending.proofs.BurstSteps.{longer-bytes, longer-end}
 use Rattle.frame_ending.proofs.LastBurst.{grown, last_burst-byte, last_burst-silent, last_burst-nil}
 use Rattle.frame_ending.proofs.LastBurst.{IsWithin, last_burst-within}
@@ -20,7 +20,7 @@ use Rattle.yasir_ticks.specs.declared.tick.Tick.{Tick, TheVariants.Silent, TheVa
 longer-line : (line : List Tick) (t : Tick) → length (line ++ t ∷ []) ≡ length line + 1
 longer-line line t = length-append line (t ∷ [])
 
--- the last burst of a line ends within it
+-- The last burst of a line ends within the line.
 last-within : (line : List Tick) → IfSome (last_burst line) (IsWithin (length line))
 last-within line = by_last (last_burst line) refl
   where
@@ -28,8 +28,8 @@ last-within line = by_last (last_burst line) refl
     by_last None is = tt
     by_last (Some d) is = last_burst-within line d is
 
--- What a byte at tick m makes of the last burst: it begins one behind four silent ticks, and else
--- goes on with it.
+-- What a byte at tick `m` does to the last burst: after four silent ticks it begins a new burst,
+-- and otherwise it goes on with the last one.
 record ByByte (m b : ℕ) (o : Option Burst) : Type 0 where
   loud : quiet_in (m + 1) (Some (grown m b o)) ≡ 0
   first : 4 ≤ quiet_in m o → burst_bytes_in (Some (grown m b o)) ≡ b ∷ []
@@ -150,7 +150,7 @@ first-live rules None = refl
 first-live rules (Some d) =
     sym (bytes_up_to (length (live_bytes rules d)) d.body) ∙ live_ticks-bytes rules d
 
--- they are the first ones of the burst
+-- The live bytes are the first bytes of the burst.
 pub live-first : (rules : Rules) (line : List Tick)
     → take (length (live_bytes_so_far rules line)) (burst_bytes_so_far line)
     ≡ live_bytes_so_far rules line
@@ -164,7 +164,8 @@ none-bytes = ap burst_bytes_in last_burst-nil
 
 -- ---- what keeps them
 
--- what doesn't stand among the first n doesn't come to are there
+-- Bytes that are cut off beyond the first `n` don't come among the first `n` again when more bytes
+-- follow.
 take-front : (n : ℕ) (x y : List ℕ) → take n (take n x ++ y) ≡ take n (x ++ y)
 take-front zero x y = refl
 take-front (suc n) [] y = refl
@@ -179,7 +180,8 @@ take-least n y =
     ∙ (take_all (length y) y (omega arith) ∙ sym (take_all n y all)))
     (cases_lt n (length y))
 
--- what is kept of more than there is room for
+-- If as many bytes of `y` are added to `x` as there is room for, the first `n` of both together are
+-- kept.
 pub take-room : (n : ℕ) (x y : List ℕ) → length x ≤ n
     → x ++ take (min (n - length x) (length y)) y ≡ take n (x ++ y)
 take-room n [] y few =

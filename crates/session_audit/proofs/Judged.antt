@@ -1,4 +1,4 @@
--- What the lists of an audit are asked, place by place.
+-- What an audit looks up in its lists, place by place.
 use Rattle.{link_format.specs.NumberedFrame.NumberedFrame, receiver_laws.specs.Accounted.forged}
 use Rattle.{receiver_laws.specs.Accounted.is_among, replay_lists.specs.FrameBox.kept_frames}
 use Rattle.replay_lists.specs.{FrameBox.kept_numbered, declared.frame_box.Numbered.Numbered}
@@ -11,7 +11,7 @@ use Rattle.std.proofs.lemmas.List.{drop_more, get_or-map}
 abbrev pub numbered_of : Numbered → List ℕ → NumberedFrame
 numbered_of head bytes = record { number = head.number; start = head.start; frame = bytes }
 
--- the frame at a place, of which head and bytes were looked up
+-- The frame at a place is the one whose head and bytes were looked up there.
 pub frame-at : (frames : List NumberedFrame) (i : ℕ) (head : Numbered) (bytes : List ℕ)
     → i < length frames
     → head ≡ (get_or (kept_frames frames) i (kept_numbered (numbered_of head bytes))).head

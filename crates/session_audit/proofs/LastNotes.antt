@@ -30,7 +30,7 @@ other : (a b : ℕ) → a < b → (a == b) ≡ false
 other a b h = grind arith
 
 module _ {S N : Type 0} (w : Walker S N) (causal : IsCausal w) where
-  -- These notes are none, or that of the last one of these bursts.
+  -- Holds if there are no notes, or only one, which is that of the last of these bursts.
   pub record IsLast (ds : List Burst) (notes : List (Noted N)) : Type 0 where
     pub each : (n : Noted N) (rest : List (Noted N)) → notes ≡ n ∷ rest
         → (s : S) × (d : Burst) × (last_of ds ≡ Some d) × (n ≡ noted w s d) × (rest ≡ [])
@@ -62,7 +62,7 @@ module _ {S N : Type 0} (w : Walker S N) (causal : IsCausal w) where
       cond-false _ _ _ (other (w.tick s d) m early) in
       record { each = λ n more is. rest.each n more (sym skip ∙ is) }
 
-  -- the notes that a tick adds
+  -- The notes that a tick adds are none, or only the note of the last burst.
   pub last-added : (begun : S) (line : List Tick) (t : Tick)
       → IsLast (bursts (line ++ t ∷ []))
       (notes_at (length line) (walked w begun (bursts (line ++ t ∷ []))))
@@ -73,7 +73,7 @@ module _ {S N : Type 0} (w : Walker S N) (causal : IsCausal w) where
 
 -- ---- the frame of a step
 
--- what a step tells of the notes that it adds, whose frames are those of the last burst
+-- What a step tells of the notes that it adds. Their frames are those of the last burst.
 module _ {S N A : Type 0} (w : Walker S N) (causal : IsCausal w) (rules : Rules)
     (frame_in : N → Option NumberedFrame) (brief : N → A) (told : A → Option Numbered)
     (has : HasFrames w rules frame_in brief told) (begun : S) (line : List Tick) (t : Tick) where
@@ -92,7 +92,7 @@ module _ {S N A : Type 0} (w : Walker S N) (causal : IsCausal w) (rules : Rules)
         (subst (λ b. f ∷ [] ≡ record { number = f.number; start = f.start; frame = b } ∷ []) live
         refl)
 
-    -- the bytes of the note of the last burst
+    -- If the note of the last burst has a frame, its bytes are the live bytes.
     live-of : (n : Noted N) (s : S) (d : Burst) → last_of (bursts now) ≡ Some d → n ≡ noted w s d
         → IfSome (frame_in n.note) (λ f. f.frame ≡ bytes)
     live-of n s d last is =
@@ -117,7 +117,8 @@ module _ {S N A : Type 0} (w : Walker S N) (causal : IsCausal w) (rules : Rules)
         ∙ framed n (frame_in n.note) refl (live-of n each.0 each.1 each.2 each.3)
         ∙ ap (λ o. frame_told o bytes) (sym told_is)
 
-    -- the frame of a step, with the live bytes
+    -- The frames after a step are those before it, and then the frame of the step, with the live
+    -- bytes.
     pub frames-step : (answer : Tick) (tellings : Option A)
         → AnswersTick w brief begun line t answer tellings
         → frames_among frame_in (notes_of w begun now)

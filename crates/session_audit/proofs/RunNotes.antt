@@ -1,4 +1,4 @@
--- A run of ticks without a note is one without a frame.
+-- No frame falls into a run of ticks without a note.
 use Rattle.burst_walk.proofs.Longer.{extends, length-line_of}
 use Rattle.burst_walk.specs.{Answers.told_notes, Causal.IsCausal, Longer.Begins, Runs.AnswersRun}
 use Rattle.burst_walk.specs.Walk.{Walker, Noted, notes_of, line_of}
@@ -13,7 +13,7 @@ module _ {S N A : Type 0} (w : Walker S N) (causal : IsCausal w) (brief : N → 
   abbrev tell : Noted N → Noted A
   tell n = record { tick = n.tick; note = brief n.note }
 
-  -- the notes themselves are as they were
+  -- The notes are the same before the run and after it.
   notes-same : notes_of w begun (line ++ run) ≡ notes_of w begun line
   notes-same =
       let more : Begins (notes_of w begun line) (notes_of w begun (line ++ run)) =

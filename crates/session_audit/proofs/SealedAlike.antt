@@ -21,7 +21,7 @@ use Rattle.std.specs.List.{filter_map}
 use Rattle.yasir_ticks.specs.Bursts.{Burst, bursts, end_of}
 use Rattle.yasir_ticks.specs.declared.{TheConstants.T3_5_TICKS, tick.Tick.Tick}
 
--- two profiles with the same greatest number and trailers of one length
+-- two profiles with the same greatest number and trailers of the same length
 module _ (p q : Profile) (rules : Rules) (limit : p.limit ≡ q.limit)
     (long : trailer_len p ≡ trailer_len q) where
   judged-alike : (s : SealState) (d : Burst) → judged p rules s d ≡ judged q rules s d

@@ -37,22 +37,25 @@ clean : verdict_on 18 (frame 1 0 (5 ∷ []) ∷ frame 2 30 (6 ∷ []) ∷ []) (f
     (read 48 (6 ∷ []) ∷ []) ≡ Clean 2 1 1
 clean = refl
 
--- it stood elsewhere on the link than on the line, which no verdict asks about
+-- The frame starts at another tick of the link than of the line, which makes no difference to the
+-- verdict.
 moved : verdict_on 18 (frame 1 0 (5 ∷ []) ∷ []) (frame 1 70 (5 ∷ []) ∷ []) (read 88 (5 ∷ []) ∷ [])
     ≡ Clean 1 1 1
 moved = refl
 
--- the frames passed under each other's number: the first of them is named, though the reads differ
+-- Each of two frames passed with the number of the other one. The verdict names the first of them,
+-- and not the difference between the frames read and those that passed.
 exchanged : verdict_on 18 (frame 1 0 (5 ∷ []) ∷ frame 2 30 (6 ∷ []) ∷ [])
     (frame 1 0 (6 ∷ []) ∷ frame 2 30 (5 ∷ []) ∷ []) [] ≡ Forged 1 0
 exchanged = refl
 
--- and a forged frame is named where it isn't the first that passed
+-- A forged frame is named even if it isn't the first frame that passed.
 second-forged : verdict_on 18 (frame 6 0 (5 ∷ []) ∷ [])
     (frame 6 0 (5 ∷ []) ∷ frame 7 31 (5 ∷ []) ∷ []) [] ≡ Forged 7 31
 second-forged = refl
 
--- the device read the frame in its own tick, and not as late as the receiver is
+-- The device read the frame in the tick at which it starts on the link, and not as late as the
+-- receiver is.
 too-early : verdict_on 24 (frame 1 3 (5 ∷ []) ∷ []) (frame 1 3 (5 ∷ []) ∷ []) (read 3 (5 ∷ []) ∷ [])
     ≡ Differs 0
 too-early = refl

@@ -18,13 +18,14 @@ module _ (verdict_on_three : List Tick → List Tick → List Tick → Verdict)
     pub found : verdict
         ≡ verdict_on_three (part 0 takes.told) (part 1 takes.told) (part 2 takes.told)
 
-  -- Holds if the input didn't end whole but with `end`, or there was no memory for what was taken
-  -- of it.
+  -- Holds if the input ended with `end`, which isn't `Whole`. It may be that there was no memory
+  -- for what was taken of it.
   pub record FindsNone (end : End) : Type 0 where
     pub items : List Item
     pub takes : Takes 2 0 before now items end
     pub other : end ≢ Whole
 
+  -- What the result of an audit says of the input.
   abbrev pub AuditsInput : Result Verdict End → Type 0
   AuditsInput (Ok verdict) = FindsVerdict verdict
   AuditsInput (Err end) = FindsNone end

@@ -7,6 +7,7 @@ use Rattle.frame_ending.specs.SoFar.{last_burst, quiet_so_far}
 use Rattle.replay_lists.specs.FrameList.{longest_frame}
 use Rattle.session_audit.specs.declared.burst_bytes.BurstBytes.{BurstBytes}
 
+-- all bytes of this burst, or none if there is no burst
 abbrev pub burst_bytes_in : Option Burst → List ℕ
 burst_bytes_in None = []
 burst_bytes_in (Some d) = bytes_in d.body

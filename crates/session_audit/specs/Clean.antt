@@ -10,10 +10,11 @@ use Rattle.replay_lists.specs.Comparison.{read_later}
 use Rattle.session_audit.specs.Sessions.{LinkKind, got_profile, sealed_in, passed_in, read_in}
 use Rattle.session_audit.specs.declared.session.Session.{Session}
 
--- What a clean verdict says. The frames that were read are those that passed, each as late as the
--- receiver is. The frames that passed are, with their numbers, a subsequence of those that were
--- sealed, and so the frames that were read are one too. Numbers rise from the floors on both sides,
--- so each is used at most once.
+-- Holds if the frames that were read are those that passed, each as late as the receiver is, and
+-- the frames that passed are, with their numbers, a subsequence of those that were sealed. So the
+-- frames that were read are a subsequence of them too. On both sides the numbers rise from the
+-- floor, so each is used at most once. The counts are those of the sealed, the passed and the read
+-- frames.
 pub record IsClean (kind : LinkKind) (session : Session) (device link received : List Tick)
     (sealed_ones passed_ones read_ones : ℕ) : Type 0 where
   pub read_what_passed : read_in kind session received

@@ -23,8 +23,8 @@ abbrev pub told_by : {A : Type 0} → (A → Option Numbered) → Option A → O
 told_by told None = None
 told_by told (Some note) = told note
 
--- Holds if a note's frame, if it has one, has the live bytes of the note's burst, and a box tells
--- the number and the start of that frame, or nothing if there is none.
+-- Holds if the frame of each note that has one has the live bytes of the note's burst, and what a
+-- box tells of a note is the number and the start of its frame, or nothing if it has none.
 pub record HasFrames {S N A : Type 0} (w : Walker S N) (rules : Rules)
     (frame_in : N → Option NumberedFrame) (brief : N → A) (told : A → Option Numbered) :
     Type 0 where

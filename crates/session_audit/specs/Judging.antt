@@ -13,7 +13,7 @@ abbrev pub first_head : List NumberedFrame → Option Numbered
 first_head [] = None
 first_head (f ∷ more) = Some (record { number = f.number; start = f.start })
 
--- The lengths of the lists and the count of what was read fit 32 bits.
+-- Holds if the lengths of the lists and the count of the frames read fit into 32 bits.
 pub record AreShort (sealed passed : FrameList Numbered) (read : Comparison) : Type 0 where
   pub sealed_ones : list_len sealed < 2 ^ 32
   pub passed_ones : list_len passed < 2 ^ 32

@@ -40,10 +40,11 @@ pub record AreRecordings (device link received : List Tick) : Type 0 where
   pub link_len : length link ≤ max_recorded
   pub received_len : length received ≤ max_recorded
 
--- how the boxes were set up: here the transmitter, and below it the receiver
+-- how the transmitter was set up
 abbrev pub sent_setup : Session → Setup
 sent_setup session = setup_of session.key.now session.dir session.sent_floor
 
+-- how the receiver was set up
 abbrev pub got_setup : Session → Setup
 got_setup session = setup_of session.key.now session.dir session.got_floor
 
@@ -56,24 +57,30 @@ pub record LinkKind : Type 0 where
   pub rules : Rules
   pub reads : List Tick → List FrameRead
 
+-- the profile of a link by the session's `profile`, the label of the protocol and a setup: y18 for
+-- 18, and y24 for any other number
 abbrev pub link_profile_of : ℕ → ℕ → Setup → Profile
 link_profile_of profile label = if profile == 18 then y18 label LIMIT else y24 label LIMIT
 
+-- what belongs to this label and this profile: Modbus RTU for label 1, and DNP3 for any other
 abbrev pub kind_by : ℕ → ℕ → LinkKind
 kind_by label profile =
     if label == 1
     then record { profile = link_profile_of profile 1; rules = rtu_rules; reads = rtu_reads }
     else record { profile = link_profile_of profile 2; rules = dnp_rules; reads = dnp_reads }
 
+-- what belongs to the protocol and the profile of a session
 abbrev pub kind_of : Session → LinkKind
 kind_of session = kind_by session.label session.profile
 
 -- ---- what the recordings say
 
 module _ (kind : LinkKind) (session : Session) where
+  -- the profile of the link for the transmitter's setup
   abbrev pub sent_profile : Profile
   sent_profile = kind.profile (sent_setup session)
 
+  -- the profile of the link for the receiver's setup
   abbrev pub got_profile : Profile
   got_profile = kind.profile (got_setup session)
 
@@ -98,10 +105,12 @@ module _ (kind : LinkKind) (session : Session) where
   line_received link =
       received_line got_profile kind.rules session.got_floor (link ++ silent link_rest)
 
+  -- the verdict on three recordings of the session: the line of the device that sends, the link,
+  -- and the line of the device that receives
   abbrev pub verdict_with : List Tick → List Tick → List Tick → Verdict
   verdict_with device link received =
       verdict_on (delay got_profile) (sealed_in device) (passed_in link) (read_in received)
 
--- the verdict on these recordings of a session
+-- the verdict on three recordings of a session, by its protocol and its profile
 abbrev pub verdict_of : Session → List Tick → List Tick → List Tick → Verdict
 verdict_of session = verdict_with (kind_of session) session

@@ -23,6 +23,8 @@ timing_of late = record {
   received_rest = T3_5_TICKS;
 }
 
+-- how both boxes of a session are set up, how late the receiver is, and how much silence follows
+-- each recording
 abbrev pub setups_of : ℕ → Session → Setups
 setups_of late session = record {
   sent = sent_setup session;
@@ -32,6 +34,8 @@ setups_of late session = record {
 
 module _ {S C V : Type 0} (s : FrameBox S) (c : FrameBox C) (v : Device V)
     (session : Session) where
+  -- the verdict on three recordings of the session, each followed by its silence, if the receiver
+  -- is this many ticks late
   abbrev pub verdict_through : ℕ → List Tick → List Tick → List Tick → Verdict
   verdict_through late device link received = verdict_on late
       ((s.numbering (sent_setup session)).frames (device ++ silent (late + 6)))

@@ -7,8 +7,9 @@ use Rattle.replay_lists.specs.Comparison.{expected_reads, first_difference}
 use Rattle.session_audit.specs.declared.verdict.Verdict.{Verdict}
 use Rattle.session_audit.specs.declared.verdict.Verdict.TheVariants.{Clean, Forged, Differs}
 
--- The verdict is the first forged frame if there is one, otherwise the first difference if there is
--- one, and otherwise the clean verdict.
+-- The verdict by the forged frames, the place of the first difference, and the clean verdict:
+-- `Forged` with the first forged frame if there is one, otherwise `Differs` with the place if there
+-- is one, and otherwise the clean verdict.
 abbrev pub verdict_by : List NumberedFrame → Option ℕ → Verdict → Verdict
 verdict_by (f ∷ more) place clean = Forged f.number f.start
 verdict_by [] (Some place) clean = Differs place

@@ -20,7 +20,7 @@ pub struct BurstBytes {
 }
 
 impl BurstBytes {
-    /// No bytes, before any tick was taken.
+    /// Returns what is kept before the first tick: no bytes.
     pub fn new() -> BurstBytes
         ensures { BurstFor result [] }
     {

@@ -17,7 +17,7 @@ pub trait NotingBox<R: LineRules>: LinkBox {
     /// Number and start of the frame of a note, if it has one.
     ghost told: { Self.Note → Option Numbered };
 
-    /// Number and start of the frame of a note, if it has one.
+    /// Returns number and start of the frame of a note, if it has one.
     fn numbered(note: Self::Note) -> Option<Numbered>
         ensures { result ≡ told note };
 

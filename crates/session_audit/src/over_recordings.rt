@@ -50,8 +50,8 @@ fn audit_by<S: FrameBox, C: FrameBox, V: Device + Drop>(
 /// Judges a session that has ended by three recordings of it: the line of the device that sends,
 /// the link, and the line of the device that receives, each as a list of at most 16,777,216 ticks.
 /// The transmitter's frames are sealed anew, the link is checked anew, and the third line is read
-/// anew, each with so much silence after it that all has come. Nothing is said of who made the
-/// recordings.
+/// anew, each with enough silence after it for its last frame to count. Nothing is said of who made
+/// the recordings.
 ///
 /// The frames that are sealed and those that pass are kept in memory. If there isn't enough of it,
 /// `NoMemory` is returned.

@@ -14,7 +14,7 @@ pub trait SteadyDisk: SlotDisk + Drop {
     fn blank() -> Self
         ensures { IsSomeAnd (Self.SlotDisk.told result) (λ slots. greatest slots ≡ None) };
 
-    // Its count of faults is always 0.
+    /// Its count of faults is always 0.
     ghost steady: { (disk : Self) → Self.SlotDisk.faults disk ≡ 0 };
 }
 
