@@ -14,6 +14,7 @@ pub struct Failing {
     pub disk: u32,
 }
 
+/// No call fails, and each moves up to 512 bytes.
 pub const STEADY: Failing = Failing {
     piece: 512,
     key: 0,
@@ -23,6 +24,7 @@ pub const STEADY: Failing = Failing {
     disk: 0,
 };
 
+/// No call fails, and each moves one byte at most.
 pub const BYTE_BY_BYTE: Failing = Failing { piece: 1, ..STEADY };
 
 /// A plan by which this call fails, or no call if it is 0.

@@ -19,6 +19,7 @@ use std::process::Abort;
 use std::test::Fail;
 use yasir_io::{MemSink, MemSlots, MemSource, Slot, SteadySlots};
 
+/// The key of all boxes, as its text: 32 digits for 16 bytes.
 pub const KEY: &[u8] = b"000102030405060708090a0b0c0d0e0f";
 
 /// What a slot holds: a number for the link of its row, nothing that was ever written, or other
@@ -45,6 +46,7 @@ pub const NO_NUMBER: Held = Held::Ones;
 /// What slots A and B hold.
 pub type Numbers = (Held, Held);
 
+/// The slots of a new journal.
 pub const FRESH: Numbers = (AT_0, NOTHING);
 
 /// A box of the program, which the program's words ask for.

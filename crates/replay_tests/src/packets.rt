@@ -8,15 +8,19 @@ pub const KEY: u128 = 0x000102030405060708090a0b0c0d0e0f;
 //     | openssl dgst -sha1 -mac HMAC -macopt hexkey:000102030405060708090a0b0c0d0e0f
 //     | cut -c1-24
 // and so for the frame of DNP3 with 0200 in front, and by y24 with -sha256 and cut -c1-32.
+/// The packet of a Modbus RTU request with number 1, by y18.
 pub const RTU_PACKET: &[u8] = b"\x01\x03\x00\x00\x00\x0a\xc5\xcd...\
       \x00\x01\x01\x4c\x5b\x8d\x33\xc6\xd2\x9a\x34\x70\x13\xb0";
 
+/// The packet of a DNP3 frame that is only a header, with number 1, by y18.
 pub const DNP_PACKET: &[u8] = b"\x05\x64\x05\xc0\x01\x00\x00\x04\xe9\x21...\
       \x00\x01\x79\x34\x84\xb9\xbd\xf8\x58\xbb\xd8\x2b\x55\x9e";
 
+/// The packet of a Modbus RTU request with number 1, by y24.
 pub const WIDE_RTU_PACKET: &[u8] = b"\x01\x03\x00\x00\x00\x0a\xc5\xcd...\
       \x00\x00\x00\x01\x65\xd2\x45\xba\x10\x95\x09\xaa\x6c\x32\xac\x3c\xfa\x22\x8f\xd6";
 
+// The packet of a DNP3 frame that is only a header, with number 1, by y24.
 const WIDE_DNP_PACKET: &[u8] = b"\x05\x64\x05\xc0\x01\x00\x00\x04\xe9\x21...\
       \x00\x00\x00\x01\xcd\x52\x5d\x6a\x6c\x11\x90\x47\xd4\x5d\xb5\xba\x9f\x9e\x42\x90";
 
