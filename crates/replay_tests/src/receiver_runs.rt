@@ -374,7 +374,7 @@ fn compare_silence(rt: &impl Abort, alloc: Global, receiver: Receiver) -> Result
     compare_runs(rt, alloc, receiver, whole, whole, 200, 3)
 }
 
-// Makes all of these comparisons.
+// Makes the comparisons of `compare_trailers`, `compare_bursts` and `compare_silence`.
 fn compare_all(rt: &impl Abort, alloc: Global, receiver: Receiver) -> Result<(), Fail> {
     compare_trailers(rt, alloc, receiver)?;
     compare_bursts(rt, alloc, receiver)?;

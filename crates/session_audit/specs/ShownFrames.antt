@@ -12,7 +12,7 @@ use Rattle.sequence_journal.specs.Journal.{journal_link, journal_floor, Fits}
 use Rattle.session_audit.specs.BurstBytes.{BurstFor}
 use Rattle.session_audit.specs.declared.shown_frames.ShownFrames.{ShownFrames}
 
--- The journal is that of the box's link, and the disk fits the journal.
+-- Holds if the journal is that of the box's link, and the disk fits the journal.
 pub record IsSteady {X R K : Type 0} (link_of : X → LinkId) (told : K → Option Slots)
     (value : ShownFrames X R K) : Type 0 where
   pub of_link : journal_link value.journal ≡ link_of value.line_box
