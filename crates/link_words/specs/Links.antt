@@ -1,4 +1,4 @@
--- What the protocols and profiles of links are made of.
+-- The parts that make up the protocols and profiles of links.
 use Rattle.std.specs.Prelude.{ℕ}
 use Rattle.line_rules.specs.Rules.{Rules}
 use Rattle.rtu_frame.specs.Rules.{rtu_rules}
@@ -20,12 +20,13 @@ abbrev pub rules_of : Proto → Rules
 rules_of Rtu = rtu_rules
 rules_of Dnp3 = dnp_rules
 
--- what a profile is for the number of a protocol, with numbers up to a limit, as a box is set up
+-- the profile of a link, as the definitions have it, from the label of a protocol, the greatest
+-- number and the setup of a box
 abbrev pub link_profile_of : Profile → ℕ → ℕ → Setup → LinkProfile
 link_profile_of Y18 = y18
 link_profile_of Y24 = y24
 
--- how many ticks the receiver of a profile holds a byte back
+-- how many ticks the receiver of a profile holds each byte back
 abbrev pub delay_of : Profile → ℕ
 delay_of Y18 = 18
 delay_of Y24 = 24
@@ -39,8 +40,8 @@ link_of proto profile dir = record {
   profile = delay_of profile;
 }
 
--- how many silent ticks a profile asks for between frames that are to be sealed: those that end a
--- frame, a pause, and a trailer fit into them
+-- how many silent ticks a profile asks for between frames that will be sealed: they have room for a
+-- pause, a trailer, and the silence that ends a frame
 abbrev pub gap_of : Profile → ℕ
 gap_of Y18 = 21
 gap_of Y24 = 27

@@ -1,4 +1,4 @@
--- The words of a link.
+-- The words that name a link.
 use Rattle.std.specs.Prelude.{ℕ, List, codes}
 use Rattle.hmac_tag.specs.declared.dir.Dir.{Dir}
 use Rattle.hmac_tag.specs.declared.dir.Dir.TheVariants.{Ab, Ba}
@@ -11,7 +11,7 @@ abbrev pub proto_word : Proto → List ℕ
 proto_word Rtu = codes "rtu"
 proto_word Dnp3 = codes "dnp3"
 
--- the word of a protocol on a link of a profile
+-- the word for a protocol and a profile
 abbrev pub link_word : Proto → Profile → List ℕ
 link_word proto Y18 = proto_word proto
 link_word Rtu Y24 = codes "rtu24"

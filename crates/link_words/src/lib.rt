@@ -1,5 +1,5 @@
-//! The links of the programs: their words, the name that a journal has for one, and what a protocol
-//! and a profile are made of.
+//! The links of the programs: the words that name a link, the identity of a link in a journal, and
+//! the parts that make up a protocol and a profile.
 //!
 //! The link that `seal rtu24 ab` asks for, as its journal names it:
 //!

@@ -1,4 +1,5 @@
-//! The link of a protocol, a profile and a direction, and what a protocol and a profile are made of.
+//! The link of a protocol, a profile and a direction, and the parts that make up a protocol and a
+//! profile.
 ghost use Rattle.std.specs.Prelude.{◌≡◌};
 ghost use Rattle.sequence_journal.specs.Links.{IsLink};
 ghost use Rattle.link_words.specs.Links.{link_of};
@@ -8,11 +9,11 @@ use hmac_tag::Dir;
 use line_rules::LineRules;
 use sequence_journal::LinkId;
 
-/// Does a command with what a protocol and a profile are made of, each row of which is here and
-/// nowhere else: the rules of the protocol and its device, the MAC, the bytes of a number on the
-/// link, the receiver's delay in ticks, and the silent ticks that a spacer leaves between frames.
-/// The command is a macro that takes such a row, and behind it what it is given here. Who calls it
-/// depends on the crates of the types that the command takes of a row.
+/// Runs a command with the parts of a protocol and a profile: the rules of the protocol and its
+/// device, the MAC, the bytes of a number on the link, the receiver's delay in ticks, and the
+/// silent ticks that a spacer leaves between frames. Each row of these parts is written here and
+/// nowhere else. The command is a macro. It takes such a row, and after it the arguments that are
+/// given here. A crate that calls it depends on the crates of those types that its command uses.
 #[macro_export]
 macro_rules! with_link {
     ($proto:expr, $profile:expr, $command:ident ($($given:expr),*)) => {
@@ -45,7 +46,7 @@ macro_rules! with_link {
     };
 }
 
-// The link in a direction, by its number.
+// The link in a direction, which is given by its number.
 macro_rules! link_by {
     (
         [$rules:ty, $device:ty, $mac:ty, $word:literal, $delay:literal, $gap:literal], $dir:expr
@@ -58,7 +59,7 @@ macro_rules! link_by {
     };
 }
 
-/// The link of a protocol, a profile and a direction, as its journals name it.
+/// Returns the link of a protocol, a profile and a direction, as its journals name it.
 pub fn link_of(proto: Proto, profile: Profile, dir: Dir) -> LinkId
     ensures link { result ≡ link_of proto profile dir }
     ensures right { IsLink result }

@@ -1,4 +1,4 @@
-//! The words of a link: those of a protocol with a profile, and those of a direction.
+//! The words of a link: those for a protocol with a profile, and those for a direction.
 ghost use Rattle.std.specs.Prelude.{◌≡◌, ◌≤◌, length, IfOk, OnErr};
 ghost use Rattle.hmac_tag.specs.declared.dir.Dir.{Dir};
 ghost use Rattle.link_words.specs.declared.words.Profile.{Profile};
@@ -27,11 +27,11 @@ pub enum Profile {
     Y24,
 }
 
-/// The words name nothing that there is.
+/// The refusal of words that name nothing known.
 #[derive(Clone, Copy, Debug, PartialEq, Eq)]
 pub struct Usage;
 
-/// The protocol that a word names.
+/// Returns the protocol that a word names.
 pub fn read_proto(word: &str) -> Result<Proto, Usage>
     ensures ok { IfOk result (λ proto. word.now ≡ proto_word proto) }
     ensures usage { OnErr result ((proto : Proto) → word.now ≡ proto_word proto → ⊥) }
@@ -43,7 +43,7 @@ pub fn read_proto(word: &str) -> Result<Proto, Usage>
     }
 }
 
-/// The protocol and the profile that a word names.
+/// Returns the protocol and the profile that a word names.
 pub fn read_link(word: &str) -> Result<(Proto, Profile), Usage>
     ensures ok { IfOk result (λ link. word.now ≡ link_word link.0 link.1) }
     ensures usage { OnErr result ((proto : Proto) (profile : Profile)
@@ -59,7 +59,7 @@ pub fn read_link(word: &str) -> Result<(Proto, Profile), Usage>
     }
 }
 
-/// The direction that a word names.
+/// Returns the direction that a word names.
 pub fn read_dir(word: &str) -> Result<Dir, Usage>
     ensures ok { IfOk result (λ dir. word.now ≡ dir_word dir) }
     ensures usage { OnErr result ((dir : Dir) → word.now ≡ dir_word dir → ⊥) }
@@ -71,7 +71,7 @@ pub fn read_dir(word: &str) -> Result<Dir, Usage>
     }
 }
 
-/// The word of a protocol and a profile.
+/// Returns the word that names a protocol and a profile.
 pub fn link_word(proto: Proto, profile: Profile) -> &'static [u8]
     ensures word { result.now ≡ link_word proto profile }
     ensures short { length result.now ≤ 10 }
