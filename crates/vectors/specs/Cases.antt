@@ -1,4 +1,5 @@
--- Known answers: what the definitions give for a case, and what a table of cases is answered.
+-- Known answers: the value that the definitions give for a case, and the answer to a table of
+-- cases.
 use Rattle.std.specs.Prelude.{◌≡◌, ℕ, ◌+◌, List, [], ◌∷◌, ◌++◌, length, Bool, false, not, Option}
 use Rattle.std.specs.Prelude.{Some, None, Result, Ok, Err, MatchResult, All, position}
 use Rattle.std.specs.Prelude.{if◌then◌else◌}
@@ -31,12 +32,12 @@ case_of kind key text want =
 abbrev pub truth : Bool → List ℕ
 truth holds = (if holds then 1 else 0) ∷ []
 
--- the user data of a frame of DNP3; other bytes have none
+-- the user data of a text that is a frame of DNP3; other texts have none
 abbrev pub user_of : List ℕ → Option (List ℕ)
 user_of text = if dnp.is_frame text then Some (user_in text) else None
 
--- what the definitions give: a CRC high byte first, a MAC, a MAC cut to 12 bytes, a MAC by the
--- other hash function, 1 or 0 for a frame or none, and the user data of a frame
+-- the value that the definitions give: a CRC with its high byte first, an HMAC-SHA-1, one cut to 12
+-- bytes, an HMAC-SHA-256, a byte that says whether the text is a frame, or the user data of a frame
 abbrev pub value_by : CaseKind → List ℕ → List ℕ → Option (List ℕ)
 value_by Crc16 key text = Some (to_be_bytes w16 (crc_rtu text))
 value_by CrcDnp key text = Some (to_be_bytes w16 (crc_dnp text))
@@ -50,20 +51,20 @@ value_by DnpUser key text = user_of text
 abbrev pub value_of : Case → Option (List ℕ)
 value_of case = value_by case.kind case.key.items case.text.items
 
--- the definitions give what is wanted
+-- Holds if the definitions give the wanted value.
 abbrev pub IsRight : Case → Type 0
 IsRight case = value_of case ≡ Some case.want.items
 
--- there is a value, and it has these bytes
+-- whether there is a value, and it has these bytes
 abbrev pub has_bytes : Option (List ℕ) → List ℕ → Bool
 has_bytes None bytes = false
 has_bytes (Some value) bytes = bytes_eq value bytes
 
--- the decision of `IsRight`
+-- whether `IsRight` holds, as a function
 abbrev pub is_right : Case → Bool
 is_right case = has_bytes (value_of case) case.want.items
 
--- this many cases are right, and the next one isn't
+-- Holds if `row`, counted from 1, is the first of the cases that isn't right.
 pub record IsFirstMiss (cases : List Case) (row : ℕ) : Type 0 where
   pub before : List Case
   pub miss : Case
@@ -73,7 +74,8 @@ pub record IsFirstMiss (cases : List Case) (row : ℕ) : Type 0 where
   pub wrong : ¬ IsRight miss
   pub counted : row ≡ length before + 1
 
--- the answer to a table: every case is right, or this row, counted from 1, is the first that isn't
+-- Holds if the result is the answer to a table: every case is right, or the row that is given,
+-- counted from 1, is the first that isn't.
 abbrev pub IsAnswer : List Case → Result (Unit {0}) Miss → Type 0
 IsAnswer cases result = MatchResult result (λ _. All IsRight cases)
     (λ miss. IsFirstMiss cases miss.row)
@@ -82,6 +84,6 @@ abbrev pub answer_at : Option ℕ → Result (Unit {0}) Miss
 answer_at None = Ok tt
 answer_at (Some before) = Err (record { row = before + 1 })
 
--- the answer to a table as a function: it is `IsAnswer`, and nothing else is
+-- the answer to a table as a function: it satisfies `IsAnswer`, and no other result does
 unfoldable pub answer : List Case → Result (Unit {0}) Miss
 answer cases = answer_at (position (λ case. not (is_right case)) cases)

@@ -6,8 +6,8 @@ use Rattle.vectors.specs.declared.case.CaseKind.TheVariants.{HmacSha256}
 use Rattle.vectors.specs.declared.case.CaseKind.TheVariants.{RtuFrame, DnpFrame, DnpUser}
 use Rattle.vectors.specs.Cases.{case_of}
 
--- CRCs of Modbus RTU, of the usual check text and of the two bytes 01 03; and of DNP3, of the check
--- text and of the header of a reset of a link
+-- CRCs of Modbus RTU, for the usual check text and for the two bytes 01 03; and of DNP3, for the
+-- check text and for the header of a frame that resets a link
 unfoldable pub crc_cases : List Case
 crc_cases =
     case_of Crc16 [] (codes "123456789")
@@ -49,8 +49,8 @@ hmac_cases =
     ∷ 0xB9 ∷ 0x64 ∷ 0xEC ∷ 0x38 ∷ 0x43 ∷ [])
     ∷ []
 
--- frames of Modbus RTU, and one with a wrong CRC; and frames of DNP3, a reset of a link and a read
--- of class data
+-- frames of Modbus RTU, and one with a wrong CRC; and frames of DNP3, one that resets a link and
+-- one that reads class data
 unfoldable pub frames_cases : List Case
 frames_cases =
     case_of RtuFrame [] (0x01 ∷ 0x03 ∷ 0x00 ∷ 0x00 ∷ 0x00 ∷ 0x0A ∷ 0xC5 ∷ 0xCD ∷ [])
@@ -71,7 +71,8 @@ frames_cases =
     (0x01 ∷ [])
     ∷ []
 
--- user data of frames of DNP3: none in a reset of a link, and a read of class data
+-- user data of frames of DNP3: none in the frame that resets a link, and that of a frame that reads
+-- class data
 unfoldable pub user_cases : List Case
 user_cases =
     case_of DnpUser [] (0x05 ∷ 0x64 ∷ 0x05 ∷ 0xC0 ∷ 0x01 ∷ 0x00 ∷ 0x00 ∷ 0x04 ∷ 0xE9 ∷ 0x21 ∷ [])

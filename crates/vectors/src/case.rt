@@ -1,4 +1,4 @@
-//! A known answer: a kind, a key, a text, and what is wanted.
+//! A known answer: a kind, a key, a text, and the value that is wanted for them.
 ghost use Rattle.std.specs.Prelude.{◌≡◌, ◌≤◌, length, option_map};
 ghost use Rattle.arrayvec.specs.ArrayVec.{array_vec_len};
 ghost use Rattle.vectors.specs.Cases.{truth, user_of};
@@ -18,23 +18,24 @@ pub enum CaseKind {
     CrcDnp,
     /// The HMAC-SHA-1 of the text under the key, 20 bytes.
     HmacSha1,
-    /// The first 12 bytes of the HMAC-SHA-1 of the text under the key, by the stream.
+    /// The first 12 bytes of the HMAC-SHA-1 of the text under the key, computed by the streaming
+    /// calls.
     HmacSha196,
     /// The HMAC-SHA-256 of the text under the key, 32 bytes.
     HmacSha256,
-    /// One byte: 1 where the text is a frame of Modbus RTU, else 0.
+    /// One byte: 1 if the text is a frame of Modbus RTU, or 0 if it isn't.
     RtuFrame,
-    /// One byte: 1 where the text is a frame of the DNP3 link layer, else 0.
+    /// One byte: 1 if the text is a frame of the DNP3 link layer, or 0 if it isn't.
     DnpFrame,
-    /// The user data of the text, where that is a frame of the DNP3 link layer. Any other text has
-    /// none, and is never right.
+    /// The user data of the text, if the text is a frame of the DNP3 link layer. Any other text has
+    /// none, so its case is never right.
     DnpUser,
 }
 
-/// The bytes of a key, a text or an answer.
+/// The bytes of a key, a text or a wanted value.
 pub type CaseBytes = ArrayVec<u8, 80>;
 
-/// A known answer: what is wanted for a key and a text.
+/// A known answer: the value that is wanted for a key and a text.
 #[derive(Debug, Drop)]
 pub struct Case {
     pub kind: CaseKind,
@@ -71,7 +72,7 @@ fn user_of(text: &[u8]) -> Option<CaseBytes>
 impl Case {
     ghost use Rattle.vectors.specs.Cases.{case_of, value_of, is_right};
 
-    /// A case with copies of the three lists.
+    /// Returns a case with copies of these three lists.
     pub fn new(kind: CaseKind, key: &[u8], text: &[u8], want: &[u8]) -> Case
         requires key { length key.now ≤ 80 }
         requires text { length text.now ≤ 80 }

@@ -1,4 +1,4 @@
-//! Whether bytes are a frame, as a known answer asks it.
+//! Whether bytes are a frame, for the known answers about frames.
 ghost use Rattle.std.specs.Prelude.{◌≡◌};
 ghost use Rattle.line_rules.specs.Rules.{is_frame_of};
 

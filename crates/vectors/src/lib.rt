@@ -1,5 +1,5 @@
-//! Tables of known answers: what the definitions of this repository give, beside the numbers of the
-//! public standards.
+//! Tables of known answers, which compare what the definitions of this repository give with the
+//! values of public standards.
 //!
 //!     let (rows, answer) = crc_table();
 //!     assert_eq!(rt; (rows, answer), (4, Ok(())));

@@ -1,17 +1,17 @@
-//! The tables of known answers, and the first row of each that isn't right.
+//! The tables of known answers, and the first row of a table that isn't right.
 ghost use Rattle.std.specs.Prelude.{◌≡◌, ◌<◌, ◌^◌, length, not, position, IfSome};
 ghost use Rattle.vectors.specs.Cases.{is_right, answer, IsAnswer};
 ghost use Rattle.vectors.specs.Tables.{crc_cases, hmac_cases, frames_cases, user_cases};
 
 use crate::{Case, CaseKind};
 
-/// The first row whose value isn't what is wanted, counted from 1.
+/// The first row, counted from 1, whose value isn't the wanted one.
 #[derive(Clone, Copy, Debug, PartialEq, Eq)]
 pub struct Miss {
     pub row: u32,
 }
 
-// How many cases come before the first that isn't right.
+// Returns how many cases come before the first one that isn't right.
 fn before_miss(cases: &[Case]) -> Option<usize>
     ensures value { result ≡ position (λ case. not (is_right case)) cases.now }
     ensures within { IfSome result (λ before. before < length cases.now) }
@@ -19,7 +19,8 @@ fn before_miss(cases: &[Case]) -> Option<usize>
     cases.iter().position(|case| !case.is_right())
 }
 
-/// Compares every case with what the definitions give.
+/// Compares each case with the value that the definitions give for it. The error is the first row
+/// that isn't right.
 #[tactic(auto, unfolding(crate::specs::Cases::answer))]
 pub fn run_table(cases: &[Case]) -> Result<(), Miss>
     requires { length cases.now < 2 ^ 32 }
@@ -42,14 +43,16 @@ fn answered(cases: &[Case]) -> (u32, Result<(), Miss>)
     (cases.len() as u32, run_table(cases))
 }
 
-// How many cases these are, and the answer to the table of them.
+// Checks the table of these rows. Returns how many rows it has, and the first row that isn't right,
+// if any.
 macro_rules! table {
     ($($kind:ident: $key:expr, $text:expr => $want:expr;)*) => {
         answered(&[$(Case::new(CaseKind::$kind, $key, $text, $want)),*])
     };
 }
 
-/// The number of rows of the table of CRCs, and the answer to it.
+/// Checks the table of CRCs. Returns how many rows it has, and the first row that isn't right, if
+/// any.
 #[tactic(auto, unfolding(crate::specs::Tables::crc_cases))]
 pub fn crc_table() -> (u32, Result<(), Miss>)
     ensures rows { result.0 ≡ length crc_cases }
@@ -63,7 +66,8 @@ pub fn crc_table() -> (u32, Result<(), Miss>)
     }
 }
 
-/// The number of rows of the table of MACs, and the answer to it.
+/// Checks the table of MACs. Returns how many rows it has, and the first row that isn't right, if
+/// any.
 #[tactic(auto, unfolding(crate::specs::Tables::hmac_cases))]
 pub fn hmac_table() -> (u32, Result<(), Miss>)
     ensures rows { result.0 ≡ length hmac_cases }
@@ -89,7 +93,8 @@ pub fn hmac_table() -> (u32, Result<(), Miss>)
     }
 }
 
-/// The number of rows of the table of frames, and the answer to it.
+/// Checks the table of frames. Returns how many rows it has, and the first row that isn't right, if
+/// any.
 #[tactic(auto, unfolding(crate::specs::Tables::frames_cases))]
 pub fn frames_table() -> (u32, Result<(), Miss>)
     ensures rows { result.0 ≡ length frames_cases }
@@ -107,7 +112,8 @@ pub fn frames_table() -> (u32, Result<(), Miss>)
     }
 }
 
-/// The number of rows of the table of user data, and the answer to it.
+/// Checks the table of user data. Returns how many rows it has, and the first row that isn't right,
+/// if any.
 #[tactic(auto, unfolding(crate::specs::Tables::user_cases))]
 pub fn user_table() -> (u32, Result<(), Miss>)
     ensures rows { result.0 ≡ length user_cases }
@@ -135,7 +141,7 @@ mod tests {
         let wrong = Case::new(CaseKind::Crc16, b"", b"\x01\x03", b"\x21\x41");
         assert_eq!(rt; run_table(&[right, wrong]), Err(Miss { row: 2 }));
 
-        // no frame has no user data, not the empty one
+        // a text that isn't a frame has no user data, which isn't the same as empty user data
         let none = Case::new(CaseKind::DnpUser, b"", b"\x05\x64", b"");
         assert_eq!(rt; run_table(&[none]), Err(Miss { row: 1 }));
     }
