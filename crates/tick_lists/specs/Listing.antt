@@ -1,4 +1,4 @@
--- What is kept of an input.
+-- What the lists keep of an input.
 use Rattle.std.specs.Prelude.{◌≡◌, ◌≢◌, ℕ, List, Option, Result, Ok, Err, ⊤}
 use Rattle.yasir_ticks.specs.Ticks.{Item}
 use Rattle.tick_drive.specs.Consumers.{Consuming}
@@ -9,7 +9,7 @@ use Rattle.tick_drive.specs.declared.end.End.TheVariants.{Whole}
 use Rattle.tick_lists.specs.TickLists.{HoldsParts, ticks_taken}
 use Rattle.tick_lists.specs.declared.tick_lists.TickLists.{TickLists}
 
--- What is said of the lists as a consumer: they stop only where there is no memory, and write
+-- What the lists promise as a consumer: they stop only if there is no memory, and they write
 -- nothing.
 abbrev pub listing : Consuming TickLists
 listing = record {
@@ -21,13 +21,13 @@ listing = record {
   went = λ old new result. ⊤;
 }
 
--- The whole input was read and is right, and the lists hold the parts of it.
+-- Holds if the whole input was read and is right, and the lists hold its parts.
 pub record KeepsWhole (marks : ℕ) (before now : Option (List ℕ)) (lists : TickLists) : Type 0 where
   pub items : List Item
   pub takes : IsWhole marks 0 before now items
   pub holds : HoldsParts lists items
 
--- The input ended otherwise.
+-- Holds if the input ended in any other way than `Whole`.
 pub record EndsBefore (marks : ℕ) (before now : Option (List ℕ)) (end : End) : Type 0 where
   pub items : List Item
   pub takes : Takes marks 0 before now items end

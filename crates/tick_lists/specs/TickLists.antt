@@ -17,18 +17,18 @@ ticks_second lists = lists.second.items
 abbrev pub ticks_third : TickLists → List Tick
 ticks_third lists = lists.third.items
 
--- how many ticks were taken
+-- how many ticks were taken, of all recordings together
 abbrev pub ticks_taken : TickLists → ℕ
 ticks_taken lists = lists.taken
 
--- These items were taken: each list holds the ticks of its part.
+-- Holds if these items were taken: each list holds the ticks of its part.
 pub record HoldsParts (lists : TickLists) (items : List Item) : Type 0 where
   pub first_is : ticks_first lists ≡ part 0 items
   pub second_is : ticks_second lists ≡ part 1 items
   pub third_is : ticks_third lists ≡ part 2 items
   pub place_is : lists.place ≡ place_after (marks_in items)
 
--- a list with this tick more, where it belongs to it
+-- the first list after a tick: with that tick at its end if the tick belongs to it
 abbrev pub with_first : Place → Tick → List Tick → List Tick
 with_first place.First t list = list ++ t ∷ []
 with_first place.Second t list = list
@@ -47,7 +47,7 @@ with_third place.Second t list = list
 with_third place.Third t list = list ++ t ∷ []
 with_third place.None t list = list
 
--- A tick was added to the list that it belongs to.
+-- Holds if a tick was added to the list that it belongs to, if any, and was counted.
 pub record TakesTick (old new : TickLists) (t : Tick) : Type 0 where
   pub first_is : ticks_first new ≡ with_first old.place t (ticks_first old)
   pub second_is : ticks_second new ≡ with_second old.place t (ticks_second old)

@@ -1,6 +1,6 @@
-//! Recordings in one input, kept in memory as lists of ticks. Marks part them.
+//! Several recordings in one input, which marks part, kept in memory as lists of ticks.
 //!
-//! Two recordings in one input, with a mark behind each:
+//! Two recordings in one input, each followed by a mark:
 //!
 //!     let mut input = SteadySource::new(b"+0102\n%\n-2\n+03\n%\n");
 //!     let lists = list_ticks(alloc, 2, &mut input)?;

@@ -6,7 +6,7 @@ use tick_drive::{Consumer, Stop};
 use yasir_io::NoMemory;
 use yasir_ticks::{Tick, TickRun};
 
-/// Which recording the next tick belongs to.
+/// Which recording the next tick belongs to. Ticks after the third mark belong to none.
 #[derive(Clone, Copy)]
 pub enum Place {
     First,
@@ -19,7 +19,7 @@ impl Place {
     ghost use Rattle.std.specs.Prelude.{◌≡◌};
     ghost use Rattle.tick_lists.specs.Places.{place_behind};
 
-    /// That behind a mark more.
+    /// Returns the place of the ticks after one more mark.
     #[inline]
     pub fn behind(self) -> Place
         ensures { result ≡ place_behind self }
@@ -32,19 +32,19 @@ impl Place {
     }
 }
 
-/// The ticks of the first three recordings of an input, a list for each. Where there was no memory
-/// for a tick, the lists are not used again.
+/// The ticks of the first three recordings of an input, in one list for each. If there is no memory
+/// for a tick, the lists aren't used after that.
 #[derive(Drop)]
 pub struct TickLists {
     first: Vec<Tick>,
     second: Vec<Tick>,
     third: Vec<Tick>,
     place: Place,
-    // how many ticks were taken of all recordings
+    // how many ticks were taken, of all recordings together
     taken: u64,
 }
 
-// Adds a tick behind the others.
+// Adds a tick at the end of a list.
 fn push(list: &mut Vec<Tick>, tick: Tick) -> Result<(), NoMemory>
     ensures { OnOk result (list.new.items ≡ list.old.items ++ tick ∷ []) }
 {
@@ -60,7 +60,7 @@ impl TickLists {
     ghost use Rattle.tick_lists.specs.TickLists.{ticks_first, ticks_second, ticks_third};
     ghost use Rattle.tick_lists.specs.TickLists.{ticks_taken, HoldsParts, TakesTick};
 
-    /// No tick yet.
+    /// Returns lists that have taken no tick yet.
     pub fn new(alloc: Global) -> TickLists
         ensures none { ticks_taken result ≡ 0 }
         ensures holds { HoldsParts result [] }
@@ -74,21 +74,21 @@ impl TickLists {
         }
     }
 
-    /// The ticks before the first mark.
+    /// Returns the ticks before the first mark.
     pub fn first(&self) -> &[Tick]
         ensures { result.now ≡ ticks_first self.now }
     {
         self.first.as_slice()
     }
 
-    /// The ticks between the first mark and the second.
+    /// Returns the ticks between the first mark and the second.
     pub fn second(&self) -> &[Tick]
         ensures { result.now ≡ ticks_second self.now }
     {
         self.second.as_slice()
     }
 
-    /// The ticks between the second mark and the third.
+    /// Returns the ticks between the second mark and the third.
     pub fn third(&self) -> &[Tick]
         ensures { result.now ≡ ticks_third self.now }
     {
