@@ -11,7 +11,7 @@ ghost use Rattle.key_text.specs.KeyText.{IsLongestFront, BeginsEnding, KeyCause}
 use arrayvec::ArrayVec;
 use yasir_io::{Failed, Source};
 
-/// A key of the program.
+/// A key of the program: 16 to 64 bytes, if `read_key` returned it.
 pub type Key = ArrayVec<u8, 64>;
 
 /// Why no key was read.
@@ -19,23 +19,23 @@ pub type Key = ArrayVec<u8, 64>;
 pub enum KeyError {
     /// A read failed.
     Fault,
-    /// The text is no key text; `place` is the length of its longest prefix that begins some key
+    /// The text isn't a key text. `place` is the length of its longest front that begins some key
     /// text.
     Bad { place: u32 },
 }
 
-/// How many bytes are read of a source at most: one more than the longest key text has.
+/// How many bytes of a source are read at most: one more than the longest key text has.
 const MAX_TEXT: usize = 131;
 
 /// What was read of a source.
 type KeyText = ArrayVec<u8, MAX_TEXT>;
 
-/// How many digits a key has at least, and at most.
+/// How many digits a key has at least, and at most (`MAX_DIGITS`).
 const MIN_DIGITS: usize = 32;
 
 const MAX_DIGITS: usize = 128;
 
-// These bytes as a text.
+// Returns these bytes as a text.
 fn text_of(bytes: &[u8]) -> KeyText
     requires { length bytes.now ≤ 131 }
     ensures { result.items ≡ bytes.now }
@@ -45,7 +45,8 @@ fn text_of(bytes: &[u8]) -> KeyText
     text
 }
 
-// The text of a source: its bytes to the end, or 131. No byte behind these is taken.
+// Reads the text of a source: its bytes up to the end, or the first 131. No byte after these is
+// taken.
 fn read_text<K: Source>(source: &mut K) -> Result<KeyText, Failed>
     ensures met { IfOk result (λ text. IsKeyMet (K.left source.old) (K.left source.new)
         text.items) }
@@ -64,7 +65,7 @@ fn read_text<K: Source>(source: &mut K) -> Result<KeyText, Failed>
     Ok(text_of(&bytes))
 }
 
-// How many hex digits are at the front of a text, but no more than a key has.
+// Returns how many hex digits are at the front of a text, at most as many as the longest key has.
 fn digit_count(text: &[u8]) -> usize
     ensures within { result ≤ length text.now }
     ensures few { result ≤ 128 }
@@ -81,7 +82,7 @@ fn digit_count(text: &[u8]) -> usize
     most
 }
 
-// How many bytes of an ending are at the front of these.
+// Returns how many bytes at the front of these begin some ending.
 fn begun_ending(following: &[u8]) -> usize
     ensures { IsLongestFront BeginsEnding following.now result }
 {
@@ -113,7 +114,7 @@ fn is_ending(following: &[u8]) -> bool
     following == b"\r\n".as_slice()
 }
 
-// The bytes that the digits of a key spell.
+// Returns the bytes that the digits of a key spell.
 fn decode(digits: &[u8]) -> Key
     requires digits { AllPass is_hex_digit digits.now }
     requires even { length digits.now % 2 ≡ 0 }
@@ -128,7 +129,7 @@ fn decode(digits: &[u8]) -> Key
     key
 }
 
-// The key of a key text, or the place where it is none.
+// Returns the key of a key text, or the place at which a text that isn't one is refused.
 fn key_of(text: &[u8]) -> Result<Key, u32>
     requires { length text.now ≤ 131 }
     ensures key { IfOk result (λ key. IsKeyText text.now key.items) }
@@ -145,15 +146,15 @@ fn key_of(text: &[u8]) -> Result<Key, u32>
     Ok(decode(digits))
 }
 
-/// Reads the key text of a source: its bytes to the end, or 131, and no byte behind these. A key
-/// text is 32 to 128 hex digits of either case, an even count, and then nothing, LF, or CR LF, as
-/// the profile has it.
+/// Reads the key text of a source: its bytes up to the end, or the first 131. No byte after these
+/// is taken. A key text is an even count of hex digits of either case, 32 to 128, followed by
+/// nothing, LF, or CR LF, as the profile says.
 pub fn read_key<K: Source>(source: &mut K) -> Result<Key, KeyError>
     ensures key { IfOk result (λ key. (text : List ℕ)
         × IsKeyMet (K.left source.old) (K.left source.new) text × IsKeyText text key.items) }
     ensures bad { IfErr result (λ error. (place : ℕ) → error ≡ Bad place → (text : List ℕ)
         × IsKeyMet (K.left source.old) (K.left source.new) text × IsNoKey text place) }
-    // A read fails before the text is met, and is the last one.
+    // A read that fails is the last one, and comes before the whole text is met.
     ensures fault { IfErr result (λ error. error ≡ Fault
         → IsCutShort (K.left source.old) (K.left source.new)) }
     ensures cause { KeyCause (K.faults source.old) (K.faults source.new) result }

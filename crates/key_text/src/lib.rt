@@ -1,4 +1,4 @@
-//! The text of a key, as it is in a file.
+//! The text of a key, as it is written in a file.
 //!
 //!     let mut source = SteadySource::new(b"000102030405060708090a0b0c0d0e0f\n");
 //!     let key = read_key(&mut source)?;
