@@ -5,7 +5,7 @@ use Rattle.replay_status.specs.declared.status.Status.{Status}
 use Rattle.link_replay.specs.Printing.{Prints}
 use Rattle.link_replay.specs.declared.commands.about.TheConstants.{HELP_PAGE, VERSION_LINE}
 
--- `help` prints the page of words.
+-- `help` prints the page that lists the program's words.
 abbrev pub Helps : {K S O L D : Type 0} → Sink O → Sink L → Outside K S O L D → Outside K S O L D
     → Status → Type 0
 Helps o l before after status = Prints o l HELP_PAGE before after status

@@ -1,5 +1,6 @@
--- The command `audit`: the verdict on three recordings of a session, a line of the device that
--- sends, the link, and a line of the device that receives, from the floors of both boxes on.
+-- The command `audit`: the verdict on three recordings of a session. These are a line of the device
+-- that sends, the link, and a line of the device that receives. Each box begins at a floor that is
+-- given.
 use Rattle.std.specs.Prelude.{◌≡◌, ℕ, List, ◌++◌, codes, decimal}
 use Rattle.yasir_io.specs.declared.source.Source.{Ghosts as Source}
 use Rattle.yasir_io.specs.declared.sink.Sink.{Ghosts as Sink}
@@ -28,7 +29,7 @@ use Rattle.link_replay.specs.declared.commands.audit.Audited.{Audited}
 use Rattle.link_words.specs.declared.words.Profile.{Profile}
 use Rattle.link_words.specs.declared.words.Proto.{Proto}
 
--- what the words of an audit name
+-- what the words of an audit ask for: a link, and the floors of both boxes
 abbrev pub audited : Proto → Profile → Dir → ℕ → ℕ → Audited
 audited proto profile dir sent got = record {
   proto = proto;
@@ -48,13 +49,13 @@ verdict_line (Forged number start) =
 verdict_line (Differs place) = codes "audit differs " ++ decimal place ++ codes "\n"
 
 module _ (asked : Audited) (key : List ℕ) where
-  -- the profile of the link with this key, and journals that go on behind a floor
+  -- the profile of the link with this key, for a box whose journal has this floor at the start
   abbrev pub audited_profile : ℕ → LinkProfile
   audited_profile floor = link_profile_of asked.profile (rules_of asked.proto).label LIMIT
       (setup_of key asked.dir floor)
 
-  -- the verdict on what the transmitter seals of the first recording, the receiver passes of the
-  -- second, and the stated device reads of the third
+  -- the verdict on the frames that the transmitter seals of the first recording, those that the
+  -- receiver passes of the second, and those that the stated device reads from the third
   abbrev pub audited_verdict : List Tick → List Tick → List Tick → Verdict
   audited_verdict device link received = verdict_on (delay_of asked.profile)
       (sealed (audited_profile asked.sent_floor) (rules_of asked.proto) asked.sent_floor
@@ -63,13 +64,13 @@ module _ (asked : Audited) (key : List ℕ) where
       (link ++ silent link_rest))
       (device_reads asked.proto (received ++ silent T3_5_TICKS))
 
-  -- its line, of the recordings that two marks part
+  -- the line of the verdict on the three recordings that two marks part
   abbrev pub audited_line : List Item → List ℕ
   audited_line items =
       verdict_line (audited_verdict (part 0 items) (part 1 items) (part 2 items))
 
--- What `audit` does: once the key is read, `out` gets the line of the verdict and nothing else.
--- Notes aren't written, and the journal's disk isn't reached.
+-- What `audit` does: after it has read the key, it writes the line of the verdict to `out` and
+-- nothing else. Notes aren't written, and the journal's disk isn't touched.
 pub record Audits {K S O L D : Type 0} (k : Source K) (s : Source S) (o : Sink O) (l : Sink L)
     (asked : Audited) (before after : Outside K S O L D) (status : Status) : Type 0 where
   pub prints : ReadsKeyFirst k before.key after.key

@@ -1,4 +1,4 @@
--- The command `check`: the receiver over a recorded line of a link.
+-- The command `check`: the receiver over a recorded link.
 use Rattle.yasir_io.specs.declared.source.Source.{Ghosts as Source}
 use Rattle.yasir_io.specs.declared.sink.Sink.{Ghosts as Sink}
 use Rattle.yasir_io.specs.declared.disk.SlotDisk.{Ghosts as SlotDisk}

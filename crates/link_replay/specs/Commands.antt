@@ -1,4 +1,4 @@
--- What the program does for each thing that its words may ask for.
+-- What the program does for each command that its words may ask for, or if they ask for none.
 use Rattle.std.specs.Prelude.{◌≡◌, ◌⊎◌, Option, Some, None}
 use Rattle.yasir_io.specs.declared.source.Source.{Ghosts as Source}
 use Rattle.yasir_io.specs.declared.sink.Sink.{Ghosts as Sink}
@@ -30,8 +30,8 @@ use Rattle.link_replay.specs.declared.words.Command.TheVariants.{Init, Read, Vec
 use Rattle.link_replay.specs.declared.words.Command.TheVariants.{Replay, Trial, Space}
 use Rattle.link_replay.specs.declared.words.Command.TheVariants.{Audit, Duplex, Help, Version}
 
--- How a command ends that is given what is right, and where nothing outside fails. Of all commands
--- `replay`, `space`, `audit` and `duplex` alone take memory, and there may be none.
+-- How a command may end if all that it is given is right and nothing outside fails. Only `replay`,
+-- `space`, `audit` and `duplex` take memory, and there may be none for them.
 abbrev pub EndsWell : Option Command → Status → Type 0
 EndsWell (Some (Replay proto profile dir)) status = (status ≡ Done) ⊎ (status ≡ NoMemory)
 EndsWell (Some (Space proto profile)) status = (status ≡ Done) ⊎ (status ≡ NoMemory)
@@ -52,7 +52,7 @@ KeepsDisk d asked old new = new ≡ old
 
 module _ {K S O L D : Type 0} (k : Source K) (s : Source S) (o : Sink O) (l : Sink L)
     (d : SlotDisk D) where
-  -- What is done before the fault line: nothing at all where the words ask for no command.
+  -- What is done before the fault line is written: nothing at all if the words ask for no command.
   abbrev pub Does : Option Command → Outside K S O L D → Outside K S O L D → Status → Type 0
   Does None before after status = (status ≡ Usage) × (after ≡ before)
   Does (Some (Init proto profile dir)) before after status =
@@ -76,8 +76,8 @@ module _ {K S O L D : Type 0} (k : Source K) (s : Source S) (o : Sink O) (l : Si
   Does (Some Help) before after status = Helps o l before after status
   Does (Some Version) before after status = TellsVersion o l before after status
 
-  -- What a run does: what was asked for, and then the fault line in the log, where the status has
-  -- one.
+  -- What a run does: what was asked for, and then, if the status has a fault line, the writing of
+  -- that line to the log.
   pub record Runs (asked : Option Command) (before after : Outside K S O L D) (status : Status)
       : Type 0 where
     -- the log as the command left it
@@ -86,7 +86,7 @@ module _ {K S O L D : Type 0} (k : Source K) (s : Source S) (o : Sink O) (l : Si
     pub faults : LogsFault (l.held noted) (l.held after.log)
         (l.faults before.log) (l.faults after.log) status
 
-  -- All that the command is given is right.
+  -- Holds if all that the command is given is right.
   abbrev pub MayDo : Option Command → Outside K S O L D → Type 0
   MayDo None before = ⊥
   MayDo (Some (Init proto profile dir)) before = IsBlank (d.told before.disk)
@@ -109,13 +109,14 @@ module _ {K S O L D : Type 0} (k : Source K) (s : Source S) (o : Sink O) (l : Si
   MayDo (Some Help) before = Unit {0}
   MayDo (Some Version) before = Unit {0}
 
-  -- Nothing outside failed.
+  -- Holds if nothing outside failed.
   abbrev pub IsCalm : Outside K S O L D → Outside K S O L D → Type 0
   IsCalm before after = NoneRose (k.faults before.key) (k.faults after.key)
       (s.faults before.input) (s.faults after.input) (o.faults before.out) (o.faults after.out)
       (l.faults before.log) (l.faults after.log) (d.faults before.disk) (d.faults after.disk)
 
-  -- The causes that depend on the command: a box may write after a call of the disk has failed.
+  -- The causes that depend on the command. `seal` and `check` have a cause of their own for the
+  -- disk, since a box may write after a call of the disk has failed.
   abbrev pub HasOwnCauses : Option Command → Outside K S O L D → Outside K S O L D → Status → Type 0
   HasOwnCauses (Some (Seal proto profile dir)) before after status =
       BoxDiskCause (d.faults before.disk) (d.faults after.disk) status
@@ -131,8 +132,8 @@ module _ {K S O L D : Type 0} (k : Source K) (s : Source S) (o : Sink O) (l : Si
       InputCause (s.faults before.input) (s.faults after.input) status
       × DiskCause (d.faults before.disk) (d.faults after.disk) status
 
-  -- The counts of faults that rose, and the flushes that were made, for each status: both sinks are
-  -- flushed on the way to Done, once each, behind all that was written, and nowhere else.
+  -- For each status, which counts of faults rose, and which flushes were made. Both sinks are
+  -- flushed on the way to Done, once each, after all that was written, and nowhere else.
   pub record HasCauses (asked : Option Command) (before after : Outside K S O L D)
       (status : Status) : Type 0 where
     pub streams : HasStreamCauses k s o l before after status

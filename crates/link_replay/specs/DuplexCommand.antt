@@ -1,5 +1,5 @@
--- The command `duplex`: the transmitter of a line's one direction and the receiver of its other
--- one, step by step over the recorded line of a device and a recorded link.
+-- The command `duplex`: the transmitter of one direction of a line and the receiver of the other
+-- direction, step by step over the recorded line of a device and a recorded link.
 use Rattle.std.specs.Prelude.{◌≡◌, ℕ, List, Option}
 use Rattle.yasir_io.specs.declared.source.Source.{Ghosts as Source}
 use Rattle.yasir_io.specs.declared.sink.Sink.{Ghosts as Sink}
@@ -33,7 +33,7 @@ use Rattle.link_words.specs.Links.{rules_of, link_profile_of}
 use Rattle.link_words.specs.declared.words.Profile.{Profile}
 use Rattle.link_words.specs.declared.words.Proto.{Proto}
 
--- the profile of a box that is set up so
+-- the profile of a box with this setup
 abbrev pub duplex_profile : Proto → Profile → Setup → LinkProfile
 duplex_profile proto profile setup = link_profile_of profile (rules_of proto).label LIMIT setup
 
@@ -55,28 +55,30 @@ duplex_checker proto profile setup = record {
       (check_notes (duplex_profile proto profile setup) (rules_of proto) setup.floor link));
 }
 
--- The texts of both recordings by two boxes with a key: the first has this direction, and the
--- second the other one.
+-- The texts that two boxes with a key make of both recordings. The first box has this direction,
+-- and the second one the other direction.
 abbrev pub both_in : (Setup → TimedBox) → (Setup → TimedBox) → Dir → List ℕ → List Tick
     → List Tick → BothTexts
 both_in outgoing incoming dir key = both_with outgoing incoming key dir
 
--- those by transmitter and receiver
+-- the texts that the transmitter and the receiver make of both recordings
 abbrev pub duplex_texts : Proto → Profile → Dir → List ℕ → List Tick → List Tick → BothTexts
 duplex_texts proto profile dir =
     both_in (duplex_sealer proto profile) (duplex_checker proto profile) dir
 
 module _ (texts : List Tick → List Tick → BothTexts)
     (in_before in_now out_before out_now log_before log_now : Option (List ℕ)) where
-  -- All of the input was taken. It is a text with one mark: the ticks of a device come before it,
-  -- and those of a link behind it. The sinks have got the texts of both, as the status says.
+  -- Holds if all of the input was taken and is a text with one mark: the ticks of a device come
+  -- before the mark, and those of a link after it. The sinks have got the texts of both, as the
+  -- status says.
   pub record PrintsDuplex (status : Status) : Type 0 where
     pub items : List Item
     pub whole : IsWhole 1 0 in_before in_now items
     pub prints : PrintsBoth (texts (before_mark items) (behind_mark items)) out_before out_now
         log_before log_now status
 
-  -- The input ended so, or there was no memory for what is made of it; the sinks have got nothing.
+  -- Holds if the input ended in this way, or there was no memory for what is made of it. The sinks
+  -- have got nothing.
   pub record PrintsNeither (end : End) : Type 0 where
     pub items : List Item
     pub takes : Takes 1 0 in_before in_now items end
@@ -94,7 +96,7 @@ module _ (texts : List Tick → List Tick → BothTexts)
   DuplexesWith status = ⊥
 
 module _ {K S O L D : Type 0} (k : Source K) (s : Source S) (o : Sink O) (l : Sink L) where
-  -- the same behind the key, by the texts that are made with it
+  -- What each status says: the key is read first, and the texts are made with it.
   abbrev pub DuplexesKeyed : (List ℕ → List Tick → List Tick → BothTexts) → Outside K S O L D
       → Outside K S O L D → Status → Type 0
   DuplexesKeyed texts before after status = ReadsKeyFirst k before.key after.key
@@ -102,7 +104,7 @@ module _ {K S O L D : Type 0} (k : Source K) (s : Source S) (o : Sink O) (l : Si
       (o.held before.out) (o.held after.out) (l.held before.log) (l.held after.log))
       (LeavesAll before.input after.input before.out after.out before.log after.log) status
 
-  -- What `duplex` does: the journal's disk isn't reached.
+  -- What `duplex` does. The journal's disk isn't touched.
   pub record Duplexes (proto : Proto) (profile : Profile) (dir : Dir)
       (before after : Outside K S O L D) (status : Status) : Type 0 where
     pub texts : DuplexesKeyed (duplex_texts proto profile dir) before after status

@@ -12,16 +12,16 @@ use Rattle.replay_status.specs.declared.status.Status.{Status}
 use Rattle.replay_status.specs.declared.status.Status.TheVariants.{Done, WriteFault, JournalFault}
 use Rattle.replay_status.specs.declared.status.Status.TheVariants.{HasJournal}
 
--- No slot held a number; slot A holds number 0 for this link, all others are as they were, and a
--- crash leaves just this.
+-- Holds if no slot held a number, slot A holds number 0 for this link now, all other slots are as
+-- they were, and a crash leaves exactly these slots.
 pub record IsNewJournal (link : LinkId) (old new : Option Slots) (may_leave : Slots → Type 0) :
     Type 0 where
   pub none : IfSome old (λ slots. greatest slots ≡ None)
   pub set : new ≡ told_with old A (slot_bytes 0 link)
   pub synced : OneImage new may_leave
 
--- A slot, old or new, holds a number, for whatever link; this is the greatest, and nothing is
--- written.
+-- Holds if a slot, old or new, holds a number, for whatever link. `floor` is the greatest of these
+-- numbers, and nothing is written.
 pub record IsOldJournal (old new : Option Slots) (may_leave_old may_leave_new : Slots → Type 0)
     (floor : ℕ) : Type 0 where
   pub stands : IfSome old (λ slots. greatest slots ≡ Some floor)
@@ -42,11 +42,12 @@ MakesJournal link old new may_leave_old may_leave_new JournalFault =
     MaySet old A (slot_bytes 0 link) new
 MakesJournal link old new may_leave_old may_leave_new status = ⊥
 
--- The disk tells slots that hold no number.
+-- Holds if the disk tells slots that hold no number.
 abbrev pub IsBlank : Option Slots → Type 0
 IsBlank told = (slots : Slots) × (told ≡ Some slots) × (greatest slots ≡ None)
 
--- A journal that is made flushes the sinks, and a refusal leaves them as they were.
+-- What each status says of the sinks: if a journal is made, they are only flushed and hold what
+-- they held, and in any other case they are as they were.
 abbrev pub LeavesSinks : {O L : Type 0} → Sink O → Sink L → O → O → L → L → Status → Type 0
 LeavesSinks o l out_before out_now log_before log_now Done =
     (o.held out_now ≡ o.held out_before) × (l.held log_now ≡ l.held log_before)

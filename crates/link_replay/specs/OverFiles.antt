@@ -28,21 +28,23 @@ use Rattle.link_replay.specs.declared.over_files.TheConstants.{NOT_GIVEN}
 use Rattle.link_replay.specs.Words.{key_place, journal_place, word_in}
 use Rattle.link_replay.specs.Commands.{Runs, HasCauses, MayDo, IsCalm, EndsWell, KeepsDisk}
 
--- the words of the arguments that are still to come: all but the first, which is the program's name
+-- the words of the arguments that haven't been taken yet: all but the first, which is the program's
+-- name
 abbrev pub words_after : IntoIter (String Global) Global → List (List ℕ)
 words_after args = map string_bytes (drop 1 (into_iter_items args))
 
--- the path of a file that has this place among the words of a command, where it has one
+-- the path of a file whose path has this place among the words of a command, if the command has
+-- such a file
 abbrev pub path_in : (Command → Option ℕ) → List (List ℕ) → Option Command → Option (List ℕ)
 path_in place words None = None
 path_in place words (Some command) = word_in words (place command)
 
--- what is expected of the journal's file: `init` alone makes one
+-- what is expected of the journal's file: only `init` makes one
 abbrev pub journal_kind : Option Command → SlotFile
 journal_kind (Some (Init proto profile dir)) = New
 journal_kind asked = Standing
 
--- The file at the path, for reading, and no call on it was made.
+-- Holds if the source is the file at this path, for reading only, and no call on it has been made.
 pub record IsKeyFile {R F D : Type 0} (bytes : Option (List ℕ)) (source : FileSource R F D)
     : Type 0 where
   pub path : option_map string_bytes (file_path source) ≡ bytes
@@ -50,7 +52,8 @@ pub record IsKeyFile {R F D : Type 0} (bytes : Option (List ℕ)) (source : File
   pub options : file_options source ≡ for_reading
   pub faults : file_faults source ≡ 0
 
--- The file at the path, of which this is expected, and no call on it was made.
+-- Holds if the disk is the file at this path, this is what is expected of it, and no call on it has
+-- been made.
 pub record IsJournalFile {R F D : Type 0} {read : Read F} {write : Write F} {seek : Seek F}
     {in_dir : Read D} (bytes : Option (List ℕ)) (expected : SlotFile)
     (disk : FileSlots R F D read write seek in_dir) : Type 0 where
@@ -69,14 +72,15 @@ pub record Streams (S O L : Type 0) : Type 0 where
 abbrev pub streams : {S O L : Type 0} → S → O → L → Streams S O L
 streams input out log = record { input = input; out = out; log = log }
 
--- these, and the files of the key and the journal
+-- the outside of a run: these streams, and the files of the key and the journal
 abbrev pub with_files : {K S O L D : Type 0} → Streams S O L → K → D → Outside K S O L D
 with_files ends key disk = outside key ends.input ends.out ends.log disk
 
 module _ {R F D S O L : Type 0} {read : Read F} {write : Write F} {seek : Seek F} {in_dir : Read D}
     (k : Source (FileSource R F D)) (s : Source S) (o : Sink O) (l : Sink L)
     (d : SlotDisk (FileSlots R F D read write seek in_dir)) where
-  -- The program runs over the files whose paths its words are, and does what they ask for.
+  -- Holds if the program runs over the files whose paths are among its words, and does what the
+  -- words ask for.
   pub record RunsOverFiles (words : List (List ℕ)) (asked : Option Command)
       (before after : Streams S O L) (status : Status) : Type 0 where
     pub key_before : FileSource R F D
@@ -96,8 +100,9 @@ module _ {R F D S O L : Type 0} {read : Read F} {write : Write F} {seek : Seek F
     pub causes : HasCauses k s o l d asked (with_files before key_before disk_before)
         (with_files after key_after disk_after) status
 
-  -- It ends with the status of this run; or nothing was done, since the runtime refused what a run
-  -- needs, or there was no memory for a path.
+  -- Holds if the program ran over its files and ended with the exit status of that run, or nothing
+  -- was done, since the runtime refused something that a run needs, or there was no memory for a
+  -- path.
   abbrev pub EndsOverFiles : List (List ℕ) → Option Command → Streams S O L → Streams S O L → ℕ
       → Type 0
   EndsOverFiles words asked before after exit_status =

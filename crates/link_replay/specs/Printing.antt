@@ -5,7 +5,8 @@ use Rattle.replay_status.specs.Outside.{Outside}
 use Rattle.replay_status.specs.PrintsText.{PrintsText}
 use Rattle.replay_status.specs.declared.status.Status.{Status}
 
--- Nothing is read, no note is written, and the disk is as it was.
+-- Holds if the text was printed and nothing else was done: nothing was read, no note was written,
+-- and the disk is as it was.
 pub record Prints {K S O L D : Type 0} (o : Sink O) (l : Sink L) (text : List ℕ)
     (before after : Outside K S O L D) (status : Status) : Type 0 where
   pub printed : PrintsText text (o.held before.out) (o.held after.out) status

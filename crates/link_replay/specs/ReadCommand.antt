@@ -12,12 +12,12 @@ use Rattle.replay_status.specs.declared.status.Status.{Status}
 use Rattle.link_words.specs.declared.words.Proto.{Proto}
 use Rattle.link_words.specs.declared.words.Proto.TheVariants.{Rtu, Dnp3}
 
--- what the device of a protocol reads of a line
+-- the frames that the device of a protocol reads from a line
 abbrev pub device_reads : Proto → List Tick → List FrameRead
 device_reads Rtu line = rtu_reads line
 device_reads Dnp3 line = dnp_reads line
 
--- What `read` does: neither the key nor the disk is reached.
+-- What `read` does: neither the key nor the disk is touched.
 pub record Reads {K S O L D : Type 0} (s : Source S) (o : Sink O) (l : Sink L) (proto : Proto)
     (before after : Outside K S O L D) (status : Status) : Type 0 where
   pub frames : PrintsFrames (device_reads proto) (s.left before.input) (s.left after.input)

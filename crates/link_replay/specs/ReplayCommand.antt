@@ -1,11 +1,11 @@
--- The command `replay`: a line of a device through the transmitter, a link through the receiver and
--- a device behind it. What it leaves when it is done is the program's headline:
+-- The command `replay`: a line of a device through the transmitter, and a link through the receiver
+-- and the device behind it. What it leaves when it is done is the program's headline:
 --
 -- For every key, device ticks and link ticks, however the link was altered, cut, repeated or
 -- reordered, the frames that the stated device reads from the receiver are a subsequence of those
 -- that the transmitter sealed, each number at most once, unless the run names a tag that matched an
 -- unsealed number and frame; an untouched link with frames spaced as stated delivers all, each byte
--- exactly 18 ticks late (24 by the profile of four bytes of number).
+-- exactly 18 ticks late (24 with the profile y24, whose words have four bytes).
 use Rattle.std.specs.Prelude.{◌≡◌, ℕ, List, Option}
 use Rattle.std.specs.Io.KnownBytes.{append_known}
 use Rattle.yasir_io.specs.declared.source.Source.{Ghosts as Source}
@@ -34,13 +34,13 @@ use Rattle.link_words.specs.declared.words.Profile.{Profile}
 use Rattle.link_words.specs.declared.words.Proto.{Proto}
 use Rattle.link_words.specs.Links.{rules_of, link_profile_of}
 
--- the profile of a link with this key and direction, from new journals on
+-- the profile of a link with this key and direction, for boxes that begin with new journals
 abbrev pub replay_profile : Proto → Profile → Dir → List ℕ → LinkProfile
 replay_profile proto profile dir key =
     link_profile_of profile (rules_of proto).label LIMIT (setup_of key dir 0)
 
--- what the transmitter seals of a line, the receiver passes of a link, and the stated device reads
--- behind the receiver
+-- the frames that the transmitter seals of a line, those that the receiver passes of a link, and
+-- those that the stated device behind the receiver reads
 abbrev pub replay_listing : Proto → Profile → Dir → List ℕ → List Tick → List Tick → Listing
 replay_listing proto profile dir key line link = record {
   sealed = sealed (replay_profile proto profile dir key) (rules_of proto) 0 line;
@@ -49,25 +49,25 @@ replay_listing proto profile dir key line link = record {
       (received_line (replay_profile proto profile dir key) (rules_of proto) 0 link);
 }
 
--- The headline.
+-- The program's headline, as it holds of a run of `replay` that ended as Done.
 pub record Headline (proto : Proto) (profile : Profile) (dir : Dir) (key : List ℕ)
     (in_before in_now out_before out_now : Option (List ℕ)) : Type 0 where
   -- All of the input was taken. It is a text with one mark: the ticks of a device come before it,
-  -- and those of a link behind it.
+  -- and those of a link after it.
   pub items : List Item
   pub recorded : IsRecorded in_before in_now items
-  -- `out` has got one line for each frame that was sealed, passed, read and forged, and nothing
-  -- else.
+  -- `out` has got one line for each frame that was sealed, one for each that passed, one for each
+  -- that was read and one for each that is forged, and nothing else.
   pub printed : out_now ≡ append_known out_before (listing_text
       (replay_listing proto profile dir key (device_line (seal_rest profile) items)
       (link_ticks items)))
-  -- what these lines say of one another
+  -- what holds between these lines
   pub tells : TellsOf (replay_profile proto profile dir key) (rules_of proto) (before_mark items)
       (link_ticks items)
       (replay_listing proto profile dir key (device_line (seal_rest profile) items)
       (link_ticks items))
 
--- What each status says once the key is read.
+-- What each status says after the key has been read.
 abbrev pub ReplaysWith : Proto → Profile → Dir → Option (List ℕ) → Option (List ℕ) → Option (List ℕ)
     → Option (List ℕ) → List ℕ → Status → Type 0
 ReplaysWith proto profile dir in_before in_now out_before out_now key Done =
@@ -77,7 +77,7 @@ ReplaysWith proto profile dir in_before in_now out_before out_now key status =
     out_before out_now status
 
 module _ {K S O L D : Type 0} (k : Source K) (s : Source S) (o : Sink O) (l : Sink L) where
-  -- What `replay` does: notes aren't written, and the journal's disk isn't reached.
+  -- What `replay` does. Notes aren't written, and the journal's disk isn't touched.
   pub record Replays (proto : Proto) (profile : Profile) (dir : Dir)
       (before after : Outside K S O L D)
       (status : Status) : Type 0 where
@@ -89,8 +89,8 @@ module _ {K S O L D : Type 0} (k : Source K) (s : Source S) (o : Sink O) (l : Si
     pub log : l.held after.log ≡ l.held before.log
     pub disk : after.disk ≡ before.disk
 
--- All that a command of recordings is given is right: a key text, and a text with this many marks
--- within the limits.
+-- Holds if all that a command of recordings is given is right: a key text, and a tick text with
+-- `marks` marks within the limits.
 pub record IsListable (marks : ℕ) (key_before in_before : Option (List ℕ)) : Type 0 where
   pub key : HasKey key_before
   pub input : IsReadableWith marks in_before

@@ -18,14 +18,14 @@ use Rattle.link_words.specs.declared.words.Profile.{Profile}
 use Rattle.link_words.specs.Links.{gap_of}
 use Rattle.link_words.specs.declared.words.Proto.{Proto}
 
--- what is made of a line: the spaced line, and the lines of the frames that are lost
+-- what `space` makes of a line: the spaced line, and the lines of the frames that are lost
 abbrev pub spaced_by : Proto → Profile → LineAndNotes
 spaced_by proto profile = spaced_texts (device_reads proto) (gap_of profile)
 
 module _ (proto : Proto) (profile : Profile) (in_before in_now : Option (List ℕ))
     (before now : SinkTexts) where
-  -- All of the input was taken, and the sinks have got the texts of it. Each accepted frame stands
-  -- in them as a whole: it has left before the last tick.
+  -- Holds if all of the input was taken, and the sinks have got its texts. Each accepted frame is
+  -- whole in them: it has left by the end of the line.
   pub record SpacesWhole : Type 0 where
     pub items : List Item
     pub takes : Takes 0 space_rest in_before in_now items Whole
@@ -33,14 +33,14 @@ module _ (proto : Proto) (profile : Profile) (in_before in_now : Option (List �
     pub left : HaveLeft (length (ticks_in items))
         (accepted_of (device_reads proto) (gap_of profile) most_waiting (ticks_in items))
 
-  -- What each status says.
+  -- What each status says of the input and the sinks.
   abbrev pub SpacesBy : Status → Type 0
   SpacesBy Done = SpacesWhole
   SpacesBy status = SpacesLine (spaced_by proto profile) in_before in_now before now status
 
 module _ {K S O L D : Type 0} (s : Source S) (o : Sink O) (l : Sink L) where
-  -- What `space` does: neither the key nor the disk is reached, and where there is no memory
-  -- nothing else is.
+  -- What `space` does: neither the key nor the disk is touched, and if there is no memory nothing
+  -- else is either.
   pub record Spaces (proto : Proto) (profile : Profile) (before after : Outside K S O L D)
       (status : Status) : Type 0 where
     pub line : SpacesBy proto profile (s.left before.input) (s.left after.input)

@@ -26,18 +26,18 @@ abbrev pub drawing_of : Proto → Drawing
 drawing_of Rtu = rtu_drawing
 drawing_of Dnp3 = dnp_drawing
 
--- what follows a frame on the link, where both boxes have the key of sixteen bytes 0, the direction
+-- what follows a frame on the link, if both boxes have the key of sixteen bytes 0, the direction
 -- `ab` and new journals
 abbrev pub trial_link_profile : Proto → Profile → LinkProfile
 trial_link_profile proto profile = link_profile_of profile (rules_of proto).label LIMIT trial_setup
 
--- what is counted of the session of this many frames from a seed
+-- the counts of the session with `count` frames that are drawn from a seed
 abbrev pub trial_counts : Proto → Profile → ℕ → ℕ → Summary
 trial_counts proto profile seed count = trial_summary (drawing_of proto)
     (trial_link_profile proto profile) (rules_of proto) (device_reads proto) seed count
 
--- What `trial` does: it prints one line, in which all frames are sealed, and as many are read as
--- passed.
+-- What `trial` does: it prints one line. The line says that each frame was sealed, and that as many
+-- frames were read as passed.
 pub record Tries {K S O L D : Type 0} (o : Sink O) (l : Sink L) (proto : Proto) (profile : Profile)
     (seed count : ℕ) (before after : Outside K S O L D) (status : Status) : Type 0 where
   pub line : Prints o l

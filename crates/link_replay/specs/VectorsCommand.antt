@@ -8,12 +8,12 @@ use Rattle.replay_status.specs.Outside.{Outside}
 use Rattle.replay_status.specs.declared.status.Status.{Status}
 use Rattle.link_replay.specs.Printing.{Prints}
 
--- `NAME N ok`, or `NAME miss ROW` with the first row that isn't right
+-- the line of a table: `NAME N ok`, or `NAME miss ROW` with the first row that isn't right
 abbrev pub table_line : List ℕ → ℕ → Result (Unit {0}) Miss → List ℕ
 table_line name rows (Ok x) = name ++ codes " " ++ decimal rows ++ codes " ok\n"
 table_line name rows (Err miss) = name ++ codes " miss " ++ decimal miss.row ++ codes "\n"
 
--- the lines of all tables, each with what the definitions answer to it
+-- the lines of all tables, each with the answer that the definitions give
 abbrev pub table_lines : List ℕ
 table_lines =
     table_line (codes "crc") (length crc_cases) (answer crc_cases)

@@ -11,14 +11,14 @@ use Rattle.link_replay.specs.declared.words.Command.TheVariants.{Init, Read, Vec
 use Rattle.link_replay.specs.declared.words.Command.TheVariants.{Replay, Trial, Space}
 use Rattle.link_replay.specs.declared.words.Command.TheVariants.{Audit, Duplex, Help, Version}
 
--- These words ask for a box: its name, a protocol and a profile, a direction, and the paths of its
--- key and its journal.
+-- Holds if the words ask for a box: its name, a protocol and a profile, a direction, and the paths
+-- of its key and its journal, which aren't empty.
 abbrev pub AskForBox : List ℕ → Proto → Profile → Dir → List (List ℕ) → Type 0
 AskForBox name proto profile dir words =
     (key : List ℕ) × (path : List ℕ) × (key ≢ []) × (path ≢ [])
     × (words ≡ name ∷ link_word proto profile ∷ dir_word dir ∷ key ∷ path ∷ [])
 
--- These words ask for the command.
+-- Holds if the words ask for the command.
 abbrev pub IsCommand : List (List ℕ) → Command → Type 0
 IsCommand words (Init proto profile dir) = (path : List ℕ) × (path ≢ [])
     × (words ≡ codes "init" ∷ link_word proto profile ∷ dir_word dir ∷ path ∷ [])
@@ -41,22 +41,22 @@ IsCommand words Version = (words ≡ codes "version" ∷ []) ⊎ (words ≡ code
 IsCommand words (Duplex proto profile dir) = (key : List ℕ) × (key ≢ [])
     × (words ≡ codes "duplex" ∷ link_word proto profile ∷ dir_word dir ∷ key ∷ [])
 
--- the words ask for a new journal, of whatever link
+-- Holds if the words ask for a new journal, for whatever link.
 abbrev pub AskForJournal : List (List ℕ) → Type 0
 AskForJournal words = (proto : Proto) × (profile : Profile) × (dir : Dir)
     × IsCommand words (Init proto profile dir)
 
--- what the words ask for: a command, or none where they fit no command
+-- Holds if this is what the words ask for: a command, or `None` if they fit no command.
 abbrev pub Asks : List (List ℕ) → Option Command → Type 0
 Asks words None = (command : Command) → IsCommand words command → ⊥
 Asks words (Some command) = IsCommand words command
 
--- Floors that were asked for are numbers of frames.
+-- Holds if the floors of an audit that is asked for are 0 or numbers of frames.
 abbrev pub AreFloors : Option Command → Type 0
 AreFloors (Some (Audit proto profile dir sent got)) = (sent ≤ LIMIT) × (got ≤ LIMIT)
 AreFloors asked = Unit {0}
 
--- the place of the word that is the key file's path
+-- the place, counted from 0, of the word that is the path of the key's file, if the command has one
 abbrev pub key_place : Command → Option ℕ
 key_place (Init proto profile dir) = None
 key_place (Read proto) = None
@@ -71,7 +71,8 @@ key_place (Duplex proto profile dir) = Some 3
 key_place Help = None
 key_place Version = None
 
--- the place of the word that is the journal's path
+-- the place, counted from 0, of the word that is the path of the journal's file, if the command has
+-- one
 abbrev pub journal_place : Command → Option ℕ
 journal_place (Init proto profile dir) = Some 3
 journal_place (Read proto) = None
@@ -86,7 +87,7 @@ journal_place (Duplex proto profile dir) = None
 journal_place Help = None
 journal_place Version = None
 
--- the word at a place, where there is one
+-- the word at a place, if there is one
 abbrev pub word_in : List (List ℕ) → Option ℕ → Option (List ℕ)
 word_in words None = None
 word_in words (Some place) = slice_get words place

@@ -1,4 +1,4 @@
-//! Tests of `help` and `version`, by each of their words.
+//! Tests of `help` and `version`, with each of the words that ask for them.
 use crate::commands::about::HELP_PAGE;
 use crate::read_words;
 use crate::running::{Ends, KEY, Ran, ended, plan, run_words, words_of};
@@ -16,7 +16,7 @@ const VERSION_WORDS: [&str; 2] = ["version", "--version"];
 /// The version in the first heading of CHANGELOG.md.
 const VERSION: &[u8] = b"link_replay 0.7.0\n";
 
-/// The words of each command in docs/USAGE.md, and a blank.
+/// The words of each command as docs/USAGE.md has them, each followed by a blank.
 const COMMANDS: [&str; 12] = [
     "read P ",
     "init P DIR JOURNAL ",
@@ -32,7 +32,7 @@ const COMMANDS: [&str; 12] = [
     "version ",
 ];
 
-// A run with room for a page, in which this call of the output fails.
+// Runs the program with room for a page, and with an output whose call of this number fails.
 fn run_about(alloc: Global, words: &str, fail: u32) -> Result<Ran, Fail> {
     let ends = Ends {
         key: MemSource::new(KEY, 512, Plan::new()),
@@ -62,7 +62,7 @@ fn a_version_that_is_not_written_is_no_success(rt: HostRuntime) -> Result<(), Fa
     Ok(())
 }
 
-// The page has a line that begins with these words, two blanks from its left.
+// Checks that the page has a line that begins with two blanks and then these words.
 fn has_line(rt: &impl Abort, page: &str, words: &str) {
     let mut found = false;
     for line in page.lines() {

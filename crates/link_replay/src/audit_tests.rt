@@ -1,4 +1,4 @@
-//! Audits: each verdict, words that aren't those of one, and recordings that aren't three.
+//! Audits: each verdict, words that ask for no audit, and inputs that aren't three recordings.
 use crate::running::{Ends, KEY, ended, plan, run_words, words_of};
 use crate::tests::run_over;
 use crate::{Command, Dir, Profile, Proto, key_word, read_words};
@@ -9,7 +9,7 @@ use std::test::Fail;
 use yasir_io::{MemSink, MemSource, SteadySlots};
 use yasir_ticks::{BadTicks, TickFault};
 
-/// An input of `audit`, and what comes of it.
+/// An input of `audit`, and the result for it.
 #[derive(Clone, Copy, Drop)]
 struct Row {
     words: &'static str,
@@ -21,8 +21,8 @@ struct Row {
 
 const CLEAN_LINE: &[u8] = b"audit clean sealed 1 passed 1 read 1\n";
 
-/// A request, its link as it is sealed, and what the receiver makes of it. All tags of this file
-/// are those of Python's `hmac`.
+/// A request, its link as the transmitter seals it, and what the receiver makes of the link.
+/// Python's `hmac` has computed all tags of this file.
 const CLEAN: Row = Row {
     words: "audit rtu ab key 0 0",
     text: b"+01030000000ac5cd\n-40\n%\n\
@@ -46,7 +46,7 @@ const REFUSED: Row = Row {
 
 const ROWS: [Row; 14] = [
     CLEAN,
-    // the device's line has another frame's bytes, which are no frame
+    // the bytes on the receiving device's line aren't a frame, since their CRC is wrong
     Row {
         text: b"+01030000000ac5cd\n-40\n%\n\
           +01030000000ac5cd\n-3\n+0001014c5b8d33c6d29a347013b0\n-47\n%\n\
@@ -54,7 +54,7 @@ const ROWS: [Row; 14] = [
         out: b"audit differs 0\n",
         ..CLEAN
     },
-    // nothing was sealed
+    // the device's line is silent, so no frame was sealed
     Row {
         text: b"-48\n%\n\
           +01030000000ac5cd\n-3\n+0001014c5b8d33c6d29a347013b0\n-47\n%\n\
@@ -62,7 +62,7 @@ const ROWS: [Row; 14] = [
         out: b"audit forged 1 at 0\n",
         ..CLEAN
     },
-    // another frame with the number of the sealed one
+    // another frame with the number of the one that was sealed
     Row {
         text: b"+01030000000ac5cd\n-40\n%\n\
           +010300000001840a\n-3\n+0001ec3beb0f43a9c825b948c840\n-47\n%\n\
@@ -70,7 +70,7 @@ const ROWS: [Row; 14] = [
         out: b"audit forged 1 at 0\n",
         ..CLEAN
     },
-    // the second frame that was read isn't the second that passed
+    // the second frame that was read isn't the second one that passed
     Row {
         text: b"+01030000000ac5cd\n-92\n+010300000001840a\n-92\n%\n\
           +01030000000ac5cd\n-3\n+0001014c5b8d33c6d29a347013b0\n-75\n\
@@ -87,14 +87,14 @@ const ROWS: [Row; 14] = [
         out: b"audit differs 1\n",
         ..CLEAN
     },
-    // and one less
+    // one frame fewer was read than passed
     Row {
         text: b"+01030000000ac5cd\n-40\n%\n\
           +01030000000ac5cd\n-3\n+0001014c5b8d33c6d29a347013b0\n-47\n%\n",
         out: b"audit differs 0\n",
         ..CLEAN
     },
-    // boxes that go on behind number 5
+    // both boxes have floor 5
     Row {
         words: "audit rtu ab key 5 5",
         text: b"+01030000000ac5cd\n-40\n%\n\
@@ -102,7 +102,7 @@ const ROWS: [Row; 14] = [
           -18\n+01030000000ac5cd\n-366\n",
         ..CLEAN
     },
-    // where only the transmitter goes on behind it, the receiver passes a number never sealed
+    // the transmitter's floor is 6, so it never sealed number 6, which the receiver passes
     Row {
         words: "audit rtu ab key 6 5",
         text: b"+01030000000ac5cd\n-40\n%\n\
@@ -133,7 +133,7 @@ const ROWS: [Row; 14] = [
         ..CLEAN
     },
     REFUSED,
-    // one mark more
+    // three marks, which is one too many
     Row {
         text: b"%\n%\n%\n",
         status: Status::BadTicks(BadTicks {
@@ -160,7 +160,7 @@ fn audits_recordings(rt: HostRuntime) -> Result<(), Fail> {
     Ok(())
 }
 
-/// Calls of the key, the input and the output that fail, and what comes of it.
+/// The calls of the key, the input and the output that fail, and the result.
 #[derive(Clone, Copy, Drop)]
 struct Faulty {
     key_fails: u32,
@@ -233,7 +233,7 @@ fn audits_stop_where_the_outside_fails(rt: HostRuntime) -> Result<(), Fail> {
     Ok(())
 }
 
-/// Words, and the audit that they ask for, if they do.
+/// Words, and the audit that they ask for, if they ask for one.
 #[derive(Clone, Copy, Drop)]
 struct Asked {
     words: &'static str,

@@ -1,5 +1,5 @@
-//! Runs of `duplex`: a frame that is sealed on its way out, one that the box's own direction brings
-//! back, and runs that end early.
+//! Runs of `duplex`: a frame that is sealed on its way out, a frame of the box's own direction that
+//! is reflected, and runs that end early.
 use crate::running::{KEY, Ran, ended, words_of};
 use crate::tests::run_over;
 use crate::{Command, Dir, Profile, Proto, key_word, read_words};
@@ -10,18 +10,18 @@ use std::test::Fail;
 use yasir_io::SteadySlots;
 use yasir_ticks::{BadTicks, TickFault};
 
-/// A query of Modbus RTU, and no tick of a link.
+/// A query of Modbus RTU, and an empty recording of a link.
 const QUERY: &[u8] = b"+01030000000ac5cd\n%\n";
 
-/// The query, whose packet in the outgoing direction comes back 40 ticks later. Number and tag are
-/// those of number 1, the tag by openssl:
+/// The query, whose packet in the outgoing direction comes back 40 ticks later. Its number is 1.
+/// Its tag is computed by openssl:
 ///   printf 010001030000000ac5cd0000000000000001 | xxd -r -p
 ///     | openssl dgst -sha1 -mac HMAC -macopt hexkey:000102030405060708090a0b0c0d0e0f | cut -c1-24
 const REFLECTED: &[u8] =
     b"+01030000000ac5cd\n-40\n%\n+01030000000ac5cd\n-3\n+0001014c5b8d33c6d29a347013b0\n";
 
-/// Input, what goes out, and the notes: the text of the link, a mark, and that of the device, to
-/// whom a frame that is refused goes with its last byte spoiled.
+/// The input, what goes out, and the notes. What goes out is the text of the link, a mark, and the
+/// text for the device. A frame that is refused goes to the device with its last byte spoiled.
 const ROWS: [(&[u8], &[u8], &[u8]); 2] = [
     (
         QUERY,
@@ -35,7 +35,7 @@ const ROWS: [(&[u8], &[u8], &[u8]); 2] = [
     ),
 ];
 
-// A run over this input, of whose output this call fails.
+// Runs `duplex` over this input, with an output whose call of this number fails.
 fn duplex(alloc: Global, text: &'static [u8], fail: u32) -> Result<Ran, Fail> {
     let mut disk = SteadySlots::new([0; 24], [0; 24]);
     run_over(alloc, "duplex rtu ab key", KEY, text, fail, &mut disk)
@@ -50,7 +50,7 @@ fn both_directions_go_out(rt: HostRuntime) -> Result<(), Fail> {
     Ok(())
 }
 
-// Nothing goes out of a text that is refused; and where `out` fails, the log has all notes.
+// For a text that is refused nothing goes out. If `out` fails, the log has all notes already.
 #[test]
 fn runs_that_end_early(rt: HostRuntime) -> Result<(), Fail> {
     let bad = Status::BadTicks(BadTicks {

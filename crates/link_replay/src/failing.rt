@@ -1,5 +1,5 @@
-//! Each call outside fails in turn over a short run of each command, in pieces of ten bytes: what
-//! stands then is a cut of what stands after a whole run.
+//! In a short run of each command, each call on an object of the outside fails in turn. A call
+//! moves at most ten bytes. What such a run leaves is a part of what a whole run leaves.
 use crate::running::{Ends, KEY, ended, has_slots, plan, run_words};
 use crate::tests::{CHECK, INIT, READ, Row, SEAL, VECTORS, disk_of, slots_at};
 use replay_status::Status;
@@ -14,7 +14,7 @@ const PIECE: usize = 10;
 /// More calls than any run here makes on one object.
 const MANY: u32 = 100;
 
-/// What a run is handed.
+/// The objects that a run is handed.
 #[derive(Clone, Copy, PartialEq, Eq, Drop)]
 enum Object {
     Key,
@@ -32,8 +32,8 @@ const OBJECTS: [Object; 5] = [
     Object::Disk,
 ];
 
-/// What stands after a run: what its sinks hold, the log without the fault line, and whether the
-/// slots are those after a whole run, or those before it.
+/// What a run leaves: what its sinks hold, the log without the fault line, and whether the slots
+/// are those after a whole run or those before it.
 #[derive(Clone, Copy, Drop)]
 struct Left {
     out: &'static [u8],
@@ -41,20 +41,20 @@ struct Left {
     committed: bool,
 }
 
-/// A run in which nothing fails, and what stands where it stops short of its end.
+/// A run in which nothing fails, and what it leaves if a call fails before its end.
 #[derive(Clone, Copy, Drop)]
 struct Case {
     row: Row,
     keyed: bool,
-    /// After this many bytes of the input a read failed. The last one that fits counts; there is
-    /// none where no input is read.
+    /// What is left if a read of the input fails after at least this many bytes. The last entry
+    /// that fits counts. There is no entry if no input is read.
     reads: &'static [(usize, Left)],
-    /// This call of the disk failed.
+    /// What is left if a call of the disk fails, for each call in order.
     disk_calls: &'static [Left],
 }
 
-/// How a run ends where a call fails: its status, what it leaves, the fault line behind the log,
-/// and how often each sink was flushed.
+/// How a run ends if a call fails: its status, what it leaves, the fault line after the log, and
+/// how often each sink was flushed.
 #[derive(Clone, Copy, Drop)]
 struct Ending {
     status: Status,
@@ -63,7 +63,7 @@ struct Ending {
     flushes: (u64, u64),
 }
 
-// The plan of an object's calls, where this call of one object fails.
+// Returns the plan of an object's calls if this call of one object fails.
 fn plan_of(object: Object, failing: Object, call: u32) -> Plan {
     if object == failing {
         plan(call)
@@ -72,7 +72,7 @@ fn plan_of(object: Object, failing: Object, call: u32) -> Plan {
     }
 }
 
-// What a run is handed, but for its disk, where this call of one object fails.
+// Returns what a run is handed, except its disk, if this call of one object fails.
 fn ends_of(
     alloc: Global,
     text: &'static [u8],
@@ -87,14 +87,14 @@ fn ends_of(
     })
 }
 
-// What the log holds at the end: its front, and the fault line behind it.
+// Returns what the log holds at the end: what the run leaves in it, and then the fault line.
 fn log_of(alloc: Global, ending: &Ending) -> Result<Vec<u8>, AllocError> {
     let mut log = ending.left.log.to_vec(alloc)?;
     log.extend_from_slice(ending.fault)?;
     Ok(log)
 }
 
-// The slots at the end.
+// Returns the slots at the end.
 fn slots_of(row: &Row, ending: &Ending) -> ([u8; 24], [u8; 24]) {
     let numbers = if ending.left.committed {
         row.slots_now
@@ -104,7 +104,7 @@ fn slots_of(row: &Row, ending: &Ending) -> ([u8; 24], [u8; 24]) {
     slots_at(numbers, &row.link)
 }
 
-// A run in which this call of one object fails ends so.
+// Checks that a run in which this call of one object fails ends in this way.
 fn compare(
     rt: &impl Abort,
     alloc: Global,
@@ -124,7 +124,7 @@ fn compare(
     Ok(())
 }
 
-// What stands after a run in which nothing fails.
+// Returns what is left by a run in which nothing fails.
 fn whole(row: &Row) -> Left {
     Left {
         out: row.out,
@@ -133,7 +133,7 @@ fn whole(row: &Row) -> Left {
     }
 }
 
-// A run in which nothing fails.
+// Returns the ending of a run in which nothing fails.
 fn done(row: &Row) -> Ending {
     Ending {
         status: Status::Done,
@@ -170,13 +170,13 @@ fn journal_fault(left: Left) -> Ending {
     }
 }
 
-// How many bytes the calls before this one have moved.
+// Returns how many bytes the calls before this one have moved.
 fn moved_before(call: u32) -> usize {
     (call.saturating_sub(1) as usize).saturating_mul(PIECE)
 }
 
-// Whether this many bytes were moved by the calls before one that is still made: one call follows
-// the last one that moves bytes, a read at the end or a flush.
+// Whether a call is made after calls that moved this many bytes. The last call that moves bytes is
+// followed by one more: a read at the end, or a flush.
 fn is_made(moved: usize, len: usize) -> bool {
     moved < PIECE || moved - PIECE < len
 }
@@ -185,7 +185,7 @@ fn front(bytes: &'static [u8], n: usize) -> &'static [u8] {
     if n < bytes.len() { &bytes[..n] } else { bytes }
 }
 
-// What stands where a read failed after this many bytes of the input.
+// Returns what a run leaves if a read fails after this many bytes of the input.
 fn left_after(case: &Case, bytes: usize) -> Option<Left> {
     let mut left = None;
     for (least, next) in case.reads {
@@ -196,7 +196,7 @@ fn left_after(case: &Case, bytes: usize) -> Option<Left> {
     left
 }
 
-// A read of the key fails: nothing else is touched.
+// A read of the key fails: no other object is touched.
 fn key_fails(case: &Case, moved: usize) -> Option<Ending> {
     if case.keyed && is_made(moved, KEY.len()) {
         Some(read_fault(NOTHING))
@@ -205,7 +205,7 @@ fn key_fails(case: &Case, moved: usize) -> Option<Ending> {
     }
 }
 
-// A read of the input fails: of what was read the ended lines count.
+// A read of the input fails: of what was read only ended lines count.
 fn input_fails(case: &Case, moved: usize) -> Option<Ending> {
     if !is_made(moved, case.row.text.len()) {
         return None;
@@ -216,7 +216,8 @@ fn input_fails(case: &Case, moved: usize) -> Option<Ending> {
     }
 }
 
-// A write to `out`, or its flush, fails: it has got a front, and all notes went to the log before.
+// A write to `out` or its flush fails. `out` has got a front of its text, and all notes went to the
+// log before that.
 fn out_fails(row: &Row, moved: usize) -> Option<Ending> {
     if !is_made(moved, row.out.len()) {
         return None;
@@ -228,7 +229,7 @@ fn out_fails(row: &Row, moved: usize) -> Option<Ending> {
     Some(write_fault(left, (0, 0)))
 }
 
-// A write to the log fails, before anything goes out, or its flush, behind that of `out`.
+// A write to the log fails before anything goes out, or the log's flush fails after that of `out`.
 fn log_fails(row: &Row, moved: usize) -> Option<Ending> {
     if !is_made(moved, row.log.len()) {
         return None;
@@ -252,7 +253,7 @@ fn disk_fails(case: &Case, call: u32) -> Option<Ending> {
     }
 }
 
-// How a run ends where this call of one object fails; none where the call isn't made.
+// Returns how a run ends if this call of one object fails, or `None` if the call isn't made.
 fn ending_of(case: &Case, failing: Object, call: u32) -> Option<Ending> {
     let moved = moved_before(call);
     match failing {
@@ -264,7 +265,8 @@ fn ending_of(case: &Case, failing: Object, call: u32) -> Option<Ending> {
     }
 }
 
-// Each call on one object fails in turn, up to the first one that isn't made, where nothing fails.
+// Makes each call on one object fail in turn, up to the first one that isn't made. With that one
+// nothing fails.
 fn fail_each_call(
     rt: &impl Abort,
     alloc: Global,
@@ -281,14 +283,14 @@ fn fail_each_call(
     Ok(())
 }
 
-/// Nothing, and the slots as they were.
+/// No text, and the slots as they were.
 const NOTHING: Left = Left {
     out: b"",
     log: b"",
     committed: false,
 };
 
-// The frame's line ends with the fourth silent tick behind it.
+// The frame's line is printed with the fourth silent tick after the frame.
 const READ_CASE: Case = Case {
     row: READ,
     keyed: false,
@@ -312,13 +314,13 @@ const VECTORS_CASE: Case = Case {
     disk_calls: &[],
 };
 
-/// The slot is written, and the sync behind it fails.
+/// The slot was written, and the sync after it failed.
 const WRITTEN: Left = Left {
     committed: true,
     ..NOTHING
 };
 
-// All slots are read, one is written, and synced.
+// All slots are read, and then one is written and synced.
 const INIT_CASE: Case = Case {
     row: INIT,
     keyed: false,
@@ -326,8 +328,8 @@ const INIT_CASE: Case = Case {
     disk_calls: &[NOTHING, NOTHING, NOTHING, NOTHING, NOTHING, WRITTEN],
 };
 
-// The first line has eight ticks, the second one four, and the note falls into the last of these,
-// with the first byte of the trailer.
+// The first line has eight ticks and the second one four. The note falls into the last of these
+// four, in which the first byte of the trailer is sent.
 const SEAL_CASE: Case = Case {
     row: SEAL,
     keyed: true,
@@ -366,7 +368,7 @@ const SEAL_CASE: Case = Case {
 };
 
 // The lines have 8, 3, 14 and 11 ticks. The note falls into the last tick of the trailer, the 25th
-// of all, and the frame comes 18 ticks late.
+// of all, and the frame leaves 18 ticks late.
 const CHECK_CASE: Case = Case {
     row: CHECK,
     keyed: true,
@@ -419,7 +421,7 @@ const CHECK_CASE: Case = Case {
     ],
 };
 
-// One frame, and its packet. Nothing is printed before the input's end.
+// One frame and its packet. Nothing is printed before the end of the input.
 const REPLAY_CASE: Case = Case {
     row: Row {
         words: "replay rtu ab key",
@@ -435,7 +437,7 @@ const REPLAY_CASE: Case = Case {
     disk_calls: &[],
 };
 
-// The counts are those of scripts/trial_model.py. Nothing is read.
+// scripts/trial_model.py has computed the counts. Nothing is read.
 const TRIAL_CASE: Case = Case {
     row: Row {
         words: "trial rtu 7 3",

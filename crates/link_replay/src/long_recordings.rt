@@ -1,4 +1,4 @@
-//! Two recordings of many frames, whose lists grow many times.
+//! Two recordings of many frames, whose lists have to grow many times.
 use crate::run;
 use crate::running::{KEY, Ran, plan, words_of};
 use replay_status::Status;
@@ -10,21 +10,21 @@ use yasir_io::{MemSink, SteadySlots, SteadySource};
 /// How many frames each recording has. Together they have 70,000 bytes.
 const FRAMES: u64 = 2000;
 
-/// A request of 35 bytes, which writes thirteen registers, and silence behind it. Its CRC is by
-/// scripts/model.py.
+/// A request of 35 bytes, which writes thirteen registers, and the silence after it.
+/// scripts/model.py has computed its CRC.
 const REQUEST: &[u8] = b"+01100000000d1a000102030405060708090a0b0c0d0e0f101112131415161718\n\
       +19096d\n\
       -40\n";
 
 const FRAME: &str = "01100000000d1a000102030405060708090a0b0c0d0e0f10111213141516171819096d";
 
-/// How many ticks it has, with its silence.
+/// How many ticks a request has, with its silence.
 const PERIOD: u64 = 35 + 40;
 
-/// This many ticks after it has come a byte leaves the receiver.
+/// The receiver's delay: how many ticks after it came in a byte leaves.
 const DELAY: u64 = 18;
 
-// A run with these words over this text, with ample room for what is written.
+// Runs the program with these words over this text, with ample room for what is written.
 fn run_over(alloc: Global, words: &str, text: &[u8]) -> Result<Ran, Fail> {
     let words = words_of(alloc, words)?;
     let mut key = SteadySource::new(KEY);
@@ -45,7 +45,7 @@ fn run_over(alloc: Global, words: &str, text: &[u8]) -> Result<Ran, Fail> {
     Ok(Ran { status, out, log })
 }
 
-// The device's line: requests, each with its silence.
+// Returns the device's line: requests, each with its silence.
 fn requests(alloc: Global) -> Result<Vec<u8>, Fail> {
     let mut text = Vec::new(alloc);
     for _ in 0..FRAMES {
@@ -54,8 +54,8 @@ fn requests(alloc: Global) -> Result<Vec<u8>, Fail> {
     Ok(text)
 }
 
-// What is printed of these requests where the link is left alone: each is sealed, passes and is
-// read.
+// Returns what is printed for these requests on a link that is left alone: each is sealed, passes
+// and is read.
 fn all_arrive(alloc: Global) -> Result<Vec<u8>, Fail> {
     let mut lines = Vec::new(alloc);
     for verb in ["sealed", "passed"] {

@@ -1,5 +1,5 @@
 //! `link_replay`: a program that runs the boxes, and models of the devices, over recorded lines.
-//! Its words are in `docs/USAGE.md`, and `link_replay help` prints a page of them:
+//! `docs/USAGE.md` describes its words, and `link_replay help` prints a page of them:
 //!
 //!     link_replay init rtu ab sent.journal
 //!     link_replay seal rtu ab key.txt sent.journal < line.ticks > link.ticks

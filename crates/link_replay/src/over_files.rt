@@ -1,4 +1,4 @@
-//! The program over a file system: the files of the key and the journal are those whose paths are
+//! The program over a file system: the key and the journal are files whose paths are among its
 //! words.
 ghost use Rattle.std.specs.Prelude.{◌≡◌, Option, IfOk, OnErr, IsErr, drop, map, option_map};
 ghost use Rattle.std.specs.String.{string_bytes};
@@ -18,18 +18,18 @@ use std::io;
 use std::rt::Files;
 use yasir_io::{FileSlots, FileSource, Lock, Sink, SlotDisk, SlotFile, Source};
 
-/// The exit status where the runtime refuses what a run needs: the places of the streams that are
-/// closed, the words, or memory for them.
+/// The exit status if the runtime refuses something that a run needs: a place for a standard stream
+/// that is closed, the words, or memory for the words.
 pub const NOT_GIVEN: u8 = 13;
 
-// The words behind the program's name.
+// Returns the words after the program's name.
 fn words_after_name(alloc: Global, args: Args) -> Result<Vec<String>, AllocError>
     ensures { IfOk result (λ words. words.items ≡ drop 1 (into_iter_items args)) }
 {
     args.skip(1).collect(alloc)
 }
 
-// A copy of the word at this place, where there is one.
+// Returns a copy of the word at this place, or `None` if there is no such word.
 fn path_at(words: &[String], place: Option<usize>) -> Result<Option<String>, AllocError>
     ensures { IfOk result (λ path.
         option_map string_bytes path ≡ word_in (map string_bytes words.now) place) }
@@ -43,7 +43,7 @@ fn path_at(words: &[String], place: Option<usize>) -> Result<Option<String>, All
     }
 }
 
-// The file of the key.
+// Returns the file of the key.
 fn key_file<'a, R: Files>(files: &'a R, words: &[String]) -> Result<FileSource<'a, R>, AllocError>
     ensures { IfOk result (λ key. (asked : Option Command) → Asks (map string_bytes words.now) asked
         → IsKeyFile (path_in key_place (map string_bytes words.now) asked) key) }
@@ -51,7 +51,8 @@ fn key_file<'a, R: Files>(files: &'a R, words: &[String]) -> Result<FileSource<'
     Ok(FileSource::new(files, path_at(words, key_word(words))?))
 }
 
-// What is expected of the journal's file.
+// Returns what is expected of the journal's file: that the run makes a journal, or that there is
+// one.
 fn kind_of(words: &[String]) -> SlotFile
     ensures { (asked : Option Command) → Asks (map string_bytes words.now) asked
         → result ≡ journal_kind asked }
@@ -63,7 +64,7 @@ fn kind_of(words: &[String]) -> SlotFile
     }
 }
 
-// The file of the journal.
+// Returns the file of the journal.
 fn journal_file<'a, R: Files>(
     files: &'a R,
     words: &[String],
@@ -79,7 +80,7 @@ where
     Ok(FileSlots::new(files, path, kind_of(words)))
 }
 
-// The program with these words.
+// Runs the program with these words.
 fn run_words<'a, R: Files + AllocGlobal, S: Source, O: Sink, L: Sink>(
     system: &'a R,
     words: &[String],
@@ -102,17 +103,18 @@ where
     Ok(run(system.alloc(), words, &mut key, input, out, log, &mut disk))
 }
 
-// The system gives a file that is opened the least place that is free. These three take those of
-// standard streams that are closed, and are held as long as a run lasts: else the key would be read
-// as the input, or a note be written into the journal. A folder can be neither read nor written.
+// The system opens each file at the lowest free place (file descriptor). These three files take the
+// places of standard streams that are closed, and stay open as long as the run lasts. Otherwise the
+// key's file could be read as the input, or a note be written into the journal. A folder can be
+// neither read nor written.
 fn take_places<R: Files>(files: &R) -> io::Result<(R::File, R::File, R::File)> {
     let first = File::open(files, "/")?;
     let second = File::open(files, "/")?;
     Ok((first, second, File::open(files, "/")?))
 }
 
-/// The program with the words behind the first argument, its name: the key and the journal are
-/// files of this system. Returns the exit status.
+/// Runs the program with the words after the first argument, which is its name. The key and the
+/// journal are files of this system. Returns the exit status.
 pub fn run_over_files<'a, R: Files + AllocGlobal, S: Source, O: Sink, L: Sink>(
     system: &'a R,
     args: io::Result<Args>,
@@ -122,12 +124,12 @@ pub fn run_over_files<'a, R: Files + AllocGlobal, S: Source, O: Sink, L: Sink>(
 ) -> u8
 where
     R::File: Lock,
-    // Where the runtime gives no words, nothing is done.
+    // If the runtime gives no words, nothing is done.
     ensures no_words { IsErr args → result ≡ NOT_GIVEN }
     ensures untouched { IsErr args
         → streams input.new out.new log.new ≡ streams input.old out.old log.old }
 
-    // What was done, and the exit status, for each thing that the words may ask for.
+    // What was done, and the exit status, for each command that the words may ask for.
     ensures ends { IfOk args (λ given. (asked : Option Command) → Asks (words_after given) asked
         → EndsOverFiles ⟦<FileSource<'a, R> as Source>⟧ S.Source O.Sink L.Sink
         ⟦<FileSlots<'a, R> as SlotDisk>⟧ (words_after given) asked

@@ -1,5 +1,5 @@
-//! The program over a file system of a key and a journal: which files are opened and made, what
-//! reaches the output and what the log, and the exit status.
+//! The program over a file system with a key and a journal: which files are opened and made, what
+//! reaches the output and the log, and the exit status.
 ghost use Rattle.std.specs.Io.{ReadsAtMost, WritesAtMost};
 
 use crate::run_over_files;
@@ -19,7 +19,7 @@ const ROOM: usize = 80;
 /// How many handles of the root are open while a run opens its files.
 const PLACES: u32 = 3;
 
-// A file, which is missing where it has no length.
+// A file. If it has no length, it is missing.
 #[derive(Drop)]
 struct Kept {
     bytes: Cell<[u8; ROOM]>,
@@ -41,7 +41,7 @@ impl Kept {
     }
 }
 
-// The key at `keys/ab`, the journal at `journals/ab`, and a root that can be opened, or can't.
+// The key at `keys/ab`, the journal at `journals/ab`, and whether the root can be opened.
 #[derive(Drop)]
 struct Disk {
     key: Kept,
@@ -66,7 +66,7 @@ impl Disk {
 #[derive(Drop)]
 struct Folder<'a>(&'a Disk);
 
-// A handle: of a file and a place in it, or of the root.
+// A handle, either of a file with a place in it or of the root.
 struct Opened<'a> {
     disk: &'a Disk,
     file: Option<&'a Kept>,
@@ -238,8 +238,8 @@ impl<'a> Files for Folder<'a> {
     }
 }
 
-/// The arguments, the files before, and what comes of them over the request below; no journal where
-/// the file is missing.
+/// The arguments, the files before the run, and the result of a run over the request below. A file
+/// that is missing is `None`.
 #[derive(Clone, Copy, Drop)]
 struct Row {
     args: &'static str,
@@ -312,7 +312,7 @@ const ROWS: [Row; 11] = [
         ..INIT
     },
     SEAL,
-    // A journal that is missing isn't made.
+    // A missing journal isn't made.
     Row {
         journal: None,
         exit_status: 7,
@@ -353,8 +353,8 @@ const ROWS: [Row; 11] = [
     },
 ];
 
-// The program with these arguments over this disk ends with the row's status, output and log, and
-// leaves its journal.
+// Checks that the program with these arguments over this disk ends with the row's exit status,
+// output and log, and leaves the row's journal.
 fn compare(
     rt: &impl Abort,
     alloc: Global,
@@ -391,7 +391,7 @@ fn the_program_runs_over_files(rt: HostRuntime) -> Result<(), Fail> {
     Ok(())
 }
 
-/// What a run leaves that the runtime refuses what it needs.
+/// What a run leaves if the runtime refuses something that it needs.
 const NOTHING: Row = Row {
     exit_status: 13,
     out: b"",

@@ -1,4 +1,4 @@
-//! The program over ends that it is handed: it reads its words, and does what they ask for.
+//! The program over the ends that it is handed: it reads its words, and does what they ask for.
 ghost use Rattle.std.specs.Prelude.{◌≡◌, ◌↔◌, Option, Some, None, map};
 ghost use Rattle.std.specs.String.{string_bytes};
 ghost use Rattle.replay_status.specs.Ends.{outside_before, outside_after};
@@ -24,7 +24,7 @@ use replay_status::{Ends, Status, write_fault};
 use std::alloc::Global;
 use yasir_io::{Sink, SlotDisk, Source};
 
-// What a command does, but for the fault line.
+// Does what a command asks for. It doesn't write the fault line.
 fn perform<K: Source, S: Source, O: Sink, L: Sink, D: SlotDisk>(
     alloc: Global,
     command: Command,
@@ -66,7 +66,8 @@ fn perform<K: Source, S: Source, O: Sink, L: Sink, D: SlotDisk>(
     }
 }
 
-// What was asked for, but for the fault line.
+// Does what was asked for, and nothing if the words fit no command. It doesn't write the fault
+// line.
 fn answer<K: Source, S: Source, O: Sink, L: Sink, D: SlotDisk>(
     alloc: Global,
     asked: Option<Command>,
@@ -87,7 +88,7 @@ fn answer<K: Source, S: Source, O: Sink, L: Sink, D: SlotDisk>(
     }
 }
 
-// What the words ask for; none where they fit no command.
+// Returns the command that the words ask for, or `None` if they fit no command.
 fn asked_by(words: &[String]) -> Option<Command>
     ensures asks { Asks (map string_bytes words.now) result }
     ensures floors { AreFloors result }
@@ -98,9 +99,9 @@ fn asked_by(words: &[String]) -> Option<Command>
     }
 }
 
-/// The program: reads its words, those after the program's name, and does what they ask for. No
-/// memory is taken but by `space`, `audit`, `duplex` and `replay`, whose clause in `runs` is the
-/// program's headline: the record `Headline` of `specs/ReplayCommand.antt`.
+/// Runs the program: it reads its words, which are those after the program's name, and does what
+/// they ask for. Only `space`, `audit`, `duplex` and `replay` take memory. The clause of `replay`
+/// in `runs` is the program's headline: the record `Headline` of `specs/ReplayCommand.antt`.
 pub fn run<K: Source, S: Source, O: Sink, L: Sink, D: SlotDisk>(
     alloc: Global,
     words: &[String],
@@ -110,10 +111,10 @@ pub fn run<K: Source, S: Source, O: Sink, L: Sink, D: SlotDisk>(
     log: &mut L,
     disk: &mut D,
 ) -> Status
-    // Usage comes exactly where the words ask for no command.
+    // The status is Usage exactly if the words ask for no command.
     ensures usage { (result ≡ Status.Usage) ↔ Asks (map string_bytes words.now) None }
 
-    // What was read, written and kept, for each command, and the fault line behind it.
+    // What was read, written and kept, for each command, and then the fault line.
     ensures runs { (asked : Option Command) → Asks (map string_bytes words.now) asked
         → Runs K.Source S.Source O.Sink L.Sink D.SlotDisk asked
         (outside key.old input.old out.old log.old disk.old)
@@ -123,8 +124,8 @@ pub fn run<K: Source, S: Source, O: Sink, L: Sink, D: SlotDisk>(
     ensures any_moment { (asked : Option Command) → Asks (map string_bytes words.now) asked
         → KeepsDisk D.SlotDisk asked disk.old disk.new }
 
-    // Where all that the command is given is right and nothing outside fails, it is done; or, of
-    // `replay`, `space`, `audit` and `duplex` alone, there is no memory.
+    // If all that the command is given is right and nothing outside fails, the command is done.
+    // Only `replay`, `space`, `audit` and `duplex` may end for lack of memory instead.
     ensures done { (asked : Option Command) → Asks (map string_bytes words.now) asked
         → MayDo K.Source S.Source O.Sink L.Sink D.SlotDisk asked
         (outside key.old input.old out.old log.old disk.old)
@@ -132,7 +133,7 @@ pub fn run<K: Source, S: Source, O: Sink, L: Sink, D: SlotDisk>(
         (outside key.old input.old out.old log.old disk.old)
         (outside key.new input.new out.new log.new disk.new) → EndsWell asked result }
 
-    // The causes.
+    // The causes of the status: which counts of faults rose, and which flushes were made.
     ensures causes { (asked : Option Command) → Asks (map string_bytes words.now) asked
         → HasCauses K.Source S.Source O.Sink L.Sink D.SlotDisk asked
         (outside key.old input.old out.old log.old disk.old)

@@ -8,7 +8,7 @@ use std::test::Fail;
 use yasir_io::{MemSink, MemSource, SteadySlots};
 use yasir_ticks::{BadTicks, TickFault};
 
-/// An input of `replay`, and what comes of it.
+/// An input of `replay`, and the result for it.
 #[derive(Clone, Copy, Drop)]
 struct Row {
     words: &'static str,
@@ -18,9 +18,9 @@ struct Row {
     log: &'static [u8],
 }
 
-/// Six polls of a master, of three requests, and the link of them: the second packet is altered,
-/// the third one comes twice, and the sixth before the fifth. All tags of this file are those of
-/// Python's `hmac`.
+/// Six polls of a master with three different requests, and the link that carries them. On the link
+/// the second packet is altered, the third one comes twice, and the sixth one comes before the
+/// fifth. Python's `hmac` has computed all tags of this file.
 const POLLS: Row = Row {
     words: "replay rtu ab key",
     text: b"+01030000000ac5cd\n-92\n\
@@ -77,7 +77,7 @@ const ROWS: [Row; 10] = [
           read at 18 01030000000ac5cd\n",
         ..POLLS
     },
-    // a frame where none was sealed
+    // a frame on the link although none was sealed
     Row {
         text: b"-48\n%\n+01030000000ac5cd\n-3\n+0001014c5b8d33c6d29a347013b0",
         out: b"passed 1 at 0 01030000000ac5cd\n\
@@ -123,7 +123,7 @@ const ROWS: [Row; 10] = [
         log: b"fault: line 2 mark\n",
         ..NO_MARK
     },
-    // one mark more
+    // two marks, which is one too many
     Row {
         text: b"%\n-4\n%\n",
         status: Status::BadTicks(BadTicks {
@@ -145,7 +145,7 @@ const ROWS: [Row; 10] = [
     },
 ];
 
-/// The six polls above, by the profile y24.
+/// The six polls of `POLLS` in the profile y24.
 const POLLS_Y24: Row = Row {
     words: "replay rtu24 ab key",
     text: b"+01030000000ac5cd\n-92\n\
@@ -181,7 +181,7 @@ const POLLS_Y24: Row = Row {
 
 const ROWS_Y24: [Row; 3] = [
     POLLS_Y24,
-    // an untouched link by y24, and one of y18 for it
+    // an untouched link of y24, and in the next row a link of y18 that is taken for one of y24
     Row {
         text: b"+056405c001000004e921\n-40\n%\n+056405c001000004e921\n-3\n\
           +00000001cd525d6a6c119047d45db5ba9f9e4290\n-47\n",
@@ -218,8 +218,8 @@ fn replays_recordings(rt: HostRuntime) -> Result<(), Fail> {
     Ok(())
 }
 
-/// Calls of the key, the input and the output that fail, how much room the output has, and what
-/// comes of it.
+/// The calls of the key, the input and the output that fail, how much room the output has, and the
+/// result.
 #[derive(Clone, Copy, Drop)]
 struct Faulty {
     key_fails: u32,
@@ -279,7 +279,7 @@ const FAULTY: [Faulty; 6] = [
     },
 ];
 
-// What a run is handed that fails so.
+// Returns the ends of a run, which fail as the row says.
 fn ends_of(alloc: Global, row: &Faulty, text: &'static [u8]) -> Result<Ends<'static>, Fail> {
     Ok(Ends {
         key: MemSource::new(KEY, 512, plan(row.key_fails)),

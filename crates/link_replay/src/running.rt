@@ -1,6 +1,6 @@
-//! A run of the program over ends in memory, and what stands after it: all tests of runs go through
-//! these calls. The tests borrow their tables, since a copy of one costs its proof up to a minute
-//! and a half.
+//! Runs of the program over ends in memory, and checks of what they leave: all tests of runs use
+//! these functions. The tests borrow their tables, since copying one makes the proof of a test up
+//! to a minute and a half longer.
 use crate::run;
 use replay_status::Status;
 use std::alloc::{AllocError, Global};
@@ -10,7 +10,7 @@ use yasir_io::{MemSink, MemSlots, MemSource, Plan, Slot, SlotDisk};
 
 pub const KEY: &[u8] = b"000102030405060708090a0b0c0d0e0f";
 
-/// What a run is handed, but for its disk.
+/// What a run is handed, except its disk.
 #[derive(Drop)]
 pub struct Ends<'a> {
     pub key: MemSource<'a>,
@@ -27,7 +27,7 @@ pub struct Ran {
     pub log: MemSink,
 }
 
-/// This call fails, and none where it is 0.
+/// Returns a plan by which the call of this number fails, or none if the number is 0.
 pub fn plan(call: u32) -> Plan {
     let mut plan = Plan::new();
     if call > 0 {
@@ -36,7 +36,7 @@ pub fn plan(call: u32) -> Plan {
     plan
 }
 
-/// The words of a text, with a space between one and the next; none where it is empty.
+/// Returns the words of a text, which single spaces separate. An empty text has none.
 pub fn words_of(alloc: Global, text: &str) -> Result<Vec<String>, AllocError> {
     let mut words = Vec::new(alloc);
     if text.is_empty() {
@@ -48,7 +48,7 @@ pub fn words_of(alloc: Global, text: &str) -> Result<Vec<String>, AllocError> {
     Ok(words)
 }
 
-/// A run with these words over these ends.
+/// Runs the program with these words over these ends.
 pub fn run_words<D: SlotDisk>(
     alloc: Global,
     words: &str,
@@ -74,14 +74,14 @@ pub fn run_words<D: SlotDisk>(
     Ok(Ran { status, out, log })
 }
 
-/// A run ended with this status, and its sinks hold these bytes.
+/// Checks that a run ended with this status, and that its sinks hold these bytes.
 pub fn ended(rt: &impl Abort, ran: &Ran, status: Status, out: &[u8], log: &[u8]) {
     assert_eq!(rt; ran.status, status);
     assert_eq!(rt; ran.out.held(), out);
     assert_eq!(rt; ran.log.held(), log);
 }
 
-/// A disk has these slots.
+/// Checks that a disk has these slots.
 pub fn has_slots(rt: &impl Abort, disk: &MemSlots, slots: ([u8; 24], [u8; 24])) {
     assert_eq!(rt; disk.slot(Slot::A), slots.0);
     assert_eq!(rt; disk.slot(Slot::B), slots.1);

@@ -1,5 +1,5 @@
-//! Runs of `space`: frames that are close go out apart, one that can't wait is named, and each
-//! status but that of no memory, which `scripts/refused_memory.py` tries.
+//! Runs of `space`: close frames go out apart, a frame that can't wait is named, and each status
+//! comes except that for no memory, which `scripts/refused_memory.py` tries.
 use crate::running::{Ran, ended, words_of};
 use crate::tests::run_over;
 use crate::{Command, Profile, Proto, read_words};
@@ -10,14 +10,14 @@ use std::test::Fail;
 use yasir_io::SteadySlots;
 use yasir_ticks::{BadTicks, TickFault};
 
-/// Two resets of a DNP3 link without a gap.
+/// Two resets of a DNP3 link with no silence between them.
 const RESETS: &[u8] = b"+056405c001000004e921056405c001000004e921\n";
 
 /// Two queries of Modbus RTU that four silent ticks part.
 const QUERIES: &[u8] = b"+01030000000ac5cd\n-4\n+010300000001840a\n";
 
-/// Words, input, what goes out: each frame once it is read, the second 21 or 27 silent ticks behind
-/// the first one, and 21000 silent ticks behind the input.
+/// Words, the input, and what goes out: each frame after it has been read, the second one 21 or 27
+/// silent ticks after the first. 21000 silent ticks follow the input.
 const ROWS: [(&str, &[u8], &[u8]); 3] = [
     (
         "space dnp3",
@@ -36,7 +36,8 @@ const ROWS: [(&str, &[u8], &[u8]); 3] = [
     ),
 ];
 
-// A run with these words over this input, of whose output this call fails.
+// Runs the program with these words over this input, with an output whose call of this number
+// fails.
 fn space(alloc: Global, words: &str, text: &'static [u8], fail: u32) -> Result<Ran, Fail> {
     let mut disk = SteadySlots::new([0; 24], [0; 24]);
     run_over(alloc, words, b"", text, fail, &mut disk)
@@ -51,7 +52,7 @@ fn frames_go_out_apart(rt: HostRuntime) -> Result<(), Fail> {
     Ok(())
 }
 
-// A text that is refused, and one that can't be written: what was taken before is spaced.
+// A text that is refused, and a line that can't be written. What was taken before that is spaced.
 #[test]
 fn runs_that_end_early(rt: HostRuntime) -> Result<(), Fail> {
     let bad = Status::BadTicks(BadTicks {

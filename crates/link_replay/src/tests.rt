@@ -14,7 +14,7 @@ use yasir_io::{
 };
 use yasir_ticks::{BadTicks, TickFault};
 
-/// A request and silence behind it, and the line that is printed of it.
+/// A request and the silence after it, and the line that is printed for it.
 const REQUEST: &[u8] = b"+01030000000ac5cd\n-4\n";
 
 const REQUEST_LINE: &[u8] = b"read at 0 01030000000ac5cd\n";
@@ -39,7 +39,7 @@ const RTU_AB: LinkId = LinkId {
     profile: 18,
 };
 
-/// A slot that holds this number for a link, or none.
+/// Returns a slot that holds this number for a link, or a slot that holds no number.
 pub fn slot_at(number: Option<u64>, link: &LinkId) -> [u8; 24] {
     match number {
         Some(n) if n <= LIMIT && link.is_known() => slot_of(n, link),
@@ -47,19 +47,20 @@ pub fn slot_at(number: Option<u64>, link: &LinkId) -> [u8; 24] {
     }
 }
 
-/// Both slots of a row.
+/// Returns both slots of a row.
 pub fn slots_at(numbers: (Option<u64>, Option<u64>), link: &LinkId) -> ([u8; 24], [u8; 24]) {
     (slot_at(numbers.0, link), slot_at(numbers.1, link))
 }
 
-/// A disk with the slots of a row, of which these calls fail.
+/// Returns a disk with the slots of a row, on which the calls of this plan fail.
 pub fn disk_of(alloc: Global, row: &Row, fail: Plan) -> Result<MemSlots, Fail> {
     let old = if row.is_old { OLD_5 } else { OLD_NONE };
     let (a, b) = slots_at(row.slots, &row.link);
     Ok(MemSlots::with_room(alloc, old, OLD_NONE, a, b, 16, fail)?)
 }
 
-/// A run with this key and this input, in which these calls of the output fail.
+/// Runs the program with this key and this input, and with an output whose call of this number
+/// fails.
 pub fn run_over<D: SlotDisk>(
     alloc: Global,
     words: &str,
@@ -77,8 +78,8 @@ pub fn run_over<D: SlotDisk>(
     run_words(alloc, words, ends, disk)
 }
 
-// By these words this command is asked for, the paths of its key and its journal are found at these
-// places, and the journal is made or not.
+// Checks that these words ask for this command, that the paths of its key and its journal are at
+// these places, and whether the journal is made.
 fn find(
     rt: &impl Abort,
     alloc: Global,
@@ -96,14 +97,15 @@ fn find(
     Ok(())
 }
 
-// These words fit no command, and nothing is done but that the fault line is written.
+// Checks that these words fit no command, and that nothing is done except that the fault line is
+// written.
 fn refuse(rt: &impl Abort, alloc: Global, words: &str) -> Result<(), Fail> {
     find(rt, alloc, words, Err(Usage), None, None, false)?;
     let mut disk = SteadySlots::new([0; 24], [0; 24]);
     let mut ran = run_over(alloc, words, KEY, REQUEST, 1, &mut disk)?;
     ended(rt, &ran, Status::Usage, b"", b"fault: usage\n");
     assert_eq!(rt; ran.status.exit_status(), 2);
-    // No call was made on the output, so the next one is its first, which fails.
+    // No call has been made on the output yet, so this one is the first, which fails.
     assert!(rt; ran.out.flush().is_err());
     Ok(())
 }
@@ -161,7 +163,7 @@ fn refuses_words_of_no_command(rt: HostRuntime) -> Result<(), Fail> {
     Ok(())
 }
 
-/// Words, command, place of the journal's path, whether the journal is made.
+/// Words, the command, the place of the journal's path, and whether the journal is made.
 const KEYLESS: [(&str, Command, Option<usize>, bool); 11] = [
     ("help", Command::Help, None, false),
     ("--help", Command::Help, None, false),
@@ -207,7 +209,7 @@ const Y18: Profile = Profile::Y18;
 
 const Y24: Profile = Profile::Y24;
 
-/// Words, command; the key's path is word 3, and the journal's word 4.
+/// Words and the command. Word 3 is the key's path, and word 4 the journal's path.
 const KEY_AND_JOURNAL: [(&str, Command); 5] = [
     ("seal rtu ab k j", Command::Seal(RTU, Y18, Dir::Ab)),
     ("seal rtu ba k j", Command::Seal(RTU, Y18, Dir::Ba)),
@@ -216,7 +218,7 @@ const KEY_AND_JOURNAL: [(&str, Command); 5] = [
     ("check rtu ba k j", Command::Check(RTU, Y18, Dir::Ba)),
 ];
 
-/// Words, command; the key's path is word 3, and there is no journal's.
+/// Words and the command. Word 3 is the key's path, and there is no journal's path.
 const KEY_ALONE: [(&str, Command); 2] = [
     ("replay rtu ab k", Command::Replay(RTU, Y18, Dir::Ab)),
     ("replay dnp24 ba k", Command::Replay(DNP, Y24, Dir::Ba)),
@@ -241,8 +243,8 @@ fn finds_the_paths_among_the_words(rt: HostRuntime) -> Result<(), Fail> {
     Ok(())
 }
 
-/// Words, the link and the numbers of the slots before, whether old slot A holds 5, and what comes
-/// of them over the key and the input below, where calls of the output and the disk fail.
+/// Words, the input, the link and the numbers of the slots before, whether old slot A holds 5, and
+/// the calls of the output and of the disk that fail. The other fields are what the run leaves.
 #[derive(Clone, Copy, Drop)]
 pub struct Row {
     pub words: &'static str,
@@ -302,7 +304,7 @@ const DISK_FAULT: Row = Row {
     ..INIT
 };
 
-// A start of a frame within passed over bytes, by the hunt of a DNP3 device.
+// A DNP3 device hunts for frames, so it passes over bytes up to the start of one.
 const READ_DNP3: Row = Row {
     words: "read dnp3",
     text: b"+ff05056405c001000004e921\n",
@@ -350,7 +352,7 @@ const ROWS: [Row; 16] = [
         slots_now: (Some(0), None),
         ..STANDS
     },
-    // A number for another link, and an old one.
+    // A slot holds a number for another link, and in the next row an old slot holds a number.
     Row {
         link: DNP_AB,
         slots: (Some(0), None),
@@ -381,7 +383,7 @@ const ROWS: [Row; 16] = [
         disk_fails: 5,
         ..DISK_FAULT
     },
-    // The last call is the one that makes the slot outlive a crash.
+    // The last call is the sync, which makes the slot outlive a crash.
     Row {
         disk_fails: 6,
         slots_now: (Some(0), None),
@@ -401,7 +403,7 @@ pub const SEAL: Row = Row {
     ..READ
 };
 
-// What `seal` has made of the request, checked.
+// A check of what `seal` has made of the request.
 pub const CHECK: Row = Row {
     words: "check rtu ab key journal",
     text: SEALED_REQUEST,
@@ -410,7 +412,7 @@ pub const CHECK: Row = Row {
     ..SEAL
 };
 
-// The tag by openssl:
+// The tag is computed by openssl:
 //   printf 0200056405c001000004e9210000000000000001 | xxd -r -p
 //     | openssl dgst -sha1 -mac HMAC -macopt hexkey:000102030405060708090a0b0c0d0e0f
 //     | cut -c1-24
@@ -440,7 +442,7 @@ const CHECK_DNP3: Row = Row {
     ..CHECK
 };
 
-// By the profile y24; the tags as those of its rows in `replay_tests`.
+// The rows of the profile y24. The tags are those of its rows in `replay_tests`.
 const RTU24_AB: LinkId = LinkId {
     label: 1,
     dir: 0,
@@ -489,7 +491,7 @@ const CHECK_DNP24: Row = Row {
     ..CHECK_DNP3
 };
 
-// The tag by openssl:
+// The tag is computed by openssl:
 //   printf 010001030000000ac5cd0000000000000006 | xxd -r -p
 //     | openssl dgst -sha1 -mac HMAC -macopt hexkey:000102030405060708090a0b0c0d0e0f
 //     | cut -c1-24
@@ -505,7 +507,7 @@ const SEAL_OLD: Row = Row {
     ..SEAL
 };
 
-// The slots that it leaves are another link's for `rtu ba`.
+// For `rtu ba`, the slots that `SEAL_OLD` leaves belong to another link.
 const WRONG_LINK: Row = Row {
     words: "seal rtu ba key journal",
     is_old: true,
@@ -529,7 +531,7 @@ const BOXES: [Row; 14] = [
     CHECK_RTU24,
     SEAL_DNP24,
     CHECK_DNP24,
-    // A link of the other profile.
+    // A link that was sealed with the other profile.
     Row {
         text: SEALED_REQUEST,
         out: b"-24\n+01030000000ac5cc\n-324\n",
@@ -574,7 +576,7 @@ const BOXES: [Row; 14] = [
     },
 ];
 
-// A row comes out as it says.
+// Checks that a run ends as its row says.
 fn compare(rt: &impl Abort, alloc: Global, row: &Row) -> Result<(), Fail> {
     let mut disk = disk_of(alloc, row, plan(row.disk_fails))?;
     let ran = run_over(alloc, row.words, KEY, row.text, row.out_fails, &mut disk)?;
@@ -600,7 +602,7 @@ fn runs_the_boxes(rt: HostRuntime) -> Result<(), Fail> {
     Ok(())
 }
 
-// A path of this process's own, where no file stands.
+// Returns a path that only this process uses, with no file at it.
 fn fresh_path(rt: &HostRuntime, name: &str) -> Result<String, Fail> {
     let folder = env::temp_dir(rt)?;
     let id = std::process::id(rt.process());
@@ -609,7 +611,7 @@ fn fresh_path(rt: &HostRuntime, name: &str) -> Result<String, Fail> {
     Ok(path)
 }
 
-// `init` over the file at this path ends with this status and this fault line.
+// Checks that `init` over the file at this path ends with this status and this fault line.
 fn make_at(
     rt: &impl Abort,
     host: &HostRuntime,
@@ -623,7 +625,7 @@ fn make_at(
     Ok(())
 }
 
-// The file at this path holds number 0 in its first slot, and nothing in its second one.
+// Checks that the file at this path holds number 0 in slot A, and zeros in slot B.
 fn has_journal(rt: &impl Abort, host: &HostRuntime, path: &str) -> Result<(), Fail> {
     let path = Some(String::from_str(host.alloc(), path)?);
     let mut disk = FileSlots::new(host, path, SlotFile::Standing);
@@ -632,7 +634,7 @@ fn has_journal(rt: &impl Abort, host: &HostRuntime, path: &str) -> Result<(), Fa
     Ok(())
 }
 
-// The file at this path first has no journal, and then the one that was made.
+// Checks that a journal is made in the file at this path, and isn't made a second time.
 fn make_twice(rt: &impl Abort, host: &HostRuntime, path: &str) -> Result<(), Fail> {
     let first = Some(String::from_str(host.alloc(), path)?);
     make_at(rt, host, first, Status::Done, b"")?;

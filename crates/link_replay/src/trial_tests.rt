@@ -1,4 +1,5 @@
-//! Tests of `trial`: its numbers, and its counts as a model in Python computes them.
+//! Tests of `trial`: the numbers among its words, and its counts, which a model in Python has
+//! computed too.
 use crate::running::{ended, words_of};
 use crate::tests::run_over;
 use crate::{Command, Profile, Proto, read_words};
@@ -8,7 +9,7 @@ use std::process::Abort;
 use std::test::Fail;
 use yasir_io::SteadySlots;
 
-// A trial by these words prints this line.
+// Checks that a trial with these words prints this line.
 fn try_link(rt: &impl Abort, alloc: Global, words: &str, line: &[u8]) -> Result<(), Fail> {
     let mut disk = SteadySlots::new([0; 24], [0; 24]);
     let ran = run_over(alloc, words, b"", b"", 0, &mut disk)?;
@@ -16,7 +17,7 @@ fn try_link(rt: &impl Abort, alloc: Global, words: &str, line: &[u8]) -> Result<
     Ok(())
 }
 
-// The counts are those of scripts/trial_model.py.
+// scripts/trial_model.py has computed the counts.
 #[test]
 fn trials_of_both_protocols_and_profiles(rt: HostRuntime) -> Result<(), Fail> {
     try_link(
@@ -46,10 +47,10 @@ fn is_trial(alloc: Global, seed: &str, count: &str) -> Result<bool, AllocError> 
     Ok(read_words(words.as_slice()).is_ok())
 }
 
-/// Seed and count of a trial.
+/// The seed and the count of trials.
 const RIGHT: [(&str, &str); 3] = [("0", "1"), ("4294967295", "10000"), ("10", "9")];
 
-/// Seed and count of no trial.
+/// Seeds and counts that ask for no trial.
 const WRONG: [(&str, &str); 13] = [
     ("00", "1"),
     ("07", "1"),
@@ -66,7 +67,7 @@ const WRONG: [(&str, &str); 13] = [
     ("7", "100000000000"),
 ];
 
-// Numbers are in decimal digits, without a leading zero, and within their bounds.
+// Numbers are written in decimal digits without a leading zero, and are within their bounds.
 #[test]
 fn numbers_of_a_trial(rt: HostRuntime) -> Result<(), Fail> {
     for (seed, count) in &RIGHT {

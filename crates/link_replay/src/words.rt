@@ -11,42 +11,44 @@ use hmac_tag::Dir;
 use link_words::{Profile, Proto, Usage, read_dir, read_link, read_proto};
 use sequence_journal::LIMIT;
 
-/// The most frames of a trial.
+/// The greatest count of frames in a trial.
 const MOST_FRAMES: u32 = 10_000;
 
-/// The greatest number of 32 bits.
+/// The greatest number that fits into 32 bits.
 const MOST_OF_32_BITS: u64 = 4_294_967_295;
 
 /// What the program is asked to do.
 #[derive(Clone, Copy, Debug, PartialEq, Eq)]
 pub enum Command {
-    /// Makes a new journal of a link.
+    /// Makes a new journal for a link.
     Init(Proto, Profile, Dir),
     /// Prints the frames that a device reads from a line.
     Read(Proto),
-    /// Tries the tables of known answers.
+    /// Checks the tables of known answers.
     Vectors,
-    /// Seals the frames of a line on its way from one end to the other.
+    /// Seals the frames of a device's line on their way to the link.
     Seal(Proto, Profile, Dir),
-    /// Checks the packets of a link, and hands on what passes.
+    /// Checks the packets of a link, and sends on what passes.
     Check(Proto, Profile, Dir),
     /// Lists what is sealed of a device's line, and what passes and is read of a link.
     Replay(Proto, Profile, Dir),
-    /// Tries a link over frames that are drawn: the seed, and how many frames.
+    /// Tries a link with frames that are drawn: the first number is the seed, and the second one
+    /// says how many frames.
     Trial(Proto, Profile, u32, u32),
-    /// Sends the frames of a line spaced as the profile asks for.
+    /// Sends on the frames of a line with as much silence between them as the profile asks for.
     Space(Proto, Profile),
-    /// Judges a session by three recordings, from these floors of transmitter and receiver on.
+    /// Judges a session by three recordings. The numbers are the floors of its transmitter and its
+    /// receiver at the start.
     Audit(Proto, Profile, Dir, u64, u64),
-    /// Seals a device's line in one direction, and checks a link in the other one.
+    /// Seals a device's line in one direction, and checks a link in the other.
     Duplex(Proto, Profile, Dir),
-    /// Prints the page of the program's words.
+    /// Prints the page that lists the program's words.
     Help,
     /// Prints the program's name and version.
     Version,
 }
 
-// The command of one word.
+// Reads a command of one word.
 fn read_one(word: &str) -> Result<Command, Usage>
     ensures ok { IfOk result (λ command. IsCommand (word.now ∷ []) command) }
     ensures usage { OnErr result ((command : Command) → IsCommand (word.now ∷ []) command → ⊥) }
@@ -59,7 +61,7 @@ fn read_one(word: &str) -> Result<Command, Usage>
     }
 }
 
-// The command of two words.
+// Reads a command of two words.
 fn read_two(first: &str, second: &str) -> Result<Command, Usage>
     ensures ok { IfOk result (λ command. IsCommand (first.now ∷ second.now ∷ []) command) }
     ensures usage { OnErr result ((command : Command)
@@ -78,7 +80,7 @@ fn read_two(first: &str, second: &str) -> Result<Command, Usage>
     }
 }
 
-// The command `init`: a link, and its journal's path, which isn't empty.
+// Reads the words of `init`: a link, and the path of its journal, which must not be empty.
 fn read_init(first: &str, second: &str, third: &str, path: &str) -> Result<Command, Usage>
     requires { first.now ≡ codes "init" }
     ensures ok { IfOk result (λ command.
@@ -94,7 +96,7 @@ fn read_init(first: &str, second: &str, third: &str, path: &str) -> Result<Comma
     Ok(Command::Init(proto, profile, dir))
 }
 
-// The number that a word spells, in decimal digits without a leading zero.
+// Returns the number below 2^64 that a word spells in decimal digits without a leading zero.
 fn read_wide(word: &str) -> Result<u64, Usage>
     ensures ok { IfOk result (λ n. word.now ≡ decimal n) }
     ensures wide { IfOk result (λ n. n < 2 ^ 64) }
@@ -103,7 +105,7 @@ fn read_wide(word: &str) -> Result<u64, Usage>
     let Ok(n) = word.parse::<u64>() else {
         return Err(Usage);
     };
-    // other texts may come for the number too
+    // `parse` takes other texts for the same number too
     let mut digits = itoa::Buffer::new();
     if digits.format(n) == word {
         Ok(n)
@@ -112,7 +114,7 @@ fn read_wide(word: &str) -> Result<u64, Usage>
     }
 }
 
-// The number of at most 32 bits that a word spells, in decimal digits without a leading zero.
+// Returns the number below 2^32 that a word spells in decimal digits without a leading zero.
 fn read_number(word: &str) -> Result<u32, Usage>
     ensures ok { IfOk result (λ n. word.now ≡ decimal n) }
     ensures small { IfOk result (λ n. n < 2 ^ 32) }
@@ -125,8 +127,8 @@ fn read_number(word: &str) -> Result<u32, Usage>
     Ok(n as u32)
 }
 
-// The floor that a word spells, in decimal digits without a leading zero: 0, or the number of a
-// frame.
+// Returns the floor that a word spells in decimal digits without a leading zero: 0, or the number
+// of a frame.
 fn read_floor(word: &str) -> Result<u64, Usage>
     ensures ok { IfOk result (λ n. word.now ≡ decimal n) }
     ensures within { IfOk result (λ n. n ≤ LIMIT) }
@@ -139,7 +141,7 @@ fn read_floor(word: &str) -> Result<u64, Usage>
     Ok(n)
 }
 
-// The command `trial`: a seed, and how many frames.
+// Reads the words of `trial`: a link without a direction, a seed, and how many frames.
 fn read_trial(first: &str, second: &str, seed: &str, count: &str) -> Result<Command, Usage>
     requires { first.now ≡ codes "trial" }
     ensures ok { IfOk result (λ command.
@@ -159,7 +161,7 @@ fn read_trial(first: &str, second: &str, seed: &str, count: &str) -> Result<Comm
     Ok(Command::Trial(proto, profile, seed, count))
 }
 
-// The command `replay`: two recordings, and the path of a key, which isn't empty.
+// Reads the words of `replay`: a link, and the path of a key, which must not be empty.
 fn read_replay(first: &str, second: &str, third: &str, key: &str) -> Result<Command, Usage>
     requires { first.now ≡ codes "replay" }
     ensures ok { IfOk result (λ command.
@@ -175,7 +177,7 @@ fn read_replay(first: &str, second: &str, third: &str, key: &str) -> Result<Comm
     Ok(Command::Replay(proto, profile, dir))
 }
 
-// The command `duplex`: two recordings, and the path of a key, which isn't empty.
+// Reads the words of `duplex`: a link, and the path of a key, which must not be empty.
 fn read_duplex(first: &str, second: &str, third: &str, key: &str) -> Result<Command, Usage>
     requires { first.now ≡ codes "duplex" }
     ensures ok { IfOk result (λ command.
@@ -191,7 +193,7 @@ fn read_duplex(first: &str, second: &str, third: &str, key: &str) -> Result<Comm
     Ok(Command::Duplex(proto, profile, dir))
 }
 
-// The command of four words.
+// Reads a command of four words.
 fn read_four(first: &str, second: &str, third: &str, fourth: &str) -> Result<Command, Usage>
     ensures ok { IfOk result (λ command.
         IsCommand (first.now ∷ second.now ∷ third.now ∷ fourth.now ∷ []) command) }
@@ -207,7 +209,8 @@ fn read_four(first: &str, second: &str, third: &str, fourth: &str) -> Result<Com
     }
 }
 
-// The command of five words: a box, and the paths of its key and its journal, which aren't empty.
+// Reads a command of five words: a box, a link, and the paths of a key and a journal, which must
+// not be empty.
 fn read_five(
     first: &str,
     second: &str,
@@ -235,7 +238,8 @@ fn read_five(
     }
 }
 
-// The command of six words: three recordings, the path of a key, which isn't empty, and two floors.
+// Reads a command of six words: `audit`, a link, the path of a key, which must not be empty, and
+// two floors.
 fn read_six(
     first: &str,
     second: &str,
@@ -262,7 +266,8 @@ fn read_six(
     Ok(Command::Audit(proto, profile, dir, sent, got))
 }
 
-/// The command that the words after the program's name ask for, each word compared byte for byte.
+/// Returns the command that the words after the program's name ask for. Each word is compared byte
+/// for byte.
 pub fn read_words(words: &[String]) -> Result<Command, Usage>
     ensures ok { IfOk result (λ command. IsCommand (map string_bytes words.now) command) }
     ensures usage { OnErr result ((command : Command)
@@ -296,8 +301,8 @@ pub fn read_words(words: &[String]) -> Result<Command, Usage>
     }
 }
 
-/// The place of the word that is the key file's path, counted from 0; none where the words have
-/// none.
+/// Returns the place, counted from 0, of the word that is the path of the key's file, or `None` if
+/// the words have no such path.
 pub fn key_word(words: &[String]) -> Option<usize>
     ensures place { (command : Command) → IsCommand (map string_bytes words.now) command
         → result ≡ key_place command }
@@ -313,8 +318,8 @@ pub fn key_word(words: &[String]) -> Option<usize>
     }
 }
 
-/// The place of the word that is the journal's path, counted from 0; none where the words have
-/// none.
+/// Returns the place, counted from 0, of the word that is the path of the journal's file, or `None`
+/// if the words have no such path.
 pub fn journal_word(words: &[String]) -> Option<usize>
     ensures place { (command : Command) → IsCommand (map string_bytes words.now) command
         → result ≡ journal_place command }
@@ -331,8 +336,7 @@ pub fn journal_word(words: &[String]) -> Option<usize>
     }
 }
 
-/// Whether a journal's file that is missing is made: by the command that makes a journal, and by no
-/// other.
+/// Whether a journal's file is made if it is missing. Only `init` makes one.
 pub fn makes_journal(words: &[String]) -> bool
     ensures { IsTrue result ↔ AskForJournal (map string_bytes words.now) }
 {

@@ -50,7 +50,7 @@ and one fault line to standard error. The status is 0 only if all is done.
 docs/USAGE.md has the texts, the statuses, and more examples.
 ";
 
-/// Prints the page of the program's words.
+/// Prints the page that lists the program's words.
 pub fn print_help<K: Source, S: Source, O: Sink, L: Sink, D: SlotDisk>(
     ends: Ends<K, S, O, L, D>,
 ) -> Status

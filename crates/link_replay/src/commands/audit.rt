@@ -1,4 +1,4 @@
-//! The command `audit`: judge a session by three recordings of it.
+//! The command `audit`: judges a session by three recordings of it.
 ghost use Rattle.std.specs.Prelude.{◌≡◌, ◌⊎◌, ◌≤◌, List, [], Some};
 ghost use Rattle.yasir_ticks.specs.declared.tick.Tick.{Tick};
 ghost use Rattle.sequence_journal.specs.declared.numbers.TheConstants.{LIMIT};
@@ -32,7 +32,7 @@ pub struct Audited {
     pub got_floor: u64,
 }
 
-// The session of such a link with this key.
+// Returns the session of the link that is audited, with this key.
 fn session_of(asked: Audited, key: &[u8]) -> Session<'_>
     requires sent { asked.sent_floor ≤ LIMIT }
     requires got { asked.got_floor ≤ LIMIT }
@@ -52,7 +52,7 @@ fn session_of(asked: Audited, key: &[u8]) -> Session<'_>
     }
 }
 
-// Writes the line of a verdict into an empty line.
+// Writes a verdict into an empty line.
 fn write_verdict(line: &mut Line, verdict: Verdict)
     requires { line.old.items ≡ [] }
     ensures { line.new.items ≡ verdict_line verdict }
@@ -102,7 +102,7 @@ fn print_verdict<O: Sink, L: Sink>(verdict: Verdict, out: &mut O, log: &mut L) -
     flush_both(out, log)
 }
 
-// Audits three recordings with this key, and prints the verdict once the input has ended well.
+// Audits three recordings with this key, and prints the verdict if the input has ended well.
 fn audit_keyed<K: Source, S: Source, O: Sink, L: Sink, D: SlotDisk>(
     alloc: Global,
     asked: Audited,
@@ -139,8 +139,8 @@ fn audit_keyed<K: Source, S: Source, O: Sink, L: Sink, D: SlotDisk>(
     print_verdict(verdict, out, log)
 }
 
-/// Judges a session that has ended by three recordings of it, which two marks part in the input,
-/// and prints the verdict.
+/// Judges a session that has ended by three recordings of it, and prints the verdict. Two marks
+/// part the recordings in the input.
 pub fn audit<K: Source, S: Source, O: Sink, L: Sink, D: SlotDisk>(
     alloc: Global,
     asked: Audited,

@@ -1,4 +1,4 @@
-//! The command `check`: run the receiver over the recorded line of a link.
+//! The command `check`: runs the receiver over a recorded link.
 ghost use Rattle.std.specs.Prelude.{Some};
 ghost use Rattle.replay_status.specs.Ends.{outside_before, outside_after};
 ghost use Rattle.box_command.specs.ReplaysBox.{KeepsFloorThroughout};
@@ -14,7 +14,7 @@ use link_words::{Profile, Proto, link_of, with_link};
 use replay_status::{Ends, Status};
 use yasir_io::{Sink, SlotDisk, Source};
 
-// The receiver over the input.
+// Runs the receiver over the input.
 macro_rules! check_by {
     (
         [$rules:ty, $device:ty, $mac:ty, $word:literal, $delay:literal, $gap:literal],
@@ -26,8 +26,8 @@ macro_rules! check_by {
     };
 }
 
-/// Checks the packets of a recorded line of a link, by a receiver whose delay is 18 ticks, or 24
-/// where words have four bytes and tags sixteen.
+/// Checks the packets of a recorded link. The receiver's delay is 18 ticks, or 24 in the profile
+/// whose words have four bytes and whose tags have sixteen.
 pub fn check<K: Source, S: Source, O: Sink, L: Sink, D: SlotDisk>(
     proto: Proto,
     profile: Profile,

@@ -1,4 +1,4 @@
-//! The command `duplex`: run one box for both directions over two recordings.
+//! The command `duplex`: runs a duplex box over two recordings.
 ghost use Rattle.std.specs.Prelude.{◌≡◌, Some};
 ghost use Rattle.replay_status.specs.Causes.{InputCause, SinkCause};
 ghost use Rattle.replay_status.specs.Ends.{outside_before, outside_after};
@@ -22,8 +22,8 @@ use seal_transmitter::Sealer;
 use std::alloc::Global;
 use yasir_io::{Sink, SlotDisk, Source};
 
-// Takes both recordings with this key, and writes what becomes of them once the input has ended
-// well.
+// Takes both recordings with this key, and writes what the boxes make of them if the input has
+// ended well.
 fn duplex_keyed<S: LineBox, C: LineBox, K: Source, I: Source, O: Sink, L: Sink, D: SlotDisk>(
     alloc: Global,
     key: &[u8],
@@ -62,7 +62,7 @@ fn duplex_keyed<S: LineBox, C: LineBox, K: Source, I: Source, O: Sink, L: Sink, 
     print_both(&recorded, out, log)
 }
 
-// Reads the key first.
+// Reads the key, and then takes both recordings with it.
 fn duplex_with<S: LineBox, C: LineBox, K: Source, I: Source, O: Sink, L: Sink, D: SlotDisk>(
     alloc: Global,
     dir: Dir,
@@ -86,7 +86,7 @@ fn duplex_with<S: LineBox, C: LineBox, K: Source, I: Source, O: Sink, L: Sink, D
     }
 }
 
-// The transmitter of a protocol and a profile, and their receiver.
+// Runs the transmitter and the receiver of a protocol and a profile.
 macro_rules! duplex_by {
     (
         [$rules:ty, $device:ty, $mac:ty, $word:literal, $delay:literal, $gap:literal],
@@ -105,9 +105,9 @@ macro_rules! duplex_by {
 }
 
 /// Takes the line of a device through the transmitter of this direction, and a link through the
-/// receiver of the other one. Once the input has ended well, the log gets a line for each note of
-/// both, in the order of steps, and then `out` the ticks that are sent on the link, a mark, and the
-/// ticks that the device is sent.
+/// receiver of the other direction. If the input has ended well, the log gets a line for each note
+/// of the two boxes, in the order of steps. After that, `out` gets the ticks that are sent on the
+/// link, a mark, and the ticks that are sent to the device.
 pub fn duplex<K: Source, S: Source, O: Sink, L: Sink, D: SlotDisk>(
     alloc: Global,
     proto: Proto,

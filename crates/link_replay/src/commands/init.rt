@@ -1,4 +1,4 @@
-//! The command `init`: make a new journal.
+//! The command `init`: makes a new journal.
 ghost use Rattle.std.specs.Prelude.{Some};
 ghost use Rattle.yasir_io.specs.declared.disk.Slot.TheVariants.{A};
 ghost use Rattle.yasir_io.specs.Disks.{LeavesOnly};
@@ -15,7 +15,7 @@ use replay_status::{Ends, Status, flush_both};
 use sequence_journal::{InitError, Journal};
 use yasir_io::{Sink, SlotDisk, Source};
 
-/// Makes a new journal of a link at floor 0, where none stands.
+/// Makes a new journal for a link, at floor 0, if no slot, old or new, holds a number.
 pub fn make_journal<K: Source, S: Source, O: Sink, L: Sink, D: SlotDisk>(
     proto: Proto,
     profile: Profile,

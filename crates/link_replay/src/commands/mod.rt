@@ -1,4 +1,4 @@
-//! What each command does.
+//! The commands of the program, one in each module.
 
 pub mod about;
 pub mod audit;

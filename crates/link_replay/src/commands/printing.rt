@@ -1,4 +1,4 @@
-//! Printing a text, which is all that some commands do.
+//! Prints a text, which is all that some commands do.
 ghost use Rattle.replay_status.specs.Causes.{InputCause, DiskCause};
 ghost use Rattle.replay_status.specs.Ends.{outside_before, outside_after};
 ghost use Rattle.replay_status.specs.StreamCauses.{HasStreamCauses};
@@ -7,7 +7,7 @@ ghost use Rattle.link_replay.specs.Printing.{Prints};
 use replay_status::{Ends, Status, print_text};
 use yasir_io::{Sink, SlotDisk, Source};
 
-/// Prints a text to the output, and flushes both sinks after it. Nothing is read.
+/// Prints a text to the output, and then flushes both sinks. Nothing is read.
 pub(crate) fn print_alone<K: Source, S: Source, O: Sink, L: Sink, D: SlotDisk>(
     text: &[u8],
     ends: Ends<K, S, O, L, D>,

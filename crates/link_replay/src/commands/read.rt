@@ -1,4 +1,4 @@
-//! The command `read`: print the frames that a device reads of a recorded line.
+//! The command `read`: prints the frames that a device reads from a recorded line.
 ghost use Rattle.std.specs.Prelude.{Some};
 ghost use Rattle.replay_status.specs.Ends.{outside_before, outside_after};
 ghost use Rattle.link_replay.specs.declared.words.Command.TheVariants.{Read};
@@ -11,8 +11,8 @@ use link_words::Proto;
 use replay_status::{Ends, Status};
 use yasir_io::{Sink, SlotDisk, Source};
 
-/// Prints the frames that the device of a protocol reads from a recorded line. Its loops are kept out
-/// of line: inlined beside those of the other commands they take up to 3 % more instructions.
+/// Prints the frames that the device of a protocol reads from a recorded line. It isn't inlined:
+/// beside the loops of the other commands, its loops take up to 3 % more instructions.
 #[inline(never)]
 pub fn read_line<K: Source, S: Source, O: Sink, L: Sink, D: SlotDisk>(
     proto: Proto,

@@ -1,4 +1,4 @@
-//! The command `replay`: print what was sealed, passed, read and forged of two recordings.
+//! The command `replay`: prints what was sealed, passed, read and forged in two recordings.
 ghost use Rattle.std.specs.Prelude.{Some};
 ghost use Rattle.replay_status.specs.Ends.{outside_before, outside_after};
 ghost use Rattle.link_replay.specs.declared.words.Command.TheVariants.{Replay};
@@ -14,12 +14,12 @@ use session_audit::{SealedFrames, ShownFrames};
 use std::alloc::Global;
 use yasir_io::{Sink, SlotDisk, Source, SteadySlots};
 
-/// How many silent ticks come after the line of the device beyond the receiver's delay, so that
-/// its last burst is closed and its trailer sent.
+/// How many silent ticks follow the line of the device in addition to the receiver's delay, so that
+/// its last burst is closed and the trailer is sent.
 const REST: u32 = 6;
 
-// Both boxes over the two recordings, with the bytes of their frames, and the device behind them.
-// The transmitter makes no tags, since nobody asks for its link.
+// Runs both boxes over the two recordings, with the bytes of their frames, and the device behind
+// the receiver. The transmitter makes no tags, since nobody asks for its link.
 macro_rules! replay_by {
     (
         [$rules:ty, $device:ty, $mac:ty, $word:literal, $delay:literal, $gap:literal],

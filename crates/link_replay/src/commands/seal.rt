@@ -1,4 +1,4 @@
-//! The command `seal`: run the transmitter over the recorded line of a device.
+//! The command `seal`: runs the transmitter over the recorded line of a device.
 ghost use Rattle.std.specs.Prelude.{Some};
 ghost use Rattle.replay_status.specs.Ends.{outside_before, outside_after};
 ghost use Rattle.box_command.specs.ReplaysBox.{KeepsFloorThroughout};
@@ -14,7 +14,7 @@ use replay_status::{Ends, Status};
 use seal_transmitter::Sealer;
 use yasir_io::{Sink, SlotDisk, Source};
 
-// The transmitter over the input.
+// Runs the transmitter over the input.
 macro_rules! seal_by {
     (
         [$rules:ty, $device:ty, $mac:ty, $word:literal, $delay:literal, $gap:literal],
@@ -26,7 +26,7 @@ macro_rules! seal_by {
     };
 }
 
-/// Seals the frames of a recorded line of a device.
+/// Seals the frames of a device's recorded line.
 pub fn seal<K: Source, S: Source, O: Sink, L: Sink, D: SlotDisk>(
     proto: Proto,
     profile: Profile,

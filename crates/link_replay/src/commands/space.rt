@@ -1,4 +1,4 @@
-//! The command `space`: run a spacer over a recorded line.
+//! The command `space`: runs a spacer over a recorded line.
 ghost use Rattle.std.specs.Prelude.{Some};
 ghost use Rattle.replay_status.specs.Ends.{outside_before, outside_after};
 ghost use Rattle.link_replay.specs.declared.words.Command.TheVariants.{Space};
@@ -12,7 +12,7 @@ use space_replay::space_frames;
 use std::alloc::Global;
 use yasir_io::{Sink, SlotDisk, Source};
 
-// A spacer of the protocol's device over the input.
+// Runs a spacer of the protocol's device over the input.
 macro_rules! space_by {
     (
         [$rules:ty, $device:ty, $mac:ty, $word:literal, $delay:literal, $gap:literal],
@@ -22,8 +22,8 @@ macro_rules! space_by {
     };
 }
 
-/// Sends the frames that the device of a protocol reads from a recorded line with as much silence
-/// between them as the profile asks for.
+/// Sends on the frames that the device of a protocol reads from a recorded line, with as much
+/// silence between them as the profile asks for.
 pub fn space<K: Source, S: Source, O: Sink, L: Sink, D: SlotDisk>(
     alloc: Global,
     proto: Proto,

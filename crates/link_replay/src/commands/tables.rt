@@ -1,4 +1,4 @@
-//! The command `vectors`: check the tables of known answers.
+//! The command `vectors`: checks the tables of known answers.
 ghost use Rattle.std.specs.Prelude.{◌≡◌, ◌+◌, ◌≤◌, ◌++◌, length, codes, Some};
 ghost use Rattle.replay_status.specs.Ends.{outside_before, outside_after};
 ghost use Rattle.link_replay.specs.declared.words.Command.TheVariants.{Vectors};
@@ -10,7 +10,8 @@ use replay_status::{Ends, Line, Status, push_decimal};
 use vectors::{Miss, crc_table, frames_table, hmac_table, user_table};
 use yasir_io::{Sink, SlotDisk, Source};
 
-// Appends the line of a table: its name, how many rows it has, and what it was answered.
+// Appends the line of a table: its name, and how many rows it has if all are right, or else the
+// first row that isn't.
 fn push_table(line: &mut Line, name: &[u8], rows: u32, answer: Result<(), Miss>)
     requires name { length name.now ≤ 10 }
     requires room { length line.old.items ≤ 500 }
@@ -32,7 +33,7 @@ fn push_table(line: &mut Line, name: &[u8], rows: u32, answer: Result<(), Miss>)
     }
 }
 
-// The lines of all tables.
+// Returns the lines of all tables.
 fn table_lines() -> Line
     ensures { result.items ≡ table_lines }
 {

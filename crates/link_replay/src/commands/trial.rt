@@ -1,4 +1,4 @@
-//! The command `trial`: run a session that is made from a number.
+//! The command `trial`: runs a session that is made from a number.
 ghost use Rattle.std.specs.Prelude.{◌≡◌, ◌≤◌, length, Some};
 ghost use Rattle.replay_status.specs.Ends.{outside_before, outside_after};
 ghost use Rattle.trial_session.specs.TrialLine.{trial_line};
@@ -15,20 +15,21 @@ use seal_transmitter::Sealer;
 use trial_session::session_line;
 use yasir_io::{Sink, SlotDisk, Source};
 
-// The line of a session by both boxes.
+// Returns the line of a session of both boxes.
 macro_rules! session_by {
     (
         [$rules:ty, $device:ty, $mac:ty, $word:literal, $delay:literal, $gap:literal],
         $name:expr, $seed:expr, $count:expr
     ) => {
-        // the pause and the trailer of a packet have one tick less than the receiver's delay
+        // the pause and the trailer of a packet together are one tick shorter than the receiver's
+        // delay
         session_line::<$rules, Sealer<$rules, $mac, $word>, Checker<$rules, $mac, $word, $delay>, $device>(
             $name, $seed, $count, $delay - 1,
         )
     };
 }
 
-// The line of the session of this many frames from a seed, over a link.
+// Returns the line of a session over a link, with `count` frames that are drawn from a seed.
 fn line_of_session(proto: Proto, profile: Profile, seed: u32, count: u32) -> Line
     ensures { result.items ≡ trial_line (link_word proto profile) seed count
         (trial_counts proto profile seed count) }
@@ -37,7 +38,8 @@ fn line_of_session(proto: Proto, profile: Profile, seed: u32, count: u32) -> Lin
     with_link!(proto, profile, session_by(name, seed, count))
 }
 
-/// Tries a link over this many frames that are drawn from a seed, and prints what came of them.
+/// Tries a link with `count` frames that are drawn from a seed, and prints how many were sealed,
+/// passed, refused, dropped and read.
 pub fn try_link<K: Source, S: Source, O: Sink, L: Sink, D: SlotDisk>(
     proto: Proto,
     profile: Profile,
