@@ -1,4 +1,4 @@
--- What a run is given is right, so that nothing refuses it.
+-- What a run must be given so that nothing refuses it.
 use Rattle.std.specs.Prelude.{◌≡◌, ℕ, ◌<◌, ◌≤◌, List, ◌++◌, length, Option, Some, None}
 use Rattle.yasir_io.specs.Causes.{Rose}
 use Rattle.yasir_io.specs.Disks.{Slots}
@@ -16,8 +16,8 @@ use Rattle.link_live.specs.Words.{served}
 use Rattle.link_live.specs.declared.words.Command.{Command}
 use Rattle.link_live.specs.declared.words.Command.TheVariants.{Seal, Check}
 
--- The input tells a right text without a mark, within the limits of a live line: of its ticks, of
--- its bytes, and of those that come one after the other and end no line with ticks.
+-- Holds if the input tells a right text without a mark that is within the limits of a live line.
+-- These limit its ticks, its bytes, and the bytes in a row that end no line with ticks.
 pub record IsLiveText (input : Option (List ℕ)) : Type 0 where
   pub text : List ℕ
   pub items : List Item
@@ -28,8 +28,8 @@ pub record IsLiveText (input : Option (List ℕ)) : Type 0 where
   pub few_unended : (front part later : List ℕ) → text ≡ front ++ (part ++ later)
       → ended_items (front ++ part) ≡ ended_items front → length part ≤ 2147483648
 
--- All that a box is given is right: a key text, slots that hold a journal of the link, and the text
--- of a live line.
+-- Holds if all that a box is given is right: a key text, slots that hold a journal of the link, and
+-- the text of a live line.
 pub record IsLivable (link : LinkId) (key_before : Option (List ℕ)) (told : Option Slots)
     (input : Option (List ℕ)) : Type 0 where
   pub key : HasKey key_before
@@ -37,7 +37,7 @@ pub record IsLivable (link : LinkId) (key_before : Option (List ℕ)) (told : Op
   pub line : IsLiveText input
 
 module _ {K P D : Type 0} (k : Source K) (p : Port P) (d : SlotDisk D) where
-  -- All that the command is given is right.
+  -- Holds if all that the command is given is right.
   abbrev pub MayDo : Option Command → K → Around P D → Type 0
   MayDo None key before = ⊥
   MayDo (Some (Seal of)) key before =
@@ -45,7 +45,7 @@ module _ {K P D : Type 0} (k : Source K) (p : Port P) (d : SlotDisk D) where
   MayDo (Some (Check of)) key before =
       IsLivable (served of) (k.left key) (d.told before.disk) (p.left before.port)
 
-  -- Nothing outside failed: no count of faults rose, nor stands at its last value.
+  -- Holds if nothing outside failed: no count of faults rose, and none is at its greatest value.
   pub record IsCalm (key_before key_after : K) (before after : Around P D) : Type 0 where
     pub key : ¬ Rose (k.faults key_before) (k.faults key_after)
     pub read : ¬ Rose (p.read_faults before.port) (p.read_faults after.port)

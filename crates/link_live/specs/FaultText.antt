@@ -7,8 +7,8 @@ use Rattle.live_port.specs.Sent.{Sends}
 use Rattle.live_port.specs.declared.port.Output.TheVariants.{Log}
 use Rattle.live_port.specs.declared.port.Port.{Ghosts as Port}
 
--- Where the status has a fault line, it was written to the log and flushed, or a front of it was
--- where a call failed; where it has none, nothing was done.
+-- Holds if the status has no fault line and nothing was done, or if it has one and that line was
+-- written to the log and flushed. If a call failed, the log has got a front of the line.
 abbrev pub TellsFault : {P : Type 0} → Port P → P → P → Status → Type 0
 TellsFault p before after status =
     ((fault_line status ≡ []) × (after ≡ before))

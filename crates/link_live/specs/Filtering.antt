@@ -29,7 +29,8 @@ use Rattle.live_port.specs.declared.port.Output.{Output}
 use Rattle.live_port.specs.declared.port.Port.{Ghosts as Port}
 use Rattle.link_live.specs.declared.filter.Filter.{Filter}
 
--- how the history began, what was read, the link of the box's journal, and how the box was set up
+-- how the history began, what was read since, the link of the box's journal, and the setup of the
+-- box
 pub record LiveOrigin : Type 0 where
   pub start : Option (List Event)
   pub read : List ℕ
@@ -53,7 +54,8 @@ module _ {B N : Type 0} (b : LinkBox B N) (line_of : N → List ℕ) where
   abbrev pub made_at : LiveOrigin → LineAndNotes
   made_at origin = made_by (box_at origin)
 
-  -- The box and its journal have taken these items' ticks, and what it makes of them is handed on.
+  -- Holds if the box and its journal have taken the ticks of these items, and what the box makes of
+  -- them is handed on.
   pub record Filters (filter : Filter B) (history : Option (List Event)) (slots : Option Slots)
       (origin : LiveOrigin) (items : List Item) : Type 0 where
     pub steps : b.stands filter.line_box (journal_floor filter.journal) origin.setup (ticks_in items)
@@ -63,8 +65,8 @@ module _ {B N : Type 0} (b : LinkBox B N) (line_of : N → List ℕ) where
     pub link_is : journal_link filter.journal ≡ origin.link
     pub floor_told : ToldFloor origin.link (journal_floor filter.journal) slots
 
-  -- The step of the last of these items failed at its number; what the box makes of those before it
-  -- is handed on.
+  -- Holds if the step of the last of these items failed to commit its number. What the box makes of
+  -- the items before it is handed on.
   pub record StopsAtNumber (filter : Filter B) (history : Option (List Event))
       (slots : Option Slots) (origin : LiveOrigin) (items : List Item) : Type 0 where
     pub front : List Item
@@ -75,7 +77,7 @@ module _ {B N : Type 0} (b : LinkBox B N) (line_of : N → List ℕ) where
     pub fails : FailsBox origin.link (box_at origin) (ticks_in front) last slots
     pub floor : journal_floor filter.journal ≡ (box_at origin).number (ticks_in front)
 
-  -- A write failed after the step of the last of these items had answered.
+  -- Holds if a write failed after the step of the last of these items had returned.
   pub record StopsAtWrite (filter : Filter B) (history : Option (List Event))
       (slots : Option Slots) (origin : LiveOrigin) (items : List Item) : Type 0 where
     pub fronts : HandedFronts (made_at origin) origin.start history origin.read (ticks_in items)
@@ -83,7 +85,7 @@ module _ {B N : Type 0} (b : LinkBox B N) (line_of : N → List ℕ) where
     pub floor : journal_floor filter.journal ≡ (box_at origin).number (ticks_in items)
     pub floor_told : ToldFloor origin.link (journal_floor filter.journal) slots
 
-  -- why a box was stopped at the last of these items; it takes no memory
+  -- why a box was stopped at the last of these items; never for lack of memory, since it takes none
   abbrev pub StopsFilter : Filter B → Option (List Event) → Option Slots → Stop → LiveOrigin
       → List Item → Type 0
   StopsFilter filter history slots JournalFault origin items =
@@ -93,23 +95,24 @@ module _ {B N : Type 0} (b : LinkBox B N) (line_of : N → List ℕ) where
   StopsFilter filter history slots NoMemory origin items = ⊥
 
 module _ {P : Type 0} (p : Port P) where
-  -- The count of an output rose where it is the cause of the answer, and no count did in any other
-  -- case.
+  -- Holds if some output's count of faults rose when an output is the cause, and no such count
+  -- changed when none is.
   pub record OutputCause (old new : P) (is_cause : Bool) : Type 0 where
     pub same : is_cause ≡ false → (to : Output) → p.write_faults new to ≡ p.write_faults old to
     pub failed : is_cause ≡ true
         → (to : Output) × Rose (p.write_faults old to) (p.write_faults new to)
 
-  -- Calls that read nothing leave the input as it is, and the count of an output rose where it is the
-  -- cause of the answer.
+  -- Holds if calls that read nothing left the input as it was, and some output's count of faults
+  -- rose when an output is the cause.
   pub record PortCause (old new : P) (is_cause : Bool) : Type 0 where
     pub left_same : p.left new ≡ p.left old
     pub read_same : p.read_faults new ≡ p.read_faults old
     pub outputs : OutputCause old new is_cause
 
 module _ {B P D : Type 0} (p : Port P) (d : SlotDisk D) where
-  -- The disk's images, at any moment of a call and after it, whether the box stopped or not: no
-  -- image has a floor below the journal's, which serves the same link and doesn't fall.
+  -- What holds of the disk's images at any moment of a call and after it, whether the box stopped
+  -- or not: no image has a floor below the journal's. The journal serves the same link, and its
+  -- floor doesn't fall.
   pub record KeepsImages (old new : Outside B P D) : Type 0 where
     pub link : journal_link new.filter.journal ≡ journal_link old.filter.journal
     pub rises : journal_floor old.filter.journal ≤ journal_floor new.filter.journal
@@ -118,7 +121,8 @@ module _ {B P D : Type 0} (p : Port P) (d : SlotDisk D) where
     pub any_moment : IsCrashSafe old.filter.journal (d.told old.disk) (d.may_leave old.disk)
         → LeavesOnly d.moment d.left_since old.disk new.disk (HasFloorFrom old.filter.journal)
 
-  -- What calls do beside, the last of which answered so.
+  -- What calls do to the disk's images and to the counts of faults, if the last of them returned
+  -- `result`.
   pub record GoesOn (old new : Outside B P D) (result : Result (Unit {0}) Stop) : Type 0 where
     pub images : KeepsImages old new
     pub disk : IsDiskCause (d.faults old.disk) (d.faults new.disk) (is_journal_fault result)

@@ -1,4 +1,5 @@
--- What calls of a filter do beside, one after the other.
+-- Laws of what calls of a filter do to the disk's images and to the counts of faults: for no call,
+-- and for calls that follow other calls.
 use Rattle.std.specs.Prelude.{◌≡◌, ℕ, ◌≤◌, List, Bool, true, false, Result, Ok}
 use Rattle.std.proofs.Common.{◌∙◌, refl, subst, inl}
 use Rattle.std.proofs.Math.Nat.{le_refl, le_trans}

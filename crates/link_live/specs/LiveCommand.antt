@@ -31,7 +31,7 @@ use Rattle.live_port.specs.declared.port.Output.{Output}
 use Rattle.live_port.specs.declared.port.Port.{Ghosts as Port}
 use Rattle.link_live.specs.TextEnds.{EndsText}
 
--- what a run is handed beside the key: the port of the line, and the journal's disk
+-- what a run is handed besides the key: the port of the line, and the journal's disk
 pub record Around (P D : Type 0) : Type 0 where
   pub port : P
   pub disk : D
@@ -40,10 +40,11 @@ abbrev pub around : {P D : Type 0} → P → D → Around P D
 around port disk = record { port = port; disk = disk }
 
 module _ {P D : Type 0} (p : Port P) (d : SlotDisk D) (link : LinkId) where
-  -- A text was read, and what the box makes of this line is written and flushed. Before each read
-  -- all that had been decided was written and flushed, and before each write of the other line the
-  -- notes of its ticks. Each image of the disk has the last number of the line, and makes an uptime
-  -- with its numbers.
+  -- Holds if a text was read, and what the box makes of this line is written and flushed. Before
+  -- each read all that had been decided was written and flushed, and before each write of the other
+  -- line the notes of its ticks were. If a crash before the run left the slots as read, each image
+  -- of the disk has at least the last number of the line as its floor, and makes an uptime with the
+  -- line's numbers.
   pub record Carries (box : Boxed) (before after : Around P D) (text : List ℕ) (line : List Tick) :
       Type 0 where
     pub handed : Handed (made_by box) (p.history before.port) (p.history after.port) text line
@@ -51,8 +52,8 @@ module _ {P D : Type 0} (p : Port P) (d : SlotDisk D) (link : LinkId) where
     pub uptime : LeavesUptime d link (box.numbers line) before.disk after.disk
     pub floor_told : ToldFloor link (box.number line) (d.told after.disk)
 
-  -- The disk failed as the step of one of these ticks used its number: the same holds of those
-  -- before it.
+  -- Holds if the disk failed in the step of one of these ticks, which uses a number. What the box
+  -- makes of the ticks before it is written and flushed.
   pub record FailsAtNumber (box : Boxed) (before after : Around P D) (text : List ℕ)
       (ticks : List Tick) : Type 0 where
     pub line : List Tick
@@ -64,8 +65,8 @@ module _ {P D : Type 0} (p : Port P) (d : SlotDisk D) (link : LinkId) where
     pub uptime : LeavesUptime d link (box.numbers line) before.disk after.disk
     pub fails : FailsBox link box line last (d.told after.disk)
 
-  -- A write or a flush failed behind the step of one of these ticks: of what the box makes of those
-  -- up to it the outputs have got a front each, the notes first.
+  -- Holds if a write or a flush failed after the step of one of these ticks. Each output has got a
+  -- front of what the box makes of the ticks up to that one, and the notes were written first.
   pub record WritesFronts (box : Boxed) (before after : Around P D) (text : List ℕ)
       (ticks : List Tick) : Type 0 where
     pub line : List Tick
@@ -76,15 +77,15 @@ module _ {P D : Type 0} (p : Port P) (d : SlotDisk D) (link : LinkId) where
     pub uptime : LeavesUptime d link (box.numbers line) before.disk after.disk
     pub floor_told : ToldFloor link (box.number line) (d.told after.disk)
 
-  -- why the box was stopped at one of these ticks; it takes no memory
+  -- why the box was stopped at one of these ticks; never for lack of memory, since it takes none
   abbrev pub HaltsBox : Boxed → Around P D → Around P D → List ℕ → Stop → List Tick → Type 0
   HaltsBox box before after text stops.JournalFault ticks = FailsAtNumber box before after text ticks
   HaltsBox box before after text stops.WriteFault ticks = WritesFronts box before after text ticks
   HaltsBox box before after text stops.NoMemory ticks = ⊥
 
-  -- The box by the floor of its journal, and how many silent ticks come after a whole line.
+  -- The box, for each floor of its journal, and how many silent ticks follow a whole line.
   module _ (box : ℕ → Boxed) (rest : ℕ) (before after : Around P D) where
-    -- The reading of the line ended so.
+    -- Holds if the reading of the line ended in this way.
     pub record EndsLine (end : End) : Type 0 where
       pub floor : ℕ
       pub text : List ℕ
@@ -94,22 +95,22 @@ module _ {P D : Type 0} (p : Port P) (d : SlotDisk D) (link : LinkId) where
           (HaltsBox (box floor) before after text) rest (IsAtEnd (p.left after.port)) end text
       pub from_load : KeepsFloorFromLoad d link floor before.disk after.disk
 
-    -- The journal was looked at, and nothing else was touched.
+    -- Holds if the journal was looked at, and nothing else was touched.
     pub record LooksAtJournal : Type 0 where
       pub port : after.port ≡ before.port
       pub told : d.told after.disk ≡ d.told before.disk
       pub images : NoMore (d.may_leave before.disk) (d.may_leave after.disk)
       pub images_back : NoMore (d.may_leave after.disk) (d.may_leave before.disk)
 
-    -- The disk failed as the journal was loaded: nothing else was touched, and an old journal may
-    -- be taken over, in part or whole.
+    -- Holds if the disk failed while the journal was loaded. Nothing else was touched, and a
+    -- journal with only old slots may have been taken over, in part or whole.
     pub record FailsAtLoad : Type 0 where
       pub port : after.port ≡ before.port
       pub told : MayTakeOver link (d.told before.disk) (d.told after.disk)
       pub images : (c : Slots) → d.may_leave after.disk c
           → MayLeaveLoading (d.told before.disk) (d.may_leave before.disk) c
 
-    -- What each status says of a run with this key and direction, from the journal on.
+    -- What each status says of a run with this key and direction, from the load of the journal on.
     abbrev pub RunsLine : Status → Type 0
     RunsLine Done = EndsLine Whole
     RunsLine (BadTicks bad) = EndsLine (Refused bad)
@@ -125,7 +126,7 @@ module _ {P D : Type 0} (p : Port P) (d : SlotDisk D) (link : LinkId) where
 module _ {K P D : Type 0} (k : Source K) (p : Port P) (d : SlotDisk D) (boxed : Setup → Boxed)
     (link : LinkId) (dir : Dir) (rest : ℕ) (key_before key_after : K) (before after : Around P D)
   where
-    -- A right key text was met, and with its key the status says this.
+    -- Holds if a right key text was met, and the status says this of the run with its key.
     pub record RunsKeyed (status : Status) : Type 0 where
       pub text : List ℕ
       pub key : List ℕ
@@ -134,14 +135,14 @@ module _ {K P D : Type 0} (k : Source K) (p : Port P) (d : SlotDisk D) (boxed : 
       pub calm : k.faults key_after ≡ k.faults key_before
       pub runs : RunsLine p d link (boxed_with boxed key dir) rest before after status
 
-    -- What was met of the key is no key text, and nothing else was touched.
+    -- Holds if what was met of the key isn't a key text, and nothing else was touched.
     pub record RefusesKey (place : ℕ) : Type 0 where
       pub text : List ℕ
       pub met : IsKeyMet (k.left key_before) (k.left key_after) text
       pub refused : IsNoKey text place
       pub same : after ≡ before
 
-    -- A read of the key failed, and nothing else was touched.
+    -- Holds if a read of the key failed, and nothing else was touched.
     pub record FailsAtKey : Type 0 where
       pub rose : Rose (k.faults key_before) (k.faults key_after)
       pub cut : IsCutShort (k.left key_before) (k.left key_after)
@@ -153,8 +154,9 @@ module _ {K P D : Type 0} (k : Source K) (p : Port P) (d : SlotDisk D) (boxed : 
     LivesBox ReadFault = FailsAtKey ⊎ RunsKeyed ReadFault
     LivesBox status = RunsKeyed status
 
--- The counts of the port's faults: that of the input rose where a read of the line failed, and that
--- of an output where a write or a flush of it failed.
+-- What a status says of the port's counts of faults. That of the input changes only if a read
+-- failed, and those of the outputs change only if a write or a flush failed. In that case the count
+-- of some output rose.
 pub record PortCauses {P : Type 0} (p : Port P) (before after : P) (status : Status) : Type 0 where
   pub no_read : (status ≡ ReadFault → ⊥) → p.read_faults after ≡ p.read_faults before
   pub no_write : (status ≡ WriteFault → ⊥) → (to : Output)

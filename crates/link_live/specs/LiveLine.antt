@@ -1,4 +1,4 @@
--- A live line that is driven into a filter: what was read of it, and what is handed on.
+-- A live line that is driven into a filter: what was read of it, and what was handed on.
 use Rattle.std.specs.Prelude.{◌≡◌, ℕ, ◌+◌, ◌<◌, ◌≤◌, List, [], ◌++◌, length, take, Option}
 use Rattle.std.specs.Prelude.{Result, Ok, Err, false}
 use Rattle.std.specs.Io.KnownBytes.{prepend_known, IsAtEnd}
@@ -40,20 +40,20 @@ live_of live_box port disk = record { live_box = live_box; port = port; disk = d
 abbrev pub outside_of : {B P D : Type 0} → Live B P D → Outside B P D
 outside_of at = outside at.live_box.filter at.port at.disk
 
--- the same start, with more bytes read
+-- an origin with the same start, and with more bytes read
 abbrev pub read_further : LiveOrigin → List ℕ → LiveOrigin
 read_further origin more = record origin { read = origin.read ++ more }
 
 -- What a box has heard of a line.
 module _ {B N : Type 0} (b : LinkBox B N) (line_of : N → List ℕ) where
-  -- The box has taken these ticks, and what it makes of them is handed on.
+  -- Holds if the box has taken these ticks, and what it makes of them is handed on.
   pub record HasHeard (filter : Filter B) (history : Option (List Event)) (slots : Option Slots)
       (origin : LiveOrigin) (line : List Tick) : Type 0 where
     pub items : List Item
     pub are : ticks_in items ≡ line
     pub filters : Filters b line_of filter history slots origin items
 
-  -- It was stopped at one of these ticks.
+  -- Holds if the box was stopped at one of these ticks.
   pub record StopsHearing (filter : Filter B) (history : Option (List Event)) (slots : Option Slots)
       (stop : Stop) (origin : LiveOrigin) (line : List Tick) : Type 0 where
     pub items : List Item
@@ -61,7 +61,7 @@ module _ {B N : Type 0} (b : LinkBox B N) (line_of : N → List ℕ) where
     pub are : ticks_in items ++ more ≡ line
     pub stops : StopsFilter b line_of filter history slots stop origin items
 
-  -- The reader has read this text, and the box has heard the lines that ended in it.
+  -- Holds if the reader has read this text, and the box has heard the lines that ended in it.
   pub record HasTaken (lines : LineReader) (live_box : LiveBox B) (history : Option (List Event))
       (slots : Option Slots) (origin : LiveOrigin) (text : List ℕ) : Type 0 where
     pub has_read : HasRead lines text
@@ -69,14 +69,15 @@ module _ {B N : Type 0} (b : LinkBox B N) (line_of : N → List ℕ) where
     pub count : live_box.ticks ≡ length (ticks_in (ended_items text))
 
 module _ {B N D : Type 0} (b : LinkBox B N) (d : SlotDisk D) where
-  -- The box may take more: it has counted its ticks, and its journal is that of its link.
+  -- Holds if the box may take more: it has counted its ticks, and its journal is that of its link.
   pub record IsReady (live_box : LiveBox B) (disk : D) : Type 0 where
     pub counted : b.taken live_box.filter.line_box ≡ live_box.ticks
     pub few : live_box.ticks ≤ MAX_LIVE_TICKS
     pub able : ServesLink (b.link_of live_box.filter.line_box) live_box.filter.journal (d.told disk)
 
 module _ {B P D : Type 0} (p : Port P) (d : SlotDisk D) where
-  -- What calls do beside, which ended so: the images are kept, and each fault has its cause.
+  -- What holds after calls that ended in this way: the disk's images are kept, and each fault has
+  -- its cause.
   pub record LiveGoes (old new : Live B P D) (end : End) : Type 0 where
     pub images : KeepsImages p d (outside_of old) (outside_of new)
     pub disk : IsDiskCause (d.faults old.disk) (d.faults new.disk) (is_journal_fault (answer_of end))
@@ -101,19 +102,19 @@ module _ {B N P D : Type 0} (b : LinkBox B N) (line_of : N → List ℕ) (p : Po
     abbrev pub LastAt : ℕ → Live B P D → End → LiveOrigin → List ℕ → Type 0
     LastAt rest at end origin = EndsAtLast (HeardAt at origin) (HaltsAt at origin) rest end
 
-    -- A run was given to the box.
+    -- Holds if a run was given to the box.
     pub record Given (old new : Live B P D) (items : List Item) : Type 0 where
       pub gives : Gives (filtering b line_of p d) (outside_of old) (outside_of new) items (Ok tt)
       pub ready : IsReady b d new.live_box new.disk
       pub count : new.live_box.ticks ≡ old.live_box.ticks + length (ticks_in items)
 
-    -- Its ticks with those before are too many, and nothing was done.
+    -- Holds if the ticks of a run together with those before are too many, and nothing was done.
     pub record HoldsBack (old new : Live B P D) (items : List Item) (count : ℕ) : Type 0 where
       pub same : new ≡ old
       pub sum : count ≡ old.live_box.ticks + length (ticks_in items)
       pub above : MAX_LIVE_TICKS < count
 
-    -- what the answer says where a run was to be given to the box
+    -- what each result says of giving a run to the box
     abbrev pub GiveAnswer : Live B P D → Live B P D → List Item → Result (Unit {0}) End → Type 0
     GiveAnswer old new items (Ok x) = Given old new items
     GiveAnswer old new items (Err (TooLong Ticks count)) = HoldsBack old new items count
@@ -121,7 +122,8 @@ module _ {B N P D : Type 0} (b : LinkBox B N) (line_of : N → List ℕ) (p : Po
         Gives (filtering b line_of p d) (outside_of old) (outside_of new) items (Err stop)
     GiveAnswer old new items (Err end) = ⊥
 
-    -- Calls that read nothing took these bytes: whatever text was read before, this is behind it.
+    -- Holds if calls that read nothing took these bytes. Whatever text was taken before, now that
+    -- text followed by these bytes is taken.
     pub record TakesBytes (old_lines new_lines : LineReader) (old new : Live B P D)
         (bytes : List ℕ) : Type 0 where
       pub ready : IsReady b d new.live_box new.disk
@@ -130,7 +132,7 @@ module _ {B N P D : Type 0} (b : LinkBox B N) (line_of : N → List ℕ) (p : Po
       pub takes : (origin : LiveOrigin) (text : List ℕ) → TakenAt old_lines old origin text
           → TakenAt new_lines new origin (text ++ bytes)
 
-    -- They ended so in these bytes.
+    -- Holds if calls that read nothing ended in this way within these bytes.
     pub record EndsInBytes (old_lines : LineReader) (old new : Live B P D) (end : End)
         (bytes : List ℕ) : Type 0 where
       pub goes : LiveGoes p d old new end
@@ -139,7 +141,7 @@ module _ {B N P D : Type 0} (b : LinkBox B N) (line_of : N → List ℕ) (p : Po
       pub ends : (origin : LiveOrigin) (text : List ℕ) → TakenAt old_lines old origin text
           → EndsAt new end origin (text ++ bytes)
 
-    -- this many of these bytes were taken, at least one
+    -- Holds if the first `taken` of these bytes were taken, and at least one.
     pub record TakesFirst (old_lines new_lines : LineReader) (old new : Live B P D)
         (bytes : List ℕ) (taken : ℕ) : Type 0 where
       pub some : 0 < taken
@@ -160,7 +162,8 @@ module _ {B N P D : Type 0} (b : LinkBox B N) (line_of : N → List ℕ) (p : Po
     PieceAnswer old_lines new_lines old new bytes (Err end) =
         EndsInBytes old_lines old new end bytes
 
-    -- These bytes were read, behind those that were read before, and the box has heard their lines.
+    -- Holds if these bytes were read after those that were read before, and the box has heard their
+    -- lines.
     pub record Hears (old_lines new_lines : LineReader) (old new : Live B P D) (end : End)
         (more : List ℕ) : Type 0 where
       pub goes : LiveGoes p d old new end
@@ -168,19 +171,19 @@ module _ {B N P D : Type 0} (b : LinkBox B N) (line_of : N → List ℕ) (p : Po
       pub hears : (origin : LiveOrigin) → TakenAt old_lines old origin origin.read
           → TakenAt new_lines new (read_further origin more) (origin.read ++ more)
 
-    -- The input ended behind these bytes.
+    -- Holds if some bytes were read, and the input ended after them.
     pub record HearsAll (old_lines new_lines : LineReader) (old new : Live B P D) : Type 0 where
       pub more : List ℕ
       pub heard : Hears old_lines new_lines old new Whole more
       pub ready : IsReady b d new.live_box new.disk
       pub at_end : IsAtEnd (p.left new.port)
 
-    -- A read failed behind these bytes.
+    -- Holds if some bytes were read, and the read after them failed.
     pub record FailsToHear (old_lines new_lines : LineReader) (old new : Live B P D) : Type 0 where
       pub more : List ℕ
       pub heard : Hears old_lines new_lines old new ReadFault more
 
-    -- It ended so inside these bytes.
+    -- Holds if the calls ended in this way within the bytes that were read.
     pub record EndsHearing (old_lines : LineReader) (old new : Live B P D) (end : End) :
         Type 0 where
       pub more : List ℕ
@@ -196,7 +199,8 @@ module _ {B N P D : Type 0} (b : LinkBox B N) (line_of : N → List ℕ) (p : Po
         FailsToHear old_lines new_lines old new
     HearAnswer old_lines new_lines old new (Err end) = EndsHearing old_lines old new end
 
-    -- The end of the text was taken, and this many silent ticks behind it, or it ended so there.
+    -- Holds if the calls that take the end of the text and then `rest` silent ticks ended in this
+    -- way.
     pub record Finishes (lines : LineReader) (rest : ℕ) (old new : Live B P D) (end : End) :
         Type 0 where
       pub goes : LiveGoes p d old new end
@@ -209,7 +213,8 @@ module _ {B N P D : Type 0} (b : LinkBox B N) (line_of : N → List ℕ) (p : Po
     FinishAnswer lines rest old new (Ok x) = Finishes lines rest old new Whole
     FinishAnswer lines rest old new (Err end) = Finishes lines rest old new end
 
-    -- A live line was driven into a box that had taken none, and this was read of it.
+    -- Holds if a live line was driven into a box that had taken no tick, and this is what was read
+    -- of the line and how that ended.
     pub record Drives (rest : ℕ) (old new : Live B P D) (end : End) : Type 0 where
       pub text : List ℕ
       pub came : p.left old.port ≡ prepend_known text (p.left new.port)

@@ -26,11 +26,12 @@ use Rattle.link_live.specs.LiveCommand.{around}
 use Rattle.link_live.specs.Programs.{Runs, KeepsDisk}
 use Rattle.link_live.specs.Words.{key_place, journal_place, word_in}
 
--- the words of the arguments that are still to come: all but the first, which is the program's name
+-- the words of the arguments that haven't been taken yet: all but the first, which is the program's
+-- name
 abbrev pub words_after : IntoIter (String Global) Global → List (List ℕ)
 words_after args = map string_bytes (drop 1 (into_iter_items args))
 
--- The file at the path, for reading, and no call on it was made.
+-- Holds if the source is the file at this path, for reading only, and no call on it has been made.
 pub record IsKeyFile {R F D : Type 0} (bytes : Option (List ℕ)) (source : FileSource R F D)
     : Type 0 where
   pub path : option_map string_bytes (file_path source) ≡ bytes
@@ -38,7 +39,8 @@ pub record IsKeyFile {R F D : Type 0} (bytes : Option (List ℕ)) (source : File
   pub options : file_options source ≡ for_reading
   pub faults : file_faults source ≡ 0
 
--- The file at the path, which is to stand already, and no call on it was made.
+-- Holds if the disk is the file at this path, which must exist already, and no call on it has been
+-- made.
 pub record IsJournalFile {R F D : Type 0} {read : Read F} {write : Write F} {seek : Seek F}
     {in_dir : Read D} (bytes : Option (List ℕ)) (disk : FileSlots R F D read write seek in_dir) :
     Type 0 where
@@ -51,7 +53,8 @@ pub record IsJournalFile {R F D : Type 0} {read : Read F} {write : Write F} {see
 module _ {R F D P : Type 0} {read : Read F} {write : Write F} {seek : Seek F} {in_dir : Read D}
     (k : Source (FileSource R F D)) (p : Port P)
     (d : SlotDisk (FileSlots R F D read write seek in_dir)) where
-  -- The program runs over the files whose paths its words are, and does what they ask for.
+  -- Holds if the program runs over the files whose paths are among its words, and does what the
+  -- words ask for.
   pub record RunsOverFiles (words : List (List ℕ)) (asked : Option Command) (before after : P)
       (status : Status) : Type 0 where
     pub key_before : FileSource R F D
@@ -65,8 +68,9 @@ module _ {R F D P : Type 0} {read : Read F} {write : Write F} {seek : Seek F} {i
         (around after disk_after) status
     pub any_moment : KeepsDisk d asked disk_before disk_after
 
-  -- It ends with the status of this run; or nothing was done, since the runtime refused what a run
-  -- needs, or there was no memory for a path.
+  -- Holds if the program ran over its files and ended with the exit status of that run, or nothing
+  -- was done, since the runtime refused something that a run needs, or there was no memory for a
+  -- path.
   abbrev pub EndsOverFiles : List (List ℕ) → Option Command → P → P → ℕ → Type 0
   EndsOverFiles words asked before after exit_status =
       ((status : Status) × (exit_status ≡ exit_status_of status)

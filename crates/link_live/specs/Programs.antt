@@ -1,4 +1,4 @@
--- What the program does for each thing that its words may ask for.
+-- What the program does for each command that its words may ask for, or if they ask for none.
 use Rattle.std.specs.Prelude.{◌≡◌, Option, Some, None}
 use Rattle.yasir_io.specs.declared.source.Source.{Ghosts as Source}
 use Rattle.yasir_io.specs.declared.disk.SlotDisk.{Ghosts as SlotDisk}
@@ -20,7 +20,7 @@ KeepsDisk d (Some (Seal of)) old new = KeepsFloorThroughout d (served of) old ne
 KeepsDisk d (Some (Check of)) old new = KeepsFloorThroughout d (served of) old new
 
 module _ {K P D : Type 0} (k : Source K) (p : Port P) (d : SlotDisk D) where
-  -- What is done before the fault line: nothing at all where the words ask for no command.
+  -- What is done before the fault line is written: nothing at all if the words ask for no command.
   abbrev pub Does : Option Command → K → K → Around P D → Around P D → Status → Type 0
   Does None key_before key_after before after status =
       (status ≡ Usage) × (key_after ≡ key_before) × (after ≡ before)
@@ -31,8 +31,8 @@ module _ {K P D : Type 0} (k : Source K) (p : Port P) (d : SlotDisk D) where
       LivesBox k p d (check_boxed of.proto of.profile) (served of) of.dir check_rest
       key_before key_after before after status
 
-  -- What a run does: what was asked for, and then the fault line in the log, where the status has
-  -- one. Each fault has its cause.
+  -- What a run does: what was asked for, and then, if the status has a fault line, the writing of
+  -- that line to the log. Each fault has its cause.
   pub record Runs (asked : Option Command) (key_before key_after : K) (before after : Around P D)
       (status : Status) : Type 0 where
     -- the port as the command left it

@@ -1,6 +1,6 @@
--- How the reading of a live line ends, and what of its text a box has taken then. `Heard line` is
--- what holds where a box has taken all ticks of `line`, and `Halts stop line` where it was stopped
--- at one of them.
+-- How the reading of a live line ends, and what of its text a box has taken then. `Heard line`
+-- holds if a box has taken all ticks of `line`, and `Halts stop line` holds if a box was stopped at
+-- one of them.
 use Rattle.std.specs.Prelude.{◌≡◌, ℕ, ◌<◌, ◌≤◌, ◌⊎◌, List, [], ◌∷◌, ◌++◌, length}
 use Rattle.yasir_ticks.specs.Ticks.{Item, ticks_in, silent}
 use Rattle.yasir_ticks.specs.TickText.{IsTickText, IsRefusedAfter, ended_items, line_after}
@@ -16,15 +16,15 @@ use Rattle.live_port.specs.Counted.{capped}
 use Rattle.live_port.specs.Lines.{RefusesText, EndsNoLine}
 use Rattle.link_live.specs.declared.live_box.TheConstants.{MAX_LIVE_TICKS, MAX_LIVE_BYTES}
 
--- The text is a right one, of items of which this holds.
+-- Holds if the text is right, and `Of` holds of its items.
 pub record IsRightOf (text : List ℕ) (Of : List Item → Type 0) : Type 0 where
   pub items : List Item
   pub right : IsTickText 0 text items
   pub holds : Of items
 
 module _ (Heard : List Tick → Type 0) (Halts : Stop → List Tick → Type 0) where
-  -- No right text has the byte that comes next behind these; the lines that ended in them were
-  -- taken.
+  -- Holds if no right text begins with these bytes and the one that comes next. The lines that
+  -- ended in these bytes were taken.
   pub record RefusesNext (bad : BadTicks) (front later : List ℕ) : Type 0 where
     pub byte : ℕ
     pub rest : List ℕ
@@ -34,8 +34,8 @@ module _ (Heard : List Tick → Type 0) (Halts : Stop → List Tick → Type 0) 
     pub why : bad.why ≡ fault_after front byte
     pub heard : Heard (ticks_in (ended_items front))
 
-  -- The last line of these items has this many ticks that with those before they are more than may
-  -- be taken; the lines before it were taken.
+  -- Holds if the last line of these items brings the count of ticks above the most that may be
+  -- taken. The lines before it were taken.
   pub record HasTooManyTicks (count : ℕ) (items : List Item) : Type 0 where
     pub earlier : List Item
     pub last : List Item
@@ -44,14 +44,14 @@ module _ (Heard : List Tick → Type 0) (Halts : Stop → List Tick → Type 0) 
     pub above : MAX_LIVE_TICKS < count
     pub heard : Heard (ticks_in earlier)
 
-  -- More bytes than may be end no line with ticks, or more were read in all; the lines that ended
-  -- in them were taken.
+  -- Holds if too many bytes in a row end no line with ticks, or too many bytes were read in all.
+  -- The lines that ended in these bytes were taken.
   pub record HasTooManyBytes (count : ℕ) (front : List ℕ) : Type 0 where
     pub many : ((2147483648 < count) × EndsNoLine front count)
         ⊎ ((MAX_LIVE_BYTES ≤ count) × (count ≤ length front))
     pub heard : Heard (ticks_in (ended_items front))
 
-  -- what an end says that comes behind the first bytes of a text
+  -- what an end says that comes after the first bytes of a text
   abbrev pub EndsBehind : End → List ℕ → List ℕ → Type 0
   EndsBehind (Refused bad) front later = RefusesNext bad front later
   EndsBehind (TooLong Ticks count) front later = HasTooManyTicks count (ended_items front)
@@ -59,19 +59,19 @@ module _ (Heard : List Tick → Type 0) (Halts : Stop → List Tick → Type 0) 
   EndsBehind (Stopped stop) front later = Halts stop (ticks_in (ended_items front))
   EndsBehind end front later = ⊥
 
-  -- An end came inside a text.
+  -- Holds if an end came inside a text.
   pub record EndsWithin (end : End) (text : List ℕ) : Type 0 where
     pub front : List ℕ
     pub later : List ℕ
     pub is : text ≡ front ++ later
     pub ends : EndsBehind end front later
 
-  -- The text is no right one; the lines that ended in it were taken.
+  -- Holds if the text isn't right. The lines that ended in it were taken.
   pub record RefusesWhole (bad : BadTicks) (text : List ℕ) : Type 0 where
     pub refused : RefusesText text bad
     pub heard : Heard (ticks_in (ended_items text))
 
-  -- what an end says that comes behind a whole text, and this many silent ticks behind it
+  -- what an end says that comes at the end of a whole text or in the `rest` silent ticks after it
   abbrev pub EndsAtLast : ℕ → End → List ℕ → Type 0
   EndsAtLast rest Whole text = IsRightOf text (λ items. Heard (ticks_in items ++ silent rest))
   EndsAtLast rest (Refused bad) text = RefusesWhole bad text
@@ -80,8 +80,8 @@ module _ (Heard : List Tick → Type 0) (Halts : Stop → List Tick → Type 0) 
       IsRightOf text (λ items. Halts stop (ticks_in items ++ silent rest))
   EndsAtLast rest end text = ⊥
 
-  -- What an end says of all that was read: a read failed behind it, or the end came inside it, or
-  -- behind it at the input's end.
+  -- What an end says of all that was read: a read failed after it, or the end came inside it, or
+  -- the end came after it where the input ended.
   abbrev pub EndsText : ℕ → Type 0 → End → List ℕ → Type 0
   EndsText rest at_end ReadFault text = Heard (ticks_in (ended_items text))
   EndsText rest at_end end text = EndsWithin end text ⊎ (at_end × EndsAtLast rest end text)

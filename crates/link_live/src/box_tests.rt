@@ -1,4 +1,4 @@
-//! The calls of a port in their order, as a live line is driven through either box.
+//! The calls of a port, in their order, while a live line is driven through either box.
 ghost use Rattle.std.specs.Prelude.{None};
 ghost use Rattle.link_box.specs.Links.{AreLinks};
 
@@ -15,12 +15,12 @@ use std::test::Fail;
 use tick_drive::End;
 use yasir_io::{Failed, SteadySlots};
 
-/// A port that gives a piece with each read, and keeps a text of its calls: `r` and what was read,
-/// `o` or `l` and what was written to the line or to the log, `O` or `L` for a flush.
+/// A port that gives one piece with each read, and keeps a text of its calls: `r` and what was
+/// read, `o` or `l` and what was written to the line or to the log, and `O` or `L` for a flush.
 #[derive(Drop)]
 struct ToldPort<'a> {
     pieces: &'a [&'a [u8]],
-    // how many of them were read
+    // how many pieces were read
     read: usize,
     calls: ArrayVec<u8, 256>,
 }
@@ -67,7 +67,7 @@ impl<'a> Port for ToldPort<'a> {
     }
 }
 
-/// The calls as these pieces are driven through a box, and then this many silent ticks.
+/// Returns the calls of a port whose pieces and then `rest` silent ticks are driven through a box.
 fn driven<X: LineBox>(pieces: &[&[u8]], rest: u32) -> Result<(ArrayVec<u8, 256>, End), Fail>
     requires widths { X.widths_fit }
     requires links { AreLinks X.link_in }

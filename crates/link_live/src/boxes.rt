@@ -14,7 +14,7 @@ use replay_status::Status;
 use seal_transmitter::Sealer;
 use yasir_io::{SlotDisk, Source};
 
-// The transmitter on the line.
+// Runs the transmitter on the line.
 macro_rules! seal_by {
     (
         [$rules:ty, $device:ty, $mac:ty, $word:literal, $delay:literal, $gap:literal],
@@ -33,7 +33,7 @@ macro_rules! seal_by {
     };
 }
 
-// The receiver on the line.
+// Runs the receiver on the line.
 macro_rules! check_by {
     (
         [$rules:ty, $device:ty, $mac:ty, $word:literal, $delay:literal, $gap:literal],
@@ -76,8 +76,8 @@ pub fn seal<K: Source, P: Port, D: SlotDisk>(
     with_link!(proto, profile, seal_by(link, dir, key, port, disk))
 }
 
-/// Checks the packets of a live link, by a receiver whose delay is 18 ticks, or 24 where words have
-/// four bytes and tags sixteen.
+/// Checks the packets of a live link. The receiver's delay is 18 ticks, or 24 in the profile whose
+/// words have four bytes and whose tags have sixteen.
 pub fn check<K: Source, P: Port, D: SlotDisk>(
     of: Linked,
     key: &mut K,

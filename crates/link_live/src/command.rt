@@ -1,5 +1,5 @@
-//! The command of a box on a live line: read the key, load the journal, and drive the line through
-//! the box as it comes.
+//! The command of a box on a live line: it reads the key, loads the journal, and drives the line
+//! through the box as it comes.
 ghost use Rattle.std.specs.Prelude.{◌≡◌, ◌≤◌};
 ghost use Rattle.sequence_journal.specs.Links.{IsLink};
 ghost use Rattle.box_command.specs.LinkBoxed.{boxed_of};
@@ -15,7 +15,7 @@ use replay_status::{Status, status_of};
 use sequence_journal::{Journal, LinkId, LoadError};
 use yasir_io::{SlotDisk, Source};
 
-/// The link of a box, its direction, and how many silent ticks come after a whole line.
+/// The link of a box, the direction of that link, and how many silent ticks follow a whole line.
 #[derive(Clone, Copy, Debug, PartialEq, Eq)]
 pub struct LiveLink {
     pub link: LinkId,
@@ -51,8 +51,8 @@ fn live_keyed<B: LineBox, P: Port, D: SlotDisk>(
 }
 
 /// Reads a key, loads the journal of this link that the disk holds, and drives a line through a box
-/// of this link as it comes: what the box makes of each line of its text is written and flushed,
-/// its notes first, before the next read.
+/// of this link as it comes. What the box makes of each line of text is written and flushed before
+/// the next read, the notes first.
 pub fn live_line<B: LineBox, K: Source, P: Port, D: SlotDisk>(
     of: &LiveLink,
     key: &mut K,

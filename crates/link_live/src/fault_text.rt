@@ -1,10 +1,11 @@
-//! The fault line of a status, on its way to the log of a port.
+//! Writes the fault line of a status to the log of a port.
 ghost use Rattle.link_live.specs.FaultText.{TellsFault};
 
 use live_port::{Output, Port, send};
 use replay_status::{Status, fault_line};
 
-/// Writes the fault line of a status to the log, and flushes it. A failure of this changes nothing.
+/// Writes the fault line of a status, if it has one, to the log, and flushes the log. If a call
+/// fails, that is ignored.
 pub fn log_fault<P: Port>(port: &mut P, status: &Status)
     ensures { TellsFault P.Port port.old port.new status.now }
 {

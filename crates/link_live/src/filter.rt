@@ -1,4 +1,4 @@
-//! A box over its journal as a filter: what it makes of each tick is handed on at once.
+//! A box with its journal as a filter: what the box makes of each tick is handed on at once.
 ghost use Rattle.std.specs.Prelude.{◌≡◌, ℕ, ◌<◌, ◌≤◌, List, [], ◌∷◌, length, Option};
 ghost use Rattle.yasir_io.specs.Disks.{Slots};
 ghost use Rattle.yasir_ticks.specs.Ticks.Item.{tick as tick_item};
@@ -22,17 +22,17 @@ use tick_drive::Stop;
 use yasir_io::{Failed, SlotDisk};
 use yasir_ticks::{Tick, TickRun};
 
-// How many ticks a box is asked to answer at once at most.
+// How many ticks a box is asked to take at once at most.
 const MAX_RUN: usize = 1_000_000;
 
-/// A box over its journal.
+/// A box with its journal.
 #[derive(Drop)]
 pub struct Filter<B> {
     line_box: B,
     journal: Journal,
 }
 
-// Hands on what a step of a box answers.
+// Hands on the tick and the note that a step of a box returns.
 fn hand_on_step<B: LineBox, P: Port>(
     port: &mut P,
     tick: Tick,
@@ -49,7 +49,7 @@ fn hand_on_step<B: LineBox, P: Port>(
 }
 
 impl<B: LineBox> Filter<B> {
-    /// A box that has taken no tick, over this journal.
+    /// Returns a filter over this journal whose box has taken no tick.
     pub fn new(key: &[u8], dir: Dir, journal: Journal) -> Filter<B>
         requires { B.widths_fit }
         ensures taken { B.taken result.line_box ≡ 0 }
@@ -70,8 +70,8 @@ impl<B: LineBox> Filter<B> {
         }
     }
 
-    // Takes the first ticks of this run at once, as far as the box has an answer to them, and
-    // returns how many.
+    // Takes at once as many first ticks of this run as `take_alike` takes, hands on what the box
+    // makes of them, and returns how many they are. That may be 0.
     fn take_front<P: Port, D: SlotDisk>(
         &mut self,
         port: &mut P,
@@ -121,7 +121,7 @@ impl<B: LineBox> Filter<B> {
         }
     }
 
-    // Takes the first ticks of this run: as many as the box has an answer to at once, and else one.
+    // Takes the first ticks of this run: as many as the box takes at once, or one if it takes none.
     fn take_some<P: Port, D: SlotDisk>(
         &mut self,
         port: &mut P,

@@ -1,5 +1,5 @@
-//! A filter over a live line: tick text that comes in pieces, each line of which goes to the box as
-//! soon as it has ended.
+//! A filter over a live line. The line is tick text that comes in pieces, and each line of that
+//! text goes to the box as soon as it has ended.
 ghost use Rattle.std.specs.Prelude.{◌≡◌, ◌<◌, ◌≤◌, List, [], length, Option};
 ghost use Rattle.yasir_io.specs.Disks.{Slots};
 ghost use Rattle.yasir_ticks.specs.Reader.{items_of_content};
@@ -27,13 +27,13 @@ use yasir_ticks::{Content, Run, TickRun};
 /// How many ticks of a live line are taken at most.
 pub const MAX_LIVE_TICKS: u64 = 2_305_843_009_213_693_952;
 
-/// Behind how many bytes of a live line nothing more is read.
+/// After this many bytes of a live line nothing more is read.
 pub const MAX_LIVE_BYTES: u64 = 4_611_686_018_427_387_904;
 
 // How many bytes are read at once at most.
 const PIECE: usize = 4096;
 
-// The ticks of a line of this content, the bytes of a `+` line being these.
+// Returns the ticks of a line with this content. If it is a `+` line, these are its bytes.
 fn run_of(content: Content, bytes: &[u8]) -> TickRun<'_>
     ensures { run_ticks result ≡ ticks_in (items_of_content content bytes.now) }
 {
@@ -44,7 +44,7 @@ fn run_of(content: Content, bytes: &[u8]) -> TickRun<'_>
     }
 }
 
-// The ticks of a last line.
+// Returns the ticks of a last line.
 fn run_of_last(last: &Run) -> TickRun<'_>
     ensures { run_ticks result ≡ ticks_in (items_of_run last.now) }
 {
@@ -63,7 +63,7 @@ pub struct LiveBox<B> {
 }
 
 impl<B: LineBox> LiveBox<B> {
-    /// A box that has taken no tick, over this journal.
+    /// Returns a live box over this journal that has taken no tick.
     pub fn new(key: &[u8], dir: Dir, journal: Journal) -> LiveBox<B>
         requires { B.widths_fit }
         ensures none { result.ticks ≡ 0 }
@@ -85,7 +85,7 @@ impl<B: LineBox> LiveBox<B> {
         }
     }
 
-    // Gives a run to the box, unless its ticks with those before are too many.
+    // Gives a run to the box, unless its ticks together with those before are too many.
     fn give<P: Port, D: SlotDisk>(
         &mut self,
         port: &mut P,
@@ -112,8 +112,8 @@ impl<B: LineBox> LiveBox<B> {
         Ok(())
     }
 
-    // Reads bytes of a piece up to the end of a line, or all of them, and gives what the line
-    // stands for to the box. Returns how many.
+    // Reads the bytes of a piece up to the end of a line, or all of them, and gives the ticks of
+    // that line to the box. Returns how many bytes were read.
     fn take_line<P: Port, D: SlotDisk>(
         &mut self,
         lines: &mut LineReader,
@@ -139,7 +139,7 @@ impl<B: LineBox> LiveBox<B> {
         }
     }
 
-    // Gives all lines to the box that end in a piece.
+    // Gives all lines that end in a piece to the box.
     fn take_piece<P: Port, D: SlotDisk>(
         &mut self,
         lines: &mut LineReader,
@@ -163,8 +163,8 @@ impl<B: LineBox> LiveBox<B> {
         Ok(())
     }
 
-    // Reads the line to its end. What the box makes of the lines that have ended is handed on
-    // before each read.
+    // Reads the live line to its end. What the box makes of the lines of text that have ended is
+    // handed on before each read.
     fn hear<P: Port, D: SlotDisk>(
         &mut self,
         lines: &mut LineReader,
@@ -197,7 +197,7 @@ impl<B: LineBox> LiveBox<B> {
         })
     }
 
-    // Takes the end of the line, and this many silent ticks behind it.
+    // Takes the end of the live line, and then `rest` silent ticks.
     fn finish<P: Port, D: SlotDisk>(
         &mut self,
         lines: LineReader,
@@ -223,8 +223,9 @@ impl<B: LineBox> LiveBox<B> {
         }
     }
 
-    /// Drives a live line to its end, and then this many silent ticks, into the box. The box has
-    /// taken none, and what it makes of each line is handed on as soon as this line has ended.
+    /// Drives a live line to its end, and then `rest` silent ticks, into the box, which has taken
+    /// no tick before. What the box makes of each line of text is handed on as soon as that line
+    /// has ended.
     pub fn drive<P: Port, D: SlotDisk>(&mut self, rest: u32, port: &mut P, disk: &mut D) -> End
         requires { IsReady B.LinkBox D.SlotDisk self.old disk.old }
         ensures { Drives B.LinkBox B.line_of P.Port D.SlotDisk rest

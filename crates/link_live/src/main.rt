@@ -1,6 +1,6 @@
-//! `link_live`: transmitter or receiver on a live line. Tick text comes on standard input, and what
-//! the box makes of each line of it leaves before the next read: the notes on standard error, and
-//! then the other line on standard output.
+//! `link_live`: a transmitter or a receiver on a live line. Tick text comes on standard input. What
+//! the box makes of each line of it leaves before the next read: first the notes on standard error,
+//! and then the other line on standard output.
 //!
 //!     link_replay init rtu ab sent.journal
 //!     link_live seal rtu ab key.txt sent.journal

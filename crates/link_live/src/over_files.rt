@@ -1,4 +1,4 @@
-//! The program over a file system: the files of the key and the journal are those whose paths are
+//! The program over a file system: the key and the journal are files whose paths are among its
 //! words.
 ghost use Rattle.std.specs.Prelude.{◌≡◌, ℕ, Option, IfOk, OnErr, IsErr, drop, map, option_map};
 ghost use Rattle.std.specs.Prelude.{slice_get};
@@ -20,23 +20,24 @@ use std::io;
 use std::rt::Files;
 use yasir_io::{FileSlots, FileSource, Lock, SlotDisk, SlotFile, Source};
 
-/// The exit status where the runtime refuses what a run needs: the places of the streams that are
-/// closed, the words, or memory for them.
+/// The exit status if the runtime refuses something that a run needs: a place for a standard stream
+/// that is closed, the words, or memory for the words.
 pub const NOT_GIVEN: u8 = 13;
 
-/// Which word is the path of the key's file, and which one that of the journal's.
+/// The places, counted from 0, of the word that is the path of the key's file, and of the word that
+/// is the path of the journal's file (`JOURNAL_PLACE`).
 const KEY_PLACE: usize = 3;
 
 const JOURNAL_PLACE: usize = 4;
 
-// The words behind the program's name.
+// Returns the words after the program's name.
 fn words_after_name(alloc: Global, args: Args) -> Result<Vec<String>, AllocError>
     ensures { IfOk result (λ words. words.items ≡ drop 1 (into_iter_items args)) }
 {
     args.skip(1).collect(alloc)
 }
 
-// A copy of the word at a place, where there is one.
+// Returns a copy of the word at a place, or `None` if there is no such word.
 fn word_at(words: &[String], place: usize) -> Result<Option<String>, AllocError>
     ensures { IfOk result (λ word.
         option_map string_bytes word ≡ slice_get (map string_bytes words.now) place) }
@@ -47,7 +48,7 @@ fn word_at(words: &[String], place: usize) -> Result<Option<String>, AllocError>
     }
 }
 
-// A copy of the word at a place, where the words ask for a command.
+// Returns a copy of the word at a place, or `None` if the words ask for no command.
 fn path_at(words: &[String], place: usize) -> Result<Option<String>, AllocError>
     ensures { IfOk result (λ path. (asked : Option Command) → Asks (map string_bytes words.now) asked
         → option_map string_bytes path ≡ word_in (map string_bytes words.now) asked place) }
@@ -58,7 +59,7 @@ fn path_at(words: &[String], place: usize) -> Result<Option<String>, AllocError>
     }
 }
 
-// The file of the key.
+// Returns the file of the key.
 fn key_file<'a, R: Files>(files: &'a R, words: &[String]) -> Result<FileSource<'a, R>, AllocError>
     ensures { IfOk result (λ key. (asked : Option Command) → Asks (map string_bytes words.now) asked
         → IsKeyFile (word_in (map string_bytes words.now) asked key_place) key) }
@@ -66,7 +67,7 @@ fn key_file<'a, R: Files>(files: &'a R, words: &[String]) -> Result<FileSource<'
     Ok(FileSource::new(files, path_at(words, KEY_PLACE)?))
 }
 
-// The file of the journal, which stands already.
+// Returns the file of the journal, which must exist already.
 fn journal_file<'a, R: Files>(
     files: &'a R,
     words: &[String],
@@ -81,7 +82,7 @@ where
     Ok(FileSlots::new(files, path, SlotFile::Standing))
 }
 
-// The program with these words.
+// Runs the program with these words.
 fn run_words<'a, R: Files + AllocGlobal, P: Port>(
     system: &'a R,
     words: &[String],
@@ -100,17 +101,18 @@ where
     Ok(run(words, &mut key, port, &mut disk))
 }
 
-// The system gives a file that is opened the least place that is free. These three take those of
-// standard streams that are closed, and are held as long as a run lasts: else the key would be read
-// as the input, or a note be written into the journal. A folder can be neither read nor written.
+// The system opens each file at the lowest free place (file descriptor). These three files take the
+// places of standard streams that are closed, and stay open as long as the run lasts. Otherwise the
+// key's file could be read as the input, or a note be written into the journal. A folder can be
+// neither read nor written.
 fn take_places<R: Files>(files: &R) -> io::Result<(R::File, R::File, R::File)> {
     let first = File::open(files, "/")?;
     let second = File::open(files, "/")?;
     Ok((first, second, File::open(files, "/")?))
 }
 
-/// The program with the words behind the first argument, its name: the key and the journal are
-/// files of this system. Returns the exit status.
+/// Runs the program with the words after the first argument, which is its name. The key and the
+/// journal are files of this system. Returns the exit status.
 pub fn run_over_files<'a, R: Files + AllocGlobal, P: Port>(
     system: &'a R,
     args: io::Result<Args>,
@@ -118,11 +120,11 @@ pub fn run_over_files<'a, R: Files + AllocGlobal, P: Port>(
 ) -> u8
 where
     R::File: Lock,
-    // Where the runtime gives no words, nothing is done.
+    // If the runtime gives no words, nothing is done.
     ensures no_words { IsErr args → result ≡ NOT_GIVEN }
     ensures untouched { IsErr args → port.new ≡ port.old }
 
-    // What was done, and the exit status, for each thing that the words may ask for.
+    // What was done, and the exit status, for each command that the words may ask for.
     ensures ends { IfOk args (λ given. (asked : Option Command) → Asks (words_after given) asked
         → EndsOverFiles ⟦<FileSource<'a, R> as Source>⟧ P.Port ⟦<FileSlots<'a, R> as SlotDisk>⟧
         (words_after given) asked port.old port.new result) }

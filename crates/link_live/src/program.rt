@@ -1,4 +1,5 @@
-//! The program over what it is handed: it reads its words, and runs the box that they ask for.
+//! The program over the objects that it is handed: it reads its words, and runs the box that they
+//! ask for.
 ghost use Rattle.std.specs.Prelude.{◌≡◌, ◌↔◌, Option, Some, None, map};
 ghost use Rattle.std.specs.String.{string_bytes};
 ghost use Rattle.box_command.specs.ReplaysBox.{BoxDiskCause};
@@ -15,7 +16,7 @@ use live_port::Port;
 use replay_status::Status;
 use yasir_io::{SlotDisk, Source};
 
-// What the words ask for; none where they fit no command.
+// Returns the command that the words ask for, or `None` if they fit no command.
 fn asked_by(words: &[String]) -> Option<Command>
     ensures { Asks (map string_bytes words.now) result }
 {
@@ -25,7 +26,8 @@ fn asked_by(words: &[String]) -> Option<Command>
     }
 }
 
-// What was asked for, but for the fault line.
+// Does what was asked for, and nothing if the words fit no command. It doesn't write the fault
+// line.
 fn answer<K: Source, P: Port, D: SlotDisk>(
     asked: Option<Command>,
     key: &mut K,
@@ -46,20 +48,20 @@ fn answer<K: Source, P: Port, D: SlotDisk>(
     }
 }
 
-/// The program: reads its words, those after the program's name, and runs the box that they ask for
-/// on a live line, whose input and outputs are the port. What the box makes of each line of text is
-/// written and flushed before the next read, the notes first. It takes no memory.
+/// Runs the program: it reads its words, which are those after the program's name, and runs the box
+/// that they ask for on a live line. The port has the line's input and outputs. What the box makes
+/// of each line of text is written and flushed before the next read, the notes first. The program
+/// takes no memory.
 pub fn run<K: Source, P: Port, D: SlotDisk>(
     words: &[String],
     key: &mut K,
     port: &mut P,
     disk: &mut D,
 ) -> Status
-    // Usage comes exactly where the words ask for no command.
+    // The status is Usage exactly if the words ask for no command.
     ensures usage { (result ≡ Status.Usage) ↔ Asks (map string_bytes words.now) None }
 
-    // What was read, written and kept, in one history of the port's calls, and the fault line
-    // behind it.
+    // What was read, written and kept, in one history of the port's calls, and then the fault line.
     ensures runs { (asked : Option Command) → Asks (map string_bytes words.now) asked
         → Runs K.Source P.Port D.SlotDisk asked key.old key.new (around port.old disk.old)
         (around port.new disk.new) result }
@@ -68,7 +70,7 @@ pub fn run<K: Source, P: Port, D: SlotDisk>(
     ensures any_moment { (asked : Option Command) → Asks (map string_bytes words.now) asked
         → KeepsDisk D.SlotDisk asked disk.old disk.new }
 
-    // Where all that the box is given is right and nothing outside fails, it is done.
+    // If all that the box is given is right and nothing outside fails, the command is done.
     ensures done { (asked : Option Command) → Asks (map string_bytes words.now) asked
         → MayDo K.Source P.Port D.SlotDisk asked key.old (around port.old disk.old)
         → IsCalm K.Source P.Port D.SlotDisk key.old key.new (around port.old disk.old)

@@ -1,5 +1,5 @@
-//! Runs of the program over ends in memory: a line that is sealed to its end, and one that breaks
-//! off.
+//! Runs of the program over ends in memory: a line that is sealed to its end, and a line whose read
+//! fails.
 use crate::run;
 use arrayvec::ArrayVec;
 use live_port::Streams;
@@ -27,7 +27,8 @@ struct Ran {
     log: MemSink,
 }
 
-/// The request is sealed, of which a read gives 18 bytes. This read fails, and none where it is 0.
+/// Seals the request, of which each read gives up to 18 bytes. The read of this number fails, or
+/// none if the number is 0.
 fn sealed(alloc: Global, fails: u32) -> Result<Ran, Fail> {
     let mut words = Vec::new(alloc);
     for word in ["seal", "rtu", "ab", "key", "journal"] {
@@ -47,7 +48,7 @@ fn sealed(alloc: Global, fails: u32) -> Result<Ran, Fail> {
     Ok(Ran { status, out, log })
 }
 
-/// The ticks of a text: the digits of each byte, and a dot for each silent tick.
+/// Returns the ticks of a text: the digits of each byte, and a dot for each silent tick.
 fn ticks_of(text: &[u8]) -> ArrayVec<u8, 200> {
     let mut ticks = ArrayVec::new();
     let mut is_silence = false;
@@ -82,7 +83,7 @@ fn ticks_of(text: &[u8]) -> ArrayVec<u8, 200> {
 fn a_line_is_sealed_to_its_end(rt: HostRuntime) -> Result<(), Fail> {
     let ran = sealed(rt.alloc(), 0)?;
     assert_eq!(rt; ran.status, Status::Done);
-    // the tag by openssl, as link_replay's tests have it
+    // the tag is computed by openssl, as in the tests of link_replay
     assert_eq!(rt;
         ticks_of(ran.out.held()).as_slice(),
         b"01030000000ac5cd...0001014c5b8d33c6d29a347013b0...........".as_slice()

@@ -18,13 +18,14 @@ pub struct Linked {
 /// What the program is asked to do.
 #[derive(Clone, Copy, Debug, PartialEq, Eq)]
 pub enum Command {
-    /// Seals the frames of a live line on its way from one end to the other.
+    /// Seals the frames of a device's live line on their way to the link.
     Seal(Linked),
-    /// Checks the packets of a live link, and hands on what passes.
+    /// Checks the packets of a live link, and sends on what passes.
     Check(Linked),
 }
 
-// The command of five words: a box, and the paths of its key and its journal, which aren't empty.
+// Reads a command of five words: a box, a link, and the paths of a key and a journal, which must
+// not be empty.
 fn read_five(
     first: &str,
     second: &str,
@@ -57,7 +58,8 @@ fn read_five(
     }
 }
 
-/// The command that the words after the program's name ask for, each word compared byte for byte.
+/// Returns the command that the words after the program's name ask for. Each word is compared byte
+/// for byte.
 pub fn read_words(words: &[String]) -> Result<Command, Usage>
     ensures ok { IfOk result (λ command. IsCommand (map string_bytes words.now) command) }
     ensures usage { OnErr result ((command : Command)
