@@ -1,4 +1,4 @@
--- What becomes of a device's line between its transmitter and its receiver.
+-- What a transmitter and a receiver make of a device's line.
 use Rattle.std.specs.Prelude.{◌≡◌, ℕ, ◌-◌, List, ◌++◌}
 use Rattle.yasir_ticks.specs.Ticks.{silent}
 use Rattle.yasir_ticks.specs.declared.tick.Tick.{Tick}
@@ -12,13 +12,13 @@ use Rattle.seal_judgements.specs.Sealing.{link_line}
 use Rattle.link_verdicts.specs.Checking.{received_line}
 use Rattle.receiver_laws.specs.Untouched.{IsUntouched}
 
--- y18 for Modbus RTU with this key, on the way from a to b
+-- the profile y18 for Modbus RTU with this key, on the way from a to b
 abbrev pub profile_with : List ℕ → Profile
 profile_with key = y18 rtu_rules.label LIMIT (setup_of key Ab 0)
 
--- The link is what the transmitter makes of the line, and what is received is what the receiver
--- makes of the link, both with new journals. Where frames are spaced, with silence behind them, all
--- comes as it was sent, 18 ticks later.
+-- Holds if the link is what the transmitter makes of the line, and what is received is what the
+-- receiver makes of the link, both with new journals. If frames are spaced and silence follows
+-- them, all of them come as they were sent, 18 ticks later.
 pub record Carries (key : List ℕ) (line link received : List Tick) : Type 0 where
   pub seals : link ≡ link_line (profile_with key) rtu_rules 0 line
   pub checks : received ≡ received_line (profile_with key) rtu_rules 0 link

@@ -1,4 +1,4 @@
-//! A device's line, through a transmitter, a link that nobody touches, and a receiver.
+//! Carries a device's line through a transmitter, a link that nobody touches, and a receiver.
 ghost use Rattle.std.specs.Prelude.{◌≡◌, ◌≤◌, [], length, IfOk};
 ghost use Rattle.yasir_ticks.specs.declared.TheConstants.{MAX_TICKS};
 ghost use Rattle.link_format.specs.Setup.{Setup, setup_of};
@@ -18,7 +18,7 @@ use std::alloc::Global;
 use yasir_io::{SlotDisk, SteadySlots};
 use yasir_ticks::Tick;
 
-/// The lines behind both boxes.
+/// The lines that the two boxes send.
 #[derive(Drop)]
 pub struct Carried {
     /// What the transmitter sends.
@@ -36,7 +36,7 @@ pub enum NotCarried {
     Journal,
 }
 
-// Gives a box these ticks, one by one, and keeps the ticks of the other line.
+// Gives a box these ticks one by one, and returns the ticks of the other line.
 fn pass_line<X: LinkBox, D: SlotDisk>(
     alloc: Global,
     line_box: &mut X,
@@ -64,8 +64,8 @@ fn pass_line<X: LinkBox, D: SlotDisk>(
     Ok(other)
 }
 
-// Makes a box with this key and a new journal in memory, and gives it these ticks. A firmware gives
-// the box a disk that lasts.
+// Makes a box with this key and a new journal in memory, and gives it these ticks. A firmware must
+// give the box a disk that lasts.
 fn through<X: LinkBox>(
     alloc: Global,
     key: &[u8],

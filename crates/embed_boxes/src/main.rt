@@ -1,12 +1,12 @@
-//! `embed_boxes`: both boxes in a program of one's own, tick by tick and without a file. It is what
-//! to copy into a gateway or a firmware:
+//! `embed_boxes`: an example of both boxes inside another program, which gives them one tick at a
+//! time and uses no file. This is what to copy into a gateway or a firmware:
 //!
 //!     let mut sealer: Sealer<Rtu, HmacSha1, 2> = Sealer::new(&key, Dir::Ab);
 //!     let step = sealer.step(tick, &mut journal, &mut disk)?;
 //!
-//! The program carries one request over a link that nobody touches, and prints the line of the
-//! device, the link and the line that the other device gets: a tick is two hex digits, or a point
-//! where the line is silent.
+//! The program carries one request over a link that nobody touches. It prints the line of the
+//! device that sends, the link, and the line that the other device gets. A byte is printed as two
+//! hex digits, and a silent tick as a point.
 #![tactic(auto)]
 
 mod carrying;
@@ -17,18 +17,18 @@ use std::io;
 use std::process::ExitCode;
 use yasir_ticks::Tick;
 
-/// The key of the examples. A box has a secret one.
+/// The key of the examples. A real box must have a secret one.
 const KEY: [u8; 16] = [0, 1, 2, 3, 4, 5, 6, 7, 8, 9, 10, 11, 12, 13, 14, 15];
 
 /// A request of Modbus RTU: read ten registers of device 1.
 const REQUEST: [u8; 8] = [0x01, 0x03, 0x00, 0x00, 0x00, 0x0a, 0xc5, 0xcd];
 
-/// As many silent ticks follow it as the transmitter and the receiver need.
+/// How many silent ticks follow the request: as many as the transmitter and the receiver need.
 const REST: usize = 36;
 
 const DIGITS: &[u8; 16] = b"0123456789abcdef";
 
-// The line of the device that sends.
+// Returns the line of the device that sends.
 fn device_line(alloc: Global) -> Result<Vec<Tick>, AllocError> {
     let mut line = Vec::new(alloc);
     for byte in &REQUEST {
@@ -40,7 +40,7 @@ fn device_line(alloc: Global) -> Result<Vec<Tick>, AllocError> {
     Ok(line)
 }
 
-// The text of a line.
+// Returns the text of a line.
 fn text_of(alloc: Global, line: &[Tick]) -> Result<String, AllocError> {
     let mut text = String::new(alloc);
     for tick in line {
