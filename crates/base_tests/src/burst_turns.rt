@@ -1,9 +1,9 @@
-//! A run of ticks is taken at once, and not tick by tick. No clause says so.
+//! Tests that a run of ticks is taken at once and not tick by tick. No clause says so.
 use frame_ending::BurstCut;
 use line_rules::{FourBytes, Head, LineRules};
 use yasir_ticks::Tick;
 
-/// Rules, and how often bytes were given to them.
+/// Rules, with a count of the calls that gave them bytes.
 #[derive(Drop)]
 struct Counted<R> {
     inner: R,
@@ -96,7 +96,7 @@ impl<R: LineRules> LineRules for Counted<R> {
     }
 }
 
-// The first byte is given alone, and the run behind it at once.
+// The first byte is given alone, and the run after it at once.
 #[test]
 fn a_run_of_bytes_costs_a_call_of_the_rules(rt: HostRuntime) {
     let mut cut: BurstCut<Counted<FourBytes>> = BurstCut::new();
@@ -105,8 +105,8 @@ fn a_run_of_bytes_costs_a_call_of_the_rules(rt: HostRuntime) {
     assert!(rt; cut.rules().calls <= 2);
 }
 
-/// How many runs of silence there are, each as long as a run can be: those who take them tick by
-/// tick, some 4,000,000,000 a run, don't come to an end in the time that a test has.
+/// How many runs of silence there are. Each is as long as a run can be, some 4,000,000,000 ticks.
+/// Code that takes them tick by tick doesn't come to an end in the time that a test has.
 const RUNS: u32 = 100;
 
 #[test]

@@ -41,7 +41,7 @@ fn line_of(alloc: Global, parts: &[Part]) -> Result<Vec<Tick>, AllocError> {
     Ok(line)
 }
 
-// What each tick is, and the value after them.
+// Returns what each tick is, and the value after all of them.
 fn cuts<R: LineRules>(alloc: Global, line: &[Tick]) -> Result<(Vec<Cut>, BurstCut<R>), AllocError>
     requires { length line.now < 1000 }
 {
@@ -66,7 +66,7 @@ fn letter(cut: Cut) -> u8 {
     }
 }
 
-// What a burst is at the end of a line.
+// What a value tells of a burst at the end of a line.
 #[derive(Debug, PartialEq, Drop)]
 struct Told {
     start: u64,
@@ -246,7 +246,7 @@ fn a_byte_more_than_there_is_room_for(rt: HostRuntime) -> Result<(), Fail> {
     Ok(())
 }
 
-// Takes the same tick this many times, a step each.
+// Takes the same tick `times` times, in one step each.
 fn step_times(cut: &mut BurstCut<FourBytes>, tick: Tick, times: usize)
     requires { ticks_taken cut.old + times ≤ 1000 }
     ensures { ticks_taken cut.new ≡ ticks_taken cut.old + times }
@@ -258,7 +258,7 @@ fn step_times(cut: &mut BurstCut<FourBytes>, tick: Tick, times: usize)
 
 const BYTE: u8 = 0x41;
 
-// A value that has taken this many bytes and then this many silent ticks.
+// Returns a value that has taken this many bytes and then this many silent ticks.
 fn begun(bytes: usize, silence: usize) -> BurstCut<FourBytes>
     requires { bytes + silence ≤ 500 }
     ensures { ticks_taken result ≡ bytes + silence }
@@ -269,7 +269,7 @@ fn begun(bytes: usize, silence: usize) -> BurstCut<FourBytes>
     cut
 }
 
-// Takes this many bytes as runs, as far as each is live, and the others by steps.
+// Takes this many bytes: as many as are live in a run, and the others by steps.
 fn take_by_runs(cut: &mut BurstCut<FourBytes>, len: usize)
     requires length { len ≤ 200 }
     requires room { ticks_taken cut.old + len ≤ 1000 }
@@ -280,8 +280,8 @@ fn take_by_runs(cut: &mut BurstCut<FourBytes>, len: usize)
     step_times(cut, Tick::Byte(BYTE), len - live);
 }
 
-// What a run of bytes leads to, cut in two at any place, is what its single bytes lead to: in a
-// burst, after each length of silence, and where the room ends inside the run.
+// A run of bytes, cut in two at any place, leads to the same value as its single bytes: in a burst,
+// after each length of silence, and if the room ends inside the run.
 #[test]
 fn runs_of_bytes_are_their_bytes(rt: HostRuntime) -> Result<(), Fail> {
     for (before, silence) in [(0, 0), (1, 0), (1, 1), (1, 2), (1, 3), (1, 4), (120, 0)] {
@@ -301,7 +301,7 @@ fn runs_of_bytes_are_their_bytes(rt: HostRuntime) -> Result<(), Fail> {
     Ok(())
 }
 
-// A run of silence is taken where no burst runs, and nowhere else.
+// A run of silence is taken at once only if no burst runs.
 #[test]
 fn runs_of_silence_are_silent_ticks(rt: HostRuntime) -> Result<(), Fail> {
     for ticks in 0..200u32 {

@@ -60,7 +60,7 @@ fn known_sizes(rt: HostRuntime) {
     assert_eq!(rt; size_of(4), None);
 }
 
-// What the rules say of these bytes.
+// Returns what the rules say of these bytes.
 fn judged<R: LineRules>(bytes: &[u8]) -> (u16, bool, bool, Head, u16) {
     let mut rules = R::fresh();
     rules.restart();
@@ -97,13 +97,13 @@ fn judged_bytes(rt: HostRuntime) {
         (292, true, false, Head::Bad, 0)
     );
 
-    // LEN bounds the room of bytes that are no header
+    // LEN bounds the room even of bytes that aren't a header
     assert_eq!(rt;
         judged::<Dnp>(&[0x06; 300]),
         (13, true, false, Head::Bad, 0)
     );
 
-    // nine bytes are no header yet
+    // nine bytes aren't a header yet
     assert_eq!(rt;
         judged::<Dnp>(b"\x05\x64\x05\xC0\x01\x00\x00\x04\xE9"),
         (9, false, false, Head::Short, 0)
@@ -127,7 +127,8 @@ fn largest_frame_cut_at_every_length(rt: HostRuntime) {
     assert_eq!(rt; (rules.head(), rules.lacking()), (Head::Good, 0));
 }
 
-// What is sent for a last byte after these bytes, where all are to be no frame.
+// Returns the byte that is sent for a last byte after these bytes, so that all of them together
+// aren't a frame.
 fn last_after<R: LineRules>(rules: &R, last: u8) -> u8 {
     let mut all = rules.fork();
     if !all.full() {
@@ -136,7 +137,8 @@ fn last_after<R: LineRules>(rules: &R, last: u8) -> u8 {
     if all.ends_right() { last ^ 1 } else { last }
 }
 
-// These bytes, and the zeros that are sent for what they lack, the last one spoiled.
+// Returns rules that have taken these bytes, and the zeros that are sent for those that they lack.
+// The last zero is spoiled if the ending would be right.
 fn filled<R: LineRules>(bytes: &[u8]) -> R {
     let mut rules = R::fresh();
     rules.take_some(bytes);
@@ -160,12 +162,13 @@ fn filled_frames_are_wrong(rt: HostRuntime) {
         assert!(rt; rules.full() && !rules.good());
     }
 
-    // zeros alone would make the frame whole
+    // zeros only would make this a whole frame
     let rules = filled::<Dnp>(&ENDS_IN_ZEROS[..12]);
     assert!(rt; rules.full() && !rules.good());
 }
 
-// What leaves for this last byte after these bytes, where there is room for it.
+// Returns the byte that leaves for this last byte after these bytes, or `None` if there is no room
+// for it.
 fn spoiled_after<R: LineRules>(bytes: &[u8], last: u8) -> Option<u8> {
     let mut rules = R::fresh();
     rules.take_some(bytes);
@@ -188,7 +191,7 @@ fn spoiled_bytes(rt: HostRuntime) {
     assert_eq!(rt; spoiled_after::<Dnp>(&RESET_LINK, 0x00), None);
 }
 
-// A value keeps none of its bytes, of which there are up to 292.
+// A value doesn't keep its bytes, of which there are up to 292.
 #[test]
 fn small_values(rt: HostRuntime) {
     assert!(rt; mem::size_of::<Dnp>() <= 128);
@@ -200,7 +203,7 @@ const TO_OUTSTATION: Header = Header {
     source: 1024,
 };
 
-// The user data of the largest frame.
+// Returns the user data of the largest frame.
 fn most_user_data() -> [u8; 250] {
     let mut user = [0; 250];
     let mut next = 3u8;
@@ -262,7 +265,7 @@ fn user_data_of_frames(rt: HostRuntime) -> Result<(), Fail> {
     Ok(())
 }
 
-// Where these bytes are refused, or `None` where they are a frame.
+// Returns the place at which these bytes are refused, or `None` if they are a frame.
 fn refused_at(bytes: &[u8]) -> Option<u16> {
     match user_data(bytes) {
         Ok(_) => None,
@@ -294,13 +297,13 @@ fn refused_places(rt: HostRuntime) {
     assert_eq!(rt; refused_at(&wrong), Some(44));
 }
 
-// A byte of a run that looks random.
+// Returns a byte of a run that looks random.
 fn byte_at(seed: u32, place: u32) -> u8 {
     let mixed = (seed ^ place.wrapping_mul(0x9E37_79B9)).wrapping_mul(0x85EB_CA6B);
     (mixed >> 24) as u8
 }
 
-// What the rules say of bytes that come one by one, and of bytes that come in two runs.
+// Whether the rules say the same of bytes that come one by one, and of these bytes in two runs.
 fn same_in_runs<R: LineRules>(bytes: &[u8], cut: usize) -> bool
     requires { cut ≤ length bytes.now }
 {
@@ -319,7 +322,7 @@ fn same_in_runs<R: LineRules>(bytes: &[u8], cut: usize) -> bool
         && runs.head() == single.head()
 }
 
-// Frames, their like with a wrong byte, and what is longer than a frame, at every cut.
+// Frames, and frames with a wrong byte and one byte too many, cut at every place.
 #[test]
 fn runs_of_every_length(rt: HostRuntime) -> Result<(), Fail> {
     for len in 0..200u32 {

@@ -1,4 +1,5 @@
-//! Tests of the delay ring: ticks leave late by its length, and runs give what single ticks give.
+//! Tests of the delay ring: ticks leave late by the length of the ring, and runs give what single
+//! ticks give.
 use delay_ring::mark_runs::silence_in_front;
 use delay_ring::{DelayRing, MAX_DELAY, MAX_RUN};
 use yasir_ticks::Tick;
@@ -33,7 +34,8 @@ fn the_longest_and_the_shortest_delay(rt: HostRuntime) {
     assert_eq!(rt; ring.turn(Tick::Silent), Tick::Byte(7));
 }
 
-// How many of the ticks that leave next are all silent, or are all bytes, one looked at at a time.
+// Returns how many of the ticks that leave next are all silent, or are all bytes. It looks at one
+// tick at a time.
 fn front_by_peeks<const D: usize>(ring: &DelayRing<D>, silent: bool) -> usize {
     for place in 0..D {
         if (ring.peek(place) == Tick::Silent) != silent {
@@ -44,7 +46,7 @@ fn front_by_peeks<const D: usize>(ring: &DelayRing<D>, silent: bool) -> usize {
 }
 
 // Whether a ring that takes runs of these lengths, of bytes and of silence in turn, holds and lets
-// out what one does that takes them tick by tick.
+// out the same ticks as a ring that takes them tick by tick.
 fn takes_runs_as_ticks<const D: usize>(lengths: &[usize]) -> bool {
     if D == 0 || D > MAX_DELAY {
         return false;
@@ -96,7 +98,8 @@ fn runs_are_as_their_ticks(rt: HostRuntime) {
     assert!(rt; takes_runs_as_ticks::<64>(&lengths));
 }
 
-// Whether the silence in front of this many marks, silent up to this place, ends there.
+// Whether, for each number of marks, the silence in front of them ends at this place, where the
+// only mark of a byte is.
 fn silence_ends_at(marks: &mut [u8; 71], place: usize) -> bool {
     if place >= 71 {
         return false;

@@ -17,8 +17,9 @@ type Sha256Hasher = BlockHasher<Sha256Value>;
 
 type Sha256Start = BlockStart<Sha256Value>;
 
-// HMAC-SHA-1 by Python's `hmac`: of the text whose byte i is 5 i + 1 (modulo 256), whole with 150
-// bytes and empty, under the first bytes of the key whose byte i is 7 i + 3.
+// HMAC-SHA-1, as Python's `hmac` computes it. A row has the length of a key and two MACs: that of
+// the 150 bytes whose byte i is 5 i + 1 (modulo 256), and that of the empty text. Byte i of a key
+// is 7 i + 3 (modulo 256).
 const CODES: [(usize, [u8; 20], [u8; 20]); 4] = [
     (
         0,
@@ -136,7 +137,7 @@ fn texts_cut_at_every_place(rt: HostRuntime) {
     }
 }
 
-// Checks the digest of a message in two pieces, cut at every so manieth place.
+// Checks the digest of a message that comes in two pieces, cut at each multiple of `every`.
 fn check_cuts<D: Digest<S, N>, S, const N: usize>(
     rt: &impl Abort,
     message: &[u8],
@@ -158,8 +159,8 @@ fn check_cuts<D: Digest<S, N>, S, const N: usize>(
     }
 }
 
-// The crates `sha1` and `sha2` are other bodies of the same hashes, whose blocks are scalar. Of a
-// piece of more than 256 bytes not all blocks wait: some are hashed from where they stand.
+// The crates `sha1` and `sha2` have other bodies of the same hashes, whose blocks are scalar. Of a
+// piece of more than 256 bytes not all blocks wait: some are hashed in place.
 #[test]
 fn digests_of_each_length_cut_at_every_place(rt: HostRuntime) {
     let text: [u8; 400] = bytes(11, 9);
@@ -178,7 +179,8 @@ fn wide_digests_of_each_length_cut_at_some_places(rt: HostRuntime) {
     }
 }
 
-// Appends a text in pieces of this many bytes, the last of which may be shorter, and empty ones.
+// Appends a text in pieces of this many bytes. The last of them may be shorter, and empty ones
+// follow.
 fn update_by<D: Digest<S, N>, S, const N: usize>(hasher: &mut D, text: &[u8], size: usize) {
     let mut rest = text;
     for _ in 0..text.len() {
@@ -188,8 +190,8 @@ fn update_by<D: Digest<S, N>, S, const N: usize>(hasher: &mut D, text: &[u8], si
     }
 }
 
-// Checks the digest of a message in pieces of each size, by one hasher, which begins each time with
-// what the first block leaves.
+// Checks the digest of a message that comes in pieces of each size. One hasher computes them all.
+// It begins each time with what the first block leaves.
 fn check_pieces<D: Digest<S, N> + Copy, S: Drop, const N: usize>(
     rt: &impl Abort,
     block: &[u8; 64],
