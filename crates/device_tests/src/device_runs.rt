@@ -1,4 +1,4 @@
-//! Runs of bytes and of silence against single ticks, at each cut of lines of each length.
+//! Runs of bytes and of silence compared with single ticks, at each cut of lines of each length.
 ghost use Rattle.std.specs.Prelude.{◌+◌, ◌<◌, ◌≤◌, length};
 
 use crate::devices::{Heard, copied};
@@ -8,14 +8,14 @@ use rtu_frame::{RtuBytes, close};
 use std::test::Fail;
 use yasir_ticks::Tick;
 
-// A byte of a run that looks random.
+// Returns a byte of a run that looks random.
 fn byte_at(seed: u32, place: u32) -> u8 {
     let mixed = (seed ^ place.wrapping_mul(0x9E37_79B9)).wrapping_mul(0x85EB_CA6B);
     (mixed >> 24) as u8
 }
 
-// What is read of some bytes, a pause, further bytes and silence, a tick at a time: the first
-// frame, and after how many ticks.
+// Returns what a device reads tick by tick of some bytes, a pause, more bytes and silence: the
+// first frame, if there is one, and how many ticks were taken up to it.
 fn by_ticks<D: Device + Drop>(first: &[u8], pause: usize, second: &[u8], rest: usize) -> Heard
     requires { length first.now + pause + length second.now + rest < 1000 }
 {
@@ -41,7 +41,7 @@ fn by_ticks<D: Device + Drop>(first: &[u8], pause: usize, second: &[u8], rest: u
     Heard { taken, frame: None }
 }
 
-// What a device hears of two pieces of bytes and the silence behind each, by runs.
+// Returns what a device hears by runs of two pieces of bytes and the silence after each.
 fn by_runs<D: Device + Drop>(first: &[u8], pause: usize, second: &[u8], rest: usize) -> Heard
     requires { length first.now + pause + length second.now + rest < 1000 }
 {
@@ -86,8 +86,7 @@ fn same<D: Device + Drop>(first: &[u8], pause: usize, second: &[u8], rest: usize
     }
 }
 
-// Frames of each length, and what is none by a pause of two ticks, by its last byte, or by a byte
-// too many.
+// Frames of each length, with a pause of 0 to 5 ticks at each place, and with 40 bytes more.
 #[test]
 fn bursts_of_every_length(rt: HostRuntime) -> Result<(), Fail> {
     for len in 0..255u32 {
@@ -106,8 +105,8 @@ fn bursts_of_every_length(rt: HostRuntime) -> Result<(), Fail> {
     Ok(())
 }
 
-// Frames of each length, behind bytes that are none and before others; whole, and with a byte that
-// is wrong.
+// Frames of each length, cut at each place: whole, with a wrong byte, and fronts of them after
+// bytes that aren't a frame.
 #[test]
 fn hunts_of_every_length(rt: HostRuntime) -> Result<(), Fail> {
     let header = Header {

@@ -56,7 +56,7 @@ pub fn frame_at(start: u64, lent: &[u8]) -> FrameAt
     FrameAt { start, bytes }
 }
 
-// What a device heard of some ticks, with a copy of the frame.
+// What a device heard of some ticks, with a copy of the frame that it read, if any.
 #[derive(Drop)]
 pub struct Heard {
     pub taken: usize,
@@ -76,7 +76,7 @@ pub fn copied<D: Device>(device: &D, met: Met) -> Heard
     }
 }
 
-// The frames that are read of a line, each with the tick in whose step it is read.
+// Returns the frames that are read of a line, each with the tick in which it is read.
 fn readings<D: Device + Drop>(
     alloc: Global,
     line: &[Tick],
@@ -116,7 +116,7 @@ pub const LONGEST_HEADER: &[u8] = b"\x05\x64\xFF\xC4\x01\x00\x00\x04\x27\x27";
 
 #[test]
 fn exchange(rt: HostRuntime) -> Result<(), Fail> {
-    // a frame, one with a wrong check, and the least frame with one silent tick inside
+    // a frame, one with a wrong CRC, and the shortest frame with one silent tick inside
     let parts = [
         Bytes(QUERY),
         Silence(4),
@@ -142,7 +142,7 @@ fn exchange(rt: HostRuntime) -> Result<(), Fail> {
 fn lone_bursts(rt: HostRuntime) -> Result<(), Fail> {
     let alloc = rt.alloc();
 
-    // the longest frame, and one byte more with a right check
+    // the longest frame, and one byte more with a right CRC
     let longest = [Bytes(&[0; 254]), Bytes(b"\x55\x4E"), Silence(4)];
     assert_eq!(rt; readings_of::<RtuDevice>(alloc, &longest)?.len(), 1);
     let longer = [Bytes(&[0; 255]), Bytes(b"\x8E\x3F"), Silence(4)];
@@ -167,7 +167,7 @@ fn lone_bursts(rt: HostRuntime) -> Result<(), Fail> {
 fn hunts(rt: HostRuntime) -> Result<(), Fail> {
     let alloc = rt.alloc();
 
-    // a first byte without its second, and silence inside a frame
+    // a byte 05 without a byte 64 after it, and silence inside a frame
     let behind = [
         Bytes(b"\xFF\x05\x05\x64\x05"),
         Silence(30),
@@ -179,7 +179,7 @@ fn hunts(rt: HostRuntime) -> Result<(), Fail> {
     assert_eq!(rt; (*at, frame.start), (41, 2));
     assert_eq!(rt; frame.bytes.as_slice(), RESET_LINK);
 
-    // a frame that was refused and filled, and one behind it
+    // a frame that was refused and filled, and one after it
     let filled = [
         Silence(18),
         Bytes(LONGEST_HEADER),
@@ -193,13 +193,13 @@ fn hunts(rt: HostRuntime) -> Result<(), Fail> {
     let (at, frame) = &read[0];
     assert_eq!(rt; (*at, frame.start), (337, 328));
 
-    // one byte less, and the device waits for it
+    // with one byte fewer the device waits for that byte
     let cut = [Bytes(LONGEST_HEADER), Bytes(&[0; 281]), Bytes(RESET_LINK)];
     assert_eq!(rt; readings_of::<DnpDevice>(alloc, &cut)?.len(), 0);
     Ok(())
 }
 
-// What such a device hears of silence, a frame and silence again, run by run.
+// Returns what a device hears of silence, a frame and silence again, run by run.
 fn runs<D: Device + Drop>(frame: &[u8]) -> [Heard; 3]
     requires { length frame.now < 1000 }
 {

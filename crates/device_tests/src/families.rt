@@ -14,7 +14,7 @@ use yasir_ticks::Tick;
 
 const LEAST: &[u8] = b"\x01\x03\x40\x21";
 
-// A frame that is read, and the tick in whose step it is read.
+// The tick in which a frame is read, and the frame.
 type Reading = (usize, FrameAt);
 
 fn rtu_readings(
@@ -51,7 +51,8 @@ fn dnp_readings(
     Ok(read)
 }
 
-// The frames that are to be read: the tick in whose step, that of the first byte, and the bytes.
+// The frames that must be read. For each it has the tick in which it is read, the tick of its first
+// byte, and its bytes.
 type Want = &'static [(usize, u64, &'static [u8])];
 
 fn are_read(read: &[Reading], want: Want) -> bool {
@@ -71,11 +72,12 @@ fn short_line(alloc: Global, parts: &[Part]) -> Result<Vec<Tick>, Fail>
     Ok(line)
 }
 
-// A Modbus RTU device by its cut and its gap, and what it is to read.
+// A Modbus RTU device by its cut and its gap, and what it must read.
 #[derive(Clone, Copy)]
 struct Rtu(u8, u8, Want);
 
-// The first of these members that reads something else of the line.
+// Returns the first of these members that reads something else of the line, or `None` if there is
+// none.
 fn rtu_miss(alloc: Global, parts: &[Part], members: &[Rtu]) -> Result<Option<(u8, u8)>, Fail> {
     let line = short_line(alloc, parts)?;
     for Rtu(cut, gap, want) in members {
@@ -90,11 +92,12 @@ fn rtu_miss(alloc: Global, parts: &[Part], members: &[Rtu]) -> Result<Option<(u8
     Ok(None)
 }
 
-// A DNP3 device by its cut, and what it is to read.
+// A DNP3 device by its cut, and what it must read.
 #[derive(Clone, Copy)]
 struct Dnp3(u8, Want);
 
-// The first of these members that reads something else of the line.
+// Returns the first of these members that reads something else of the line, or `None` if there is
+// none.
 fn dnp_miss(alloc: Global, parts: &[Part], members: &[Dnp3]) -> Result<Option<u8>, Fail> {
     let line = short_line(alloc, parts)?;
     for Dnp3(cut, want) in members {
@@ -141,7 +144,7 @@ fn rtu_members_behind_a_receiver(rt: HostRuntime) -> Result<(), Fail> {
 
 #[test]
 fn rtu_members_in_an_exchange(rt: HostRuntime) -> Result<(), Fail> {
-    // a frame, one with a wrong check, and the least frame with one silent tick inside
+    // a frame, one with a wrong CRC, and the shortest frame with one silent tick inside
     let exchange = [
         Bytes(QUERY),
         Silence(4),
@@ -168,7 +171,7 @@ fn rtu_members_in_an_exchange(rt: HostRuntime) -> Result<(), Fail> {
     Ok(())
 }
 
-// The query with so much silence after its third byte, and silence behind it.
+// Returns the query with this much silence after its third byte, and silence after its end.
 fn parted(silence: usize) -> [Part; 4] {
     [
         Bytes(b"\x01\x03\x00"),
@@ -196,7 +199,8 @@ fn rtu_members_at_their_gap(rt: HostRuntime) -> Result<(), Fail> {
 
 #[test]
 fn rtu_members_behind_noise(rt: HostRuntime) -> Result<(), Fail> {
-    // a byte of noise, and so much silence before the query that it ends a burst, or too little
+    // a byte of noise, and then either too little silence before the query to end a burst, or
+    // enough
     let alloc = rt.alloc();
     let short = [Bytes(b"\x00"), Silence(17), Bytes(QUERY), Silence(18)];
     let members = [
@@ -225,7 +229,7 @@ fn longest_frame_for_a_member(rt: HostRuntime) -> Result<(), Fail> {
     let (at, frame) = &read[0];
     assert_eq!(rt; (*at, frame.bytes.len()), (273, 256));
 
-    // one byte more, with a right check
+    // one byte more, with a right CRC
     let longer = [Bytes(&[0; 255]), Bytes(b"\x8E\x3F"), Silence(18)];
     assert_eq!(rt;
         rtu_miss(alloc, &longer, &[Rtu(2, 1, &[]), Rtu(18, 17, &[])])?,
@@ -234,7 +238,7 @@ fn longest_frame_for_a_member(rt: HostRuntime) -> Result<(), Fail> {
     Ok(())
 }
 
-// Behind a receiver, a frame that was refused and filled, and one that passed.
+// The line behind a receiver: a frame that was refused and filled, and one that passed.
 #[test]
 fn dnp_members_behind_a_fill(rt: HostRuntime) -> Result<(), Fail> {
     let filled = [
@@ -271,12 +275,12 @@ fn dnp_members(rt: HostRuntime) -> Result<(), Fail> {
     ];
     assert_eq!(rt; dnp_miss(alloc, &silent, &members)?, None);
 
-    // a frame that is broken off, and another one behind it
+    // a frame that is broken off, and another one after it
     let broken = [Bytes(LONGEST_HEADER), Silence(2), Bytes(RESET_LINK)];
     let members = [Dnp3(0, &[]), Dnp3(2, &[(21, 12, RESET_LINK)]), Dnp3(3, &[])];
     assert_eq!(rt; dnp_miss(alloc, &broken, &members)?, None);
 
-    // one that begins inside bytes that are taken for a header
+    // a frame that begins inside bytes that are taken for a header
     let inside = [Bytes(b"\x05\x64\x05"), Bytes(RESET_LINK)];
     let members = [Dnp3(0, &[]), Dnp3(2, &[])];
     assert_eq!(rt; dnp_miss(alloc, &inside, &members)?, None);

@@ -7,7 +7,7 @@ use yasir_ticks::Tick;
 
 const QUERY: &[u8] = b"\x01\x03\x00\x00\x00\x0A\xC5\xCD";
 
-// The reset, and a byte behind it.
+// The reset, and a byte after it.
 const RESET: &[u8] = b"\x05\x64\x05\xC0\x01\x00\x00\x04\xE9\x21\x00";
 
 fn met(taken: usize, start: Option<u64>) -> Met {

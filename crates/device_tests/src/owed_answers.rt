@@ -1,4 +1,4 @@
-//! Tests of a spacer that owes its answers: a line that is heard in pieces, and answered behind them.
+//! Tests of a spacer that owes its answers: a line is heard in pieces, and answered after them.
 ghost use Rattle.std.specs.Prelude.{◌≡◌, ◌<◌, ◌≤◌, ◌+◌, length, IfOk, OnOk};
 ghost use Rattle.yasir_ticks.specs.TickRun.{run_ticks};
 ghost use Rattle.yasir_ticks.specs.declared.TheConstants.{MAX_TICKS};
@@ -14,16 +14,16 @@ use std::process::Abort;
 use std::test::Fail;
 use yasir_ticks::{Tick, TickRun};
 
-// How a line is heard: in pieces of so many ticks at most, and what is owed is given once it is so
-// many, or a frame is read that isn't queued.
+// How a line is heard: in pieces of at most `heard` ticks. What is owed is given when it is at
+// least `owed` ticks, or when a frame is read that isn't queued.
 #[derive(Clone, Copy)]
 struct Pieces {
     heard: usize,
     owed: usize,
 }
 
-// How many ticks are owed, the other line so far, of each frame that is lost the step and the tick
-// of its first byte, and how many calls gave them.
+// How many ticks are owed, the other line so far, for each frame that is lost the step in which it
+// is lost and the tick of its first byte, and how many calls gave the other line.
 #[derive(Drop)]
 struct Given {
     owed: usize,
@@ -63,7 +63,7 @@ fn give_all<B: Spaces>(
     Ok(())
 }
 
-// Hears the first of these ticks, and says how many.
+// Hears the first of these ticks, and returns how many it heard.
 fn hear_piece<B: Spaces>(
     spacer: &mut B,
     run: TickRun<'_>,
@@ -114,7 +114,7 @@ fn run_of(part: &Part) -> TickRun<'static> {
     }
 }
 
-// Hears this line, and gives what is still owed at its end.
+// Hears this line, and then gives what is still owed.
 fn hear_line<B: Spaces>(
     alloc: Global,
     spacer: &mut B,
@@ -137,7 +137,8 @@ fn hear_line<B: Spaces>(
     Ok(given)
 }
 
-// One spacer hears this line in pieces, and a second one takes it tick by tick.
+// Checks that a spacer that hears this line in pieces gives what another one gives that takes it
+// tick by tick, and that this is what the row says.
 fn both_ways<B: Spaces>(
     rt: &impl Abort,
     alloc: Global,
@@ -162,8 +163,9 @@ fn both_ways<B: Spaces>(
     Ok(())
 }
 
-// Five resets, where two may wait. The fourth one is read in tick 39, where the second and the third
-// wait, and is lost. The second one begins in tick 41, so there is room for the fifth, read in 49.
+// Five resets to a spacer in which two may wait. The fourth one is read in tick 39, in which the
+// second and the third wait, so it is lost. The second one begins to leave in tick 41, so there is
+// room for the fifth, which is read in tick 49.
 const FIVE_RESETS: Row = Row {
     line: &[
         Bytes(RESET_LINK),
@@ -199,7 +201,7 @@ fn rows_agree(rt: &impl Abort, alloc: Global, pieces: Pieces) -> Result<(), Fail
     both_ways(rt, alloc, (&mut narrow, &mut other), &FIVE_RESETS, pieces)
 }
 
-// However a line is heard and answered, the other line is that of single ticks.
+// However a line is heard and answered, the other line is the one that single ticks give.
 #[test]
 fn answers_are_those_of_ticks(rt: HostRuntime) -> Result<(), Fail> {
     for heard in [1, 3, 7, 16, 1000] {
@@ -210,7 +212,7 @@ fn answers_are_those_of_ticks(rt: HostRuntime) -> Result<(), Fail> {
     Ok(())
 }
 
-// A reset isn't queued, since nothing leaves while it is read. It is the next to leave.
+// A reset isn't queued, since nothing else leaves while it is read. It is the next to leave.
 fn first_reset<B: Spaces>(rt: &impl Abort, alloc: Global, spacer: &mut B) -> Result<Given, Fail>
     requires { B.taken spacer.old ≡ 0 }
     ensures { OnOk result (B.taken spacer.new ≤ 10) }
@@ -225,7 +227,8 @@ fn first_reset<B: Spaces>(rt: &impl Abort, alloc: Global, spacer: &mut B) -> Res
     Ok(given)
 }
 
-// Whether a reset is queued that comes behind a first one and so much silence, and the other line.
+// Returns whether a reset is queued that comes `silence + 1` silent ticks after a first one, and
+// the other line.
 fn second_reset<B: Spaces>(
     rt: &impl Abort,
     alloc: Global,
@@ -248,8 +251,8 @@ fn second_reset<B: Spaces>(
     Ok((queued, given.ticks))
 }
 
-// The second reset of a line, behind so many silent ticks and one more: whether it is queued, how many
-// silent ticks leave before it, and how many behind it.
+// Checks a reset that comes `silence + 1` silent ticks after a first one: whether it is queued, how
+// many silent ticks leave before it, and how many after it.
 fn resets_leave(
     rt: &impl Abort,
     alloc: Global,
@@ -273,9 +276,10 @@ fn resets_leave(
     Ok(())
 }
 
-// A frame is queued before the ticks are answered in which it is read, where another one and its gap
-// leave in all of them: 31 ticks are owed behind 21 silent ones, and 32 behind 22. As many ticks
-// leave as come: those between the resets, 20 of the resets, and 40 behind them.
+// A frame is queued before the ticks in which it is read are answered, if another frame and its gap
+// leave in all of these ticks. That frame and its gap have 31 ticks. After 21 silent ticks 31 are
+// owed, and after 22 silent ticks 32. As many ticks leave as come: those between the resets, 20 of
+// the resets, and 40 after them.
 #[test]
 fn frames_are_queued(rt: HostRuntime) -> Result<(), Fail> {
     let alloc = rt.alloc();
@@ -301,8 +305,9 @@ fn a_frame_without_room_is_not_queued(rt: HostRuntime) -> Result<(), Fail> {
     Ok(())
 }
 
-// The longest frame of Modbus RTU, heard twice in lines of 32 bytes. All that is owed up to the tick
-// in which the first one is read is given at once, and so is all of it, while the second one is heard.
+// The longest frame of Modbus RTU, heard twice in lines of 32 bytes. All that is owed up to the
+// tick in which the first one is read is given in one call. So is the first one, after the second
+// one was heard.
 #[test]
 fn a_frame_leaves_at_once(rt: HostRuntime) -> Result<(), Fail> {
     let alloc = rt.alloc();

@@ -12,7 +12,7 @@ use std::test::Fail;
 use yasir_io::NoMemory;
 use yasir_ticks::{Tick, TickRun};
 
-// A device that hunts, to which 18 silent ticks end what it has taken.
+// A device that hunts, and that forgets what it has taken of a frame at 18 silent ticks in a row.
 #[derive(Drop)]
 struct ForgetfulDevice<R>(HuntingFamily<R>);
 
@@ -41,7 +41,8 @@ impl<R: Hunted> Device for ForgetfulDevice<R> {
     }
 }
 
-// A device that reads no frame, and lends how often it heard bytes, silence, and single ticks.
+// A device that reads no frame. In place of one it lends how often it was given bytes, silence, and
+// single ticks.
 #[derive(Drop)]
 struct Deaf {
     taken: u64,
@@ -93,7 +94,7 @@ impl Device for Deaf {
     }
 }
 
-// A spacer that hears as some device, so that one loop serves all of them.
+// A spacer of any device, so that one loop serves all of them.
 pub trait Spaces {
     ghost taken: { Self → ℕ };
 
@@ -197,7 +198,8 @@ pub fn line_of(alloc: Global, parts: &[Part]) -> Result<Vec<Tick>, AllocError> {
     Ok(line)
 }
 
-// The other line, and of each frame that is lost the step and the tick of its first byte.
+// The other line, and for each frame that is lost the step in which it is lost and the tick of its
+// first byte.
 pub type Answers = (Vec<Tick>, Vec<(usize, u64)>);
 
 pub fn answers<B: Spaces>(
@@ -247,7 +249,8 @@ fn space<B: Spaces>(rt: &impl Abort, alloc: Global, spacer: &mut B, row: &Row) -
     Ok(())
 }
 
-// Two resets without a gap: each is sent behind its last byte, the second 21 silent ticks later.
+// Two resets with no silence between them: the first is sent after its last byte, and the second
+// one 21 silent ticks after the first.
 pub const TWO_RESETS: Row = Row {
     line: &[Bytes(RESET_LINK), Bytes(RESET_LINK), Silence(40)],
     leaves: &[
@@ -260,7 +263,8 @@ pub const TWO_RESETS: Row = Row {
     lost: &[],
 };
 
-// Two queries that four silent ticks part: each is sent behind the tick that ends it.
+// Two queries that four silent ticks part: the first is sent after the tick that ends it, and the
+// second one 21 silent ticks after the first.
 pub const TWO_QUERIES: Row = Row {
     line: &[Bytes(READ_TEN), Silence(4), Bytes(READ_ONE), Silence(40)],
     leaves: &[
@@ -273,7 +277,8 @@ pub const TWO_QUERIES: Row = Row {
     lost: &[],
 };
 
-// Three resets, where one may wait: the third is lost in the step in which it is read.
+// Three resets to a spacer in which one may wait: the third is lost in the step in which it is
+// read.
 const THREE_RESETS: Row = Row {
     line: &[
         Bytes(RESET_LINK),
@@ -291,7 +296,7 @@ const THREE_RESETS: Row = Row {
     lost: &[(29, 20)],
 };
 
-// A reset with 17 silent ticks in it, and one with 18, which is none to the forgetful device.
+// A reset with 17 silent ticks in it, and one with 18, which the forgetful device doesn't read.
 const PARTED_RESETS: Row = Row {
     line: &[
         Bytes(b"\x05\x64\x05"),
@@ -321,7 +326,7 @@ fn frames_are_spaced(rt: HostRuntime) -> Result<(), Fail> {
     Ok(())
 }
 
-// A frame waits from the step in which it is read, and not any more once its first byte is sent.
+// A frame waits from the step in which it is read until its first byte is sent.
 #[test]
 fn frames_wait(rt: HostRuntime) -> Result<(), Fail> {
     let alloc = rt.alloc();
@@ -338,7 +343,7 @@ fn frames_wait(rt: HostRuntime) -> Result<(), Fail> {
     Ok(())
 }
 
-// What leaves in a run is added to the other line.
+// Adds what leaves in a run to the other line.
 pub fn add_run(line: &mut Vec<Tick>, run: &SpaceRun, sent: &[u8]) -> Result<(), AllocError> {
     if sent.is_empty() {
         return add_part(line, &Silence(run.taken));
@@ -349,7 +354,7 @@ pub fn add_run(line: &mut Vec<Tick>, run: &SpaceRun, sent: &[u8]) -> Result<(), 
     Ok(())
 }
 
-// Adds the other line by runs, and returns how many runs it took.
+// Takes this run, adds what leaves to the other line, and returns how many calls that took.
 fn take_all<B: Spaces>(
     spacer: &mut B,
     run: TickRun<'_>,
@@ -370,13 +375,13 @@ fn take_all<B: Spaces>(
     Ok(runs)
 }
 
-// Two resets, as they come in one run.
+// Two resets that come in one run.
 const RESETS: &[u8] =
     b"\x05\x64\x05\xC0\x01\x00\x00\x04\xE9\x21\x05\x64\x05\xC0\x01\x00\x00\x04\xE9\x21";
 
 // The first reset is heard in one run, whose last byte ends it. Then it leaves in one run, at whose
-// end the second one is read. Of the silence 21 ticks pass in a run; then the second one leaves in
-// one, and what is left of the silence passes in one.
+// end the second one is read. After that 21 ticks of the silence pass in one run, the second reset
+// leaves in one, and what is left of the silence passes in one.
 fn take_resets<B: Spaces>(rt: &impl Abort, alloc: Global, spacer: &mut B) -> Result<(), Fail>
     requires { B.taken spacer.old ≡ 0 }
 {
@@ -389,7 +394,7 @@ fn take_resets<B: Spaces>(rt: &impl Abort, alloc: Global, spacer: &mut B) -> Res
     Ok(())
 }
 
-// Runs cost few calls of the spacer, also where the device goes through them tick by tick.
+// Runs cost few calls of the spacer, even if the device goes through them tick by tick.
 #[test]
 fn runs_are_taken_at_once(rt: HostRuntime) -> Result<(), Fail> {
     let alloc = rt.alloc();
@@ -399,7 +404,7 @@ fn runs_are_taken_at_once(rt: HostRuntime) -> Result<(), Fail> {
     take_resets(&rt, alloc, &mut forgetful)
 }
 
-// Silence where nothing waits is one run.
+// Silence is one run if nothing waits.
 #[test]
 fn silence_is_one_run(rt: HostRuntime) -> Result<(), Fail> {
     let alloc = rt.alloc();
@@ -410,7 +415,7 @@ fn silence_is_one_run(rt: HostRuntime) -> Result<(), Fail> {
     Ok(())
 }
 
-// Where nothing waits, a run is one call of the device.
+// If nothing waits, a run is one call of the device.
 #[test]
 fn a_run_is_one_call_of_the_device(rt: HostRuntime) -> Result<(), Fail> {
     let mut spacer = Spacer::<Deaf, 21>::new(rt.alloc(), 1)?;
@@ -421,7 +426,7 @@ fn a_run_is_one_call_of_the_device(rt: HostRuntime) -> Result<(), Fail> {
     Ok(())
 }
 
-// The bytes of a frame that is lost are lent.
+// The bytes of a lost frame are lent.
 #[test]
 fn a_lost_frame_is_lent(rt: HostRuntime) -> Result<(), Fail> {
     let mut spacer = Spacer::<DnpDevice, 21>::new(rt.alloc(), 0)?;
