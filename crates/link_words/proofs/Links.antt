@@ -1,4 +1,4 @@
--- The links that the words name are links that a journal may serve.
+-- Each link that a protocol, a profile and a direction name is one that a journal may serve.
 use Rattle.hmac_tag.specs.declared.dir.Dir.{Dir, TheVariants.Ab, TheVariants.Ba}
 use Rattle.link_words.specs.Links.{link_of}
 use Rattle.link_words.specs.declared.words.Profile.{Profile, TheVariants.Y18, TheVariants.Y24}

@@ -1,4 +1,5 @@
--- Texts of a list by its items, as a match on a slice names these.
+-- If a list has three to six items and a match on a slice names them, the texts of the list are
+-- those of the named items, in order.
 use Rattle.std.proofs.Common.{◌≡◌, ℕ, ◌<◌, ◌≤◌, List, [], ◌∷◌, length, get_or, map, arith}
 
 module _ {X : Type 0} (f : X → List ℕ) where

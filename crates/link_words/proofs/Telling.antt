@@ -1,4 +1,4 @@
--- The words of links are told apart.
+-- A link's words name one protocol, one profile and one direction: each can be read back from them.
 use Rattle.hmac_tag.specs.declared.dir.Dir.{Dir, TheVariants.Ab, TheVariants.Ba}
 use Rattle.link_words.specs.Words.{dir_word, link_word}
 use Rattle.link_words.specs.declared.words.Profile.{Profile, TheVariants.Y18, TheVariants.Y24}
@@ -6,7 +6,7 @@ use Rattle.link_words.specs.declared.words.Proto.{Proto, TheVariants.Rtu, TheVar
 use Rattle.std.proofs.Common.{◌≡◌, ℕ, ◌+◌, ◌*◌, Bool, List, [], ◌∷◌, cond, nat_eq, refl}
 use Rattle.std.specs.Prelude.{codes}
 
--- A word as one number, so that two words are told apart by a test.
+-- a word as one number, so that a test can tell two words apart
 abbrev pub number_of : List ℕ → ℕ
 number_of [] = 0
 number_of (byte ∷ word) = byte + 256 * number_of word
