@@ -1,4 +1,4 @@
--- The answer to a table as a function is the answer as a relation.
+-- The answer to a table as a function (`answer`) satisfies the relation `IsAnswer`.
 use Rattle.std.proofs.Common.{◌≡◌, ℕ, ◌+◌, List, [], ◌∷◌, ◌++◌, length, Bool, Decides, true, false}
 use Rattle.std.proofs.Common.{not, refl, ap, sym, ◌∙◌, subst, append_assoc}
 use Rattle.std.proofs.lemmas.{Bool.false≢true, Iterator.Adapters.position_from-zero}
@@ -9,11 +9,11 @@ use Rattle.std.specs.Prelude.{Result, Option, Some, None, All}
 use Rattle.vectors.specs.Cases.{value_of, has_bytes, IsRight, is_right, IsAnswer, answer_at, answer}
 use Rattle.vectors.specs.declared.{case.Case.Case, table.Miss.Miss}
 
--- the answer to the cases from the n-th on
+-- the answer to the cases from number `n` on, counted from 0
 abbrev answer_from : ℕ → List Case → Result (Unit {0}) Miss
 answer_from n rest = answer_at (position_from (λ case. not (is_right case)) n rest)
 
--- where the cases before are right, the answer to the rest is the answer to all
+-- If all cases before these are right, the answer to these is the answer to all.
 AnswersOn : List Case → Type 0
 AnswersOn rest = (before : List Case) (n : ℕ) → n ≡ length before → All IsRight before
     → IsAnswer (before ++ rest) (answer_from n rest)

@@ -1,4 +1,5 @@
--- Bytes beyond a full room are no frame.
+-- If the first bytes of a text fill the room of a frame and more bytes follow, the text is no
+-- frame.
 use Rattle.line_rules.specs.{Rules.Rules, Rules.fills_room, RulesLaws.IsLawful, RulesLaws.IsFramed}
 use Rattle.std.proofs.Common.{◌≡◌, ℕ, ◌<◌, ◌≤◌, true, false, List, [], ◌∷◌, ◌++◌, length, take}
 use Rattle.std.proofs.Common.{drop, arith, sym, ◌∙◌, ap, append_assoc, append-nil, length-append}
@@ -6,7 +7,7 @@ use Rattle.std.proofs.lemmas.Bool.{false_from_ne_true, eqb-true}
 use Rattle.std.proofs.lemmas.List.{take-append-drop, length-take-le}
 
 module _ (rules : Rules) (lawful : IsLawful rules) (framed : IsFramed rules) where
-  -- a full room stays as it is
+  -- If the bytes fill the room, more bytes don't change how large the room is.
   full_stays : (rest x : List ℕ) → rules.room x ≤ length x → rules.room (x ++ rest) ≡ rules.room x
   full_stays [] x full = ap rules.room (append-nil x)
   full_stays (b ∷ rest) x full =

@@ -1,4 +1,4 @@
--- The definitions, computed at the tables: every case is right.
+-- Every case of the tables is right: the definitions are computed at each of them.
 use Rattle.dnp_link_frame.specs.Beginnings.{user_in_blocks}
 use Rattle.rtu_frame.specs.Crc.{bit_step, bit_steps, byte_step, crc}
 use Rattle.rtu_frame.specs.Frame.{is_frame, has_right_ending}

@@ -1,4 +1,4 @@
--- `user_of` is the user data of which bytes are the frame.
+-- `user_of` is the user data that a frame carries, and there is none if the text is no frame.
 use Rattle.dnp_link_frame.proofs.FrameLaws.{is_frame-frame, frame-is_frame}
 use Rattle.dnp_link_frame.proofs.FrameParts.{length-frame_of, user_in-frame_of}
 use Rattle.dnp_link_frame.specs.{Beginnings.user_in, Blocks.is_frame, Frame.IsFrame}
@@ -20,7 +20,7 @@ user_of-none text bytes none =
     cond-false (is_frame text) (Some (user_in text)) None
     (false_from_ne_true (is_frame text) (λ yes. none (is_frame-frame text bytes yes)))
 
--- a frame is longer than its user data
+-- A frame has at least as many bytes as its user data.
 pub user_data-within : (header : Header) (user text : List ℕ) → IsFrameOf header user text
     → length user ≤ length text
 user_data-within header user text of =

@@ -48,6 +48,7 @@ value_by RtuFrame key text = Some (truth (is_frame text))
 value_by DnpFrame key text = Some (truth (dnp.is_frame text))
 value_by DnpUser key text = user_of text
 
+-- the value that the definitions give for a case, if there is one
 abbrev pub value_of : Case → Option (List ℕ)
 value_of case = value_by case.kind case.key.items case.text.items
 
@@ -80,6 +81,8 @@ abbrev pub IsAnswer : List Case → Result (Unit {0}) Miss → Type 0
 IsAnswer cases result = MatchResult result (λ _. All IsRight cases)
     (λ miss. IsFirstMiss cases miss.row)
 
+-- the answer to a table, by how many cases come before the first one that isn't right, or `None` if
+-- all are right
 abbrev pub answer_at : Option ℕ → Result (Unit {0}) Miss
 answer_at None = Ok tt
 answer_at (Some before) = Err (record { row = before + 1 })

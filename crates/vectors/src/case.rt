@@ -38,9 +38,13 @@ pub type CaseBytes = ArrayVec<u8, 80>;
 /// A known answer: the value that is wanted for a key and a text.
 #[derive(Debug, Drop)]
 pub struct Case {
+    /// What is computed.
     pub kind: CaseKind,
+    /// The key of an HMAC. Other kinds don't use it.
     pub key: CaseBytes,
+    /// The text for which the value is computed.
     pub text: CaseBytes,
+    /// The wanted value.
     pub want: CaseBytes,
 }
 
@@ -107,6 +111,7 @@ impl Case {
         }
     }
 
+    /// Whether the value that is computed is the wanted one.
     pub(crate) fn is_right(&self) -> bool
         ensures { result ≡ is_right self.now }
     {

@@ -8,6 +8,7 @@ use crate::{Case, CaseKind};
 /// The first row, counted from 1, whose value isn't the wanted one.
 #[derive(Clone, Copy, Debug, PartialEq, Eq)]
 pub struct Miss {
+    /// The row, counted from 1.
     pub row: u32,
 }
 
