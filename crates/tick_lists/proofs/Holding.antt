@@ -1,4 +1,4 @@
--- The lists hold the parts of the items so far, and of one item more.
+-- If the lists hold the parts of some items and take one more item, they hold the parts of all.
 use Rattle.std.proofs.Common.{◌≡◌, ◌∙◌, ℕ, zero, suc, ◌<◌, List, [], ◌∷◌, ◌++◌, length, take, Ok}
 use Rattle.std.proofs.Common.{Err, refl, sym, ap, arith}
 use Rattle.tick_drive.{proofs.Moving.gives_items, specs.Consumers.Gives}
@@ -12,7 +12,8 @@ use Rattle.tick_lists.specs.declared.tick_lists.{Place.Place, TickLists.TickList
 use Rattle.yasir_ticks.specs.Ticks.{Item, marks_in, Item.tick, Item.mark}
 use Rattle.yasir_ticks.specs.declared.tick.Tick.{Tick}
 
--- a list with one tick more, by how many marks there were
+-- If the first list is part 0 of some items, then after one tick more it is part 0 of these and the
+-- tick, however many marks came before the tick.
 first-with : (m : ℕ) (items : List Item) (t : Tick) → marks_in items ≡ m
     → with_first (place_after m) t (part 0 items) ≡ part 0 (items ++ tick t ∷ [])
 first-with zero items t marks = sym (part-here 0 items t marks)
@@ -68,7 +69,7 @@ holds-mark lists p items is holds = record {
   place_is = is ∙ (ap place_behind holds.place_is ∙ ap place_after (sym (marks-mark items)));
 }
 
--- the first tick of a run was taken
+-- If the lists have taken the first tick of some items, they keep what they promise as a consumer.
 pub gives-first : (old new : TickLists) (t : Tick) (items rest : List Item)
     → items ≡ tick t ∷ rest → TakesTick old new t → GivesFirst listing old new items 1
 gives-first old new t items rest is takes = record {
@@ -85,7 +86,7 @@ gives-first old new t items rest is takes = record {
       });
 }
 
--- there was no memory for it
+-- If there was no memory for a tick, they keep what they promise of a consumer that stops.
 pub gives-none : (old new : TickLists) (items : List Item) → 0 < length items
     → Gives listing old new items (Err NoMemory)
 gives-none old new items some = record {

@@ -1,4 +1,4 @@
--- The parts of some items, with one item more.
+-- How the parts of some items change if one item more follows.
 use Rattle.std.proofs.Common.{◌≡◌, ℕ, zero, suc, List, [], ◌∷◌, ◌++◌, refl, ap, arith}
 use Rattle.tick_lists.specs.{Parts.part, Places.place_behind, Places.place_after}
 use Rattle.yasir_ticks.specs.Ticks.{Item, marks_in, Item.tick, Item.mark}
@@ -15,7 +15,7 @@ marks-mark [] = refl
 marks-mark (tick u ∷ items) = marks-mark items
 marks-mark (mark ∷ items) = ap suc (marks-mark items)
 
--- a tick goes to the part behind all marks
+-- A tick after `n` marks is added to part `n`.
 pub part-here : (n : ℕ) (items : List Item) (t : Tick) → marks_in items ≡ n
     → part n (items ++ tick t ∷ []) ≡ part n items ++ t ∷ []
 part-here zero [] t marks = refl
@@ -25,7 +25,7 @@ part-here (suc n) (tick u ∷ items) t marks = part-here (suc n) items t marks
 part-here zero (mark ∷ items) t marks = cc
 part-here (suc n) (mark ∷ items) t marks = part-here n items t (omega arith)
 
--- and to no other one
+-- A tick changes no part whose number isn't that of the marks before it.
 pub part-there : (n : ℕ) (items : List Item) (t : Tick) → (marks_in items ≡ n → ⊥)
     → part n (items ++ tick t ∷ []) ≡ part n items
 part-there zero [] t differ = absurd (differ refl)
@@ -35,7 +35,7 @@ part-there (suc n) (tick u ∷ items) t differ = part-there (suc n) items t diff
 part-there zero (mark ∷ items) t differ = refl
 part-there (suc n) (mark ∷ items) t differ = part-there n items t (λ same. differ (ap suc same))
 
--- a mark goes to none
+-- A mark changes no part.
 pub part-mark : (n : ℕ) (items : List Item) → part n (items ++ mark ∷ []) ≡ part n items
 part-mark zero [] = refl
 part-mark (suc n) [] = refl
@@ -44,7 +44,7 @@ part-mark (suc n) (tick u ∷ items) = part-mark (suc n) items
 part-mark zero (mark ∷ items) = refl
 part-mark (suc n) (mark ∷ items) = part-mark n items
 
--- behind three marks and more a tick belongs to none of the lists
+-- After three marks or more a tick belongs to none of the lists.
 pub place-none : (k : ℕ) → place_after (suc (suc (suc k))) ≡ place.None
 place-none zero = refl
 place-none (suc k) = ap place_behind (place-none k)

@@ -33,6 +33,7 @@ pub record EndsBefore (marks : ℕ) (before now : Option (List ℕ)) (end : End)
   pub takes : Takes marks 0 before now items end
   pub other : end ≢ Whole
 
+-- what each result says of an input that must have exactly `marks` marks
 abbrev pub ListsTicks : ℕ → Option (List ℕ) → Option (List ℕ) → Result TickLists End → Type 0
 ListsTicks marks before now (Ok lists) = KeepsWhole marks before now lists
 ListsTicks marks before now (Err end) = EndsBefore marks before now end

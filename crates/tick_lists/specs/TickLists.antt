@@ -8,12 +8,15 @@ use Rattle.tick_lists.specs.declared.tick_lists.Place.{Place}
 use Rattle.tick_lists.specs.declared.tick_lists.Place.TheVariants as place
 use Rattle.tick_lists.specs.declared.tick_lists.TickLists.{TickLists}
 
+-- the ticks of the first list
 abbrev pub ticks_first : TickLists → List Tick
 ticks_first lists = lists.first.items
 
+-- the ticks of the second list
 abbrev pub ticks_second : TickLists → List Tick
 ticks_second lists = lists.second.items
 
+-- the ticks of the third list
 abbrev pub ticks_third : TickLists → List Tick
 ticks_third lists = lists.third.items
 
@@ -35,12 +38,14 @@ with_first place.Second t list = list
 with_first place.Third t list = list
 with_first place.None t list = list
 
+-- the second list after a tick: with that tick at its end if the tick belongs to it
 abbrev pub with_second : Place → Tick → List Tick → List Tick
 with_second place.First t list = list
 with_second place.Second t list = list ++ t ∷ []
 with_second place.Third t list = list
 with_second place.None t list = list
 
+-- the third list after a tick: with that tick at its end if the tick belongs to it
 abbrev pub with_third : Place → Tick → List Tick → List Tick
 with_third place.First t list = list
 with_third place.Second t list = list

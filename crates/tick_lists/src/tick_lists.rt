@@ -9,9 +9,13 @@ use yasir_ticks::{Tick, TickRun};
 /// Which recording the next tick belongs to. Ticks after the third mark belong to none.
 #[derive(Clone, Copy)]
 pub enum Place {
+    /// The first recording: no mark has come.
     First,
+    /// The second recording: one mark has come.
     Second,
+    /// The third recording: two marks have come.
     Third,
+    /// No recording that is kept: three marks or more have come.
     None,
 }
 
