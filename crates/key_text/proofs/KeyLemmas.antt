@@ -1,4 +1,4 @@
--- Key text by its digits and what comes after them.
+-- A key text, by its digits and what comes after them.
 use Rattle.std.proofs.Common.{◌≡◌, ℕ, zero, suc, ◌+◌, ◌-◌, ◌*◌, ◌/◌, ◌%◌, ◌<◌, ◌≤◌, ◌⊎◌, inl, inr}
 use Rattle.std.proofs.Common.{List, [], ◌∷◌, ◌++◌, length, length-append, take, drop, replicate}
 use Rattle.std.proofs.Common.{slice_index, true, false, Result, Ok, Err, refl, sym, ap, subst, ◌∙◌}
@@ -19,7 +19,7 @@ use Rattle.std.{proofs.lemmas.Slice.take-put_mid, specs.Char.is_ascii_hexdigit}
 pub hexdigit_same : (c : ℕ) → is_ascii_hexdigit c ≡ is_hex_digit c
 hexdigit_same c = grind arith
 
--- the room for the bytes of this many digits, before they are decoded
+-- the room for the bytes that these digits spell, before they are decoded
 abbrev pub room_of : List ℕ → List ℕ
 room_of digits = take (length digits / 2) (replicate 64 0)
 
@@ -32,7 +32,7 @@ room_for digits even few =
     length-take-le (length digits / 2) zeros (omega (arith, sixty_four)) in
     omega (arith, half)
 
--- what decodes into just its room
+-- If the digits are twice as many as the room has bytes, they are decoded into all of it.
 pub spelled : (digits out : List ℕ) (n : ℕ) (r : Result (Unit {0}) FromHexError)
     → AllPass is_hex_digit digits → length digits ≡ 2 * n
     → MatchResult (decode_sized digits n) (λ bytes. (r ≡ Ok tt) × (out ≡ bytes)) (λ e. r ≡ Err e)
@@ -42,7 +42,7 @@ spelled digits out n r pass len h =
     let said = rw (decode_sized-twice digits n len, key.1) at h in
     (said.0, key.1 ∙ ap Ok (sym said.1))
 
--- the bytes of an ending that are at the front
+-- If the first `n` bytes begin some ending, they are none, LF or CR, or CR LF.
 ending_cases : (n : ℕ) (rest : List ℕ) → n ≤ length rest → BeginsEnding (take n rest)
     → (n ≡ 0) ⊎ (((n ≡ 1) × ((slice_index rest 0 ≡ 10) ⊎ (slice_index rest 0 ≡ 13)))
     ⊎ ((n ≡ 2) × (slice_index rest 0 ≡ 13) × (slice_index rest 1 ≡ 10)))
@@ -79,7 +79,7 @@ cr_begun rest some cr alone = record {
   ];
 }
 
--- No digit stands first.
+-- Holds if the text doesn't begin with a digit.
 abbrev HasNoDigitFirst : List ℕ → Type 0
 HasNoDigitFirst [] = ⊤
 HasNoDigitFirst (b ∷ rest) = is_hex_digit b ≡ false
@@ -95,7 +95,7 @@ no_digit_first (suc count) (b ∷ text) le (inl e) =
     no_digit_first count text (omega arith) (inl (omega arith))
 no_digit_first (suc count) (b ∷ text) le (inr e) = no_digit_first count text (omega arith) (inr e)
 
--- where the count of a text's digits stops
+-- The count of a text's digits stops at 128, or at a place at which no digit follows.
 stops_at : (count : ℕ) (text : List ℕ) → count ≤ length text
     → (count ≡ length text) ⊎ ((count ≡ 128) ⊎ (is_hex_digit (slice_index text count) ≡ false))
     → (count ≡ 128) ⊎ HasNoDigitFirst (drop count text)
@@ -120,7 +120,7 @@ no_more_digits a ds [] pass l e none = cc
 no_more_digits a ds (b ∷ ending) pass l e none = let same : a ≡ b = cc in
     apart a b same (All-head is_digit_true a ds pass) none
 
--- A text has one front of digits that is followed by none, or is as long as may be.
+-- A text has only one front of digits that no digit follows or that has the most digits allowed.
 same_digits : (n : ℕ) (ds xs rest ending : List ℕ) → AllPass is_hex_digit ds
     → AllPass is_hex_digit xs → length xs ≤ n
     → HasNoDigitFirst ending → (length ds ≡ n) ⊎ HasNoDigitFirst rest → ds ++ rest ≡ xs ++ ending
@@ -143,7 +143,7 @@ same_digits (suc n) (a ∷ ds) (b ∷ xs) rest ending d x few quiet stops e =
     let front : ds ≡ xs = ih.0 in
     (cc, ih.1)
 
--- this many digits are a key's
+-- Holds if a key text may have this many digits, apart from the upper bound.
 abbrev pub IsKeySize : ℕ → Type 0
 IsKeySize n = (32 ≤ n) × (n % 2 ≡ 0)
 
@@ -167,7 +167,7 @@ key_text_of ds ending pass size few ends =
       },
     )
 
--- digits with this many more
+-- If `n` digits more make the size of a key, the digits begin some key text.
 begins_with_more : (ds : List ℕ) (n : ℕ) → AllPass is_hex_digit ds → IsKeySize (length ds + n)
     → length ds + n ≤ 128 → BeginsKey ds
 begins_with_more ds n pass size few =
@@ -191,7 +191,8 @@ digits_begin ds pass few = elim (cases_lt (length ds) 32) [
 
 module _ (ds rest : List ℕ) (pass : AllPass is_hex_digit ds) (few : length ds ≤ 128)
     (stops : (length ds ≡ 128) ⊎ HasNoDigitFirst rest) where
-  -- a key text whose front these digits are
+  -- If these digits and what follows them are a key text, the digits are a key's and the others are
+  -- an ending.
   parts : (back key : List ℕ) → (length ds ≡ 128) ⊎ HasNoDigitFirst back
       → IsKeyText (ds ++ back) key → IsKeySize (length ds) × IsKeyEnding back
   parts back key stops' h =
@@ -216,7 +217,8 @@ module _ (ds rest : List ℕ) (pass : AllPass is_hex_digit ds) (few : length ds 
   front_is m more = ap (λ l. l ++ more) (take-append-add ds rest m)
       ∙ append_assoc ds (take m rest) more
 
-  -- a longer front that begins a key text
+  -- If a front that is longer than the digits begins a key text, then the digits are a key's, and
+  -- what it has after them begins some ending.
   beyond : (m : ℕ) → 0 < m → m ≤ length rest → BeginsKey (take (length ds + m) (ds ++ rest))
       → IsKeySize (length ds) × BeginsEnding (take m rest)
   beyond m some le (more, key, h) =
@@ -233,7 +235,7 @@ module _ (ds rest : List ℕ) (pass : AllPass is_hex_digit ds) (few : length ds 
   whole_length : length (ds ++ rest) ≡ length ds + length rest
   whole_length = length-append ds rest
 
-  -- the digits are too few, or an odd count
+  -- If the digits are too few or their count is odd, the text is refused after them.
   place_of_digits : (IsKeySize (length ds) → ⊥) → IsKeyPlace (ds ++ rest) (length ds)
   place_of_digits other = record {
     within = omega (arith, whole_length);
@@ -248,7 +250,8 @@ module _ (ds rest : List ℕ) (pass : AllPass is_hex_digit ds) (few : length ds 
     ];
   }
 
-  -- the digits are a key's, and what comes after them is no ending
+  -- If the digits are a key's and the bytes that follow aren't an ending, the text is refused after
+  -- the longest front of those bytes that begins some ending.
   place_of_ending : (place : ℕ) → IsKeySize (length ds) → IsLongestFront BeginsEnding rest place
       → IsKeyPlace (ds ++ rest) (length ds + place)
   place_of_ending place size ending = record {
@@ -273,7 +276,7 @@ module _ (ds rest : List ℕ) (pass : AllPass is_hex_digit ds) (few : length ds 
     ];
   }
 
--- A text with this many digits at its front.
+-- A text that begins with `count` digits, at which the count of digits stops.
 module _ (count : ℕ) (text : List ℕ) (within : count ≤ length text) (few : count ≤ 128)
     (pass : AllPass is_hex_digit (take count text))
     (stops : (count ≡ length text) ⊎ ((count ≡ 128)
@@ -334,7 +337,7 @@ module _ (count : ℕ) (text : List ℕ) (within : count ≤ length text) (few :
         short = omega (arith, few, twice, digits_length);
       }
 
--- a read into the rest of a room whose front is taken already
+-- The front of a room whose first `len` bytes were taken before, and which then got `n` bytes more.
 read_on : (len n : ℕ) (bytes more : List ℕ) → n ≤ length more → len ≤ length bytes
     → take (len + n) (take len bytes ++ more) ≡ take len bytes ++ take n more
 read_on len n bytes more within fits =
@@ -347,7 +350,7 @@ pub prepend_known-twice : (known : Option (List ℕ)) (x y : List ℕ)
 prepend_known-twice None x y = refl
 prepend_known-twice (Some xs) x y = ap Some (sym (append_assoc x y xs))
 
--- the front of a room, after a read into the rest of it
+-- The front of a room after a read into the part of it that follows its first `len` bytes.
 pub front_read : (len n : ℕ) (bytes more : List ℕ) → length bytes ≡ 131 → length more ≡ 131 - len
     → len ≤ 131 → n ≤ length more
     → take (len + n) (put_mid len (131 - len) bytes more) ≡ take len bytes ++ take n more
@@ -358,7 +361,7 @@ front_read len n bytes more room rest within few =
     sym (take-take (len + n) (len + length more) (put_mid len (131 - len) bytes more) (omega arith))
     ∙ ap (take (len + n)) whole ∙ read_on len n bytes more few (omega arith)
 
--- this many bytes more were taken of a source
+-- If a source gave `len` bytes and then `n` more, it gave the first `len + n` bytes of the room.
 pub taken_more : (first before now : Option (List ℕ)) (len n : ℕ) (bytes more : List ℕ)
     → length bytes ≡ 131 → length more ≡ 131 - len → len ≤ 131 → n ≤ length more
     → first ≡ prepend_known (take len bytes) before → before ≡ prepend_known (take n more) now

@@ -30,9 +30,10 @@ const MAX_TEXT: usize = 131;
 /// What was read of a source.
 type KeyText = ArrayVec<u8, MAX_TEXT>;
 
-/// How many digits a key has at least, and at most (`MAX_DIGITS`).
+/// How many digits a key has at least.
 const MIN_DIGITS: usize = 32;
 
+/// How many digits a key has at most.
 const MAX_DIGITS: usize = 128;
 
 // Returns these bytes as a text.
