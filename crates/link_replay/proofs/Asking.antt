@@ -1,4 +1,4 @@
--- Words ask for one thing and no other.
+-- Words ask for at most one command.
 use Rattle.{hmac_tag.specs.declared.dir.Dir.Dir, link_replay.specs.Words.IsCommand}
 use Rattle.link_replay.specs.{Words.Asks, Words.AreFloors, declared.words.Command.Command}
 use Rattle.link_replay.specs.declared.words.Command.TheVariants.{Init, Read, Vectors, Seal, Check}
@@ -13,7 +13,7 @@ use Rattle.std.proofs.Common.{None, cond, nat_eq, refl, sym, ap, arith, subst, �
 use Rattle.std.proofs.{Common.inr, lemmas.Fmt.decimal_is_IsNumeral}
 use Rattle.std.specs.{Prelude.codes, Prelude.decimal, Str.Parse.digits_value}
 
--- the command whose first word this is, with the five words behind it
+-- the command that the first word names, by that word and the five words after it
 abbrev command_by : List ℕ → List ℕ → List ℕ → List ℕ → List ℕ → List ℕ → Command
 command_by verb first second third fourth fifth =
     cond (is_word (codes "init") verb)
@@ -52,7 +52,8 @@ command_in words = command_by (word_at 0 words) (word_at 1 words) (word_at 2 wor
 number-by : (n : ℕ) → n < 2 ^ 64 → digits_value 10 (decimal n) ≡ n
 number-by n within = (decimal_is_IsNumeral n within).1
 
--- what is asked of a box, by its words
+-- The protocol, the profile and the direction that are read back from their words give the same
+-- command.
 box-by : (asks : Proto → Profile → Dir → Command) (proto : Proto) (profile : Profile) (dir : Dir)
     → asks (proto_by (link_word proto profile)) (profile_by (link_word proto profile))
     (dir_by (dir_word dir)) ≡ asks proto profile dir
@@ -92,12 +93,12 @@ command-in words (Audit proto profile dir sent got) h =
       number-by got (omega (arith, h.3)),
     ) refl
 
--- a number is spelled in one way
+-- Two numbers that are spelled alike are equal.
 pub spelled-one : (m n : ℕ) → m < 2 ^ 64 → n < 2 ^ 64 → decimal m ≡ decimal n → m ≡ n
 spelled-one m n few_m few_n same =
     sym (number-by m few_m) ∙ ap (digits_value 10) same ∙ number-by n few_n
 
--- floors that words spell are numbers of frames
+-- The floors of an audit that words ask for are 0 or numbers of frames.
 pub asked-floors : (words : List (List ℕ)) (asked : Option Command) → Asks words asked
     → AreFloors asked
 asked-floors words None asks = tt
@@ -114,7 +115,7 @@ asked-floors words (Some (Duplex proto profile dir)) asks = tt
 asked-floors words (Some Help) asks = tt
 asked-floors words (Some Version) asks = tt
 
--- the words of a trial spell how many frames it has
+-- If the words ask for a trial, the number that the last word spells is from 1 to 10000.
 pub trial-counts : (first second seed count : List ℕ) (n : ℕ) (command : Command)
     → first ≡ codes "trial" → count ≡ decimal n → n < 2 ^ 32
     → IsCommand (first ∷ second ∷ seed ∷ count ∷ []) command → (1 ≤ n) × (n ≤ 10000)

@@ -1,4 +1,5 @@
--- The session of an audit's words, its verdict, and what an input that didn't end well leaves.
+-- The session that the words of an audit ask for, its verdict, and what is left if the input didn't
+-- end well.
 use Rattle.{box_command.specs.LinkBoxes.seal_rest, link_replay.specs.ReadCommand.device_reads}
 use Rattle.link_verdicts.specs.Checking.{passed}
 use Rattle.link_words.specs.Links.{rules_of, link_profile_of, delay_of}
@@ -67,7 +68,7 @@ verdict-is Dnp3 Y24 session label delay device link received =
 module _ (verdict_on_three : List Tick → List Tick → List Tick → Verdict)
     (text_of : List Item → List ℕ) (in_before in_now out_before out_now : Option (List ℕ))
     (same : out_now ≡ out_before) where
-  -- there was no memory
+  -- If the consumer stopped and nothing was printed, the status NoMemory says so.
   pub stopped-nothing : (end : End) (stop : Stop) → end ≡ Stopped stop
       → FindsNone verdict_on_three in_before in_now end
       → PrintsItems 2 0 text_of in_before in_now out_before out_now NoMemory
@@ -78,7 +79,8 @@ module _ (verdict_on_three : List Tick → List Tick → List Tick → Verdict)
   stopped-nothing (TooLong what count) other is none = cc
   stopped-nothing ReadFault other is none = cc
 
-  -- the input is refused
+  -- If the input didn't end well, the consumer didn't stop and nothing was printed, the status of
+  -- that end says so.
   pub nothing-printed : (end : End) → ((stop : Stop) → end ≡ Stopped stop → ⊥)
       → FindsNone verdict_on_three in_before in_now end
       → PrintsItems 2 0 text_of in_before in_now out_before out_now (status_of end)

@@ -1,5 +1,5 @@
--- What `duplex` does follows from what its boxes make of both recordings; and where all that it is
--- given is right, it gives `Done` or `NoMemory`.
+-- What `duplex` does follows from what its boxes make of both recordings. If all that it is given
+-- is right and nothing outside fails, the status is `Done` or `NoMemory`.
 use Rattle.hmac_tag.specs.declared.dir.Dir.{Dir}
 use Rattle.replay_status.specs.Causes.{ReadsCause, SinkCause, NoneRose}
 use Rattle.replay_status.specs.{Outside.Outside, declared.status.Status.Status}
@@ -50,11 +50,12 @@ module _ {K S O L D : Type 0} (k : Source K) (s : Source S) (o : Sink O) (l : Si
   duplex_done right calm status h reads sinks = keyed_done k s o l d before after 1 0 right calm _ _
       status (λ key. ends-as (duplex_texts proto profile dir key) status) h.texts reads sinks
 
--- ---- what becomes of both recordings
+-- ---- what the boxes make of both recordings
 
 module _ (texts : List Tick → List Tick → BothTexts) (in_before in_now : Option (List ℕ))
     (out_before out_now log_before log_now : Option (List ℕ)) where
-  -- they were printed
+  -- If both recordings were taken whole and their texts were printed with this status, the status
+  -- says so.
   pub prints-so : (recorded : Recorded) → RecordsWhole texts in_before in_now recorded
       → (status : Status)
       → ((held : BothTexts) → HoldsTexts recorded held
@@ -72,7 +73,7 @@ module _ (texts : List Tick → List Tick → BothTexts) (in_before in_now : Opt
   }
   prints-so recorded whole status prints = absurd (prints _ whole.holds)
 
-  -- the input ended otherwise, and nothing was written
+  -- If the input ended in any other way and nothing was written, the status of that end says so.
   pub ends-so : (end : End) → EndsOtherwise texts in_before in_now end → out_now ≡ out_before
       → log_now ≡ log_before
       → DuplexesWith texts in_before in_now out_before out_now log_before log_now (status_of end)

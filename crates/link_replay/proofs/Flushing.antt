@@ -1,5 +1,5 @@
--- A command that ends by a flush of both sinks, or by a write that failed: what it leaves of them,
--- and the causes of its status where neither key nor disk was reached.
+-- A command that ends with a flush of both sinks or with a write that failed: what it leaves in
+-- them, and which objects aren't among the causes of its status.
 use Rattle.{device_model.specs.Frames.FrameRead, device_replay.specs.PrintsFrames.PrintsFrames}
 use Rattle.line_texts.specs.Sending.{LineAndNotes, SinkTexts}
 use Rattle.link_replay.specs.Commands.{HasCauses, HasOwnCauses}
@@ -35,7 +35,7 @@ journal-made link old new may_old may_new status (inl done) made =
 journal-made link old new may_old may_new status (inr fault) made =
     subst (MakesJournal link old new may_old may_new) (sym fault) made
 
--- where neither key nor input was read, no cause is one of theirs
+-- If neither the key nor the input was read, neither is a cause of the status.
 pub reads-unread : (key input : ℕ) (status : Status) → (status ≡ Done) ⊎ (status ≡ WriteFault)
     → ReadsCause key key input input status
 reads-unread key input status (inl done) =
@@ -53,21 +53,22 @@ disk-same : (before now : ℕ) (status : Status) → (status ≡ Done) ⊎ (stat
 disk-same before now status (inl done) same = subst (DiskCause before now) (sym done) same
 disk-same before now status (inr fault) same = subst (DiskCause before now) (sym fault) same
 
--- the causes of a command's own where no input was read, and no call on the disk failed
+-- If no input was read and no call of the disk failed, neither is a cause of the status.
 pub own-unread : (input before now : ℕ) (status : Status)
     → (status ≡ Done) ⊎ (status ≡ WriteFault) → now ≡ before
     → InputCause input input status × DiskCause before now status
 own-unread input before now status ends same =
     (input-unread input status ends, disk-same before now status ends same)
 
--- a command that reads its input, and not its key
+-- If a command reads its input but not its key, of these two only the input can be a cause.
 reads-input : (key before now : ℕ) (status : Status) → InputCause before now status
     → ReadsCause key key before now status
 reads-input key before now ReadFault h = (inr h.0, omega arith, h.1)
 reads-input key before now WriteFault h = (refl, h)
 reads-input key before now status h = (refl, h)
 
--- the causes of a command that reads its input, and neither its key nor its disk
+-- The causes of the status of a command that reads its input but touches neither its key nor its
+-- disk.
 module _ {K S O L D : Type 0} (k : Source K) (s : Source S) (o : Sink O) (l : Sink L)
     (d : SlotDisk D) (asked : Command) (key : K) (in0 in1 : S) (out0 out1 : O) (log0 log1 : L)
     (disk : D) where
@@ -87,7 +88,7 @@ module _ {K S O L D : Type 0} (k : Source K) (s : Source S) (o : Sink O) (l : Si
     own = own;
   }
 
--- a command that prints frames has no cause of the disk
+-- If a command prints frames and doesn't touch the disk, the disk isn't a cause of its status.
 pub disk-of-frames : (reads : List Tick → List FrameRead)
     (left_before left_now out_before out_now : Option (List ℕ)) (disk : ℕ) (status : Status)
     → PrintsFrames reads left_before left_now out_before out_now status

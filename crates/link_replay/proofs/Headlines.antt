@@ -1,4 +1,5 @@
--- The headline: what the lines of two recordings say of one another, for both protocols.
+-- The headline: what holds between the lines that are printed for two recordings, for both
+-- protocols and profiles.
 use Rattle.box_command.specs.LinkBoxes.{seal_rest}
 use Rattle.device_model.specs.{DnpReads.dnp_reads, Frames.FrameRead, RtuReads.rtu_reads}
 use Rattle.dnp_link_frame.specs.{Rules.dnp_rules, RulesLaws.dnp_lawful, RulesLaws.dnp_framed}
@@ -38,12 +39,13 @@ dnp-law : (profile : LinkProfile) (line link : List Tick)
 dnp-law profile line link = reads-sealed dnp_rules dnp_lawful dnp_reads 0 profile
     (dnp_reads_what_passed profile) 0 0 line link
 
--- an input within the limits has numbers enough for all bursts before the mark
+-- An input within the limits has no more bursts before the mark than there are numbers.
 enough-numbers : (items : List Item) → AreFew items → length (bursts (before_mark items)) ≤ LIMIT
 enough-numbers items few =
     omega (arith, few, few-before items, few-bursts (before_mark items))
 
--- what is listed of both recordings, with a profile and a device
+-- what is listed of both recordings, for a profile, the rules of a protocol and what its device
+-- reads
 abbrev tells_listing : LinkProfile → Rules → (List Tick → List FrameRead) → List Item → Listing
 tells_listing profile rules reads items = record {
   sealed = sealed profile rules 0 (before_mark items ++ silent (device_rest profile));
@@ -51,7 +53,7 @@ tells_listing profile rules reads items = record {
   reads = reads (received_line profile rules 0 (link_ticks items));
 }
 
--- the lists of both protocols, with any profile whose delay is short enough
+-- What holds between the lists of each protocol, for any profile whose delay is short enough.
 module _ (profile : LinkProfile) (tags : HasTags profile) (some : 1 ≤ profile.word_len)
     (enough : delay profile + 4 ≤ 320) (limit : profile.limit ≡ LIMIT) (items : List Item)
     (few : AreFew items) where
@@ -97,7 +99,7 @@ headline-so proto profile dir in_before in_now out_before out_now Done key h = r
 }
 headline-so proto profile dir in_before in_now out_before out_now status key h = h
 
--- the same behind the key
+-- The headline for a run that reads the key first.
 module _ {K S O : Type 0} (k : Source K) (s : Source S) (o : Sink O) (proto : Proto)
     (profile : Profile) (dir : Dir) (key_before key_after : K) (in_before in_after : S)
     (out_before out_after : O) (Untouched : Type 0) where

@@ -1,5 +1,5 @@
--- A run that reads a key, and then a text with its marks: where both are right and nothing outside
--- fails, it gives `Done` or `NoMemory`.
+-- A run that reads a key, and then a text with its marks: if both are right and nothing outside
+-- fails, the status is `Done` or `NoMemory`.
 use Rattle.recordings_replay.specs.Keyed.{ReadsKeyFirst}
 use Rattle.std.proofs.Common.{◌≡◌, ◌⊎◌, ℕ, List, inl, inr, refl}
 use Rattle.std.specs.Prelude.{⊤}
@@ -17,7 +17,7 @@ use Rattle.replay_status.specs.declared.status.Status.TheVariants.{TooLong, BadK
 
 module _ {K S O L D : Type 0} (k : Source K) (s : Source S) (o : Sink O) (l : Sink L)
     (d : SlotDisk D) (before after : Outside K S O L D) (marks rest : ℕ) where
-  -- what a status says of the input alone, where one of these statuses comes once the key is read
+  -- what a status that comes after the key was read says of the input
   abbrev pub EndsAs : Status → Type 0
   EndsAs Done = ⊤
   EndsAs NoMemory = ⊤

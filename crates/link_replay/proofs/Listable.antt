@@ -1,5 +1,5 @@
--- A right key and a right text with its marks give `Done` or `NoMemory`, where nothing outside
--- fails.
+-- If a key and a text with its marks are right and nothing outside fails, the status of a run over
+-- recordings is `Done` or `NoMemory`.
 use Rattle.{box_command.specs.LinkBoxes.seal_rest, hmac_tag.specs.declared.dir.Dir.Dir}
 use Rattle.link_replay.proofs.KeyedRuns.{EndsAs, keyed_done}
 use Rattle.link_replay.specs.AuditCommand.{Audits, audited_line}
@@ -19,7 +19,8 @@ use Rattle.{yasir_io.specs.declared.source.Source.Ghosts as Source, yasir_ticks.
 
 module _ {K S O L D : Type 0} (k : Source K) (s : Source S) (o : Sink O) (l : Sink L)
     (d : SlotDisk D) where
-  -- a run of recordings that reads a key first
+  -- what each status says of a run that reads a key, and then prints a text for the items of its
+  -- input
   abbrev RunsOver : ℕ → ℕ → (List ℕ → List Item → List ℕ) → Outside K S O L D
       → Outside K S O L D → Status → Type 0
   RunsOver marks rest text_of before after status = ReadsKeyFirst k before.key after.key
@@ -54,7 +55,7 @@ module _ {K S O L D : Type 0} (k : Source K) (s : Source S) (o : Sink O) (l : Si
     over_done status h reads sinks = keyed_done k s o l d before after marks rest right calm _ _
         status (λ key. ends-as marks rest before after (text_of key) status) h reads sinks
 
-  -- what is printed of two recordings is their lines
+  -- `replay` prints the lines of its two recordings, and nothing else.
   replays-lines : (proto : Proto) (profile : Profile) (dir : Dir) (before after : Outside K S O L D)
       (status : Status) (key : List ℕ)
       → ReplaysWith proto profile dir (s.left before.input) (s.left after.input)

@@ -1,4 +1,5 @@
--- Right words, right input and no fault outside give `Done`, whatever the command is.
+-- If words ask for a command, all that it is given is right and nothing outside fails, it ends
+-- well: its status is `Done`, or for some commands `NoMemory`.
 use Rattle.box_command.proofs.Replayable.{replayable_done}
 use Rattle.box_command.specs.LinkBoxes.{seal_boxed, seal_rest, check_boxed, check_rest}
 use Rattle.{device_replay.proofs.Readable.readable_done, link_replay.proofs.Duplexed.duplex_done}
@@ -74,7 +75,7 @@ module _ {K S O L D : Type 0} (k : Source K) (s : Source S) (o : Sink O) (l : Si
   own-after (Some Help) before after noted status h = h
   own-after (Some Version) before after noted status h = h
 
-  -- the causes with a fault line that was written, or failed
+  -- The causes still hold after the fault line, whether it was written or its write failed.
   pub causes_after : (asked : Option Command) (before after : Outside K S O L D) (noted : L)
       (status : Status) → HasCauses k s o l d asked before (record after { log = noted }) status
       → l.faults noted ≤ l.faults after.log → (fault_line status ≡ [] → after.log ≡ noted)
@@ -92,7 +93,7 @@ module _ {K S O L D : Type 0} (k : Source K) (s : Source S) (o : Sink O) (l : Si
     own = own-after asked before after noted status h.own;
   }
 
-  -- no count had risen before the fault line
+  -- If no count of faults rose in a run, none had risen before the fault line was written.
   pub calm_before : (before after : Outside K S O L D) (noted : L)
       → l.faults noted ≤ l.faults after.log
       → IsCalm k s o l d before after → IsCalm k s o l d before (record after { log = noted })

@@ -8,7 +8,7 @@ use Rattle.link_replay.specs.declared.words.Command.TheVariants.{Duplex, Help, V
 use Rattle.std.proofs.Common.{◌≡◌, ℕ, List, Option, Some, None, refl, sym, ap}
 use Rattle.yasir_io.specs.declared.files.SlotFile.TheVariants.{Standing, New}
 
--- the word at the place that was found is the path
+-- If the place that was found for a path is that of the command, the word there is the path.
 pub word_in-path : (place : Command → Option ℕ) (words : List (List ℕ)) (asked : Option Command)
     (found : Option ℕ) → ((command : Command) → IsCommand words command → found ≡ place command)
     → (Asks words None → found ≡ None) → Asks words asked
@@ -17,14 +17,14 @@ word_in-path place words None found right none asks = ap (word_in words) (none a
 word_in-path place words (Some command) found right none asks =
     ap (word_in words) (right command asks)
 
--- `init` alone makes a file
+-- If the words ask for a new journal, the journal's file is expected to be new.
 pub kind-made : (words : List (List ℕ)) (asked : Option Command) → AskForJournal words
     → Asks words asked → New ≡ journal_kind asked
 kind-made words asked makes asks =
     sym (ap journal_kind
     (asks-one words asked (Some (Init makes.0 makes.1 makes.2)) asks makes.3))
 
--- and no other command does
+-- If the words don't ask for a new journal, the journal's file is expected to be there already.
 pub kind-kept : (words : List (List ℕ)) (asked : Option Command) → (AskForJournal words → ⊥)
     → Asks words asked → Standing ≡ journal_kind asked
 kind-kept words None other asks = refl

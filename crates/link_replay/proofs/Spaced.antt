@@ -1,4 +1,4 @@
--- What a whole run of `space` leaves: all accepted frames have left.
+-- What `space` leaves if it has taken all of its input: all accepted frames have left.
 use Rattle.dnp_link_frame.specs.{Rules.dnp_rules, RulesLaws.dnp_lawful, RulesLaws.dnp_framed}
 use Rattle.{line_spacer.specs.Spacing.accepted_of, line_texts.specs.Sending.SinkTexts}
 use Rattle.{line_texts.specs.Sending.sink_texts, link_replay.specs.ReadCommand.device_reads}
@@ -20,7 +20,7 @@ use Rattle.yasir_ticks.proofs.{TextTicks.text-ticks, TickRuns.ticks_in-run}
 use Rattle.yasir_ticks.specs.Ticks.{Item, ticks_in, silent, AreTicks}
 use Rattle.yasir_ticks.specs.declared.{tick.Tick.Tick, tick_run.TickRun.TheVariants.Silence}
 
--- the silence behind an input is long enough
+-- The silence that follows an input is long enough for all accepted frames to leave.
 all-leave : (proto : Proto) (profile : Profile) (line : List Tick) → AreTicks line
     → AllLeave (device_reads proto) (gap_of profile) most_waiting line space_rest
 all-leave Rtu Y18 line are = rtu-leave 4 2 21 64 line 21000 (omega arith)
@@ -61,7 +61,7 @@ module _ (proto : Proto) (profile : Profile) (in_before in_now : Option (List �
   whole-spaces Done h = record { items = h.items; takes = h.takes; sent = h.sent }
   whole-spaces status h = h
 
--- what `space` does, by what its spacer does
+-- What each status says of `space`, by what it says of the spacer's run over the line.
 module _ {K S O L D : Type 0} (s : Source S) (o : Sink O) (l : Sink L) (proto : Proto)
     (profile : Profile) (key : K) (disk : D) (in0 in1 : S) (out0 out1 : O) (log0 log1 : L) where
   pub spaces-of : (status : Status)

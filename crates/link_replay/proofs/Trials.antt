@@ -1,4 +1,4 @@
--- What the numbers of a trial's line say of one another, for both protocols and profiles.
+-- What holds between the numbers in the line of a trial, for both protocols and profiles.
 use Rattle.link_format.proofs.Profiles.{y18-tags, y24-tags}
 use Rattle.link_replay.specs.TrialCommand.{trial_link_profile, trial_counts}
 use Rattle.link_words.specs.declared.words.Profile.{Profile, TheVariants.Y18, TheVariants.Y24}

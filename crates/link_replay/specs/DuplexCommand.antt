@@ -96,7 +96,7 @@ module _ (texts : List Tick → List Tick → BothTexts)
   DuplexesWith status = ⊥
 
 module _ {K S O L D : Type 0} (k : Source K) (s : Source S) (o : Sink O) (l : Sink L) where
-  -- What each status says: the key is read first, and the texts are made with it.
+  -- What each status says of a run that reads the key first and makes the texts with it.
   abbrev pub DuplexesKeyed : (List ℕ → List Tick → List Tick → BothTexts) → Outside K S O L D
       → Outside K S O L D → Status → Type 0
   DuplexesKeyed texts before after status = ReadsKeyFirst k before.key after.key

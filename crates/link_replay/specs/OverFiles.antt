@@ -69,6 +69,7 @@ pub record Streams (S O L : Type 0) : Type 0 where
   pub out : O
   pub log : L
 
+-- the streams with this input and these sinks
 abbrev pub streams : {S O L : Type 0} → S → O → L → Streams S O L
 streams input out log = record { input = input; out = out; log = log }
 

@@ -1,5 +1,5 @@
 -- The command `replay`: a line of a device through the transmitter, and a link through the receiver
--- and the device behind it. What it leaves when it is done is the program's headline:
+-- and the device behind it. If it ends as Done, the program's headline holds of the run:
 --
 -- For every key, device ticks and link ticks, however the link was altered, cut, repeated or
 -- reordered, the frames that the stated device reads from the receiver are a subsequence of those

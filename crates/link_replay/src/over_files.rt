@@ -18,8 +18,8 @@ use std::io;
 use std::rt::Files;
 use yasir_io::{FileSlots, FileSource, Lock, Sink, SlotDisk, SlotFile, Source};
 
-/// The exit status if the runtime refuses something that a run needs: a place for a standard stream
-/// that is closed, the words, or memory for the words.
+/// The exit status if the runtime refuses something that a run needs: to open the folder `/`, which
+/// takes the places of standard streams that are closed, the words, or memory for the words.
 pub const NOT_GIVEN: u8 = 13;
 
 // Returns the words after the program's name.

@@ -8,22 +8,30 @@ use std::process::Abort;
 use std::test::Fail;
 use yasir_io::{MemSink, MemSlots, MemSource, Plan, Slot, SlotDisk};
 
+/// The key text of the tests, for a key of 16 bytes.
 pub const KEY: &[u8] = b"000102030405060708090a0b0c0d0e0f";
 
 /// What a run is handed, except its disk.
 #[derive(Drop)]
 pub struct Ends<'a> {
+    /// The source of the key text.
     pub key: MemSource<'a>,
+    /// The source of the recordings.
     pub input: MemSource<'a>,
+    /// The sink of the results.
     pub out: MemSink,
+    /// The sink of the notes and the fault line.
     pub log: MemSink,
 }
 
 /// How a run ended, and what its sinks hold.
 #[derive(Drop)]
 pub struct Ran {
+    /// The status of the run.
     pub status: Status,
+    /// The sink of the results, after the run.
     pub out: MemSink,
+    /// The sink of the notes and the fault line, after the run.
     pub log: MemSink,
 }
 

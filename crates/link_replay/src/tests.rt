@@ -247,20 +247,33 @@ fn finds_the_paths_among_the_words(rt: HostRuntime) -> Result<(), Fail> {
 /// the calls of the output and of the disk that fail. The other fields are what the run leaves.
 #[derive(Clone, Copy, Drop)]
 pub struct Row {
+    /// The words of the run, which single spaces separate.
     pub words: &'static str,
+    /// The input.
     pub text: &'static [u8],
+    /// The link for which slots A and B hold their numbers, before the run and after it.
     pub link: LinkId,
+    /// Whether old slot A holds 5. If it doesn't, the old slots hold no number.
     pub is_old: bool,
+    /// The numbers that slots A and B hold before the run.
     pub slots: (Option<u64>, Option<u64>),
+    /// The call of the output that fails, counted from 1, or 0 if none does.
     pub out_fails: u32,
+    /// The call of the disk that fails, counted from 1, or 0 if none does.
     pub disk_fails: u32,
+    /// The status of the run.
     pub status: Status,
+    /// The exit status of the run.
     pub exit_status: u8,
+    /// What the output holds after the run.
     pub out: &'static [u8],
+    /// What the log holds after the run.
     pub log: &'static [u8],
+    /// The numbers that slots A and B hold after the run.
     pub slots_now: (Option<u64>, Option<u64>),
 }
 
+/// A run of `read` over a request, which prints the line of that request.
 pub const READ: Row = Row {
     words: "read rtu",
     text: REQUEST,
@@ -276,12 +289,14 @@ pub const READ: Row = Row {
     slots_now: (None, None),
 };
 
+/// A run of `vectors`, which finds all tables right.
 pub const VECTORS: Row = Row {
     words: "vectors",
     out: b"crc 4 ok\nhmac 7 ok\nframes 7 ok\nuser 2 ok\n",
     ..READ
 };
 
+/// A run of `init` over a disk that holds no number. It makes a journal in slot A.
 pub const INIT: Row = Row {
     words: "init rtu ab journal",
     out: b"",
@@ -394,6 +409,7 @@ const ROWS: [Row; 16] = [
 // The tag is that of the transmitter's rows in `replay_tests`.
 const SEALED_REQUEST: &[u8] = b"+01030000000ac5cd\n-3\n+0001014c5b8d33c6d29a347013b0\n-11\n";
 
+/// A run of `seal` over a request. It commits number 1 in slot B.
 pub const SEAL: Row = Row {
     words: "seal rtu ab key journal",
     slots: (Some(0), None),
@@ -403,7 +419,7 @@ pub const SEAL: Row = Row {
     ..READ
 };
 
-// A check of what `seal` has made of the request.
+/// A check of what `seal` has made of the request.
 pub const CHECK: Row = Row {
     words: "check rtu ab key journal",
     text: SEALED_REQUEST,

@@ -25,10 +25,15 @@ use yasir_io::{Failed, Sink, SlotDisk, Source, write_all};
 /// The link of a session that is audited, and the floors of its transmitter and receiver.
 #[derive(Clone, Copy, Debug, PartialEq, Eq)]
 pub struct Audited {
+    /// The protocol of the link.
     pub proto: Proto,
+    /// The profile of the link.
     pub profile: Profile,
+    /// The direction of the link.
     pub dir: Dir,
+    /// The transmitter's floor before the session: 0, or the number of a frame.
     pub sent_floor: u64,
+    /// The receiver's floor before the session: 0, or the number of a frame.
     pub got_floor: u64,
 }
 

@@ -4,7 +4,7 @@ use Rattle.std.proofs.Common.{◌≡◌, [], ◌∷◌, map, IfOk, OnErr, subst,
 use Rattle.std.specs.String.{string_bytes}
 use Rattle.link_replay.proofs.words.read_words.Goals as goal
 
--- the words of lists of four, five and six
+-- If there are four, five or six words, the list of their bytes has these items.
 words4 : (c : goal.After-read_four) → map string_bytes c.args.words.now
     ≡ c.as_str-in-len4.result.now ∷ c.as_str-in-len4-2.result.now
     ∷ c.as_str-in-len4-3.result.now ∷ c.as_str-in-len4-4.result.now ∷ []
