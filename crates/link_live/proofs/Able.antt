@@ -1,4 +1,5 @@
--- A right key, a number in a slot and a right text are refused by nothing but a fault outside.
+-- If a box is given a right key, a journal that holds a number for its link and a right text, and
+-- nothing outside fails, the status is Done.
 use Rattle.{hmac_tag.specs.declared.dir.Dir.Dir, link_format.specs.Setup.Setup}
 use Rattle.replay_status.specs.{Statuses.fault_line, declared.status.Status.Status}
 use Rattle.sequence_journal.specs.{Links.IsLink, declared.link.LinkId.LinkId}
@@ -26,14 +27,14 @@ use Rattle.link_live.specs.declared.words.Command.{Command, TheVariants.Seal, Th
 use Rattle.{link_words.proofs.Links.link-right, live_port.specs.declared.port.Port.Ghosts as Port}
 use Rattle.replay_status.proofs.Readable.{met_of_told, all_of_told}
 
--- what was read of a right text
+-- A text that was read from an input that holds a right text.
 module _ (Heard : List Tick → Type 0) (Halts : Stop → List Tick → Type 0) (rest : ℕ)
     (before now : Option (List ℕ)) (live : IsLiveText before) (text : List ℕ)
     (came : before ≡ prepend_known text now) where
   told : Some live.text ≡ prepend_known text now
   told = sym live.told ∙ came
 
-  -- the whole text begins with what that which was read begins with
+  -- The whole text begins with each front of the text that was read.
   goes_on : (front later : List ℕ) → text ≡ front ++ later
       → (more : List ℕ) × (live.text ≡ front ++ more)
   goes_on front later is =
@@ -73,7 +74,7 @@ module _ (Heard : List Tick → Type 0) (Halts : Stop → List Tick → Type 0) 
             omega (arith, long, all.0, all.1, live.few_bytes)
       ]
 
-  -- it isn't refused
+  -- The text isn't refused.
   pub live_not_refused : (bad : BadTicks)
       → EndsText Heard Halts rest (IsAtEnd now) (Refused bad) text → ⊥
   live_not_refused bad ends = elim ends [
@@ -93,7 +94,7 @@ module _ (Heard : List Tick → Type 0) (Halts : Stop → List Tick → Type 0) 
     )
   ]
 
-  -- nor is it too long
+  -- The text isn't too long either: it has neither too many ticks nor too many bytes.
   pub live_not_too_long : (what : TooMuch) (count : ℕ)
       → EndsText Heard Halts rest (IsAtEnd now) (TooLong what count) text → ⊥
   live_not_too_long Ticks count ends = elim ends [
@@ -112,7 +113,7 @@ module _ (Heard : List Tick → Type 0) (Halts : Stop → List Tick → Type 0) 
   ]
 
 module _ {K P D : Type 0} (k : Source K) (p : Port P) (d : SlotDisk D) where
-  -- a box that is given what is right is done, where nothing outside fails
+  -- If all that a box is given is right and no count of faults rose, the status is Done.
   module _ (boxed : Setup → Boxed) (link : LinkId) (is_link : IsLink link) (dir : Dir) (rest : ℕ)
       (key_before key_after : K) (before after : Around P D)
       (right : IsLivable link (k.left key_before) (d.told before.disk) (p.left before.port))
@@ -154,7 +155,7 @@ module _ {K P D : Type 0} (k : Source K) (p : Port P) (d : SlotDisk D) where
       (port : PortCauses p before.port noted end)
       (disk : BoxDiskCause (d.faults before.disk) (d.faults after.disk) end)
       (tells : TellsFault p noted after.port end) where
-    -- the fault line is read from nothing
+    -- The writing of the fault line changes no count of failed reads.
     reads_same : p.read_faults after.port ≡ p.read_faults noted
     reads_same = elim tells [
       | inl none ↦ ap p.read_faults none.1
@@ -164,7 +165,7 @@ module _ {K P D : Type 0} (k : Source K) (p : Port P) (d : SlotDisk D) where
     read_calm : ¬ Rose (p.read_faults before.port) (p.read_faults noted)
     read_calm = subst (λ n. ¬ Rose (p.read_faults before.port) n) reads_same calm.read
 
-    -- there is none behind a write that failed
+    -- The status isn't WriteFault: that status would come with a rise that a calm run doesn't have.
     no_write : end ≡ status.WriteFault → ⊥
     no_write is = elim tells [
       | inl none ↦

@@ -1,4 +1,4 @@
--- Words ask for one thing and no other.
+-- Words ask for at most one command.
 use Rattle.link_live.specs.Words.{IsCommand, Asks}
 use Rattle.link_live.specs.declared.words.Command.{Command, TheVariants.Seal, TheVariants.Check}
 use Rattle.{link_live.specs.declared.words.Linked.Linked, link_words.proofs.Telling.is_word}
@@ -12,7 +12,7 @@ abbrev linked_by : List ℕ → List ℕ → Linked
 linked_by first second =
     record { proto = proto_by first; profile = profile_by first; dir = dir_by second }
 
--- the command whose first word this is, with the two words behind it
+-- the command that the first word names, by that word and the two words after it
 abbrev command_by : List ℕ → List ℕ → List ℕ → Command
 command_by verb first second =
     cond (is_word (codes "seal") verb) (Seal (linked_by first second))

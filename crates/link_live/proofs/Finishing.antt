@@ -1,4 +1,4 @@
--- What a box has heard of a whole line, and of the silence behind it.
+-- What a box has heard of a whole line and of the silence after it.
 use Rattle.link_box.specs.declared.box_trait.LinkBox.{Ghosts as LinkBox}
 use Rattle.link_live.proofs.Heard.{goes_none, goes_of_text, goes_given, goes_stopped, goes_then}
 use Rattle.link_live.proofs.Heard.{heard_as, heard_more, stops_hearing}
@@ -30,7 +30,7 @@ no_items = refl
 
 module _ {B N P D : Type 0} (b : LinkBox B N) (line_of : N → List ℕ) (p : Port P) (d : SlotDisk D)
   where
-    -- ---- the text is no right one
+    -- ---- the text isn't a right one
 
     pub finish_refused : (lines : LineReader) (rest : ℕ) (at : Live B P D) (end : End)
         → ((disk : D) (c : Slots) → d.left_since disk (d.moment disk) c → d.may_leave disk c)
@@ -63,7 +63,7 @@ module _ {B N P D : Type 0} (b : LinkBox B N) (line_of : N → List ℕ) (p : Po
       stops = stops.stops;
     }
 
-    -- ---- its last line was given, and then silence, or not
+    -- ---- the last line of the text is given, and then silence
 
     module _ (lines : LineReader) (rest : ℕ) (old mid : Live B P D) (last run : List Item)
         (alike : ticks_in run ≡ ticks_in last)
@@ -182,7 +182,7 @@ module _ {B N P D : Type 0} (b : LinkBox B N) (line_of : N → List ℕ) (p : Po
             count = zero ∙ sym (ap (λ l. length (ticks_in l)) no_items);
           })
 
-      -- it ended as it was read
+      -- If the reading ended before the end of the input, the driving ended in the same way.
       pub drives_ended : (now : LineReader) (new : Live B P D) (end : End)
           → HearAnswer b line_of p d lines now old new (Err end)
           → Drives b line_of p d rest old new end
@@ -228,7 +228,8 @@ module _ {B N P D : Type 0} (b : LinkBox B N) (line_of : N → List ℕ) (p : Po
             (ends.ends origin (at_start origin zero none heard)));
       }
 
-      -- it was read to its end, and then ended so
+      -- If the input was read to its end, the driving ended in the way in which the taking of that
+      -- end and of the silence after it did.
       module _ (now : LineReader) (mid new : Live B P D)
           (all : HearsAll b line_of p d lines now old mid) where
         last_by : (end : End) → Finishes b line_of p d now rest mid new end

@@ -1,4 +1,4 @@
--- What a box has heard of a line, by one call more.
+-- What a box has heard of a line if one call more was made.
 use Rattle.link_box.specs.declared.box_trait.LinkBox.{Ghosts as LinkBox}
 use Rattle.link_live.specs.Filtering.{LiveOrigin, GoesOn, filtering}
 use Rattle.link_live.specs.FilteringLaws.{images_none, images_then, outputs_none, outputs_then}
@@ -22,7 +22,7 @@ use Rattle.yasir_io.specs.{Disks.Slots, declared.disk.SlotDisk.Ghosts as SlotDis
 use Rattle.yasir_ticks.specs.{TickText.ended_items, Ticks.Item, Ticks.ticks_in}
 use Rattle.yasir_ticks.specs.declared.tick.Tick.{Tick}
 
--- ---- what calls do beside
+-- ---- what calls do to the disk's images and to the counts of faults
 
 module _ {B P D : Type 0} (p : Port P) (d : SlotDisk D) where
   pub goes_none : ((disk : D) (c : Slots) → d.left_since disk (d.moment disk) c → d.may_leave disk c)
@@ -34,7 +34,8 @@ module _ {B P D : Type 0} (p : Port P) (d : SlotDisk D) where
     outputs = outputs_none p at.port;
   }
 
-  -- the end came of the text alone
+  -- What holds of the disk's images and the counts of faults after calls that didn't fail also
+  -- holds if the text ended them.
   pub goes_of_text : (old new : Live B P D) (end : End) → IsOfText end → LiveGoes p d old new Whole
       → LiveGoes p d old new end
   goes_of_text old new (Refused bad) of_text goes = record {
@@ -112,7 +113,8 @@ module _ {B N P D : Type 0} (b : LinkBox B N) (line_of : N → List ℕ) (p : Po
       filters = given.gives.moved origin heard.items heard.filters;
     }
 
-    -- the box was stopped at a tick of a run
+    -- If the box was stopped at a tick of a run, it was stopped at one of the ticks up to the end
+    -- of that run.
     pub stops_hearing : (old new : Live B P D) (run : List Item) (stop : Stop)
         → Gives (filtering b line_of p d) (outside_of old) (outside_of new) run (Err stop)
         → (origin : LiveOrigin) (line : List Tick) → HeardAt b line_of p d old origin line
@@ -178,7 +180,7 @@ module _ {B N P D : Type 0} (b : LinkBox B N) (line_of : N → List ℕ) (p : Po
       whole_is text = ap (λ l. text ++ l) (sym (take-append-drop taken bytes))
           ∙ sym (append_assoc text (take taken bytes) (drop taken bytes))
 
-      -- its ticks were too many
+      -- If the ticks of the line are too many together with those before, the end says so.
       pub line_held : (count : ℕ) → HoldsBack b line_of p d old new run count
           → (origin : LiveOrigin) (text : List ℕ) → TakenAt b line_of p d old_lines old origin text
           → EndsAt b line_of p d new (TooLong Ticks count) origin (text ++ bytes)
@@ -204,7 +206,7 @@ module _ {B N P D : Type 0} (b : LinkBox B N) (line_of : N → List ℕ) (p : Po
             };
           }
 
-      -- the box was stopped at one of its ticks
+      -- If the box was stopped at a tick of the line, the end says so.
       pub line_stopped : (stop : Stop)
           → Gives (filtering b line_of p d) (outside_of old) (outside_of new) run (Err stop)
           → (origin : LiveOrigin) (text : List ℕ) → TakenAt b line_of p d old_lines old origin text
@@ -218,7 +220,8 @@ module _ {B N P D : Type 0} (b : LinkBox B N) (line_of : N → List ℕ) (p : Po
             (stops_hearing old new run stop stops origin (ticks_in (ended_items text)) has.heard);
       }
 
-    -- the text was refused, or a line of it is too long
+    -- If the reader refused the text or found a line too long, the end says so, and the box has
+    -- taken the lines before.
     pub feed_ends : (old_lines new_lines : LineReader) (at : Live B P D) (bytes : List ℕ) (end : End)
         → ((text : List ℕ) → HasRead old_lines text → FeedAnswer new_lines text bytes (Err end))
         → (origin : LiveOrigin) (text : List ℕ) → TakenAt b line_of p d old_lines at origin text
@@ -277,7 +280,7 @@ module _ {B N P D : Type 0} (b : LinkBox B N) (line_of : N → List ℕ) (p : Po
       ends = feed_ends old_lines new_lines at bytes end answer;
     }
 
-    -- what was read of a line was given to the box, or not
+    -- What taking a line leaves, by how giving its ticks to the box ended.
     module _ (old_lines new_lines : LineReader) (old new : Live B P D) (bytes : List ℕ) (taken : ℕ)
         (items run : List Item) (alike : ticks_in run ≡ ticks_in items)
         (reads : (text : List ℕ) → HasRead old_lines text
@@ -347,7 +350,8 @@ module _ {B N P D : Type 0} (b : LinkBox B N) (line_of : N → List ℕ) (p : Po
             (then.ends origin (text ++ first) (takes.takes origin text has));
       }
 
-    -- As far as these bytes are left of a piece, its lines were taken.
+    -- Holds if `rest` is what hasn't been taken of a piece, and all bytes of the piece before that
+    -- were.
     pub record HasTakenSo (old_lines now_lines : LineReader) (old now : Live B P D)
         (piece rest : List ℕ) : Type 0 where
       pub done : List ℕ

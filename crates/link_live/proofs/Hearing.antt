@@ -1,4 +1,4 @@
--- What a box has heard of a line whose bytes come, by one read more.
+-- What a box has heard of a line if one read more was made.
 use Rattle.{key_text.proofs.KeyLemmas.prepend_known-twice, line_texts.specs.Sending.LineAndNotes}
 use Rattle.link_box.specs.declared.box_trait.LinkBox.{Ghosts as LinkBox}
 use Rattle.link_live.proofs.Heard.{goes_none, goes_of_text, goes_then, takes_none}
@@ -34,7 +34,7 @@ prepend_none (Some xs) = refl
 no_true : true ≡ false → ⊥
 no_true e = cc
 
--- the same box and disk, with the port behind a read
+-- the same box and disk, with the port as it is after a read
 abbrev pub behind_read : {B P D : Type 0} → Live B P D → P → Live B P D
 behind_read at port = live_of at.live_box port at.disk
 
@@ -80,7 +80,8 @@ module _ {B N P D : Type 0} (b : LinkBox B N) (line_of : N → List ℕ) (p : Po
   where
     -- ---- a read
 
-    -- the box has heard the same lines, and these bytes more are read
+    -- After a read its bytes are among those that were read, and the box has heard the same lines
+    -- as before.
     read_taken : (lines : LineReader) (at : Live B P D) (port : P) (bytes : List ℕ)
         → ((made : LineAndNotes) (start : Option (List Event)) (read : List ℕ)
         → Handed made start (p.history at.port) read (ticks_in (ended_items read))
@@ -111,7 +112,7 @@ module _ {B N P D : Type 0} (b : LinkBox B N) (line_of : N → List ℕ) (p : Po
 
     -- ---- reads, one after the other
 
-    -- So many bytes were read, and the box has heard their lines.
+    -- Holds if this many bytes were read, and the box has heard their lines.
     pub record HearsSo (old_lines now_lines : LineReader) (old now : Live B P D) (bytes : ℕ) :
         Type 0 where
       pub more : List ℕ
@@ -137,7 +138,7 @@ module _ {B N P D : Type 0} (b : LinkBox B N) (line_of : N → List ℕ) (p : Po
 
     module _ (lines0 lines1 : LineReader) (old at : Live B P D) (bytes : ℕ)
         (so : HearsSo lines0 lines1 old at bytes) where
-      -- more bytes were read than may be
+      -- If `MAX_LIVE_BYTES` bytes or more were read, the reading ends because they are too many.
       pub hears_too_much : MAX_LIVE_BYTES ≤ bytes
           → EndsHearing b line_of p d lines0 old at (TooLong Bytes bytes)
       hears_too_much above = record {
@@ -211,7 +212,7 @@ module _ {B N P D : Type 0} (b : LinkBox B N) (line_of : N → List ℕ) (p : Po
                     (origin.read ++ so.more) (read_so origin has));
               }
 
-        -- nothing more came
+        -- If a read gave no bytes, the input was read to its end.
         pub hears_all : ((disk : D) (c : Slots) → d.left_since disk (d.moment disk) c
             → d.may_leave disk c)
             → LiveGoes p d at mid Whole → piece ≡ [] → IsAtEnd (p.left port)
@@ -225,7 +226,7 @@ module _ {B N P D : Type 0} (b : LinkBox B N) (line_of : N → List ℕ) (p : Po
           at_end = at_end;
         }
 
-      -- a read failed
+      -- If a read failed, the reading ends with what was read before.
       pub hears_failed : (port : P)
           → ((made : LineAndNotes) (start : Option (List Event)) (read : List ℕ)
           → Handed made start (p.history at.port) read (ticks_in (ended_items read))
@@ -248,7 +249,7 @@ module _ {B N P D : Type 0} (b : LinkBox B N) (line_of : N → List ℕ) (p : Po
         };
       }
 
-    -- the answer at an end that is no failed read
+    -- What the result says of the reading, if the end isn't a failed read.
     pub hear_answer : (lines0 lines1 : LineReader) (old new : Live B P D) (end : End)
         → is_read_fault end ≡ false → EndsHearing b line_of p d lines0 old new end
         → HearAnswer b line_of p d lines0 lines1 old new (Err end)

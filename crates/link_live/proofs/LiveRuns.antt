@@ -1,4 +1,4 @@
--- From how a box was driven over a live line to what the status says of it.
+-- What the status of a run says of it, from how its box was driven over a live line.
 use Rattle.{burst_walk.specs.Causal.IsCausal, hmac_tag.specs.declared.dir.Dir.Dir}
 use Rattle.link_box.specs.{Walking.frames_of, declared.box_trait.LinkBox.Ghosts as LinkBox}
 use Rattle.link_format.specs.{NumberedFrame.numbers_of, Setup.Setup, Setup.setup_of}
@@ -26,7 +26,7 @@ use Rattle.{replay_status.specs.Endings.status_of, tick_drive.proofs.ItemLaws.ti
 use Rattle.tick_drive.specs.declared.end.End.{End, TheVariants.Whole}
 use Rattle.tick_drive.specs.declared.end.End.TheVariants.{Refused, TooLong, ReadFault, Stopped}
 
--- the status of an end
+-- What an end says of the line is what its status says of the run.
 runs_of : {P D : Type 0} (p : Port P) (d : SlotDisk D) (link : LinkId) (boxes : ℕ → Boxed) (rest : ℕ)
     (before after : Around P D) (end : End) → EndsLine p d link boxes rest before after end
     → (is_read_fault end ≡ true → Rose (p.read_faults before.port) (p.read_faults after.port))
@@ -43,7 +43,7 @@ runs_of p d link boxes rest before after (Stopped stops.NoMemory) ends rose =
       | inr last ↦ last.1.holds
     ]
 
--- the causes at the port of an end
+-- What an end says of the port's counts of faults is what its status says of them.
 pub port_causes : {P D B : Type 0} (p : Port P) (d : SlotDisk D) (old new : Live B P D) (end : End)
     → LiveGoes p d old new end → PortCauses p old.port new.port (status_of end)
 port_causes p d old new Whole goes = record {
@@ -142,7 +142,7 @@ module _ {B N P D : Type 0} (b : LinkBox B N) (line_of : N → List ℕ) (p : Po
   floor_before : ToldFloor link floor (d.told before)
   floor_before = told_before d link journal before old.disk load safe
 
-  -- each image makes an uptime
+  -- Each image that the disk may leave makes an uptime with the numbers of the line.
   uptime_to : (line : List Tick) → journal_link new.live_box.filter.journal ≡ link
       → journal_floor new.live_box.filter.journal ≡ box.number line
       → LeavesUptime d link (box.numbers line) before new.disk

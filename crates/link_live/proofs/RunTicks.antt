@@ -1,4 +1,4 @@
--- The ticks of runs that lines stand for.
+-- The ticks of a run are those of the items that it represents, bytes or silence.
 use Rattle.std.proofs.Common.{◌≡◌, ℕ, List, [], ◌∷◌, map, replicate, refl, ap, sym}
 use Rattle.yasir_ticks.proofs.TickRuns.{ticks_in-run}
 use Rattle.yasir_ticks.specs.Ticks.{ticks_in, silent, Item.tick}

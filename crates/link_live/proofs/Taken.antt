@@ -1,4 +1,4 @@
--- A filter has taken some ticks, and handed on what the box makes of them.
+-- A filter has taken some ticks and handed on what the box makes of them, or was stopped.
 use Rattle.box_command.proofs.{AnsweredRuns.run_noted, AnsweredRuns.step_noted, Begun.one_more}
 use Rattle.box_command.proofs.Walking.{run-answers, step-answers, step-fails}
 use Rattle.box_command.specs.{BoxLines.ToldFloor, Boxes.AnswersBoxRun, Boxes.FailsBox}
@@ -47,7 +47,7 @@ module _ {P : Type 0} (p : Port P) where
     outputs = record { same = λ e. cc; failed = λ _. cause.failed };
   }
 
--- The box has taken this many first ticks of a run, which are these.
+-- The box has taken the first `n` ticks of a run. These are `ticks`.
 module _ {B N P D : Type 0} (b : LinkBox B N) (line_of : N → List ℕ) (p : Port P) (d : SlotDisk D)
     (causal : (value : B) (last : ℕ) (setup : Setup) (line : List Tick)
     → b.stands value last setup line → IsCausal (b.walking.walker setup))
@@ -77,7 +77,7 @@ module _ {B N P D : Type 0} (b : LinkBox B N) (line_of : N → List ℕ) (p : Po
     any_moment = none.any_moment;
   }
 
-  -- What it answers was handed on.
+  -- The box returned `answer` for these ticks, and `port` is the port after it was written to.
   module _ (port : P) (answer : List Tick)
       (takes : TakesRun b.walking b.stands old.filter.line_box box ticks answer) where
     taken : (origin : LiveOrigin) (before : List Item)
@@ -100,7 +100,7 @@ module _ {B N P D : Type 0} (b : LinkBox B N) (line_of : N → List ℕ) (p : Po
     noted origin before filters = run_noted (box_at b line_of origin) (ticks_in before) ticks answer
         (answers origin before filters)
 
-    -- the number stays what it was
+    -- The journal's floor is still the number after the line, since these ticks commit none.
     number_on : (origin : LiveOrigin) (before : List Item)
         → Filters b line_of old.filter (p.history old.port) (d.told old.disk) origin before
         → journal_floor old.filter.journal
@@ -138,7 +138,7 @@ module _ {B N P D : Type 0} (b : LinkBox B N) (line_of : N → List ℕ) (p : Po
       };
     }
 
-    -- a write failed
+    -- If a write failed, the filter was stopped at the last of these ticks.
     pub run_stopped : (e : Failed) → 0 < n
         → Hands p {T = Unit {0}} old.port port answer [] (Err e)
         → Gives (filtering b line_of p d) old (with_port port) (run_items run) (Err WriteFault)
@@ -173,7 +173,7 @@ module _ {B N P D : Type 0} (b : LinkBox B N) (line_of : N → List ℕ) (p : Po
           };
         }
 
-  -- it took none, and nothing was written
+  -- If the box took no tick and nothing was written, what the filter promises still holds.
   pub none_taken : n ≡ 0 → (answer : List Tick)
       → TakesRun b.walking b.stands old.filter.line_box box ticks answer
       → GivesUpTo (filtering b line_of p d) old (with_port old.port) (run_items run) n
@@ -207,7 +207,7 @@ module _ {B N P D : Type 0} (b : LinkBox B N) (line_of : N → List ℕ) (p : Po
         };
       }
 
--- The box took a tick over its journal and its disk.
+-- The box took a tick, with a journal and a disk.
 module _ {B N P D : Type 0} (b : LinkBox B N) (line_of : N → List ℕ) (p : Port P) (d : SlotDisk D)
     (old : Outside B P D) (box : B) (journal : Journal) (disk : D) (t : Tick) where
   abbrev Keeps : Result (BoxStep N) JournalFault → Type 0
@@ -226,7 +226,7 @@ module _ {B N P D : Type 0} (b : LinkBox B N) (line_of : N → List ℕ) (p : Po
     any_moment = keeps.any_moment;
   }
 
-  -- it failed
+  -- If the step failed, the filter was stopped at this tick, and nothing was written.
   pub step_failed : (rising : (setup : Setup) (line : List Tick)
       → RiseFrom setup.floor (numbers_of (frames_of b.walking setup line)))
       → (fault : JournalFault) → Keeps (Err fault)
@@ -265,7 +265,7 @@ module _ {B N P D : Type 0} (b : LinkBox B N) (line_of : N → List ℕ) (p : Po
     };
   }
 
-  -- it answered
+  -- The step returned a tick of the other line, and perhaps a note.
   module _ (step : BoxStep N) (keeps : Keeps (Ok step))
       (counts : b.taken box ≡ b.taken old.filter.line_box + 1)
       (steps : Steps b.walking b.stands old.filter.line_box (journal_floor old.filter.journal) box

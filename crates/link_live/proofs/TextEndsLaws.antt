@@ -1,4 +1,4 @@
--- What holds at the end of a text, where more holds of the ticks that were taken.
+-- If more holds of the ticks that a box has taken, more holds of how the reading of the text ended.
 use Rattle.link_live.specs.TextEnds.{HasTooManyTicks, EndsBehind, EndsWithin, EndsAtLast, EndsText}
 use Rattle.std.proofs.Common.{ℕ, List, ◌⊎◌, inl, inr}
 use Rattle.tick_drive.specs.declared.{consumer.Stop.Stop, end.End.End, end.End.TheVariants.Whole}

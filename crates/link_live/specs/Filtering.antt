@@ -43,14 +43,17 @@ pub record Outside (B P D : Type 0) : Type 0 where
   pub port : P
   pub disk : D
 
+-- the record with this filter, port and disk
 abbrev pub outside : {B P D : Type 0} → Filter B → P → D → Outside B P D
 outside filter port disk = record { filter = filter; port = port; disk = disk }
 
 -- A box, and the lines of its notes.
 module _ {B N : Type 0} (b : LinkBox B N) (line_of : N → List ℕ) where
+  -- the box with the setup of an origin
   abbrev pub box_at : LiveOrigin → Boxed
   box_at origin = boxed_of b.walking line_of origin.setup
 
+  -- the texts that this box makes of a line: the other line, and the notes
   abbrev pub made_at : LiveOrigin → LineAndNotes
   made_at origin = made_by (box_at origin)
 
@@ -130,6 +133,7 @@ module _ {B P D : Type 0} (p : Port P) (d : SlotDisk D) where
 
 module _ {B N P D : Type 0} (b : LinkBox B N) (line_of : N → List ℕ) (p : Port P) (d : SlotDisk D)
   where
+    -- What a filter promises as a consumer.
     abbrev pub filtering : Consuming (Outside B P D)
     filtering = record {
       Origin = LiveOrigin;

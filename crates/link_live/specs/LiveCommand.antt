@@ -36,6 +36,7 @@ pub record Around (P D : Type 0) : Type 0 where
   pub port : P
   pub disk : D
 
+-- the record with this port and disk
 abbrev pub around : {P D : Type 0} → P → D → Around P D
 around port disk = record { port = port; disk = disk }
 

@@ -34,9 +34,11 @@ pub record Live (B P D : Type 0) : Type 0 where
   pub port : P
   pub disk : D
 
+-- the record with this box, port and disk
 abbrev pub live_of : {B P D : Type 0} → LiveBox B → P → D → Live B P D
 live_of live_box port disk = record { live_box = live_box; port = port; disk = disk }
 
+-- the filter of the box, with the port and the disk
 abbrev pub outside_of : {B P D : Type 0} → Live B P D → Outside B P D
 outside_of at = outside at.live_box.filter at.port at.disk
 
@@ -86,19 +88,25 @@ module _ {B P D : Type 0} (p : Port P) (d : SlotDisk D) where
 
 module _ {B N P D : Type 0} (b : LinkBox B N) (line_of : N → List ℕ) (p : Port P) (d : SlotDisk D)
   where
+    -- `HasHeard`, with the port's history and the slots that the disk tells
     abbrev pub HeardAt : Live B P D → LiveOrigin → List Tick → Type 0
     HeardAt at = HasHeard b line_of at.live_box.filter (p.history at.port) (d.told at.disk)
 
+    -- `HasTaken`, with the port's history and the slots that the disk tells
     abbrev pub TakenAt : LineReader → Live B P D → LiveOrigin → List ℕ → Type 0
     TakenAt lines at = HasTaken b line_of lines at.live_box (p.history at.port) (d.told at.disk)
 
+    -- `StopsHearing`, with the port's history and the slots that the disk tells
     abbrev pub HaltsAt : Live B P D → LiveOrigin → Stop → List Tick → Type 0
     HaltsAt at origin stop = StopsHearing b line_of at.live_box.filter (p.history at.port)
         (d.told at.disk) stop origin
 
+    -- Holds if this end came inside the text (`EndsWithin`).
     abbrev pub EndsAt : Live B P D → End → LiveOrigin → List ℕ → Type 0
     EndsAt at end origin = EndsWithin (HeardAt at origin) (HaltsAt at origin) end
 
+    -- Holds if this end came at the end of the text or in the `rest` silent ticks after it
+    -- (`EndsAtLast`).
     abbrev pub LastAt : ℕ → Live B P D → End → LiveOrigin → List ℕ → Type 0
     LastAt rest at end origin = EndsAtLast (HeardAt at origin) (HaltsAt at origin) rest end
 
@@ -148,6 +156,8 @@ module _ {B N P D : Type 0} (b : LinkBox B N) (line_of : N → List ℕ) (p : Po
       pub within : taken ≤ length bytes
       pub takes : TakesBytes old_lines new_lines old new (take taken bytes)
 
+    -- what each result says of taking these bytes up to the end of a line, or all of them if no
+    -- line ends in them
     abbrev pub LineAnswer : LineReader → LineReader → Live B P D → Live B P D → List ℕ
         → Result ℕ End → Type 0
     LineAnswer old_lines new_lines old new bytes (Ok taken) =
@@ -155,6 +165,7 @@ module _ {B N P D : Type 0} (b : LinkBox B N) (line_of : N → List ℕ) (p : Po
     LineAnswer old_lines new_lines old new bytes (Err end) =
         EndsInBytes old_lines old new end bytes
 
+    -- what each result says of taking all of these bytes
     abbrev pub PieceAnswer : LineReader → LineReader → Live B P D → Live B P D → List ℕ
         → Result (Unit {0}) End → Type 0
     PieceAnswer old_lines new_lines old new bytes (Ok x) =
@@ -192,6 +203,7 @@ module _ {B N P D : Type 0} (b : LinkBox B N) (line_of : N → List ℕ) (p : Po
       pub ends : (origin : LiveOrigin) → TakenAt old_lines old origin origin.read
           → EndsAt new end (read_further origin more) (origin.read ++ more)
 
+    -- what each result says of reading the input to its end
     abbrev pub HearAnswer : LineReader → LineReader → Live B P D → Live B P D
         → Result (Unit {0}) End → Type 0
     HearAnswer old_lines new_lines old new (Ok x) = HearsAll old_lines new_lines old new
@@ -208,6 +220,7 @@ module _ {B N P D : Type 0} (b : LinkBox B N) (line_of : N → List ℕ) (p : Po
       pub ends : (origin : LiveOrigin) (text : List ℕ) → TakenAt lines old origin text
           → LastAt rest new end origin text
 
+    -- what each result says of taking the end of the text and then `rest` silent ticks
     abbrev pub FinishAnswer : LineReader → ℕ → Live B P D → Live B P D → Result (Unit {0}) End
         → Type 0
     FinishAnswer lines rest old new (Ok x) = Finishes lines rest old new Whole

@@ -28,11 +28,11 @@ abbrev pub Asks : List (List ℕ) → Option Command → Type 0
 Asks words None = (command : Command) → IsCommand words command → ⊥
 Asks words (Some command) = IsCommand words command
 
--- the place, counted from 0, of the word that is the path of the key's file, and of the word that
--- is the path of the journal's file (`journal_place`)
+-- the place, counted from 0, of the word that is the path of the key's file
 abbrev pub key_place : ℕ
 key_place = 3
 
+-- the place, counted from 0, of the word that is the path of the journal's file
 abbrev pub journal_place : ℕ
 journal_place = 4
 

@@ -18,8 +18,11 @@ use yasir_io::{SlotDisk, Source};
 /// The link of a box, the direction of that link, and how many silent ticks follow a whole line.
 #[derive(Clone, Copy, Debug, PartialEq, Eq)]
 pub struct LiveLink {
+    /// The link, as its journal names it.
     pub link: LinkId,
+    /// The direction of the link.
     pub dir: Dir,
+    /// How many silent ticks follow a line that was read to its end.
     pub rest: u32,
 }
 

@@ -20,14 +20,14 @@ use std::io;
 use std::rt::Files;
 use yasir_io::{FileSlots, FileSource, Lock, SlotDisk, SlotFile, Source};
 
-/// The exit status if the runtime refuses something that a run needs: a place for a standard stream
-/// that is closed, the words, or memory for the words.
+/// The exit status if the runtime refuses something that a run needs: to open the folder `/`, which
+/// takes the places of standard streams that are closed, the words, or memory for the words.
 pub const NOT_GIVEN: u8 = 13;
 
-/// The places, counted from 0, of the word that is the path of the key's file, and of the word that
-/// is the path of the journal's file (`JOURNAL_PLACE`).
+/// The place, counted from 0, of the word that is the path of the key's file.
 const KEY_PLACE: usize = 3;
 
+/// The place, counted from 0, of the word that is the path of the journal's file.
 const JOURNAL_PLACE: usize = 4;
 
 // Returns the words after the program's name.

@@ -10,8 +10,11 @@ use link_words::{Profile, Proto, Usage, read_dir, read_link};
 /// The protocol, the profile and the direction of a link.
 #[derive(Clone, Copy, Debug, PartialEq, Eq)]
 pub struct Linked {
+    /// The protocol of the link.
     pub proto: Proto,
+    /// The profile of the link.
     pub profile: Profile,
+    /// The direction of the link.
     pub dir: Dir,
 }
 

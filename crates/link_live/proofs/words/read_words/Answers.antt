@@ -3,7 +3,7 @@ use Rattle.{link_words.proofs.Listed.five, std.specs.String.string_bytes}
 use Rattle.std.proofs.Common.{◌≡◌, [], ◌∷◌, map, IfOk, OnErr, subst, sym}
 use Rattle.link_live.proofs.words.read_words.Goals as goal
 
--- the words of a list of five
+-- If there are five words, the list of their bytes has these five items.
 words : (c : goal.After-read_five) → map string_bytes c.args.words.now
     ≡ c.as_str.result.now ∷ c.as_str-in-len5.result.now ∷ c.as_str-in-len5-2.result.now
     ∷ c.as_str-in-len5-3.result.now ∷ c.as_str-in-len5-4.result.now ∷ []
