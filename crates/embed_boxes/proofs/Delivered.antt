@@ -1,4 +1,5 @@
--- A line whose frames are spaced comes as it was sent, 18 ticks later.
+-- If the frames of a line are spaced and silence follows them, the line arrives as it was sent, 18
+-- ticks later.
 use Rattle.{embed_boxes.specs.Carrying.profile_with, hmac_tag.specs.declared.dir.Dir.TheVariants.Ab}
 use Rattle.link_format.{proofs.Profiles.y18-tags, specs.Profile.delay, specs.Setup.setup_of}
 use Rattle.link_verdicts.specs.Checking.{received_line}
@@ -11,7 +12,7 @@ use Rattle.std.proofs.Common.{◌≡◌, ◌∙◌, ℕ, ◌-◌, ◌+◌, List,
 use Rattle.std.proofs.lemmas.List.{append-nil}
 use Rattle.yasir_ticks.specs.{Ticks.silent, declared.tick.Tick.Tick}
 
--- the law, for the boxes of this program
+-- the law for the boxes of this program, which have the profile y18 and new journals
 law : (key : List ℕ) (frames : List Tick) (more : ℕ)
     → IsUntouched (profile_with key) rtu_rules 0 0 frames more
     → DeliversAll (profile_with key) rtu_rules 0 0 frames more 0
