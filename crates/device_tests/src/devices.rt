@@ -8,10 +8,12 @@ use std::alloc::{AllocError, Global};
 use std::test::Fail;
 use yasir_ticks::Tick;
 
-// A part of a line.
+/// A part of a line.
 #[derive(Drop)]
 pub enum Part {
+    /// These bytes, one in each tick.
     Bytes(&'static [u8]),
+    /// How many silent ticks.
     Silence(usize),
 }
 
@@ -33,6 +35,7 @@ fn add_part(line: &mut Vec<Tick>, part: &Part) -> Result<(), AllocError> {
     Ok(())
 }
 
+/// Returns the ticks of these parts, in order.
 pub fn line_of(alloc: Global, parts: &[Part]) -> Result<Vec<Tick>, AllocError> {
     let mut line = Vec::new(alloc);
     for part in parts {
@@ -41,13 +44,16 @@ pub fn line_of(alloc: Global, parts: &[Part]) -> Result<Vec<Tick>, AllocError> {
     Ok(line)
 }
 
-// A copy of a frame that a device has lent, and the tick of its first byte.
+/// A copy of a frame that a device has lent, and the tick of its first byte.
 #[derive(Drop)]
 pub struct FrameAt {
+    /// The tick of its first byte.
     pub start: u64,
+    /// Its bytes.
     pub bytes: ArrayVec<u8, 292>,
 }
 
+/// Returns a copy of a frame that a device has lent.
 pub fn frame_at(start: u64, lent: &[u8]) -> FrameAt
     requires { length lent.now ≤ 292 }
 {
@@ -56,13 +62,16 @@ pub fn frame_at(start: u64, lent: &[u8]) -> FrameAt
     FrameAt { start, bytes }
 }
 
-// What a device heard of some ticks, with a copy of the frame that it read, if any.
+/// What a device heard of some ticks, with a copy of the frame that it read, if any.
 #[derive(Drop)]
 pub struct Heard {
+    /// How many ticks were taken.
     pub taken: usize,
+    /// The frame that was read in the last of these ticks, if any.
     pub frame: Option<FrameAt>,
 }
 
+/// Returns what the device met, with a copy of the frame that it lends.
 pub fn copied<D: Device>(device: &D, met: Met) -> Heard
     ensures { result.taken ≡ met.taken }
 {
@@ -104,14 +113,16 @@ fn readings_of<D: Device + Drop>(
     Ok(readings::<D>(alloc, line.as_slice())?)
 }
 
+/// A query of Modbus RTU.
 pub const QUERY: &[u8] = b"\x01\x03\x00\x00\x00\x0A\xC5\xCD";
 
+/// A query of Modbus RTU with a wrong CRC.
 pub const DAMAGED: &[u8] = b"\x01\x03\x00\x00\x00\x0A\xC5\xCC";
 
-// The reset of a link.
+/// The reset of a link.
 pub const RESET_LINK: &[u8] = b"\x05\x64\x05\xC0\x01\x00\x00\x04\xE9\x21";
 
-// The header of a frame with 292 bytes.
+/// The header of a frame with 292 bytes.
 pub const LONGEST_HEADER: &[u8] = b"\x05\x64\xFF\xC4\x01\x00\x00\x04\x27\x27";
 
 #[test]

@@ -94,14 +94,16 @@ impl Device for Deaf {
     }
 }
 
-// A spacer of any device, so that one loop serves all of them.
+/// A spacer of any device, so that one loop serves all of them.
 pub trait Spaces {
     ghost taken: { Self → ℕ };
 
+    /// Takes a tick (`Spacer::step`).
     fn take(&mut self, t: Tick) -> SpaceStep
         requires { taken self.old < MAX_TICKS }
         ensures { taken self.new ≡ taken self.old + 1 };
 
+    /// Takes the first ticks of a run (`Spacer::take_some`).
     fn take_some(&mut self, run: TickRun<'_>) -> SpaceRun
         requires room { taken self.old + length (run_ticks run) ≤ MAX_TICKS }
         requires some { 0 < length (run_ticks run) }
@@ -109,6 +111,7 @@ pub trait Spaces {
         ensures within { result.taken ≤ length (run_ticks run.entry) }
         ensures taken { taken self.new ≡ taken self.old + result.taken };
 
+    /// Takes the first ticks of a run, and owes what leaves in them (`Spacer::hear_some`).
     fn hear_some(&mut self, run: TickRun<'_>) -> Met
         requires room { taken self.old + length (run_ticks run) ≤ MAX_TICKS }
         requires some { 0 < length (run_ticks run) }
@@ -116,18 +119,23 @@ pub trait Spaces {
         ensures within { result.taken ≤ length (run_ticks run.entry) }
         ensures taken { taken self.new ≡ taken self.old + result.taken };
 
+    /// Queues the frame that was read in the last of `owed` ticks, if it can
+    /// (`Spacer::queue_read`).
     fn queue_read(&mut self, owed: usize) -> bool
         requires { 0 < owed }
         ensures { taken self.new ≡ taken self.old };
 
+    /// Answers the first of `owed` ticks (`Spacer::give_some`).
     fn give_some(&mut self, owed: usize, read: Option<u64>) -> SpaceRun
         requires { 0 < owed }
         ensures some { 0 < result.taken }
         ensures within { result.taken ≤ owed }
         ensures taken { taken self.new ≡ taken self.old };
 
+    /// Returns the bytes that left in the last ticks taken, one in each tick.
     fn sent_bytes(&self) -> &[u8];
 
+    /// Returns how many frames wait.
     fn waiting(&self) -> usize;
 }
 
@@ -165,10 +173,12 @@ impl<V: Device, const GAP: usize> Spaces for Spacer<V, GAP> {
     }
 }
 
-// A part of a line.
+/// A part of a line.
 #[derive(Drop)]
 pub enum Part {
+    /// These bytes, one in each tick.
     Bytes(&'static [u8]),
+    /// How many silent ticks.
     Silence(usize),
 }
 
@@ -190,6 +200,7 @@ fn add_part(line: &mut Vec<Tick>, part: &Part) -> Result<(), AllocError> {
     Ok(())
 }
 
+/// Returns the ticks of these parts, in order.
 pub fn line_of(alloc: Global, parts: &[Part]) -> Result<Vec<Tick>, AllocError> {
     let mut line = Vec::new(alloc);
     for part in parts {
@@ -198,10 +209,11 @@ pub fn line_of(alloc: Global, parts: &[Part]) -> Result<Vec<Tick>, AllocError> {
     Ok(line)
 }
 
-// The other line, and for each frame that is lost the step in which it is lost and the tick of its
-// first byte.
+/// The other line, and for each frame that is lost the step in which it is lost and the tick of its
+/// first byte.
 pub type Answers = (Vec<Tick>, Vec<(usize, u64)>);
 
+/// Gives a spacer this line tick by tick, and returns what leaves and which frames are lost.
 pub fn answers<B: Spaces>(
     alloc: Global,
     spacer: &mut B,
@@ -222,17 +234,20 @@ pub fn answers<B: Spaces>(
     Ok((ticks, lost))
 }
 
-// The reset of a DNP3 link.
+/// The reset of a DNP3 link.
 pub const RESET_LINK: &[u8] = b"\x05\x64\x05\xC0\x01\x00\x00\x04\xE9\x21";
 
 const READ_TEN: &[u8] = b"\x01\x03\x00\x00\x00\x0A\xC5\xCD";
 
 const READ_ONE: &[u8] = b"\x01\x03\x00\x00\x00\x01\x84\x0A";
 
-// What comes in, what leaves, and what is lost.
+/// What comes in, what leaves, and what is lost.
 pub struct Row {
+    /// The line that comes in.
     pub line: &'static [Part],
+    /// The line that leaves.
     pub leaves: &'static [Part],
+    /// For each frame that is lost, the step in which it is lost and the tick of its first byte.
     pub lost: &'static [(usize, u64)],
 }
 
@@ -249,8 +264,8 @@ fn space<B: Spaces>(rt: &impl Abort, alloc: Global, spacer: &mut B, row: &Row) -
     Ok(())
 }
 
-// Two resets with no silence between them: the first is sent after its last byte, and the second
-// one 21 silent ticks after the first.
+/// Two resets with no silence between them: the first is sent after its last byte, and the second
+/// one 21 silent ticks after the first.
 pub const TWO_RESETS: Row = Row {
     line: &[Bytes(RESET_LINK), Bytes(RESET_LINK), Silence(40)],
     leaves: &[
@@ -263,8 +278,8 @@ pub const TWO_RESETS: Row = Row {
     lost: &[],
 };
 
-// Two queries that four silent ticks part: the first is sent after the tick that ends it, and the
-// second one 21 silent ticks after the first.
+/// Two queries that four silent ticks part: the first is sent after the tick that ends it, and the
+/// second one 21 silent ticks after the first.
 pub const TWO_QUERIES: Row = Row {
     line: &[Bytes(READ_TEN), Silence(4), Bytes(READ_ONE), Silence(40)],
     leaves: &[
@@ -343,7 +358,7 @@ fn frames_wait(rt: HostRuntime) -> Result<(), Fail> {
     Ok(())
 }
 
-// Adds what leaves in a run to the other line.
+/// Adds what leaves in a run to the other line.
 pub fn add_run(line: &mut Vec<Tick>, run: &SpaceRun, sent: &[u8]) -> Result<(), AllocError> {
     if sent.is_empty() {
         return add_part(line, &Silence(run.taken));
