@@ -3,12 +3,13 @@ use Rattle.std.specs.Prelude.{◌≡◌, ℕ, ◌≤◌, nat_lt, Bool, if◌then
 use Rattle.std.specs.Prelude.{length, Option, None, Result, Ok, Err}
 use Rattle.byte_walk.specs.Walks.{Begins, BeginsNone}
 
--- where such a reader is: what comes next, and the bytes of a field that have come
+-- where a reader of such a format is: what comes next, and the bytes of a field that have come so
+-- far
 pub record Spot (S : Type 0) : Type 0 where
   pub stage : S
   pub partial : List ℕ
 
--- before a field or a byte
+-- before a field or a single byte
 abbrev pub before_field : {S : Type 0} → S → Spot S
 before_field stage = record { stage = stage; partial = [] }
 
@@ -17,7 +18,7 @@ module _ {S I F : Type 0} where
   at_spot (Ok next) = Ok (before_field next.0, next.1)
   at_spot (Err why) = Err why
 
--- One byte: where single bytes come next, it is taken at once, and else with its field.
+-- One step: if single bytes come next, the byte is taken at once, and otherwise with its field.
 module _ {S I F : Type 0} (takes_bytes : S → Bool) (field_at : S → List ℕ → Result (S × Option I) F)
     (byte_at : S → ℕ → Result (S × Option I) F) where
   abbrev pub spot_step : Spot S → ℕ → Result (Spot S × Option I) F
@@ -27,8 +28,9 @@ module _ {S I F : Type 0} (takes_bytes : S → Bool) (field_at : S → List ℕ 
       then Ok (record { stage = spot.stage; partial = spot.partial ++ b ∷ [] }, None)
       else at_spot (field_at spot.stage (spot.partial ++ b ∷ []))
 
--- A byte is refused after these bytes: its field is the first one with which no input of the format
--- begins, for this cause. What comes before the field begins one, with these items.
+-- Holds if byte b after these bytes is refused at the right offset and for the right cause: its
+-- field is the first one with which no input of the format begins. The bytes before the field begin
+-- an input, with these items.
 module _ {I F : Type 0} (IsRight : List ℕ → List I → Type 0)
     (IsCause : List ℕ → List ℕ → F → Type 0) where
   pub record RefusesField (bytes : List ℕ) (items : List I) (b offset : ℕ) (why : F) : Type 0 where

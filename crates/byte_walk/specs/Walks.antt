@@ -1,29 +1,29 @@
--- A reader that takes bytes one by one. At each place a byte leads to a place and gives an item or
--- none, or is refused.
+-- Readers that take bytes one by one. At each place a byte either leads to a place, and gives at
+-- most one item, or is refused.
 use Rattle.std.specs.Prelude.{◌≡◌, ℕ, Bool, true, List, [], ◌∷◌, ◌++◌, Option, Result, Ok, Err}
 use Rattle.std.specs.Option.{option_to_list}
 
 module _ {P I F : Type 0} where
-  -- these items, and then what the rest comes to
+  -- these items in front of what the bytes that follow give, or why one of those is refused
   abbrev pub after_items : List I → Result (P × List I) F → Result (P × List I) F
   after_items items (Ok rest) = Ok (rest.0, items ++ rest.1)
   after_items items (Err why) = Err why
 
-  -- what a byte comes to, and then the rest
+  -- what one byte gives, and then what the bytes that follow it give
   abbrev pub and_then_walk : Result (P × Option I) F → (P → Result (P × List I) F)
       → Result (P × List I) F
   and_then_walk (Ok next) rest = after_items (option_to_list next.1) (rest next.0)
   and_then_walk (Err why) rest = Err why
 
 module _ {P I F : Type 0} (step : P → ℕ → Result (P × Option I) F) where
-  -- where a reader comes to from this place over these bytes, and the items that they give; or why
-  -- one of them is refused
+  -- the place to which a reader gets from this place over these bytes, and the items that they
+  -- give, or why one of them is refused
   unfoldable pub walk : P → List ℕ → Result (P × List I) F
   walk from [] = Ok (from, [])
   walk from (b ∷ bytes) = and_then_walk (step from b) (λ place. walk place bytes)
 
--- The bytes begin an input of this format, and these are the items of what is there: an input
--- that goes on so has these items first.
+-- Holds if the bytes begin an input of this format, and these are the items of the bytes: each
+-- input that begins with the bytes has these items first.
 module _ {I : Type 0} (IsRight : List ℕ → List I → Type 0) where
   pub record Begins (bytes : List ℕ) (items : List I) : Type 0 where
     pub more : List ℕ
@@ -32,12 +32,12 @@ module _ {I : Type 0} (IsRight : List ℕ → List I → Type 0) where
     pub each : (more : List ℕ) (all : List I) → IsRight (bytes ++ more) all
         → (others : List I) × (all ≡ items ++ others)
 
-  -- No input of this format begins with these bytes.
+  -- Holds if no input of this format begins with these bytes.
   abbrev pub BeginsNone : List ℕ → Type 0
   BeginsNone bytes = (more : List ℕ) (items : List I) → IsRight (bytes ++ more) items → ⊥
 
--- A reader reads a format: from its first place it comes to a place where the input may end exactly
--- over the inputs of that format, with their items.
+-- Holds if a reader reads exactly this format: the inputs over which it gets from its first place
+-- to one where the input may end are those of the format, with their items.
 module _ {P I F : Type 0} (step : P → ℕ → Result (P × Option I) F) (start : P) (ends : P → Bool)
     (IsRight : List ℕ → List I → Type 0) where
   pub record ReadsFormat : Type 0 where
@@ -46,7 +46,7 @@ module _ {P I F : Type 0} (step : P → ℕ → Result (P × Option I) F) (start
     pub complete : (bytes : List ℕ) (items : List I) → IsRight bytes items
         → (place : P) × (walk step start bytes ≡ Ok (place, items)) × (ends place ≡ true)
 
-  -- from this place the input can still come to an end
+  -- Holds if some bytes lead from this place to one where the input may end.
   pub record GoesOnFrom (place : P) : Type 0 where
     pub more : List ℕ
     pub others : List I

@@ -1,8 +1,8 @@
-//! Readers that take a format byte by byte: what such a reader comes to over a whole list of bytes,
-//! and what it takes to show that it reads a format exactly.
+//! Readers that take a format byte by byte: where such a reader gets to over a whole list of bytes,
+//! what it gives, and what must be shown for it to read a format exactly.
 //!
-//! A function whose proof needs the law, for places, items and faults that are numbers, calls its
-//! function, which does nothing when it runs:
+//! `walks_in_pieces` is a law, for places, items and faults that are numbers. A function whose
+//! proof needs the law calls it. The call does nothing when it runs:
 //!
 //!     walks_in_pieces();
 #![tactic(auto)]
@@ -10,9 +10,9 @@
 ghost use Rattle.std.specs.Prelude.{◌≡◌, ℕ, ◌++◌, List, Option, Result, Ok};
 ghost use Rattle.byte_walk.specs.Walks.{walk, after_items};
 
-/// It doesn't matter in which pieces the bytes come: what a reader comes to over two lists is what
-/// it
-/// comes to over the second from where the first one leads.
+/// A law of the definitions: it doesn't matter in which pieces the bytes come. If a reader gets to
+/// `to` over the first list, its walk over both lists gives the items of the first one, and then
+/// what its walk over the second one from `to` gives.
 pub fn walks_in_pieces()
     ensures { (step : ℕ → ℕ → Result (ℕ × Option ℕ) ℕ) (from to : ℕ) (first second items : List ℕ)
         → walk step from first ≡ Ok (to, items)
