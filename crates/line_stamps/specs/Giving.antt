@@ -11,12 +11,13 @@ use Rattle.line_stamps.specs.declared.timing.Timing.{Timing}
 use Rattle.line_stamps.specs.Places.{PlacedByte, line_of}
 use Rattle.line_stamps.specs.Parts.{character, rounded}
 
--- When a tick starts, in nanoseconds since tick 0, where a capture counts time in units of this
--- many nanoseconds: the nearest whole number of units, a half up.
+-- The start of a tick, in nanoseconds since tick 0, in a capture that counts time in units of this
+-- many nanoseconds: the nearest whole number of units, with a half rounded up.
 abbrev pub tick_start : Rate → ℕ → ℕ → ℕ
 tick_start rate unit tick = unit * rounded (tick * character rate) (rate.baud * unit)
 
--- how a capture is placed whose tick 0 is tick m of the line that was given, since an epoch
+-- the timing by which tick m of the line that was given becomes tick 0, if tick 0 of that line has
+-- the time `epoch`
 abbrev pub taken_from : Rate → ℕ → ℕ → ℕ → Timing
 taken_from rate unit epoch m = record {
   rate = rate;
@@ -24,36 +25,38 @@ taken_from rate unit epoch m = record {
   origin = epoch + tick_start rate unit m;
 }
 
--- A capture is taken as this line, up to the silence behind its last byte.
+-- Holds if a capture is taken as this line, apart from the silence after its last byte.
 abbrev pub IsTakenAs : Timing → List CaptureByte → List Tick → Type 0
 IsTakenAs t cs line = (n : ℕ) × (line ≡ line_of t cs ++ silent n)
 
--- a byte, and its tick
+-- a byte of a line, with its tick
 pub record ByteAt : Type 0 where
   pub tick : ℕ
   pub byte : ℕ
 
--- a byte that is placed on a line, in its tick
+-- a byte that is placed on a line, with its tick
 abbrev pub at_tick : PlacedByte → ByteAt
 at_tick x = record { tick = x.spot.tick; byte = x.byte }
 
--- the bytes of a line whose first tick is tick n
+-- the bytes of a line whose first tick is tick n, each with its tick
 abbrev pub bytes_from : ℕ → List Tick → List ByteAt
 bytes_from n [] = []
 bytes_from n (Silent ∷ l) = bytes_from (suc n) l
 bytes_from n (Byte b ∷ l) = record { tick = n; byte = b } ∷ bytes_from (suc n) l
 
 module _ (rate : Rate) (unit epoch : ℕ) where
-  -- A byte of a capture gives that of a tick, of the tick of the byte before it, if there is one:
-  -- the time stamp of its record is the start of its tick, since an epoch, or it follows in the
-  -- next tick.
+  -- Holds if a byte of a capture tells the tick of this byte of a line, with `before` the tick of
+  -- the byte before it, if there is one. The first byte of all and the first byte of each record
+  -- have a time stamp, which is the start of their tick, counted from `epoch`. Each other byte is
+  -- in the tick after `before`.
   abbrev pub Gives : Option ℕ → ByteAt → CaptureByte → Type 0
   Gives None x c = c.start ≡ epoch + tick_start rate unit x.tick
   Gives (Some before) x c =
       (c.first ≡ true → c.start ≡ epoch + tick_start rate unit x.tick)
       × (c.first ≡ false → x.tick ≡ suc before)
 
-  -- These bytes of a capture give these bytes of a line, in whatever records.
+  -- Holds if these bytes of a capture give these bytes of a line, in the same order and in whatever
+  -- records.
   abbrev pub AreGiven : Option ℕ → List ByteAt → List CaptureByte → Type 0
   AreGiven before [] [] = Unit {0}
   AreGiven before [] (c ∷ cs) = ⊥

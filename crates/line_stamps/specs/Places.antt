@@ -12,31 +12,32 @@ use Rattle.line_stamps.specs.declared.timing.Spacing.TheVariants.{ByTime, ByReco
 use Rattle.line_stamps.specs.declared.timing.Timing.{Timing}
 use Rattle.line_stamps.specs.Parts.{character, rounded, ticks_apart}
 
--- where a byte stands: the start of it, in parts since the origin, and its tick
+-- where a byte is on a line: its start, in parts since the origin, and its tick
 pub record Spot : Type 0 where
   pub time : ℕ
   pub tick : ℕ
 
--- a time stamp, in parts since the origin
+-- the time stamp of a byte, in parts since the origin
 abbrev pub stamp : Timing → CaptureByte → ℕ
 stamp t c = (c.start - t.origin) * t.rate.baud
 
--- The start of a byte, in parts since the origin. A time stamp is that of the first byte of a
--- record, and each further byte starts a character after the one before.
+-- The start of a byte, in parts since the origin. The first byte of all and the first byte of each
+-- record start at their time stamp, and each other byte a character after the one before it.
 abbrev pub start_of : Timing → Option Spot → CaptureByte → ℕ
 start_of t None c = stamp t c
 start_of t (Some before) c =
     if c.first then stamp t c else before.time + character t.rate
 
--- From the byte before to one with so much time between, this many ticks, if there is no drift. A
--- record that is taken for a frame has four silent ticks before it.
+-- How many ticks there are from one byte to the next, with this time between their starts, if there
+-- is no drift. A record that is taken for a frame has at least four silent ticks before it.
 abbrev pub steps_apart : Spacing → Bool → ℕ → ℕ → ℕ
 steps_apart ByTime first gap length_of_one = ticks_apart gap length_of_one
 steps_apart ByRecord true gap length_of_one = max (ticks_apart gap length_of_one) (suc T3_5_TICKS)
 steps_apart ByRecord false gap length_of_one = ticks_apart gap length_of_one
 
--- The tick of a byte that starts at this time. Drift is taken up in silences above 320 ticks: there
--- the byte is in the tick that is nearest to its time, but leaves 320 silent ticks.
+-- The tick of a byte that starts at this time, n ticks after the one before it if there is no
+-- drift. Drift is taken up in silences of more than 320 ticks: there the byte is in the tick that
+-- is nearest to its time, but after at least 320 silent ticks.
 abbrev pub tick_at : ℕ → ℕ → ℕ → ℕ → ℕ
 tick_at n before time length_of_one =
     if nat_lt (suc DRIFT_SILENCE) n
@@ -49,19 +50,19 @@ tick_after t (Some before) first time =
     tick_at (steps_apart t.spacing first (time - before.time) (character t.rate)) before.tick time
     (character t.rate)
 
--- where a byte stands, of where the byte before it stands, if there is one
+-- where a byte is, given where the byte before it is, if there is one
 abbrev pub spot_of : Timing → Option Spot → CaptureByte → Spot
 spot_of t last c = record {
   time = start_of t last c;
   tick = tick_after t last c.first (start_of t last c);
 }
 
--- the tick behind a byte that is there, or the first tick of all
+-- the tick after a byte, or tick 0 if there is none
 abbrev pub next_tick : Option Spot → ℕ
 next_tick None = 0
 next_tick (Some spot) = suc spot.tick
 
--- a byte, where it stands, and whether it is the first one of its record
+-- a byte, where it is on a line, and whether it is the first one of its record
 pub record PlacedByte : Type 0 where
   pub spot : Spot
   pub byte : ℕ
@@ -70,26 +71,26 @@ pub record PlacedByte : Type 0 where
 abbrev pub placed_at : Spot → CaptureByte → PlacedByte
 placed_at spot c = record { spot = spot; byte = c.byte; first = c.first }
 
--- where bytes stand that come after one that is there, if there is one
+-- where these bytes are, given where the byte before them is, if there is one
 abbrev pub placed_from : Timing → Option Spot → List CaptureByte → List PlacedByte
 placed_from t last [] = []
 placed_from t last (c ∷ cs) =
     placed_at (spot_of t last c) c ∷ placed_from t (Some (spot_of t last c)) cs
 
--- where the bytes of one way of a capture stand
+-- where the bytes of one way of a capture are
 abbrev pub placed : Timing → List CaptureByte → List PlacedByte
 placed t cs = placed_from t None cs
 
--- the ticks of bytes, from tick n on
+-- the ticks from tick n to the last of these bytes
 abbrev pub ticks_from : ℕ → List PlacedByte → List Tick
 ticks_from n [] = []
 ticks_from n (x ∷ xs) = silent (x.spot.tick - n) ++ (Byte x.byte ∷ ticks_from (suc x.spot.tick) xs)
 
--- the line that one way of a capture stands for, up to its last byte
+-- the line that one way of a capture represents, up to its last byte
 abbrev pub line_of : Timing → List CaptureByte → List Tick
 line_of t cs = ticks_from 0 (placed t cs)
 
--- where the last of these bytes stands, if there is one
+-- where the last of these bytes is, or the byte before them if there are none
 abbrev pub last_spot_from : Timing → Option Spot → List CaptureByte → Option Spot
 last_spot_from t last [] = last
 last_spot_from t last (c ∷ cs) = last_spot_from t (Some (spot_of t last c)) cs

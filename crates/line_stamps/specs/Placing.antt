@@ -1,4 +1,4 @@
--- What a placer answers, and what it stands for.
+-- What a placer returns, and which bytes it has taken.
 use Rattle.std.specs.Prelude.{◌≡◌, ℕ, ◌+◌, ◌-◌, ◌*◌, ◌^◌, min, nat_lt, nat_le, if◌then◌else◌, Bool}
 use Rattle.std.specs.Prelude.{true}
 use Rattle.std.specs.Prelude.{◌&&◌, ◌||◌, false, List, [], ◌∷◌, ◌++◌, Option, Some, None, Result}
@@ -15,28 +15,28 @@ use Rattle.line_stamps.specs.declared.timing.Timing.{Timing}
 use Rattle.line_stamps.specs.Parts.{character}
 use Rattle.line_stamps.specs.Places.{Spot, start_of, spot_of, next_tick, last_spot}
 
--- whether the time of a byte is a time stamp
+-- whether a byte starts at its time stamp: it is the first byte of all, or of its record
 abbrev pub is_stamped : Option Spot → CaptureByte → Bool
 is_stamped None c = true
 is_stamped (Some before) c = c.first
 
--- the time stamp of a byte is before the origin
+-- whether a byte starts at a time stamp that is before the origin
 abbrev pub is_early : Timing → Option Spot → CaptureByte → Bool
 is_early t last c = is_stamped last c && nat_lt c.start t.origin
 
--- a byte stands at the end of all times and ticks, or behind it
+-- whether a byte has a time or a tick at the limit of both, or after it
 abbrev pub is_late : Spot → Bool
 is_late spot = nat_le TIME_LIMIT spot.time || nat_le TIME_LIMIT spot.tick
 
--- A byte that starts at this time starts less than half a character after the byte before it: no
--- tick is left for it.
+-- Whether a byte that starts at this time starts less than half a character after the byte before
+-- it, so that no tick is left for it. Nothing overlaps if each record is taken for a frame.
 abbrev pub overlaps_at : Spacing → Option Spot → ℕ → ℕ → Bool
 overlaps_at ByRecord last time length_of_one = false
 overlaps_at ByTime None time length_of_one = false
 overlaps_at ByTime (Some before) time length_of_one =
     nat_lt (2 * (time - before.time)) length_of_one
 
--- a byte overlaps the byte before it, of where that one stands, if there is one
+-- whether a byte overlaps the byte before it, given where that one is, if there is one
 abbrev pub overlaps : Timing → Option Spot → CaptureByte → Bool
 overlaps t last c = overlaps_at t.spacing last (start_of t last c) (character t.rate)
 
@@ -61,7 +61,8 @@ answer_at t last c =
     else if overlaps t last c then Err Overlap
     else Ok (silence_before last (spot_of t last c))
 
--- No byte that comes after one that is there is early, and none overlaps the one before it.
+-- Holds if none of these bytes is early, and none overlaps the one before it, given where the byte
+-- before them is, if there is one.
 abbrev pub NoneRefused : Timing → Option Spot → List CaptureByte → Type 0
 NoneRefused t last [] = Unit {0}
 NoneRefused t last (c ∷ cs) =
@@ -79,19 +80,20 @@ spot_if (Some last) = Some (spot_at last)
 abbrev pub timing_of : Placer → Timing
 timing_of placer = placer.timing
 
--- A placer has taken these bytes: it knows where the last one stands, and counts those that
--- overlap, to 2^64 - 1 at most.
+-- Holds if a placer has taken these bytes: it knows where the last one is, and counts those that
+-- overlap, up to 2^64 - 1.
 pub record HasTaken (placer : Placer) (cs : List CaptureByte) : Type 0 where
   pub stands : spot_if placer.last ≡ last_spot placer.timing cs
   pub counted : placer.overlaps ≡ min (overlap_count placer.timing cs) (2 ^ 64 - 1)
 
--- A placer that had taken these bytes or others has taken one more.
+-- Holds if a placer has taken one more byte, whatever bytes it had taken before.
 abbrev pub HasTakenMore : Placer → Placer → CaptureByte → Type 0
 HasTakenMore old new c =
     (new.timing ≡ old.timing)
     × ((cs : List CaptureByte) → HasTaken old cs → HasTaken new (cs ++ c ∷ []))
 
--- What an answer leaves behind: a byte that overlaps is taken, though it isn't placed.
+-- What `place` leaves of a placer, by its result: a byte that overlaps is taken, though it isn't
+-- placed, and one that is early or late changes nothing.
 abbrev pub Leaves : Placer → Placer → CaptureByte → Result ℕ Unplaced → Type 0
 Leaves old new c (Ok silence) = HasTakenMore old new c
 Leaves old new c (Err Overlap) = HasTakenMore old new c

@@ -1,4 +1,4 @@
--- The word of a rate: its baud and the bits of a character, as `9600x11`.
+-- The word of a rate: its baud and the bits of a character, such as `9600x11`.
 use Rattle.std.specs.Prelude.{ℕ, List, ◌++◌, codes, decimal}
 use Rattle.line_stamps.specs.declared.rate.Rate.{Rate}
 

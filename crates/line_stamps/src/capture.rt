@@ -8,9 +8,9 @@ pub enum Way {
     B,
 }
 
-/// A byte of a capture. A capture has records of one or more bytes, and a time stamp for each
-/// record: that is the start of its first byte, and each further byte starts one character after
-/// the byte before it.
+/// A byte of a capture. A capture has records of one or more bytes, each record with a time stamp.
+/// That is the start of its first byte, and each other byte starts one character after the byte
+/// before it.
 #[derive(Clone, Copy, Debug, PartialEq, Eq)]
 pub struct CaptureByte {
     pub way: Way,

@@ -1,9 +1,9 @@
-//! A reader of captures, byte by byte, whatever their form is.
+//! Reading captures byte by byte, whatever their form is.
 
 use crate::seen::Seen;
 
-/// A reader of captures of one form, in constant memory. It takes a capture byte by byte, and gives
-/// what it sees in it as soon as that has come: bytes of the line and events, in their order.
+/// A reader of captures of one form, in constant memory. It takes a capture byte by byte, and
+/// returns bytes of the line and events in their order, each as soon as all of it has come.
 pub trait CaptureReader: Drop {
     ghost use Rattle.std.specs.Prelude.{◌≡◌, ℕ, ◌+◌, ◌<◌, List, [], ◌∷◌, ◌++◌, Option, Some, None};
     ghost use Rattle.std.specs.Prelude.{Err, OnOk, IfOk, IfErr};
@@ -15,44 +15,47 @@ pub trait CaptureReader: Drop {
     /// Why a capture is refused, and where.
     type Refusal: Copy;
 
-    // The captures of this form, and what is seen in each.
+    // Holds for a capture of this form and what is seen in it.
     ghost format: { List ℕ → List Seen → Type 0 };
 
-    // The reader has taken these bytes, none of which it refused, and has given these items.
+    // Holds if the reader has taken these bytes, none of which it refused, and has returned these
+    // items.
     ghost stands: { Self → List ℕ → List Seen → Type 0 };
 
-    // After these bytes and items the next byte, or the end of the capture, is refused so: the
-    // place and the cause of the refusal are right.
+    // Holds if the place and the cause of a refusal are right for the next byte after these bytes
+    // and items, or for the end of the capture there.
     ghost refuses: { List ℕ → List Seen → Option ℕ → Self.Refusal → Type 0 };
 
-    // The reader has refused its capture so.
+    // Holds if the reader has refused its capture with this refusal.
     ghost has_refused: { Self → Self.Refusal → Type 0 };
 
     // How many bytes it has taken.
     ghost bytes_taken: { Self → ℕ };
 
-    /// A reader before its capture.
+    /// Returns a reader that has taken nothing yet.
     fn start() -> Self
         ensures stands { stands result [] [] }
         ensures taken { bytes_taken result ≡ 0 };
 
-    /// How many bytes it took.
+    /// Returns how many bytes the reader has taken.
     fn taken(&self) -> u64
         ensures { result ≡ bytes_taken self.now };
 
-    /// Takes the next byte of the capture, and returns what is seen with it. A refusal is for good.
+    /// Takes the next byte of the capture, and returns what is seen with it. A refusal is for good:
+    /// each later call returns it too.
     fn feed(&mut self, b: u8) -> Result<Option<Seen>, Self::Refusal>
         requires { bytes_taken self.old < MAX_BYTES }
-        // A capture so far stands for the items that were returned.
+        // The bytes so far represent the items that were returned.
         ensures stands { (bytes : List ℕ) (items : List Seen) → stands self.old bytes items
             → IfOk result (λ seen. stands self.new (bytes ++ b ∷ [])
             (items ++ option_to_list seen)) }
-        // Each capture that goes on so has these items first.
+        // Each capture that begins with the bytes so far has these items first.
         ensures each { (bytes : List ℕ) (items : List Seen) → stands self.old bytes items
             → IfOk result (λ seen. (more : List ℕ) (all : List Seen)
             → format ((bytes ++ b ∷ []) ++ more) all
             → (others : List Seen) × (all ≡ (items ++ option_to_list seen) ++ others)) }
-        // It refuses a byte with which no capture of this form goes on, and says why and where.
+        // It refuses a byte only if no capture of this form begins with the bytes up to it, and
+        // says why and where.
         ensures refused { (bytes : List ℕ) (items : List Seen) → stands self.old bytes items
             → IfErr result (λ bad. BeginsNone format (bytes ++ b ∷ [])
             × refuses bytes items (Some b) bad) }
@@ -61,7 +64,7 @@ pub trait CaptureReader: Drop {
         ensures for_good { (bad : Self.Refusal) → has_refused self.old bad
             → (result ≡ Err bad) × (self.new ≡ self.old) };
 
-    /// Takes the end of the capture.
+    /// Takes the end of the capture. It refuses it only if the bytes so far aren't a whole capture.
     fn finish(self) -> Result<(), Self::Refusal>
         ensures right { (bytes : List ℕ) (items : List Seen) → stands self bytes items
             → OnOk result (format bytes items) }

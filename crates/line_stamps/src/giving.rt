@@ -6,8 +6,8 @@ ghost use Rattle.line_stamps.specs.Giving.{tick_start};
 use crate::rate::Rate;
 use crate::rounding::nearest;
 
-/// When a tick starts, in nanoseconds since tick 0, for a capture that counts time in units of so
-/// many nanoseconds: the nearest whole number of units, a half up.
+/// Returns the start of a tick, in nanoseconds since tick 0, for a capture that counts time in
+/// units of `unit` nanoseconds: the nearest whole number of units, with a half rounded up.
 #[inline]
 pub fn tick_start(rate: Rate, unit: u64, tick: u64) -> u64
     requires some { 0 < unit }

@@ -19,7 +19,8 @@ pub fn same_bytes_in_the_same_order()
         → bytes_in (line_of t cs) ≡ map (λ c. c.byte) cs }
 {}
 
-/// A law of the definitions: each byte of a capture is in its tick of the line.
+/// A law of the definitions: each byte of a capture is on the line in the tick in which it is
+/// placed.
 pub fn bytes_stand_in_their_ticks()
     ensures { (t : Timing) (cs : List CaptureByte)
         → bytes_from 0 (line_of t cs) ≡ map at_tick (placed t cs) }
@@ -32,26 +33,27 @@ pub fn silences_keep_their_edges()
         → AllNext (KeepsEdges (character t.rate)) (placed t cs) }
 {}
 
-/// A law of the definitions, for captures that are placed by their times: the ticks between two
-/// bytes are at most half a tick off, and drift is taken up in silences above 320 ticks alone,
-/// never below 320.
+/// A law of the definitions, for captures that are placed by their times: the ticks from one byte
+/// to the next are at most half a tick off, unless the two overlap or drift is taken up. That
+/// happens only in silences of more than 320 ticks, of which at least 320 remain.
 pub fn ticks_keep_to_the_times()
     ensures { (t : Timing) (cs : List CaptureByte) → t.spacing ≡ ByTime
         → AllNext (KeepsTime (character t.rate)) (placed t cs) }
 {}
 
 /// A law of the definitions, for captures whose records are taken for frames: four silent ticks or
-/// more come before the first byte of a record behind another one, and none before the others.
+/// more come before the first byte of each record that follows another one, and none between the
+/// bytes of one record.
 pub fn records_are_parted()
     ensures { (t : Timing) (cs : List CaptureByte) → t.spacing ≡ ByRecord
         → AllNext ArePartedRecords (placed t cs) }
 {}
 
 /// A law of the definitions: bytes that were given as times of a capture are taken as the same
-/// ticks, in whatever records they were given, as long as the unit of its times is below half a
-/// character, and none of them is early or overlaps the one before it. Here tick `m` is where the
-/// line begins that is taken, and behind its last byte there is silence, of which a capture doesn't
-/// tell.
+/// ticks, in whatever records they were given, as long as the unit of the times is shorter than
+/// half a character. Then none of them is early or overlaps the one before it. The line that is
+/// taken begins at tick `m` of the one that was given. After its last byte there may be silence, of
+/// which a capture says nothing.
 pub fn what_was_given_is_taken()
     ensures same { (rate : Rate) (unit epoch m : ℕ) (rest : List Tick) (cs : List CaptureByte)
         → 0 < unit → 2 * (unit * rate.baud) < character rate

@@ -1,7 +1,7 @@
-//! Times of a capture, and the ticks of a line that they stand for.
+//! Times of a capture, and the ticks of a line that they represent.
 //!
-//! Times are exact: a nanosecond has as many parts as the rate has baud, so that a character of
-//! 11 bits has 11,000,000,000 parts at each rate.
+//! Times are exact: a nanosecond has as many parts as the rate has baud, so that a character of 11
+//! bits has 11,000,000,000 parts at each rate.
 //!
 //! The silence before a byte of a capture, in ticks:
 //!
@@ -37,13 +37,14 @@ pub use rounding::{nearest, ticks_between};
 pub use seen::{LineEvent, Seen};
 pub use timing::{Spacing, Timing};
 
-/// Drift between ticks and times is taken up in silences of more ticks than these alone, and none
-/// of them becomes shorter than these.
+/// Drift between ticks and times is taken up only in silences of more ticks than this, and none of
+/// them becomes shorter than this.
 pub const DRIFT_SILENCE: u64 = 320;
 
-/// Each byte of a capture starts before this time behind the origin, in parts, and before this
-/// tick: 2^62. That is 11 hours at 115,200 baud, and at least 419,244,183 characters at each rate.
+/// The limit of times, in parts after the origin, and of ticks. Each byte that is placed is below
+/// both. It is 2^62, which as a time is 11 hours at 115,200 baud, and at least 419,244,183
+/// characters at each rate.
 pub const TIME_LIMIT: u64 = 4_611_686_018_427_387_904;
 
-/// How many bytes of a capture a reader takes at most: 2^62.
+/// The greatest number of bytes that a reader takes of a capture: 2^62.
 pub const MAX_BYTES: u64 = 4_611_686_018_427_387_904;

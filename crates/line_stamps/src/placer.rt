@@ -20,8 +20,8 @@ pub enum Unplaced {
     Late,
 }
 
-// Where the byte stands that was taken last: the time of its start, in parts since the origin, and
-// its tick.
+// Where the byte that was taken last is: the time of its start, in parts since the origin, and its
+// tick.
 #[derive(Clone, Copy, Debug, PartialEq, Eq)]
 struct Last {
     time: u64,
@@ -30,7 +30,7 @@ struct Last {
     ghost ticked: { tick < 2 ^ 62 },
 }
 
-/// Places the bytes of one way of a capture on a line, one after the other. It takes no memory.
+/// Places the bytes of one way of a capture on a line, one after the other. It allocates nothing.
 #[derive(Clone, Copy, Debug, PartialEq, Eq)]
 pub struct Placer {
     timing: Timing,
@@ -38,7 +38,8 @@ pub struct Placer {
     overlaps: u64,
 }
 
-// How many ticks it is from the byte before to one with so much time between.
+// Returns how many ticks there are from the byte before to the next one, with `gap` parts between
+// their starts, if there is no drift.
 #[inline]
 fn steps(spacing: Spacing, first: bool, gap: u64, character: u64) -> u64
     requires some { 0 < character }
@@ -61,7 +62,8 @@ fn steps(spacing: Spacing, first: bool, gap: u64, character: u64) -> u64
     }
 }
 
-// The tick of a byte this many ticks behind the one before, drift taken up where it may be.
+// Returns the tick of a byte that comes `steps` ticks after tick `before` if there is no drift. In
+// a silence of more than 320 ticks drift is taken up.
 #[inline]
 fn settled(steps: u64, before: u64, time: u64, character: u64) -> u64
     requires some { 0 < character }
@@ -92,7 +94,7 @@ impl Placer {
     ghost use Rattle.line_stamps.specs.Placing.{HasTaken};
     ghost use Rattle.line_stamps.specs.Placing.{timing_of, overlap_count, Leaves};
 
-    /// A placer that has taken no byte yet.
+    /// Returns a placer that has taken no byte yet.
     pub fn new(timing: Timing) -> Placer
         ensures timing { timing_of result ≡ timing }
         ensures start { HasTaken result [] }
@@ -104,7 +106,7 @@ impl Placer {
         }
     }
 
-    // Whether the time stamp of a byte is before the origin.
+    // Whether a byte starts at a time stamp that is before the origin.
     #[inline]
     fn is_early(&self, byte: &CaptureByte) -> bool
         ensures { result ≡ is_early self.now.timing (spot_if self.now.last) byte.now }
@@ -112,7 +114,7 @@ impl Placer {
         (self.last.is_none() || byte.first) && byte.start < self.timing.origin
     }
 
-    // The time stamp of a byte, in parts since the origin; none where it is too late.
+    // Returns the time stamp of a byte, in parts since the origin, or `None` if it is too late.
     #[inline]
     fn stamp(&self, byte: &CaptureByte) -> Option<u64>
         requires { self.now.timing.origin ≤ byte.now.start }
@@ -125,7 +127,7 @@ impl Placer {
         if time < TIME_LIMIT { Some(time) } else { None }
     }
 
-    // The start of a byte, in parts since the origin; none where it is too late.
+    // Returns the start of a byte, in parts since the origin, or `None` if it is too late.
     #[inline]
     fn start_of(&self, byte: &CaptureByte) -> Option<u64>
         requires { is_early self.now.timing (spot_if self.now.last) byte.now ≡ false }
@@ -145,7 +147,7 @@ impl Placer {
         if time < TIME_LIMIT { Some(time) } else { None }
     }
 
-    // The tick of a byte that starts at this time.
+    // Returns the tick of a byte that starts at this time.
     #[inline]
     fn tick_of(&self, first: bool, time: u64) -> u64
         requires { time < 2 ^ 62 }
@@ -178,9 +180,10 @@ impl Placer {
         }
     }
 
-    /// Places the next byte: the silent ticks that come before it, behind the byte before it or
-    /// from tick 0 on. A byte that overlaps the one before is taken nevertheless, in the next tick,
-    /// so that all that overlap can be counted; one that is early or late isn't taken.
+    /// Places the next byte, and returns how many silent ticks come before it: those after the byte
+    /// before it, or those from tick 0 on. A byte that overlaps the one before it is taken
+    /// nevertheless, in the next tick, so that all bytes that overlap can be counted. One that is
+    /// early or late isn't taken.
     #[inline]
     pub fn place(&mut self, byte: CaptureByte) -> Result<u64, Unplaced>
         ensures answer { (cs : List CaptureByte) → HasTaken self.old cs
@@ -210,7 +213,7 @@ impl Placer {
         Ok(silence)
     }
 
-    /// How many bytes overlapped the one before them; the count stays at 2^64 - 1.
+    /// Returns how many bytes overlapped the one before them. The count stops at 2^64 - 1.
     #[inline]
     pub fn overlaps(&self) -> u64
         ensures { (cs : List CaptureByte) → HasTaken self.now cs
@@ -219,7 +222,7 @@ impl Placer {
         self.overlaps
     }
 
-    /// How many ticks the line has up to the byte that was taken last.
+    /// Returns how many ticks the line has, up to and with the byte that was taken last.
     #[inline]
     pub fn ticks(&self) -> u64
         ensures { (cs : List CaptureByte) → HasTaken self.now cs
@@ -228,7 +231,7 @@ impl Placer {
         self.next_tick()
     }
 
-    // The tick behind the byte that was taken last.
+    // Returns the tick after the byte that was taken last, or 0 if there is none.
     #[inline]
     fn next_tick(&self) -> u64
         ensures { result ≡ next_tick (spot_if self.now.last) }

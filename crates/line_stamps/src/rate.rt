@@ -8,8 +8,8 @@ pub const SLOWEST: u32 = 300;
 /// The fastest rate, in baud.
 pub const FASTEST: u32 = 115_200;
 
-/// The rate of a line: 300 to 115,200 baud, and a character of 10 or 11 bits with its start and
-/// stop bits.
+/// The rate of a line: 300 to 115,200 baud, and a character of 10 or 11 bits, including its start
+/// and stop bits.
 #[derive(Clone, Copy, Debug, PartialEq, Eq)]
 pub struct Rate {
     pub baud: u32,
@@ -24,7 +24,7 @@ impl Rate {
     ghost use Rattle.std.specs.Prelude.{◌≡◌};
     ghost use Rattle.line_stamps.specs.Parts.{character};
 
-    /// The length of a character, in parts: a nanosecond has `baud` of them.
+    /// Returns the length of a character in parts, of which a nanosecond has `baud`.
     #[inline]
     pub fn character(&self) -> u64
         ensures { result ≡ character self.now }

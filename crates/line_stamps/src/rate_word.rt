@@ -1,4 +1,4 @@
-//! The word of a rate, as `9600x11`.
+//! The word of a rate, such as `9600x11`.
 
 ghost use Rattle.std.specs.Prelude.{◌≡◌, ◌≢◌, ◌<◌, ◌≤◌, ◌^◌, ℕ, List, [], ◌∷◌, ◌++◌, IfSome};
 ghost use Rattle.std.specs.Prelude.{IfNone};
@@ -8,7 +8,7 @@ ghost use Rattle.line_stamps.specs.RateWords.{rate_word};
 
 use crate::rate::{FASTEST, Rate, SLOWEST};
 
-// What comes before the last letter of a word, where it is this one.
+// Returns what comes before the last letter of a word, if that is this letter.
 fn in_front_of(word: &str, letter: char) -> Option<&str>
     requires { letter < 128 }
     ensures some { IfSome result (λ x. word.now ≡ x.now ++ letter ∷ []) }
@@ -17,7 +17,7 @@ fn in_front_of(word: &str, letter: char) -> Option<&str>
     word.strip_suffix(letter)
 }
 
-// The number that a word spells, in decimal digits without a leading zero.
+// Returns the number that a word spells in decimal digits without a leading zero, if it spells one.
 fn number_in(word: &str) -> Option<u32>
     ensures some { IfSome result (λ n. word.now ≡ decimal n) }
     ensures none { IfNone result ((n : ℕ) → n < 2 ^ 32 → word.now ≡ decimal n → ⊥) }
@@ -25,7 +25,7 @@ fn number_in(word: &str) -> Option<u32>
     let Ok(n) = word.parse::<u32>() else {
         return None;
     };
-    // other texts may come for the number too
+    // `parse` also reads other texts as this number
     let mut digits = itoa::Buffer::new();
     if digits.format(n) == word {
         Some(n)
@@ -34,7 +34,7 @@ fn number_in(word: &str) -> Option<u32>
     }
 }
 
-// The word of a baud in a word that ends with `x1` and this digit.
+// Returns what comes before `x1` and this digit in a word that ends with them.
 fn baud_word(word: &str, digit: char) -> Option<&str>
     requires { digit < 128 }
     ensures some { IfSome result (λ x. word.now ≡ x.now ++ 120 ∷ 49 ∷ digit ∷ []) }
@@ -50,7 +50,7 @@ fn baud_word(word: &str, digit: char) -> Option<&str>
     in_front_of(shorter, 'x')
 }
 
-// The rate of a word of a baud, and these bits.
+// Returns the rate with the baud that a word spells and with these bits, if there is one.
 fn rate_of(baud: &str, bits: u8) -> Option<Rate>
     requires fewest { 10 ≤ bits }
     requires most { bits ≤ 11 }
@@ -70,8 +70,8 @@ fn rate_of(baud: &str, bits: u8) -> Option<Rate>
 }
 
 impl Rate {
-    /// The rate that a word spells: the baud in decimal digits without a leading zero, an `x`, and
-    /// the bits of a character. All other words spell none.
+    /// Returns the rate that a word spells, if it spells one: the baud in decimal digits without a
+    /// leading zero, an `x`, and the bits of a character.
     pub fn read(word: &str) -> Option<Rate>
         ensures some { IfSome result (λ rate. word.now ≡ rate_word rate) }
         ensures none { IfNone result ((rate : Rate) → word.now ≢ rate_word rate) }

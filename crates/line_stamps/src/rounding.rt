@@ -3,7 +3,7 @@
 ghost use Rattle.std.specs.Prelude.{◌≡◌, ◌^◌, ◌<◌};
 ghost use Rattle.line_stamps.specs.Parts.{rounded, ticks_apart};
 
-/// How many units a time is: the nearest whole number, a half up.
+/// Returns a time in units: the nearest whole number, with a half rounded up.
 #[inline]
 pub fn nearest(time: u64, unit: u64) -> u64
     requires some { 0 < unit }
@@ -14,10 +14,11 @@ pub fn nearest(time: u64, unit: u64) -> u64
     (2 * time + unit) / (2 * unit)
 }
 
-/// How many ticks it is from the start of a byte to that of the next one, of a time between the
-/// two starts and the length of a character, both in one unit: the nearest whole number, a half
-/// up, but a silence of 1.5 characters down, and at least 1. So at most one silent tick stands for
-/// exactly the silences of at most 1.5 characters, and four or more for those of at least 3.5.
+/// Returns how many ticks there are from the start of a byte to that of the next one, where `gap`
+/// is the time between the two starts and `character` the length of a character, both in one unit:
+/// the nearest whole number, and at least 1. A half is rounded up, but a silence of 1.5 characters
+/// down. So there is at most one silent tick exactly if the silence is at most 1.5 characters, and
+/// there are four or more exactly if it is at least 3.5.
 #[inline]
 pub fn ticks_between(gap: u64, character: u64) -> u64
     requires some { 0 < character }
@@ -26,7 +27,7 @@ pub fn ticks_between(gap: u64, character: u64) -> u64
     ensures ticks { result ≡ ticks_apart gap character }
     ensures some { 0 < result }
 {
-    // bytes of one burst, for which no division is needed
+    // bytes that follow each other in a burst need no division
     if 2 * gap < 3 * character {
         return 1;
     }

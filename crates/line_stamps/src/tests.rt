@@ -45,8 +45,8 @@ fn words_of_rates(rt: HostRuntime) {
     }
 }
 
-// What a placer answers for the bytes of one way: the time stamp of each record in microseconds,
-// whether the byte is the first of it, and the silent ticks before it.
+// A byte of one way: the time stamp of its record in microseconds, whether it is the first byte of
+// the record, and what the placer returns for it, which is the silent ticks before it or a refusal.
 type Row = (u64, bool, Result<u64, Unplaced>);
 
 const BY_TIME: [Row; 12] = [
@@ -56,15 +56,15 @@ const BY_TIME: [Row; 12] = [
     // silence of 1.5 characters, and of a microsecond more
     (45_000, true, Ok(1)),
     (70_001, true, Ok(2)),
-    // of 3.5 characters, and of a microsecond less
+    // silence of 3.5 characters, and of a microsecond less
     (115_001, true, Ok(4)),
     (160_000, true, Ok(3)),
-    // half a character behind a start, and a microsecond less
+    // half a character after a start, and a microsecond less
     (165_000, true, Ok(0)),
     (169_999, true, Err(Unplaced::Overlap)),
     // 320 silent ticks, with no drift taken up
     (3_384_998, true, Ok(320)),
-    // 322 characters behind tick 339, but the nearest tick is 660: a tick of drift is taken up
+    // 322 characters after tick 339, but the nearest tick is 660: a tick of drift is taken up
     (6_604_998, true, Ok(320)),
     (6_604_998, false, Ok(0)),
 ];
@@ -72,7 +72,7 @@ const BY_TIME: [Row; 12] = [
 const BY_RECORD: [Row; 5] = [
     (0, true, Ok(0)),
     (0, false, Ok(0)),
-    // began before the record before it could have ended
+    // a record that began before the previous one could have ended
     (8_000, true, Ok(4)),
     (8_000, false, Ok(0)),
     (98_000, true, Ok(7)),
@@ -87,7 +87,7 @@ fn timing(spacing: Spacing, origin: u64) -> Option<Timing> {
     })
 }
 
-// Places bytes with these time stamps, in microseconds, and compares the answers.
+// Places bytes with these time stamps, in microseconds, and compares the results.
 fn check_rows(rt: &impl Abort, spacing: Spacing, rows: &[Row]) -> Result<Placer, Fail> {
     let timing = timing(spacing, 0).ok_or("no rate")?;
     let mut placer = Placer::new(timing);
@@ -131,7 +131,7 @@ fn bytes_before_the_origin_and_at_the_end_of_times(rt: HostRuntime) -> Result<()
         byte: 7,
     };
     assert_eq!(rt; placer.place(byte), Err(Unplaced::Early));
-    // the first byte of the way, 3.5 characters behind the origin: half a tick up
+    // the first byte of the way, 3.5 characters after the origin: half a tick is rounded up
     byte.start = 1_035_000_000;
     byte.first = false;
     assert_eq!(rt; placer.place(byte), Ok(4));

@@ -2,14 +2,14 @@
 
 use crate::rate::Rate;
 
-/// How silence between the records of a capture is told.
+/// How the silence between the records of a capture is found.
 #[derive(Clone, Copy, Debug, PartialEq, Eq)]
 pub enum Spacing {
-    /// By their times alone.
+    /// By their times only.
     ByTime,
     /// Each record is taken for a frame: four silent ticks or more come before it, whatever its
-    /// time says. For captures with the times of an operating system, whose records may begin
-    /// before the one before could have ended.
+    /// time says. This is for captures with the times of an operating system, whose records may
+    /// begin before the previous one could have ended.
     ByRecord,
 }
 
