@@ -1,4 +1,5 @@
--- What a field and a byte make of a pcapng file. It is a second view of the format of Blocks.antt.
+-- What each field and each byte of a pcapng file leads to. It is a second view of the format of
+-- Blocks.antt.
 use Rattle.std.specs.Prelude.{◌≡◌, ℕ, ◌+◌, ◌*◌, ◌-◌, ◌/◌, ◌%◌, ◌^◌, ◌==◌, ◌&&◌, ◌||◌, nat_lt, nat_le}
 use Rattle.std.specs.Prelude.{Bool, true, false, if◌then◌else◌, List, Option, Some, None}
 use Rattle.std.specs.Prelude.{Result, Ok, Err, slice_index, drop}
@@ -29,13 +30,13 @@ use Rattle.capture_pcap.specs.declared.block.Block.TheVariants as b
 abbrev pub Stepped : Type 0
 Stepped = Result (Block × Option Seen) PcapFault
 
--- whether single bytes come next, and no field of four
+-- whether single bytes come next, rather than a field of four
 abbrev pub takes_bytes : Block → Bool
 takes_bytes (b.Packet section size left body) = takes_data body
 takes_bytes (b.Unread section size left) = true
 takes_bytes _ = false
 
--- whether a block of at least this many bytes may have this length
+-- whether a number may be the length of a block that has at least this many bytes
 abbrev pub is_size : ℕ → ℕ → Bool
 is_size size least = nat_le least size && (size % 4 == 0)
 
@@ -89,7 +90,7 @@ abbrev pub IsSoundStep : Stepped → Type 0
 IsSoundStep (Ok next) = is_sound next.0 ≡ true
 IsSoundStep (Err why) = Unit {0}
 
--- this many bytes that say nothing here, and the end of the block
+-- what comes next if this many bytes that say nothing of the line come before the end of the block
 abbrev pub unread_or_end : Section → ℕ → ℕ → Block
 unread_or_end section size left =
     if nat_lt 0 left then b.Unread section size left else b.End section size
@@ -191,7 +192,7 @@ after_original section size start captured original =
     then Ok (b.Packet section size (size - 32 - captured) (RtacSeconds start (captured - 12)), None)
     else Err Cut
 
--- after a field or a byte of a packet
+-- what comes after a field or a byte of a packet
 abbrev pub after_body : Section → ℕ → ℕ → Next → Stepped
 after_body section size left next =
     Ok (body_or (b.Packet section size left) (unread_or_end section size left) next.0, next.1)
@@ -251,7 +252,7 @@ block_byte_at (b.Packet section size left body) byte =
 block_byte_at (b.Unread section size left) byte = Ok (unread_or_end section size (left - 1), None)
 block_byte_at _ byte = Err NoMagic
 
--- a file may end before a block
+-- whether a file may end here, which it may only before a block
 abbrev pub may_end : Block → Bool
 may_end (b.Kind section) = true
 may_end _ = false

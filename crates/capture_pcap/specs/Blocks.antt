@@ -1,5 +1,5 @@
 -- A pcapng file whose interfaces have link type 250, RTAC serial (draft-ietf-opsawg-pcapng):
--- blocks, each with its kind and its length in front, and the length again at its end.
+-- blocks, each of which begins with its kind and its length, and ends with the length again.
 use Rattle.std.specs.Prelude.{◌≡◌, ℕ, ◌+◌, ◌*◌, ◌-◌, ◌/◌, ◌%◌, ◌<◌, ◌≤◌, ◌^◌, ◌==◌, ◌&&◌, ◌||◌, not}
 use Rattle.std.specs.Prelude.{nat_le, Bool, true, false, List, [], ◌∷◌, ◌++◌, length, drop}
 use Rattle.std.specs.Prelude.{Option, Some, None, if◌then◌else◌, slice_index}
@@ -10,15 +10,16 @@ use Rattle.capture_pcap.specs.declared.words.Order.{Order}
 use Rattle.capture_pcap.specs.declared.words.Order.TheVariants.{Big, Little}
 use Rattle.capture_pcap.specs.declared.block.Section.{Section}
 
--- up to the next multiple of four
+-- a number, rounded up to a multiple of four
 abbrev pub padded : ℕ → ℕ
 padded n = (n + 3) / 4 * 4
 
--- how many nanoseconds a unit is of which 10 to this power make a second
+-- how many nanoseconds a unit is if 10 to this power of them make a second, or `None` for a power
+-- above nine
 abbrev pub counts_at : ℕ → Option ℕ
 counts_at digits = if nat_le digits 9 then Some (10 ^ (9 - digits)) else None
 
--- A block of this kind: its length is that of all its bytes, and a multiple of four.
+-- A block of this kind with this body. Its length counts all its bytes, and is a multiple of four.
 pub record IsBlock (order : Order) (bytes kind body : List ℕ) : Type 0 where
   pub size : List ℕ
   pub again : List ℕ
@@ -30,16 +31,16 @@ pub record IsBlock (order : Order) (bytes kind body : List ℕ) : Type 0 where
   pub again_is : number order again ≡ 12 + length body
   pub even : (12 + length body) % 4 ≡ 0
 
--- the kind of a section's header, the same in both orders
+-- the kind of the block that is a section's header, the same in both orders
 abbrev pub section_kind : List ℕ
 section_kind = 0x0A ∷ 0x0D ∷ 0x0D ∷ 0x0A ∷ []
 
--- how a section says its order
+-- the bytes with which a section says its order
 pub data IsOrderMark : Order → List ℕ → Type 0 where
   big : IsOrderMark Big (0x1A ∷ 0x2B ∷ 0x3C ∷ 0x4D ∷ [])
   little : IsOrderMark Little (0x4D ∷ 0x3C ∷ 0x2B ∷ 0x1A ∷ [])
 
--- the header of a section: its order, and what says nothing of packets
+-- the header of a section: its order, and bytes that say nothing of its packets
 pub record IsSection (order : Order) (bytes : List ℕ) : Type 0 where
   pub mark : List ℕ
   pub rest : List ℕ
@@ -47,13 +48,13 @@ pub record IsSection (order : Order) (bytes : List ℕ) : Type 0 where
   pub mark_is : IsOrderMark order mark
   pub whole : 12 ≤ length rest
 
--- an option that says nothing of times
+-- whether an option says nothing of times, and doesn't end the options
 abbrev pub is_plain : ℕ → Bool
 is_plain code = not (code == 0) && not (code == 9) && not (code == 14)
 
--- The options of an interface, and how many nanoseconds a unit of its times is, before them and
--- behind them: if_tsresol, option 9, sets it, by a power of ten of at most nine. Option 0 ends
--- them. An interface with if_tsoffset, option 14, isn't read.
+-- The options of an interface, and how many nanoseconds a unit of its times is before these options
+-- and after them. Option 9 (if_tsresol) sets the unit, by a power of ten of at most nine. Option 0
+-- ends the options. An interface with option 14 (if_tsoffset) isn't read.
 pub data AreOptions (order : Order) : ℕ → List ℕ → ℕ → Type 0 where
   none : (counts : ℕ) → AreOptions order counts [] counts
   ended : (counts : ℕ) (head rest : List ℕ) → length head ≡ 4 → short_number order head ≡ 0
@@ -67,7 +68,7 @@ pub data AreOptions (order : Order) : ℕ → List ℕ → ℕ → Type 0 where
       → counts_at (slice_index value 0) ≡ Some counts → AreOptions order counts more to
       → AreOptions order from (head ++ (value ++ more)) to
 
--- an interface of link type 250, a unit of whose times is this many nanoseconds
+-- an interface of link type 250, for which a unit of its times is this many nanoseconds
 pub record IsInterface (order : Order) (bytes : List ℕ) (counts : ℕ) : Type 0 where
   pub kind : List ℕ
   pub link : List ℕ
@@ -80,7 +81,7 @@ pub record IsInterface (order : Order) (bytes : List ℕ) (counts : ℕ) : Type 
   pub snap_long : length snap ≡ 4
   pub options_are : AreOptions order 1000 options counts
 
--- a section with one interface more
+-- a section with one more interface, for which a unit of its times is this many nanoseconds
 abbrev pub section_with : Section → ℕ → Section
 section_with section counts = record {
   order = section.order;
@@ -89,8 +90,8 @@ section_with section counts = record {
   counts = counts;
 }
 
--- a packet of an interface that was described, as were all behind it that count their times alike,
--- with its time and all its bytes
+-- A packet with its time and all its bytes. Its interface was described, and counts its times in
+-- the same unit as all the interfaces that were described after it.
 pub record IsEnhanced (section : Section) (bytes : List ℕ) (items : List Seen) : Type 0 where
   pub kind : List ℕ
   pub interface : List ℕ
@@ -121,7 +122,7 @@ pub record IsEnhanced (section : Section) (bytes : List ℕ) (items : List Seen)
   pub padding : padded (12 + count) ≤ 12 + count + length rest
   pub record_is : IsRecord start count packet items
 
--- whether a block of this kind has no packet, interface or section
+-- whether a block of this kind is neither an interface nor a packet
 abbrev pub is_other : ℕ → Bool
 is_other kind = not (kind == 1) && not (kind == 6) && not (kind == 2 || kind == 3)
 
@@ -135,8 +136,8 @@ pub record IsOther (order : Order) (bytes : List ℕ) : Type 0 where
 abbrev pub fresh : Order → Section
 fresh order = record { order = order; first = 0; interfaces = 0; counts = 1000 }
 
--- Blocks one after the other, the last section with its interfaces, if there is one, and what is
--- seen of them.
+-- Blocks one after the other, the last section among them with its interfaces, if there is one, and
+-- what is seen in the blocks.
 pub data AreBlocks : Option Section → List ℕ → List Seen → Type 0 where
   nothing : AreBlocks None [] []
   section : (before : Option Section) (order : Order) (front bytes : List ℕ) (items : List Seen)
@@ -153,7 +154,7 @@ pub data AreBlocks : Option Section → List ℕ → List Seen → Type 0 where
       → AreBlocks (Some in_section) front items → IsOther in_section.order bytes
       → AreBlocks (Some in_section) (front ++ bytes) items
 
--- A pcapng file with these bytes and events.
+-- A pcapng file in which these bytes of the line and events are seen.
 pub record IsPcapng (file : List ℕ) (items : List Seen) : Type 0 where
   pub last : Section
   pub blocks : AreBlocks (Some last) file items

@@ -1,5 +1,5 @@
--- What a field and a byte make of a packet that its reader has come into. It is a second view of
--- the format of Record.antt, and is proved equal to it.
+-- What each field and each byte of a packet leads to. It is a second view of the format of
+-- Record.antt, and is proved equal to it.
 use Rattle.std.specs.Prelude.{◌≡◌, ℕ, ◌-◌, nat_lt, Bool, true, false, if◌then◌else◌, List}
 use Rattle.std.specs.Prelude.{Option, Some, None, slice_index}
 use Rattle.std.specs.Prelude.{option_map}
@@ -15,7 +15,7 @@ takes_data (Seconds start left) = false
 takes_data (Fraction start left) = false
 takes_data (Event start left) = false
 
--- some byte of data is left where data come next
+-- whether a byte of data is left, if data come next
 abbrev pub has_more : Body → Bool
 has_more (Data start left way first) = nat_lt 0 left
 has_more (Seconds start left) = true
@@ -32,7 +32,7 @@ IsSoundNext next = sound next.0
     sound (Some body) = has_more body ≡ true
     sound None = Unit {0}
 
--- data of which this many bytes are left
+-- what comes next if this many bytes of data are left
 abbrev pub data_of : ℕ → ℕ → Option Way → Bool → Option Body
 data_of start left way first = if nat_lt 0 left then Some (Data start left way first) else None
 
@@ -53,7 +53,7 @@ body_byte_at (Seconds start left) b = (None, None)
 body_byte_at (Fraction start left) b = (None, None)
 body_byte_at (Event start left) b = (None, None)
 
--- the place of a packet that goes on, or the one behind it
+-- the place within a packet that goes on, or the place after it
 abbrev pub body_or : {S : Type 0} → (Body → S) → S → Option Body → S
 body_or within behind (Some body) = within body
 body_or within behind None = behind

@@ -1,5 +1,5 @@
--- A pcap file of link type 250, RTAC serial: a header of 24 bytes, and packets, each behind a
--- header of 16 bytes (draft-ietf-opsawg-pcap).
+-- A pcap file of link type 250, RTAC serial: a header of 24 bytes, and packets, each after a header
+-- of 16 bytes (draft-ietf-opsawg-pcap).
 use Rattle.std.specs.Prelude.{◌≡◌, ℕ, ◌+◌, ◌*◌, ◌<◌, List, [], ◌∷◌, ◌++◌, length, false, Ok, Err}
 use Rattle.byte_walk.specs.Walks.{walk}
 use Rattle.byte_walk.specs.Fields.{before_field}
@@ -17,8 +17,8 @@ use Rattle.capture_pcap.specs.declared.words.Clock.{Clock}
 use Rattle.capture_pcap.specs.declared.words.Order.TheVariants.{Big, Little}
 use Rattle.capture_pcap.specs.declared.words.Resolution.TheVariants.{Microseconds, Nanoseconds}
 
--- The magic number of a file of this clock: 0xA1B2C3D4 in its order where its times count
--- microseconds, and 0xA1B23C4D where they count nanoseconds.
+-- The magic number of a file with this clock, in the order of the file: 0xA1B2C3D4 if its times
+-- count microseconds, and 0xA1B23C4D if they count nanoseconds.
 pub data IsMagic : Clock → List ℕ → Type 0 where
   big_micro : IsMagic (record { order = Big; resolution = Microseconds }) (0xA1 ∷ 0xB2 ∷ 0xC3 ∷ 0xD4
       ∷ [])
@@ -51,7 +51,8 @@ pub record IsTime (clock : Clock) (bytes : List ℕ) (start : ℕ) : Type 0 wher
   pub start_is : start ≡ number clock.order seconds * 1000000000
       + number clock.order fraction * nanoseconds clock.resolution
 
--- the two lengths of a packet that the file has whole: the captured and the original one
+-- the two lengths of a packet that the file has with all its bytes: the captured and the original
+-- one, which are equal
 pub record AreLengths (clock : Clock) (bytes : List ℕ) (size : ℕ) : Type 0 where
   pub captured : List ℕ
   pub original : List ℕ
@@ -61,7 +62,7 @@ pub record AreLengths (clock : Clock) (bytes : List ℕ) (size : ℕ) : Type 0 w
   pub captured_is : number clock.order captured ≡ size
   pub original_is : number clock.order original ≡ size
 
--- a packet behind its header
+-- a packet with its header
 pub record IsPacket (clock : Clock) (bytes : List ℕ) (items : List Seen) : Type 0 where
   pub time : List ℕ
   pub lengths : List ℕ
@@ -79,7 +80,7 @@ pub data ArePackets (clock : Clock) : List ℕ → List Seen → Type 0 where
   more : (front packet : List ℕ) (items others : List Seen) → ArePackets clock front items
       → IsPacket clock packet others → ArePackets clock (front ++ packet) (items ++ others)
 
--- A pcap file of link type 250 with these bytes and events.
+-- A pcap file of link type 250 in which these bytes of the line and events are seen.
 pub record IsPcap (file : List ℕ) (items : List Seen) : Type 0 where
   pub clock : Clock
   pub packets : ArePackets clock file items
@@ -89,7 +90,7 @@ pub data IsCapture : List ℕ → List Seen → Type 0 where
   pcap : (file : List ℕ) (items : List Seen) → IsPcap file items → IsCapture file items
   pcapng : (file : List ℕ) (items : List Seen) → IsPcapng file items → IsCapture file items
 
--- Why a field is refused behind these bytes, which begin a file.
+-- Why a field is refused after these bytes, which begin a file.
 pub data IsCause (front field : List ℕ) : PcapFault → Type 0 where
   no_magic : front ≡ [] → (field ≡ section_kind → ⊥)
       → ((clock : Clock) → IsMagic clock field → ⊥) → IsCause front field Magic

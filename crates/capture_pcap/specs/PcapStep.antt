@@ -1,5 +1,5 @@
--- What a field and a byte make of a pcap file. It is a second view of the format of Pcap.antt, and
--- is proved equal to it.
+-- What each field and each byte of a pcap file leads to. It is a second view of the format of
+-- Pcap.antt, and is proved equal to it.
 use Rattle.std.specs.Prelude.{◌≡◌, ℕ, ◌+◌, ◌*◌, ◌-◌, ◌==◌, ◌&&◌, nat_lt, nat_le, Bool, true, false}
 use Rattle.std.specs.Prelude.{if◌then◌else◌, List, Option, None, Result, Ok, Err}
 use Rattle.std.specs.Prelude.{length}
@@ -30,7 +30,7 @@ use Rattle.capture_pcap.specs.BlockStep.{may_end as may_end_block}
 abbrev pub Stepped : Type 0
 Stepped = Result (Stage × Option Seen) PcapFault
 
--- whether single bytes come next, and no field of four
+-- whether single bytes come next, rather than a field of four
 abbrev pub takes_bytes : Stage → Bool
 takes_bytes Magic = false
 takes_bytes (Free clock before) = false
@@ -42,7 +42,7 @@ takes_bytes (Original clock start captured) = false
 takes_bytes (Packet clock body) = takes_data body
 takes_bytes (Blocks block) = block_takes_bytes block
 
--- a packet has at least its RTAC header, and bytes left where data come next
+-- whether a packet has at least its RTAC header, and a byte left if data come next
 abbrev pub is_sound : Stage → Bool
 is_sound Magic = true
 is_sound (Free clock before) = true
@@ -75,11 +75,11 @@ after_magic_at field =
     if is_field 0x0A 0x0D 0x0D 0x0A field then Ok (Blocks SectionSize, None)
     else pcap_magic_at field
 
--- after a field or a byte of a packet
+-- what comes after a field or a byte of a packet
 abbrev pub after_body : Clock → Next → Stepped
 after_body clock next = Ok (body_or (Packet clock) (Seconds clock) next.0, next.1)
 
--- after a field or a byte of a pcapng file
+-- what comes after a field or a byte of a pcapng file
 abbrev pub in_blocks : Result (Block × Option Seen) PcapFault → Stepped
 in_blocks (Ok next) = Ok (Blocks next.0, next.1)
 in_blocks (Err why) = Err why
@@ -137,10 +137,10 @@ may_end (Original clock start captured) = false
 may_end (Packet clock body) = false
 may_end (Blocks block) = may_end_block block
 
--- one byte of a file
+-- what one byte of a file leads to
 abbrev pub step_at : Spot Stage → ℕ → Result (Spot Stage × Option Seen) PcapFault
 step_at = spot_step takes_bytes field_at byte_at
 
--- a file may end before a packet
+-- whether a file may end here: before a packet or a block, with no byte of a field taken
 abbrev pub may_end_at : Spot Stage → Bool
 may_end_at spot = may_end spot.stage && (length spot.partial == 0)

@@ -1,4 +1,4 @@
--- What a reader of a pcap file stands for.
+-- What a reader of a pcap file has taken, and what it refuses.
 use Rattle.std.specs.Prelude.{◌≡◌, ℕ, List, length, Option, Some, None, Result, Ok}
 use Rattle.std.specs.Prelude.{Err, ◌+◌}
 use Rattle.byte_walk.specs.Walks.{walk}
@@ -19,23 +19,24 @@ bytes_taken reader = reader.taken
 abbrev pub spot_of : PcapReader → Spot Stage
 spot_of reader = record { stage = reader.stage; partial = reader.partial.items }
 
--- The reader has taken this much of a file, no field of which it refused, and has seen these items.
+-- Holds if the reader has taken these bytes of a file, no field of which it refused, and has seen
+-- these items.
 pub record StandsFor (reader : PcapReader) (file : List ℕ) (items : List Seen) : Type 0 where
   pub walks : walk step_at (before_field Magic) file ≡ Ok (spot_of reader, items)
   pub open_yet : reader.refused ≡ None
   pub counted : reader.taken ≡ length file
 
--- The reader has refused its file so, and answers so from then on.
+-- Holds if the reader has refused its file with this refusal, which it returns from then on.
 abbrev pub HasRefused : PcapReader → BadPcap → Type 0
 HasRefused reader bad = reader.refused ≡ Some bad
 
--- The next byte, or the end of the file, is refused with this place and cause: a byte with its
--- field.
+-- Holds if this place and cause are right for the refusal of the next byte, which is refused with
+-- its field, or of the end of the file.
 abbrev pub Refuses : List ℕ → List Seen → Option ℕ → BadPcap → Type 0
 Refuses file items (Some b) bad = RefusesField IsCapture IsCause file items b bad.offset bad.why
 Refuses file items None bad = (bad.offset ≡ length file) × (bad.why ≡ End)
 
--- one byte at a reader
+-- what a step with one byte does to a reader, by its result
 abbrev pub Takes : PcapReader → ℕ → Result (Option Seen) PcapFault → PcapReader → Type 0
 Takes old b (Ok item) new =
     (step_at (spot_of old) b ≡ Ok (spot_of new, item)) × (new.taken ≡ old.taken + 1)

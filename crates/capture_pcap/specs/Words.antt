@@ -1,4 +1,4 @@
--- Numbers of four bytes, in the order of a file.
+-- Numbers of four and of two bytes, in the order of a file.
 use Rattle.std.specs.Prelude.{ℕ, List, Bool, ◌==◌, ◌&&◌, slice_index}
 use Rattle.byteorder.specs.Endian.{big_number, little_number}
 use Rattle.capture_pcap.specs.declared.words.Order.{Order}
@@ -11,7 +11,7 @@ abbrev pub number : Order → List ℕ → ℕ
 number Big word = big_number 4 word
 number Little word = little_number 4 word
 
--- how many nanoseconds one of them is
+-- how many nanoseconds a unit of this resolution is
 abbrev pub nanoseconds : Resolution → ℕ
 nanoseconds Microseconds = 1000
 nanoseconds Nanoseconds = 1

@@ -1,4 +1,4 @@
--- The parts of a pcap file that is written.
+-- The parts from which a pcap file is written.
 use Rattle.std.specs.Prelude.{◌≡◌, ℕ, ◌+◌, ◌/◌, ◌%◌, ◌++◌, List, [], ◌∷◌, length}
 use Rattle.byteorder.specs.Endian.{big_bytes, little_bytes}
 use Rattle.line_stamps.specs.declared.capture.Way.{Way}
@@ -12,27 +12,27 @@ use Rattle.capture_pcap.specs.declared.words.Resolution.TheVariants.{Nanoseconds
 abbrev pub written_clock : Clock
 written_clock = record { order = Little; resolution = Nanoseconds }
 
--- new is old with a field of this number
+-- Holds if new is old and then a field of four bytes with this number.
 pub record AppendsNumber (old new : List ℕ) (n : ℕ) : Type 0 where
   pub field : List ℕ
   pub is : new ≡ old ++ field
   pub long : length field ≡ 4
   pub value : number Little field ≡ n
 
--- new is old with a field of four bytes
+-- Holds if new is old and then a field of four bytes.
 pub record AppendsFour (old new : List ℕ) : Type 0 where
   pub field : List ℕ
   pub is : new ≡ old ++ field
   pub long : length field ≡ 4
 
--- the event in front of data that go a way
+-- the event that comes before data of this way
 abbrev pub data_event : Way → ℕ
 data_event A = 1
 data_event B = 2
 
--- What comes before this many bytes of data, which go this way and start then, in nanoseconds: the
--- time, the captured and the original length, and the header of an RTAC record, with its time in
--- microseconds, the event, no control line and no footer.
+-- What comes before this many bytes of data that go this way and start at this time, in
+-- nanoseconds: the time, the captured and the original length, and the header of an RTAC record,
+-- with its time in microseconds, the event, no control line and no footer.
 abbrev pub packet_front : Way → ℕ → ℕ → List ℕ
 packet_front way start count =
     ((((((little_bytes 4 (start / 1000000000) ++ little_bytes 4 (start % 1000000000))
@@ -40,6 +40,6 @@ packet_front way start count =
     ++ big_bytes 4 (start / 1000000000)) ++ big_bytes 4 (start % 1000000000 / 1000))
     ++ data_event way ∷ 0 ∷ 0 ∷ 0 ∷ [])
 
--- a packet of these bytes
+-- a packet with these bytes of data
 abbrev pub written_packet : Way → ℕ → List ℕ → List ℕ
 written_packet way start bytes = packet_front way start (length bytes) ++ bytes

@@ -1,4 +1,4 @@
-//! Which field of a pcapng file comes next, and what a field makes of it.
+//! Which field of a pcapng file comes next, and what each field leads to.
 #![tactic(auto, unfolding(crate::specs::BlockStep::block_field_at))]
 
 ghost use Rattle.std.specs.Prelude.{◌≡◌, ◌+◌, ◌*◌, ◌<◌, ◌≤◌, ◌^◌, length, true, false, Some, None};
@@ -23,12 +23,12 @@ const RTAC_SERIAL: u16 = 250;
 #[derive(Clone, Copy, Debug, PartialEq, Eq)]
 pub struct Section {
     pub order: Order,
-    /// The first interface from which on all that it has described count their times alike. Packets
-    /// of those before it aren't read.
+    /// The number of the first interface that counts its times in the same unit as all that were
+    /// described after it. Packets of the interfaces before it aren't read.
     pub first: u32,
-    /// How many interfaces it has described.
+    /// How many interfaces the section has described.
     pub interfaces: u32,
-    /// How many nanoseconds a unit of their times is.
+    /// How many nanoseconds a unit of time is for the interfaces from `first` on.
     pub counts: u32,
 }
 
@@ -40,12 +40,13 @@ pub enum Kind {
     Other,
 }
 
-/// What comes next in a pcapng file. The number behind a section is the length of the block.
+/// What comes next in a pcapng file. The number after the section is the length of the block.
 #[derive(Clone, Copy, Debug, PartialEq, Eq)]
 pub enum Block {
     /// The length of a section's header, in an order that isn't known yet.
     SectionSize,
-    /// The order of a section; its header has this length if it is big-endian, or this one.
+    /// The order of a section. Its header has the first length if it is big-endian, and otherwise
+    /// the second one.
     SectionOrder(u32, u32),
     /// The kind of a block, or the end of the file.
     Kind(Section),
@@ -53,37 +54,42 @@ pub enum Block {
     Size(Section, Kind),
     /// The link type of an interface.
     Link(Section, u32),
-    /// How many bytes of a packet are taken at most.
+    /// How many bytes of a packet an interface takes at most.
     Snap(Section, u32),
-    /// An option of the interface, of whose options this many fields are left. A unit of its times
-    /// is this many nanoseconds.
+    /// An option of an interface, with the number of fields that are left of its options, and how
+    /// many nanoseconds a unit of its times is.
     Option(Section, u32, u32, u32),
-    /// The last fields of an option, and how many of them; behind them this many fields are left.
+    /// A field of an option's value, with the number of fields that follow the value, how many
+    /// nanoseconds a unit of the interface's times is, and the number of fields that are left of
+    /// the value.
     Value(Section, u32, u32, u32, u32),
-    /// The resolution of the interface's times, with this many fields from here on.
+    /// The resolution of an interface's times, with the number of fields that are left of its
+    /// options.
     Resolution(Section, u32, u32),
     /// The interface of a packet.
     Interface(Section, u32),
-    /// The high half of its time.
+    /// The high half of a packet's time.
     High(Section, u32),
-    /// The low half of its time.
+    /// The low half of a packet's time, with the high half.
     Low(Section, u32, u32),
-    /// How many bytes of the packet of this time, in nanoseconds, the file has.
+    /// How many bytes of a packet the file has, with the packet's time in nanoseconds.
     Captured(Section, u32, u64),
-    /// How many bytes this packet had, of which the file has this many.
+    /// How many bytes a packet had, with its time in nanoseconds and how many bytes of it the file
+    /// has.
     Original(Section, u32, u64, u32),
-    /// The packet itself, and then this many bytes.
+    /// The packet itself, with the number of bytes between it and the end of the block.
     Packet(Section, u32, u32, Body),
-    /// This many bytes that say nothing here.
+    /// Bytes that say nothing of the line, with how many of them are left.
     Unread(Section, u32, u32),
-    /// The length of the block again.
+    /// The length of the block again, at its end.
     End(Section, u32),
 }
 
-/// What a field or a byte comes to: what comes next and what was seen, or why it is refused.
+/// What a field or a byte leads to: what comes next and what was seen, or why it is refused.
 pub type Step = Result<(Block, Option<Seen>), PcapFault>;
 
-/// This many bytes that say nothing here, and the end of the block.
+/// Returns what comes next if `left` bytes that say nothing of the line come before the end of the
+/// block.
 #[inline]
 fn unread(section: Section, size: u32, left: u32) -> Block
     ensures unread { result ≡ unread_or_end section size left }
@@ -96,14 +102,15 @@ fn unread(section: Section, size: u32, left: u32) -> Block
     }
 }
 
-/// Whether a block of at least this many bytes may have this length.
+/// Whether `size` may be the length of a block that has at least `least` bytes.
 fn is_size(size: u32, least: u32) -> bool
     ensures { result ≡ is_size size least }
 {
     least <= size && size % 4 == 0
 }
 
-/// What comes after the length of a section's header, which is one of these.
+/// What comes after the length of a section's header, which is `big` or `little`, depending on the
+/// order.
 fn after_section_size(big: u32, little: u32) -> Step
     ensures step { result ≡ after_section_size big little }
     ensures sound { IsSoundStep result }
@@ -170,7 +177,8 @@ fn after_size(section: Section, kind: Kind, size: u32) -> Step
     }
 }
 
-/// A section with one interface more, a unit of whose times is this many nanoseconds.
+/// Returns a section with one more interface, for which a unit of its times is `counts`
+/// nanoseconds.
 fn with_interface(section: Section, counts: u32) -> Section
     requires { section.interfaces < 4294967295 }
     ensures { result ≡ section_with section counts }
@@ -187,7 +195,7 @@ fn with_interface(section: Section, counts: u32) -> Section
     }
 }
 
-/// What comes after the options of an interface, with this many fields behind them.
+/// What comes after the options of an interface, if `left` fields that aren't read follow them.
 fn after_options(section: Section, size: u32, left: u32, counts: u32) -> Step
     requires small { 4 * left < 2 ^ 32 }
     requires room { section.interfaces < 4294967295 }
@@ -200,7 +208,7 @@ fn after_options(section: Section, size: u32, left: u32, counts: u32) -> Step
     ))
 }
 
-/// What comes after an option, with this many fields left.
+/// What comes after an option, with `left` fields left of the options.
 fn next_option(section: Section, size: u32, left: u32, counts: u32) -> Step
     requires small { 4 * left < 2 ^ 32 }
     requires room { section.interfaces < 4294967295 }
@@ -214,7 +222,7 @@ fn next_option(section: Section, size: u32, left: u32, counts: u32) -> Step
     }
 }
 
-/// What comes after the head of an option, in front of this many fields.
+/// What comes after the head of an option, with `left` fields left after the head.
 fn after_option(section: Section, size: u32, left: u32, counts: u32, word: &[u8]) -> Step
     requires four { length word.now ≡ 4 }
     requires small { 4 * left < 2 ^ 32 }
@@ -245,7 +253,8 @@ fn after_option(section: Section, size: u32, left: u32, counts: u32, word: &[u8]
     }
 }
 
-/// How many nanoseconds a unit is of which 10 to this power make a second.
+/// Returns how many nanoseconds a unit is if 10 to the power `digits` of them make a second, or
+/// `None` for a power above nine.
 fn counts_of(digits: u8) -> Option<u32>
     ensures { result ≡ counts_at digits }
 {
@@ -317,7 +326,7 @@ fn after_low(section: Section, size: u32, high: u32, low: u32) -> Step
     }
 }
 
-/// What comes after how many bytes of a packet the file has.
+/// What comes after the number of bytes of a packet that the file has.
 fn after_captured(section: Section, size: u32, start: u64, captured: u32) -> Step
     ensures step { result ≡ after_captured section size start captured }
     ensures sound { IsSoundStep result }
@@ -332,7 +341,7 @@ fn after_captured(section: Section, size: u32, start: u64, captured: u32) -> Ste
     Ok((Block::Original(section, size, start, captured), None))
 }
 
-/// What comes after how many bytes a packet had.
+/// What comes after the number of bytes that a packet had.
 fn after_original(section: Section, size: u32, start: u64, captured: u32, original: u32) -> Step
     requires header { 12 ≤ captured }
     requires fits { captured + 32 ≤ size }
@@ -390,7 +399,7 @@ fn after_value(section: Section, size: u32, left: u32, counts: u32, fields: u32)
 }
 
 impl Block {
-    /// Whether single bytes come next, and no field of four.
+    /// Whether single bytes come next, rather than a field of four.
     #[inline]
     pub fn is_data(self) -> bool
         ensures { result ≡ takes_bytes self }
@@ -417,7 +426,8 @@ impl Block {
         }
     }
 
-    /// Takes the field in front of a packet's lengths, or of another block than a packet's.
+    /// Takes a field of a section's header or of an interface, or the kind or the length of a
+    /// block.
     fn head_field(self, word: &[u8]) -> Step
         requires sound { is_sound self ≡ true }
         requires four { length word.now ≡ 4 }

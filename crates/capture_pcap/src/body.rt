@@ -9,7 +9,8 @@ ghost use Rattle.capture_pcap.specs.Record.{event_way};
 use crate::{LineEvent, Seen};
 use line_stamps::{CaptureByte, Way};
 
-/// What comes next of a packet of this time, in nanoseconds, with this many bytes of data left.
+/// What comes next in a packet, with the packet's time in nanoseconds and how many bytes of data
+/// are left.
 #[derive(Clone, Copy, Debug, PartialEq, Eq)]
 pub enum Body {
     /// The seconds in the RTAC header.
@@ -18,14 +19,15 @@ pub enum Body {
     Fraction(u64, u32),
     /// The event, the control lines and the footer.
     Event(u64, u32),
-    /// Data, which goes this way if it is the line's, its first byte or not.
+    /// A byte of data, with its way if it is a byte of the line, and whether it is the first one.
     Data(u64, u32, Option<Way>, bool),
 }
 
-/// What comes next of a packet, if it isn't at its end, and what was seen.
+/// What comes next in a packet, or `None` at its end, and what was seen.
 pub type Next = (Option<Body>, Option<Seen>);
 
-/// The way of the data behind an event: data sent goes way A.
+/// Returns the way of the data after an event, if they are bytes of the line: data sent go way A,
+/// and data received go way B.
 fn way_of(event: u8) -> Option<Way>
     ensures { result ≡ event_way event }
 {
@@ -36,7 +38,7 @@ fn way_of(event: u8) -> Option<Way>
     }
 }
 
-/// The data behind an event, this many bytes.
+/// Returns what comes after an event that has `left` bytes of data.
 fn behind_event(start: u64, left: u32, event: u8) -> Next
     ensures { result ≡ body_event start left event }
 {
@@ -61,7 +63,7 @@ fn behind_event(start: u64, left: u32, event: u8) -> Next
 }
 
 impl Body {
-    /// Whether single bytes come next, and no field of four.
+    /// Whether single bytes come next, rather than a field of four.
     #[inline]
     pub fn is_data(self) -> bool
         ensures { result ≡ takes_data self }

@@ -1,4 +1,4 @@
-//! A reader of captures, byte by byte.
+//! The reader of pcap and pcapng files, byte by byte.
 ghost use Rattle.std.specs.Prelude.{◌≡◌, ℕ, ◌+◌, ◌<◌, ◌≤◌, ◌++◌, ◌∷◌, [], List, true, length};
 ghost use Rattle.std.specs.Prelude.{Some, None, OnOk, IfOk, IfErr, Err, ◌==◌, false};
 ghost use Rattle.std.specs.Option.{option_to_list};
@@ -10,12 +10,12 @@ use crate::{BadPcap, MAX_BYTES, PcapFault, Seen};
 use arrayvec::ArrayVec;
 use line_stamps::CaptureReader;
 
-/// A reader of a capture of link type 250, byte by byte, in constant memory. It gives each byte of
-/// the line as it comes, and each event with its record's header.
+/// A reader of a capture of link type 250, byte by byte, in constant memory. It returns each byte
+/// of the line as it comes, and each event at the end of its record's header.
 #[derive(Drop)]
 pub struct PcapReader {
     stage: Stage,
-    // the bytes of a field that have come
+    // the bytes of a field that have come so far
     partial: ArrayVec<u8, 4>,
     refused: Option<BadPcap>,
     taken: u64,
@@ -36,7 +36,7 @@ impl PcapReader {
     ghost use Rattle.line_stamps.specs.declared.seen.Seen.{Seen};
     ghost use Rattle.capture_pcap.specs.declared.fault.BadPcap.{BadPcap};
 
-    /// A reader before its file.
+    /// Returns a reader that has taken nothing yet.
     pub fn new() -> PcapReader
         ensures stands { StandsFor result [] [] }
         ensures begins { Begins IsCapture [] [] }
@@ -50,7 +50,7 @@ impl PcapReader {
         }
     }
 
-    /// How many bytes it took.
+    /// Returns how many bytes the reader has taken.
     pub fn taken(&self) -> u64
         ensures { result ≡ bytes_taken self.now }
     {
@@ -77,7 +77,7 @@ impl PcapReader {
         self.end_field(b)
     }
 
-    /// The last byte of a field.
+    /// Takes the last byte of a field.
     fn end_field(&mut self, b: u8) -> Result<Option<Seen>, PcapFault>
         requires taken { bytes_taken self.old < MAX_BYTES }
         requires field { takes_bytes self.old.stage ≡ false }
@@ -92,22 +92,22 @@ impl PcapReader {
         Ok(seen)
     }
 
-    /// Takes the next byte of the file, and returns what it ends: a byte of the line or an event. A
-    /// refusal is for good.
+    /// Takes the next byte of the file, and returns what is seen with it, if anything: a byte of
+    /// the line or an event. A refusal is for good: each later call returns it too.
     #[inline]
     pub fn feed(&mut self, b: u8) -> Result<Option<Seen>, BadPcap>
         requires { bytes_taken self.old < MAX_BYTES }
-        // A file so far stands for what was returned.
+        // The bytes so far represent the items that were returned.
         ensures stands { (file : List ℕ) (items : List Seen) → StandsFor self.old file items
             → IfOk result (λ seen. StandsFor self.new (file ++ b ∷ [])
             (items ++ option_to_list seen)) }
-        // Each capture that goes on so has these items first.
+        // Each capture that begins with the bytes so far has these items first.
         ensures each { (file : List ℕ) (items : List Seen) → StandsFor self.old file items
             → IfOk result (λ seen. (more : List ℕ) (all : List Seen)
             → IsCapture ((file ++ b ∷ []) ++ more) all
             → (others : List Seen) × (all ≡ (items ++ option_to_list seen) ++ others)) }
-        // It refuses the first field with which no capture begins, and no other. What stands
-        // before that field begins one, with all that was returned.
+        // It refuses only the first field with which no capture begins. The bytes before that field
+        // begin one, with all the items that were returned.
         ensures refused { (file : List ℕ) (items : List Seen) → StandsFor self.old file items
             → IfErr result (λ bad. RefusesField IsCapture IsCause file items b bad.offset bad.why) }
         ensures taken { OnOk result (bytes_taken self.new ≡ bytes_taken self.old + 1) }
@@ -138,7 +138,7 @@ impl PcapReader {
         self.stage.may_end() && self.partial.is_empty()
     }
 
-    /// Takes the end of the file.
+    /// Takes the end of the file. It refuses it only if the bytes so far aren't a whole capture.
     pub fn finish(self) -> Result<(), BadPcap>
         ensures right { (file : List ℕ) (items : List Seen) → StandsFor self file items
             → OnOk result (IsCapture file items) }

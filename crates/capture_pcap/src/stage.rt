@@ -1,4 +1,4 @@
-//! Which field of a pcap file comes next, and what a field makes of it.
+//! Which field of a pcap file comes next, and what each field leads to.
 #![tactic(auto, unfolding(crate::specs::PcapStep::field_at))]
 
 ghost use Rattle.std.specs.Prelude.{◌≡◌, ◌+◌, ◌<◌, ◌≤◌, ◌*◌, length, true, false};
@@ -16,7 +16,7 @@ use crate::{Block, Body, Clock, Order, PcapFault, Resolution, Seen, block};
 /// The link type of RTAC serial.
 const RTAC_SERIAL: u32 = 250;
 
-/// The bytes of an RTAC header, which comes before a packet's data.
+/// The length of an RTAC header, which comes before a packet's data.
 const RTAC_HEADER: u32 = 12;
 
 /// What comes next in a pcap file.
@@ -24,18 +24,19 @@ const RTAC_HEADER: u32 = 12;
 pub enum Stage {
     /// The magic number.
     Magic,
-    /// A field of the header that may be anything, after this many of the four: version, zone,
-    /// figures and length of a packet.
+    /// One of the four fields of the header that may be anything (version, zone, figures and length
+    /// of a packet), with how many of them came before it.
     Free(Clock, u8),
     /// The link type.
     Link(Clock),
     /// The seconds of a packet, or the end of the file.
     Seconds(Clock),
-    /// The fraction of this second.
+    /// The fraction of a packet's time, with its seconds.
     Fraction(Clock, u32),
-    /// How many bytes of the packet of this time, in nanoseconds, the file has.
+    /// How many bytes of a packet the file has, with the packet's time in nanoseconds.
     Captured(Clock, u64),
-    /// How many bytes this packet had, of which the file has this many.
+    /// How many bytes a packet had, with its time in nanoseconds and how many bytes of it the file
+    /// has.
     Original(Clock, u64, u32),
     /// The packet itself.
     Packet(Clock, Body),
@@ -43,10 +44,10 @@ pub enum Stage {
     Blocks(Block),
 }
 
-/// What a field or a byte comes to: what comes next and what was seen, or why it is refused.
+/// What a field or a byte leads to: what comes next and what was seen, or why it is refused.
 pub type Step = Result<(Stage, Option<Seen>), PcapFault>;
 
-/// The nanoseconds of a time.
+/// Returns a time in nanoseconds.
 fn start_of(clock: Clock, seconds: u32, fraction: u32) -> u64
     ensures { result ≡ seconds * 1000000000 + fraction * nanoseconds clock.resolution }
 {
@@ -98,7 +99,7 @@ fn in_blocks(step: block::Step) -> Step
     }
 }
 
-/// What comes after the length of a packet.
+/// What comes after the number of bytes that a packet had.
 fn behind_length(clock: Clock, start: u64, captured: u32, original: u32) -> Step
     requires { 12 ≤ captured }
     ensures step { result ≡ after_length clock start captured original }
@@ -113,7 +114,7 @@ fn behind_length(clock: Clock, start: u64, captured: u32, original: u32) -> Step
 }
 
 impl Stage {
-    /// Whether single bytes come next, and no field of four.
+    /// Whether single bytes come next, rather than a field of four.
     #[inline]
     pub fn is_data(self) -> bool
         ensures { result ≡ takes_bytes self }
@@ -125,14 +126,14 @@ impl Stage {
         }
     }
 
-    /// Whether a file may end before this.
+    /// Whether a file may end here, before what comes next.
     pub fn may_end(self) -> bool
         ensures { result ≡ may_end self }
     {
         matches!(self, Stage::Seconds(_) | Stage::Blocks(Block::Kind(_)))
     }
 
-    /// Takes a byte of data.
+    /// Takes a single byte.
     #[inline]
     pub fn byte(self, b: u8) -> Step
         requires sound { is_sound self ≡ true }

@@ -1,4 +1,4 @@
-//! Numbers of four bytes, in the order of a file.
+//! Numbers of four and of two bytes, in the order of a file.
 ghost use Rattle.std.specs.Prelude.{◌≡◌, ◌≤◌, length};
 
 use byteorder::{BigEndian, ByteOrder, LittleEndian};
@@ -12,14 +12,14 @@ pub enum Order {
     Little,
 }
 
-/// What the second number of a time counts.
+/// What the fraction of a packet's time counts.
 #[derive(Clone, Copy, Debug, PartialEq, Eq)]
 pub enum Resolution {
     Microseconds,
     Nanoseconds,
 }
 
-/// How a file counts.
+/// How a file has its numbers and its times.
 #[derive(Clone, Copy, Debug, PartialEq, Eq)]
 pub struct Clock {
     pub order: Order,
@@ -29,7 +29,7 @@ pub struct Clock {
 impl Resolution {
     ghost use Rattle.capture_pcap.specs.Words.{nanoseconds};
 
-    /// How many nanoseconds one of them is.
+    /// Returns how many nanoseconds a unit of this resolution is.
     #[inline]
     pub fn nanoseconds(self) -> u32
         ensures value { result ≡ nanoseconds self }
@@ -45,7 +45,7 @@ impl Resolution {
 impl Order {
     ghost use Rattle.capture_pcap.specs.Words.{number, short_number};
 
-    /// The number in the first four bytes.
+    /// Returns the number in the first four bytes.
     #[inline]
     pub fn number(self, word: &[u8]) -> u32
         requires { 4 ≤ length word.now }
@@ -57,7 +57,7 @@ impl Order {
         }
     }
 
-    /// The number in the first two bytes.
+    /// Returns the number in the first two bytes.
     #[inline]
     pub fn short_number(self, word: &[u8]) -> u16
         requires { 2 ≤ length word.now }

@@ -1,4 +1,4 @@
-//! The parts of a pcap file that is written: little-endian, with times in nanoseconds.
+//! The parts from which a pcap file is written: little-endian, with times in nanoseconds.
 ghost use Rattle.std.specs.Prelude.{◌≡◌, ℕ, ◌+◌, ◌*◌, ◌<◌, ◌≤◌, ◌^◌, ◌++◌, ◌∷◌, [], List, length};
 ghost use Rattle.std.specs.Prelude.{true};
 ghost use Rattle.byteorder.specs.Endian.{big_bytes, little_bytes};
@@ -20,7 +20,7 @@ pub const FILE_HEADER: [u8; 24] = [
 /// What comes before the data of a packet.
 pub type PacketHeader = ArrayVec<u8, 28>;
 
-/// `FILE_HEADER` is the header of a file whose times count nanoseconds.
+/// A law: `FILE_HEADER` is the header of a little-endian file whose times count nanoseconds.
 pub fn written_header()
     ensures { IsHeader written_clock FILE_HEADER }
 {}
@@ -47,7 +47,8 @@ fn push_stamp(out: &mut PacketHeader, n: u32)
     let _ = out.try_extend_from_slice(&word);
 }
 
-/// The event in front of data that go a way: the start of data sent, or of data received.
+/// Returns the event that comes before data of this way: the start of data sent, or of data
+/// received.
 fn event_of(way: Way) -> u8
     ensures { result ≡ data_event way }
 {
@@ -57,7 +58,7 @@ fn event_of(way: Way) -> u8
     }
 }
 
-/// Appends the event in front of data, with no control line and no footer.
+/// Appends the event that comes before data of this way, with no control line and no footer.
 fn push_event(out: &mut PacketHeader, way: Way)
     requires { length out.old.items + 4 ≤ 28 }
     ensures { out.new.items ≡ out.old.items ++ data_event way ∷ 0 ∷ 0 ∷ 0 ∷ [] }
@@ -65,7 +66,8 @@ fn push_event(out: &mut PacketHeader, way: Way)
     let _ = out.try_extend_from_slice(&[event_of(way), 0, 0, 0]);
 }
 
-/// What comes before this many bytes of data, which start then, in nanoseconds since 1970.
+/// Returns what comes before `count` bytes of data that start at this time, in nanoseconds since
+/// 1970.
 pub fn packet_header(way: Way, start: u64, count: u32) -> PacketHeader
     requires time { start < 2 ^ 32 * 1000000000 }
     requires size { count + 12 < 2 ^ 32 }
