@@ -1,5 +1,5 @@
 //! What the Modbus RTU device reads of small captures, at 1,000 baud and 10 bits, where a character
-//! is 10 ms; and the laws can be called.
+//! is 10 ms. A test also calls each law.
 
 ghost use Rattle.std.specs.Prelude.{◌<◌, length};
 
@@ -13,8 +13,8 @@ use yasir_ticks::Tick;
 // a request to read ten registers
 const REQUEST: &[u8] = b"\x01\x03\x00\x00\x00\x0A\xC5\xCD";
 
-// The ticks of a capture that has this request at each of these times, in microseconds, and four
-// silent ticks behind it.
+// Returns the ticks of a capture that has this request at each of these times, in microseconds, and
+// four silent ticks after them.
 fn ticks_of(alloc: Global, spacing: Spacing, times: &[u64]) -> Result<Vec<Tick>, Fail> {
     let rate = Rate::read("1000x10").ok_or("no rate")?;
     let mut placer = Placer::new(Timing {
@@ -46,7 +46,7 @@ fn ticks_of(alloc: Global, spacing: Spacing, times: &[u64]) -> Result<Vec<Tick>,
     Ok(line)
 }
 
-// The ticks in which the frames begin that the device reads of these.
+// Returns the ticks in which the frames begin that the device reads of this line.
 fn starts_of(alloc: Global, line: &[Tick]) -> Result<Vec<u64>, AllocError>
     requires { length line.now < 1000 }
 {
