@@ -1,4 +1,4 @@
--- What a run is given is right, so that nothing refuses it.
+-- Which inputs are right for a run, so that nothing refuses them.
 use Rattle.std.specs.Prelude.{◌≡◌, ◌⊎◌, ℕ, ◌≤◌, List, [], ◌∷◌, length, Option, Some, None, Ok}
 use Rattle.tick_drive.specs.Input.{max_ticks, max_bytes}
 use Rattle.replay_status.specs.Readable.{IsReadableWith}
@@ -20,13 +20,13 @@ use Rattle.line_capture.specs.declared.words.Command.{Command}
 use Rattle.line_capture.specs.declared.words.Command.TheVariants.{Take, Give}
 use Rattle.line_capture.specs.declared.words.GiveForm.{GiveForm}
 
--- Each of these bytes is placed, behind one that is there, if there is one.
+-- Holds if each of these bytes is placed, given where the byte before them is, if there is one.
 abbrev pub ArePlaced : Timing → Option Spot → List CaptureByte → Type 0
 ArePlaced t last [] = Unit {0}
 ArePlaced t last (c ∷ cs) =
     ((silence : ℕ) × (answer_at t last c ≡ Ok silence)) × ArePlaced t (Some (spot_of t last c)) cs
 
--- All bytes of a way are placed, on no more ticks than are written.
+-- Holds if all bytes of a way are placed, on no more ticks than are written.
 pub record IsPlacedWhole (t : Timing) (cs : List CaptureByte) : Type 0 where
   pub each : ArePlaced t None cs
   pub few : length (line_of t cs) ≤ max_ticks
@@ -39,8 +39,8 @@ timing_of_items taking items = record {
   origin = origin_of (way_bytes taking.ways way.A items) (way_bytes taking.ways way.B items);
 }
 
--- The input tells a right capture within the limits, without an error, and all bytes of the ways
--- that are taken are placed.
+-- Holds if the input tells what it has left, which is a right capture within the limits and without
+-- an error, and all bytes of the ways that are taken are placed.
 pub record IsTakeable (format : Format) (taking : Taking) (input : Option (List ℕ)) : Type 0 where
   pub file : List ℕ
   pub items : List Seen
@@ -51,13 +51,15 @@ pub record IsTakeable (format : Format) (taking : Taking) (input : Option (List 
   pub a : IsPlacedWhole (timing_of_items taking items) (way_bytes taking.ways way.A items)
   pub b : IsPlacedWhole (timing_of_items taking items) (way_bytes taking.ways way.B items)
 
--- The input tells a right tick text within the limits, with as many marks as are taken.
+-- Holds if the input tells what it has left, which is a right tick text within the limits, with as
+-- many marks as it must have.
 pub record IsGivable (form : GiveForm) (input : Option (List ℕ)) : Type 0 where
   pub file : List ℕ
   pub told : input ≡ Some file
   pub readable : IsReadableWith (marks_for form file) (Some file)
 
--- The input is right for what was asked for.
+-- Holds if the input is right for what was asked for. If no command was asked for, no input is
+-- right.
 abbrev pub MayDo : Option Command → Option (List ℕ) → Type 0
 MayDo None input = ⊥
 MayDo (Some (Take form rate ways spacing)) input =

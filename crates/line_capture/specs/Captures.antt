@@ -34,16 +34,16 @@ is_way way.A way.B = false
 is_way way.B way.A = false
 is_way way.B way.B = true
 
--- the byte of the line that an item is, where it goes this way and the way is taken
+-- the byte of the line that an item is, if it goes this way and the way is taken
 abbrev pub byte_of : Ways → Way → Seen → Option CaptureByte
 byte_of chosen w (Byte c) = if takes chosen c.way && is_way w c.way then Some c else None
 byte_of chosen w (Event e) = None
 
--- the bytes of a capture that go this way, where it is taken
+-- the bytes of a capture that go this way, if the way is taken
 abbrev pub way_bytes : Ways → Way → List Seen → List CaptureByte
 way_bytes chosen w items = filter_map (byte_of chosen w) items
 
--- a framing error, 7, or a parity error, 8
+-- whether an item is a framing error (7) or a parity error (8)
 abbrev pub is_error : Seen → Bool
 is_error (Byte c) = false
 is_error (Event e) = (e.event == 7) || (e.event == 8)
@@ -56,30 +56,30 @@ abbrev pub is_control_line : Seen → Bool
 is_control_line (Byte c) = false
 is_control_line (Event e) = e.event == 0
 
--- how many items are such
+-- how many items pass this test
 abbrev pub count_of : (Seen → Bool) → List Seen → ℕ
 count_of such [] = 0
 count_of such (item ∷ items) = (if such item then 1 else 0) + count_of such items
 
--- none of these items is an error
+-- Holds if none of these items is an error.
 abbrev pub NoError : List Seen → Type 0
 NoError [] = Unit {0}
 NoError (item ∷ items) = (is_error item ≡ false) × NoError items
 
--- What is kept of these items.
+-- Holds if this is what is kept of these items.
 pub record HoldsItems (chosen : Ways) (kept : Kept) (items : List Seen) : Type 0 where
   pub a_is : kept.a.items ≡ way_bytes chosen way.A items
   pub b_is : kept.b.items ≡ way_bytes chosen way.B items
   pub breaks_are : kept.breaks ≡ min (count_of is_break items) (2 ^ 64 - 1)
   pub lines_are : kept.control_lines ≡ min (count_of is_control_line items) (2 ^ 64 - 1)
 
--- an event on this way
+-- whether an event was seen on this way
 abbrev pub is_on : Option Way → Way → Bool
 is_on (Some v) w = is_way v w
 is_on None w = false
 
--- whether an error that comes behind a byte tells of this byte: it is on the way of the byte, and
--- less than one character after the start of the byte
+-- whether an error that follows a byte belongs to it: it is on the way of the byte, and comes less
+-- than one character after the start of the byte
 abbrev pub tells_of : Rate → LineEvent → CaptureByte → Bool
 tells_of rate error c =
     is_on error.way c.way && nat_lt ((error.start - c.start) * rate.baud) (character rate)
@@ -90,13 +90,13 @@ without_wrong wrong [] = []
 without_wrong wrong (c ∷ []) = if wrong c then [] else c ∷ []
 without_wrong wrong (c ∷ d ∷ cs) = c ∷ without_wrong wrong (d ∷ cs)
 
--- the bytes of a way that are kept before an error: where errors come behind their bytes, the last
--- one isn't kept if the error tells of it
+-- the bytes of a way that are kept before an error: if errors follow their bytes, the last byte
+-- isn't kept if the error belongs to it
 abbrev pub before_error : Bool → Rate → LineEvent → List CaptureByte → List CaptureByte
 before_error true rate error cs = without_wrong (tells_of rate error) cs
 before_error false rate error cs = cs
 
--- What is kept of these items where an error comes behind them.
+-- Holds if this is what is kept of these items when an error follows them.
 pub record HoldsBefore (follows : Bool) (taking : Taking) (kept : Kept) (items : List Seen)
     (error : LineEvent) : Type 0 where
   pub a_is : kept.a.items
@@ -106,19 +106,20 @@ pub record HoldsBefore (follows : Bool) (taking : Taking) (kept : Kept) (items :
   pub breaks_are : kept.breaks ≡ min (count_of is_break items) (2 ^ 64 - 1)
   pub lines_are : kept.control_lines ≡ min (count_of is_control_line items) (2 ^ 64 - 1)
 
--- an item more
+-- Holds if one more item was taken, whatever items were taken before.
 abbrev pub TakesItem : Ways → Kept → Kept → Seen → Type 0
 TakesItem chosen old new item = (items : List Seen) → HoldsItems chosen old items
     → HoldsItems chosen new (items ++ item ∷ [])
 
--- Of a file up to a refused place these items were taken, of which none is an error.
+-- Holds if this is what is kept of a file so far: its items are the first ones of each capture that
+-- begins with the file, and none of them is an error.
 pub record TakesItems (format : Format) (chosen : Ways) (file : List ℕ) (kept : Kept) : Type 0 where
   pub items : List Seen
   pub begins : format.begins file items
   pub holds : HoldsItems chosen kept items
   pub right : NoError items
 
--- The byte behind a front of the file is refused.
+-- Holds if the byte after a front of the file is refused, and this is what is kept of that front.
 pub record RefusesByte (format : Format) (chosen : Ways) (file : List ℕ) (kept : Kept)
     (bad : BadCapture) : Type 0 where
   pub front : List ℕ
@@ -131,8 +132,8 @@ pub record RefusesByte (format : Format) (chosen : Ways) (file : List ℕ) (kept
   pub right : NoError items
   pub refused : format.refuses front items byte bad
 
--- The byte behind a front of the file ends an event that tells of an error: where errors come behind
--- their bytes, the byte that it tells of isn't kept.
+-- Holds if the byte after a front of the file ends an event that is an error, and this is what is
+-- kept of that front. If errors follow their bytes, the byte to which the error belongs isn't kept.
 pub record EndsInError (format : Format) (taking : Taking) (file : List ℕ) (kept : Kept)
     (bad : BadCapture) : Type 0 where
   pub front : List ℕ
@@ -147,13 +148,13 @@ pub record EndsInError (format : Format) (taking : Taking) (file : List ℕ) (ke
   pub wrong : is_error (Event error) ≡ true
   pub bad_is : bad ≡ ByteError (length front)
 
--- The file ends too early.
+-- Holds if the file ends too early, and this is what is kept of it.
 pub record EndsEarly (format : Format) (chosen : Ways) (file : List ℕ) (kept : Kept)
     (bad : BadCapture) : Type 0 where
   pub taken : TakesItems format chosen file kept
   pub lacks : format.lacks file taken.items bad
 
--- The file is a capture, and this is what is kept of it.
+-- Holds if the file is a capture without an error, and this is what is kept of it.
 pub record IsTaken (format : Format) (chosen : Ways) (file : List ℕ) (kept : Kept) : Type 0 where
   pub items : List Seen
   pub is : format.is file items
@@ -168,7 +169,8 @@ pub data IsRefused (format : Format) (taking : Taking) (whole : Bool) (file : Li
   at_end : whole ≡ true → EndsEarly format taking.ways file kept bad
       → IsRefused format taking whole file kept bad
 
--- What is kept of a file, and how it ends; where it isn't whole, more was to come.
+-- Holds if this is what is kept of a file, and the capture ends like this. If the file isn't whole,
+-- more was to come.
 abbrev pub Collects : Format → Taking → Bool → List ℕ → Kept → CaptureEnd → Type 0
 Collects format taking whole file kept Whole =
     (whole ≡ true) × IsTaken format taking.ways file kept
@@ -176,7 +178,7 @@ Collects format taking whole file kept Open =
     (whole ≡ false) × TakesItems format taking.ways file kept
 Collects format taking whole file kept (Bad bad) = IsRefused format taking whole file kept bad
 
--- what is said of a file that ended so
+-- Holds if a file that was read to its end has this end: it is a capture, or it lacks something.
 abbrev pub EndsSo : Format → List ℕ → List Seen → CaptureEnd → Type 0
 EndsSo format file items Whole = format.is file items
 EndsSo format file items Open = ⊥

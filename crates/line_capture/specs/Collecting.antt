@@ -11,7 +11,8 @@ use Rattle.line_capture.specs.declared.reader.FormReader.{Ghosts as FormReader}
 use Rattle.line_capture.specs.declared.take.Taking.{Taking}
 
 module _ {F : Type 0} (f : FormReader F) (taking : Taking) where
-  -- The reader has taken this much of a file, and what it returned is kept.
+  -- Holds if the reader has taken these bytes of a file, and what it returned is kept and has no
+  -- error.
   pub record Collecting (reader : F) (kept : Kept) (file : List ℕ) : Type 0 where
     pub items : List Seen
     pub stands : f.stands reader file items
@@ -19,7 +20,7 @@ module _ {F : Type 0} (f : FormReader F) (taking : Taking) where
     pub holds : HoldsItems taking.ways kept items
     pub right : NoError items
 
-  -- The byte behind the file is refused by the reader.
+  -- Holds if the reader refuses the byte after these bytes of a file.
   pub record RefusesNext (kept : Kept) (file : List ℕ) (b : ℕ) (bad : BadCapture) : Type 0 where
     pub items : List Seen
     pub begins : f.format.begins file items
@@ -27,7 +28,7 @@ module _ {F : Type 0} (f : FormReader F) (taking : Taking) where
     pub right : NoError items
     pub refused : f.format.refuses file items b bad
 
-  -- The byte behind the file ends an event that tells of an error.
+  -- Holds if the byte after these bytes of a file ends an event that is an error.
   pub record ErrorNext (kept : Kept) (file : List ℕ) (b : ℕ) (bad : BadCapture) : Type 0 where
     pub items : List Seen
     pub error : LineEvent
@@ -41,7 +42,7 @@ module _ {F : Type 0} (f : FormReader F) (taking : Taking) where
     refused : RefusesNext kept file b bad → StopsNext kept file b bad
     in_error : ErrorNext kept file b bad → StopsNext kept file b bad
 
-  -- what the answer to one byte says
+  -- what the result for one byte says
   abbrev pub CollectsByte : F → Kept → List ℕ → ℕ → Option BadCapture → Type 0
   CollectsByte reader kept file b None = Collecting reader kept (file ++ b ∷ [])
   CollectsByte reader kept file b (Some bad) = StopsNext kept file b bad

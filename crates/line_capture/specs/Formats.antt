@@ -20,27 +20,27 @@ use Rattle.line_capture.specs.declared.words.TakeForm.TheVariants as take_forms
 
 -- A form of captures.
 pub record Format : Type 1 where
-  -- the file is a capture with these items, in its order
+  -- the file is a capture with these items, in this order
   pub is : List ℕ → List Seen → Type 0
-  -- behind a file so far, with these items so far, this byte is refused so
+  -- after these bytes of a file, with these items, this byte is refused like this
   pub refuses : List ℕ → List Seen → ℕ → BadCapture → Type 0
-  -- a file with these items that ends here is refused so
+  -- a file with these items that ends here is refused like this
   pub lacks : List ℕ → List Seen → BadCapture → Type 0
-  -- each capture that begins so has these items first
+  -- each capture that begins with these bytes has these items first
   pub begins : List ℕ → List Seen → Type 0
-  -- an error of a byte comes behind the byte; else it is in its place
+  -- whether an error of a byte follows the byte, and isn't in its place
   pub error_follows : Bool
 
--- Each capture that begins with these bytes has these items first.
+-- Holds if each capture that begins with these bytes has these items first.
 abbrev pub HaveFirst : (List ℕ → List Seen → Type 0) → List ℕ → List Seen → Type 0
 HaveFirst is file items = (more : List ℕ) (all : List Seen) → is (file ++ more) all
     → (others : List Seen) × (all ≡ items ++ others)
 
--- No capture is this file.
+-- Holds if this file isn't a capture.
 abbrev pub IsNone : (List ℕ → List Seen → Type 0) → List ℕ → Type 0
 IsNone is file = (all : List Seen) → is file all → ⊥
 
--- Behind this much of a file a byte begins no text capture.
+-- Holds if no text capture begins with these bytes and this one, and the refusal is right.
 abbrev pub RefusesText : List ℕ → List Seen → ℕ → BadCapture → Type 0
 RefusesText file items b (Text bad) =
     BeginsNone IsSeenText (file ++ b ∷ []) × Refuses file items (Some b) bad
@@ -48,7 +48,7 @@ RefusesText file items b (Pcap bad) = ⊥
 RefusesText file items b (Rows bad) = ⊥
 RefusesText file items b (ByteError offset) = ⊥
 
--- The file is no text capture, though it begins one.
+-- Holds if the file isn't a text capture, and the refusal of its end is right.
 abbrev pub LacksText : List ℕ → List Seen → BadCapture → Type 0
 LacksText file items (Text bad) = IsNone IsSeenText file × Refuses file items None bad
 LacksText file items (Pcap bad) = ⊥
@@ -64,7 +64,8 @@ text_format = record {
   error_follows = false;
 }
 
--- Behind this much of a file a byte ends a field with which no pcap or pcapng file begins.
+-- Holds if no pcap or pcapng file begins with these bytes and this one, and the refusal of the
+-- field that this byte ends is right.
 abbrev pub RefusesPcap : List ℕ → List Seen → ℕ → BadCapture → Type 0
 RefusesPcap file items b (Pcap bad) =
     BeginsNone IsCapture (file ++ b ∷ []) × RefusesPacket file items (Some b) bad
@@ -72,7 +73,7 @@ RefusesPcap file items b (Text bad) = ⊥
 RefusesPcap file items b (Rows bad) = ⊥
 RefusesPcap file items b (ByteError offset) = ⊥
 
--- The file is no pcap or pcapng file, though it begins one.
+-- Holds if the file isn't a pcap or pcapng file, and the refusal of its end is right.
 abbrev pub LacksPcap : List ℕ → List Seen → BadCapture → Type 0
 LacksPcap file items (Pcap bad) = IsNone IsCapture file × RefusesPacket file items None bad
 LacksPcap file items (Text bad) = ⊥
@@ -89,7 +90,7 @@ pcap_format = record {
 }
 
 module _ (row_at : Stage → List ℕ → Result Row RowFault) (name_of : List ℕ → List ℕ) where
-  -- Behind this much of a file a byte begins no export of this form.
+  -- Holds if no export of this form begins with these bytes and this one, and the refusal is right.
   abbrev pub RefusesRows : List ℕ → List Seen → ℕ → BadCapture → Type 0
   RefusesRows file items b (Rows bad) = BeginsNone (IsExport row_at name_of) (file ++ b ∷ [])
       × RefusesRow row_at name_of file items (Some b) bad
@@ -97,7 +98,7 @@ module _ (row_at : Stage → List ℕ → Result Row RowFault) (name_of : List �
   RefusesRows file items b (Pcap bad) = ⊥
   RefusesRows file items b (ByteError offset) = ⊥
 
-  -- The file is no export of this form, though it begins one.
+  -- Holds if the file isn't an export of this form, and the refusal of its end is right.
   abbrev pub LacksRows : List ℕ → List Seen → BadCapture → Type 0
   LacksRows file items (Rows bad) =
       IsNone (IsExport row_at name_of) file × RefusesRow row_at name_of file items None bad

@@ -27,7 +27,7 @@ use Rattle.line_capture.specs.declared.records.RecordForm.TheVariants as record_
 use Rattle.line_capture.specs.declared.words.GiveForm.{GiveForm}
 use Rattle.line_capture.specs.declared.words.GiveForm.TheVariants.{Pcap, Text, Vcd}
 
--- whether a `%` begins a line of what comes after this byte
+-- whether a `%` begins a line in the text that comes after this byte
 abbrev pub has_mark_behind : ℕ → List ℕ → Bool
 has_mark_behind before [] = false
 has_mark_behind before (b ∷ text) =
@@ -36,14 +36,14 @@ has_mark_behind before (b ∷ text) =
 abbrev pub has_mark : List ℕ → Bool
 has_mark text = has_mark_behind line_feed text
 
--- How many marks a tick text must have to be given: one where it has any, for the second list is
--- the other way. A capture of one way is given of one list.
+-- How many marks a tick text must have to be given: one if it has any, since the second list is the
+-- line of the other way. A text capture has one way, so it is given from one list.
 abbrev pub marks_for : GiveForm → List ℕ → ℕ
 marks_for Pcap text = if has_mark text then 1 else 0
 marks_for Text text = 0
 marks_for Vcd text = if has_mark text then 1 else 0
 
--- How a run ends of which the tick text wasn't taken: no list of its ticks stops but for want of
+-- The status of a run whose tick text wasn't taken. A list of ticks stops only if there is no
 -- memory.
 abbrev pub end_status : End → Status
 end_status ends.Whole = statuses.Done
@@ -52,14 +52,14 @@ end_status (ends.TooLong what count) = statuses.TooLong what count
 end_status ReadFault = statuses.ReadFault
 end_status (Stopped stop) = statuses.NoMemory
 
--- This text is a capture of two lines, in its form.
+-- Holds if this text is the capture of two lines, in this form.
 abbrev pub IsGiven : GiveForm → Rate → List Tick → List Tick → List ℕ → Type 0
 IsGiven Pcap rate a b text = IsRecorded record_forms.Pcap rate a b text
 IsGiven Text rate a b text = IsRecorded record_forms.Text rate a b text
 IsGiven Vcd rate a b text = text ≡ dump_text rate (wires_for b) a b
 
--- The file is a right tick text of these two lines, of which the second is empty where it has no
--- mark, and they have no more ticks than are taken.
+-- Holds if the file is a right tick text of these two lines, with no more ticks than are taken. If
+-- it has no mark, the second line is empty.
 pub record AreLinesOf (form : GiveForm) (file : List ℕ) (a b : List Tick) : Type 0 where
   pub items : List Item
   pub right : IsTickText (marks_for form file) file items
@@ -67,8 +67,8 @@ pub record AreLinesOf (form : GiveForm) (file : List ℕ) (a b : List Tick) : Ty
   pub a_is : a ≡ part 0 items
   pub b_is : b ≡ part 1 items
 
--- A capture of the lines was written, or a front of it where a write or a flush failed, and nothing
--- else.
+-- Holds if a capture of the lines was written, or a front of it if a write or a flush failed, and
+-- nothing else.
 pub record GivesLines (form : GiveForm) (rate : Rate) (file : List ℕ) (before now : Held)
     (outcome : Outcome) : Type 0 where
   pub a : List Tick
@@ -81,7 +81,8 @@ pub record GivesLines (form : GiveForm) (rate : Rate) (file : List ℕ) (before 
   pub log : now.log ≡ before.log
   pub outcome_is : outcome ≡ Ended status
 
--- The file isn't taken as tick text: why, and where. Nothing was written.
+-- Holds if the file isn't taken as tick text, the outcome says why and where, and nothing was
+-- written.
 pub record RefusesLines (form : GiveForm) (file : List ℕ) (before now : Held) (outcome : Outcome)
     : Type 0 where
   pub end : End
@@ -96,7 +97,7 @@ pub data GivesFile (form : GiveForm) (rate : Rate) (file : List ℕ) (before now
   refused : RefusesLines form file before now outcome → GivesFile form rate file before now outcome
   given : GivesLines form rate file before now outcome → GivesFile form rate file before now outcome
 
--- Of an input that wasn't read to its end nothing is given, whatever is in it.
+-- If the input wasn't read to its end, nothing of it is given, whatever its bytes are.
 abbrev pub GivesRead : GiveForm → Rate → ReadEnd → List ℕ → Held → Held → Outcome → Type 0
 GivesRead form rate Whole file before now outcome = GivesFile form rate file before now outcome
 GivesRead form rate Failed file before now outcome =
@@ -104,7 +105,7 @@ GivesRead form rate Failed file before now outcome =
 GivesRead form rate TooLong file before now outcome =
     (outcome ≡ read_outcome TooLong) × (now ≡ before)
 
--- What was read of the input was given.
+-- Holds if what was read of the input was given.
 pub record GivesInput (form : GiveForm) (rate : Rate) (in_before in_now : Told)
     (before now : Held) (outcome : Outcome) : Type 0 where
   pub read : ReadEnd

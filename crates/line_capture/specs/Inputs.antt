@@ -6,20 +6,21 @@ use Rattle.tick_drive.specs.Input.{max_bytes}
 use Rattle.line_capture.specs.declared.input.ReadEnd.{ReadEnd}
 use Rattle.line_capture.specs.declared.input.ReadEnd.TheVariants.{Whole, Failed, TooLong}
 
--- More bytes came than are read: these are the first ones, as many as are read.
+-- Holds if more bytes came than are read, and these are the first ones, as many as are read.
 pub record IsTooMuch (before now : Option (List ℕ)) (bytes : List ℕ) : Type 0 where
   pub more : List ℕ
   pub some : more ≢ []
   pub came : before ≡ prepend_known (bytes ++ more) now
   pub full : length bytes ≡ max_bytes
 
--- These bytes were read of an input, and its reading ended so.
+-- Holds if these bytes were read of an input, and its reading ended like this.
 abbrev pub ReadsInput : Option (List ℕ) → Option (List ℕ) → List ℕ → ReadEnd → Type 0
 ReadsInput before now bytes Whole = (before ≡ prepend_known bytes now) × IsAtEnd now
 ReadsInput before now bytes Failed = before ≡ prepend_known bytes now
 ReadsInput before now bytes TooLong = IsTooMuch before now bytes
 
--- The count of faults rose where a read failed, and is as it was in any other case.
+-- Holds if the count of faults fits the end of a reading: it rose if a read failed, and is
+-- otherwise as it was.
 abbrev pub IsReadOf : ℕ → ℕ → ReadEnd → Type 0
 IsReadOf before now Failed = Rose before now
 IsReadOf before now Whole = now ≡ before
@@ -33,7 +34,8 @@ pub record Told : Type 0 where
 abbrev pub told : Option (List ℕ) → ℕ → Told
 told left faults = record { left = left; faults = faults }
 
--- These bytes were read of an input, and its reading ended so, for its cause.
+-- Holds if these bytes were read of an input, its reading ended like this, and the count of faults
+-- fits.
 pub record IsRead (before now : Told) (bytes : List ℕ) (end : ReadEnd) : Type 0 where
   pub reads : ReadsInput before.left now.left bytes end
   pub cause : IsReadOf before.faults now.faults end

@@ -56,12 +56,12 @@ unplaced_word Early = codes "early"
 unplaced_word Overlap = codes "overlap"
 unplaced_word Late = codes "late"
 
--- a fault line: what is counted, this many of it, and a word for the cause
+-- a fault line: what is counted, the count, and a word for the cause
 abbrev pub counted_line : List ℕ → ℕ → List ℕ → List ℕ
 counted_line what count word =
     codes "fault: " ++ what ++ decimal count ++ codes " " ++ word ++ codes "\n"
 
--- the line that the log gets last; none after Done and after a write that failed
+-- the line that the log gets last, which is empty after Done and after a write that failed
 abbrev pub fault_line : Outcome → List ℕ
 fault_line (Ended status) = status_line status
 fault_line (BadCapture (Text bad)) = counted_line (codes "line ") bad.line (text_word bad.why)
@@ -73,14 +73,15 @@ fault_line (outcomes.Unplaced A place why) =
 fault_line (outcomes.Unplaced B place why) =
     counted_line (codes "way b byte ") place (unplaced_word why)
 
--- What the log has got: the fault line of a refusal, or a front of it where this write failed.
+-- Holds if the log got the fault line of a refusal, or a front of it if this write failed.
 abbrev pub LogsOutcome : Option (List ℕ) → Option (List ℕ) → ℕ → ℕ → Outcome → Type 0
 LogsOutcome before now faults_before faults_now (Ended status) =
     LogsFault before now faults_before faults_now status
 LogsOutcome before now faults_before faults_now outcome =
     GotLine before now faults_before faults_now (fault_line outcome)
 
--- The status of `link_replay` whose causes an outcome has: those of a refusal of the input.
+-- The status of `link_replay` that has the same causes as an outcome: the outcome's own status if
+-- it has one, and otherwise that of a refusal.
 abbrev pub status_in : Outcome → Status
 status_in (Ended status) = status
 status_in outcome = Usage

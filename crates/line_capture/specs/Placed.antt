@@ -24,25 +24,26 @@ use Rattle.line_capture.specs.declared.placing.LineStop.TheVariants.{AllPlaced, 
 abbrev pub plain : LineAndNotes
 plain = record { other_line = λ line. line; note_lines = λ line. [] }
 
--- These bytes come first, and each of them is placed.
+-- Holds if the bytes begin with this front, each byte of it is placed, and its line has no more
+-- ticks than are written.
 pub record IsFront (t : Timing) (cs front rest : List CaptureByte) : Type 0 where
   pub is : cs ≡ front ++ rest
   pub placed : NoneRefused t None front
   pub few : length (line_of t front) ≤ max_ticks
 
--- some byte is next, of which this holds
+-- Holds if there is a next byte, and this holds for it.
 abbrev pub NextIs : List CaptureByte → (CaptureByte → Type 0) → Type 0
 NextIs [] Holds = ⊥
 NextIs (c ∷ rest) Holds = Holds c
 
--- Why no more bytes than these are placed.
+-- Holds if this is why no byte after the front is placed.
 abbrev pub StopsAt : Timing → List CaptureByte → List CaptureByte → LineStop → Type 0
 StopsAt t front rest AllPlaced = rest ≡ []
 StopsAt t front rest (Unplaced why) = NextIs rest (λ c. answer_at t (last_spot t front) c ≡ Err why)
 StopsAt t front rest (TooLong count) =
     NextIs rest (λ c. (count ≡ length (line_of t (front ++ c ∷ []))) × (max_ticks < count))
 
--- A line was written, up to the first byte that isn't placed.
+-- Holds if a line was written, up to the first byte that isn't placed.
 pub record WrittenLine (t : Timing) (cs : List CaptureByte) (before now : Option (List ℕ))
     (end : LineEnd) : Type 0 where
   pub front : List CaptureByte
@@ -52,7 +53,7 @@ pub record WrittenLine (t : Timing) (cs : List CaptureByte) (before now : Option
   pub placed : end.placed ≡ length front
   pub text : now ≡ append_known before (canonical_text (line_of t front))
 
--- A write failed: a front of the text of some first ticks was written.
+-- Holds if a write failed, and a front of the text of some first ticks was written.
 pub record WrittenPart (t : Timing) (cs : List CaptureByte) (before now : Option (List ℕ))
     : Type 0 where
   pub front : List CaptureByte
@@ -68,7 +69,8 @@ abbrev pub WritesLine : Timing → List CaptureByte → Option (List ℕ) → Op
 WritesLine t cs before now (Ok end) = WrittenLine t cs before now end
 WritesLine t cs before now (Err failed) = WrittenPart t cs before now
 
--- So many bytes overlap the one before them, of those up to the first one that is early or late.
+-- Holds if this many bytes overlap the one before them, of those up to the first byte that is early
+-- or late. The count stops at 2^64 - 1.
 pub record CountsOverlaps (t : Timing) (cs : List CaptureByte) (count : ℕ) : Type 0 where
   pub front : List CaptureByte
   pub rest : List CaptureByte
@@ -78,7 +80,7 @@ pub record CountsOverlaps (t : Timing) (cs : List CaptureByte) (count : ℕ) : T
       ⊎ (answer_at t (last_spot t front) c ≡ Err Late))
   pub count_is : count ≡ min (overlap_count t front) (2 ^ 64 - 1)
 
--- A byte was counted, or it is early or late.
+-- Holds if a byte was counted, or it is early or late.
 abbrev pub CountsNext : Placer → Placer → List CaptureByte → CaptureByte → Bool → Type 0
 CountsNext placer placed cs c true =
     HasTaken placed (cs ++ c ∷ []) × (timing_of placed ≡ timing_of placer)
@@ -86,7 +88,7 @@ CountsNext placer placed cs c false = (placed ≡ placer)
     × ((answer_at (timing_of placer) (last_spot (timing_of placer) cs) c ≡ Err Early)
     ⊎ (answer_at (timing_of placer) (last_spot (timing_of placer) cs) c ≡ Err Late))
 
--- A byte is placed behind others, which adds these ticks to the line.
+-- Holds if a byte is placed after others, and adds these ticks to the line.
 pub record PlacesByte (t : Timing) (cs : List CaptureByte) (c : CaptureByte) (more : List Tick)
     : Type 0 where
   pub silence : ℕ
@@ -94,7 +96,7 @@ pub record PlacesByte (t : Timing) (cs : List CaptureByte) (c : CaptureByte) (mo
   pub line : line_of t (cs ++ c ∷ []) ≡ line_of t cs ++ more
   pub few : length (line_of t (cs ++ c ∷ [])) ≤ max_ticks
 
--- The sinks have got a front of the texts of some first ticks of a line.
+-- Holds if the sinks have got a front of the texts of some first ticks of a line.
 pub record SendsFront (before now : SinkTexts) (line : List Tick) : Type 0 where
   pub ticks : List Tick
   pub later : List Tick
@@ -102,11 +104,11 @@ pub record SendsFront (before now : SinkTexts) (line : List Tick) : Type 0 where
   pub sent : HasSentFronts plain before now ticks
 
 module _ {O L : Type 0} (o : Sink O) (l : Sink L) where
-  -- the text of a line is on its way
+  -- Holds if the sinks have got the text of a line, apart from what still waits to be written.
   abbrev pub Sends : SinkTexts → Writing O L → List Tick → Type 0
   Sends start at line = SendsTexts plain (waiting_in at.texts) start (texts_held o l at) line
 
-  -- These ticks were added, or a write failed at one of them.
+  -- Holds if these ticks were added, or a write failed at one of them.
   pub record PushesLine (old new : Writing O L) (more : List Tick)
       (result : Result (Unit {0}) Failed) : Type 0 where
     pub goes : OnOk result ((start : SinkTexts) (line : List Tick) → Sends start old line
@@ -115,21 +117,21 @@ module _ {O L : Type 0} (o : Sink O) (l : Sink L) where
         → SendsFront start (texts_held o l new) (line ++ more))
     pub writes : Writes o l old new result
 
-  -- A byte was placed and its ticks were added, or a write failed.
+  -- Holds if a byte is placed, and its ticks were added or a write failed.
   pub record PlacesOne (placer : Placer) (cs : List CaptureByte) (c : CaptureByte)
       (old new : Writing O L) (result : Result (Unit {0}) Failed) : Type 0 where
     pub more : List Tick
     pub places : PlacesByte (timing_of placer) cs c more
     pub pushes : PushesLine old new more result
 
-  -- A byte was placed, its ticks were added, and the placer has taken it.
+  -- Holds if a byte was placed, its ticks were added, and the placer has taken it.
   pub record TakesOne (placer placed : Placer) (cs : List CaptureByte) (c : CaptureByte)
       (old new : Writing O L) : Type 0 where
     pub one : PlacesOne placer cs c old new (Ok tt)
     pub taken : HasTaken placed (cs ++ c ∷ [])
     pub timing : timing_of placed ≡ timing_of placer
 
-  -- The next byte isn't placed, and nothing was added.
+  -- Holds if the next byte isn't placed, and nothing was added.
   pub record StopsBefore (t : Timing) (cs : List CaptureByte) (c : CaptureByte)
       (old new : Writing O L) (stop : LineStop) : Type 0 where
     pub why : StopsAt t cs (c ∷ []) stop
@@ -145,7 +147,7 @@ module _ {O L : Type 0} (o : Sink O) (l : Sink L) where
   PlacesNext placer placed cs c old new (Err failed) =
       PlacesOne placer cs c old new (Err failed)
 
-  -- The bytes of a way were placed and added, up to the first one that isn't placed.
+  -- Holds if the bytes of a way were placed and added, up to the first one that isn't placed.
   pub record PlacesAll (t : Timing) (cs : List CaptureByte) (old new : Writing O L)
       (end : LineEnd) : Type 0 where
     pub front : List CaptureByte
@@ -156,7 +158,7 @@ module _ {O L : Type 0} (o : Sink O) (l : Sink L) where
     pub goes : (start : SinkTexts) → Sends start old [] → Sends start new (line_of t front)
     pub writes : Writes o l old new (Ok tt)
 
-  -- A write failed at one of them.
+  -- Holds if a write failed at one of the bytes of a way.
   pub record PlacesPart (t : Timing) (cs : List CaptureByte) (old new : Writing O L)
       (failed : Failed) : Type 0 where
     pub front : List CaptureByte

@@ -28,7 +28,7 @@ abbrev pub outside : {S O L : Type 0} → S → O → L → Outside S O L
 outside input out log = record { input = input; out = out; log = log }
 
 module _ {S O L : Type 0} (s : Source S) (o : Sink O) (l : Sink L) where
-  -- What is done before the fault line: nothing at all where the words ask for no command.
+  -- What is done before the fault line: nothing at all if the words ask for no command.
   abbrev pub Does : Option Command → Outside S O L → Outside S O L → Outcome → Type 0
   Does None before after outcome = (outcome ≡ Ended statuses.Usage) × (after ≡ before)
   Does (Some (Take form rate ways spacing)) before after outcome =
@@ -43,21 +43,21 @@ module _ {S O L : Type 0} (s : Source S) (o : Sink O) (l : Sink L) where
       (held (o.held before.out) (l.held before.log)) (held (o.held after.out) (l.held after.log))
       outcome
 
-  -- The words ask for this, and it was done.
+  -- Holds if what the words ask for was done.
   pub record Answers (words : List (List ℕ)) (before after : Outside S O L) (outcome : Outcome)
       : Type 0 where
     pub asked : Option Command
     pub asks : Asks words asked
     pub does : Does asked before after outcome
 
-  -- No read, write or flush failed.
+  -- Holds if no read, write or flush failed.
   pub record IsCalm (before after : Outside S O L) : Type 0 where
     pub input : ¬ Rose (s.faults before.input) (s.faults after.input)
     pub out : ¬ Rose (o.faults before.out) (o.faults after.out)
     pub log : ¬ Rose (l.faults before.log) (l.faults after.log)
 
-  -- What the words ask for was done, and then the fault line was added to the log, where the outcome
-  -- has one.
+  -- Holds if what the words ask for was done, and then the fault line was added to the log, if the
+  -- outcome has one.
   pub record Runs (words : List (List ℕ)) (before after : Outside S O L) (outcome : Outcome)
       : Type 0 where
     -- the log as the command left it
@@ -65,11 +65,11 @@ module _ {S O L : Type 0} (s : Source S) (o : Sink O) (l : Sink L) where
     pub answers : Answers words before (record after { log = noted }) outcome
     pub logs : LogsOutcome (l.held noted) (l.held after.log) (l.faults noted) (l.faults after.log)
         outcome
-    -- what is right is done, unless something fails outside or there is no memory
+    -- if the input is right, the run is done, unless something fails outside or there is no memory
     pub able : MayDo answers.asked (s.left before.input) → IsCalm before after → EndsWell outcome
 
-  -- What an outcome says of the counts of faults, and of flushes: on the way to Done `out` is
-  -- flushed and then the log, each once, behind all that was written to it.
+  -- What an outcome says of the counts of faults and of flushes. If the run is done, `out` was
+  -- flushed and then the log, each one time, after all that was written to it.
   pub record RunCauses (before after : Outside S O L) (outcome : Outcome) : Type 0 where
     pub read_failed : outcome ≡ Ended statuses.ReadFault
         → Rose (s.faults before.input) (s.faults after.input)

@@ -17,7 +17,7 @@ begins way tick (Silent ∷ line) room = []
 begins way tick (Byte b ∷ line) zero = record_at way tick b line ∷ []
 begins way tick (Byte b ∷ line) (suc room) = []
 
--- how many further bytes find room behind the first of these ticks
+-- how many more bytes fit into the current record after the first of these ticks
 abbrev pub room_behind : List Tick → ℕ → ℕ
 room_behind [] room = 0
 room_behind (Silent ∷ line) room = 0
@@ -28,24 +28,25 @@ abbrev pub rest_of : List Tick → List Tick
 rest_of [] = []
 rest_of (t ∷ line) = line
 
--- the records of this many ticks of two lines
+-- the records that begin in this many ticks of two lines
 abbrev pub walked : ℕ → ℕ → List Tick → List Tick → ℕ → ℕ → List LineRecord
 walked zero tick a b room_a room_b = []
 walked (suc n) tick a b room_a room_b = begins A tick a room_a ++ (begins B tick b room_b
     ++ walked n (suc tick) (rest_of a) (rest_of b) (room_behind a room_a) (room_behind b room_b))
 
--- the bytes of a record, as the form has them
+-- the bytes of a record, as the form writes them
 abbrev pub data_text : RecordForm → List ℕ → List ℕ
 data_text Pcap bytes = bytes
 data_text Text bytes = encode_lower bytes
 
--- These texts are the same with this one behind them.
+-- Holds if the new text is the old one, followed by this one.
 pub record Adds (old new : RecordTexts) (more : List ℕ) : Type 0 where
   pub form : new.form ≡ old.form
   pub rate : new.rate ≡ old.rate
   pub text : new.text.items ≡ old.text.items ++ more
 
--- What begins in a tick of a way was added, and this many further bytes find room.
+-- Holds if the record that begins in a tick of a way was added, if one does, and this many more
+-- bytes fit into the current record after the tick.
 pub record AddsAt (old new : RecordTexts) (way : Way) (tick : ℕ) (line : List Tick)
     (room after : ℕ) : Type 0 where
   pub adds : Adds old new (records_text old.form old.rate (begins way tick line room))

@@ -14,30 +14,31 @@ use Rattle.line_capture.specs.Captures.{is_way}
 use Rattle.line_capture.specs.declared.records.RecordForm.{RecordForm}
 use Rattle.line_capture.specs.declared.records.RecordForm.TheVariants.{Pcap, Text}
 
--- A record of a line: its way, the tick of its first byte, and its bytes, each in the next tick.
+-- A record of a line: its way, the tick of its first byte, and its bytes, each one tick after the
+-- one before it.
 pub record LineRecord : Type 0 where
   pub way : Way
   pub tick : ℕ
   pub bytes : List ℕ
 
--- behind the first byte of a record stand this many at most
+-- the greatest number of bytes after the first byte of a record
 abbrev pub most_further : ℕ
 most_further = 65535
 
--- the bytes in front of the first silence, this many at most
+-- the bytes before the first silence, at most this many
 abbrev pub leading : List Tick → ℕ → List ℕ
 leading [] most = []
 leading (Silent ∷ line) most = []
 leading (Byte b ∷ line) zero = []
 leading (Byte b ∷ line) (suc most) = b ∷ leading line most
 
--- the record of a way that begins in this tick with this byte
+-- the record of a way that begins in this tick with this byte, with these ticks after the byte
 abbrev pub record_at : Way → ℕ → ℕ → List Tick → LineRecord
 record_at way tick b behind =
     record { way = way; tick = tick; bytes = b ∷ leading behind most_further }
 
--- The records of a way from this tick on. Each byte behind silence begins one, and so does each
--- that finds the one before it full; this many further bytes find room in the one that was begun.
+-- The records of a way from this tick on. A byte begins a record if it comes after silence, or if
+-- the record before it is full. This many more bytes fit into the record that was begun.
 abbrev pub records_from : Way → ℕ → List Tick → ℕ → List LineRecord
 records_from way tick [] room = []
 records_from way tick (Silent ∷ line) room = records_from way (suc tick) line 0
@@ -53,12 +54,12 @@ abbrev pub way_place : Way → ℕ
 way_place A = 0
 way_place B = 1
 
--- Where a record is in a capture: in the order of ticks, and of two in one tick that of way A
--- first.
+-- Where a record is in a capture. Records are in the order of ticks, and of two in one tick that of
+-- way A comes first.
 abbrev pub place_of : LineRecord → ℕ
 place_of one = 2 * one.tick + way_place one.way
 
--- These records are in order, none before this place.
+-- Holds if these records are in order, with none before this place.
 abbrev pub InOrder : ℕ → List LineRecord → Type 0
 InOrder from [] = Unit {0}
 InOrder from (one ∷ more) = (from ≤ place_of one) × InOrder (suc (place_of one)) more
@@ -67,13 +68,13 @@ InOrder from (one ∷ more) = (from ≤ place_of one) × InOrder (suc (place_of 
 abbrev pub of_way : Way → List LineRecord → List LineRecord
 of_way way records = filter (λ one. is_way way one.way) records
 
--- These are the records of two lines, in the order of a capture.
+-- Holds if these are the records of two lines, in the order of a capture.
 pub record AreRecords (a b : List Tick) (records : List LineRecord) : Type 0 where
   pub a_are : of_way A records ≡ records_of A a
   pub b_are : of_way B records ≡ records_of B b
   pub in_order : InOrder 0 records
 
--- a record in a capture that counts nanoseconds since tick 0
+-- the text of a record in a capture that counts nanoseconds since tick 0
 abbrev pub record_text : RecordForm → Rate → LineRecord → List ℕ
 record_text Pcap rate one = written_packet one.way (tick_start rate 1 one.tick) one.bytes
 record_text Text rate one = written_line (tick_start rate 1 one.tick) one.bytes
@@ -86,7 +87,7 @@ file_front Text = []
 abbrev pub records_text : RecordForm → Rate → List LineRecord → List ℕ
 records_text form rate records = flat_map (record_text form rate) records
 
--- The capture of two lines at a rate.
+-- Holds if this text is the capture of two lines at a rate.
 pub record IsRecorded (form : RecordForm) (rate : Rate) (a b : List Tick) (text : List ℕ) : Type 0 where
   pub records : List LineRecord
   pub are : AreRecords a b records

@@ -13,17 +13,17 @@ use Rattle.line_capture.specs.declared.words.TakeForm.{TakeForm}
 use Rattle.line_capture.specs.declared.words.TakeForm.TheVariants as take_forms
 use Rattle.line_capture.specs.declared.words.Ways.TheVariants.{Both}
 
--- the form to take of a form that was given, where it is one that is taken
+-- the form in which `take` reads what `give` wrote, if it reads that form
 abbrev pub taken_as : GiveForm → Option TakeForm
 taken_as give_forms.Pcap = Some take_forms.Pcap
 taken_as give_forms.Text = Some take_forms.Text
 taken_as give_forms.Vcd = None
 
--- both ways of a line, by times
+-- how both ways of a capture are taken by their times
 abbrev pub both_ways : Rate → Taking
 both_ways rate = record { rate = rate; ways = Both; spacing = ByTime }
 
--- the tick of the first byte of two lines
+-- the tick of the first byte of either line, or 0 if there is none
 abbrev pub first_of : List ByteAt → List ByteAt → ℕ
 first_of [] [] = 0
 first_of (x ∷ xs) [] = x.tick
@@ -33,11 +33,13 @@ first_of (x ∷ xs) (y ∷ ys) = min x.tick y.tick
 abbrev pub first_tick : List Tick → List Tick → ℕ
 first_tick a b = first_of (bytes_from 0 a) (bytes_from 0 b)
 
--- Tick 0 of the one line is this tick of the other, and each byte is in the same tick of both.
+-- Holds if tick 0 of the line that was taken is this tick of the one that was given, and each byte
+-- is in the same tick of both.
 abbrev pub SameTicks : ℕ → List Tick → List Tick → Type 0
 SameTicks first given taken = bytes_from first taken ≡ bytes_from 0 given
 
--- The output got two lines, the same ticks as these from the first byte of either on.
+-- Holds if the output got two lines with the same ticks as these, counted from the first byte of
+-- either.
 pub record TakesAgain (a b : List Tick) (before now : Held) : Type 0 where
   pub taken_a : List Tick
   pub taken_b : List Tick

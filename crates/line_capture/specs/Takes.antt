@@ -34,7 +34,7 @@ use Rattle.line_capture.specs.declared.take.Taking.{Taking}
 use Rattle.line_capture.specs.declared.words.Ways.{Ways}
 use Rattle.line_capture.specs.declared.words.Ways.TheVariants.{A, B, Both}
 
--- The time at which tick 0 begins: that of the first byte of either way.
+-- The time at which tick 0 begins: that of the first byte of either way, or 0 if there is none.
 abbrev pub origin_of : List CaptureByte → List CaptureByte → ℕ
 origin_of [] [] = 0
 origin_of (c ∷ cs) [] = c.start
@@ -49,17 +49,18 @@ timing_for taking kept = record {
   origin = origin_of kept.a.items kept.b.items;
 }
 
--- what is between the two lists
+-- the text between the two lists: a mark if both ways are taken
 abbrev pub mark_of : Ways → List ℕ
 mark_of A = []
 mark_of B = []
 mark_of Both = codes "%\n"
 
--- the text of two lines, of which one is empty where one way is taken
+-- the text of two lines, of which one is empty if one way is taken
 abbrev pub lines_text : Ways → List Tick → List Tick → List ℕ
 lines_text ways a b = canonical_text a ++ (mark_of ways ++ canonical_text b)
 
--- Of each of two lists some first bytes were placed, and these are the ends of both.
+-- Holds if these are the lines of the first bytes of two ways, up to the first byte of each that
+-- isn't placed, and these are the ends of both.
 pub record PlacesWays (t : Timing) (kept : Kept) (a_end b_end : LineEnd) (a b : List Tick)
     : Type 0 where
   pub front_a : List CaptureByte
@@ -75,7 +76,7 @@ pub record PlacesWays (t : Timing) (kept : Kept) (a_end b_end : LineEnd) (a b : 
   pub a_placed : a_end.placed ≡ length front_a
   pub b_placed : b_end.placed ≡ length front_b
 
--- The lines of both ways were written.
+-- Holds if the lines of both ways were written.
 pub record WrittenLines (t : Timing) (ways : Ways) (kept : Kept) (before now : Option (List ℕ))
     (a_end b_end : LineEnd) : Type 0 where
   pub a : List Tick
@@ -83,7 +84,7 @@ pub record WrittenLines (t : Timing) (ways : Ways) (kept : Kept) (before now : O
   pub places : PlacesWays t kept a_end b_end a b
   pub text : now ≡ append_known before (lines_text ways a b)
 
--- A write failed: a front of the text of some first ticks of each line was written.
+-- Holds if a write failed, and a front of the text of some first ticks of each line was written.
 pub record WrittenFront (t : Timing) (ways : Ways) (kept : Kept) (before now : Option (List ℕ))
     : Type 0 where
   pub front_a : List CaptureByte
@@ -125,8 +126,8 @@ abbrev pub or_else : Option Outcome → Outcome → Outcome
 or_else (Some outcome) other = outcome
 or_else None other = other
 
--- The capture's own refusal comes first, then that of a byte of way A, and then that of one of way
--- B.
+-- How a run ends. A refusal of the capture itself comes first, then one of a byte of way A, and
+-- then one of a byte of way B.
 abbrev pub outcome_of : ReadEnd → CaptureEnd → LineEnd → LineEnd → Outcome
 outcome_of read (ends.Bad bad) a b = BadCapture bad
 outcome_of read ends.Whole a b =
@@ -141,12 +142,13 @@ is_whole reads.TooLong = false
 
 -- ---- what was counted
 
--- whether a byte with an error was met: there the capture is refused
+-- how many bytes with an error were met, in decimal: at most one, since the capture is refused
+-- there
 abbrev pub errors_in : CaptureEnd → List ℕ
 errors_in (ends.Bad (ByteError offset)) = codes "1"
 errors_in end = codes "0"
 
--- the line that the log gets behind all ticks
+-- the line that the log gets after all ticks
 abbrev pub counts_line : ℕ → CaptureEnd → Kept → List ℕ
 counts_line overlaps end kept =
     codes "counted: overlaps " ++ decimal overlaps ++ codes ", errors " ++ errors_in end
@@ -155,7 +157,7 @@ counts_line overlaps end kept =
 
 -- ---- a capture that was collected
 
--- What the sinks held.
+-- What the sinks hold.
 pub record Held : Type 0 where
   pub out : Option (List ℕ)
   pub log : Option (List ℕ)
@@ -163,7 +165,8 @@ pub record Held : Type 0 where
 abbrev pub held : Option (List ℕ) → Option (List ℕ) → Held
 held out log = record { out = out; log = log }
 
--- The lines and what was counted were written, and the run ends as both say.
+-- Holds if the lines and what was counted were written, and the run ends as the reading, the
+-- capture and the lines did.
 pub record WritesAll (taking : Taking) (kept : Kept) (read : ReadEnd) (end : CaptureEnd)
     (before now : Held) (outcome : Outcome) : Type 0 where
   pub a_end : LineEnd
@@ -177,7 +180,8 @@ pub record WritesAll (taking : Taking) (kept : Kept) (read : ReadEnd) (end : Cap
       (counts_line (min (overlaps_a + overlaps_b) (2 ^ 64 - 1)) end kept)
   pub outcome_is : outcome ≡ outcome_of read end a_end b_end
 
--- A write or a flush failed.
+-- Holds if a write or a flush failed, after a front of the lines and of what was counted was
+-- written.
 pub record WritesPart (taking : Taking) (kept : Kept) (end : CaptureEnd) (before now : Held)
     : Type 0 where
   pub lines : WrittenFront (timing_for taking kept) taking.ways kept before.out now.out
@@ -193,7 +197,7 @@ pub data WritesTaken (taking : Taking) (kept : Kept) (read : ReadEnd) (end : Cap
 
 -- ---- a file that was read
 
--- What is kept of the file was written.
+-- Holds if what is kept of the file was written.
 pub record TakesFile (format : Format) (taking : Taking) (read : ReadEnd) (file : List ℕ)
     (before now : Held) (outcome : Outcome) : Type 0 where
   pub kept : Kept
@@ -201,7 +205,7 @@ pub record TakesFile (format : Format) (taking : Taking) (read : ReadEnd) (file 
   pub collects : Collects format taking (is_whole read) file kept end
   pub writes : WritesTaken taking kept read end before now outcome
 
--- There was no memory, and nothing was written.
+-- Holds if there was no memory, and nothing was written.
 pub record HasNoMemory (before now : Held) (outcome : Outcome) : Type 0 where
   pub outcome_is : outcome ≡ Ended statuses.NoMemory
   pub same : now ≡ before
@@ -215,7 +219,7 @@ pub data TakesRead (format : Format) (taking : Taking) (read : ReadEnd) (file : 
 
 -- ---- an input
 
--- What was read of the input was taken.
+-- Holds if what was read of the input was taken.
 pub record TakesInput (format : Format) (taking : Taking) (in_before in_now : Told)
     (before now : Held) (outcome : Outcome) : Type 0 where
   pub read : ReadEnd
@@ -236,7 +240,7 @@ abbrev pub is_write_fault : Outcome → Bool
 is_write_fault (Ended statuses.WriteFault) = true
 is_write_fault outcome = false
 
--- The run ends so, unless a flush on the way to Done failed.
+-- Holds if the run ends with this outcome, or the outcome was Done and a flush failed.
 pub data HasOutcome (outcome result : Outcome) : Type 0 where
   same : result ≡ outcome → HasOutcome outcome result
   flush_failed : outcome ≡ Ended statuses.Done → result ≡ Ended statuses.WriteFault

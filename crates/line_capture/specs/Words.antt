@@ -28,19 +28,19 @@ ways_word A = codes "a"
 ways_word B = codes "b"
 ways_word Both = codes "both"
 
--- the word behind the ways, where each record is taken for a frame
+-- what comes after the word for the ways: one word if each record is taken for a frame
 abbrev pub spacing_words : Spacing → List (List ℕ)
 spacing_words ByTime = []
 spacing_words ByRecord = codes "frames" ∷ []
 
--- These words ask for the command.
+-- Holds if these words ask for the command.
 abbrev pub IsCommand : List (List ℕ) → Command → Type 0
 IsCommand words (Take form rate ways spacing) = words ≡ codes "take" ∷ take_form_word form
     ∷ rate_word rate ∷ ways_word ways ∷ spacing_words spacing
 IsCommand words (Give form rate) =
     words ≡ codes "give" ∷ give_form_word form ∷ rate_word rate ∷ []
 
--- what the words ask for: a command, or none where they fit no command
+-- what the words ask for: a command, or `None` if they fit no command
 abbrev pub Asks : List (List ℕ) → Option Command → Type 0
 Asks words None = (command : Command) → IsCommand words command → ⊥
 Asks words (Some command) = IsCommand words command

@@ -7,13 +7,13 @@ use capture_text::BadText;
 /// A refusal of a capture, with its place.
 #[derive(Clone, Copy, Debug, PartialEq, Eq)]
 pub enum BadCapture {
-    /// The input is no text capture.
+    /// The input isn't a text capture.
     Text(BadText),
-    /// The input is no pcap file of a serial line.
+    /// The input isn't a pcap or pcapng file of a serial line.
     Pcap(BadPcap),
-    /// The input is no export of a logic analyser in rows of this form.
+    /// The input isn't an export of a logic analyser in rows of this form.
     Rows(BadRow),
-    /// A byte of the line came with a framing or a parity error. `offset` bytes of the capture
-    /// come before the one that told of it.
+    /// A byte of the line came with a framing or a parity error. `offset` bytes of the capture come
+    /// before the one that ends the error's record or row.
     ByteError { offset: u64 },
 }

@@ -20,24 +20,24 @@ const CONTROL_LINE: u8 = 0;
 
 const BREAK: u8 = 9;
 
-/// The events that tell of a byte with an error.
+/// The events of a byte with an error: a framing error, and a parity error.
 const FRAMING_ERROR: u8 = 7;
 
 const PARITY_ERROR: u8 = 8;
 
-/// How a capture came to its end.
+/// How a capture ended.
 #[derive(Clone, Copy, Debug, PartialEq, Eq)]
 pub enum CaptureEnd {
     /// It is right.
     Whole,
-    /// More was to come.
+    /// The input wasn't read to its end: more was to come.
     Open,
     /// It is refused.
     Bad(BadCapture),
 }
 
 /// The bytes of the ways that are taken, in the order of the capture, and how many breaks and
-/// changes of control lines it has; a count stays at 2^64 - 1.
+/// changes of control lines it has. A count stops at 2^64 - 1.
 #[derive(Drop)]
 pub struct Kept {
     pub a: Vec<CaptureByte>,
@@ -65,7 +65,7 @@ impl Ways {
     }
 }
 
-// Adds a byte behind the others.
+// Adds a byte after the others.
 fn push(list: &mut Vec<CaptureByte>, byte: CaptureByte) -> Result<(), NoMemory>
     ensures { OnOk result (list.new.items ≡ list.old.items ++ byte ∷ []) }
 {
@@ -85,8 +85,8 @@ fn is_on(event: Option<Way>, way: Way) -> bool
     }
 }
 
-// Whether an error that comes behind a byte tells of this byte: it is on the way of the byte, and
-// less than one character after the start of the byte.
+// Whether an error that follows a byte belongs to it: it is on the way of the byte, and comes less
+// than one character after the start of the byte.
 fn tells_of(rate: Rate, error: LineEvent, byte: CaptureByte) -> bool
     ensures { result ≡ tells_of rate error byte }
 {
@@ -95,7 +95,8 @@ fn tells_of(rate: Rate, error: LineEvent, byte: CaptureByte) -> bool
     is_on(error.way, byte.way) && parts < rate.character()
 }
 
-// How many bytes are left without the last one, if an error tells of it.
+// Returns how many bytes are kept before an error: without the last one, if the error belongs to
+// it.
 fn right_len(bytes: &[CaptureByte], rate: Rate, error: LineEvent) -> usize
     ensures { take result bytes.now ≡ without_wrong (tells_of rate error) bytes.now }
 {
@@ -110,7 +111,7 @@ fn right_len(bytes: &[CaptureByte], rate: Rate, error: LineEvent) -> usize
     }
 }
 
-// Lets go of the last byte, if an error tells of it.
+// Removes the last byte, if an error belongs to it.
 fn drop_wrong(list: &mut Vec<CaptureByte>, rate: Rate, error: LineEvent)
     ensures { list.new.items ≡ without_wrong (tells_of rate error) list.old.items }
 {
@@ -119,7 +120,7 @@ fn drop_wrong(list: &mut Vec<CaptureByte>, rate: Rate, error: LineEvent)
 }
 
 impl Kept {
-    /// Nothing yet.
+    /// Returns an object that keeps nothing yet.
     fn new(alloc: Global) -> Kept
         ensures { (ways : _) → HoldsItems ways result [] }
     {
@@ -131,7 +132,7 @@ impl Kept {
         }
     }
 
-    // Keeps a byte, where its way is taken.
+    // Keeps a byte, if its way is taken.
     fn keep(&mut self, ways: Ways, byte: CaptureByte) -> Result<(), NoMemory>
         ensures { OnOk result (TakesItem ways self.old self.new (Seen.Byte byte)) }
     {
@@ -144,7 +145,7 @@ impl Kept {
         }
     }
 
-    // Counts an event that is no error.
+    // Counts an event that isn't an error.
     fn count(&mut self, event: LineEvent)
         ensures { (ways : _) → TakesItem ways self.old self.new (Seen.Event event) }
     {
@@ -155,7 +156,7 @@ impl Kept {
         }
     }
 
-    /// Takes an item of the capture. An error of a byte isn't taken: it is returned.
+    /// Takes an item of the capture. An error of a byte isn't taken, but returned.
     fn take(&mut self, ways: Ways, seen: Seen) -> Result<Option<LineEvent>, NoMemory>
         ensures taken { IfOk result (λ error. error ≡ None
             → TakesItem ways self.old self.new seen) }
@@ -182,7 +183,7 @@ impl Kept {
         }
     }
 
-    // Lets go of the byte that an error tells of, where errors come behind their bytes.
+    // Removes the byte to which an error belongs, if errors follow their bytes.
     fn stop_at(&mut self, follows: bool, taking: Taking, error: LineEvent)
         ensures { (items : List Seen) → HoldsItems taking.ways self.old items
             → HoldsBefore follows taking self.new items error }
@@ -234,8 +235,8 @@ fn end_of<F: FormReader>(reader: F) -> CaptureEnd
     }
 }
 
-/// The bytes of the ways of a capture that are taken, up to the first one that is refused. `whole`
-/// tells that the file ends here.
+/// Returns the bytes of the ways of a capture that are taken, up to the first one that is refused.
+/// `whole` says that the file is the whole input.
 pub fn collect<F: FormReader>(
     alloc: Global,
     taking: Taking,

@@ -49,7 +49,7 @@ fn has_mark(text: &[u8]) -> bool
     false
 }
 
-// How many marks a tick text must have to be given.
+// Returns how many marks a tick text must have to be given.
 fn marks_for(form: GiveForm, text: &[u8]) -> u8
     ensures { result ≡ marks_for form text.now }
 {
@@ -60,7 +60,7 @@ fn marks_for(form: GiveForm, text: &[u8]) -> u8
     }
 }
 
-// The dump of two lines.
+// Returns the dump of two lines.
 fn dumped(alloc: Global, rate: Rate, a: &[Tick], b: &[Tick]) -> Result<Vec<u8>, NoMemory>
     requires a { length a.now ≤ max_ticks }
     requires b { length b.now ≤ max_ticks }
@@ -72,7 +72,7 @@ fn dumped(alloc: Global, rate: Rate, a: &[Tick], b: &[Tick]) -> Result<Vec<u8>, 
     }
 }
 
-// The capture of two lines.
+// Returns the capture of two lines.
 fn given(alloc: Global, giving: Giving, a: &[Tick], b: &[Tick]) -> Result<Vec<u8>, NoMemory>
     requires a { length a.now ≤ max_ticks }
     requires b { length b.now ≤ max_ticks }
@@ -85,7 +85,7 @@ fn given(alloc: Global, giving: Giving, a: &[Tick], b: &[Tick]) -> Result<Vec<u8
     }
 }
 
-// How a run ends of which the tick text wasn't taken.
+// Returns the status of a run whose tick text wasn't taken.
 fn end_status(end: End) -> Status
     ensures { result ≡ end_status end }
 {
@@ -147,9 +147,9 @@ fn give_read<O: Sink, L: Sink>(
     }
 }
 
-/// Writes a capture of a tick text to `out`, all of it or, where the text isn't right, nothing.
+/// Writes the capture of a tick text to `out`: all of it, or nothing if the text isn't right.
 /// Nothing goes to the log. Memory is taken for the input, for its ticks and for the capture, each
-/// up to three times as much while it grows; where there is none, nothing is written.
+/// up to three times as much while it grows. If there is no memory, nothing is written.
 pub fn give<S: Source, O: Sink, L: Sink>(
     alloc: Global,
     giving: Giving,

@@ -10,17 +10,17 @@ use yasir_io::{NoMemory, Source};
 /// The most bytes of an input that are read: 268,435,456.
 pub const MAX_INPUT_BYTES: usize = 268_435_456;
 
-/// How much is read at once at most.
+/// The most bytes that are read at once.
 const PIECE_LEN: usize = 65_536;
 
 /// How the reading of an input ended.
 #[derive(Clone, Copy, Debug, PartialEq, Eq)]
 pub enum ReadEnd {
-    /// At its end.
+    /// The input ended.
     Whole,
     /// A read failed.
     Failed,
-    /// One byte more came than is read.
+    /// More bytes came than are read.
     TooLong,
 }
 
@@ -31,8 +31,8 @@ pub struct Input {
     pub end: ReadEnd,
 }
 
-/// Reads the input to its end, or as far as can be. It takes memory for what it read, up to three
-/// times as much while it grows.
+/// Reads the input to its end, or until a read fails or too many bytes came. Memory is taken for
+/// what was read, up to three times as much while it grows.
 pub fn read_input<S: Source>(alloc: Global, source: &mut S) -> Result<Input, NoMemory>
     ensures reads { IfOk result (λ input. ReadsInput (S.left source.old) (S.left source.new)
         input.bytes.items input.end) }

@@ -18,10 +18,10 @@ ghost use Rattle.line_capture.specs.declared.words.TakeForm.{TakeForm};
 
 use capture_pcap::written_header;
 
-/// A law of what runs do: where `give` made a capture of two lines of a tick text, a run of `take`
-/// that reads it at the same rate, both ways by their times, and is done, writes the same ticks:
-/// each byte is in the same tick, counted from the first byte of either line. Behind its last byte
-/// a line ends, for a capture doesn't tell of the silence there.
+/// A law of what runs do. If `give` made a capture of two lines of a tick text, and a run of `take`
+/// reads it at the same rate, both ways by their times, and is done, then it writes the same ticks:
+/// each byte is in the same tick, counted from the first byte of either line. A line ends after its
+/// last byte, since a capture says nothing of the silence there.
 pub fn what_was_given_is_taken()
     ensures same { (form : GiveForm) (taken : TakeForm) (rate : Rate) (text : List ℕ)
         (a b : List Tick) (file : List ℕ) (in_before in_now : Told) (before now : Held)
@@ -29,7 +29,7 @@ pub fn what_was_given_is_taken()
         → IsGiven form rate a b file → in_before.left ≡ Some file
         → Takes (format_of taken) (both_ways rate) in_before in_now before now outcome
         → outcome ≡ Ended Done → TakesAgain a b before now }
-    // It is right for `take`, unless it is too long: no byte of it is refused.
+    // The capture is right for `take`, unless it is too long: no byte of it is refused.
     ensures right { (form : GiveForm) (taken : TakeForm) (rate : Rate) (text : List ℕ)
         (a b : List Tick) (file : List ℕ) → taken_as form ≡ Some taken → AreLinesOf form text a b
         → IsGiven form rate a b file → length file ≤ max_bytes

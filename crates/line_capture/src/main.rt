@@ -34,10 +34,10 @@ pub use take::{Taking, take};
 pub use words::{Command, GiveForm, TakeForm, Usage, Ways, read_words};
 use yasir_io::{StderrSink, StdinSource, StdoutSink};
 
-/// The exit status of a run that was given no words by its runtime: nothing is done.
+/// The exit status of a run that got no words from its runtime: nothing is done.
 const NOT_GIVEN: u8 = 13;
 
-/// The exit status of a run that was given no memory for its words.
+/// The exit status of a run that had no memory for its words.
 const NO_MEMORY: u8 = 9;
 
 fn main(rt: HostRuntime) -> ExitCode {

@@ -16,16 +16,17 @@ use yasir_io::{Sink, write_all};
 /// How a run of the program ended.
 #[derive(Clone, Copy, Debug, PartialEq, Eq)]
 pub enum Outcome {
-    /// As runs of `link_replay` end too.
+    /// With a status that runs of `link_replay` have too.
     Ended(Status),
-    /// The input is no capture of its form.
+    /// The input isn't a right capture of its form.
     BadCapture(BadCapture),
     /// A byte of a way isn't placed: `place` bytes of the way come before it.
     Unplaced { way: Way, place: u64, why: Unplaced },
 }
 
 impl Outcome {
-    /// The program's exit status: 4 where the input is no capture, or has a byte that isn't placed.
+    /// Returns the program's exit status: 4 if the input isn't a right capture, or has a byte that
+    /// isn't placed.
     pub fn exit_status(&self) -> u8
         ensures { result ≡ exit_status_of self.now }
     {
@@ -93,7 +94,7 @@ fn unplaced_word(why: Unplaced) -> &'static [u8]
     }
 }
 
-// A fault line: what is counted, this many of it, and a word for the cause.
+// Returns a fault line: what is counted, the count, and a word for the cause.
 fn counted_line(what: &[u8], count: u64, word: &[u8]) -> Line
     requires what { length what.now ≤ 20 }
     requires word { length word.now ≤ 10 }

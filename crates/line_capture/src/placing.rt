@@ -1,4 +1,4 @@
-//! The bytes of a way as ticks, on their way to the output.
+//! The bytes of a way, written to the output as ticks.
 ghost use Rattle.std.specs.Prelude.{◌≡◌, ◌∷◌, [], ◌++◌, List};
 ghost use Rattle.yasir_io.specs.Flushed.{NoneFlushed};
 ghost use Rattle.yasir_ticks.specs.Ticks.{silent};
@@ -18,14 +18,14 @@ use yasir_ticks::TickRun;
 /// The most ticks of a line that are written, as many as `link_replay` takes.
 pub const MAX_LINE_TICKS: u64 = 16_777_216;
 
-/// Why no further byte of a way is placed.
+/// Why no more bytes of a way are placed.
 #[derive(Clone, Copy, Debug, PartialEq, Eq)]
 pub enum LineStop {
-    /// There is none.
+    /// All bytes are placed.
     AllPlaced,
-    /// The next one can't be placed.
+    /// The next byte can't be placed.
     Unplaced(Unplaced),
-    /// With the next one the line would have more ticks than are written: this many.
+    /// With the next byte the line would have more ticks than are written: this many.
     TooLong(u64),
 }
 
@@ -37,7 +37,7 @@ pub struct LineEnd {
     pub stop: LineStop,
 }
 
-// Adds silent ticks, and a byte behind them.
+// Adds silent ticks, and a byte after them.
 #[inline]
 fn push_byte<O: Sink, L: Sink>(
     texts: &mut Texts,
@@ -115,7 +115,8 @@ fn place_bytes<O: Sink, L: Sink>(
     Ok(LineEnd { placed, stop })
 }
 
-/// Writes the line of the bytes of a way as tick text, up to the first byte that isn't placed.
+/// Writes the bytes of a way as the tick text of their line, up to the first byte that isn't
+/// placed.
 pub fn write_line<O: Sink, L: Sink>(
     timing: Timing,
     bytes: &[CaptureByte],
@@ -139,8 +140,8 @@ pub fn write_line<O: Sink, L: Sink>(
     }
 }
 
-// Takes the next byte, to see whether it overlaps the one before it. Returns whether it is neither
-// early nor late.
+// Takes the next byte, so that it is counted if it overlaps the one before it. Returns whether it
+// is neither early nor late.
 fn count_next(placer: &mut Placer, byte: CaptureByte) -> bool
     ensures { (cs : List CaptureByte) → HasTaken placer.old cs
         → CountsNext placer.old placer.new cs byte result }
@@ -153,8 +154,8 @@ fn count_next(placer: &mut Placer, byte: CaptureByte) -> bool
     }
 }
 
-/// How many bytes of a way overlap the one before them, up to the first one that is early or late.
-/// The count stays at 2^64 - 1.
+/// Returns how many bytes of a way overlap the one before them, up to the first one that is early
+/// or late. The count stops at 2^64 - 1.
 pub fn count_overlaps(timing: Timing, bytes: &[CaptureByte]) -> u64
     ensures { CountsOverlaps timing bytes.now result }
 {

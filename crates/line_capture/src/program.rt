@@ -26,14 +26,14 @@ use std::alloc::{AllocError, Global};
 use std::env::Args;
 use yasir_io::{Sink, Source};
 
-/// The words behind the program's name.
+/// Returns the words after the program's name.
 pub fn words_after_name(alloc: Global, args: Args) -> Result<Vec<String>, AllocError>
     ensures { IfOk result (λ words. words.items ≡ drop 1 (into_iter_items args)) }
 {
     args.skip(1).collect(alloc)
 }
 
-// Takes a capture of a form.
+// Takes a capture of this form.
 fn take_form<S: Source, O: Sink, L: Sink>(
     alloc: Global,
     form: TakeForm,
@@ -60,7 +60,7 @@ fn take_form<S: Source, O: Sink, L: Sink>(
     }
 }
 
-// What was asked for, but for the fault line.
+// Does what the words ask for, apart from the fault line.
 fn answer<S: Source, O: Sink, L: Sink>(
     alloc: Global,
     words: &[String],
@@ -101,8 +101,8 @@ fn answer<S: Source, O: Sink, L: Sink>(
     }
 }
 
-/// The program: reads its words, those after the program's name, and does what they ask for. Behind
-/// all else it writes the fault line of what was refused to the log.
+/// The program: reads its words, those after the program's name, and does what they ask for. Last
+/// of all it writes the fault line to the log, if there is one.
 pub fn run<S: Source, O: Sink, L: Sink>(
     alloc: Global,
     words: &[String],
@@ -110,16 +110,17 @@ pub fn run<S: Source, O: Sink, L: Sink>(
     out: &mut O,
     log: &mut L,
 ) -> Outcome
-    // Usage comes exactly where the words ask for no command.
+    // The outcome is Usage exactly if the words ask for no command.
     ensures usage { (result ≡ Outcome.Ended Status.Usage)
         ↔ Asks (map string_bytes words.now) None }
 
-    // What was read and written, and the fault line behind it. What is right is done.
+    // What was read and written, and the fault line after it. If the input is right, the run is
+    // done, unless something fails outside or there is no memory.
     ensures runs { Runs S.Source O.Sink L.Sink (map string_bytes words.now)
         (outside input.old out.old log.old) (outside input.new out.new log.new) result }
 
-    // A fault of reading or writing comes only where a count of faults rose. Where the run is done
-    // no write has failed, and `out` was flushed and then the log.
+    // The outcome is a fault of reading or writing only if a count of faults rose. If the run is
+    // done, no write has failed, and `out` was flushed and then the log.
     ensures causes { RunCauses S.Source O.Sink L.Sink (outside input.old out.old log.old)
         (outside input.new out.new log.new) result }
 {

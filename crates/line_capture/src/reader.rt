@@ -11,30 +11,32 @@ use capture_rows::{RowForm, RowReader};
 use capture_text::TextReader;
 use line_stamps::{CaptureReader, Seen};
 
-/// A reader of captures of one form, whose refusals are told as those of any form.
+/// A reader of captures of one form. Its refusals are returned as `BadCapture`, whatever the form
+/// is.
 pub trait FormReader: Drop {
     /// The form: which files are captures, and why others are refused.
     ghost format: { Format };
 
-    /// It has taken this much of a file, and these items are what it returned.
+    /// Holds if the reader has taken these bytes of a file, and has returned these items.
     ghost stands: { Self → List ℕ → List Seen → Type 0 };
 
-    /// How many bytes it has taken.
+    /// How many bytes the reader has taken.
     ghost taken: { Self → ℕ };
 
-    /// A reader before its file.
+    /// Returns a reader that has taken nothing yet.
     fn begin() -> Self
         ensures stands { stands result [] [] }
         ensures begins { format.begins [] [] }
         ensures taken { taken result ≡ 0 };
 
-    /// Takes the next byte of the file, and returns the byte of the line or the event that it ends.
+    /// Takes the next byte of the file, and returns the byte of the line or the event that it ends,
+    /// if it ends one.
     fn feed(&mut self, b: u8) -> Result<Option<Seen>, BadCapture>
         requires { taken self.old < MAX_BYTES }
         ensures stands { (file : List ℕ) (items : List Seen) → stands self.old file items
             → IfOk result (λ seen. stands self.new (file ++ b ∷ [])
             (items ++ option_to_list seen)) }
-        // Each capture that goes on so has these items first.
+        // Each capture that begins with the bytes so far has these items first.
         ensures each { (file : List ℕ) (items : List Seen) → stands self.old file items
             → IfOk result (λ seen. format.begins (file ++ b ∷ [])
             (items ++ option_to_list seen)) }
@@ -49,7 +51,7 @@ pub trait FormReader: Drop {
         ensures refused { (file : List ℕ) (items : List Seen) → stands self file items
             → IfErr result (λ bad. format.lacks file items bad) };
 
-    /// Whether an error of a byte comes behind the byte. Else it is in its place.
+    /// Whether an error of a byte follows the byte, and isn't in its place.
     fn errors_follow() -> bool
         ensures { result ≡ format.error_follows };
 }

@@ -15,10 +15,10 @@ use std::alloc::Global;
 use yasir_io::NoMemory;
 use yasir_ticks::{Tick, push_digits};
 
-/// The most bytes of a record: 65,536. A run of more bytes goes on in the next record.
+/// The most bytes of a record: 65,536. A run of more bytes is continued in the next record.
 pub const MAX_RECORD_BYTES: usize = 65_536;
 
-/// How many bytes come after the first one of a record at most.
+/// The most bytes that come after the first one of a record.
 const MOST_FURTHER: usize = 65_535;
 
 /// The form of a capture that has records.
@@ -38,7 +38,7 @@ struct RecordTexts {
     text: Vec<u8>,
 }
 
-// How many bytes of a line come first, as far as they go into one record.
+// Returns how many bytes a line begins with, up to as many as fit into one record.
 fn record_len(line: &[Tick]) -> usize
     ensures bytes { bytes_in (take result line.now) ≡ leading line.now (suc most_further) }
     ensures count { result ≡ length (leading line.now (suc most_further)) }
@@ -57,7 +57,7 @@ fn record_len(line: &[Tick]) -> usize
 }
 
 impl RecordTexts {
-    // What comes before all records.
+    // Returns a text with what comes before all records.
     fn begin(alloc: Global, form: RecordForm, rate: Rate) -> Result<RecordTexts, NoMemory>
         ensures form { IfOk result (λ texts. texts.form ≡ form) }
         ensures rate { IfOk result (λ texts. texts.rate ≡ rate) }
@@ -74,7 +74,7 @@ impl RecordTexts {
         }
     }
 
-    // Adds a piece.
+    // Adds a piece of text.
     fn push(&mut self, piece: &[u8]) -> Result<(), NoMemory>
         ensures { OnOk result (Adds self.old self.new piece.now) }
     {
@@ -115,7 +115,8 @@ impl RecordTexts {
         Ok(())
     }
 
-    // Adds a record of the bytes of these ticks, which begin in this tick.
+    // Adds a record of these ticks, which are all bytes. The first of them is in this tick of the
+    // line.
     fn push_record(&mut self, way: Way, tick: u64, ticks: &[Tick]) -> Result<(), NoMemory>
         requires early { tick < max_ticks }
         requires bytes { length (bytes_in ticks.now) ≡ length ticks.now }
@@ -139,8 +140,9 @@ impl RecordTexts {
         }
     }
 
-    // Adds the record that begins in this tick of a line, if one does, where this many further
-    // bytes find room in the one before. Returns how many do behind this tick.
+    // Adds the record that begins in this tick of a line, if one does, where `room` more bytes fit
+    // into the record before it. Returns how many more bytes fit into the current record after this
+    // tick.
     fn push_at(
         &mut self,
         way: Way,
@@ -171,9 +173,9 @@ impl RecordTexts {
     }
 }
 
-/// The capture of two lines at a rate, the first of them of way A: a record for each run of bytes,
-/// 65,536 at most, with the start of its first tick, in nanoseconds since tick 0. Records are in
-/// the order of their ticks, and of two in one tick that of way A first.
+/// Returns the capture of two lines at a rate, the first of them of way A. It has a record for each
+/// run of at most 65,536 bytes, with the start of its first tick, in nanoseconds since tick 0.
+/// Records are in the order of their ticks, and of two in one tick that of way A comes first.
 pub fn recorded(
     alloc: Global,
     form: RecordForm,

@@ -30,7 +30,7 @@ use std::alloc::Global;
 use tick_drive::TooMuch;
 use yasir_io::{Failed, NoMemory, Sink, Source, write_all};
 
-/// One byte more than is read of an input.
+/// One more than the most bytes that are read of an input.
 const TOO_MANY_BYTES: u64 = 268_435_457;
 
 /// How a capture is taken.
@@ -41,7 +41,7 @@ pub struct Taking {
     pub spacing: Spacing,
 }
 
-// The time of the first byte of either way; 0 where there is none.
+// Returns the time of the first byte of either way, or 0 if there is none.
 fn origin(a: &[CaptureByte], b: &[CaptureByte]) -> u64
     ensures { result ≡ origin_of a.now b.now }
 {
@@ -53,7 +53,7 @@ fn origin(a: &[CaptureByte], b: &[CaptureByte]) -> u64
     }
 }
 
-// How the bytes that are kept are placed.
+// Returns how the bytes that are kept are placed.
 fn timing_for(taking: Taking, kept: &Kept) -> Timing
     ensures { result ≡ timing_for taking kept.now }
 {
@@ -64,7 +64,7 @@ fn timing_for(taking: Taking, kept: &Kept) -> Timing
     }
 }
 
-// Writes the mark between two lists, where both ways are taken.
+// Writes the mark between two lists, if both ways are taken.
 fn write_mark<O: Sink>(ways: Ways, out: &mut O) -> Result<(), Failed>
     ensures ok { OnOk result (O.held out.new ≡ append_known (O.held out.old) (mark_of ways)) }
     ensures err { OnErr result (GotPrefix (O.held out.old) (O.held out.new) (mark_of ways)) }
@@ -78,7 +78,7 @@ fn write_mark<O: Sink>(ways: Ways, out: &mut O) -> Result<(), Failed>
     }
 }
 
-// Writes the lines of both ways, with a mark between where both are taken.
+// Writes the lines of both ways, with a mark between them if both are taken.
 fn write_lines<O: Sink, L: Sink>(
     timing: Timing,
     ways: Ways,
@@ -108,7 +108,7 @@ fn write_lines<O: Sink, L: Sink>(
     }
 }
 
-// How a run ends of which a line was placed so far, where that tells.
+// Returns how a run ends because of where a line stopped, or `None` if all its bytes were placed.
 fn line_outcome(way: Way, end: LineEnd) -> Option<Outcome>
     ensures { result ≡ line_outcome way end }
 {
@@ -126,7 +126,7 @@ fn line_outcome(way: Way, end: LineEnd) -> Option<Outcome>
     }
 }
 
-/// How a run ends of which all that was read was taken.
+/// Returns how a run ends if all that was read of its input was taken.
 pub fn read_outcome(read: ReadEnd) -> Outcome
     ensures { result ≡ read_outcome read }
 {
@@ -140,8 +140,8 @@ pub fn read_outcome(read: ReadEnd) -> Outcome
     }
 }
 
-// How a run ends: the capture's own refusal comes first, then that of a byte of way A, and then
-// that of one of way B.
+// Returns how a run ends: a refusal of the capture itself comes first, then one of a byte of way A,
+// and then one of a byte of way B.
 fn outcome_of(read: ReadEnd, end: CaptureEnd, a: LineEnd, b: LineEnd) -> Outcome
     ensures { result ≡ outcome_of read end a b }
 {
@@ -157,7 +157,7 @@ fn outcome_of(read: ReadEnd, end: CaptureEnd, a: LineEnd, b: LineEnd) -> Outcome
     read_outcome(read)
 }
 
-// The line of what was counted.
+// Returns the line with what was counted.
 fn counts_line(overlaps: u64, end: CaptureEnd, kept: &Kept) -> Line
     ensures { result.items ≡ counts_line overlaps end kept.now }
 {
@@ -177,7 +177,7 @@ fn counts_line(overlaps: u64, end: CaptureEnd, kept: &Kept) -> Line
     line
 }
 
-// Ends a run whose lines were written: both sinks are flushed on the way to Done.
+// Ends a run whose lines were written. If it is done, both sinks are flushed first.
 fn end_run<O: Sink, L: Sink>(outcome: Outcome, out: &mut O, log: &mut L) -> Outcome
     requires { is_write_fault outcome ≡ false }
     ensures outcome { HasOutcome outcome result }
@@ -262,9 +262,9 @@ fn take_read<F: FormReader, O: Sink, L: Sink>(
 }
 
 /// Writes the tick text of a capture: the lines of the ways that are taken go to `out`, and what
-/// was counted to the log. What is refused ends the lines where it stands. Memory is taken for the
-/// input and for 16 bytes a byte of the ways, each up to three times as much while it grows; where
-/// there is none, nothing is written.
+/// was counted goes to the log. A refusal ends the lines at its place. Memory is taken for the
+/// input, and 16 bytes for each byte of the ways that are taken, each up to three times as much
+/// while it grows. If there is no memory, nothing is written.
 pub fn take<F: FormReader, S: Source, O: Sink, L: Sink>(
     alloc: Global,
     taking: Taking,

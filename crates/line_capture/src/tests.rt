@@ -1,6 +1,6 @@
-//! Runs of the program over ends in memory, which give and take few bytes a call and fail at chosen
-//! calls. The captures and their ticks are those of `examples/captures/`, whose ticks were written
-//! by hand, or come of the model in `scripts/capture_model.py`.
+//! Runs of the program over sources and sinks in memory, which move a few bytes in each call, and
+//! fail at chosen calls. The captures and their ticks are those of `examples/captures/`. The ticks
+//! were written by hand, or by the model in `scripts/capture_model.py`.
 
 use crate::*;
 use line_stamps::{Unplaced, Way};
@@ -13,7 +13,7 @@ use yasir_io::{MemSink, MemSource, Plan};
 /// Two polls of a device.
 const POLLS: &[u8] = b"1690000000.000000 01030000000ac5cd\n1690000000.114583 0103000a0002e409\n";
 
-/// `examples/captures/modbus.pcap`: two polls of a device and its replies, by `text2pcap -l 250`.
+/// `examples/captures/modbus.pcap`, by `text2pcap -l 250`: two polls of a device and its replies.
 const EXCHANGE: [u8; 182] = [
     0xD4, 0xC3, 0xB2, 0xA1, 0x02, 0x00, 0x04, 0x00, 0x00, 0x00, 0x00, 0x00, 0x00, 0x00, 0x00, 0x00,
     0x00, 0x00, 0x04, 0x00, 0xFA, 0x00, 0x00, 0x00, 0x80, 0x5A, 0xBB, 0x64, 0x00, 0x00, 0x00, 0x00,
@@ -29,7 +29,7 @@ const EXCHANGE: [u8; 182] = [
     0x00, 0x01, 0x83, 0x02, 0xC0, 0xF1,
 ];
 
-/// `examples/captures/errors.pcap`: a poll with a parity error behind its third byte.
+/// `examples/captures/errors.pcap`: a poll with a parity error after its third byte.
 const ERRORS: [u8; 172] = [
     0xD4, 0xC3, 0xB2, 0xA1, 0x02, 0x00, 0x04, 0x00, 0x00, 0x00, 0x00, 0x00, 0x00, 0x00, 0x00, 0x00,
     0x00, 0x00, 0x04, 0x00, 0xFA, 0x00, 0x00, 0x00, 0x80, 0x5A, 0xBB, 0x64, 0x00, 0x00, 0x00, 0x00,
@@ -44,10 +44,10 @@ const ERRORS: [u8; 172] = [
     0x64, 0xBB, 0x5A, 0x80, 0x00, 0x00, 0x9C, 0x40, 0x09, 0x00, 0x00, 0x00,
 ];
 
-/// The ticks of the polls in it.
+/// The ticks of the two polls.
 const POLL_TICKS: &[u8] = b"+01030000000ac5cd\n-92\n+0103000a0002e409\n";
 
-/// The ticks of both ways.
+/// The ticks of both ways of `EXCHANGE`.
 const BOTH_TICKS: &[u8] = b"+01030000000ac5cd\n-92\n+0103000a0002e409\n%\n-28\n\
 +01031408fd08fa090100650067006301f400000000000198d2\n-67\n+018302c0f1\n";
 
@@ -67,7 +67,7 @@ const GIVEN: [u8; 182] = [
     0x00, 0x01, 0x83, 0x02, 0xC0, 0xF1,
 ];
 
-/// Nothing that is worth a note.
+/// The line of a run that counted nothing.
 const NO_COUNTS: &[u8] = b"counted: overlaps 0, errors 0, breaks 0, control lines 0\n";
 
 /// The first rows of `examples/captures/modbus.logic2.csv`, and a row of the other analyzer.
@@ -102,7 +102,7 @@ const FRAMING: &[u8] = b"{\"traceEvents\": [
 ]}
 ";
 
-/// `examples/captures/spurious.sigrok.json`, which sigrok-cli wrote: the error is of no byte.
+/// `examples/captures/spurious.sigrok.json`, which sigrok-cli wrote: the error belongs to no byte.
 const SPURIOUS: &[u8] = b"{\"traceEvents\": [
 {\"ph\": \"B\", \"ts\": 1250.000000, \"pid\": \"uart-1\", \"tid\": \"RX\", \"name\": \"01\"},
 {\"ph\": \"E\", \"ts\": 2083.300000, \"pid\": \"uart-1\", \"tid\": \"RX\", \"name\": \"01\"},
@@ -113,10 +113,10 @@ const SPURIOUS: &[u8] = b"{\"traceEvents\": [
 ]}
 ";
 
-/// The ticks of both ways in them: the second one begins 28 characters behind the first.
+/// The ticks of both ways of `TABLE` and of `TRACE`. Way B begins 28 characters after way A.
 const EXPORT_TICKS: &[u8] = b"+0103\n%\n-28\n+83\n";
 
-/// This call fails, and none where it is 0.
+/// Returns a plan in which this call fails, or no call if it is 0.
 fn plan(call: u32) -> Plan {
     let mut plan = Plan::new();
     if call > 0 {
@@ -133,7 +133,7 @@ struct Ran {
     log: MemSink,
 }
 
-/// The words of a text, with a space between one and the next.
+/// Returns the words of a text, in which there is a space between two words.
 fn words_of(alloc: Global, text: &str) -> Result<Vec<String>, AllocError> {
     let mut words = Vec::new(alloc);
     for word in text.split(' ') {
@@ -142,8 +142,8 @@ fn words_of(alloc: Global, text: &str) -> Result<Vec<String>, AllocError> {
     Ok(words)
 }
 
-/// A run with these words. Calls move a few bytes. Of the reads and of the writes to the output the
-/// calls with these numbers fail, if they are above 0.
+/// Runs the program with these words. Each call moves a few bytes. The read and the write to the
+/// output with these numbers fail, if they are above 0.
 fn run_words(
     alloc: Global,
     words: &str,
@@ -163,8 +163,8 @@ fn run_words(
     Ok(Ran { outcome, out, log })
 }
 
-/// A run ended with this outcome, and its sinks hold these bytes; behind the counts the log has the
-/// fault line.
+/// Checks how a run ended and what its sinks hold. In the log of `take` the fault line comes after
+/// the counts.
 fn ended(rt: &impl Abort, ran: &Ran, outcome: Outcome, out: &[u8], log: &[u8]) {
     assert_eq!(rt; ran.outcome, outcome);
     assert_eq!(rt; ran.out.held(), out);
@@ -244,7 +244,7 @@ fn captures_that_are_refused(rt: HostRuntime) -> Result<(), Fail> {
     let ran = run_words(alloc, "take text 9600x11 a", b"1.0 0102\n2.0 010\n", 0, 0)?;
     let odd = b"counted: overlaps 0, errors 0, breaks 0, control lines 0\nfault: line 2 odd\n";
     assert_eq!(rt; ran.outcome.exit_status(), 4);
-    // the byte before the digit that is missing was there
+    // the byte before the missing digit is kept
     assert_eq!(rt; ran.out.held(), b"+0102\n-871\n+01\n".as_slice());
     assert_eq!(rt; ran.log.held(), odd.as_slice());
     let ran = run_words(alloc, "take pcap 9600x11 a", &EXCHANGE[..181], 0, 0)?;
@@ -315,7 +315,7 @@ fn tick_text_is_given_as_packets(rt: HostRuntime) -> Result<(), Fail> {
     Ok(())
 }
 
-/// A byte, and one on the other wire two ticks later, by `scripts/capture_model.py`.
+/// The dump of a byte, and of one on the other wire two ticks later, by `scripts/capture_model.py`.
 const DUMP: &[u8] = b"$timescale 1 ns $end
 $scope module line $end
 $var wire 1 ! a $end

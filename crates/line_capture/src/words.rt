@@ -42,7 +42,7 @@ pub enum GiveForm {
 pub enum Ways {
     A,
     B,
-    /// Both, way A first, with a mark between.
+    /// Both, way A first, with a mark between them.
     Both,
 }
 
@@ -63,11 +63,11 @@ pub enum Command {
     },
 }
 
-/// The words name no command.
+/// The words ask for no command.
 #[derive(Clone, Copy, Debug, PartialEq, Eq)]
 pub struct Usage;
 
-// The form to take that a word names.
+// Returns the form to take that a word names.
 fn read_take_form(word: &str) -> Result<TakeForm, Usage>
     ensures ok { IfOk result (λ form. word.now ≡ take_form_word form) }
     ensures usage { OnErr result ((form : TakeForm) → word.now ≡ take_form_word form → ⊥) }
@@ -81,7 +81,7 @@ fn read_take_form(word: &str) -> Result<TakeForm, Usage>
     }
 }
 
-// The form to give that a word names.
+// Returns the form to give that a word names.
 fn read_give_form(word: &str) -> Result<GiveForm, Usage>
     ensures ok { IfOk result (λ form. word.now ≡ give_form_word form) }
     ensures usage { OnErr result ((form : GiveForm) → word.now ≡ give_form_word form → ⊥) }
@@ -94,7 +94,7 @@ fn read_give_form(word: &str) -> Result<GiveForm, Usage>
     }
 }
 
-// The ways that a word names.
+// Returns the ways that a word names.
 fn read_ways(word: &str) -> Result<Ways, Usage>
     ensures ok { IfOk result (λ ways. word.now ≡ ways_word ways) }
     ensures usage { OnErr result ((ways : Ways) → word.now ≡ ways_word ways → ⊥) }
@@ -107,7 +107,7 @@ fn read_ways(word: &str) -> Result<Ways, Usage>
     }
 }
 
-// The rate that a word spells.
+// Returns the rate that a word spells.
 fn read_rate(word: &str) -> Result<Rate, Usage>
     ensures ok { IfOk result (λ rate. word.now ≡ rate_word rate) }
     ensures usage { OnErr result ((rate : Rate) → word.now ≡ rate_word rate → ⊥) }
@@ -118,7 +118,7 @@ fn read_rate(word: &str) -> Result<Rate, Usage>
     }
 }
 
-// What three words behind `take` name.
+// Returns what the three words after `take` name.
 fn read_taken(form: &str, rate: &str, ways: &str) -> Result<(TakeForm, Rate, Ways), Usage>
     ensures form { IfOk result (λ taken. form.now ≡ take_form_word taken.0) }
     ensures rate { IfOk result (λ taken. rate.now ≡ rate_word taken.1) }
@@ -132,7 +132,7 @@ fn read_taken(form: &str, rate: &str, ways: &str) -> Result<(TakeForm, Rate, Way
     Ok((form, rate, ways))
 }
 
-// The command of three words.
+// Returns the command that three words ask for.
 fn read_three(verb: &str, form: &str, rate: &str) -> Result<Command, Usage>
     ensures ok { IfOk result (λ command.
         IsCommand (verb.now ∷ form.now ∷ rate.now ∷ []) command) }
@@ -152,7 +152,7 @@ fn read_three(verb: &str, form: &str, rate: &str) -> Result<Command, Usage>
     }
 }
 
-// The command of four words.
+// Returns the command that four words ask for.
 fn read_four(verb: &str, form: &str, rate: &str, ways: &str) -> Result<Command, Usage>
     ensures ok { IfOk result (λ command.
         IsCommand (verb.now ∷ form.now ∷ rate.now ∷ ways.now ∷ []) command) }
@@ -174,7 +174,7 @@ fn read_four(verb: &str, form: &str, rate: &str, ways: &str) -> Result<Command, 
     }
 }
 
-// The command of five words.
+// Returns the command that five words ask for.
 fn read_five(verb: &str, form: &str, rate: &str, ways: &str, last: &str) -> Result<Command, Usage>
     ensures ok { IfOk result (λ command.
         IsCommand (verb.now ∷ form.now ∷ rate.now ∷ ways.now ∷ last.now ∷ []) command) }
@@ -199,7 +199,8 @@ fn read_five(verb: &str, form: &str, rate: &str, ways: &str, last: &str) -> Resu
     }
 }
 
-/// The command that the words after the program's name ask for, each word compared byte for byte.
+/// Returns the command that the words after the program's name ask for. Words are compared byte for
+/// byte.
 pub fn read_words(words: &[String]) -> Result<Command, Usage>
     ensures ok { IfOk result (λ command. IsCommand (map string_bytes words.now) command) }
     ensures usage { OnErr result ((command : Command)
