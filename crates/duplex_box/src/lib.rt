@@ -1,9 +1,9 @@
-//! Both directions of a line in one box: the transmitter of the outgoing one and the receiver of
-//! the incoming one, under one key.
+//! A box for both directions of a line: the transmitter of the outgoing direction and the receiver
+//! of the incoming one, under one key.
 //!
-//! Both lines move at once, so each call takes the same number of ticks of both. `pass_both` takes
-//! runs without notes, as far as it can, also while both boxes are busy. Where it takes none,
-//! `step` takes one tick of each:
+//! Both lines have the same ticks, so each call takes equally many ticks of both. `pass_both` takes
+//! runs without notes as far as it can, even while both boxes are busy. If it takes no tick, `step`
+//! takes one tick of each line:
 //!
 //!     let mut duplex: Duplex<Rtu, HmacSha1, 2, 18> = Duplex::new(key, Dir::Ab);
 //!     let (mut to_link, mut to_device) = (RunBytes::new(), RunBytes::new());
@@ -41,12 +41,12 @@ pub use seal_transmitter::{SealNote, UnsealedWhy};
 #[cfg(test)]
 mod tests;
 
-/// A box of both directions of a line, by the rules `R` of a protocol, with words of `B` bytes and
-/// tags by `M`; `D` is the receiver's delay in ticks.
+/// A box for both directions of a line, with the rules `R` of a protocol, words of `B` bytes and
+/// tags by the MAC `M`. The receiver's delay is `D` ticks.
 pub type Duplex<R, M, const B: usize, const D: usize> = BoxPair<
     Sealer<R, M, B>,
     Checker<R, M, B, D>,
 >;
 
-/// What its step returns.
+/// What a step of a duplex box returns.
 pub type DuplexStep = PairStep<SealNote, CheckNote>;

@@ -1,4 +1,4 @@
-//! Tests of the duplex box: both directions, the reflected link, and a journal that fails.
+//! Tests of the duplex box: both directions, a reflected link, and a journal that fails.
 use super::*;
 use hmac_tag::HmacSha1;
 use rtu_frame::Rtu;
@@ -11,7 +11,7 @@ use yasir_ticks::{Tick, TickRun};
 
 mod turn_tests;
 
-/// The boxes of Modbus RTU with the profile y18.
+/// The duplex box of Modbus RTU with profile y18.
 type RtuDuplex = Duplex<Rtu, HmacSha1, 2, 18>;
 
 const KEY: u128 = 0x000102030405060708090a0b0c0d0e0f;
@@ -28,8 +28,8 @@ const INCOMING: LinkId = LinkId {
     profile: 18,
 };
 
-/// A request, and what follows it on a link with number 1. By openssl, the direction's byte being
-/// 00 or 01:
+/// A request, and its trailer with number 1 in each direction. The tags are by openssl, with the
+/// direction's byte 00 or 01:
 ///   printf 010001030000000ac5cd0000000000000001 | xxd -r -p
 ///     | openssl dgst -sha1 -mac HMAC -macopt hexkey:000102030405060708090a0b0c0d0e0f | cut -c1-24
 const REQUEST: &[u8] = b"\x01\x03\x00\x00\x00\x0a\xc5\xcd";
@@ -38,7 +38,7 @@ const TRAILER_AB: &[u8] = b"\x00\x01\x01\x4c\x5b\x8d\x33\xc6\xd2\x9a\x34\x70\x13
 
 const TRAILER_BA: &[u8] = b"\x00\x01\x15\x0d\xa5\x68\x30\xaa\x1f\xa9\x41\x7b\xec\xc1";
 
-// The ticks of these runs, and silence up to this many ticks.
+// Returns the ticks of these runs, and silence after them up to `count` ticks in all.
 fn line_of(alloc: Global, runs: &[TickRun<'_>], count: usize) -> Result<Vec<Tick>, Fail> {
     let mut line = Vec::new(alloc);
     for run in runs {
@@ -61,7 +61,8 @@ fn line_of(alloc: Global, runs: &[TickRun<'_>], count: usize) -> Result<Vec<Tick
     Ok(line)
 }
 
-/// What the steps of a box answered, up to a fault, and the last numbers that were then committed.
+/// What the steps of a box returned, up to a fault, and the last numbers that were committed by
+/// then.
 #[derive(Drop)]
 struct Ran {
     steps: Vec<DuplexStep>,
@@ -70,7 +71,7 @@ struct Ran {
     got: u64,
 }
 
-// Gives a box in direction `ab`, over new journals, these ticks, as many as the device has.
+// Gives a box of direction `ab`, with new journals, these ticks: as many as the device's line has.
 fn run<X: SlotDisk + Drop, Y: SlotDisk + Drop>(
     alloc: Global,
     mut sent_disk: X,
@@ -112,7 +113,7 @@ fn run<X: SlotDisk + Drop, Y: SlotDisk + Drop>(
 }
 
 impl Ran {
-    // The ticks of the link, those of the device, and the notes in the order of steps.
+    // Checks the ticks of the link, those for the device, and the notes in the order of steps.
     fn check(
         &self,
         rt: &impl Abort,
@@ -160,7 +161,7 @@ const SEALED_AT_11: (usize, SealNote) = (
 
 const SILENT_SLOT: [u8; 24] = [0; 24];
 
-// Slots with no number, of a disk whose call with this number fails.
+// Returns a disk with no number in its slots, whose call with this number fails.
 fn disk_that_fails(alloc: Global, call: u32) -> Result<MemSlots, Fail> {
     let mut fail = Plan::new();
     fail.try_push(call).unwrap();
@@ -189,7 +190,7 @@ fn a_request_is_sealed_and_a_silent_link_stays_silent(rt: HostRuntime) -> Result
     Ok(())
 }
 
-// A link that is sent back the way it came is refused: its tag is that of the other direction.
+// A packet that is sent back the way it came is refused: its tag is that of the other direction.
 #[test]
 fn a_reflected_packet_is_refused(rt: HostRuntime) -> Result<(), Fail> {
     let alloc = rt.alloc();
@@ -216,7 +217,8 @@ fn a_reflected_packet_is_refused(rt: HostRuntime) -> Result<(), Fail> {
     Ok(())
 }
 
-// A frame of the device that is sealed in the very step in which one of the link passes.
+// Returns a device's line and a link. A frame of the device is sealed in the same step in which one
+// of the link passes.
 fn both_at_once(alloc: Global) -> Result<(Vec<Tick>, Vec<Tick>), Fail> {
     let late = [TickRun::Silence(13), TickRun::Bytes(REQUEST)];
     let packet = [
@@ -255,8 +257,8 @@ fn both_directions_use_numbers_in_one_step(rt: HostRuntime) -> Result<(), Fail> 
     Ok(())
 }
 
-// The write of a first commit is the seventh call on a new journal's disk: four reads, a write and
-// a sync made it.
+// The write of the first commit is the seventh call on the disk of a new journal. Making the
+// journal took four reads, a write and a sync.
 #[test]
 fn a_fault_of_the_outgoing_journal_keeps_the_incoming_one(rt: HostRuntime) -> Result<(), Fail> {
     let alloc = rt.alloc();

@@ -1,5 +1,6 @@
 //! Runs of both directions: how many ticks a call takes, and how often it calls the two boxes. No
-//! clause says either, but that what is taken is right, and is a tick at least where no note falls.
+//! clause says so. The clauses say that what is taken is right, and is at least a tick unless a
+//! note may fall into the first one.
 ghost use Rattle.std.specs.Prelude.{◌≡◌, ◌+◌, ◌≤◌};
 ghost use Rattle.box_pair.specs.Pairs.{outgoing_box, incoming_box};
 ghost use Rattle.check_receiver.specs.Stands.{ticks_taken as ticks_checked};
@@ -11,8 +12,8 @@ use link_box::{ForetellingBox, LinkBox, NotelessBox, RestingBox};
 use seal_transmitter::Sealer;
 use sequence_journal::JournalFault;
 
-/// How often a box was asked to forward a run, to answer one, to follow with one that it had
-/// foretold, and to rest through silence; and how often it took a single tick.
+/// How often each call of a box was made: `forward`, `pass` and `follow` with a run, `rest_through`
+/// with silence, and the calls that take a single tick.
 #[derive(Clone, Copy, Debug, PartialEq, Eq)]
 struct Calls {
     forward: u32,
@@ -23,7 +24,7 @@ struct Calls {
 }
 
 impl Calls {
-    // How often it took a run.
+    // Returns how often the box was called with a run.
     fn runs(self) -> u32 {
         self.forward
             .saturating_add(self.pass)
@@ -132,7 +133,7 @@ impl<X: ForetellingBox> ForetellingBox for Counted<X> {
     }
 }
 
-/// The boxes of Modbus RTU with the profile y18, counted.
+/// The duplex box of Modbus RTU with profile y18, with its calls counted.
 type CountedDuplex = BoxPair<
     Counted<Sealer<Rtu, HmacSha1, 2>>,
     Counted<Checker<Rtu, HmacSha1, 2, 18>>,
@@ -141,8 +142,8 @@ type CountedDuplex = BoxPair<
 /// The longest run of the tests.
 const LONGEST: usize = 1_000_000;
 
-// Calls the pair with these runs of the device and the link. It has to take this many ticks of
-// both, and to put in these bytes for the link and for the device.
+// Calls the pair with these runs of the device and the link. It must take `count` ticks of both,
+// and put in these bytes for the link and for the device.
 fn pass_exactly(
     rt: &impl Abort,
     pair: &mut CountedDuplex,
@@ -167,7 +168,7 @@ fn pass_exactly(
     assert_eq!(rt; to_device.as_slice(), to.1);
 }
 
-// A pair of direction `ab` that has taken no tick.
+// Returns a pair of direction `ab` that has taken no tick.
 fn new_pair() -> CountedDuplex
     ensures none_sent { ticks_sealed (outgoing_box result).inner ≡ 0 }
     ensures none_got { ticks_checked (incoming_box result).inner ≡ 0 }
@@ -175,7 +176,7 @@ fn new_pair() -> CountedDuplex
     CountedDuplex::new(&KEY.to_be_bytes(), Dir::Ab)
 }
 
-// A million silent ticks of both lines are one call: the one box forwards them, and the other one
+// A million silent ticks of both lines take one call: one box forwards them, and the other one
 // rests through them.
 #[test]
 fn a_long_silence_costs_one_call(rt: HostRuntime) -> Result<(), Fail> {
@@ -190,8 +191,8 @@ fn a_long_silence_costs_one_call(rt: HostRuntime) -> Result<(), Fail> {
     Ok(())
 }
 
-// The burst of a device is forwarded at once, and the pause behind it goes too, up to the tick that
-// closes the burst. That one has a note, so none is taken.
+// The burst of a device is forwarded at once, and so is the pause after it, up to the tick that
+// closes the burst. A note falls into that tick, so it isn't taken.
 #[test]
 fn a_burst_of_the_device_goes_up_to_its_note(rt: HostRuntime) -> Result<(), Fail> {
     let mut pair = new_pair();
@@ -220,9 +221,10 @@ fn a_burst_of_the_device_goes_up_to_its_note(rt: HostRuntime) -> Result<(), Fail
     Ok(())
 }
 
-// A packet of the link goes up to the last byte of its trailer, in whose step the verdict falls.
-// Its first byte leaves 18 ticks after it came, so the trailer's bytes go in two runs: seven over
-// silence, and six while as many bytes of the frame leave.
+// A packet of the link is taken up to the last byte of its trailer, since the verdict falls into
+// the step of that byte. The packet's first byte leaves 18 ticks after it came, so the trailer's
+// other bytes are taken in two runs: seven while silence is sent, and six while as many bytes of
+// the frame leave.
 #[test]
 fn a_packet_of_the_link_goes_up_to_its_note(rt: HostRuntime) -> Result<(), Fail> {
     let mut pair = new_pair();
@@ -254,9 +256,9 @@ fn a_packet_of_the_link_goes_up_to_its_note(rt: HostRuntime) -> Result<(), Fail>
     Ok(())
 }
 
-// With both boxes busy runs go too: bursts of both lines that come at once, the first byte of the
-// device's alone, and then as many ticks as leave alike. The first byte of the link leaves 18 ticks
-// after it came.
+// Runs are also taken while both boxes are busy. Of two bursts that come at once the first byte is
+// taken alone, and then as many ticks as leave alike in each direction. The first byte of the link
+// leaves 18 ticks after it came.
 #[test]
 fn two_bursts_at_once_go_by_runs(rt: HostRuntime) -> Result<(), Fail> {
     let mut pair = new_pair();
