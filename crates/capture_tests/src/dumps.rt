@@ -1,4 +1,4 @@
-//! Dumps of bytes, by the frame of a UART.
+//! Dumps of bytes, with the bits that a UART sends for each.
 
 use capture_vcd::{Change, DumpWriter, MAX_TICKS, Wires, change_text, dump};
 use line_stamps::Rate;
@@ -7,7 +7,7 @@ use std::process::Abort;
 use std::test::Fail;
 use yasir_ticks::Tick;
 
-/// The dump of ticks of both wires.
+/// Returns the dump of the ticks of both wires, made tick by tick.
 fn dump_by_ticks(
     alloc: Global,
     rate: Rate,
@@ -27,8 +27,8 @@ fn dump_by_ticks(
     Ok(text)
 }
 
-/// 01 at 9,600 baud with even parity, a quiet tick, and 03 on the other wire. A bit takes 104,166
-/// 2/3 nanoseconds, and tick 0 starts behind 11 of them.
+/// Byte 01 at 9,600 baud with even parity, a quiet tick, and byte 03 on the other wire. A bit takes
+/// 104,166 2/3 nanoseconds, and tick 0 starts after 11 bits.
 const PARITY: &[u8] = b"$timescale 1 ns $end
 $scope module line $end
 $var wire 1 ! a $end
@@ -57,7 +57,7 @@ $enddefinitions $end
 #5729167
 ";
 
-/// 55 at 10 bits, on one wire: each bit is a change.
+/// Byte 55 at 10 bits, on one wire: the level changes with each bit.
 const PLAIN: &[u8] = b"$timescale 1 ns $end
 $scope module line $end
 $var wire 1 ! a $end

@@ -1,4 +1,4 @@
-//! Texts that tshark and mbpoll's gateway gave, and texts that are broken.
+//! Texts that tshark and mbpoll's gateway wrote, and texts that are broken.
 
 use capture_text::{BadText, MAX_BYTES, TextFault, TextReader, line_front};
 use line_stamps::{CaptureByte, Way};
@@ -6,7 +6,8 @@ use std::alloc::Global;
 use std::process::Abort;
 use std::test::Fail;
 
-/// `tshark -T fields -e frame.time_epoch -e data.data`, of a poll that was cut to three bytes.
+/// What `tshark -T fields -e frame.time_epoch -e data.data` writes of a poll that was cut to three
+/// bytes, and other lines.
 const POLL: &[u8] = b"# a poll\r\n1690000000.114583333\t0103C5\r\n\n7 ff";
 
 const POLL_BYTES: [CaptureByte; 4] = [
@@ -36,7 +37,7 @@ const POLL_BYTES: [CaptureByte; 4] = [
     },
 ];
 
-/// The bytes of a text, and its end.
+/// Reads a text, and adds its bytes to `bytes`. Returns how the text ends.
 fn read(text: &[u8], bytes: &mut Vec<CaptureByte>) -> Result<Result<(), BadText>, Fail> {
     let mut reader = TextReader::new();
     for b in text {
@@ -52,7 +53,7 @@ fn read(text: &[u8], bytes: &mut Vec<CaptureByte>) -> Result<Result<(), BadText>
     Ok(reader.finish())
 }
 
-/// A text has these bytes, and ends so.
+/// Checks that a text has these bytes, and ends like this.
 fn check(
     rt: &impl Abort,
     alloc: Global,
@@ -66,7 +67,7 @@ fn check(
     Ok(())
 }
 
-/// The one byte of a record.
+/// Returns the only byte of a record.
 fn byte_of(start: u64, byte: u8) -> CaptureByte {
     CaptureByte {
         way: Way::A,
@@ -84,7 +85,7 @@ fn bad(offset: u64, line: u64, why: TextFault) -> Result<(), BadText> {
 fn right_texts(rt: HostRuntime) -> Result<(), Fail> {
     let alloc = rt.alloc();
     check(&rt, alloc, POLL, &POLL_BYTES, Ok(()))?;
-    // the tenth digit behind the point and those after it count nothing
+    // digits from the tenth after the point on are ignored
     let fine = [byte_of(1, 0xAB)];
     check(&rt, alloc, b"0.0000000019999 ab\n", &fine, Ok(()))?;
     let last = [byte_of(u64::MAX, 0x00)];
