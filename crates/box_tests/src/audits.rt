@@ -15,7 +15,7 @@ const READ_TEN_REGISTERS: &[u8] = b"\x01\x03\x00\x00\x00\x0a\xc5\xcd";
 
 const READ_ONE_REGISTER: &[u8] = b"\x01\x03\x00\x00\x00\x01\x84\x0a";
 
-// The last byte is another one.
+// The request for ten registers, with another last byte.
 const SPOILED: &[u8] = b"\x01\x03\x00\x00\x00\x0a\xc5\xcc";
 
 const RESET_LINK: &[u8] = b"\x05\x64\x05\xc0\x01\x00\x00\x04\xe9\x21";
@@ -24,8 +24,8 @@ const RESET_LINK: &[u8] = b"\x05\x64\x05\xc0\x01\x00\x00\x04\xe9\x21";
 //   printf 010001030000000ac5cd0000000000000001 | xxd -r -p
 //     | openssl dgst -sha1 -mac HMAC -macopt hexkey:000102030405060708090a0b0c0d0e0f
 //     | cut -c1-24
-// and so for the other numbers and the other frame, for DNP3 with 0200 in front, and by y24 with
-// -sha256 and cut -c1-32.
+// The others are made alike: with the other numbers and the other frame, for DNP3 with 0200 in
+// front, and by y24 with -sha256 and cut -c1-32.
 const TEN_AS_1: &[u8] = b"\x00\x01\x01\x4c\x5b\x8d\x33\xc6\xd2\x9a\x34\x70\x13\xb0";
 
 const ONE_AS_1: &[u8] = b"\x00\x01\xec\x3b\xeb\x0f\x43\xa9\xc8\x25\xb9\x48\xc8\x40";
@@ -51,7 +51,7 @@ enum Part<'a> {
 
 use Part::{Bytes, Silence};
 
-// The ticks of a line.
+// Returns the ticks of a line.
 fn line_of(alloc: Global, parts: &[Part<'_>]) -> Result<Vec<Tick>, Fail>
     ensures { IfOk result (λ line. length line.items ≤ max_recorded) }
 {
@@ -85,7 +85,7 @@ enum Link {
     WideDnp,
 }
 
-// A session from a to b.
+// Returns a session in direction `ab` with these floors.
 fn session_of(link: Link, sent_floor: u64, got_floor: u64) -> Session<'static>
     requires sent { sent_floor ≤ LIMIT }
     requires got { got_floor ≤ LIMIT }
@@ -107,7 +107,8 @@ fn session_of(link: Link, sent_floor: u64, got_floor: u64) -> Session<'static>
     }
 }
 
-/// Three lines.
+/// The recordings of a session: the line of the device that sends, the link, and the line of the
+/// device that receives.
 #[derive(Clone, Copy)]
 struct Recorded<'a> {
     device: &'a [Part<'a>],
@@ -115,7 +116,7 @@ struct Recorded<'a> {
     received: &'a [Part<'a>],
 }
 
-// What is found of them.
+// Checks that an audit of these recordings returns this verdict.
 fn finds(
     rt: &impl Abort,
     alloc: Global,
@@ -171,7 +172,7 @@ fn an_untouched_link_is_clean(rt: HostRuntime) -> Result<(), Fail> {
     finds(&rt, rt.alloc(), session_of(Link::Rtu, 0, 0), all, clean)
 }
 
-// The device's line has the frame that the receiver would have spoiled.
+// The packet passes, but on the line of the device that receives the frame is spoiled.
 #[test]
 fn a_spoiled_frame_differs_at_place_0(rt: HostRuntime) -> Result<(), Fail> {
     let all = Recorded {
@@ -203,7 +204,7 @@ fn a_packet_of_no_frame_is_forged(rt: HostRuntime) -> Result<(), Fail> {
     finds(&rt, rt.alloc(), session_of(Link::Rtu, 0, 0), all, forged)
 }
 
-// A frame was sealed with the number, and it is another one.
+// A frame was sealed with the number, but another frame passed with it.
 #[test]
 fn a_number_alone_does_not_tell(rt: HostRuntime) -> Result<(), Fail> {
     let all = Recorded {
@@ -224,8 +225,8 @@ fn a_number_alone_does_not_tell(rt: HostRuntime) -> Result<(), Fail> {
     finds(&rt, rt.alloc(), session_of(Link::Rtu, 0, 0), all, forged)
 }
 
-// Two frames passed. A device that has read the first alone, both and one more, or the second a
-// tick late, differs from the place on at which it does.
+// Two frames passed. If the device read only the first one, both and one more, or the second one a
+// tick late, the verdict has the first place that differs.
 #[test]
 fn places_are_counted_from_0(rt: HostRuntime) -> Result<(), Fail> {
     let device: &[Part<'_>] = &[
@@ -320,7 +321,7 @@ fn places_are_counted_from_0(rt: HostRuntime) -> Result<(), Fail> {
     )
 }
 
-// A packet that was lost is missing on both sides of the receiver, and the session is clean.
+// A packet that was lost is missing on both sides of the receiver, so the session is clean.
 #[test]
 fn a_lost_packet_is_clean(rt: HostRuntime) -> Result<(), Fail> {
     let all = Recorded {
@@ -336,8 +337,9 @@ fn a_lost_packet_is_clean(rt: HostRuntime) -> Result<(), Fail> {
     finds(&rt, rt.alloc(), session_of(Link::Rtu, 0, 0), all, clean)
 }
 
-// Both boxes go on from their floors: number 6 is sealed behind 5 and passes behind 2, and not
-// behind 6. With the receiver's floor for the transmitter's the frame has number 3.
+// Both boxes go on from their floors. Number 6 is sealed after floor 5. It passes after floor 2,
+// and doesn't after floor 6. After floor 2 the frame is sealed with number 3, so a packet with
+// number 6 is forged.
 #[test]
 fn numbers_go_on_from_the_floors(rt: HostRuntime) -> Result<(), Fail> {
     let all = Recorded {
@@ -365,7 +367,7 @@ fn numbers_go_on_from_the_floors(rt: HostRuntime) -> Result<(), Fail> {
     finds(&rt, rt.alloc(), session_of(Link::Rtu, 5, 6), all, read)
 }
 
-// A clean session by the other profile, and by the other protocol.
+// Clean sessions with the other profile, with the other protocol, and with both.
 #[test]
 fn each_protocol_and_profile_is_judged(rt: HostRuntime) -> Result<(), Fail> {
     let clean = Verdict::Clean {

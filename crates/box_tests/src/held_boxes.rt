@@ -1,5 +1,5 @@
 //! Tests of the eight boxes: a packet of each link through its transmitter and its receiver, what
-//! the caller has to write, and slots that hold no journal.
+//! the caller must write, and slots that hold no journal.
 use any_box::{AnyNote, Commit, HeldBox, HeldStep, Kind, Part, Profile, Proto};
 use burst_walk::RunBytes;
 use check_receiver::{CheckNote, RefusedWhy};
@@ -21,8 +21,8 @@ const READ_TEN_REGISTERS: &[u8] = b"\x01\x03\x00\x00\x00\x0a\xc5\xcd";
 
 const RESET_LINK: &[u8] = b"\x05\x64\x05\xc0\x01\x00\x00\x04\xe9\x21";
 
-/// A frame of a link, and what is sent behind it with number 1 in direction `ab`. The link is that
-/// of its protocol and profile.
+/// A frame on the link of this protocol and profile, and its trailer with number 1 in direction
+/// `ab`.
 struct Packet {
     proto: Proto,
     profile: Profile,
@@ -34,7 +34,8 @@ struct Packet {
 //   printf 010001030000000ac5cd0000000000000001 | xxd -r -p
 //     | openssl dgst -sha1 -mac HMAC -macopt hexkey:000102030405060708090a0b0c0d0e0f
 //     | cut -c1-24
-// and so for DNP3, with 0200 in front of its frame, and by y24 with -sha256 and cut -c1-32.
+// The others are made alike: for DNP3 with 0200 in front of its frame, and by y24 with -sha256 and
+// cut -c1-32.
 const PACKETS: [Packet; 4] = [
     Packet {
         proto: Proto::Rtu,
@@ -82,7 +83,7 @@ impl Packet {
         }
     }
 
-    // A box whose journal stands at 0.
+    // Returns a box whose journal has floor 0.
     fn made(&self, part: Part) -> Result<HeldBox, Fail> {
         let kind = self.kind(part);
         let new_journal = slot_of(0, &kind.link(Dir::Ab));
@@ -90,14 +91,14 @@ impl Packet {
         Ok(held)
     }
 
-    // The line of the device that sends the frame.
+    // Returns the line of the device that sends the frame.
     fn device_line(&self, alloc: Global) -> Result<Vec<Tick>, AllocError> {
         let mut line = Vec::new(alloc);
         add(&mut line, self.frame, 60)?;
         Ok(line)
     }
 
-    // The link that this line becomes, of as many ticks.
+    // Returns the link that the transmitter makes of the device's line, with as many ticks.
     fn link_line(&self, alloc: Global) -> Result<Vec<Tick>, AllocError> {
         let mut line = Vec::new(alloc);
         add(&mut line, self.frame, 3)?;
@@ -109,7 +110,7 @@ impl Packet {
         Ok(line)
     }
 
-    // What has to be written for number 1: the slot that the journal begins in keeps number 0.
+    // Returns what must be written for number 1. It goes into slot B, since slot A keeps number 0.
     fn owed(&self) -> Commit {
         Commit {
             slot: Slot::B,
@@ -118,7 +119,7 @@ impl Packet {
     }
 }
 
-// Steps a box over a line. Answers the other line, and the steps that have a note.
+// Steps a box over a line. Returns the other line, and the steps that have a note or a commit.
 fn step_all(
     alloc: Global,
     held: &mut HeldBox,
@@ -178,8 +179,8 @@ fn a_packet_passes_once(rt: HostRuntime) -> Result<(), Fail> {
             assert_eq!(rt; step.note, Some(AnyNote::OfChecker(passed)));
             assert_eq!(rt; step.commit, Some(packet.owed()));
         }
-        // When that packet comes once more, its word is that of a greater number, whose tag is
-        // another.
+        // If the same packet comes a second time, its word is that of a greater number, which has
+        // another tag.
         let (_, again) = step_all(rt.alloc(), &mut checker, link.as_slice())?;
         let refused = CheckNote::Refused {
             start: link.len() as u64,
@@ -194,7 +195,7 @@ fn a_packet_passes_once(rt: HostRuntime) -> Result<(), Fail> {
     Ok(())
 }
 
-// What was written is what a box is made of again.
+// A box that is made of the slots that were written goes on from their number.
 #[test]
 fn a_box_goes_on_where_it_was(rt: HostRuntime) -> Result<(), Fail> {
     for packet in &PACKETS {
@@ -225,8 +226,8 @@ fn slots_without_a_journal_are_refused(rt: HostRuntime) -> Result<(), Fail> {
     Ok(())
 }
 
-// Gives a box these ticks: what it takes at once as a run, and the others by steps. Adds the ticks of
-// the other line to `other`, and returns how many runs and steps it took.
+// Gives a box these ticks: those that it takes at once as a run, and the others by steps. Adds the
+// ticks of the other line to `other`, and returns how many runs and steps it took.
 fn take_run(held: &mut HeldBox, run: TickRun<'_>, other: &mut Vec<Tick>) -> Result<usize, Fail> {
     let mut sent = RunBytes::new();
     let mut following = run;
@@ -249,7 +250,7 @@ fn take_run(held: &mut HeldBox, run: TickRun<'_>, other: &mut Vec<Tick>) -> Resu
     Err("a run has more than 100 parts".into())
 }
 
-// The other line is that of steps, and few turns are needed.
+// Runs give the same other line as steps, and take few turns.
 #[test]
 fn runs_are_taken_as_their_ticks(rt: HostRuntime) -> Result<(), Fail> {
     for packet in &PACKETS {

@@ -1,4 +1,4 @@
-//! Runs of ticks come to what their single ticks come to.
+//! Runs of ticks give the same link as their single ticks.
 ghost use Rattle.std.specs.Prelude.{◌≡◌, ◌+◌, ◌≤◌, OnOk};
 ghost use Rattle.sequence_journal.specs.Journal.{journal_link, Fits};
 ghost use Rattle.seal_transmitter.specs.Stands.{direction_of, ticks_taken};
@@ -15,7 +15,7 @@ use yasir_ticks::Tick;
 
 type FourSealer = Sealer<FourBytes, HmacSha1, 2>;
 
-// As four of these bytes are a frame, the line has no other ones.
+// The only byte on these lines. Four of them are a frame.
 const BYTE: u8 = 0;
 
 fn add(link: &mut Vec<Tick>, tick: Tick, times: usize) -> Result<(), AllocError> {
@@ -25,7 +25,7 @@ fn add(link: &mut Vec<Tick>, tick: Tick, times: usize) -> Result<(), AllocError>
     Ok(())
 }
 
-// What a run is answered with: these bytes, or this many silent ticks.
+// Adds what was sent for a run: these bytes, or this many silent ticks if there are none.
 fn add_answered(link: &mut Vec<Tick>, count: usize, sent: &[u8]) -> Result<(), AllocError> {
     if sent.is_empty() {
         return add(link, Tick::Silent, count);
@@ -36,7 +36,7 @@ fn add_answered(link: &mut Vec<Tick>, count: usize, sent: &[u8]) -> Result<(), A
     Ok(())
 }
 
-// Takes the same tick this many times, a step each.
+// Takes the same tick this many times, with a step for each.
 fn step_times<D: SlotDisk>(
     sealer: &mut FourSealer,
     journal: &mut Journal,
@@ -68,7 +68,7 @@ fn step_times<D: SlotDisk>(
     Ok(())
 }
 
-// Takes this many silent ticks: as runs if asked, and those that no run takes by steps.
+// Takes this many silent ticks: by runs if asked, with steps for those that no run takes.
 fn wait<D: SlotDisk>(
     sealer: &mut FourSealer,
     journal: &mut Journal,
@@ -105,7 +105,7 @@ fn wait<D: SlotDisk>(
     step_times(sealer, journal, disk, Tick::Silent, others, link)
 }
 
-// The transmitter takes these bytes, by runs or one by one.
+// Takes this many bytes, by runs or one by one.
 fn hear<D: SlotDisk>(
     sealer: &mut FourSealer,
     journal: &mut Journal,
@@ -145,8 +145,8 @@ fn hear<D: SlotDisk>(
     step_times(sealer, journal, disk, Tick::Byte(BYTE), others, link)
 }
 
-// The link of a frame, this many silent ticks, this many bytes and then silence, each of the two
-// cut in two, and the last number used.
+// Returns the link for a frame, silence, bytes and then silence again, and the last number used.
+// The first silence and the bytes after it are given in two parts each, of these lengths.
 fn link_of(
     alloc: Global,
     by_runs: bool,
@@ -199,8 +199,8 @@ fn link_of(
     Ok((link, journal.floor()))
 }
 
-// Behind a frame comes a burst that joins it, one that starts over its trailer or too soon behind
-// it, and one that is sealed too.
+// After a frame come bytes that join it, a burst that starts during its trailer or too soon after
+// it, or one that is sealed too.
 #[test]
 fn runs_are_sealed_as_their_ticks(rt: HostRuntime) -> Result<(), Fail> {
     for silence in [1, 2, 3, 4, 5, 10, 17, 18, 19, 20, 21, 25] {

@@ -16,7 +16,7 @@ use std::test::Fail;
 use yasir_io::{SlotDisk, SteadySlots};
 use yasir_ticks::Tick;
 
-// A tick as the texts here have it: a point is silence.
+// Returns the tick of a letter in the texts of these tests, where a point is silence.
 fn tick_of(letter: u8) -> Tick {
     match letter {
         b'.' => Tick::Silent,
@@ -24,7 +24,7 @@ fn tick_of(letter: u8) -> Tick {
     }
 }
 
-// What the transmitter answers to each tick.
+// Returns the transmitter's step for each tick.
 fn steps<R: LineRules, M: Mac, D: SlotDisk, const B: usize>(
     alloc: Global,
     sealer: &mut Sealer<R, M, B>,
@@ -56,7 +56,7 @@ fn a_frame_is_sealed_and_another_burst_is_not(rt: HostRuntime) -> Result<(), Fai
     let line: &[u8] = b"\x01\x02\x03\x00.....................\x05\x06....";
     let steps = steps(rt.alloc(), &mut sealer, &mut journal, &mut disk, line)?;
 
-    // The trailer is the word of number 0x10203, and its tag by openssl:
+    // The trailer is the word of number 0x10203, and its tag, which is by openssl:
     //   printf 0100010203000000000000010203 | xxd -r -p
     //     | openssl dgst -sha1 -mac HMAC -macopt hexkey:000102030405060708090a0b0c0d0e0f
     //     | cut -c1-24
@@ -97,8 +97,8 @@ fn a_word_may_have_four_bytes(rt: HostRuntime) -> Result<(), Fail> {
     let line: &[u8] = b"\x01\x02\x03\x00..........................\x05\x06\x07\x00....";
     let steps = steps(rt.alloc(), &mut sealer, &mut journal, &mut disk, line)?;
 
-    // The tag is by openssl, as above but with -sha256 and cut -c1-32, and the burst behind it
-    // starts a tick too early.
+    // The tag is by openssl, with the command of `a_frame_is_sealed_and_another_burst_is_not` but
+    // with -sha256 and cut -c1-32. The burst after the trailer starts a tick too early.
     let link: &[u8] = b"\x01\x02\x03\x00...\x00\x01\x02\x03\xb2\xf8\x4e\x1e\xe1\xc0\xa0\x34\x62\xd9\
             \x26\x6f\xd7\xde\x14\x05...........";
     assert_eq!(rt; steps.len(), link.len());
@@ -112,7 +112,8 @@ fn a_word_may_have_four_bytes(rt: HostRuntime) -> Result<(), Fail> {
 // polynomial, bit by bit.
 const LONGEST_HEADER: &[u8] = b"\x05\x64\xFF\xC4\x01\x00\x00\x04\x27\x27";
 
-// In RTU the room is 256 bytes, whatever they are. In DNP3 nothing is sure before a header.
+// In Modbus RTU a frame has room for 256 bytes, whatever they are. In DNP3 no room is sure before a
+// header.
 #[test]
 fn the_room_that_is_left_is_told(rt: HostRuntime) -> Result<(), Fail> {
     let mut rtu = Rtu::fresh();
@@ -126,7 +127,7 @@ fn the_room_that_is_left_is_told(rt: HostRuntime) -> Result<(), Fail> {
     Ok(())
 }
 
-// A transmitter holds at most 280 bytes beside its rules and its MAC.
+// A transmitter is at most 280 bytes larger than its rules and its MAC.
 const _: () = prove!(
     size_of::<Sealer<FourBytes, HmacSha1, 2>>()
         <= size_of::<FourBytes>() + size_of::<HmacSha1>() + 280
