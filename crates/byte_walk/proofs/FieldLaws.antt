@@ -1,4 +1,4 @@
--- What a reader comes to that takes fields of four bytes, and single bytes between them.
+-- Where a reader that takes fields of four bytes, and single bytes between them, gets to.
 use Rattle.byte_walk.proofs.WalkLaws.{walk-cons, walk-join, walk-one, walk_keeps}
 use Rattle.byte_walk.specs.Fields.{Spot, before_field, at_spot, spot_step}
 use Rattle.byte_walk.specs.Walks.{walk}
@@ -9,7 +9,7 @@ use Rattle.std.proofs.lemmas.Bool.{ltb-true, ltb-false, cond-true, cond-false}
 use Rattle.std.{proofs.lemmas.List.length-append, specs.Option.option_to_list}
 
 module _ {S I F : Type 0} where
-  -- what came to a spot before a field
+  -- a result that leads to a spot, which is then before a field or a byte
   pub record CameFrom (r : Result (S × Option I) F) (spot : Spot S) (item : Option I) : Type 0 where
     pub stage : S
     pub is : r ≡ Ok (stage, item)
@@ -37,11 +37,11 @@ module _ {S I F : Type 0} (takes_bytes : S → Bool) (field_at : S → List ℕ 
   abbrev step : Spot S → ℕ → Result (Spot S × Option I) F
   step = spot_step takes_bytes field_at byte_at
 
-  -- a byte more of a field
+  -- one more byte of a field that isn't whole yet
   abbrev longer_spot : Spot S → ℕ → Result (Spot S × Option I) F
   longer_spot spot b = Ok (record { stage = spot.stage; partial = spot.partial ++ b ∷ [] }, None)
 
-  -- ---- a field, and a byte, from before it
+  -- ---- a whole field, and a single byte
 
   partial_step : (stage : S) (partial : List ℕ) (b : ℕ) → takes_bytes stage ≡ false
       → length partial < 3
@@ -91,7 +91,8 @@ module _ {S I F : Type 0} (takes_bytes : S → Bool) (field_at : S → List ℕ 
       (bytes : (stage next : S) (front : List ℕ) (items : List I) (b : ℕ) (item : Option I)
       → holds stage front items → takes_bytes stage ≡ true → byte_at stage b ≡ Ok (next, item)
       → holds next (front ++ b ∷ []) (items ++ option_to_list item)) where
-    -- the bytes that came before the field of a spot, and what holds there
+    -- The text is a front, for which `holds` holds at the spot's stage, and the bytes of the field
+    -- that have come so far.
     pub record ReachedSpot (spot : Spot S) (text : List ℕ) (items : List I) : Type 0 where
       pub front : List ℕ
       pub text_is : text ≡ front ++ spot.partial
@@ -111,7 +112,7 @@ module _ {S I F : Type 0} (takes_bytes : S → Bool) (field_at : S → List ℕ 
       came = refl;
     }
 
-    -- a byte that is taken at once
+    -- If the spot takes single bytes, the spot after such a byte is reached, too.
     at_byte : (spot next : Spot S) (text : List ℕ) (items : List I) (b : ℕ) (item : Option I)
         → ReachedSpot spot text items → takes_bytes spot.stage ≡ true
         → at_spot (byte_at spot.stage b) ≡ Ok (next, item)
@@ -135,7 +136,7 @@ module _ {S I F : Type 0} (takes_bytes : S → Bool) (field_at : S → List ℕ 
         in
         subst Q (sym came.spot_is) here
 
-    -- a byte that goes on with a field
+    -- If a byte doesn't end its field, the spot after it is reached, too.
     at_partial : (spot next : Spot S) (text : List ℕ) (items : List I) (b : ℕ) (item : Option I)
         → ReachedSpot spot text items → takes_bytes spot.stage ≡ false
         → length spot.partial < 3
@@ -169,7 +170,7 @@ module _ {S I F : Type 0} (takes_bytes : S → Bool) (field_at : S → List ℕ 
         clash : (t : Bool) → t ≡ false → t ≡ true → ⊥
         clash t h g = cc
 
-    -- the last byte of a field
+    -- If a byte ends its field, the spot after the field is reached, too.
     at_field : (spot next : Spot S) (text : List ℕ) (items : List I) (b : ℕ) (item : Option I)
         → ReachedSpot spot text items → takes_bytes spot.stage ≡ false
         → length spot.partial ≡ 3

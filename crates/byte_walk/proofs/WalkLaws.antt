@@ -1,4 +1,4 @@
--- What a reader comes to over two lists of bytes, one after the other, and what follows for a
+-- Where a reader gets to over two lists of bytes, one after the other, and what follows for a
 -- reader of a format.
 use Rattle.std.proofs.Common.{◌≡◌, ◌∙◌, ℕ, Bool, true, false, List, [], ◌∷◌, ◌++◌, Option}
 use Rattle.std.proofs.Common.{Result, Ok, Err, refl, ap, sym, append_assoc, append-nil, subst}
@@ -17,7 +17,7 @@ module _ {P I F : Type 0} where
   after_items-none (Ok rest) = refl
   after_items-none (Err why) = refl
 
-  -- the place and the items that something came to, and else these
+  -- the place and the items of a result, or these if it is a refusal
   abbrev pub place_in : P → Result (P × List I) F → P
   place_in d (Ok r) = r.0
   place_in d (Err why) = d
@@ -26,7 +26,7 @@ module _ {P I F : Type 0} where
   items_in d (Ok r) = r.1
   items_in d (Err why) = d
 
-  -- what a rest came to that comes to this after some items
+  -- The rest leads to this place, and `all` is these items and then those of the rest.
   pub record CameTo (items : List I) (rest : Result (P × List I) F) (place : P) (all : List I) :
       Type 0 where
     pub others : List I
@@ -43,7 +43,7 @@ module _ {P I F : Type 0} where
   came_to items (Err why) place all e = cc
 
 module _ {P I F : Type 0} (step : P → ℕ → Result (P × Option I) F) where
-  -- where the first bytes lead, the others go on
+  -- The second bytes are walked from the place to which the first ones lead.
   pub walk-append : (from place : P) (first second : List ℕ) (items : List I)
       → walk step from first ≡ Ok (place, items)
       → walk step from (first ++ second) ≡ after_items items (walk step place second)
@@ -68,14 +68,14 @@ module _ {P I F : Type 0} (step : P → ℕ → Result (P × Option I) F) where
           ∙ ap (λ x. after_items x (walk step place second)) (sym came.all_is)
       by_step (Err why) shorter e = cc
 
-  -- two walks, one after the other
+  -- Two walks, one after the other, are a walk over the bytes of both.
   pub walk-join : (from place last : P) (first second : List ℕ) (items others : List I)
       → walk step from first ≡ Ok (place, items) → walk step place second ≡ Ok (last, others)
       → walk step from (first ++ second) ≡ Ok (last, items ++ others)
   walk-join from place last first second items others e f =
       walk-append from place first second items e ∙ ap (after_items items) f
 
-  -- one byte more
+  -- a walk over one byte
   pub walk-one : (from place : P) (b : ℕ) (item : Option I) → step from b ≡ Ok (place, item)
       → walk step from (b ∷ []) ≡ Ok (place, option_to_list item)
   unfolding walk
@@ -91,7 +91,7 @@ module _ {P I F : Type 0} (step : P → ℕ → Result (P × Option I) F) where
       walk-join from place last bytes (b ∷ []) items (option_to_list item) e
       (walk-one place last b item f)
 
-  -- a step in front of a walk
+  -- A step and the walk after it are a walk.
   pub walk-cons : (from place last : P) (b : ℕ) (bytes : List ℕ) (item : Option I)
       (items : List I) → step from b ≡ Ok (place, item)
       → walk step place bytes ≡ Ok (last, items)
@@ -100,7 +100,7 @@ module _ {P I F : Type 0} (step : P → ℕ → Result (P × Option I) F) where
       walk-join from place last (b ∷ []) bytes (option_to_list item) items
       (walk-one from place b item e) f
 
-  -- bytes that are refused after others are refused whatever follows them
+  -- A byte that is refused after others is refused whatever follows it.
   pub walk-refused : (from place : P) (bytes more : List ℕ) (items : List I) (b : ℕ) (why : F)
       → walk step from bytes ≡ Ok (place, items) → step place b ≡ Err why
       → walk step from ((bytes ++ b ∷ []) ++ more) ≡ Err why
@@ -112,7 +112,7 @@ module _ {P I F : Type 0} (step : P → ℕ → Result (P × Option I) F) where
 
 module _ {P I F : Type 0} (step : P → ℕ → Result (P × Option I) F) (start : P) (ends : P → Bool)
     (IsRight : List ℕ → List I → Type 0) (reads : ReadsFormat step start ends IsRight) where
-  -- whatever goes on so has these items first
+  -- Each input of the format that begins with these bytes has their items first.
   pub reads_each : (bytes : List ℕ) (place : P) (items : List I)
       → walk step start bytes ≡ Ok (place, items) → (more : List ℕ) (all : List I)
       → IsRight (bytes ++ more) all → (others : List I) × (all ≡ items ++ others)
@@ -142,7 +142,7 @@ module _ {P I F : Type 0} (step : P → ℕ → Result (P × Option I) F) (start
       let clash : Ok (whole.0, all) ≡ Err why = sym whole.1 ∙ refused in
       cc
 
-  -- where the input may not end, it is no input of the format
+  -- If the input may not end at the place after these bytes, they aren't an input of the format.
   pub reads_open : (bytes : List ℕ) (place : P) (items : List I)
       → walk step start bytes ≡ Ok (place, items) → ends place ≡ false
       → (all : List I) → IsRight bytes all → ⊥
@@ -152,7 +152,8 @@ module _ {P I F : Type 0} (step : P → ℕ → Result (P × Option I) F) (start
       let clash : false ≡ true = sym open_there ∙ ap ends same ∙ whole.2 in
       cc
 
--- what holds at the first place of no bytes, and stays with each byte, holds wherever a walk comes
+-- What holds at the first place, before any byte, and is kept by each step, holds wherever a walk
+-- gets to.
 module _ {P I F : Type 0} (step : P → ℕ → Result (P × Option I) F)
     (holds : P → List ℕ → List I → Type 0)
     (stays : (place next : P) (bytes : List ℕ) (items : List I) (b : ℕ) (item : Option I)

@@ -14,6 +14,7 @@ abbrev pub before_field : {S : Type 0} → S → Spot S
 before_field stage = record { stage = stage; partial = [] }
 
 module _ {S I F : Type 0} where
+  -- a step's result, as a spot before what comes next
   abbrev pub at_spot : Result (S × Option I) F → Result (Spot S × Option I) F
   at_spot (Ok next) = Ok (before_field next.0, next.1)
   at_spot (Err why) = Err why
