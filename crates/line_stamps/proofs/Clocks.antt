@@ -19,7 +19,7 @@ use Rattle.{std.proofs.lemmas.List.length-replicate, yasir_ticks.proofs.SilenceL
 use Rattle.yasir_ticks.specs.Ticks.{bytes_in, silent}
 use Rattle.yasir_ticks.specs.declared.tick.Tick.{Tick, TheVariants.Silent, TheVariants.Byte}
 
--- what the tick of a byte is, where drift is taken up and where it isn't
+-- the tick of a byte before which drift is taken up, and of one before which it isn't
 pub tick-far : (n before time one : ℕ) → suc DRIFT_SILENCE < n
     → tick_at n before time one ≡ max (rounded time one) (before + suc DRIFT_SILENCE)
 tick-far n before time one h = cond-true _ _ _ (lt-ltb (suc DRIFT_SILENCE) n h)
@@ -94,7 +94,7 @@ module _ (one : ℕ) (some : 0 < one) (x y : PlacedByte)
 pub character-some : (t : Timing) → 0 < character t.rate
 character-some t = let few : 10 ≤ t.rate.bits = t.rate.fewest_bits in omega arith
 
--- where a byte stands after another, by time
+-- the tick of a byte after another one, by their times
 pub spot-is : (t : Timing) → t.spacing ≡ ByTime → (before : Spot) (c : CaptureByte)
     → (spot_of t (Some before) c).tick
     ≡ tick_at (ticks_apart ((spot_of t (Some before) c).time - before.time) (character t.rate))
@@ -128,14 +128,14 @@ module _ (t : Timing) (by-time : t.spacing ≡ ByTime) (cs : List CaptureByte) w
       (λ x c. keeps-time (character t.rate) (character-some t) x
       (placed_at (spot_of t (Some x.spot) c) c) (spot-is t by-time x.spot c)) cs
 
--- a tick that is this many behind the one before, drift taken up or not
+-- Five ticks or more from one byte to the next stay five or more, even if drift is taken up.
 tick-five : (n before time one : ℕ) → 5 ≤ n → before + 5 ≤ tick_at n before time one
 tick-five n before time one h =
     ⊎_elim (λ (far : 321 < n). rw (tick-far n before time one far) (omega arith))
     (λ (near : n ≤ 321). rw (tick-near n before time one near) (omega arith))
     (cases_lt 321 n)
 
--- where a byte stands after another, where records are taken for frames
+-- the tick of a byte after another one, if records are taken for frames
 module _ (t : Timing) (by-record : t.spacing ≡ ByRecord) (x : PlacedByte) (c : CaptureByte) where
   abbrev there : PlacedByte
   there = placed_at (spot_of t (Some x.spot) c) c
@@ -183,7 +183,7 @@ pub records-parted : (t : Timing) → t.spacing ≡ ByRecord → (cs : List Capt
     → AllNext ArePartedRecords (placed t cs)
 records-parted t by-record cs = all-next t ArePartedRecords (parted t by-record) cs
 
--- the bytes of the line, from whatever tick and byte on
+-- The line has the bytes of the capture, from any tick and any byte on.
 pub same-bytes : (t : Timing) (last : Option Spot) (n : ℕ) (cs : List CaptureByte)
     → bytes_in (ticks_from n (placed_from t last cs)) ≡ map (λ c. c.byte) cs
 same-bytes t last n [] = refl
@@ -246,7 +246,7 @@ line-length t last (c ∷ cs) =
     (placed_from t (Some (spot_of t last c)) cs)) + suc (spot_of t last c).tick = omega arith in
     count ∙ (same ∙ rest)
 
--- the bytes behind silence
+-- the bytes after silence
 bytes-behind : (n k : ℕ) (l : List Tick) → bytes_from n (silent k ++ l) ≡ bytes_from (n + k) l
 bytes-behind n zero l = ap (λ i. bytes_from i l) (sym (add-zero n))
 bytes-behind n (suc k) l =

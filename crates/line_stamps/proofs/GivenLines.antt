@@ -22,7 +22,7 @@ sub-mul a b k =
     mul_comm (a - b) k ∙ (mul-sub k a b ∙ (ap (λ x. x - k * b) (mul_comm k a)
     ∙ ap (λ x. a * k - x) (mul_comm k b)))
 
--- silent ticks, and one more
+-- one more silent tick after others
 silent-more : (n : ℕ) (l : List Tick) → silent n ++ (Silent ∷ l) ≡ silent (suc n) ++ l
 silent-more zero l = refl
 silent-more (suc n) l = ap (λ x. Silent ∷ x) (silent-more n l)
@@ -47,8 +47,8 @@ module _ (rate : Rate) (unit epoch m : ℕ) (some : 0 < unit)
   least : (n : ℕ) → 2 * (n * character rate) ≤ 2 * start n + unit * rate.baud
   least n = let h = rounded-some (rate.baud * unit) unit-some (n * character rate) in omega arith
 
-  -- a byte is in the tick of its own, k behind tick m, at the time of its record's start and of
-  -- the characters since
+  -- A byte that was in tick m + k is in tick k of the line that is taken. Its time is that of the
+  -- start of tick r, in which its record begins, and one character more for each tick since.
   record Near (k : ℕ) (s : Spot) : Type 0 where
     r : ℕ
     from : m ≤ r
@@ -91,7 +91,7 @@ module _ (rate : Rate) (unit epoch m : ℕ) (some : 0 < unit)
       (is_early t last c ≡ false)
       × (overlaps t last c ≡ false)
 
-  -- the first byte
+  -- The first byte is in its own tick.
   first-near : (k : ℕ) (byte : ℕ) (c : CaptureByte)
       → Gives rate unit epoch None (record { tick = m + k; byte = byte }) c
       → Near k (spot_of t None c)
@@ -109,7 +109,7 @@ module _ (rate : Rate) (unit epoch m : ℕ) (some : 0 < unit)
         tick_is = rounded-at (m + k) k (stamp t c) (omega arith) (omega arith) at';
       }
 
-  -- and each later one
+  -- A later byte is in its own tick, if the byte before it is.
   module _ (k : ℕ) (s : Spot) (near : Near k s) (next : ℕ) (byte : ℕ) (c : CaptureByte)
       (behind : k < next) where
     later-tick : (r time : ℕ) → m ≤ r → r ≤ m + next
@@ -192,7 +192,8 @@ module _ (rate : Rate) (unit epoch m : ℕ) (some : 0 < unit)
         (λ further. (following further (gives.1 further), following-free further))
         (cases_Bool c.first)
 
-  -- the byte before is in its own tick, before the next tick at k behind tick m
+  -- The byte before, if there is one, is in its own tick, which is before tick k, counted from tick
+  -- m.
   abbrev Follows : ℕ → Option ℕ → Option Spot → Type 0
   Follows k None None = Unit {0}
   Follows k None (Some s) = ⊥
@@ -222,7 +223,7 @@ module _ (rate : Rate) (unit epoch m : ℕ) (some : 0 < unit)
   follows-later k (Some p) (Some s) (j, is, behind, near) =
       ((j, is, omega arith, near), (let e = near.tick_is in omega arith))
 
-  -- the ticks from k behind tick m on
+  -- The line is the same from tick m + k on.
   same-line : (rest : List Tick) (k : ℕ) (before : Option ℕ) (last : Option Spot)
       (cs : List CaptureByte) → Follows k before last
       → AreGiven rate unit epoch before (bytes_from (m + k) rest) cs

@@ -9,7 +9,7 @@ use Rattle.std.proofs.{Common.arith, Math.Nat.mul-le-mul_right, lemmas.Bool.case
 module _ (one off : ℕ) (some : 0 < one) (small : 2 * off < one) (start : ℕ → ℕ)
     (most : (n : ℕ) → 2 * start n ≤ 2 * (n * one) + off)
     (least : (n : ℕ) → 2 * (n * one) ≤ 2 * start n + off) where
-  -- starts rise
+  -- The start of a tick isn't before that of an earlier one.
   pub start-rises : (m n : ℕ) → m ≤ n → start m ≤ start n
   start-rises m n h =
       ⊎_elim
@@ -23,7 +23,7 @@ module _ (one off : ℕ) (some : 0 < one) (small : 2 * off < one) (start : ℕ �
       let s : start m ≡ start n = ap start e in omega arith)
       (cases_lt m n)
 
-  -- The tick of a byte k ticks behind tick m, of the time since the start of tick m, is k.
+  -- The tick of a byte that was in tick m + k is k, by the time since the start of tick m.
   pub tick-is : (m r k : ℕ) (time : ℕ) → m ≤ r → r ≤ m + k
       → time ≡ start r - start m + (m + k - r) * one → rounded time one ≡ k
   tick-is m r k time from before is =
@@ -39,7 +39,8 @@ module _ (one off : ℕ) (some : 0 < one) (small : 2 * off < one) (start : ℕ �
 
   module _ (m r k next : ℕ) (time later : ℕ) (from : m ≤ r) (before : r ≤ m + k)
       (is : time ≡ start r - start m + (m + k - r) * one) where
-    -- From there to the start of a later tick it is the difference of the two ticks.
+    -- From such a byte to the start of a later tick there are as many ticks as the difference of
+    -- the two.
     pub stamped-apart : k < next → later ≡ start (m + next) - start m
         → ticks_apart (later - time) one ≡ next - k
     stamped-apart behind at =
@@ -58,7 +59,7 @@ module _ (one off : ℕ) (some : 0 < one) (small : 2 * off < one) (start : ℕ �
         let h : 1 * one ≤ (next - k) * one = mul-le-mul_right one w in omega arith) in
         apart-is one some (later - time) (next - k) (omega arith) (omega arith) (omega arith)
 
-    -- The two don't overlap.
+    -- A byte in that later tick doesn't overlap the byte before it.
     pub stamped-free : k < next → later ≡ start (m + next) - start m
         → one ≤ 2 * (later - time)
     stamped-free behind at =
@@ -75,12 +76,12 @@ module _ (one off : ℕ) (some : 0 < one) (small : 2 * off < one) (start : ℕ �
         let h : 1 * one ≤ (next - k) * one = mul-le-mul_right one w in omega arith) in
         omega arith
 
-    -- To the end of its character it is one.
+    -- From the start of a byte to the end of its character there is one tick.
     pub following-apart : later ≡ time + one → ticks_apart (later - time) one ≡ 1
     following-apart at =
         apart-is one some (later - time) 1 (omega arith) (omega arith) (omega arith)
 
-  -- The tick of a later byte, this many ticks after the one before, drift taken up or not.
+  -- A byte whose nearest tick is `next` is in that tick, whether drift is taken up or not.
   pub tick-later : (k next time : ℕ) → k < next → rounded time one ≡ next
       → tick_at (next - k) k time one ≡ next
   tick-later k next time behind is =

@@ -1,4 +1,4 @@
--- A word that spells a number is read as this number, and what is printed of it is the word.
+-- A word that spells a number is read as this number, and the number is printed as the word.
 use Rattle.std.proofs.Common.{◌≡◌, ◌∙◌, ℕ, ◌^◌, ◌<◌, true, false, List, Result, Ok, Err, sym, ap}
 use Rattle.std.proofs.{Common.arith, lemmas.Fmt.parse-decimal, lemmas.Slice.Eq.bytes_eq-Decides}
 use Rattle.std.specs.{Prelude.bytes_eq, Prelude.decimal, Str.Parse.ParsesUnsigned}

@@ -1,4 +1,5 @@
--- What the nearest whole number is, and where the edges of 1.5 and 3.5 characters are.
+-- What the nearest whole number is, and how many ticks there are on either side of silences of 1.5
+-- and 3.5 characters.
 use Rattle.line_stamps.specs.Parts.{rounded, ticks_apart}
 use Rattle.std.proofs.Common.{◌≡◌, ◌∙◌, ℕ, suc, ◌+◌, ◌*◌, ◌<◌, ◌≤◌, ◌↔◌, ⊎_elim, arith, max}
 use Rattle.std.proofs.Math.Nat.{mul-le-mul_right}
@@ -9,7 +10,7 @@ module _ (unit : ℕ) (some : 0 < unit) where
   double : 0 < 2 * unit
   double = omega arith
 
-  -- this many or more, exactly from half a unit below on
+  -- A time is rounded to k units or more exactly if it is at least k units less half a unit.
   pub rounded-least : (time k : ℕ) → 2 * (k * unit) ≤ 2 * time + unit → k ≤ rounded time unit
   rounded-least time k h =
       let h' : k * (2 * unit) ≤ 2 * time + unit = omega arith in
@@ -29,7 +30,7 @@ module _ (unit : ℕ) (some : 0 < unit) where
       rounded-below time (suc k) (omega arith)) in
       omega arith
 
-  -- it is at most half a unit off
+  -- A rounded time is at most half a unit off.
   pub rounded-most : (time : ℕ) → 2 * (rounded time unit * unit) ≤ 2 * time + unit
   rounded-most time =
       ⊎_elim (λ less. absurd (let no : rounded time unit < rounded time unit =
@@ -53,21 +54,21 @@ module _ (length_of_one : ℕ) (some : 0 < length_of_one) (gap : ℕ) where
       → ticks_apart gap length_of_one ≡ max (rounded gap length_of_one) 1
   off-the-edge other = cond-false _ _ _ (ne_eqb (2 * gap) (5 * length_of_one) other)
 
-  -- at least 1
+  -- There is always at least one tick.
   pub apart-some : 0 < ticks_apart gap length_of_one
   apart-some =
       ⊎_elim (λ same. rw (on-the-edge same) (omega arith))
       (λ other. rw (off-the-edge other) (omega arith))
       (cases_eq (2 * gap) (5 * length_of_one))
 
-  -- 1 for less than 1.5
+  -- There is one tick for a time of less than 1.5 characters.
   pub apart-one : 2 * gap < 3 * length_of_one → ticks_apart gap length_of_one ≡ 1
   apart-one less =
       let below : rounded gap length_of_one < 2 =
       rounded-below length_of_one some gap 2 (omega arith) in
       off-the-edge (λ same. omega arith) ∙ omega arith
 
-  -- the nearest number for 1.5 and more
+  -- For a time of 1.5 characters or more, other than 2.5, it is the nearest number of ticks.
   pub apart-nearest : 3 * length_of_one ≤ 2 * gap → (2 * gap ≡ 5 * length_of_one → ⊥)
       → ticks_apart gap length_of_one ≡ rounded gap length_of_one
   apart-nearest more other =
@@ -75,7 +76,7 @@ module _ (length_of_one : ℕ) (some : 0 < length_of_one) (gap : ℕ) where
       rounded-least length_of_one some gap 1 (omega arith) in
       off-the-edge other ∙ omega arith
 
-  -- at most one silent tick exactly where the silence is at most 1.5 characters
+  -- There is at most one silent tick exactly if the silence is at most 1.5 characters.
   pub apart-inside : (ticks_apart gap length_of_one ≤ 2) ↔ (2 * gap ≤ 5 * length_of_one)
   apart-inside =
       ⊎_elim
@@ -91,7 +92,7 @@ module _ (length_of_one : ℕ) (some : 0 < length_of_one) (gap : ℕ) where
       ))
       (cases_eq (2 * gap) (5 * length_of_one))
 
-  -- four or more exactly where it is at least 3.5
+  -- There are four silent ticks or more exactly if the silence is at least 3.5 characters.
   pub apart-end : (5 ≤ ticks_apart gap length_of_one) ↔ (9 * length_of_one ≤ 2 * gap)
   apart-end =
       ⊎_elim
@@ -136,8 +137,7 @@ module _ (length_of_one : ℕ) (some : 0 < length_of_one) (gap : ℕ) where
       (λ three. let h = mul-le-mul_right length_of_one three in omega arith)
       (cases_lt k 3)
 
-  -- Where the time is off from a whole number of characters by less than half a character, it is
-  -- this number of ticks.
+  -- If the time is less than half a character off from k characters, there are k ticks.
   pub apart-is : (k : ℕ) → 0 < k → 2 * (k * length_of_one) < 2 * gap + length_of_one
       → 2 * gap < 2 * (k * length_of_one) + length_of_one → ticks_apart gap length_of_one ≡ k
   apart-is k positive low high =

@@ -1,4 +1,4 @@
--- One more byte: where it stands, and what it adds to the line.
+-- One more byte: where it is, and what it adds to the line.
 use Rattle.line_stamps.specs.{Parts.character, Places.Spot, Places.spot_of, Places.next_tick}
 use Rattle.line_stamps.specs.Places.{placed_from, ticks_from, line_of, last_spot_from, last_spot}
 use Rattle.line_stamps.specs.{Places.start_of, Places.tick_after, Placing.silence_before}
@@ -54,7 +54,7 @@ module _ (t : Timing) where
         ap Some stands
         ∙ (ap (λ x. Some (spot_of t x c)) had ∙ sym (last-more None cs c))
 
-    -- the count, by whether the byte overlaps the one before it
+    -- the count of overlaps, with one more byte that overlaps the one before it or doesn't
     module _ (b : Bool) (told : b ≡ overlaps_at t.spacing last time (character t.rate))
         (cs : List CaptureByte) (had : last ≡ last_spot t cs) where
       overlap-is : overlaps t (last_spot t cs) c ≡ b

@@ -1,5 +1,5 @@
--- What a word that ends in `x` and two digits has in front of them, and that it is the word of a
--- rate or isn't.
+-- What comes before the ending of a word that ends in `x` and two digits, and whether the word is
+-- that of a rate.
 use Rattle.line_stamps.specs.{RateWords.rate_word, declared.rate.Rate.Rate}
 use Rattle.std.proofs.Common.{◌≡◌, ◌≢◌, ◌∙◌, ℕ, ◌+◌, ◌<◌, ◌≤◌, ◌/◌, ◌%◌, List, [], ◌∷◌, ◌++◌}
 use Rattle.std.proofs.Common.{Option, Some, None, IfSome, IfNone, sym, ap, arith, decimal}
@@ -97,7 +97,7 @@ no-rate word not-ten not-eleven rate e =
     not-eleven (decimal rate.baud) (whole ∙ ap (λ d. decimal rate.baud ++ ending d) is))
     (cases_lt rate.bits 11)
 
--- A word that spells a number that is no baud spells none that is one.
+-- A word that spells a number that isn't a baud doesn't spell another one that is.
 pub no-baud : (word : List ℕ) (m : ℕ) → word ≡ decimal m → m < 2 ^ 32
     → (m < 300) ⊎ (115200 < m) → (n : ℕ) → 300 ≤ n → n ≤ 115200 → word ≡ decimal n → ⊥
 no-baud word m spelled small out n least most also =

@@ -27,41 +27,42 @@ ticks spacing origin cs =
     map (λ x. x.spot.tick)
     (placed (record { rate = slow; spacing = spacing; origin = 1000 * origin }) cs)
 
--- bytes of a record follow each other, and a burst goes on with less than half a character less
+-- The bytes of a record are in ticks that follow each other. So is a byte that starts less than
+-- half a character early.
 rows-together : ticks ByTime 0 (begun 0 ∷ further ∷ further ∷ begun 29900 ∷ begun 35000 ∷ [])
     ≡ 0 ∷ 1 ∷ 2 ∷ 3 ∷ 4 ∷ []
 rows-together = refl
 
--- a silence of 1.5 characters is one tick, of more it is two; of 3.5 characters it is four ticks,
--- and of less it is three
+-- A silence of 1.5 characters is one tick, and a longer one is two. A silence of 3.5 characters is
+-- four ticks, and a shorter one is three.
 rows-edges : map (λ gap. ticks_apart gap 10000)
     (0 ∷ 4999 ∷ 5000 ∷ 14999 ∷ 15000 ∷ 25000 ∷ 25001 ∷ 34999 ∷ 35000 ∷ 44999 ∷ 45000 ∷ [])
     ≡ 1 ∷ 1 ∷ 1 ∷ 1 ∷ 2 ∷ 2 ∷ 3 ∷ 3 ∷ 4 ∷ 4 ∷ 5 ∷ []
 rows-edges = refl
 
--- another way of the line began 40 ms before
+-- The first byte comes 40 ms after that of the other way.
 rows-origin : ticks ByTime 1000 (begun 41000 ∷ further ∷ []) ≡ 4 ∷ 5 ∷ []
 rows-origin = refl
 
--- Each gap is rounded on its own, and 40 of 1.4 characters are 40 ticks for 56; the next silence
--- of more than 320 ticks takes the drift up,
+-- Each gap is rounded on its own: two of 1.4 characters are one tick each. The next silence of more
+-- than 320 ticks takes the drift up.
 rows-drift : ticks ByTime 0 (begun 0 ∷ begun 14000 ∷ begun 28000 ∷ begun 3268000 ∷ [])
     ≡ 0 ∷ 1 ∷ 2 ∷ 327 ∷ []
 rows-drift = refl
 
--- and one of 320 ticks doesn't.
+-- A silence of 320 ticks takes no drift up.
 rows-no-drift : ticks ByTime 0 (begun 0 ∷ begun 14000 ∷ begun 28000 ∷ begun 3238000 ∷ [])
     ≡ 0 ∷ 1 ∷ 2 ∷ 323 ∷ []
 rows-no-drift = refl
 
--- Where ticks are ahead of times the silence becomes shorter, but not less than 320 ticks.
+-- If ticks are ahead of times, a long silence becomes shorter, but not shorter than 320 ticks.
 rows-ahead : ticks ByTime 0
     (begun 0 ∷ begun 16000 ∷ begun 32000 ∷ begun 48000 ∷ begun 64000 ∷ begun 80000
     ∷ begun 3300000 ∷ [])
     ≡ 0 ∷ 2 ∷ 4 ∷ 6 ∷ 8 ∷ 10 ∷ 331 ∷ []
 rows-ahead = refl
 
--- records taken for frames, the second one before the first could have ended
+-- Each record is taken for a frame, though the second one begins before the first could have ended.
 rows-records : ticks ByRecord 0
     (begun 0 ∷ further ∷ further ∷ begun 12000 ∷ further ∷ begun 92000 ∷ [])
     ≡ 0 ∷ 1 ∷ 2 ∷ 7 ∷ 8 ∷ 15 ∷ []

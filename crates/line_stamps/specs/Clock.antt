@@ -47,7 +47,7 @@ module _ (character : ℕ) where
       × (2 * time ≤ 2 * (ticks * character) + character)
 
   -- Holds if the ticks from one byte to the next keep to the time between the two: they are at most
-  -- half a tick off, unless the two bytes overlap or drift is taken up. That happens only in
+  -- half a tick off, unless the two bytes overlap or drift is taken up. Drift is taken up only in
   -- silences of more than 320 ticks, of which at least 320 remain. There the tick of the second
   -- byte is at most half a tick off from its time, or exactly 320 silent ticks remain and the line
   -- is still ahead.

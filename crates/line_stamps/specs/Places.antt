@@ -44,6 +44,7 @@ tick_at n before time length_of_one =
     then max (rounded time length_of_one) (before + suc DRIFT_SILENCE)
     else before + n
 
+-- the tick of a byte that starts at this time, given where the byte before it is, if there is one
 abbrev pub tick_after : Timing → Option Spot → Bool → ℕ → ℕ
 tick_after t None first time = rounded time (character t.rate)
 tick_after t (Some before) first time =
@@ -68,6 +69,7 @@ pub record PlacedByte : Type 0 where
   pub byte : ℕ
   pub first : Bool
 
+-- a byte of a capture, placed here
 abbrev pub placed_at : Spot → CaptureByte → PlacedByte
 placed_at spot c = record { spot = spot; byte = c.byte; first = c.first }
 
@@ -95,5 +97,6 @@ abbrev pub last_spot_from : Timing → Option Spot → List CaptureByte → Opti
 last_spot_from t last [] = last
 last_spot_from t last (c ∷ cs) = last_spot_from t (Some (spot_of t last c)) cs
 
+-- where the last of these bytes is, if there is one
 abbrev pub last_spot : Timing → List CaptureByte → Option Spot
 last_spot t cs = last_spot_from t None cs

@@ -46,6 +46,7 @@ overlaps_from t last [] = 0
 overlaps_from t last (c ∷ cs) =
     (if overlaps t last c then 1 else 0) + overlaps_from t (Some (spot_of t last c)) cs
 
+-- how many bytes of one way of a capture overlap the one before them
 abbrev pub overlap_count : Timing → List CaptureByte → ℕ
 overlap_count t cs = overlaps_from t None cs
 
@@ -70,6 +71,7 @@ NoneRefused t last (c ∷ cs) =
     × (overlaps t last c ≡ false)
     × NoneRefused t (Some (spot_of t last c)) cs
 
+-- where the byte is that a placer has taken last, and how its bytes are placed
 abbrev pub spot_at : Last → Spot
 spot_at last = record { time = last.time; tick = last.tick }
 

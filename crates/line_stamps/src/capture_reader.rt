@@ -64,7 +64,8 @@ pub trait CaptureReader: Drop {
         ensures for_good { (bad : Self.Refusal) → has_refused self.old bad
             → (result ≡ Err bad) × (self.new ≡ self.old) };
 
-    /// Takes the end of the capture. It refuses it only if the bytes so far aren't a whole capture.
+    /// Takes the end of the capture, and refuses it if the bytes so far aren't a whole capture. A
+    /// reader that has refused its capture returns that refusal.
     fn finish(self) -> Result<(), Self::Refusal>
         ensures right { (bytes : List ℕ) (items : List Seen) → stands self bytes items
             → OnOk result (format bytes items) }

@@ -34,8 +34,8 @@ pub fn silences_keep_their_edges()
 {}
 
 /// A law of the definitions, for captures that are placed by their times: the ticks from one byte
-/// to the next are at most half a tick off, unless the two overlap or drift is taken up. That
-/// happens only in silences of more than 320 ticks, of which at least 320 remain.
+/// to the next are at most half a tick off, unless the two overlap or drift is taken up. Drift is
+/// taken up only in silences of more than 320 ticks, of which at least 320 remain.
 pub fn ticks_keep_to_the_times()
     ensures { (t : Timing) (cs : List CaptureByte) → t.spacing ≡ ByTime
         → AllNext (KeepsTime (character t.rate)) (placed t cs) }

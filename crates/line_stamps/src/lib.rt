@@ -41,9 +41,9 @@ pub use timing::{Spacing, Timing};
 /// them becomes shorter than this.
 pub const DRIFT_SILENCE: u64 = 320;
 
-/// The limit of times, in parts after the origin, and of ticks. Each byte that is placed is below
-/// both. It is 2^62, which as a time is 11 hours at 115,200 baud, and at least 419,244,183
-/// characters at each rate.
+/// The limit of times, in parts after the origin, and of ticks: 2^62. Both the time and the tick of
+/// each byte that is placed are below it. As a time it is 11 hours at 115,200 baud, and at least
+/// 419,244,183 characters at each rate.
 pub const TIME_LIMIT: u64 = 4_611_686_018_427_387_904;
 
 /// The greatest number of bytes that a reader takes of a capture: 2^62.

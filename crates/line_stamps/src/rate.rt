@@ -12,7 +12,9 @@ pub const FASTEST: u32 = 115_200;
 /// and stop bits.
 #[derive(Clone, Copy, Debug, PartialEq, Eq)]
 pub struct Rate {
+    /// The speed of the line, in baud.
     pub baud: u32,
+    /// The length of a character, in bits.
     pub bits: u8,
     ghost slowest: { 300 ≤ baud },
     ghost fastest: { baud ≤ 115200 },

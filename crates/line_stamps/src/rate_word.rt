@@ -8,7 +8,7 @@ ghost use Rattle.line_stamps.specs.RateWords.{rate_word};
 
 use crate::rate::{FASTEST, Rate, SLOWEST};
 
-// Returns what comes before the last letter of a word, if that is this letter.
+// Returns what comes before the last letter of a word, if it ends with this letter.
 fn in_front_of(word: &str, letter: char) -> Option<&str>
     requires { letter < 128 }
     ensures some { IfSome result (λ x. word.now ≡ x.now ++ letter ∷ []) }

@@ -20,6 +20,8 @@ pub struct LineEvent {
 /// What a capture has in the order of its records: a byte of the line, or an event.
 #[derive(Clone, Copy, Debug, PartialEq, Eq)]
 pub enum Seen {
+    /// A byte of the line.
     Byte(CaptureByte),
+    /// An event, which isn't a byte of the line.
     Event(LineEvent),
 }

@@ -16,7 +16,9 @@ pub enum Spacing {
 /// How the bytes of one way of a capture are placed on a line.
 #[derive(Clone, Copy, Debug, PartialEq, Eq)]
 pub struct Timing {
+    /// The rate of the line.
     pub rate: Rate,
+    /// How the silence between records is found.
     pub spacing: Spacing,
     /// The time at which tick 0 begins, in nanoseconds since the epoch of the capture.
     pub origin: u64,
