@@ -68,7 +68,7 @@ on_option s size left counts f =
     nought Big = refl
     nought Little = refl
 
--- before the next option, if there is room for one
+-- the place after an option, and that the file goes on from it
 record NextOn (s : Section) (size left counts : ℕ) : Type 0 where
   pub place : Block
   pub is : next_option_at s size left counts ≡ Ok (place, None)
@@ -155,7 +155,7 @@ on_original s size start captured f c =
     (rw (eq-eqb (number s.order c.field) captured c.is) refl)
     (on_packet s size (size - 32 - captured) (RtacSeconds start (captured - 12)) f refl)
 
--- a field of this number, of bytes
+-- There is a field with this number.
 spelled : (order : Order) (n : ℕ) → n < 256 ^ 4 → HasField order n
 spelled Big n h = record {
   field = big_bytes 4 n;

@@ -1,4 +1,4 @@
--- A pcapng file so far can still come to a right end: what its reader's place has to say for that.
+-- What must hold at the place of a reader, so that its pcapng file can still have a right end.
 use Rattle.capture_pcap.specs.BlockStep.{Stepped, takes_bytes, unread_or_end, is_size, in_section}
 use Rattle.capture_pcap.specs.BlockStep.{after_order, after_kind, after_size, after_options}
 use Rattle.capture_pcap.specs.BlockStep.{next_option_at, over_fields, has_room, after_option}
@@ -26,13 +26,13 @@ use Rattle.std.proofs.Common.{Ok, Err, refl, arith, slice_index, drop}
 use Rattle.std.proofs.lemmas.Bool.{ltb-true, leb-true, cond_both, and_parts}
 use Rattle.capture_pcap.specs.declared.block.Block.TheVariants as b
 
--- a field that has come has this number
+-- a field that has come, with this number
 pub record HasField (order : Order) (n : ℕ) : Type 0 where
   pub field : List ℕ
   pub long : length field ≡ 4
   pub is : number order field ≡ n
 
--- a field that has come has this number in the one order, and this one in the other
+-- a field that has come, with the one number if it is big-endian and the other one if it isn't
 pub record HasBoth (big little : ℕ) : Type 0 where
   pub field : List ℕ
   pub long : length field ≡ 4
@@ -163,7 +163,7 @@ live_size s OtherKind field h four =
     cond_both (is_size size 12) (Ok (unread_or_end s size (size - 12), None)) (Err WrongSize) LiveStep
     (λ e. live_rest s size (size - 12) (record { field = field; long = four; is = refl })) (λ e. tt)
 
--- where a packet goes on, some of it is left
+-- If a packet goes on, some of it is left.
 abbrev MoreIn : Option Body → Type 0
 MoreIn (Some body) = has_more body ≡ true
 MoreIn None = Unit {0}

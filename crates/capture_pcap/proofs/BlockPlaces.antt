@@ -1,4 +1,4 @@
--- What a field or a byte makes of a pcapng file so far, at each place of its reader.
+-- What a pcapng file so far is after one more field or byte, at each place of its reader.
 use Rattle.capture_pcap.specs.BlockStep.{Stepped, takes_bytes, unread_or_end, is_size, in_section}
 use Rattle.capture_pcap.specs.BlockStep.{after_order, of_kind, after_kind, after_size, after_link}
 use Rattle.capture_pcap.specs.BlockStep.{after_options, next_option_at, over_fields, after_option}

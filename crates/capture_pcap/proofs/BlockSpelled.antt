@@ -1,4 +1,4 @@
--- What a reader comes to over the blocks of a right pcapng file.
+-- Where a reader gets to over the blocks of a right pcapng file.
 use Rattle.byte_walk.{proofs.FieldLaws.single_walk, specs.Walks.walk}
 use Rattle.capture_pcap.specs.BlockStep.{Stepped, unread_or_end, is_size, after_order, after_kind}
 use Rattle.capture_pcap.specs.BlockStep.{after_options, next_option_at, over_fields, after_option}
@@ -38,7 +38,7 @@ use Rattle.capture_pcap.proofs.{Bodies.record_walk, FieldFacts.field_is}
 use Rattle.capture_pcap.proofs.Walked.{Walks, one_field, both, four_of}
 use Rattle.capture_pcap.specs.declared.stage.Stage.{Stage, TheVariants.Magic, TheVariants.Blocks}
 
--- nothing, and a reader stays
+-- Over no bytes a reader stays where it is.
 stays : (stage : Stage) → Walks stage [] stage []
 unfolding walk
 stays stage = record { is = refl }
@@ -81,7 +81,7 @@ unfolding block_field_at
 end_walk s size again four e =
     one (b.End s size) (b.Kind s) again refl four (rw (eq-eqb (number s.order again) size e) refl)
 
--- this many bytes, and the length again
+-- Over the bytes that are left of a block, and its length again, a reader gets to the next block.
 close_walk : (s : Section) (size left : ℕ) (rest again : List ℕ) → length rest ≡ left
     → length again ≡ 4 → number s.order again ≡ size
     → Walks (Blocks (unread_or_end s size left)) (rest ++ again) (Blocks (b.Kind s)) []
@@ -123,7 +123,7 @@ mark_long : (order : Order) (mark : List ℕ) → IsOrderMark order mark → len
 mark_long order mark big = refl
 mark_long order mark little = refl
 
--- a section's header behind its kind
+-- the header of a section, after its kind
 section_walk : (order : Order) (size mark rest again : List ℕ) → length size ≡ 4
     → IsOrderMark order mark → 12 ≤ length rest → length again ≡ 4
     → number order size ≡ 12 + length (mark ++ rest) → number order again ≡ 12 + length (mark ++ rest)
@@ -152,7 +152,7 @@ section_walk order size mark rest again size_long m whole four size_is again_is 
 
 -- ---- options
 
--- where the reader of an interface comes before these options, and that it comes over them to the
+-- the place of a reader before these options of an interface, from which it gets over them to the
 -- end of the block
 record OptionsWalk (s : Section) (size left counts to : ℕ) (options : List ℕ) : Type 0 where
   pub place : Block
@@ -168,7 +168,7 @@ last_field : (s : Section) (size left counts : ℕ) (place : Block)
     → after_value s size left counts 1 ≡ Ok (place, None)
 last_field s size left counts place e = e
 
--- the fields of an option's value
+-- Over the fields of an option's value a reader gets to what follows the option.
 value_walk : (s : Section) (size left counts fields : ℕ) (value : List ℕ) (place : Block)
     → length value ≡ 4 * suc fields → next_option_at s size left counts ≡ Ok (place, None)
     → Walks (Blocks (b.Value s size left counts (suc fields))) value (Blocks place) []
@@ -218,7 +218,7 @@ options_ended s size left counts head rest four code long =
           (subst Q rest_long (unread_walk after size rest));
     }
 
--- what an option that says nothing of times comes to
+-- An option that says nothing of times is passed over.
 plain_step : (s : Section) (size left counts : ℕ) (head : List ℕ)
     → is_plain (short_number s.order head) ≡ true
     → (short_number s.order (drop 2 head) + 3) / 4 ≤ left
@@ -397,7 +397,7 @@ packet_kind s kind four e h small =
       lt-ltb s.first 4294967296 small,
     ) refl
 
--- the kinds by their tests
+-- what comes after the kind of a block, by the results of the tests for kinds
 abbrev picked : Section → Bool → Bool → Bool → Stepped
 picked s t u v =
     if t && has_room s InterfaceKind then Ok (b.Size s InterfaceKind, None)

@@ -15,14 +15,14 @@ use Rattle.std.specs.Option.{option_to_list}
 use Rattle.capture_pcap.specs.declared.block.Block.TheVariants as b
 use Rattle.capture_pcap.proofs.Bodies.{AtBody}
 
--- ---- what makes a file so far, with these items, one of whole blocks
+-- ---- what makes a file so far one of whole blocks with these items
 
--- the length again
+-- After the length of the block again, the file is one of whole blocks.
 abbrev pub EndsAs : Section → ℕ → List ℕ → List Seen → Type 0
 EndsAs s size text items = (again : List ℕ) → length again ≡ 4 → number s.order again ≡ size
     → AreBlocks (Some s) (text ++ again) items
 
--- this many bytes, and the length
+-- After this many bytes and the length of the block again, the file is one of whole blocks.
 abbrev pub RestsAs : Section → ℕ → ℕ → List ℕ → List Seen → Type 0
 RestsAs s size left text items = (rest : List ℕ) → length rest ≡ left
     → EndsAs s size (text ++ rest) items
@@ -93,7 +93,7 @@ abbrev pub SectionAs : List ℕ → List Seen → Type 0
 SectionAs text items = (size : List ℕ) → length size ≡ 4
     → OrderAs (number Big size) (number Little size) (text ++ size) items
 
--- a packet of which these bytes have come
+-- a packet of which some bytes have come, at the end of the file so far
 pub record AtPacket (s : Section) (size left : ℕ) (body : Body) (text : List ℕ) (items : List Seen) :
     Type 0 where
   pub start : ℕ
@@ -107,7 +107,7 @@ pub record AtPacket (s : Section) (size left : ℕ) (body : Body) (text : List �
   pub at : AtBody start count body bytes these
   pub whole : BodyAs s size left start count front before
 
--- the file so far brings its reader to this place
+-- what holds of the file so far if its reader is at this place
 abbrev pub AtBlock : Block → List ℕ → List Seen → Type 0
 AtBlock b.SectionSize text items = SectionAs text items
 AtBlock (b.SectionOrder big_size little_size) text items = OrderAs big_size little_size text items
@@ -133,7 +133,7 @@ AtBlock (b.Packet s size left body) text items = AtPacket s size left body text 
 AtBlock (b.Unread s size left) text items = (0 < left) × RestsAs s size left text items
 AtBlock (b.End s size) text items = EndsAs s size text items
 
--- what a field makes of a file so far; a refusal is no end of it
+-- what holds of the file after one more field: nothing, if the field is refused
 abbrev pub BlockGoes : List ℕ → List Seen → Stepped → Type 0
 BlockGoes text items (Ok next) = AtBlock next.0 text (items ++ option_to_list next.1)
 BlockGoes text items (Err why) = Unit {0}

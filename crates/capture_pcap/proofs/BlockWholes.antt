@@ -1,4 +1,4 @@
--- Whole blocks behind a pcapng file so far.
+-- Whole blocks after a pcapng file so far.
 use Rattle.capture_pcap.proofs.BlockStands.{SectionAs, size_in, SizeAs}
 use Rattle.capture_pcap.specs.BlockStep.{is_size, has_room}
 use Rattle.capture_pcap.specs.Blocks.{padded, section_kind, IsOrderMark, section_with, is_other}
@@ -18,7 +18,7 @@ use Rattle.std.proofs.lemmas.{Bool.and_parts, Bool.eqb-true, Bool.leb-true, List
 
 -- ---- whole blocks
 
--- a block behind others, as it came and as the format has it
+-- a block after others, with its parts as they came and as the format has them
 framed : (text kind size body again : List ℕ)
     → (((text ++ kind) ++ size) ++ body) ++ again ≡ text ++ (((kind ++ size) ++ body) ++ again)
 framed text kind size body again =

@@ -1,4 +1,4 @@
--- What a packet so far is at each place of its reader, and what a field or a byte makes of it.
+-- What a packet so far is at each place of its reader, and after one more field or byte.
 use Rattle.byte_walk.proofs.{FieldLaws.field_walk, FieldLaws.single_walk, WalkLaws.walk-join}
 use Rattle.byte_walk.specs.{Fields.Spot, Fields.before_field, Fields.spot_step, Walks.walk}
 use Rattle.capture_pcap.specs.BodyStep.{takes_data, data_of, body_event, body_field_at}
@@ -19,7 +19,7 @@ seen_data-none : (start : ℕ) (way : Option Way) (first : Bool) → seen_data s
 seen_data-none start (Some way) first = refl
 seen_data-none start None first = refl
 
--- whether the byte behind these is the first one
+-- whether the byte after these is the first one
 abbrev pub first_behind : Bool → List ℕ → Bool
 first_behind first [] = first
 first_behind first (b ∷ bytes) = false
@@ -59,7 +59,7 @@ pub record HasPayload (start count left : ℕ) (way : Option Way) (first : Bool)
   pub items_are : items ≡ option_to_list (seen_event start event count (event_way event))
       ++ seen_data start (event_way event) true front
 
--- the bytes of a packet so far, behind its header, bring its reader to this place
+-- what the bytes of a packet after its header are so far, if its reader is at this place
 pub data AtBody (start count : ℕ) : Body → List ℕ → List Seen → Type 0 where
   seconds : AtBody start count (Seconds start count) [] []
   fraction : (stamp : List ℕ) → length stamp ≡ 4
@@ -70,7 +70,7 @@ pub data AtBody (start count : ℕ) : Body → List ℕ → List Seen → Type 0
       → HasPayload start count left way first bytes items
       → AtBody start count (Data start left way first) bytes items
 
--- what comes next of a packet
+-- what the bytes of a packet are so far, if this comes next: all of it, if nothing does
 abbrev pub BodyGoes : ℕ → ℕ → List ℕ → List Seen → Option Body → Type 0
 BodyGoes start count bytes items (Some body) = AtBody start count body bytes items
 BodyGoes start count bytes items None = IsRecord start count bytes items
@@ -136,7 +136,7 @@ field_of_event start count stamp more [] long long_more four = absurd (omega ari
 field_of_event start count stamp more (e ∷ others) long long_more four =
     event_goes start count stamp more e others long long_more (omega arith)
 
--- a field of a packet
+-- A field of a packet leads to what comes next.
 pub body_field_goes : (start count : ℕ) (body : Body) (front field : List ℕ) (items : List Seen)
     → AtBody start count body front items → takes_data body ≡ false → length field ≡ 4
     → BodyGoes start count (front ++ field)
@@ -149,7 +149,7 @@ body_field_goes start count body front field items (event stamp more long long_m
     field_of_event start count stamp more field long long_more four
 body_field_goes start count body front field items (payload left way first _ _ p) h four = cc
 
--- a byte of data
+-- A byte of data leads to what comes next.
 pub body_byte_goes : (start count : ℕ) (body : Body) (front : List ℕ) (items : List Seen) (b : ℕ)
     → AtBody start count body front items → takes_data body ≡ true
     → BodyGoes start count (front ++ b ∷ []) (items ++ option_to_list (body_byte_at body b).1)
@@ -222,7 +222,7 @@ body_byte_goes start count body front items b (payload left way first _ _ p) h =
         ∙ ap (λ x. begun ++ (seen_data start (event_way p.event) true p.front ++ x)) same_seen
         ∙ ap (λ x. begun ++ x) (seen_data-more start (event_way p.event) true p.front b)
 
--- ---- what a reader comes to over a packet, whatever it does behind it
+-- ---- where a reader gets to over a packet, whatever it does after it
 
 module _ {S F : Type 0} (takes_bytes : S → Bool)
     (field_at : S → List ℕ → Result (S × Option Seen) F)

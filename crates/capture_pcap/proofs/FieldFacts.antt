@@ -1,4 +1,4 @@
--- Fields of four bytes that have these bytes.
+-- A field that passes the test for four bytes has these bytes.
 use Rattle.std.proofs.Common.{◌≡◌, ℕ, ◌==◌, ◌&&◌, true, List, [], ◌∷◌, length, refl, arith}
 use Rattle.std.proofs.lemmas.Bool.{and_parts, eqb-true}
 use Rattle.capture_pcap.specs.Words.{is_field}

@@ -1,4 +1,4 @@
--- From before a field or a byte a file can still come to its end.
+-- Before each field and each byte, a file can still go on to a right end.
 use Rattle.byte_walk.{proofs.WalkLaws.walk-join, specs.Fields.before_field, specs.Walks.GoesOnFrom}
 use Rattle.capture_pcap.proofs.{Bodies.data_walk, Walked.Walks, Walked.one_field}
 use Rattle.capture_pcap.specs.BodyStep.{takes_data, has_more, data_of, body_or, body_field_at}
@@ -32,7 +32,7 @@ pub on_field : (from to : Stage) (field : List ℕ) (item : Option Seen) → tak
 on_field from to field item h four e on =
     on_walk from to field (option_to_list item) (one_field from to field item h four e) on
 
--- in a packet, whatever comes after it
+-- within a packet, whatever comes after it
 module _ (within : Body → Stage) (behind : Stage)
     (takes : (body : Body) → takes_bytes (within body) ≡ takes_data body)
     (fields : (body : Body) (field : List ℕ) → field_at (within body) field

@@ -50,7 +50,7 @@ on_original clock start size four =
     (rw (eq-eqb (number clock.order size) (number clock.order size) refl) refl)
     (on_packet clock (RtacSeconds start count) refl)
 
--- a field of this number
+-- a field with this number, which is below 256
 abbrev spelled : Order → ℕ → List ℕ
 spelled Big n = 0 ∷ 0 ∷ 0 ∷ n ∷ []
 spelled Little n = n ∷ 0 ∷ 0 ∷ 0 ∷ []
@@ -83,7 +83,7 @@ on_link clock =
     on_field (Link clock) (Seconds clock) (spelled clock.order 250) None refl
     (spelled_long clock.order 250) (rw (spelled_is clock.order 250) refl) (on_seconds clock)
 
--- the fields of the header that are left
+-- The header goes on with the fields that are left of it.
 on_free : (clock : Clock) (left before : ℕ) → before + left ≡ 3 → GoesOn (Free clock before)
 unfolding field_at
 on_free clock zero before e =

@@ -38,7 +38,7 @@ bytes stage next front items b item at h e =
     let Q : Stepped → Type 0 = λ s. Moves front (b ∷ []) items s in
     subst Q e (byte_goes stage front items b at h)
 
--- what came before the field in which a reader is
+-- what a file so far is, if its reader has reached this spot
 abbrev pub Reached : Spot Stage → List ℕ → List Seen → Type 0
 Reached = ReachedSpot takes_bytes field_at byte_at Magic AtStage fields bytes
 
@@ -67,7 +67,7 @@ block_ends (b.Packet s size left body) file items at m = cc
 block_ends (b.Unread s size left) file items at m = cc
 block_ends (b.End s size) file items at m = cc
 
--- where a file may end, it is one
+-- If a file may end here, it is a pcap or pcapng file.
 ends_so : (stage : Stage) (front : List ℕ) (items : List Seen) → AtStage stage front items
     → may_end stage ≡ true → IsCapture front items
 ends_so stage front items magic m = cc
@@ -109,9 +109,9 @@ reads_pcap = record {
   complete = complete;
 }
 
--- ---- what a reader says of a file that it came to a spot over
+-- ---- what a reader says of the file over which it got to a spot
 
--- a byte more of a field
+-- one more byte of a field that isn't whole yet
 abbrev goes_on : Spot Stage → ℕ → Result (Spot Stage × Option Seen) PcapFault
 goes_on spot b = Ok (record { stage = spot.stage; partial = spot.partial ++ b ∷ [] }, None)
 
@@ -170,7 +170,7 @@ module _ (spot : Spot Stage) (file : List ℕ) (items : List Seen)
       never : goes_on spot b ≡ Err why → ⊥
       never g = cc
 
-  -- a refusal, with the place and the cause of its field
+  -- A refusal has the place and the cause of its field.
   pub file_refused : (b offset : ℕ) (why : PcapFault) → step_at spot b ≡ Err why
       → offset + length spot.partial ≡ length file
       → RefusesField IsCapture IsCause file items b offset why

@@ -1,4 +1,4 @@
--- What a reader comes to over the parts of a right file.
+-- Where a reader gets to over the parts of a right file.
 use Rattle.capture_pcap.proofs.Bodies.{record_walk}
 use Rattle.capture_pcap.proofs.Walked.{Walks, one_field, both, four_of}
 use Rattle.capture_pcap.specs.Pcap.{IsMagic, IsHeader, IsTime, AreLengths, IsPacket, ArePackets}

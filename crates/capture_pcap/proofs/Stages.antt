@@ -1,4 +1,4 @@
--- What a file so far is at each stage of its reader, and what a field or a byte makes of it.
+-- What a file so far is at each stage of its reader, and after one more field or byte.
 use Rattle.byte_walk.specs.{Fields.before_field, Walks.walk}
 use Rattle.capture_pcap.specs.BlockStep.{block_field_at, block_byte_at}
 use Rattle.capture_pcap.specs.BlockStep.{takes_bytes as block_takes_bytes}
@@ -35,7 +35,7 @@ use Rattle.capture_pcap.proofs.Bodies.{AtBody, BodyGoes, body_field_goes, body_b
 use Rattle.capture_pcap.proofs.{Bodies.AtBody.seconds as rtac_seconds, FieldFacts.field_is}
 use Rattle.capture_pcap.specs.declared.stage.Stage.TheVariants.{Blocks}
 
--- the file so far brings its reader to this stage, and has these items
+-- what a file so far is if its reader is at this stage, with the items that it has
 pub data AtStage : Stage → List ℕ → List Seen → Type 0 where
   magic : AtStage Magic [] []
   free : (clock : Clock) (before : ℕ) (word front : List ℕ) → IsMagic clock word
@@ -62,12 +62,12 @@ pub data AtStage : Stage → List ℕ → List Seen → Type 0 where
       → AtBlock block (section_kind ++ bytes) items → Live block
       → AtStage (Blocks block) (section_kind ++ bytes) items
 
--- what a field makes of a file so far
+-- what holds of a file after one more field: the cause is right, if the field is refused
 abbrev pub Goes : List ℕ → List ℕ → List Seen → Stepped → Type 0
 Goes front field items (Ok next) = AtStage next.0 (front ++ field) (items ++ option_to_list next.1)
 Goes front field items (Err why) = IsCause front field why
 
--- what a field that is taken makes of a file so far
+-- what holds of a file after one more field: nothing, if the field is refused
 abbrev pub Moves : List ℕ → List ℕ → List Seen → Stepped → Type 0
 Moves front field items (Ok next) = AtStage next.0 (front ++ field) (items ++ option_to_list next.1)
 Moves front field items (Err why) = Unit {0}
@@ -284,7 +284,7 @@ moved stage front bytes last items these others at =
     subst R (sym (append_assoc items these others))
     (subst Q (sym (append_assoc front bytes last)) at)
 
--- a field or a byte of a pcapng file
+-- A field or a byte of a pcapng file leads to what comes next.
 block_goes : (bytes field : List ℕ) (items : List Seen) (r : Result (Block × Option Seen) PcapFault)
     → BlockGoes ((section_kind ++ bytes) ++ field) items r → LiveStep r
     → Moves (section_kind ++ bytes) field items (in_blocks r)
@@ -398,7 +398,7 @@ byte_goes stage front items b (blocks block bytes _ at live) h =
     block_goes bytes (b ∷ []) items (block_byte_at block b)
     (block_byte_goes block (section_kind ++ bytes) items b at h) (live_byte block b live h)
 
--- no single byte is refused where one comes next
+-- If a single byte comes next, it isn't refused.
 block_byte_taken : (block : Block) (byte : ℕ) (why : PcapFault) → block_takes_bytes block ≡ true
     → block_byte_at block byte ≡ Err why → ⊥
 block_byte_taken (b.Packet s size left body) byte why h e = cc

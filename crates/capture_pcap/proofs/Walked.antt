@@ -1,4 +1,4 @@
--- Walks from before a field to before another.
+-- Walks that begin and end before a field or a byte.
 use Rattle.byte_walk.proofs.{FieldLaws.field_walk, WalkLaws.walk-join}
 use Rattle.byte_walk.specs.{Fields.before_field, Walks.walk}
 use Rattle.capture_pcap.specs.PcapStep.{takes_bytes, field_at, byte_at, step_at}
@@ -7,7 +7,7 @@ use Rattle.line_stamps.specs.declared.seen.Seen.{Seen}
 use Rattle.std.proofs.Common.{◌≡◌, ℕ, ◌+◌, false, List, [], ◌∷◌, ◌++◌, length, Option, Ok, refl}
 use Rattle.std.{proofs.Common.arith, specs.Option.option_to_list}
 
--- a reader that comes before a field comes over these bytes to where it comes before another
+-- From before a field or a byte, a reader gets over these bytes to before another one.
 pub record Walks (from : Stage) (bytes : List ℕ) (to : Stage) (items : List Seen) : Type 0 where
   pub is : walk step_at (before_field from) bytes ≡ Ok (before_field to, items)
 
@@ -25,7 +25,7 @@ both from through to first second items others v w = record {
       items others v.is w.is;
 }
 
--- four bytes from the front
+-- a list, divided after its first four bytes
 pub record Four (bytes : List ℕ) (n : ℕ) : Type 0 where
   pub first : List ℕ
   pub rest : List ℕ

@@ -1,4 +1,4 @@
--- The header of a packet that is written, and data behind it, are a packet.
+-- The header of a packet that is written, and the data after it, are a packet.
 use Rattle.byteorder.specs.{Endian.big_bytes, Endian.little_bytes, Numbers.little_number-reads_back}
 use Rattle.byteorder.specs.Numbers.{length-bytes_low_first, length-bytes_high_first}
 use Rattle.capture_pcap.specs.{Pcap.IsPacket, Record.seen_of, Record.seen_bytes, Words.number}
@@ -82,7 +82,7 @@ written_packet way start whole rest count none h1 h2 h3 h4 h5 h6 e a b c d f g t
         (d.is ∙ ap (λ x. x ++ d.field) (c.is ∙ ap (λ x. x ++ c.field)
         (b.is ∙ ap (λ x. x ++ b.field) (a.is ∙ ap (λ x. x ++ a.field) e)))))
 
--- a list grows by these bytes behind others that are known
+-- A list that was `front`, and has grown by `more`, is `front` and then `more`.
 grown : (old new front more : List ℕ) → new ≡ old ++ more → old ≡ front → new ≡ front ++ more
 grown old new front more is e = is ∙ ap (λ x. x ++ more) e
 
@@ -112,7 +112,7 @@ four_added old n = record {
   long = length-bytes_high_first 4 n;
 }
 
--- what is written for a record is a packet of it
+-- What is written for a record is a packet of its bytes.
 pub packet_is : (way : Way) (start : ℕ) (bytes : List ℕ) → start < 2 ^ 32 * 1000000000
     → length bytes + 12 < 2 ^ 32
     → IsPacket written_clock (as_written way start bytes) (seen_bytes start way true bytes)

@@ -126,6 +126,8 @@ pub record IsEnhanced (section : Section) (bytes : List ℕ) (items : List Seen)
 abbrev pub is_other : ℕ → Bool
 is_other kind = not (kind == 1) && not (kind == 6) && not (kind == 2 || kind == 3)
 
+-- Holds for a whole block in this order that is neither a section's header nor of a kind that is
+-- read or refused.
 pub record IsOther (order : Order) (bytes : List ℕ) : Type 0 where
   pub kind : List ℕ
   pub body : List ℕ
@@ -133,6 +135,7 @@ pub record IsOther (order : Order) (bytes : List ℕ) : Type 0 where
   pub other : is_other (number order kind) ≡ true
   pub apart : is_field 0x0A 0x0D 0x0D 0x0A kind ≡ false
 
+-- a section that has described no interface yet
 abbrev pub fresh : Order → Section
 fresh order = record { order = order; first = 0; interfaces = 0; counts = 1000 }
 

@@ -27,6 +27,7 @@ use Rattle.capture_pcap.specs.BlockStep.{takes_bytes as block_takes_bytes, block
 use Rattle.capture_pcap.specs.BlockStep.{is_sound as is_sound_block, block_byte_at}
 use Rattle.capture_pcap.specs.BlockStep.{may_end as may_end_block}
 
+-- what a field or a byte leads to: what comes next and what was seen, or why it is refused
 abbrev pub Stepped : Type 0
 Stepped = Result (Stage × Option Seen) PcapFault
 
@@ -54,13 +55,18 @@ is_sound (Original clock start captured) = nat_le 12 captured
 is_sound (Packet clock body) = has_more body
 is_sound (Blocks block) = is_sound_block block
 
+-- Holds if a step leads to a sound stage, or refuses.
 abbrev pub IsSoundStep : Stepped → Type 0
 IsSoundStep (Ok next) = is_sound next.0 ≡ true
 IsSoundStep (Err why) = Unit {0}
 
+-- what comes after the magic number of a pcap file: the first of the four fields that may be
+-- anything
 abbrev pub free_at : Order → Resolution → Stepped
 free_at order resolution = Ok (Free (record { order = order; resolution = resolution }) 0, None)
 
+-- what comes after the magic number of a pcap file, which says the order of numbers and the unit of
+-- times
 abbrev pub pcap_magic_at : List ℕ → Stepped
 pcap_magic_at field =
     if is_field 0xA1 0xB2 0xC3 0xD4 field then free_at Big Microseconds
@@ -84,18 +90,22 @@ abbrev pub in_blocks : Result (Block × Option Seen) PcapFault → Stepped
 in_blocks (Ok next) = Ok (Blocks next.0, next.1)
 in_blocks (Err why) = Err why
 
+-- what comes after the number of bytes that a packet had
 abbrev pub after_length : Clock → ℕ → ℕ → ℕ → Stepped
 after_length clock start captured original =
     if original == captured then Ok (Packet clock (RtacSeconds start (captured - 12)), None)
     else Err Cut
 
+-- what comes after the link type
 abbrev pub after_link : Clock → ℕ → Stepped
 after_link clock link = if link == 250 then Ok (Seconds clock, None) else Err NoLink
 
+-- what comes after the number of bytes of a packet that the file has
 abbrev pub after_captured : Clock → ℕ → ℕ → Stepped
 after_captured clock start captured =
     if nat_lt captured 12 then Err Short else Ok (Original clock start captured, None)
 
+-- what a field of four bytes leads to
 unfoldable pub field_at : Stage → List ℕ → Stepped
 field_at Magic field = after_magic_at field
 field_at (Free clock before) field =
@@ -114,6 +124,7 @@ field_at (Original clock start captured) field =
 field_at (Packet clock body) field = after_body clock (body_field_at body field)
 field_at (Blocks block) field = in_blocks (block_field_at block field)
 
+-- what a single byte leads to
 abbrev pub byte_at : Stage → ℕ → Stepped
 byte_at Magic b = Err NoMagic
 byte_at (Free clock before) b = Err NoMagic

@@ -13,9 +13,11 @@ use Rattle.capture_pcap.specs.declared.stage.Stage.{Stage}
 use Rattle.capture_pcap.specs.declared.stage.Stage.TheVariants.{Magic}
 use Rattle.capture_pcap.specs.declared.reader.PcapReader.{PcapReader}
 
+-- how many bytes a reader has taken
 abbrev pub bytes_taken : PcapReader → ℕ
 bytes_taken reader = reader.taken
 
+-- where a reader is in its file
 abbrev pub spot_of : PcapReader → Spot Stage
 spot_of reader = record { stage = reader.stage; partial = reader.partial.items }
 

@@ -13,6 +13,7 @@ use Rattle.line_stamps.specs.declared.seen.Seen.TheVariants.{Byte, Event}
 abbrev pub event_way : ℕ → Option Way
 event_way event = if event == 1 then Some A else if event == 2 then Some B else None
 
+-- a byte of the line, whose record starts then
 abbrev pub seen_byte : ℕ → Way → Bool → ℕ → Seen
 seen_byte start way first byte =
     Byte (record { way = way; start = start; first = first; byte = byte })

@@ -22,6 +22,7 @@ const RTAC_SERIAL: u16 = 250;
 /// A section of a pcapng file so far.
 #[derive(Clone, Copy, Debug, PartialEq, Eq)]
 pub struct Section {
+    /// The order of the bytes of its numbers.
     pub order: Order,
     /// The number of the first interface that counts its times in the same unit as all that were
     /// described after it. Packets of the interfaces before it aren't read.
@@ -35,8 +36,11 @@ pub struct Section {
 /// A kind of block.
 #[derive(Clone, Copy, Debug, PartialEq, Eq)]
 pub enum Kind {
+    /// A description of an interface.
     Interface,
+    /// A packet with its time, in an enhanced packet block.
     Packet,
+    /// A block of another kind, of which nothing is read.
     Other,
 }
 

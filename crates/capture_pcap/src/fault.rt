@@ -36,5 +36,6 @@ pub enum PcapFault {
 pub struct BadPcap {
     /// How many bytes come before the refused field, or before the end of the file.
     pub offset: u64,
+    /// Why it is refused.
     pub why: PcapFault,
 }

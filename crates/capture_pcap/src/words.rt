@@ -15,14 +15,18 @@ pub enum Order {
 /// What the fraction of a packet's time counts.
 #[derive(Clone, Copy, Debug, PartialEq, Eq)]
 pub enum Resolution {
+    /// Microseconds: the file begins with the magic number A1B2C3D4.
     Microseconds,
+    /// Nanoseconds: the file begins with the magic number A1B23C4D.
     Nanoseconds,
 }
 
 /// How a file has its numbers and its times.
 #[derive(Clone, Copy, Debug, PartialEq, Eq)]
 pub struct Clock {
+    /// The order of the bytes of its numbers.
     pub order: Order,
+    /// The unit of the fractions of its times.
     pub resolution: Resolution,
 }
 
