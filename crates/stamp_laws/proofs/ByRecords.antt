@@ -1,4 +1,4 @@
--- Records that are taken for frames tell the silent ticks of a line.
+-- The first bytes of records tell the silent ticks of a line, if each record is taken for a frame.
 use Rattle.line_stamps.specs.Clock.{AllNext, ArePartedRecords, silent_ticks}
 use Rattle.{line_stamps.specs.Places.PlacedByte, rtu_frame.specs.Frame.is_frame}
 use Rattle.stamp_laws.proofs.{CutLines.AreTold, CutLines.Told, CutReads.is_whole_frame}
@@ -7,7 +7,7 @@ use Rattle.std.proofs.Common.{◌≡◌, ◌∙◌, ⊎_elim, sym, ap, List, [],
 use Rattle.std.proofs.Common.{le-leb, ◌&&◌, not, refl, filter, cond}
 use Rattle.std.proofs.lemmas.Bool.{cases_Bool, le-ltb, lt-leb}
 
--- inside a record there is no silence
+-- the second test, which never holds, as no silence is inside a record
 abbrev pub never : PlacedByte → PlacedByte → Bool
 never x y = false
 

@@ -21,8 +21,8 @@ body_of (x ∷ y ∷ more) = Byte x.byte ∷ (silent (silent_ticks x y) ++ body_
 abbrev pub burst_of : List PlacedByte → Burst
 burst_of xs = record { start = first_tick xs; body = body_of xs }
 
--- Two tests tell the silent ticks between two bytes: one whether there are four or more, and, where
--- there are fewer, the other whether there are two or more.
+-- Two tests tell the silent ticks between two bytes: the first whether there are four or more, and
+-- the second, if there are fewer, whether there are two or more.
 pub record AreTold (parted apart : PlacedByte → PlacedByte → Bool) (x y : PlacedByte) : Type 0 where
   pub later : x.spot.tick < y.spot.tick
   pub ends : parted x y ≡ nat_le 4 (silent_ticks x y)
@@ -48,7 +48,7 @@ module _ (parted apart : PlacedByte → PlacedByte → Bool) where
   abbrev pub Told : List PlacedByte → Type 0
   Told xs = AllNext (AreTold parted apart) xs
 
-  -- a byte before the next one, of a part that begins with it
+  -- A byte in front of bursts makes the bursts of the parts to which `join` adds it.
   before-part : (x y : PlacedByte) (ys : List PlacedByte) (more : List (List PlacedByte))
       → AreTold parted apart x y
       → with_byte 4 x.spot.tick x.byte (map burst_of ((y ∷ ys) ∷ more))
@@ -68,7 +68,7 @@ module _ (parted apart : PlacedByte → PlacedByte → Bool) where
       (sym parts))
       (cases_lt y.spot.tick (suc x.spot.tick + 4))
 
-  -- What holds of each part that begins with a byte holds of the parts that it was joined to.
+  -- What holds of all parts that begin with byte y holds of what `join` makes of y and any parts.
   with-first : (P : List (List PlacedByte) → Type 0) (y : PlacedByte)
       (parts : List (List PlacedByte))
       → ((ys : List PlacedByte) (more : List (List PlacedByte)) → P ((y ∷ ys) ∷ more))
@@ -99,8 +99,7 @@ module _ (parted apart : PlacedByte → PlacedByte → Bool) where
       ≡ map burst_of (join parted x parts)) y (cut_where parted ys)
       (λ zs more. before-part x y zs more told.0))
 
-  -- Inside each part the second test tells whether two silent ticks or more are between two
-  -- bytes.
+  -- Inside a part the second test tells whether two silent ticks or more are between two bytes.
   abbrev pub IsPart : List PlacedByte → Type 0
   IsPart xs = AllNext (λ x y. nat_lt 1 (silent_ticks x y) ≡ apart x y) xs
 

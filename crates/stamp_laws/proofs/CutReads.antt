@@ -1,4 +1,4 @@
--- What a device reads of the bursts of a line, by tests that tell its silent ticks.
+-- What a device reads of the bursts of a line, if two tests tell its silent ticks.
 use Rattle.device_model.specs.Frames.{FrameRead}
 use Rattle.device_model.specs.RtuReads.{has_silence, is_frame_body, is_read, frame_in, rtu_reads}
 use Rattle.line_stamps.specs.{Clock.silent_ticks, Places.PlacedByte, Places.ticks_from}
@@ -15,7 +15,8 @@ use Rattle.yasir_ticks.specs.Bursts.{Burst, bursts_from, end_of}
 use Rattle.yasir_ticks.specs.{BurstsOf.AreBursts, Ticks.silent, Ticks.bytes_in}
 use Rattle.yasir_ticks.specs.declared.tick.Tick.{Tick, TheVariants.Silent, TheVariants.Byte}
 
--- silence before a byte
+-- A list of ticks has two silent ones in a row exactly if it begins with two, or has them after its
+-- first byte.
 pause-before : (g b : ℕ) (l : List Tick)
     → has_silence 2 (silent g ++ (Byte b ∷ l)) ≡ nat_lt 1 g || has_silence 2 (Byte b ∷ l)
 unfolding has_silence
@@ -58,7 +59,7 @@ module _ (parted apart : PlacedByte → PlacedByte → Bool) where
       ap (λ w. x.byte ∷ w)
       (bytes_in-silent (silent_ticks x y) (body_of (y ∷ more)) ∙ bytes-are (y ∷ more))
 
-  -- nowhere in a part the second test holds, and its bytes are a frame
+  -- whether the second test holds nowhere in a part, and the part's bytes are a frame
   abbrev pub is_whole_frame : List PlacedByte → Bool
   is_whole_frame z = not (any_next apart z) && is_frame (bytes_of z)
 
@@ -90,7 +91,7 @@ ends-within n m l (d ∷ ds) long (gap, rest, is, begins, contiguous, far, more)
     (omega arith, ends-within (end_of d) m rest ds e more)
 
 module _ (parted apart : PlacedByte → PlacedByte → Bool) where
-  -- what is read of bursts that all end by tick m
+  -- What is read of bursts that all end by tick m, after four more ticks.
   read-each : (m n : ℕ) → m + 4 ≤ n → (zs : List (List PlacedByte)) → AreParts parted apart zs
       → AllEnd m (map burst_of zs)
       → map frame_in (filter (is_read 4 2 n) (map burst_of zs))

@@ -1,4 +1,4 @@
--- A device that takes no notice of silence hunts among the bytes of a capture.
+-- A device that ignores silence hunts for frames in the bytes of a capture.
 use Rattle.device_model.specs.Hunt.{Timed, timed}
 use Rattle.line_stamps.specs.{Giving.ByteAt, Giving.bytes_from, Giving.at_tick, Places.PlacedByte}
 use Rattle.stamp_laws.specs.HuntedBytes.{timed_byte}
@@ -30,7 +30,7 @@ timed-silence n k (Silent ∷ l) = timed-silence (suc n) k l
 timed-silence n k (Byte b ∷ l) =
     ap (λ x. (let t : Timed = record { tick = n; byte = b } in t) ∷ x) (timed-silence (suc n) k l)
 
--- the bytes of a line whose bytes are in the ticks of these
+-- The bytes of a line are those of the capture, if they are in the same ticks.
 pub hunted-line : (l : List Tick) (k : ℕ) (xs : List PlacedByte)
     → bytes_from 0 l ≡ map at_tick xs → timed 0 (l ++ silent k) ≡ map timed_byte xs
 hunted-line l k xs stand =

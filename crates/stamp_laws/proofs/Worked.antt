@@ -41,38 +41,38 @@ REQUEST = 0x01 ∷ 0x03 ∷ 0x00 ∷ 0x00 ∷ 0x00 ∷ 0x0A ∷ 0xC5 ∷ 0xCD �
 abbrev request : ℕ → List CaptureByte
 request time = begun time 0x01 (0x03 ∷ 0x00 ∷ 0x00 ∷ 0x00 ∷ 0x0A ∷ 0xC5 ∷ 0xCD ∷ [])
 
--- the same in two records, the second one at a time of its own
+-- the same request in two records, the second one at this time
 abbrev parts : ℕ → List CaptureByte
 parts time = begun 0 0x01 (0x03 ∷ 0x00 ∷ []) ++ begun time 0x00 (0x00 ∷ 0x0A ∷ 0xC5 ∷ 0xCD ∷ [])
 
--- The end of the capture ends a frame, and a silence of 3.5 characters does: the first request ends
+-- Both the end of the capture and a silence of 3.5 characters end a frame. The first request ends
 -- after 80 ms.
 rows-end : read (request 0 ++ request 115000) ≡ REQUEST ∷ REQUEST ∷ []
 unfolding is_frame has_right_ending ends_in_check crc byte_step bit_steps bit_step
 rows-end = refl
 
--- After less than that the two are one part, and no frame.
+-- If the silence is shorter, the two are one part, which isn't a frame.
 rows-no-end : read (request 0 ++ request 114999) ≡ []
 unfolding is_frame has_right_ending ends_in_check crc byte_step bit_steps bit_step
 rows-no-end = refl
 
--- Inside a frame 1.5 characters of silence may pass: the first part ends after 30 ms,
+-- A silence of 1.5 characters may be inside a frame. The first part ends after 30 ms.
 rows-inside : read (parts 45000) ≡ REQUEST ∷ []
 unfolding is_frame has_right_ending ends_in_check crc byte_step bit_steps bit_step
 rows-inside = refl
 
--- and no more.
+-- A silence of more than 1.5 characters inside a frame spoils it.
 rows-broken : read (parts 45001) ≡ []
 unfolding is_frame has_right_ending ends_in_check crc byte_step bit_steps bit_step
 rows-broken = refl
 
--- Records that are taken for frames are read where times say that they overlap,
+-- Records that are taken for frames are read even if their times overlap.
 rows-records : map bytes_of (records_that_are_frames (places ByRecord (request 0 ++ request 70000)))
     ≡ REQUEST ∷ REQUEST ∷ []
 unfolding is_frame has_right_ending ends_in_check crc byte_step bit_steps bit_step
 rows-records = refl
 
--- and a frame in two records isn't.
+-- A frame in two records isn't read if each record is taken for a frame.
 rows-parts : map bytes_of (records_that_are_frames (places ByRecord (parts 30000))) ≡ []
 unfolding is_frame has_right_ending ends_in_check crc byte_step bit_steps bit_step
 rows-parts = refl

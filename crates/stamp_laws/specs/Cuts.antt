@@ -23,6 +23,7 @@ module _ {A : Type 0} (test : A → A → Bool) where
   any_next (x ∷ []) = false
   any_next (x ∷ y ∷ more) = test x y || any_next (y ∷ more)
 
+-- the values of these bytes
 abbrev pub bytes_of : List PlacedByte → List ℕ
 bytes_of xs = map (λ x. x.byte) xs
 

@@ -17,19 +17,19 @@ ghost use Rattle.stamp_laws.specs.HuntedBytes.{timed_byte};
 ghost use Rattle.stamp_laws.specs.RecordFrames.{records_that_are_frames};
 ghost use Rattle.stamp_laws.specs.TimedFrames.{frames_by_time};
 
-/// A law of the definitions, for captures that are placed by their times: once four silent ticks or
-/// more have followed the line, the stated Modbus RTU device has read the same frames of it as a
-/// device that measures 1.5 and 3.5 characters of silence by time reads of the capture, each in the
-/// tick of its first byte, and no other.
+/// A law of the definitions, for captures that are placed by their times: after the line and four
+/// silent ticks or more, the stated Modbus RTU device has read the same frames of it as a device
+/// that measures 1.5 and 3.5 characters of silence by time reads of the capture, each in the tick
+/// of its first byte, and no other.
 pub fn times_tell_what_is_read()
     ensures { (t : Timing) (cs : List CaptureByte) (n : ℕ) → t.spacing ≡ ByTime → T3_5_TICKS ≤ n
         → rtu_reads (line_of t cs ++ silent n)
         ≡ map frame_of (frames_by_time (character t.rate) (placed t cs)) }
 {}
 
-/// A law of the definitions, for captures whose records are taken for frames: once four silent
-/// ticks or more have followed the line, the stated Modbus RTU device has read each record that is
-/// a frame, whatever its time, and nothing else.
+/// A law of the definitions, for captures whose records are taken for frames: after the line and
+/// four silent ticks or more, the stated Modbus RTU device has read each record that is a frame,
+/// whatever its time, and nothing else.
 pub fn records_tell_what_is_read()
     ensures { (t : Timing) (cs : List CaptureByte) (n : ℕ) → t.spacing ≡ ByRecord → T3_5_TICKS ≤ n
         → rtu_reads (line_of t cs ++ silent n)
