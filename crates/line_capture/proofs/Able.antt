@@ -1,4 +1,4 @@
--- What is right is done.
+-- Right input isn't refused.
 use Rattle.std.proofs.Common.{◌≡◌, ◌∙◌, ℕ, ◌≤◌, inl, inr, List, [], ◌∷◌, ◌++◌, length, true, Option}
 use Rattle.std.proofs.Common.{Some, refl, sym, ap, subst, arith, length-append, append_assoc}
 use Rattle.tick_drive.specs.{Input.max_bytes, declared.end.End.End}
@@ -34,7 +34,7 @@ use Rattle.line_capture.specs.declared.input.ReadEnd.TheVariants.{Whole, Failed,
 use Rattle.line_capture.specs.declared.outcome.Outcome.{Outcome, TheVariants.Ended}
 use Rattle.line_capture.specs.declared.{take.Taking.Taking, words.GiveForm.GiveForm}
 
--- Nothing was refused.
+-- an outcome without a refusal
 pub data EndsFree (outcome : Outcome) : Type 0 where
   done : outcome ≡ Ended statuses.Done → EndsFree outcome
   no_room_left : outcome ≡ Ended statuses.NoMemory → EndsFree outcome
@@ -84,7 +84,7 @@ module _ (format : Format) (sound : IsSound format) (taking : Taking) (file : Li
       no_error_inside e.items (Event e.error) first.0 (subst NoError first.1 right) e.wrong
   never_refused kept bad (at_end all e) = sound.lacking file e.taken.items bad items e.lacks is
 
-  -- all of it is kept
+  -- All of a right capture is kept.
   all_kept : (kept : Kept) (end : CaptureEnd) → Collects format taking true file kept end
       → (end ≡ ends.Whole) × HoldsItems taking.ways kept items
   all_kept kept ends.Whole collects =
@@ -107,7 +107,7 @@ module _ (format : Format) (sound : IsSound format) (taking : Taking) (file : Li
   module _ (a_whole : IsPlacedWhole (timing_of_items taking items) (way_bytes taking.ways way.A items))
       (b_whole : IsPlacedWhole (timing_of_items taking items) (way_bytes taking.ways way.B items))
       (before now : Held) (outcome : Outcome) where
-    -- and all of it is placed
+    -- All of a right capture is placed, so that nothing is refused.
     capture_done : (kept : Kept) (end : CaptureEnd) → Collects format taking true file kept end
         → WritesTaken taking kept Whole end before now outcome → EndsFree outcome
     capture_done kept end collects (failed fault part) = not_written fault
@@ -199,7 +199,7 @@ give_done form rate in_before in_now before now outcome (input_given input) able
     (subst (λ e. GivesRead form rate e able.file before now outcome) read.0
     (subst (λ l. GivesRead form rate input.read l before now outcome) (sym read.1) input.gives))
 
--- ---- how a run ends where nothing fails
+-- ---- how a run ends if nothing fails
 
 pub ends_well : (outcome : Outcome) (in0 in1 out0 out1 log0 log1 : ℕ) → EndsFree outcome
     → (outcome ≡ Ended statuses.ReadFault → Rose in0 in1)

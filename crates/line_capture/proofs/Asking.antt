@@ -12,7 +12,7 @@ word_at n [] = []
 word_at zero (word ∷ words) = word
 word_at (suc n) (word ∷ words) = word_at n words
 
--- None of these words asks for a capture to be taken.
+-- The three words don't name a form to take, a rate and ways.
 abbrev pub NoTake : List ℕ → List ℕ → List ℕ → Type 0
 NoTake form rate ways = (f : TakeForm) (r : Rate) (w : Ways)
     → form ≡ take_form_word f → rate ≡ rate_word r → ways ≡ ways_word w → ⊥

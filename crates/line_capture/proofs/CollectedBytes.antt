@@ -15,7 +15,7 @@ use Rattle.std.proofs.Common.{take, drop, get_or, suc, sym, ap, subst, append-ni
 use Rattle.std.proofs.{Common.append_assoc, Math.Seq.drop-cons}
 use Rattle.std.proofs.lemmas.List.{take-append-drop, take_more, length-take}
 
--- a list, around one of its items
+-- a list, divided at one of its items
 pub item_parts : {X : Type 0} (xs : List X) (i : ℕ) (d : X) → i < length xs
     → xs ≡ take i xs ++ get_or xs i d ∷ drop (suc i) xs
 item_parts xs i d within =

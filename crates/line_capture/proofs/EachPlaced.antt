@@ -1,4 +1,5 @@
--- Bytes of which none is refused are placed, on a line that isn't too long: none of them is late.
+-- If none of the bytes is early or overlaps the one before it, and their line isn't too long, all
+-- are placed: none is late.
 use Rattle.line_capture.specs.Able.{ArePlaced, IsPlacedWhole}
 use Rattle.line_stamps.proofs.Clocks.{character-some, spot-is, tick-near, tick-far, line-length}
 use Rattle.line_stamps.proofs.RoundingLaws.{rounded-some, apart-some, apart-least}
@@ -18,7 +19,8 @@ module _ (t : Timing) (by_time : t.spacing ≡ ByTime) where
   abbrev one : ℕ
   one = character t.rate
 
-  -- A byte starts little later than the time of two ticks for each of its own.
+  -- A byte starts at most two characters after the origin for each tick before its own, and half a
+  -- character more.
   abbrev IsNear : Spot → Type 0
   IsNear spot = 2 * spot.time ≤ 4 * (spot.tick * one) + one
 
@@ -26,14 +28,14 @@ module _ (t : Timing) (by_time : t.spacing ≡ ByTime) where
   IsNearIf None = Unit {0}
   IsNearIf (Some spot) = IsNear spot
 
-  -- two bytes that don't overlap
+  -- The starts of two bytes that don't overlap are half a character apart or more.
   apart-of : (before : Spot) (time : ℕ) → overlaps_at t.spacing (Some before) time one ≡ false
       → one ≤ 2 * (time - before.time)
   apart-of before time free =
       ltb-false (2 * (time - before.time)) one
       (subst (λ s. overlaps_at s (Some before) time one ≡ false) by_time free)
 
-  -- over plain numbers: a byte behind one that is near is so, too
+  -- A byte after one that is near is near too, over plain numbers.
   step-near : (before time tick time' tick' n : ℕ) → 0 < one → n ≡ ticks_apart (time' - time) one
       → one ≤ 2 * (time' - time) → 2 * time ≤ 4 * (tick * one) + one
       → tick' ≡ tick_at n tick time' one → 2 * time' ≤ 4 * (tick' * one) + one
@@ -65,7 +67,7 @@ module _ (t : Timing) (by_time : t.spacing ≡ ByTime) where
       (ticks_apart (start_of t (Some before) c - before.time) one) (character-some t) refl
       (apart-of before (start_of t (Some before) c) free) near (spot-is t by_time before c)
 
-  -- and none of them is late, on few ticks
+  -- A byte that is near, in a tick of a line that isn't too long, isn't late.
   not-late : (spot : Spot) → IsNear spot → spot.tick < max_ticks → is_late spot ≡ false
   not-late spot near few =
       let most : t.rate.bits ≤ 11 = t.rate.most_bits in

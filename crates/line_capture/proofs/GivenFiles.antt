@@ -91,7 +91,7 @@ right_split : (one : LineRecord) (more : List LineRecord) (w : Way)
 right_split one more A later a b = (a.0, later a.1 b)
 right_split one more B later a b = (b.0, later a b.1)
 
--- each record goes one of the two ways
+-- If the records of each way are right, all records are.
 pub right_both : (records : List LineRecord) → AreRight (of_way A records)
     → AreRight (of_way B records) → AreRight records
 right_both [] a b = tt
@@ -245,7 +245,7 @@ none_split : (one : LineRecord) (more : List LineRecord) (w : Way) → one.way �
 none_split one more A is later none = (is, later none)
 none_split one more B is later none = cc
 
--- a capture with no record of way B
+-- If no record goes way B, all go way A.
 pub none_of_b : (records : List LineRecord) → of_way B records ≡ [] → AreOfA records
 none_of_b [] none = tt
 none_of_b (one ∷ more) none = none_split one more one.way refl (none_of_b more) none

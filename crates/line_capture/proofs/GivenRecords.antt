@@ -1,4 +1,4 @@
--- The bytes of the records of a line give those of its ticks.
+-- The bytes of a line's records are given for the bytes of its ticks.
 use Rattle.line_capture.proofs.RecordBytes.{no_room}
 use Rattle.line_capture.specs.Records.{LineRecord, leading, records_from, records_of, most_further}
 use Rattle.line_stamps.specs.Giving.{ByteAt, bytes_from, tick_start, Gives, AreGiven}
@@ -9,7 +9,7 @@ use Rattle.std.proofs.Common.{true, false, Option, Some, None, refl, sym, ap, su
 use Rattle.std.specs.List.{flat_map}
 use Rattle.yasir_ticks.specs.declared.tick.Tick.{Tick, TheVariants.Silent, TheVariants.Byte}
 
--- the bytes of a record that starts then, the first of them the first one of it or not
+-- bytes of a record that starts then, and whether the first of these is the record's first byte
 abbrev pub record_bytes : ℕ → Way → Bool → List ℕ → List CaptureByte
 record_bytes start way first [] = []
 record_bytes start way first (byte ∷ bytes) =
@@ -23,7 +23,7 @@ module _ (rate : Rate) where
   abbrev pub bytes_of_records : List LineRecord → List CaptureByte
   bytes_of_records records = flat_map bytes_of_record records
 
-  -- a record that has room for more was begun, and its last byte is in the tick before
+  -- If there is room for more bytes, a record was begun, and its last byte is in the tick before.
   abbrev IsOpen : ℕ → Option ℕ → ℕ → Type 0
   IsOpen room before tick = 0 < room → (p : ℕ) × (before ≡ Some p) × (tick ≡ suc p)
 
@@ -78,7 +78,7 @@ module _ (rate : Rate) where
 
 -- ---- from a later tick on
 
--- the first byte is in this tick or behind it
+-- The first byte, if there is one, is in this tick or after it.
 abbrev pub BeginsBehind : ℕ → List ByteAt → Type 0
 BeginsBehind tick [] = Unit {0}
 BeginsBehind tick (x ∷ xs) = tick ≤ x.tick

@@ -81,7 +81,7 @@ few_ticks form file a b lines =
 
 -- ---- how a run ends
 
--- nothing fails to read what is in memory
+-- A text in memory is read without a fault.
 pub no_read_fault : (end : End) → IsReadCause 0 0 (is_read_fault end)
     → Ended (end_status end) ≡ Ended statuses.ReadFault → ⊥
 no_read_fault ends.Whole cause is = cc
@@ -90,7 +90,7 @@ no_read_fault (ends.TooLong what count) cause is = cc
 no_read_fault ends.ReadFault cause is = let h = cause.failed refl in absurd (omega arith)
 no_read_fault (ends.Stopped stop) cause is = cc
 
--- no sink was called
+-- The causes are right if no sink was called.
 pub quiet_end : (end : End) (out log : ℕ) → SinkCause out out log log (end_status end)
 quiet_end ends.Whole out log = (refl, refl)
 quiet_end (ends.Refused bad) out log = (refl, omega arith)

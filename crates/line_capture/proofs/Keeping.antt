@@ -11,14 +11,14 @@ use Rattle.line_capture.specs.declared.{collect.Kept.Kept, words.Ways.Ways}
 use Rattle.line_stamps.specs.declared.seen.{LineEvent.LineEvent, Seen.Seen}
 use Rattle.line_stamps.specs.declared.seen.Seen.TheVariants.{Byte, Event}
 
--- one item more, of those that are such
+-- One more item is counted if it passes the test.
 count_more : (such : Seen → Bool) (items : List Seen) (item : Seen)
     → count_of such (items ++ item ∷ []) ≡ count_of such items + cond (such item) 1 0
 count_more such [] item = omega arith
 count_more such (x ∷ items) item =
     let h = count_more such items item in omega (arith, h)
 
--- a count that stays at its last value, with one more or as it is
+-- a count that stops at 2^64 - 1, after one more item that passes the test or doesn't
 more_counted : (such : Seen → Bool) (items : List Seen) (item : Seen) (old new : ℕ)
     → such item ≡ true → old ≡ min (count_of such items) (2 ^ 64 - 1)
     → new ≡ min (old + 1) (2 ^ 64 - 1)
@@ -39,7 +39,7 @@ module _ (chosen : Ways) where
       → way_bytes chosen w (items ++ item ∷ []) ≡ way_bytes chosen w items ++ way_bytes chosen w (item ∷ [])
   way_more w items item = filter_map-append (byte_of chosen w) items (item ∷ [])
 
-  -- an item that is no byte of a way
+  -- An item that isn't a byte of a way doesn't change the bytes of the way.
   way_same : (w : _) (items : List Seen) (item : Seen) → byte_of chosen w item ≡ None
       → way_bytes chosen w (items ++ item ∷ []) ≡ way_bytes chosen w items
   way_same w items item none = way_more w items item
@@ -57,7 +57,7 @@ module _ (chosen : Ways) where
       alone : byte_of chosen w item ≡ Some c → way_bytes chosen w (item ∷ []) ≡ c ∷ []
       alone some = rw some refl
 
-  -- an event that changes the counts so
+  -- An event is taken by setting the counts to these values, if they are right with it.
   pub takes_event : (old : Kept) (e : LineEvent) (breaks lines : ℕ)
       → ((items : List Seen) → old.breaks ≡ min (count_of is_break items) (2 ^ 64 - 1)
       → breaks ≡ min (count_of is_break (items ++ Event e ∷ [])) (2 ^ 64 - 1))
@@ -83,7 +83,7 @@ pub event_passed : (such : Seen → Bool) (e : LineEvent) (old : ℕ) → such (
 event_passed such e old is items had = none_counted such items (Event e) old is had
 
 module _ (chosen : Ways) (old : Kept) (c : CaptureByte) where
-  -- a byte of a way that isn't taken
+  -- A byte of a way that isn't taken changes nothing of what is kept.
   pub passes_byte : takes chosen c.way ≡ false → TakesItem chosen old old (Byte c)
   passes_byte not = λ items had. record {
     a_is = had.a_is ∙ sym (way_same chosen way.A items (Byte c) (none way.A));
@@ -119,13 +119,13 @@ module _ (chosen : Ways) (old : Kept) (c : CaptureByte) where
         (lines ∙ had.lines_are);
   }
 
--- a right item more behind right ones
+-- Items without an error, and one more that isn't an error, have no error.
 pub right_more : (items : List Seen) (item : Seen) → NoError items → is_error item ≡ false
     → NoError (items ++ item ∷ [])
 right_more [] item right is = (is, tt)
 right_more (x ∷ items) item right is = (right.0, right_more items item right.1 is)
 
--- these bytes without the last one, where it is wrong
+-- If the last byte is wrong, `without_wrong` leaves the others.
 pub last_wrong : (wrong : CaptureByte → Bool) (bytes : List CaptureByte) (i : ℕ) (d : CaptureByte)
     → length bytes ≡ suc i → wrong (get_or bytes i d) ≡ true
     → take i bytes ≡ without_wrong wrong bytes
@@ -136,7 +136,7 @@ last_wrong wrong (x ∷ y ∷ bytes) zero d long is = absurd (omega arith)
 last_wrong wrong (x ∷ y ∷ bytes) (suc i) d long is =
     ap (λ l. x ∷ l) (last_wrong wrong (y ∷ bytes) i d (omega arith) is)
 
--- and where it isn't
+-- If the last byte isn't wrong, `without_wrong` leaves all bytes.
 pub last_right : (wrong : CaptureByte → Bool) (bytes : List CaptureByte) (i : ℕ) (d : CaptureByte)
     → length bytes ≡ suc i → wrong (get_or bytes i d) ≡ false
     → bytes ≡ without_wrong wrong bytes

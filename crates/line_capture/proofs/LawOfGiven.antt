@@ -26,7 +26,7 @@ use Rattle.line_capture.proofs.{SoundForms.sound_form, TakenAgain.run-again}
 use Rattle.line_capture.{proofs.TakenAgain.takeable-again, specs.Able.IsTakeable}
 use Rattle.tick_drive.specs.Input.{max_bytes}
 
--- the ticks of a part are ticks
+-- If all ticks of a text are right, so are those of a part.
 part_ticks : (n : ℕ) (items : List Item) → AreTicks (ticks_in items) → AreTicks (part n items)
 part_ticks n [] ticks = tt
 part_ticks zero (tick t ∷ items) ticks = (ticks.0, part_ticks zero items ticks.1)
@@ -54,7 +54,7 @@ module _ (form : GiveForm) (text : List ℕ) (a b : List Tick) (lines : AreLines
         (subst AreRight (sym are.a_are) (right_records A a ticks_a few.0))
         (subst AreRight (sym are.b_are) (right_records B b ticks_b few.1))
 
--- what is given of these lines is a capture of the records of them
+-- The file is a capture of the records of two lines, in the form in which it is taken.
 record IsCaptureOf (taken : TakeForm) (rate : Rate) (a b : List Tick) (file : List ℕ) : Type 0 where
   records : List LineRecord
   are : AreRecords a b records

@@ -14,7 +14,7 @@ front_none : (front rest : List ℕ) → [] ≡ front ++ rest → front ≡ []
 front_none [] rest is = refl
 front_none (x ∷ front) rest is = cc
 
--- nothing was written of no text
+-- Of an empty text nothing was written.
 pub got_nothing : (a b : Option (List ℕ)) → GotPrefix a b [] → b ≡ a
 got_nothing a b p =
     p.got ∙ ap (append_known a) (front_none p.front p.rest p.all) ∙ append_known-nil a

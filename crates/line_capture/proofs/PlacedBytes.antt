@@ -91,7 +91,7 @@ module _ {O L : Type 0} (o : Sink O) (l : Sink L) where
       sent_in_part plain line run run [] (no_notes line run) (waiting_in old.texts)
       (waiting_in new.texts) start (texts_held o l old) (texts_held o l new) sends e pushed.adds
 
-  -- the first of two runs failed
+  -- If adding the first of two runs failed, adding both failed.
   pub first_fails : (old new : Writing O L) (first then : List Tick) (e : Failed)
       → Pushes o l old new first [] (Err e) → PushesLine o l old new (first ++ then) (Err e)
   first_fails old new first then e pushed = record {
@@ -105,7 +105,7 @@ module _ {O L : Type 0} (o : Sink O) (l : Sink L) where
     writes = pushed.writes;
   }
 
-  -- the first of two runs went
+  -- If the first of two runs was added, the result for both is that of the second one.
   pub both_go : (old mid new : Writing O L) (first then : List Tick)
       (result : Result (Unit {0}) Failed) → Pushes o l old mid first [] (Ok tt)
       → Pushes o l mid new then [] result → PushesLine o l old new (first ++ then) result
@@ -129,7 +129,7 @@ module _ {O L : Type 0} (o : Sink O) (l : Sink L) where
 
   -- ---- the bytes so far
 
-  -- So many bytes of a way were placed, and their ticks were added.
+  -- The bytes of `front` were placed, and their ticks were added.
   pub record SoFar (t : Timing) (placer : Placer) (front : List CaptureByte)
       (old now : Writing O L) : Type 0 where
     pub timing : timing_of placer ≡ t

@@ -89,7 +89,7 @@ module _ (start old new : RecordTexts) (ticks : List Tick) (i : ℕ) (d : Tick)
 
 -- ---- how many bytes a record has
 
--- the bytes that come first, from this one on
+-- The first `count` ticks of a line are bytes, and `leading` goes on with what follows them.
 pub record Leads (line : List Tick) (most count : ℕ) : Type 0 where
   pub bytes : leading line most
       ≡ bytes_in (take count line) ++ leading (drop count line) (most - count)
@@ -126,7 +126,7 @@ leads_more line most count d b within room is had =
     length_more [] b = refl
     length_more (y ∷ x) b = let h = length_more x b in omega arith
 
--- the end of the bytes that come first, of a list or of what a record has
+-- If `leading` ends after `count` ticks, their bytes are all that it has.
 leads_end : (line : List Tick) (most count : ℕ) → leading (drop count line) (most - count) ≡ []
     → Leads line most count → bytes_in (take count line) ≡ leading line most
 leads_end line most count none had =
@@ -221,7 +221,7 @@ at_first old new way tick room line d b bytes within is none bytes_are adds =
 
 -- ---- a record
 
--- a form of records has packets, or lines
+-- A record of the form Pcap is a packet, and one of the form Text is a line.
 module _ (old new : RecordTexts) (way : Way) (tick start : ℕ) (bytes : List ℕ)
     (start_is : start ≡ tick_start old.rate 1 tick) where
   abbrev AddsRecord : Type 0
@@ -263,7 +263,7 @@ module _ (old new : RecordTexts) (way : Way) (tick start : ℕ) (bytes : List �
 
 -- ---- its start
 
--- a tick of a line that is taken starts early enough
+-- The start of each tick of a line that isn't too long fits into the time of a packet.
 pub start_fits : (rate : Rate) (tick : ℕ) → tick < max_ticks
     → tick_start rate 1 tick < 2 ^ 32 * 1000000000
 start_fits rate tick early =

@@ -137,7 +137,7 @@ module _ (form : RecordForm) (rate : Rate) where
       → records_text form rate (x ++ y) ≡ records_text form rate x ++ records_text form rate y
   texts-append x y = flat_map-append (record_text form rate) x y
 
-  -- one tick of the walk
+  -- the texts of the records that begin in one tick of the walk, and then those of the others
   walked-text : (n tick : ℕ) (a b : List Tick) (ra rb : ℕ)
       → records_text form rate (walked (suc n) tick a b ra rb)
       ≡ records_text form rate (begins A tick a ra) ++ (records_text form rate (begins B tick b rb)
@@ -194,7 +194,8 @@ module _ (form : RecordForm) (rate : Rate) where
     text_is = is;
   }
 
--- one tick of the walk, of what the calls say
+-- If the calls for one tick add its records, what is still to be added is the text of the ticks
+-- after it.
 pub next_texts : (form : RecordForm) (rate : Rate) (most tick : ℕ) (a b : List Tick)
     (ra rb ra' rb' : ℕ) (t0 t1 t2 : RecordTexts) (all : List ℕ) → tick < most → t0.form ≡ form
     → t0.rate ≡ rate → AddsAt t0 t1 A tick (drop tick a) ra ra'

@@ -1,4 +1,4 @@
--- A run that is given what is right.
+-- A run with a right input.
 use Rattle.line_capture.proofs.Able.{EndsFree, take_done, give_done, ends_well}
 use Rattle.line_capture.{proofs.SoundForms.sound_form, specs.Able.MayDo, specs.Able.EndsWell}
 use Rattle.line_capture.specs.Programs.{Outside, Does, Answers, IsCalm, RunCauses}
@@ -18,7 +18,7 @@ module _ {S O L : Type 0} (s : Source S) (o : Sink O) (l : Sink L) where
   does_free (Some (Give form rate)) before after outcome does able calm =
       give_done form rate _ _ _ _ outcome does able calm
 
-  -- the log may have got a fault line since
+  -- The run ends well, though the log may have got a fault line since.
   pub able_after : (words : List (List ℕ)) (before after : Outside S O L) (noted : L)
       (outcome : Outcome)
       → (answers : Answers s o l words before (record after { log = noted }) outcome)

@@ -33,7 +33,7 @@ use Rattle.line_capture.specs.declared.take.Taking.{Taking}
 
 -- ---- the outcome of what was read and placed
 
--- These outcomes come of a capture, and no others do.
+-- what is true of each outcome of what was read and placed
 record IsOfCapture (read : ReadEnd) (outcome : Outcome) : Type 0 where
   no_usage : outcome ≡ Ended statuses.Usage → ⊥
   no_write : is_write_fault outcome ≡ false
@@ -67,13 +67,13 @@ no_write_fault read end a b = (of_capture read end a b).no_write
 
 -- ---- the end of a run
 
--- the flushes on the way to Done
+-- A run that would be Done ends with Done after its flushes, or with WriteFault.
 pub flushed : (status : Status) → (status ≡ statuses.Done) ⊎ (status ≡ statuses.WriteFault)
     → HasOutcome (Ended statuses.Done) (Ended status)
 flushed status (inl done) = same (ap Ended done)
 flushed status (inr fault) = flush_failed refl (ap Ended fault)
 
--- no count rose
+-- If no count of faults rose, the causes are right for each outcome but WriteFault.
 pub calm : (out log : ℕ) (outcome : Outcome) → is_write_fault outcome ≡ false
     → SinkCause out out log log (status_in outcome)
 calm out log (Ended statuses.Done) none = (refl, refl)
@@ -82,14 +82,14 @@ calm out log (Ended status) none = (refl, omega arith)
 calm out log (BadCapture bad) none = (refl, omega arith)
 calm out log (outcomes.Unplaced w place why) none = (refl, omega arith)
 
--- behind calls that all went well
+-- If no earlier call had a fault, the causes of the later calls are those of all calls.
 pub sinks_then : (out0 out1 out2 log0 log1 log2 : ℕ) (status : Status) → out1 ≡ out0 → log1 ≡ log0
     → SinkCause out1 out2 log1 log2 status → SinkCause out0 out2 log0 log2 status
 sinks_then out0 out1 out2 log0 log1 log2 status out log h =
     subst (λ n. SinkCause n out2 log0 log2 status) out
     (subst (λ n. SinkCause out1 out2 n log2 status) log h)
 
--- the sinks' causes with a fault line that was written, or failed
+-- The causes stay right if a fault line is written afterwards, or its write fails.
 pub causes_after : (out0 out1 log0 log1 log2 : ℕ) (outcome : Outcome)
     → SinkCause out0 out1 log0 log1 (status_in outcome) → log1 ≤ log2
     → ((status : Status) → outcome ≡ Ended status → status_line status ≡ [] → log2 ≡ log1)
@@ -115,7 +115,7 @@ flushes_with_line o l out0 out1 log0 log1 log2 (BadCapture bad) h alike none =
 flushes_with_line o l out0 out1 log0 log1 log2 (outcomes.Unplaced w place why) h alike none =
     record { out = h.out; log = none ∙ h.log }
 
--- An outcome without a flush is any but Done.
+-- A run without a flush may end with any outcome but Done.
 pub none_at_end : {O L : Type 0} (o : Sink O) (l : Sink L) (out0 out1 : O) (log0 log1 : L)
     (outcome : Outcome) → (outcome ≡ Ended statuses.Done → ⊥)
     → NoneFlushed o l out0 out1 log0 log1 → FlushesAtEnd o l out0 out1 log0 log1 (status_in outcome)
@@ -152,7 +152,7 @@ module _ (taking : Taking) (k : Kept) (read : ReadEnd) (end : CaptureEnd) (befor
     log = all_got before.log now.log _ log;
   })
 
--- How a run ends once both lines have ended, from the clauses of the calls that end them.
+-- How a run ends after both lines have ended, from the clauses of the calls that end them.
 module _ (taking : Taking) (k : Kept) (read : ReadEnd) (end : CaptureEnd) (before now : Held)
     (t : Timing) (timing : t ≡ timing_for taking k) (a b : LineEnd) (out_now : Option (List ℕ))
     (lines : WrittenLines t taking.ways k before.out out_now a b)
@@ -189,7 +189,7 @@ module _ (taking : Taking) (k : Kept) (read : ReadEnd) (end : CaptureEnd) (befor
       ∙ ap (append_known before.log) (text_is ∙ items_are)) result
       (subst (λ o. HasOutcome o result) is has)
 
--- what was read was taken
+-- What was read was taken, if it was collected and written.
 pub takes_kept : (format : Format) (taking : Taking) (read : ReadEnd) (file xs : List ℕ)
     (whole : Bool) (k : Kept) (end : CaptureEnd) (before now : Held) (outcome : Outcome)
     → whole ≡ is_whole read → xs ≡ file → Collects format taking whole xs k end

@@ -1,4 +1,4 @@
--- What is refused is no capture, and a capture has no other items than its own.
+-- A file that is refused isn't a capture, and a capture has no other items than its own.
 use Rattle.byte_walk.specs.{Fields.before_field, Walks.walk}
 use Rattle.capture_pcap.proofs.Reading.{reads_pcap}
 use Rattle.capture_pcap.specs.{Pcap.IsCapture, PcapStep.step_at as pcap_step}
@@ -42,7 +42,7 @@ abbrev items_in : {P I F : Type 0} → List I → Result (P × List I) F → Lis
 items_in none (Ok came) = came.1
 items_in none (Err why) = none
 
--- what two walks over the same bytes come to
+-- Two walks over the same bytes have the same items.
 walks_alike : {P I F : Type 0} (x : Result (P × List I) F) (p q : P) (a b : List I)
     → x ≡ Ok (p, a) → x ≡ Ok (q, b) → a ≡ b
 walks_alike x p q a b first second = ap (items_in a) (sym first) ∙ ap (items_in a) second

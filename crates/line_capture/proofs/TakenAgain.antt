@@ -45,7 +45,7 @@ module _ (rate : Rate) where
   abbrev starts : ℕ → ℕ
   starts tick = tick_start rate 1 tick
 
-  -- the starts of ticks rise
+  -- A later tick doesn't start before an earlier one.
   starts-rise : (m n : ℕ) → m ≤ n → starts m ≤ starts n
   starts-rise m n le =
       let slow : 300 ≤ rate.baud = rate.slowest in
@@ -75,7 +75,7 @@ module _ (rate : Rate) where
       let f : starts (min m n) ≡ starts n = ap starts e in omega arith)
       (cases_lt m n)
 
-  -- the time of the first byte of either way is the start of the tick of the first byte
+  -- The time of the first byte of either way is the start of its tick.
   origin-is : (xs ys : List ByteAt) (cs ds : List CaptureByte) → AreGiven rate 1 0 None xs cs
       → AreGiven rate 1 0 None ys ds → origin_of cs ds ≡ 0 + starts (first_of xs ys)
   origin-is [] [] [] [] a b = let h = starts-none in omega arith
@@ -99,7 +99,7 @@ first-before-b xs [] = tt
 first-before-b [] (y ∷ ys) = omega arith
 first-before-b (x ∷ xs) (y ∷ ys) = omega arith
 
--- silence behind the last byte has no bytes
+-- Silence after a line adds no bytes.
 silence-behind : (n k : ℕ) (line : List Tick) → bytes_from n (line ++ silent k) ≡ bytes_from n line
 silence-behind n zero [] = refl
 silence-behind n (suc k) [] = silence-behind (suc n) k []
@@ -144,7 +144,7 @@ module _ (rate : Rate) (first : ℕ) (line : List Tick) (cs : List CaptureByte)
 
 -- ---- a run
 
--- A run that is done has read all, and placed all.
+-- what holds of a run that is done: all was read, and all was placed
 record IsAllDone (read : ReadEnd) (end : CaptureEnd) (a b : LineStop) : Type 0 where
   whole : read ≡ Whole
   no_refusal : (bad : BadCaptureOf) → end ≡ ends.Bad bad → ⊥
@@ -188,7 +188,7 @@ module _ (format : Format) (sound : IsSound format) (rate : Rate) (a b : List Ti
   abbrev items : List Seen
   items = map Byte (bytes_of_records rate records)
 
-  -- what a whole capture leaves
+  -- All items of a capture that isn't refused are kept.
   kept-items : (held : Kept) (end : CaptureEnd) → Collects format (both_ways rate) true file held end
       → ((bad : BadCaptureOf) → end ≡ ends.Bad bad → ⊥) → HoldsItems Both held items
   kept-items held ends.Whole collects right =
@@ -270,7 +270,7 @@ module _ (format : Format) (sound : IsSound format) (rate : Rate) (a b : List Ti
         (first-before-b (bytes_from 0 a) (bytes_from 0 b)) ways-b few_b);
   }
 
-  -- all bytes of a way are in front, if no more were to be placed
+  -- If no more bytes were left to place, all bytes of the way are in `front`.
   front-all : (cs front rest : List CaptureByte) (t : Timing) (stop : LineStop) → cs ≡ front ++ rest
       → StopsAt t front rest stop → stop ≡ stops.AllPlaced → cs ≡ front
   front-all cs front rest t stop parts at all =
@@ -312,7 +312,7 @@ module _ (format : Format) (sound : IsSound format) (rate : Rate) (a b : List Ti
         part held end collects (written all) = all-again held end read outcome done collects all
         part held end collects (failed fault some) = cc
 
-    -- a run that is done has read the file whole
+    -- A run that is done has read the whole file.
     read-whole : (read : ReadEnd) (bytes : List ℕ) (outcome : Outcome)
         → outcome ≡ Ended statuses.Done
         → TakesRead format (both_ways rate) read bytes before now outcome → read ≡ Whole

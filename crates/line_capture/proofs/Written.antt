@@ -12,7 +12,7 @@ use Rattle.yasir_io.proofs.OutputLemmas.{append_known-nil, append_known-twice}
 use Rattle.yasir_io.specs.{Causes.HasCause, Output.GotPrefix}
 use Rattle.yasir_ticks.specs.CanonicalText.{canonical_text}
 
--- ---- a text behind another one
+-- ---- a text after another one
 
 pub prefix_behind : (a b c : Option (List ℕ)) (x y : List ℕ) → b ≡ append_known a x
     → GotPrefix b c y → GotPrefix a c (x ++ y)
@@ -127,7 +127,7 @@ module _ (t : Timing) (ways : Ways) (kept : Kept) where
         (canonical_text (line_of t other.front)) line.text mark other.text;
   }
 
-  -- what was written whole was written in part
+  -- If whole lines were written, a front of them was.
   pub lines_front : (before now : Option (List ℕ)) (a b : LineEnd)
       → WrittenLines t ways kept before now a b → WrittenFront t ways kept before now
   lines_front before now a b lines = record {

@@ -66,5 +66,6 @@ MayDo (Some (Take form rate ways spacing)) input =
     IsTakeable (format_of form) (record { rate = rate; ways = ways; spacing = spacing }) input
 MayDo (Some (Give form rate)) input = IsGivable form input
 
+-- Holds if the run is done, or had no memory.
 abbrev pub EndsWell : Outcome → Type 0
 EndsWell outcome = (outcome ≡ Ended Done) ⊎ (outcome ≡ Ended NoMemory)

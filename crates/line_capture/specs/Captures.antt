@@ -28,6 +28,7 @@ takes ways.B way.A = false
 takes ways.B way.B = true
 takes ways.Both w = true
 
+-- whether two ways are the same
 abbrev pub is_way : Way → Way → Bool
 is_way way.A way.A = true
 is_way way.A way.B = false
@@ -48,10 +49,12 @@ abbrev pub is_error : Seen → Bool
 is_error (Byte c) = false
 is_error (Event e) = (e.event == 7) || (e.event == 8)
 
+-- whether an item is a break (9)
 abbrev pub is_break : Seen → Bool
 is_break (Byte c) = false
 is_break (Event e) = e.event == 9
 
+-- whether an item is a change of a control line (0)
 abbrev pub is_control_line : Seen → Bool
 is_control_line (Byte c) = false
 is_control_line (Event e) = e.event == 0
@@ -161,6 +164,8 @@ pub record IsTaken (format : Format) (chosen : Ways) (file : List ℕ) (kept : K
   pub holds : HoldsItems chosen kept items
   pub right : NoError items
 
+-- Holds if the refusal of a file is right, and this is what is kept of the file before it. The end
+-- of a file is refused only if the file is whole.
 pub data IsRefused (format : Format) (taking : Taking) (whole : Bool) (file : List ℕ) (kept : Kept)
     (bad : BadCapture) : Type 0 where
   at_byte : RefusesByte format taking.ways file kept bad

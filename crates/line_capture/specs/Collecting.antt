@@ -38,6 +38,7 @@ module _ {F : Type 0} (f : FormReader F) (taking : Taking) where
     pub wrong : is_error (Event error) ≡ true
     pub bad_is : bad ≡ ByteError (length file)
 
+  -- Holds if the byte after these bytes of a file is refused, or ends an event that is an error.
   pub data StopsNext (kept : Kept) (file : List ℕ) (b : ℕ) (bad : BadCapture) : Type 0 where
     refused : RefusesNext kept file b bad → StopsNext kept file b bad
     in_error : ErrorNext kept file b bad → StopsNext kept file b bad

@@ -55,6 +55,7 @@ LacksText file items (Pcap bad) = ⊥
 LacksText file items (Rows bad) = ⊥
 LacksText file items (ByteError offset) = ⊥
 
+-- text captures
 abbrev pub text_format : Format
 text_format = record {
   is = IsSeenText;
@@ -80,6 +81,7 @@ LacksPcap file items (Text bad) = ⊥
 LacksPcap file items (Rows bad) = ⊥
 LacksPcap file items (ByteError offset) = ⊥
 
+-- pcap and pcapng files of a serial line
 abbrev pub pcap_format : Format
 pcap_format = record {
   is = IsCapture;
@@ -106,6 +108,7 @@ module _ (row_at : Stage → List ℕ → Result Row RowFault) (name_of : List �
   LacksRows file items (Pcap bad) = ⊥
   LacksRows file items (ByteError offset) = ⊥
 
+  -- the exports of a logic analyser in rows of this form
   abbrev pub rows_format : Bool → Format
   rows_format follows = record {
     is = IsExport row_at name_of;
@@ -115,6 +118,7 @@ module _ (row_at : Stage → List ℕ → Result Row RowFault) (name_of : List �
     error_follows = follows;
   }
 
+-- the format of a form that is taken
 abbrev pub format_of : TakeForm → Format
 format_of take_forms.Pcap = pcap_format
 format_of take_forms.Text = text_format

@@ -33,6 +33,7 @@ has_mark_behind before [] = false
 has_mark_behind before (b ∷ text) =
     (before == line_feed && b == percent_sign) || has_mark_behind b text
 
+-- whether a `%` begins a line of the text
 abbrev pub has_mark : List ℕ → Bool
 has_mark text = has_mark_behind line_feed text
 
@@ -91,6 +92,7 @@ pub record RefusesLines (form : GiveForm) (file : List ℕ) (before now : Held) 
   pub same : now ≡ before
   pub outcome_is : outcome ≡ Ended (end_status end)
 
+-- Holds if the lines of the file were given, or the file isn't right, or there was no memory.
 pub data GivesFile (form : GiveForm) (rate : Rate) (file : List ℕ) (before now : Held)
     (outcome : Outcome) : Type 0 where
   no_memory : HasNoMemory before now outcome → GivesFile form rate file before now outcome
@@ -113,6 +115,7 @@ pub record GivesInput (form : GiveForm) (rate : Rate) (in_before in_now : Told)
   pub reads : IsRead in_before in_now file read
   pub gives : GivesRead form rate read file before now outcome
 
+-- Holds if what was read of the input was given, or there was no memory for it.
 pub data Gives (form : GiveForm) (rate : Rate) (in_before in_now : Told)
     (before now : Held) (outcome : Outcome) : Type 0 where
   no_memory : HasNoMemory before now outcome

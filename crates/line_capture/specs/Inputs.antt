@@ -31,6 +31,7 @@ pub record Told : Type 0 where
   pub left : Option (List ℕ)
   pub faults : ℕ
 
+-- an input that has this left, and of which this many reads have failed
 abbrev pub told : Option (List ℕ) → ℕ → Told
 told left faults = record { left = left; faults = faults }
 

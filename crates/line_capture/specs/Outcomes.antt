@@ -18,11 +18,13 @@ use Rattle.line_capture.specs.declared.outcome.Outcome.{Outcome}
 use Rattle.line_capture.specs.declared.outcome.Outcome.TheVariants as outcomes
 use Rattle.line_capture.specs.declared.outcome.Outcome.TheVariants.{Ended, BadCapture}
 
+-- the program's exit status
 abbrev pub exit_status_of : Outcome → ℕ
 exit_status_of (Ended status) = status_exit status
 exit_status_of (BadCapture bad) = 4
 exit_status_of (outcomes.Unplaced way place why) = 4
 
+-- the words for causes of refusals in fault lines
 abbrev pub text_word : TextFault → List ℕ
 text_word text.Char = codes "char"
 text_word text.Late = codes "late"

@@ -64,6 +64,7 @@ pub record WrittenPart (t : Timing) (cs : List CaptureByte) (before now : Option
   pub are : line_of t front ≡ ticks ++ later
   pub got : GotPrefix before now (canonical_text ticks)
 
+-- What a call that writes the line of a way leaves in the output, by its result.
 abbrev pub WritesLine : Timing → List CaptureByte → Option (List ℕ) → Option (List ℕ)
     → Result LineEnd Failed → Type 0
 WritesLine t cs before now (Ok end) = WrittenLine t cs before now end
@@ -137,6 +138,7 @@ module _ {O L : Type 0} (o : Sink O) (l : Sink L) where
     pub why : StopsAt t cs (c ∷ []) stop
     pub same : new ≡ old
 
+  -- What the next byte leads to, by the result for it: `AllPlaced` says that it was placed.
   abbrev pub PlacesNext : Placer → Placer → List CaptureByte → CaptureByte → Writing O L
       → Writing O L → Result LineStop Failed → Type 0
   PlacesNext placer placed cs c old new (Ok AllPlaced) = TakesOne placer placed cs c old new
@@ -168,6 +170,7 @@ module _ {O L : Type 0} (o : Sink O) (l : Sink L) where
         → SendsFront start (texts_held o l new) (line_of t front)
     pub writes : Writes o l old new (Err failed)
 
+  -- What a call that places the bytes of a way leads to, by its result.
   abbrev pub PlacesBytes : Timing → List CaptureByte → Writing O L → Writing O L
       → Result LineEnd Failed → Type 0
   PlacesBytes t cs old new (Ok end) = PlacesAll t cs old new end

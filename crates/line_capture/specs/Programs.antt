@@ -24,6 +24,7 @@ pub record Outside (S O L : Type 0) : Type 0 where
   pub out : O
   pub log : L
 
+-- this input and these sinks
 abbrev pub outside : {S O L : Type 0} → S → O → L → Outside S O L
 outside input out log = record { input = input; out = out; log = log }
 

@@ -24,6 +24,7 @@ room_behind (Silent ∷ line) room = 0
 room_behind (Byte b ∷ line) zero = most_further
 room_behind (Byte b ∷ line) (suc room) = room
 
+-- a list without its first tick
 abbrev pub rest_of : List Tick → List Tick
 rest_of [] = []
 rest_of (t ∷ line) = line

@@ -50,6 +50,7 @@ records_from way tick (Byte b ∷ line) (suc room) = records_from way (suc tick)
 abbrev pub records_of : Way → List Tick → List LineRecord
 records_of way line = records_from way 0 line 0
 
+-- where a record of this way is among those of one tick
 abbrev pub way_place : Way → ℕ
 way_place A = 0
 way_place B = 1
@@ -84,6 +85,7 @@ abbrev pub file_front : RecordForm → List ℕ
 file_front Pcap = FILE_HEADER
 file_front Text = []
 
+-- the texts of these records, one after the other
 abbrev pub records_text : RecordForm → Rate → List LineRecord → List ℕ
 records_text form rate records = flat_map (record_text form rate) records
 

@@ -30,6 +30,7 @@ first_of (x ∷ xs) [] = x.tick
 first_of [] (y ∷ ys) = y.tick
 first_of (x ∷ xs) (y ∷ ys) = min x.tick y.tick
 
+-- the tick of the first byte of either of two lines, or 0 if there is none
 abbrev pub first_tick : List Tick → List Tick → ℕ
 first_tick a b = first_of (bytes_from 0 a) (bytes_from 0 b)
 

@@ -101,6 +101,7 @@ pub record WrittenFront (t : Timing) (ways : Ways) (kept : Kept) (before now : O
   pub b_are : line_of t front_b ≡ b ++ later_b
   pub got : GotPrefix before now (lines_text ways a b)
 
+-- What a call that writes the lines of both ways leaves in the output, by its result.
 abbrev pub WritesLines : Timing → Ways → Kept → Option (List ℕ) → Option (List ℕ)
     → Result (LineEnd × LineEnd) Failed → Type 0
 WritesLines t ways kept before now (Ok ends) =
@@ -109,19 +110,23 @@ WritesLines t ways kept before now (Err failed) = WrittenFront t ways kept befor
 
 -- ---- how a run ends
 
+-- the outcome of a line of which this many bytes were placed, if it stopped before a byte
 abbrev pub stop_outcome : Way → ℕ → LineStop → Option Outcome
 stop_outcome w placed stops.AllPlaced = None
 stop_outcome w placed (stops.Unplaced why) = Some (outcomes.Unplaced w placed why)
 stop_outcome w placed (stops.TooLong count) = Some (Ended (statuses.TooLong Ticks count))
 
+-- the outcome of a line that stopped before a byte, or `None` if all its bytes were placed
 abbrev pub line_outcome : Way → LineEnd → Option Outcome
 line_outcome w end = stop_outcome w end.placed end.stop
 
+-- how a run ends if all that was read of its input was taken
 abbrev pub read_outcome : ReadEnd → Outcome
 read_outcome reads.Whole = Ended statuses.Done
 read_outcome reads.Failed = Ended statuses.ReadFault
 read_outcome reads.TooLong = Ended (statuses.TooLong Bytes (max_bytes + 1))
 
+-- the first outcome if there is one, and otherwise the second one
 abbrev pub or_else : Option Outcome → Outcome → Outcome
 or_else (Some outcome) other = outcome
 or_else None other = other
@@ -135,6 +140,7 @@ outcome_of read ends.Whole a b =
 outcome_of read ends.Open a b =
     or_else (line_outcome way.A a) (or_else (line_outcome way.B b) (read_outcome read))
 
+-- whether an input was read to its end
 abbrev pub is_whole : ReadEnd → Bool
 is_whole reads.Whole = true
 is_whole reads.Failed = false
@@ -162,6 +168,7 @@ pub record Held : Type 0 where
   pub out : Option (List ℕ)
   pub log : Option (List ℕ)
 
+-- sinks that hold these texts
 abbrev pub held : Option (List ℕ) → Option (List ℕ) → Held
 held out log = record { out = out; log = log }
 
@@ -188,6 +195,8 @@ pub record WritesPart (taking : Taking) (kept : Kept) (end : CaptureEnd) (before
   pub overlaps : ℕ
   pub log : GotPrefix before.log now.log (counts_line overlaps end kept)
 
+-- Holds if the lines and what was counted were written, or a front of them before a write or a
+-- flush failed.
 pub data WritesTaken (taking : Taking) (kept : Kept) (read : ReadEnd) (end : CaptureEnd)
     (before now : Held) (outcome : Outcome) : Type 0 where
   written : WritesAll taking kept read end before now outcome
@@ -210,6 +219,7 @@ pub record HasNoMemory (before now : Held) (outcome : Outcome) : Type 0 where
   pub outcome_is : outcome ≡ Ended statuses.NoMemory
   pub same : now ≡ before
 
+-- Holds if what is kept of the file was written, or there was no memory.
 pub data TakesRead (format : Format) (taking : Taking) (read : ReadEnd) (file : List ℕ)
     (before now : Held) (outcome : Outcome) : Type 0 where
   no_memory : HasNoMemory before now outcome
@@ -227,6 +237,7 @@ pub record TakesInput (format : Format) (taking : Taking) (in_before in_now : To
   pub reads : IsRead in_before in_now file read
   pub takes : TakesRead format taking read file before now outcome
 
+-- Holds if what was read of the input was taken, or there was no memory for it.
 pub data Takes (format : Format) (taking : Taking) (in_before in_now : Told)
     (before now : Held) (outcome : Outcome) : Type 0 where
   no_memory : HasNoMemory before now outcome
@@ -236,6 +247,7 @@ pub data Takes (format : Format) (taking : Taking) (in_before in_now : Told)
 
 -- ---- causes
 
+-- whether a run ended because a write or a flush failed
 abbrev pub is_write_fault : Outcome → Bool
 is_write_fault (Ended statuses.WriteFault) = true
 is_write_fault outcome = false

@@ -12,6 +12,7 @@ use Rattle.line_capture.specs.declared.words.TakeForm.TheVariants as take_forms
 use Rattle.line_capture.specs.declared.words.Ways.{Ways}
 use Rattle.line_capture.specs.declared.words.Ways.TheVariants.{A, B, Both}
 
+-- the words that name a form to take, a form to give, and the ways that are taken
 abbrev pub take_form_word : TakeForm → List ℕ
 take_form_word take_forms.Pcap = codes "pcap"
 take_form_word take_forms.Text = codes "text"

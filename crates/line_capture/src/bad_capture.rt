@@ -14,6 +14,6 @@ pub enum BadCapture {
     /// The input isn't an export of a logic analyser in rows of this form.
     Rows(BadRow),
     /// A byte of the line came with a framing or a parity error. `offset` bytes of the capture come
-    /// before the one that ends the error's record or row.
+    /// before the last one of the RTAC header, or of the row, that says so.
     ByteError { offset: u64 },
 }

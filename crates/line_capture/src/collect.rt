@@ -40,16 +40,22 @@ pub enum CaptureEnd {
 /// changes of control lines it has. A count stops at 2^64 - 1.
 #[derive(Drop)]
 pub struct Kept {
+    /// The bytes of way A, or none if it isn't taken.
     pub a: Vec<CaptureByte>,
+    /// The bytes of way B, or none if it isn't taken.
     pub b: Vec<CaptureByte>,
+    /// How many breaks there are.
     pub breaks: u64,
+    /// How many changes of control lines there are.
     pub control_lines: u64,
 }
 
 /// What was kept of a capture, and how it ended.
 #[derive(Drop)]
 pub struct Collected {
+    /// What was kept.
     pub kept: Kept,
+    /// How the capture ended.
     pub end: CaptureEnd,
 }
 

@@ -31,7 +31,9 @@ use yasir_ticks::Tick;
 /// How a capture is given.
 #[derive(Clone, Copy, Debug, PartialEq, Eq)]
 pub struct Giving {
+    /// The form of the capture.
     pub form: GiveForm,
+    /// The rate of its line.
     pub rate: Rate,
 }
 

@@ -27,7 +27,9 @@ pub enum ReadEnd {
 /// The bytes of an input, and how its reading ended.
 #[derive(Drop)]
 pub struct Input {
+    /// The bytes that were read.
     pub bytes: Vec<u8>,
+    /// How their reading ended.
     pub end: ReadEnd,
 }
 

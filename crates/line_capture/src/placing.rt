@@ -25,7 +25,7 @@ pub enum LineStop {
     AllPlaced,
     /// The next byte can't be placed.
     Unplaced(Unplaced),
-    /// With the next byte the line would have more ticks than are written: this many.
+    /// The line would have this many ticks with the next byte, more than are written.
     TooLong(u64),
 }
 
@@ -34,6 +34,7 @@ pub enum LineStop {
 pub struct LineEnd {
     /// How many bytes were placed.
     pub placed: u64,
+    /// Why no more were placed.
     pub stop: LineStop,
 }
 

@@ -114,13 +114,13 @@ pub fn run<S: Source, O: Sink, L: Sink>(
     ensures usage { (result ≡ Outcome.Ended Status.Usage)
         ↔ Asks (map string_bytes words.now) None }
 
-    // What was read and written, and the fault line after it. If the input is right, the run is
-    // done, unless something fails outside or there is no memory.
+    // What was read and written, and the fault line after it. If the input is right, the outcome is
+    // Done, unless something fails outside or there is no memory.
     ensures runs { Runs S.Source O.Sink L.Sink (map string_bytes words.now)
         (outside input.old out.old log.old) (outside input.new out.new log.new) result }
 
-    // The outcome is a fault of reading or writing only if a count of faults rose. If the run is
-    // done, no write has failed, and `out` was flushed and then the log.
+    // The outcome is a fault of reading or writing only if a count of faults rose. If it is Done,
+    // no write has failed, and `out` was flushed and then the log.
     ensures causes { RunCauses S.Source O.Sink L.Sink (outside input.old out.old log.old)
         (outside input.new out.new log.new) result }
 {

@@ -174,8 +174,9 @@ impl RecordTexts {
 }
 
 /// Returns the capture of two lines at a rate, the first of them of way A. It has a record for each
-/// run of at most 65,536 bytes, with the start of its first tick, in nanoseconds since tick 0.
-/// Records are in the order of their ticks, and of two in one tick that of way A comes first.
+/// run of bytes, or several if there are more than 65,536, and each record has the start of its
+/// first tick, in nanoseconds since tick 0. Records are in the order of their ticks, and of two in
+/// one tick that of way A comes first.
 pub fn recorded(
     alloc: Global,
     form: RecordForm,

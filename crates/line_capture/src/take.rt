@@ -36,8 +36,11 @@ const TOO_MANY_BYTES: u64 = 268_435_457;
 /// How a capture is taken.
 #[derive(Clone, Copy, Debug, PartialEq, Eq)]
 pub struct Taking {
+    /// The rate of the line.
     pub rate: Rate,
+    /// The ways that are taken.
     pub ways: Ways,
+    /// How the silence between records is found.
     pub spacing: Spacing,
 }
 
@@ -108,7 +111,7 @@ fn write_lines<O: Sink, L: Sink>(
     }
 }
 
-// Returns how a run ends because of where a line stopped, or `None` if all its bytes were placed.
+// Returns the outcome of a line that stopped before a byte, or `None` if all its bytes were placed.
 fn line_outcome(way: Way, end: LineEnd) -> Option<Outcome>
     ensures { result ≡ line_outcome way end }
 {

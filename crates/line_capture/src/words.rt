@@ -40,7 +40,9 @@ pub enum GiveForm {
 /// Which ways of a line are taken.
 #[derive(Clone, Copy, Debug, PartialEq, Eq)]
 pub enum Ways {
+    /// Way A only.
     A,
+    /// Way B only.
     B,
     /// Both, way A first, with a mark between them.
     Both,

@@ -1,7 +1,7 @@
 use Rattle.{line_capture.specs.Collecting.Collecting, std.proofs.Common.◌≡◌, std.proofs.Common.take}
 use Rattle.line_capture.proofs.collect.collect.Given as goal
 
--- the bytes so far were read, and what they are is kept
+-- the bytes so far were read, and their items are kept
 abbrev pub invariant-loop-b : goal.invariant-loop-b
 invariant-loop-b g l = record {
   count : l.place ≡ l.b-index;
