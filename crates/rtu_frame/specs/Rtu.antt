@@ -1,4 +1,4 @@
--- What a value of the rules of Modbus RTU stands for.
+-- Which bytes a value of the rules of Modbus RTU represents.
 use Rattle.std.specs.Prelude.{◌≡◌, ℕ, ◌≤◌, ◌==◌, nat_le, Bool, List, length}
 use Rattle.std.proofs.Common.{arith, ◌∙◌, sym, ⊎_elim}
 use Rattle.std.proofs.lemmas.Bool.{cases_lt, le-leb, lt-leb, eq-eqb, ne_eqb}
@@ -6,7 +6,8 @@ use Rattle.line_rules.specs.Bytes.{AreBytes}
 use Rattle.rtu_frame.specs.Crc.{crc_rtu}
 use Rattle.rtu_frame.specs.declared.rtu.Rtu.{Rtu}
 
--- It keeps how many bytes there are, and their CRC.
+-- Holds if `value` keeps the number of the bytes `x`, of which there are at most 256, and their
+-- CRC.
 pub record RtuStandsFor (value : Rtu) (x : List ℕ) : Type 0 where
   pub count : value.len ≡ length x
   pub check : value.register ≡ crc_rtu x
@@ -16,7 +17,7 @@ pub record RtuStandsFor (value : Rtu) (x : List ℕ) : Type 0 where
 abbrev pub is_full_rtu : Rtu → Bool
 is_full_rtu value = nat_le 256 value.len
 
--- the room is full where the value says so
+-- the value says that its room is full exactly if there are 256 bytes
 pub rtu_fullness : (value : Rtu) (x : List ℕ) → RtuStandsFor value x
     → is_full_rtu value ≡ (length x == 256)
 rtu_fullness value x stands =

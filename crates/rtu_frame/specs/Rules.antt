@@ -15,7 +15,7 @@ use Rattle.rtu_frame.specs.Frame.{is_frame, has_right_ending}
 abbrev pub rtu_rules : Rules
 rtu_rules = headerless 1 256 is_frame has_right_ending
 
--- the length of a frame
+-- a frame has 4 to 256 bytes
 is_frame-length : (frame : List ℕ) → is_frame frame ≡ true
     → (4 ≤ length frame) × (length frame ≤ 256)
 unfolding is_frame
@@ -24,13 +24,13 @@ is_frame-length frame framed =
     let lengths = and_parts _ _ ends.0 in
     (leb-true 4 (length frame) lengths.0, leb-true (length frame) 256 lengths.1)
 
--- no frame has a wrong ending
+-- bytes with a wrong ending are no frame
 is_frame-wrong : (x : List ℕ) → has_right_ending x ≡ false → is_frame x ≡ false
 unfolding is_frame
 is_frame-wrong x wrong =
     and_right (nat_le 4 (length x) && nat_le (length x) 256) (has_right_ending x) wrong
 
--- the last byte of a right ending can't be another one
+-- a right ending whose last byte has its lowest bit turned is no right ending any more
 has_right_ending-turned : (h : List ℕ) (c : ℕ) → has_right_ending (h ++ c ∷ []) ≡ true
     → has_right_ending (h ++ bit_xor c 1 ∷ []) ≡ false
 unfolding has_right_ending

@@ -9,12 +9,12 @@ use arrayvec::ArrayVec;
 /// The bytes of a Modbus RTU frame.
 pub type RtuBytes = ArrayVec<u8, 256>;
 
-/// There is no room for the two bytes of a CRC.
+/// The error of `close`: there is no room for the two bytes of a CRC.
 #[derive(Clone, Copy, Debug, PartialEq, Eq)]
 pub struct NoRoom;
 
 /// Makes a frame of its address, its function and its data: appends their CRC, low byte first.
-/// `NoRoom` where there are more than 254 bytes; then nothing changes.
+/// Returns `NoRoom` if there are more than 254 bytes, and changes nothing then.
 pub fn close(bytes: &mut RtuBytes) -> Result<(), NoRoom>
     ensures closed { OnOk result (bytes.new.items
         ≡ bytes.old.items ++ low_first (crc_rtu bytes.old.items)) }

@@ -1,6 +1,6 @@
 //! Frames of Modbus RTU and their check.
 //!
-//! A request is closed by its CRC, and is a frame then:
+//! A request becomes a frame when its CRC is appended:
 //!
 //!     let mut request = RtuBytes::new();
 //!     request.try_extend_from_slice(&[0x01, 0x03, 0x00, 0x00, 0x00, 0x0a])?;
@@ -36,7 +36,7 @@ mod tests {
         assert!(rt; is_frame(b"\x01\x03\x40\x21"));
         assert!(rt; !is_frame(b"\x01\x03\x00\x00\x00\x0A\xC5\xCC"));
 
-        // right endings of bytes too few for a frame
+        // right endings of bytes that are too few for a frame
         assert!(rt; has_right_ending(b"\x01\x7E\x80") && !is_frame(b"\x01\x7E\x80"));
         assert!(rt; has_right_ending(b"\xFF\xFF"));
         assert!(rt; !has_right_ending(b"\xFF") && !has_right_ending(b""));
@@ -49,7 +49,7 @@ mod tests {
         assert!(rt; close(&mut bytes).is_ok());
         assert_eq!(rt; bytes.as_slice(), b"\x01\x03\x40\x21".as_slice());
 
-        // with 255 bytes there is room for one more alone
+        // with 255 bytes there is room for only one more
         assert!(rt; bytes.try_extend_from_slice(&[0; 251]).is_ok());
         assert_eq!(rt; close(&mut bytes), Err(NoRoom));
         assert_eq!(rt; bytes.len(), 255);
@@ -88,7 +88,7 @@ mod tests {
         assert_eq!(rt; judged::<Rtu>(&[0; 257]), (256, true, false, Head::Good, 0));
     }
 
-    // What is sent for a last byte after these bytes, where all are to be no frame.
+    // What is sent for a last byte after these bytes, if together they must not be a frame.
     fn spoiled_after<R: LineRules>(bytes: &[u8], last: u8) -> Option<u8> {
         let mut rules = R::fresh();
         for byte in bytes {
@@ -105,7 +105,8 @@ mod tests {
 
     #[test]
     fn spoiled_bytes(rt: HostRuntime) {
-        // the last byte of a right ending has its lowest bit turned, and any other stays
+        // if the ending would be right, the lowest bit of the last byte is turned; any other byte
+        // stays
         assert_eq!(rt;
             spoiled_after::<Rtu>(b"\x01\x03\x00\x00\x00\x0A\xC5", 0xCD),
             Some(0xCC)
@@ -131,7 +132,7 @@ mod tests {
         assert_eq!(rt; rules.take_some(b"\x00"), 0);
     }
 
-    // A byte of a run that looks random.
+    // One of the bytes of a run that looks random.
     fn byte_at(seed: u32, place: u32) -> u8 {
         let mixed = (seed ^ place.wrapping_mul(0x9E37_79B9)).wrapping_mul(0x85EB_CA6B);
         (mixed >> 24) as u8
@@ -145,7 +146,7 @@ mod tests {
         (rules.len(), rules.full(), rules.good())
     }
 
-    // Each body closed with its CRC by single bits, at every cut.
+    // A body of each length, with its CRC, is a frame in whichever two runs it is taken.
     #[test]
     fn runs_of_every_length(rt: HostRuntime) -> Result<(), Fail> {
         for len in 2..200u32 {
@@ -164,7 +165,7 @@ mod tests {
         Ok(())
     }
 
-    // A value keeps none of its bytes, and no table.
+    // A value holds neither its bytes nor a table.
     #[test]
     fn small_values(rt: HostRuntime) {
         assert!(rt; std::mem::size_of::<Rtu>() <= 128);

@@ -6,7 +6,7 @@ use line_rules::{Head, LineRules};
 const SHORTEST: u16 = 4;
 
 /// The bytes of a burst so far, as the rules of Modbus RTU see them: how many there are, and their
-/// CRC. A frame ends in the CRC of what comes before it, so that the CRC of the whole is 0.
+/// CRC. A frame ends in the CRC of what comes before, and so the CRC of the whole frame is 0.
 #[derive(Drop)]
 pub struct Rtu {
     len: u16,

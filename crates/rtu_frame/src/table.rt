@@ -1,4 +1,4 @@
-//! The CRC by tables: up to eighteen bytes at a time, and a byte alone.
+//! The CRC by tables: up to eighteen bytes at a time, or a single byte.
 ghost use Rattle.std.specs.Prelude.{◌≡◌};
 ghost use Rattle.line_rules.specs.Crc.{byte_step, crc};
 ghost use Rattle.rtu_frame.specs.Crc.{crc_rtu};
@@ -6,7 +6,7 @@ ghost use Rattle.rtu_frame.specs.Crc.{crc_rtu};
 use crate::crc::{FIRST_REGISTER, POLYNOMIAL};
 use line_rules::{CrcTables, crc_by_tables, step_by_table};
 
-/// The register that these bytes leave of `register`.
+/// Returns the register after these bytes, if it was `register` before them.
 #[inline]
 pub(crate) fn after_bytes(register: u16, bytes: &[u8]) -> u16
     ensures { result ≡ crc POLYNOMIAL register bytes.now }
@@ -14,14 +14,14 @@ pub(crate) fn after_bytes(register: u16, bytes: &[u8]) -> u16
     crc_by_tables::<POLYNOMIAL>(&TABLES, register, bytes)
 }
 
-/// What `crc16` is of these bytes, by the tables.
+/// Computes what `crc16` returns for these bytes, by the tables.
 pub(crate) fn crc16_by_tables(bytes: &[u8]) -> u16
     ensures { result ≡ crc_rtu bytes.now }
 {
     after_bytes(FIRST_REGISTER, bytes)
 }
 
-/// The register that this byte leaves of `register`.
+/// Returns the register after this byte, if it was `register` before it.
 #[inline]
 pub(crate) fn after_byte(register: u16, byte: u8) -> u16
     ensures { result ≡ byte_step POLYNOMIAL register byte }
@@ -29,7 +29,7 @@ pub(crate) fn after_byte(register: u16, byte: u8) -> u16
     step_by_table::<POLYNOMIAL>(&TABLES, register, byte)
 }
 
-// What the shifts of one to eighteen bytes make of each byte.
+// Table `n` holds, for each byte, what the shifts of `n + 1` bytes make of it (`AreCrcTables`).
 static TABLES: CrcTables = [
     [
         0x0000, 0xC0C1, 0xC181, 0x0140, 0xC301, 0x03C0, 0x0280, 0xC241, 0xC601, 0x06C0, 0x0780,
