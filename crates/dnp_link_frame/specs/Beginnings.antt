@@ -1,5 +1,5 @@
--- How many bytes of a list are right, from the first on: as a part with its CRC, as the blocks of
--- user data, as a frame.
+-- How many bytes at the beginning of a list are right: as a part with its CRC, as the blocks of
+-- user data, or as a frame.
 use Rattle.std.specs.Prelude.{ℕ, zero, suc, ◌+◌, ◌-◌, ◌*◌, ◌/◌, ◌%◌, ◌==◌, ◌&&◌, nat_le, nat_lt}
 use Rattle.std.specs.Prelude.{List, [], ◌++◌, length, take, drop, get_or, min}
 use Rattle.std.specs.Prelude.{if◌then◌else◌}
@@ -8,14 +8,14 @@ use Rattle.dnp_link_frame.specs.Frame.{blocks_for}
 use Rattle.dnp_link_frame.specs.Blocks.{length_byte, user_len_by}
 use Rattle.dnp_link_frame.specs.declared.header.Header.{Header}
 
--- of 05 64 and a LEN of at least 5
+-- how many of the first three bytes are right, as 05 64 and a LEN of at least 5
 unfoldable pub right_in_start : List ℕ → ℕ
 right_in_start x =
     if get_or x 0 0 == 0x05 then
     (if get_or x 1 0 == 0x64 then (if nat_le 5 (length_byte x) then 3 else 2) else 1)
     else 0
 
--- of this many bytes of any sort and their CRC
+-- how many of the first bytes are right, as `n` bytes of any value and then their CRC
 unfoldable pub right_in_part : ℕ → List ℕ → ℕ
 right_in_part n x =
     if nat_le (length x) n then length x
@@ -24,7 +24,8 @@ right_in_part n x =
     then n + 2 else n + 1)
     else n
 
--- of this many blocks, in which are this many bytes of user data
+-- how many of the first bytes are right, as `n` blocks with `user_len` bytes of user data and a CRC
+-- for each block
 unfoldable pub right_in_blocks : ℕ → ℕ → List ℕ → ℕ
 right_in_blocks zero user_len x = 0
 right_in_blocks (suc n) user_len x =
@@ -32,7 +33,7 @@ right_in_blocks (suc n) user_len x =
     then min 16 user_len + 2 + right_in_blocks n (user_len - 16) (drop 18 x)
     else right_in_part (min 16 user_len) x
 
--- of a frame
+-- how many of the first bytes are right, as a frame
 unfoldable pub right_in_frame : List ℕ → ℕ
 right_in_frame x =
     if nat_lt (right_in_start x) 3 then right_in_start x
@@ -41,7 +42,7 @@ right_in_frame x =
     (user_len_by (length_byte x)) (drop 10 x)
     else right_in_part 8 x
 
--- what the first bytes of each of this many blocks are, without their CRC
+-- the user data of `n` blocks: each block of up to 18 bytes without its CRC
 unfoldable pub user_in_blocks : ℕ → List ℕ → List ℕ
 user_in_blocks zero x = []
 user_in_blocks (suc n) x = take (min 18 (length x) - 2) x ++ user_in_blocks n (drop 18 x)

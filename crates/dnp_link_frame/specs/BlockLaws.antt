@@ -1,4 +1,4 @@
--- Laws of sizes and blocks on which the rules of a line rest.
+-- Laws of sizes and blocks that the rules of a line need.
 use Rattle.std.specs.Prelude.{◌≡◌, ℕ, zero, suc, ◌+◌, ◌-◌, ◌*◌, ◌/◌, ◌<◌, ◌≤◌, ◌==◌, ◌&&◌}
 use Rattle.std.specs.Prelude.{nat_le, Bool, true, false, List, ◌++◌, length, take}
 use Rattle.std.specs.Prelude.{drop, get_or, refl}
@@ -40,12 +40,12 @@ room_by-most len byte =
 
 -- ---- the third byte
 
--- it stays where more bytes follow
+-- LEN doesn't change when more bytes follow
 pub length_byte-append : (x more : List ℕ) → 3 ≤ length x
     → length_byte (x ++ more) ≡ length_byte x
 length_byte-append x more there = get_or_append_left x more 0 2 there
 
--- it isn't there yet
+-- LEN counts as 0 while there are fewer than three bytes
 pub length_byte-none : (x : List ℕ) → length x ≤ 2 → length_byte x ≡ 0
 length_byte-none x short = get_or_past x 2 0 short
 
@@ -83,7 +83,7 @@ and_assoc : (a b c : Bool) → ((a && b) && c) ≡ (a && (b && c))
 and_assoc true b c = refl
 and_assoc false b c = refl
 
--- one more block at the end
+-- one more block, at the end
 pub end_in_crcs-last : (n : ℕ) (x : List ℕ)
     → end_in_crcs (suc n) x ≡ (end_in_crcs n x && ends_in_crc (take 18 (drop (18 * n) x)))
 end_in_crcs-last zero x =
@@ -101,7 +101,7 @@ end_in_crcs-last (suc n) x =
     ∙ (sym (and_assoc (ends_in_crc (take 18 x)) (end_in_crcs n (drop 18 x)) _)
     ∙ ap (λ b. b && ends_in_crc (take 18 (drop (18 * suc n) x))) (sym (end_in_crcs-next n x))))
 
--- what follows this many whole blocks doesn't matter
+-- what follows `n` whole blocks doesn't change whether these end in their CRCs
 pub end_in_crcs-append : (n : ℕ) (x more : List ℕ) → 18 * n ≤ length x
     → end_in_crcs n (x ++ more) ≡ end_in_crcs n x
 end_in_crcs-append zero x more whole =
@@ -126,11 +126,11 @@ pub block_start-user : (n : ℕ) → 10 < n → block_start n ≡ 10 + 18 * ((n 
 unfolding block_start
 block_start-user n user = cond-false (nat_le n 10) _ _ (lt-leb n 10 user)
 
--- of at most ten bytes, all
+-- up to ten bytes are one block, the header
 pub running_block-header : (x : List ℕ) → length x ≤ 10 → running_block x ≡ x
 running_block-header x header = ap (λ k. drop k x) (block_start-header (length x) header)
 
--- behind the header, the last of as many blocks as have begun
+-- after the header, the block of the last byte is the last of the blocks that have begun
 pub running_block-user : (x : List ℕ) (n : ℕ) → 10 < length x → n ≡ (length x - 11) / 18
     → take 18 (drop (18 * n) (drop 10 x)) ≡ running_block x
 running_block-user x n user is =
@@ -142,7 +142,7 @@ running_block-user x n user is =
 
 -- ---- frames
 
--- the parts of a frame
+-- what `is_frame` asks for, part by part
 pub record Framed (x : List ℕ) : Type 0 where
   pub header_is_good : is_good_header (take 10 x) ≡ true
   pub size_is : length x ≡ size_by (length_byte x)
@@ -165,7 +165,7 @@ is_frame-from x framed =
     and_from _ _ (and_from _ _ framed.header_is_good (eq-eqb _ _ framed.size_is))
     framed.blocks_are_right
 
--- the LEN of bytes that begin with a good header
+-- bytes that begin with a good header are at least ten, and have a LEN of at least 5
 pub length_byte-good : (x : List ℕ) → is_good_header (take 10 x) ≡ true
     → (10 ≤ length x) × (5 ≤ length_byte x)
 length_byte-good x good =
@@ -175,18 +175,18 @@ length_byte-good x good =
     let same : length_byte (take 10 x) ≡ length_byte x = get_or-take 10 x 2 0 (omega arith) in
     (omega (arith, length-take 10 x), omega arith)
 
--- a frame without user data is a header,
+-- a frame without user data is a header, and ends in its CRC
 is_frame-header : (x : List ℕ) → Framed x → length x ≤ 10 → ends_in_crc (running_block x) ≡ true
 is_frame-header x framed header =
     ap ends_in_crc (running_block-header x header ∙ sym (take_all 10 x header))
     ∙ (is_good_header-begins (take 10 x) framed.header_is_good).2
 
--- and one with user data has this many blocks,
+-- how many blocks a frame with user data has, by its size
 pub blocks_for-last : (len : ℕ) → 10 < size_by len
     → blocks_for (user_len_by len) ≡ suc ((size_by len - 11) / 18)
 blocks_for-last len user = omega arith
 
--- the last of which ends in its CRC
+-- a frame with user data ends in the CRC of its last block
 is_frame-user : (x : List ℕ) → Framed x → 10 < length x → ends_in_crc (running_block x) ≡ true
 is_frame-user x framed user =
     let size : length x ≡ size_by (length_byte x) = framed.size_is in
@@ -199,7 +199,7 @@ is_frame-user x framed user =
     (sym (end_in_crcs-last ((length x - 11) / 18) (drop 10 x))
     ∙ (ap (λ n. end_in_crcs n (drop 10 x)) (sym blocks) ∙ framed.blocks_are_right))).1
 
--- so a frame has a right ending
+-- a frame has a right ending
 pub is_frame-ending : (x : List ℕ) → is_frame x ≡ true → has_right_ending x ≡ true
 unfolding has_right_ending
 is_frame-ending x decided =

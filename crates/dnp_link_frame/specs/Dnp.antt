@@ -1,4 +1,4 @@
--- What a value of the rules of the DNP3 link layer stands for.
+-- Which bytes a value of the rules of the DNP3 link layer represents.
 use Rattle.std.specs.Prelude.{◌≡◌, ℕ, ◌+◌, ◌-◌, ◌/◌, ◌≤◌, ◌==◌, ◌&&◌, ◌||◌, nat_le, nat_lt}
 use Rattle.std.specs.Prelude.{Bool, List, ◌++◌, length, take, drop}
 use Rattle.std.proofs.Common.{arith, ◌∙◌, sym, ⊎_elim}
@@ -10,17 +10,17 @@ use Rattle.dnp_link_frame.specs.Blocks.{end_in_crcs, running_block}
 use Rattle.dnp_link_frame.specs.Steps.{left_in_block}
 use Rattle.dnp_link_frame.specs.declared.dnp.Dnp.{Dnp}
 
--- the header is right as far as it is there
+-- whether the header is right as far as it is there
 unfoldable pub header_so_far : List ℕ → Bool
 header_so_far x = begins_right x && (nat_lt (length x) 10 || ends_in_crc (take 10 x))
 
--- the blocks of user data behind which another byte came end in their CRC
+-- whether each block of user data after which another byte came ends in its CRC
 abbrev pub blocks_so_far : List ℕ → Bool
 blocks_so_far x = end_in_crcs ((length x - 11) / 18) (drop 10 x)
 
--- It keeps how many bytes there are, LEN, the room, what the block of the last byte lacks, its
--- register, whether the header is right as far as it is there, and whether each finished block of
--- user data is.
+-- Holds if `value` keeps, of the bytes `x`: how many there are, LEN, the room, what the block of
+-- the last byte lacks and its register, whether the header is right as far as it is there, and
+-- whether each block of user data before that of the last byte is.
 pub record DnpStandsFor (value : Dnp) (x : List ℕ) : Type 0 where
   pub count : value.len ≡ length x
   pub tells : value.len_byte ≡ length_byte x
@@ -32,7 +32,7 @@ pub record DnpStandsFor (value : Dnp) (x : List ℕ) : Type 0 where
   pub short : length x ≤ room_of x
   pub bytes : AreBytes x
 
--- The new value stands for what the old one does and these bytes, and the room is the same.
+-- Holds if `new` represents the bytes that `old` does, followed by `run`, and has the same room.
 pub record Appends (old new : Dnp) (run : List ℕ) : Type 0 where
   pub stands : (x : List ℕ) → DnpStandsFor old x → DnpStandsFor new (x ++ run)
   pub count : new.len ≡ old.len + length run
@@ -41,7 +41,7 @@ pub record Appends (old new : Dnp) (run : List ℕ) : Type 0 where
 abbrev pub is_full_dnp : Dnp → Bool
 is_full_dnp value = nat_le value.room value.len
 
--- the room is full where the value says so
+-- the value says that its room is full exactly if there are as many bytes as have room
 pub dnp_fullness : (value : Dnp) (x : List ℕ) → DnpStandsFor value x
     → is_full_dnp value ≡ (length x == room_of x)
 dnp_fullness value x stands =

@@ -26,7 +26,7 @@ use Rattle.dnp_link_frame.specs.Rules.{dnp_rules}
 
 -- ---- room
 
--- a byte that has room leaves room for all bytes so far
+-- a byte for which there is room doesn't take that room away, whatever its value
 room_of-fits : (x : List ℕ) (b : ℕ) → length x < room_of x → length x < room_of (x ++ b ∷ [])
 room_of-fits x b short =
     ⊎_elim
@@ -77,7 +77,7 @@ pub head_of-bad : (x : List ℕ) → 10 ≤ length x → is_good_header (take 10
 head_of-bad x whole bad =
     head_of-whole x whole ∙ cond-false (is_good_header (take 10 x)) _ _ bad
 
--- a whole header says the same, whatever follows
+-- what a whole header says doesn't change when more bytes follow
 pub head_of-append : (x more : List ℕ) → 10 ≤ length x
     → head_of dnp_rules (x ++ more) ≡ head_of dnp_rules x
 head_of-append x more whole =
@@ -151,7 +151,7 @@ dnp_filling = record { has_room = lacking_of-fits; lessens = lacking_of-append }
 
 -- ---- right endings
 
--- the parts of a right ending
+-- what `has_right_ending` asks for, part by part
 pub record RightEnding (x : List ℕ) : Type 0 where
   pub len_is_right : 5 ≤ length_byte x
   pub size_is : length x ≡ size_by (length_byte x)
@@ -182,7 +182,7 @@ block_start-within n =
     (λ header. let at = block_start-header (n + 1) header in omega arith)
     (cases_lt 10 (n + 1))
 
--- the block of a byte that was appended
+-- the block of an appended byte: what was there of it before, and the byte
 pub running_block-push : (h : List ℕ) (c : ℕ)
     → running_block (h ++ c ∷ []) ≡ drop (block_start (length h + 1)) h ++ c ∷ []
 running_block-push h c =

@@ -16,10 +16,10 @@ pub type DnpBytes = ArrayVec<u8, 292>;
 
 const MOST_USER_DATA: usize = 250;
 
-/// There are more bytes of user data than a frame has.
+/// The error of `build`: there are more bytes of user data than a frame can have.
 #[derive(Clone, Copy, Debug, PartialEq, Eq)]
 pub struct TooMuchData {
-    /// How many there are.
+    /// How many bytes of user data there are.
     pub len: usize,
 }
 
@@ -52,8 +52,9 @@ fn push_with_crc(bytes: &mut DnpBytes, part: &[u8])
     let _ = bytes.try_extend_from_slice(&crc);
 }
 
-/// The one frame of this header and this user data: the user data in blocks of 16 bytes, header and
-/// blocks each with their CRC (IEEE 1815). `TooMuchData` above 250 bytes of user data.
+/// Builds the frame of this header and this user data (IEEE 1815): the user data in blocks of 16
+/// bytes, and a CRC after the header and after each block. Returns `TooMuchData` if there are more
+/// than 250 bytes of user data.
 pub fn build(header: &Header, user: &[u8]) -> Result<DnpBytes, TooMuchData>
     ensures built { IfOk result (λ built. built.items ≡ frame_of header.now user.now) }
     ensures cause { IsErr result ↔ (250 < length user.now) }

@@ -9,7 +9,8 @@ pub(crate) const POLYNOMIAL: u16 = 0xA6BC;
 
 pub(crate) const FIRST_REGISTER: u16 = 0;
 
-// The register after bytes that end in their CRC: what the complement leaves of 0.
+// The register after bytes that end in their CRC. It isn't 0, as the CRC is the complement of the
+// register before it.
 pub(crate) const RESIDUE: u16 = 0x66C5;
 
 /// The CRC of DNP3 over these bytes.

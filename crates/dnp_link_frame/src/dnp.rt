@@ -17,21 +17,21 @@ const WHOLE_BLOCK: usize = 18;
 
 /// The bytes of a burst so far, as the rules of the DNP3 link layer see them: how many there are,
 /// for how many there is room, LEN, the register of the last byte's block and what this block
-/// lacks, and whether what comes before it is right. A block is judged when the next one begins, so
-/// that the register is always that of the last byte's block.
+/// lacks, and whether what comes before it is right. A block is judged when the next one begins,
+/// and so the register is always that of the last byte's block.
 #[derive(Drop)]
 pub struct Dnp {
     len: u16,
-    // LEN, or 0 where it isn't there yet
+    // LEN, or 0 if it isn't there yet
     len_byte: u8,
     // for how many bytes there is room
     room: u16,
-    // how many bytes more belong to the block of user data that has begun, 0 in the header
+    // how many more bytes belong to the block of user data that has begun, or 0 in the header
     block_left: u16,
     register: u16,
-    // the header is right as far as it is there
+    // whether the header is right as far as it is there
     header_right: bool,
-    // each finished block of user data is right
+    // whether each block of user data before that of the last byte is right
     blocks_right: bool,
 }
 
@@ -42,7 +42,7 @@ impl Dnp {
     ghost use Rattle.dnp_link_frame.specs.Rules.{dnp_rules};
     ghost use Rattle.dnp_link_frame.specs.Dnp.{DnpStandsFor, Appends, is_full_dnp};
 
-    // Appends a whole header to no bytes.
+    // Appends a whole header, if there are no bytes yet.
     #[inline]
     fn take_header(&mut self, header: &[u8; WHOLE_HEADER])
         requires { self.old.len ≡ 0 }
@@ -58,7 +58,7 @@ impl Dnp {
         self.header_right = is_header(first, header[1], header[2], self.register);
     }
 
-    // Appends what a header has behind its first byte.
+    // Appends the nine bytes of a header that follow its first one.
     #[inline]
     fn take_behind_first(&mut self, following: &[u8; BEHIND_FIRST])
         requires { self.old.len ≡ 1 }
@@ -88,7 +88,7 @@ impl Dnp {
         self.len += 1;
     }
 
-    // Appends a byte behind the header.
+    // Appends a byte after the header.
     fn take_user_byte(&mut self, b: u8)
         requires behind { 10 ≤ self.old.len }
         requires room { self.old.len < self.old.room }
@@ -118,8 +118,8 @@ impl Dnp {
         self.block_left -= run.len() as u16;
     }
 
-    // Appends blocks, the last of which may lack bytes, where the one before is whole. Each but the
-    // last is judged at once.
+    // Appends blocks, of which the last may lack bytes. What comes before them, a block or the
+    // header, is whole. Each block but the last is judged at once.
     #[inline]
     fn begin_blocks(&mut self, run: &[u8])
         requires behind { 10 ≤ self.old.len }
@@ -141,7 +141,7 @@ impl Dnp {
         self.block_left = BLOCK_LEN - following.len() as u16;
     }
 
-    // Appends bytes behind the header, for all of which there is room.
+    // Appends bytes after the header, for all of which there is room.
     #[inline]
     fn take_blocks(&mut self, run: &[u8])
         requires behind { 10 ≤ self.old.len }
@@ -161,7 +161,8 @@ impl Dnp {
         self.begin_blocks(&run[lacking..]);
     }
 
-    // Appends the bytes of a header, one after the other, as far as they are there; says how many.
+    // Appends bytes of a header, one after the other, until it is whole or there are no more.
+    // Returns how many it has appended.
     fn take_header_bytes(&mut self, following: &[u8]) -> usize
         requires { self.old.len < 10 }
         ensures within { result ≤ length following.now }
@@ -178,7 +179,8 @@ impl Dnp {
         run
     }
 
-    // Appends the bytes of a header, as far as they are there; says how many.
+    // Appends bytes of a header, until it is whole or there are no more. Returns how many it has
+    // appended.
     #[inline]
     fn take_of_header(&mut self, following: &[u8]) -> usize
         requires { self.old.len < 10 }
@@ -204,7 +206,8 @@ impl Dnp {
         self.take_header_bytes(following)
     }
 
-    // Appends bytes behind the header, as many as there is room for; says how many. There is room.
+    // Appends bytes after the header, as many as there is room for, which is at least one. Returns
+    // how many it has appended.
     #[inline(never)]
     fn take_user(&mut self, following: &[u8]) -> usize
         requires behind { 10 ≤ self.old.len }
@@ -221,7 +224,8 @@ impl Dnp {
         run
     }
 
-    // Appends bytes behind the header, as many as there is room for; says how many.
+    // Appends bytes after the header, as many as there is room for. Returns how many it has
+    // appended.
     #[inline(always)]
     fn take_behind_header(&mut self, following: &[u8]) -> usize
         requires { 10 ≤ self.old.len }
@@ -238,8 +242,8 @@ impl Dnp {
         self.take_user(following)
     }
 
-    // Appends the bytes of a header and those behind it, as many as there is room for; says how
-    // many.
+    // Appends the bytes of a header and those after it, as many as there is room for. Returns how
+    // many it has appended.
     #[inline(never)]
     fn take_with_header(&mut self, part: &[u8]) -> usize
         requires { self.old.len < 10 }

@@ -5,8 +5,8 @@
 pub struct Header {
     /// The CONTROL byte: direction, primary, frame count bits and the function code.
     pub control: u8,
-    /// The address of who is to read the frame.
+    /// The address of the station that must read the frame.
     pub destination: u16,
-    /// The address of who sends it.
+    /// The address of the station that sends it.
     pub source: u16,
 }

@@ -8,8 +8,8 @@ ghost use Rattle.dnp_link_frame.specs.Endings.{IsGoodHeader, HasRightEnding};
 ghost use Rattle.dnp_link_frame.specs.Rules.{dnp_rules};
 ghost use Rattle.dnp_link_frame.specs.declared.header.Header.{Header};
 
-/// What the rules of a line call a frame, a good header and a right ending are those of the DNP3
-/// link layer.
+/// What `dnp_rules` calls a frame, a good header and a right ending is what the DNP3 link layer
+/// calls so.
 pub fn frames_of_the_standard()
     ensures frames { (x : List ℕ) → AreBytes x → IsTrue (dnp_rules.is_frame x) ↔ IsFrame x }
     ensures headers { (x : List ℕ) → AreBytes x
@@ -18,9 +18,9 @@ pub fn frames_of_the_standard()
         → IsTrue (dnp_rules.has_right_ending x) ↔ HasRightEnding x }
 {}
 
-/// A frame has one header and one user data, so that `build` and `user_data` undo each other: what
-/// `user_data` returns for what `build` returned is what that was built of, and what `build`
-/// returns for what `user_data` returned is the frame.
+/// A frame has only one header and only one user data. So `build` and `user_data` undo each other:
+/// `user_data` of a frame that `build` made returns what it was made from, and `build` of what
+/// `user_data` returned for a frame makes that frame.
 pub fn one_header_and_user_data()
     ensures header { (header other : Header) (user more frame : List ℕ)
         → IsFrameOf header user frame → IsFrameOf other more frame → header ≡ other }
@@ -28,8 +28,8 @@ pub fn one_header_and_user_data()
         → IsFrameOf header user frame → IsFrameOf other more frame → user ≡ more }
 {}
 
-/// The last two of at least two bytes are the CRC of those before, low byte first, exactly where
-/// the register of all is 66C5.
+/// The last two of at least two bytes are the CRC of those before, low byte first, exactly if the
+/// register after all the bytes is 66C5.
 pub fn register_of_a_right_ending()
     ensures { (x : List ℕ) → AreBytes x
         → (register_of x ≡ 0x66C5) ↔ EndsInCheck crc_dnp x }

@@ -1,4 +1,4 @@
-//! The user data of a DNP3 frame, or where the bytes stop being a frame.
+//! Reads the user data of a DNP3 frame, or finds where the bytes stop being a frame.
 ghost use Rattle.std.specs.Prelude.{◌≡◌, ◌+◌, ◌*◌, ◌≤◌, ◌↔◌, length, IsOk, IfOk, IfErr};
 ghost use Rattle.std.specs.Prelude.{slice_index, ◌++◌, ◌==◌, ◌&&◌};
 ghost use Rattle.arrayvec.specs.ArrayVec.{array_vec_len};
@@ -25,10 +25,10 @@ const BLOCK_WITH_CRC: usize = BLOCK + CRC;
 /// The user data of a frame.
 pub type UserBytes = ArrayVec<u8, 250>;
 
-/// These bytes are no frame.
+/// The error of `user_data`: the bytes aren't a frame.
 #[derive(Clone, Copy, Debug, PartialEq, Eq)]
 pub struct NotAFrame {
-    /// How many of the first bytes are the longest beginning of them with which a frame begins.
+    /// The length of the longest front of the bytes with which some frame begins.
     pub place: u16,
 }
 
@@ -38,7 +38,7 @@ fn byte_at(bytes: &[u8], place: usize) -> u8
     bytes.get(place).copied().unwrap_or(0)
 }
 
-// How many of the bytes 05 64 and a LEN of at least 5 are there.
+// Returns how many of the first three bytes are right, as 05 64 and a LEN of at least 5.
 #[tactic(auto, unfolding(crate::specs::Beginnings::right_in_start))]
 fn right_in_start(bytes: &[u8]) -> usize
     ensures { result ≡ right_in_start bytes.now }
@@ -55,7 +55,7 @@ fn right_in_start(bytes: &[u8]) -> usize
     3
 }
 
-// How many bytes are right of a part with this many bytes of any sort and their CRC.
+// Returns how many of the first bytes are right, as `len` bytes of any value and then their CRC.
 #[tactic(auto, unfolding(crate::specs::Beginnings::right_in_part))]
 fn right_in_part(bytes: &[u8], len: usize) -> usize
     requires { len ≤ 16 }
@@ -77,7 +77,7 @@ fn right_in_part(bytes: &[u8], len: usize) -> usize
     }
 }
 
-// How many bytes are right of blocks with this many bytes of user data.
+// Returns how many of the first bytes are right, as blocks with `user_len` bytes of user data.
 fn right_in_blocks(bytes: &[u8], user_len: usize) -> usize
     requires { user_len ≤ 250 }
     ensures right { result ≡ right_in_blocks (blocks_for user_len) user_len bytes.now }
@@ -95,7 +95,7 @@ fn right_in_blocks(bytes: &[u8], user_len: usize) -> usize
     user_len + CRC * blocks
 }
 
-// How many bytes are right of a frame.
+// Returns how many of the first bytes are right, as a frame.
 fn right_in_frame(bytes: &[u8]) -> usize
     ensures right { result ≡ right_in_frame bytes.now }
     ensures within { result ≤ length bytes.now }
@@ -131,7 +131,7 @@ fn push_bytes(user: &mut UserBytes, bytes: &[u8])
     let _ = user.try_extend_from_slice(bytes);
 }
 
-// The bytes of each block of a frame's user data without its CRC.
+// Returns the user data of `count` blocks: each block without its CRC.
 fn user_in_blocks(bytes: &[u8], count: usize) -> UserBytes
     requires fit { length bytes.now ≤ 250 + 2 * count }
     requires whole { 18 * count ≤ length bytes.now + 15 }
@@ -146,7 +146,7 @@ fn user_in_blocks(bytes: &[u8], count: usize) -> UserBytes
     user
 }
 
-// The user data of a frame.
+// Returns the user data of a frame.
 fn user_in(frame: &[u8]) -> UserBytes
     requires size { length frame.now ≡ size_by (length_byte frame.now) }
     ensures { result.items ≡ user_in frame.now }
@@ -155,7 +155,7 @@ fn user_in(frame: &[u8]) -> UserBytes
     user_in_blocks(&frame[HEADER..], user_len.div_ceil(BLOCK))
 }
 
-// Whether this many right bytes are all, and none is lacking.
+// Whether the first `right` bytes are all the bytes, and none is lacking.
 fn is_whole(bytes: &[u8], right: usize) -> bool
     ensures { result
         ≡ (right == length bytes.now && length bytes.now == size_by (length_byte bytes.now)) }
@@ -163,8 +163,8 @@ fn is_whole(bytes: &[u8], right: usize) -> bool
     right == bytes.len() && bytes.len() == usize::from(size_by(byte_at(bytes, 2)))
 }
 
-/// The header and the user data of a frame: what `build` made it of. `NotAFrame` where these bytes
-/// are no frame.
+/// Returns the header and the user data that a frame was built from, or `NotAFrame` if these bytes
+/// aren't a frame.
 pub fn user_data(frame: &[u8]) -> Result<(Header, UserBytes), NotAFrame>
     ensures read { IfOk result (λ read. IsFrameOf read.0 read.1.items frame.now) }
     ensures cause { IsOk result ↔ IsFrame frame.now }

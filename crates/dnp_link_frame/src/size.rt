@@ -2,7 +2,7 @@
 ghost use Rattle.std.specs.Prelude.{◌≡◌, if◌then◌else◌, nat_lt};
 ghost use Rattle.dnp_link_frame.specs.Blocks.{size_by, room_by};
 
-// How many bytes of a header LEN counts: control, destination and source.
+// How many of the header's bytes LEN counts: control, destination and source.
 pub(crate) const COUNTED_OF_HEADER: u8 = 5;
 
 pub(crate) const HEADER_LEN: u16 = 10;
@@ -22,7 +22,7 @@ pub(crate) fn size_by(len: u8) -> u16
     HEADER_LEN + user_len + CRC_LEN * user_len.div_ceil(BLOCK_DATA_LEN)
 }
 
-// For how many bytes a burst has room that begins with this LEN; 0 where LEN isn't there yet.
+// For how many bytes a burst with this LEN has room. `len` is 0 if LEN isn't there yet.
 #[inline]
 pub(crate) fn room_by(len: u8) -> u16
     ensures { result ≡ room_by len }
@@ -34,7 +34,8 @@ pub(crate) fn room_by(len: u8) -> u16
     }
 }
 
-/// How many bytes a frame with this LEN has, its header and CRCs counted; `None` below 5.
+/// Returns how many bytes a frame with this LEN has, with its header and its CRCs, or `None` if LEN
+/// is below 5.
 pub fn size_of(len: u8) -> Option<u16>
     ensures { result ≡ (if nat_lt len 5 then None else Some (size_by len)) }
 {

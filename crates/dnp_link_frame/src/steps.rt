@@ -11,10 +11,10 @@ use line_rules::Head;
 // The two bytes that a frame begins with.
 pub(crate) const START: [u8; 2] = [0x05, 0x64];
 
-// How many bytes a whole block of user data has, its CRC counted.
+// How many bytes a whole block of user data has, with its CRC.
 pub(crate) const BLOCK_LEN: u16 = BLOCK_DATA_LEN + CRC_LEN;
 
-// Whether a header may have this byte after this many; the register is the one that it leaves.
+// Whether a header may have this byte after `len` others. `register` is the one after the byte.
 #[inline]
 fn fits_header(len: u16, register: u16, byte: u8) -> bool
     ensures { result ≡ fits_header len register byte }
@@ -35,8 +35,8 @@ pub(crate) fn header_after(len: u16, header_right: bool, register: u16, byte: u8
     header_right && fits_header(len, register, byte)
 }
 
-// Whether a header is right whose first byte is, or isn't, which goes on with these two, and which
-// leaves this register.
+// Whether a header is right. `first` says whether its first byte is, `second` and `len_byte` are
+// the next two, and `register` is the one after all ten bytes.
 #[inline]
 pub(crate) fn is_header(first: bool, second: u8, len_byte: u8, register: u16) -> bool
     ensures { result ≡ is_header first second len_byte register }
@@ -44,7 +44,7 @@ pub(crate) fn is_header(first: bool, second: u8, len_byte: u8, register: u16) ->
     first && second == START[1] && len_byte >= COUNTED_OF_HEADER && register == RESIDUE
 }
 
-// What a header says of which this many bytes are there.
+// What is known of a header after `len` bytes. `header_right` says whether it is right so far.
 #[inline]
 pub(crate) fn head_by(len: u16, header_right: bool) -> Head
     ensures { result ≡ head_by len header_right }
@@ -55,7 +55,8 @@ pub(crate) fn head_by(len: u16, header_right: bool) -> Head
     if header_right { Head::Good } else { Head::Bad }
 }
 
-// Whether blocks are right, of which the last leaves this register.
+// Whether all blocks are right, if `blocks_right` says it of those before the last, and `register`
+// is that of the last.
 #[inline]
 pub(crate) fn is_right(blocks_right: bool, register: u16) -> bool
     ensures { result ≡ (blocks_right && register == residue) }
@@ -63,8 +64,8 @@ pub(crate) fn is_right(blocks_right: bool, register: u16) -> bool
     blocks_right && register == RESIDUE
 }
 
-// Where the byte after this many begins a block: whether the blocks before it are right. The
-// register is that of the last of them.
+// Whether the blocks before a byte that begins one are right. `len` bytes came before it, and
+// `register` is that of the last block.
 #[inline]
 pub(crate) fn blocks_at_beginning(len: u16, blocks_right: bool, register: u16) -> bool
     ensures { result ≡ blocks_at_beginning len blocks_right register }

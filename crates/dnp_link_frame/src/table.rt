@@ -1,4 +1,4 @@
-//! The CRC by tables: up to eighteen bytes at a time, and a byte alone.
+//! The CRC by tables: up to eighteen bytes at a time, or a single byte.
 ghost use Rattle.std.specs.Prelude.{◌≡◌, ◌≤◌, length};
 ghost use Rattle.dnp_link_frame.specs.Crc.{crc_dnp};
 ghost use Rattle.line_rules.specs.Crc.{byte_step, crc};
@@ -6,7 +6,7 @@ ghost use Rattle.line_rules.specs.Crc.{byte_step, crc};
 use crate::crc::{FIRST_REGISTER, POLYNOMIAL};
 use line_rules::{CrcTables, crc_at_once, crc_by_tables, step_by_table};
 
-/// The register that these bytes leave of `register`.
+/// Returns the register after these bytes, if it was `register` before them.
 #[inline(always)]
 pub(crate) fn after_bytes(register: u16, bytes: &[u8]) -> u16
     ensures { result ≡ crc POLYNOMIAL register bytes.now }
@@ -24,7 +24,8 @@ pub(crate) fn after_bytes(register: u16, bytes: &[u8]) -> u16
     by_length!(2 3 4 5 6 7 8 9 10 11 12 13 14 15 16 17 18)
 }
 
-/// The register that two to eighteen bytes leave of `register`, where it is known how many.
+/// Returns the register after two to eighteen bytes, if it was `register` before them. It is for
+/// callers that know how many bytes there are.
 #[inline]
 pub(crate) fn after_at_once(register: u16, bytes: &[u8]) -> u16
     requires some { 2 ≤ length bytes.now }
@@ -34,7 +35,7 @@ pub(crate) fn after_at_once(register: u16, bytes: &[u8]) -> u16
     crc_at_once::<POLYNOMIAL>(&TABLES, register, bytes)
 }
 
-/// What `dnp_crc` is of these bytes, by the tables.
+/// Computes what `dnp_crc` returns for these bytes, by the tables.
 #[inline(always)]
 pub(crate) fn dnp_crc_by_tables(bytes: &[u8]) -> u16
     ensures { result ≡ crc_dnp bytes.now }
@@ -42,7 +43,7 @@ pub(crate) fn dnp_crc_by_tables(bytes: &[u8]) -> u16
     !after_bytes(FIRST_REGISTER, bytes)
 }
 
-/// The register that this byte leaves of `register`.
+/// Returns the register after this byte, if it was `register` before it.
 #[inline]
 pub(crate) fn after_byte(register: u16, byte: u8) -> u16
     ensures { result ≡ byte_step POLYNOMIAL register byte }
@@ -50,7 +51,7 @@ pub(crate) fn after_byte(register: u16, byte: u8) -> u16
     step_by_table::<POLYNOMIAL>(&TABLES, register, byte)
 }
 
-// What the shifts of one to eighteen bytes make of each byte.
+// Table `n` holds, for each byte, what the shifts of `n + 1` bytes make of it (`AreCrcTables`).
 static TABLES: CrcTables = [
     [
         0x0000, 0x365E, 0x6CBC, 0x5AE2, 0xD978, 0xEF26, 0xB5C4, 0x839A, 0xFF89, 0xC9D7, 0x9335,
