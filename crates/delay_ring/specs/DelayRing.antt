@@ -5,7 +5,7 @@ use Rattle.yasir_ticks.specs.declared.tick.Tick.{Tick}
 use Rattle.yasir_ticks.specs.declared.tick.Tick.TheVariants.{Silent, Byte}
 use Rattle.delay_ring.specs.declared.delay_ring.DelayRing.{DelayRing}
 
--- a byte with a mark, which is 0 where the tick is silent
+-- the tick with this byte and this mark; the mark is 0 if the tick is silent
 abbrev pub marked : ℕ → ℕ → Tick
 marked b zero = Silent
 marked b (suc m) = Byte b
@@ -16,7 +16,7 @@ marked_ticks [] marks = []
 marked_ticks (b ∷ bytes) [] = []
 marked_ticks (b ∷ bytes) (m ∷ marks) = marked b m ∷ marked_ticks bytes marks
 
--- the last ticks, in the order in which they leave
+-- the ticks that the ring holds, in the order in which they leave
 abbrev pub ring_ticks : {D : ℕ} → DelayRing D → List Tick
 ring_ticks {D} ring = take D (drop ring.oldest (marked_ticks ring.bytes ring.marks))
 

@@ -4,26 +4,28 @@ ghost use Rattle.std.specs.Prelude.{◌≡◌, ◌+◌, ◌<◌, ◌≤◌, ◌+
 use crate::lanes::{LANES, bytes_from, silence_from};
 use yasir_ticks::Tick;
 
-/// How many ticks a ring holds at most.
+/// How many ticks a ring can hold.
 pub const MAX_DELAY: usize = 64;
 
-/// How many ticks a ring takes at once at most.
+/// How many ticks a ring can take at once.
 pub const MAX_RUN: usize = 64;
 
-/// How many places a ring has. What it holds moves on by a place a tick, and is moved back to the
-/// front where it would come past `USED` of them. The places behind are spare: so the marks of the
-/// longest run can be written behind what is held, and a vector of marks be read from any place on.
+/// How many places a ring has. What it holds moves on by one place with each tick, and is moved
+/// back to the front when it would go past the first `USED` places. The places after those are
+/// spare: the marks of the longest run can be written after what is held, and a vector of marks can
+/// be read from any place.
 const PLACES: usize = 256;
 
 const USED: usize = 192;
 
-// The marks of the longest run: of bytes, and of silent ticks. They are written as one, which takes
-// no call: what stands behind a shorter run's last mark is written over before it is read.
+// The marks of the longest run of bytes, and of the longest run of silent ticks. For a shorter run
+// all of them are written too, as a copy of constant length takes no call. The marks that are too
+// many are overwritten before they are read.
 const BYTES: [u8; MAX_RUN] = [1; MAX_RUN];
 
 const SILENCE: [u8; MAX_RUN] = [0; MAX_RUN];
 
-// Writes these over the places from `from` on.
+// Overwrites the places from `from` on with `with`.
 #[inline]
 fn overwrite(places: &mut [u8], from: usize, with: &[u8])
     requires { from + length with.now ≤ length places.old }
@@ -33,7 +35,7 @@ fn overwrite(places: &mut [u8], from: usize, with: &[u8])
     places[from..from + with.len()].copy_from_slice(with);
 }
 
-// Moves this many places to the front.
+// Moves the `count` places from `from` on to the front.
 fn move_to_front(places: &mut [u8], from: usize, count: usize)
     requires few { count ≤ 64 }
     requires within { from + count ≤ length places.old }
@@ -45,10 +47,11 @@ fn move_to_front(places: &mut [u8], from: usize, count: usize)
 }
 
 /// The last `D` ticks of a line, all silent at first: each tick leaves `D` ticks after it came. It
-/// takes no memory.
+/// allocates no memory.
 #[derive(Drop)]
 pub struct DelayRing<const D: usize> {
-    // The ticks stand from the oldest one on: the byte of each, and whether there is one.
+    // The ticks, from place `oldest` on: the byte of each, and a mark, which is 0 if there is no
+    // byte.
     bytes: [u8; PLACES],
     marks: [u8; PLACES],
     oldest: usize,
@@ -66,7 +69,7 @@ impl<const D: usize> DelayRing<D> {
     ghost use Rattle.yasir_ticks.specs.Ticks.{silent};
     ghost use Rattle.delay_ring.specs.DelayRing.{ring_ticks, marked, marked_ticks, AreAlike};
 
-    /// A ring of silent ticks.
+    /// Makes a ring of silent ticks.
     pub fn new() -> DelayRing<D>
         requires some { 1 ≤ D }
         requires fits { D ≤ 64 }
@@ -79,7 +82,8 @@ impl<const D: usize> DelayRing<D> {
         }
     }
 
-    // Moves the ticks back to the front, where fewer places than these are left behind them.
+    // Moves the ticks back to the front, if fewer than `count` of `USED` places are left after
+    // them.
     #[inline]
     fn make_room(&mut self, count: usize)
         requires { count ≤ 64 }
@@ -116,7 +120,7 @@ impl<const D: usize> DelayRing<D> {
         leaves
     }
 
-    // A byte with its mark comes, and the oldest tick leaves.
+    // Takes the byte and the mark of the next tick. The oldest tick leaves.
     #[inline]
     fn put(&mut self, byte: u8, mark: u8)
         requires { self.old.oldest + D + 1 ≤ 192 }
@@ -128,7 +132,7 @@ impl<const D: usize> DelayRing<D> {
         self.oldest += 1;
     }
 
-    /// Takes these bytes, one a tick, `MAX_RUN` at most.
+    /// Takes these bytes, one in each tick, at most `MAX_RUN`.
     #[inline]
     pub fn pass_bytes(&mut self, bytes: &[u8])
         requires { length bytes.now ≤ 64 }
@@ -142,7 +146,7 @@ impl<const D: usize> DelayRing<D> {
         self.oldest += bytes.len();
     }
 
-    /// Takes this many silent ticks, `MAX_RUN` at most.
+    /// Takes this many silent ticks, at most `MAX_RUN`.
     #[inline]
     pub fn pass_silence(&mut self, ticks: usize)
         requires { ticks ≤ 64 }
@@ -166,7 +170,7 @@ impl<const D: usize> DelayRing<D> {
         }
     }
 
-    /// The tick that leaves after `i` more turns.
+    /// Returns the tick that leaves after `i` more turns.
     #[inline]
     pub fn peek(&self, i: usize) -> Tick
         requires { i < D }
@@ -175,7 +179,7 @@ impl<const D: usize> DelayRing<D> {
         self.tick_at(self.oldest + i)
     }
 
-    // How many of the ticks that leave next, of this many, are bytes up to the first silent one.
+    // Returns how many of the `most` ticks that leave next are bytes, up to the first silent one.
     #[inline]
     fn bytes_in_front(&self, most: usize) -> usize
         requires { most ≤ D }
@@ -196,7 +200,7 @@ impl<const D: usize> DelayRing<D> {
         most
     }
 
-    /// The bytes among the `most` ticks that leave next, up to the first silent one.
+    /// Returns the bytes of the `most` ticks that leave next, up to the first silent one.
     #[inline]
     pub fn front_bytes(&self, most: usize) -> &[u8]
         requires { most ≤ D }
@@ -209,8 +213,8 @@ impl<const D: usize> DelayRing<D> {
         &self.bytes[self.oldest..self.oldest + count]
     }
 
-    /// The bytes among the `count` ticks that leave next, which are alike: all of them, or none where
-    /// they are silent. So the first of them is looked at alone.
+    /// Returns the bytes of the `count` ticks that leave next, which must be alike: a byte for each
+    /// of them, or none if they are silent. So only the first tick is looked at.
     #[inline]
     pub fn alike_bytes(&self, count: usize) -> &[u8]
         requires within { count ≤ D }
@@ -227,7 +231,7 @@ impl<const D: usize> DelayRing<D> {
         &self.bytes[oldest..oldest + count]
     }
 
-    /// How many of the `most` ticks that leave next are silent, up to the first byte.
+    /// Returns how many of the `most` ticks that leave next are silent, up to the first byte.
     #[inline]
     pub fn front_silence(&self, most: usize) -> usize
         requires { most ≤ D }
@@ -247,7 +251,7 @@ impl<const D: usize> DelayRing<D> {
         most
     }
 
-    /// How many of the `most` ticks that leave next are alike: all silent, or all bytes.
+    /// Returns how many of the `most` ticks that leave next are alike: all silent, or all bytes.
     #[inline]
     pub fn front_alike(&self, most: usize) -> usize
         requires { most ≤ D }

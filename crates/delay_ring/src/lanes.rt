@@ -18,7 +18,7 @@ fn load(marks: &[u8], i: usize) -> u8x32
     u8x32::from_slice(&marks[i..])
 }
 
-// All ones in each lane of a silent tick.
+// All ones in each lane of a silent tick, and 0 in the others.
 #[inline(always)]
 fn silent_lanes(marks: u8x32) -> u8x32
     ensures { HasLanes result (λ k. if slice_index marks k == 0 then 255 else 0) }
@@ -28,7 +28,7 @@ fn silent_lanes(marks: u8x32) -> u8x32
         .select(u8x32::splat(255), u8x32::splat(0))
 }
 
-// All ones in each lane of a byte.
+// All ones in each lane of a byte, and 0 in the others.
 #[inline(always)]
 fn byte_lanes(marks: u8x32) -> u8x32
     ensures { HasLanes result (λ k. if slice_index marks k == 0 then 0 else 255) }
@@ -46,7 +46,7 @@ fn top_bits(v: u8x32) -> u64
     v.simd_ge(u8x32::splat(128)).to_bitmask()
 }
 
-// The place of the first bit that is set, and some place behind all lanes where none is.
+// Returns the place of the first bit that is set, or a place after all lanes if none is.
 #[inline(always)]
 fn first_bit(m: u64) -> usize
     ensures none { (k : ℕ) → k < 32 → k < result → bit_at m k ≡ 1 → ⊥ }
@@ -58,7 +58,7 @@ fn first_bit(m: u64) -> usize
     m.trailing_zeros() as usize
 }
 
-/// How many of the 32 marks from a place on are of bytes, up to the first one of silence.
+/// Returns how many of the 32 marks from `place` on are of bytes, up to the first one of silence.
 #[inline(always)]
 pub(crate) fn bytes_from(marks: &[u8], place: usize) -> usize
     requires { place + 32 ≤ length marks.now }
@@ -68,7 +68,7 @@ pub(crate) fn bytes_from(marks: &[u8], place: usize) -> usize
     first_bit(top_bits(silent_lanes(load(marks, place))))
 }
 
-/// How many of them are of silence, up to the first one of a byte.
+/// Returns how many of the 32 marks from `place` on are of silence, up to the first one of a byte.
 #[inline(always)]
 pub(crate) fn silence_from(marks: &[u8], place: usize) -> usize
     requires { place + 32 ≤ length marks.now }

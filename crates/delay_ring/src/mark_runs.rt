@@ -1,9 +1,10 @@
-//! Runs among marks of ticks: a mark that is 0 stands for a silent tick, any other one for a byte.
+//! Runs among marks of ticks. A mark of 0 represents a silent tick, and any other mark a byte.
 ghost use Rattle.std.specs.Prelude.{◌≡◌, ℕ, ◌<◌, ◌≤◌, length, slice_index_or};
 
 use crate::lanes::{LANES, silence_from};
 
-// So many of these marks are of silence: all up to the first one of a byte, or all whole vectors.
+// Returns how many marks at the front are of silence, up to the first one of a byte or the end of
+// the last whole vector.
 #[inline]
 fn silence_in_vectors(marks: &[u8]) -> usize
     ensures within { result ≤ length marks.now }
@@ -20,7 +21,7 @@ fn silence_in_vectors(marks: &[u8]) -> usize
     at
 }
 
-/// How many of these marks are of silence, up to the first one of a byte.
+/// Returns how many of these marks are of silence, up to the first one of a byte.
 #[inline]
 pub fn silence_in_front(marks: &[u8]) -> usize
     ensures within { result ≤ length marks.now }
