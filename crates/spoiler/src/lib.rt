@@ -1,5 +1,5 @@
-//! What leaves for a burst whose frame is refused: its bytes, but for an ending that makes them no
-//! frame.
+//! What leaves for a burst whose frame is refused: its bytes, with an ending that makes sure that
+//! they aren't a frame.
 //!
 //! Three bytes leave as they are. The last one of a refused frame leaves spoiled:
 //!

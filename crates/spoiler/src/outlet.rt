@@ -1,4 +1,4 @@
-//! The bytes that leave for one burst, and the ending that is spoiled where the burst is refused.
+//! The bytes that leave for one burst, and the ending that is spoiled if the burst is refused.
 ghost use Rattle.std.specs.Prelude.{◌≡◌, ℕ, ◌-◌, List, ◌∷◌, [], ◌++◌, Bool, true, false};
 ghost use Rattle.std.specs.Prelude.{nat_lt};
 ghost use Rattle.spoiler.specs.Outlet.{StandsFor, Refuses, owed_by, refused_by, emitted};
@@ -6,23 +6,23 @@ ghost use Rattle.spoiler.specs.Outlet.{owed_after, filled, filled_bytes};
 
 use line_rules::LineRules;
 
-/// The bytes that leave for one burst. They leave before it is known whether the burst's frame
-/// passes: only its last byte depends on that, and what follows it. So the outlet hears of a burst
-/// at its verdict, and only where the burst is refused.
+/// The bytes that leave for one burst. Only the last one, and what follows it, depends on whether
+/// the burst passes; the others can leave before that is known. So the outlet hears of a burst at
+/// its verdict, and only if the burst is refused.
 ///
-/// Of a burst that isn't passed the last byte is spoiled where the frame is whole. Where it still
-/// lacks bytes, as its header says, a fill of bytes 00 follows up to its size, whose last byte is
-/// spoiled: a device that counts bytes then waits for no more.
+/// The last byte of a burst that isn't passed is spoiled, unless bytes that the header says are
+/// still lacking. Then a fill of bytes 00 follows, up to the size that the header says, and the
+/// last byte of the fill is spoiled: a device that counts bytes waits for no more after it.
 #[derive(Drop)]
 pub struct Outlet<R> {
     // all bytes of the last burst that was refused, and those of its fill that have left
     refused: R,
-    // how many bytes of a fill are still to leave
+    // how many bytes of a fill haven't left yet
     owed: u16,
 }
 
 impl<R: LineRules> Outlet<R> {
-    /// No byte has left, and none is to.
+    /// Makes an outlet that has sent no byte, and owes none.
     pub fn new() -> Outlet<R>
         ensures { owed_by result ≡ 0 }
     {
@@ -41,8 +41,8 @@ impl<R: LineRules> Outlet<R> {
         self.owed = 0;
     }
 
-    /// The burst is refused, and these are all its bytes, those that have left and those that are
-    /// still to leave.
+    /// Takes the bytes of a burst that is refused: all of them, those that have left and those that
+    /// haven't left yet.
     #[inline]
     pub fn refuse(&mut self, all: R)
         ensures refused { refused_by self.new ≡ all }
@@ -81,7 +81,7 @@ impl<R: LineRules> Outlet<R> {
         if self.refused.ends_right() { b ^ 1 } else { b }
     }
 
-    /// The next byte of the fill; none where none is owed.
+    /// Returns the next byte of the fill, or `None` if none is owed.
     #[inline]
     pub fn fill(&mut self) -> Option<u8>
         ensures stands { (x : List ℕ) → StandsFor R.LineRules self.old x
@@ -95,7 +95,7 @@ impl<R: LineRules> Outlet<R> {
         if self.owed == 0 {
             return None;
         }
-        // what a frame lacks has room
+        // there is room for what a frame lacks
         if self.refused.full() {
             return None;
         }
@@ -111,7 +111,7 @@ impl<R: LineRules> Outlet<R> {
         }
     }
 
-    /// Whether bytes of a fill are still to leave.
+    /// Whether the outlet owes bytes of a fill.
     #[inline]
     pub fn owes(&self) -> bool
         ensures { result ≡ nat_lt 0 (owed_by self.now) }

@@ -2,8 +2,8 @@
 use super::*;
 use line_rules::{FourBytes, LineRules};
 
-// What leaves for these bytes, of which the last is the burst's last one; `None` where a fill is
-// owed then.
+// What leaves for the last of these bytes, which is the last one of its burst; `None` if a fill is
+// owed after it.
 fn last_of(bytes: &[u8], passed: bool) -> Option<u8> {
     let mut outlet = Outlet::<FourBytes>::new();
     outlet.begin();
