@@ -18,17 +18,17 @@ use Rattle.seal_judgements.specs.declared.note.UnsealedWhy.TheVariants.{Early, F
 
 -- what the transmitter knows between bursts
 pub record SealState : Type 0 where
-  -- the number of the last sealed burst; at first the floor of the journal
+  -- the number of the last sealed burst, or the floor of the journal before the first
   pub floor : ℕ
   -- a burst that starts before this tick is early
   pub earliest_start : ℕ
 
--- what becomes of a burst: it is sealed with a number, or not sealed for a reason
+-- what happens to a burst: it is sealed with a number, or it isn't sealed, for a reason
 pub data Judgement : Type 0 where
   sealed_with : (number : ℕ) → Judgement
   unsealed : UnsealedWhy → Judgement
 
--- How a burst is judged once it is closed, by the first of these that holds.
+-- How a closed burst is judged: by the first of these conditions that holds.
 unfoldable pub judged : Profile → Rules → SealState → Burst → Judgement
 judged profile rules s d =
     if nat_lt d.start s.earliest_start then unsealed Early
@@ -36,8 +36,8 @@ judged profile rules s d =
     else if s.floor == profile.limit then unsealed Spent
     else sealed_with (suc s.floor)
 
--- After a sealed burst come a pause, its trailer, and the silence that ends a burst, before the
--- next one may be sealed.
+-- The first tick from which a burst after this sealed one isn't early: a pause, the trailer, and
+-- the silence that ends a burst come before it.
 abbrev pub start_after : Profile → Rules → Burst → ℕ
 start_after profile rules d = live_end rules d + pause_len + trailer_len profile + T3_5_TICKS
 
@@ -46,7 +46,7 @@ state_by profile rules s d (sealed_with number) =
     record { floor = number; earliest_start = start_after profile rules d }
 state_by profile rules s d (unsealed why) = s
 
--- what is noted of a burst; of a sealed one the frame itself
+-- the note of a burst; that of a sealed one has the frame itself
 pub data FullNote : Type 0 where
   sealed_note : (number start : ℕ) (frame : List ℕ) → FullNote
   unsealed_note : (start : ℕ) → UnsealedWhy → FullNote
@@ -55,7 +55,7 @@ abbrev pub note_by : Rules → Burst → Judgement → FullNote
 note_by rules d (sealed_with number) = sealed_note number d.start (live_bytes rules d)
 note_by rules d (unsealed why) = unsealed_note d.start why
 
--- the live bytes of a burst in their own ticks, and then these ticks
+-- the live bytes of a burst in their own ticks, followed by the ticks `more`
 abbrev pub forwarded : Rules → Burst → List Tick → Burst
 forwarded rules d more = record { start = d.start; body = live_ticks rules d ++ more }
 
@@ -63,8 +63,8 @@ forwarded rules d more = record { start = d.start; body = live_ticks rules d ++ 
 abbrev pub trailing : List ℕ → List Tick
 trailing bytes = silent pause_len ++ map (λ b. Byte b) bytes
 
--- An early burst isn't forwarded. Of all others the live bytes are, and a sealed one has its
--- trailer.
+-- The emission of a burst: its live bytes, and after those of a sealed one its trailer. An early
+-- burst has none.
 abbrev pub emission_by : Profile → Rules → Burst → Judgement → List Burst
 emission_by profile rules d (sealed_with number) =
     forwarded rules d (trailing (trailer profile number (live_bytes rules d))) ∷ []
@@ -72,8 +72,8 @@ emission_by profile rules d (unsealed Early) = []
 emission_by profile rules d (unsealed Form) = forwarded rules d [] ∷ []
 emission_by profile rules d (unsealed Spent) = forwarded rules d [] ∷ []
 
--- the transmitter as a walk over bursts: the note of a burst comes in the step of its fourth silent
--- tick, which closes it
+-- The transmitter as a walk over bursts. It notes a burst in the step of the burst's fourth silent
+-- tick, which closes it.
 abbrev pub sealer : Profile → Rules → Walker SealState FullNote
 sealer profile rules = record {
   next = λ s d. state_by profile rules s d (judged profile rules s d);
@@ -82,15 +82,15 @@ sealer profile rules = record {
   emission = λ s d. emission_by profile rules d (judged profile rules s d);
 }
 
--- a transmitter at rest whose journal has this floor
+-- the state of a transmitter at rest whose journal has this floor
 abbrev pub at_floor : ℕ → SealState
 at_floor floor = record { floor = floor; earliest_start = 0 }
 
--- the notes of the transmitter, as far as the line's ticks go
+-- the notes of the transmitter in the steps of this line
 abbrev pub seal_notes : Profile → Rules → ℕ → List Tick → List (Noted FullNote)
 seal_notes profile rules floor line = notes_of (sealer profile rules) (at_floor floor) line
 
--- the line of the link, tick by tick with the device's line
+-- the line of the link, which has a tick for each tick of the device's line
 abbrev pub link_line : Profile → Rules → ℕ → List Tick → List Tick
 link_line profile rules floor line = line_of (sealer profile rules) (at_floor floor) line
 

@@ -1,9 +1,9 @@
 //! What a transmitter makes of a device's line: the definitions of its judgements, notes and ticks,
-//! and the laws on them that boxes and laws above share.
+//! and the laws about them that the boxes and other laws share.
 //!
-//! A transmitter judges each burst of the line in turn: it is a value of the walk over bursts.
-//! `specs/` has the definitions over whole lists of ticks; `proofs/` has worked lines, that a
-//! judgement needs no tick before its time, and that the sealed frames are numbered in turn.
+//! A transmitter judges each burst of the line in turn. So it is defined as a walk over bursts.
+//! `specs/` has the definitions over whole lists of ticks. `proofs/` has worked lines, and proves
+//! that a judgement needs no tick before its time, and that the sealed frames are numbered in turn.
 //!
 //! What a transmitter says of a burst:
 //!

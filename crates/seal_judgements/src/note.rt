@@ -1,14 +1,14 @@
-//! The notes of a transmitter: what became of a burst of the device, and why.
+//! The notes of a transmitter: what happened to a burst of the device, and why.
 
 /// Why a burst of the device isn't sealed.
 #[derive(Clone, Copy, Debug, PartialEq, Eq)]
 pub enum UnsealedWhy {
-    /// It starts too soon after a sealed one: before four silent ticks could follow that one's
-    /// trailer.
+    /// It starts too soon after a sealed burst: before four silent ticks could follow the trailer
+    /// of that one.
     Early,
-    /// Some of its bytes aren't live, or its bytes are no frame.
+    /// Some of its bytes aren't live, or its bytes aren't a frame.
     Form,
-    /// The greatest number is used.
+    /// The greatest number has been used.
     Spent,
 }
 
