@@ -1,4 +1,4 @@
--- What the steps of a transmitter answer, and what they do to its journal.
+-- What the steps of a transmitter return, and what they do to its journal.
 use Rattle.std.specs.Prelude.{◌≡◌, ℕ, ◌+◌, List, [], ◌∷◌, ◌++◌, length, Option, Some, None}
 use Rattle.std.specs.Prelude.{Result, IfOk, OnOk, OnErr}
 use Rattle.yasir_ticks.specs.declared.tick.Tick.{Tick}
@@ -19,18 +19,19 @@ use Rattle.seal_judgements.specs.declared.note.SealNote.{SealNote}
 use Rattle.seal_judgements.specs.declared.note.SealNote.TheVariants.{Sealed, Unsealed}
 use Rattle.burst_walk.specs.declared.box_step.BoxStep.{BoxStep}
 
--- A note as it is answered: of a sealed frame it has the length alone.
+-- The note as a step returns it: for a sealed frame it has only the length.
 abbrev pub brief_note : FullNote → SealNote
 brief_note (sealed_note number start frame) = Sealed number start (length frame)
 brief_note (unsealed_note start why) = Unsealed start why
 
--- A step answers, after these ticks of the device and with one tick more, the tick of the link and
--- the note that the definitions add.
+-- Holds if the step for the tick `t`, after the ticks `line` of the device, returns the tick of the
+-- link and the note that the definitions add.
 abbrev pub AnswersTick : Profile → Rules → ℕ → List Tick → Tick → BoxStep SealNote → Type 0
 AnswersTick profile rules floor line t step =
     AnswersTickOf (sealer profile rules) brief_note (at_floor floor) line t step.tick step.note
 
--- By the definitions a burst is sealed with this number in the step of this tick.
+-- Holds if, by the definitions, a burst is sealed with this number in the step of the tick `t`,
+-- which comes after `line`.
 pub record SealsWith (profile : Profile) (rules : Rules) (floor : ℕ) (line : List Tick) (t : Tick)
     (number : ℕ) : Type 0 where
   pub start : ℕ
@@ -38,8 +39,8 @@ pub record SealsWith (profile : Profile) (rules : Rules) (floor : ℕ) (line : L
   pub note : seal_notes profile rules floor (line ++ t ∷ []) ≡ seal_notes profile rules floor line
       ++ record { tick = length line; note = sealed_note number start frame } ∷ []
 
--- By its note a step has committed the next number, that of a sealed frame, or has left journal and
--- disk as they were.
+-- Holds if a step did what its note says: it has committed the next number, that of the sealed
+-- frame, or has left the journal and the disk as they were.
 abbrev pub CommitsNoted : {D : Type 0} → SlotDisk D → Journal → Journal → D → D → Option SealNote
     → Type 0
 CommitsNoted d old new disk_old disk_new (Some (Sealed number start len)) =
@@ -49,7 +50,7 @@ CommitsNoted d old new disk_old disk_new (Some (Unsealed start why)) =
     (new ≡ old) × (disk_new ≡ disk_old)
 CommitsNoted d old new disk_old disk_new None = (new ≡ old) × (disk_new ≡ disk_old)
 
--- the number that a note has
+-- the number of the note, if it has one
 abbrev pub numbers_noted : Option SealNote → List ℕ
 numbers_noted (Some (Sealed number start len)) = number ∷ []
 numbers_noted (Some (Unsealed start why)) = []
@@ -61,11 +62,11 @@ pub record KeepsJournal {D : Type 0} (d : SlotDisk D) (old new : Journal) (disk_
   pub commits : IfOk result (λ step. CommitsNoted d old new disk_old disk_new step.note)
   pub link : journal_link new ≡ journal_link old
   pub fits : OnOk result (Fits new (d.told disk_new))
-  -- the one number that a step commits is the next one
+  -- the only number that a step can commit is the next one
   pub failed : OnErr result
       (HasFailed old new (d.told disk_old) (d.told disk_new) (journal_floor old + 1))
-  -- Where a crash before the step left no floor below the journal's, one after it leaves none below
-  -- what is then the journal's, and one at any moment inside it leaves none below what was.
+  -- If the journal is crash-safe before the step, it is so after it, and a crash at any moment
+  -- inside the step leaves no floor below the one before it.
   pub crash_safe : IsCrashSafe old (d.told disk_old) (d.may_leave disk_old)
       → IsCrashSafe new (d.told disk_new) (d.may_leave disk_new)
   pub any_moment : IsCrashSafe old (d.told disk_old) (d.may_leave disk_old)

@@ -1,5 +1,5 @@
--- A transmitter in the middle of a step: the value that cuts the line has taken the tick, and all
--- else is as before.
+-- A transmitter in the middle of a step: the value that cuts the line has taken the tick, and
+-- everything else is as before.
 use Rattle.std.specs.Prelude.{◌≡◌, ℕ, List, [], ◌∷◌, ◌++◌, Option, Some, None, IfSome}
 use Rattle.yasir_ticks.specs.declared.tick.Tick.{Tick}
 use Rattle.line_rules.specs.Rules.{Rules}
@@ -23,7 +23,8 @@ use Rattle.burst_walk.specs.declared.box_step.BoxStep.{BoxStep}
 use Rattle.seal_judgements.specs.declared.note.UnsealedWhy.{UnsealedWhy}
 use Rattle.seal_transmitter.specs.declared.sealer.Sealer.{Sealer}
 
--- by this last number and first tick that isn't early, the last burst of a line is judged so
+-- Holds if the last burst of the line, if there is one, is judged so. The last number used is
+-- `last`, and a burst that starts before tick `earliest` is early.
 abbrev pub IsJudged : Profile → Rules → ℕ → ℕ → List Tick → Judgement → Type 0
 IsJudged profile rules last earliest line j =
     IfSome (last_burst line)
@@ -32,8 +33,8 @@ IsJudged profile rules last earliest line j =
 module _ {R M : Type 0} (proto : LineRules R) (macs : Mac M) {B : ℕ} (value : Sealer R M B)
     (last : ℕ)
     (setup : Setup) (line : List Tick) where
-  -- Only the value that cuts the line has taken the tick, and has told what it is; the last number
-  -- used is this one.
+  -- Holds if the transmitter has taken `line`, the last number that it used is `last`, and then
+  -- only the value that cuts the line has taken the tick `t`, and has said that it is `cut`.
   pub record IsBetween (t : Tick) (cut : Cut) : Type 0 where
     pub direction_is : direction_number value.direction ≡ setup.direction
     pub cuts : CutStandsFor proto value.cut (line ++ t ∷ [])
@@ -41,24 +42,25 @@ module _ {R M : Type 0} (proto : LineRules R) (macs : Mac M) {B : ℕ} (value : 
     pub walks : Walks proto macs B last value.earliest_start (bytes_unsent value.trailer) value.mac
         setup line
 
-  -- so is the last burst judged, as far as the value knows
+  -- Holds if the last burst of the line is judged so, by the number `last` and the value's earliest
+  -- start.
   abbrev pub Judges : Judgement → Type 0
   Judges j = IsJudged (profile_of proto macs B LIMIT setup) proto.rules last value.earliest_start
       line j
 
--- the judgement by why a burst isn't sealed, if it isn't, and the number that it has else
+-- the judgement of a burst that isn't sealed for this reason, or else is sealed with this number
 abbrev pub judgement_of : Option UnsealedWhy → ℕ → Judgement
 judgement_of None number = sealed_with number
 judgement_of (Some why) number = unsealed why
 
--- an answer with no note
+-- a step that returns this tick of the link, and no note
 abbrev pub noteless : Tick → BoxStep SealNote
 noteless t = record { tick = t; note = None }
 
--- the note of a burst that is sealed with this number
+-- Holds if the note is that of a burst sealed with this number.
 abbrev pub IsSealedNote : ℕ → Option SealNote → Type 0
 IsSealedNote number note = (start : ℕ) × (len : ℕ) × (note ≡ Some (Sealed number start len))
 
--- the note of a burst that isn't sealed
+-- Holds if the note is that of a burst that isn't sealed, for this reason.
 abbrev pub IsUnsealedNote : UnsealedWhy → Option SealNote → Type 0
 IsUnsealedNote why note = (start : ℕ) × (note ≡ Some (Unsealed start why))

@@ -9,7 +9,7 @@ use Rattle.seal_transmitter.specs.Answers.{brief_note}
 use Rattle.seal_judgements.specs.Sealing.{SealState, FullNote, sealer, at_floor, sealed_in}
 use Rattle.seal_judgements.specs.declared.note.SealNote.{SealNote}
 
--- its walk, by the rules of a protocol and a MAC, with words of this many bytes
+-- the walk of the transmitter, for the rules of a protocol and a MAC, with words of this many bytes
 abbrev pub seal_walking : {R M : Type 0} → LineRules R → Mac M → ℕ → Walking SealNote
 seal_walking proto macs word_len = record {
   State = SealState;

@@ -13,8 +13,9 @@ use Rattle.seal_judgements.specs.Sealing.{sealer, at_floor, sealed}
 use Rattle.seal_transmitter.specs.Stands.{StandsAt}
 use Rattle.seal_transmitter.specs.declared.sealer.Sealer.{Sealer}
 
--- After this line the transmitter has taken this run too: it then stands for both, the last number
--- used is that of the last sealed frame, and the link's ticks are these, without a note.
+-- Holds if the transmitter, after `line`, has taken `run` as well: it represents both, the last
+-- number used is that of the last sealed frame, the link's ticks during the run are `answer`, and
+-- no note falls into them.
 pub record HasTakenRun {R M : Type 0} (proto : LineRules R) (macs : Mac M) {B : ℕ}
     (value : Sealer R M B) (last : ℕ) (setup : Setup) (line run answer : List Tick) : Type 0 where
   pub stands : StandsAt proto macs value last setup (line ++ run)

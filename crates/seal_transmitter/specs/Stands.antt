@@ -1,4 +1,4 @@
--- What a transmitter stands for.
+-- What a transmitter represents: its setup, and the ticks that it has taken.
 use Rattle.std.specs.Prelude.{◌≡◌, ℕ, ◌+◌, ◌-◌, ◌<◌, ◌≤◌, List, ◌∷◌, ◌++◌, [], length, map}
 use Rattle.std.specs.Prelude.{Option, IfSome, slice_index_or}
 use Rattle.yasir_ticks.specs.Bursts.{Burst, bursts}
@@ -26,12 +26,14 @@ use Rattle.burst_walk.specs.declared.box_step.BoxStep.{BoxStep}
 use Rattle.seal_judgements.specs.declared.note.SealNote.{SealNote}
 use Rattle.seal_transmitter.specs.declared.sealer.Sealer.{Sealer}
 
--- tick i of the link, where these bytes are sent from tick m on
+-- tick `i` of the link, if the bytes `unsent` are sent from tick `m` on, and silence after them
 abbrev pub sent_at : ℕ → List ℕ → ℕ → Tick
 sent_at m unsent i = slice_index_or (map (λ b. Byte b) unsent) (i - m) Silent
 
--- Before tick m the walk over these bursts has come so far. Of what the closed ones emit these
--- bytes are still to come, whose sending ends four ticks before a burst may be sealed again.
+-- Holds if, before tick `m`, the walk over the bursts `ds` has come to the state `s`, and only the
+-- burst `running`, if there is one, isn't noted. Of what the other bursts emit, the bytes `unsent`
+-- are still to be sent, the last of them at least four silent ticks before a burst may be sealed
+-- again.
 pub record HasWalked (profile : Profile) (rules : Rules) (floor m : ℕ) (ds : List Burst)
     (s : SealState)
     (unsent : List ℕ) (running : Option Burst) : Type 0 where
@@ -41,34 +43,36 @@ pub record HasWalked (profile : Profile) (rules : Rules) (floor m : ℕ) (ds : L
   pub in_time : 0 < length unsent → m + length unsent + T3_5_TICKS ≤ s.earliest_start
 
 module _ {R M : Type 0} (proto : LineRules R) (macs : Mac M) where
-  -- A transmitter with words of this many bytes has come so far over a line: the last number that
-  -- it used, the first tick at which a burst isn't early, the bytes that are still to be sent, and
-  -- the MAC of the running burst.
+  -- Holds if a transmitter with words of `word_len` bytes has come so far over the line: `last` is
+  -- the last number that it used, a burst that starts before tick `earliest` is early, the bytes
+  -- `unsent` are still to be sent, and `mac` is the MAC of the running burst.
   pub record Walks (word_len last earliest : ℕ) (unsent : List ℕ) (mac : M) (setup : Setup)
       (line : List Tick) : Type 0 where
     pub running : Option Burst
     pub walked : HasWalked (profile_of proto macs word_len LIMIT setup) proto.rules setup.floor
         (length line) (bursts line) (record { floor = last; earliest_start = earliest }) unsent
         running
-    -- the text of the tag so far, where the running burst may be sealed
+    -- the text of the tag so far, if a burst is running and isn't early
     pub text : List ℕ
     pub mac_is : macs.stands mac setup.key text
     pub text_is : IfSome running (λ d. earliest ≤ d.start
         → text ≡ proto.rules.label ∷ setup.direction ∷ live_bytes proto.rules d)
 
-  -- Set up so, the transmitter has taken these ticks, and the last number that it used is this one.
+  -- Holds if the transmitter, with this setup, has taken the ticks of `line`, and `last` is the
+  -- last number that it used.
   pub record StandsAt {B : ℕ} (value : Sealer R M B) (last : ℕ) (setup : Setup) (line : List Tick) :
       Type 0 where
     pub direction_is : direction_number value.direction ≡ setup.direction
     pub cuts : CutStandsFor proto value.cut line
     pub walks : Walks B last value.earliest_start (bytes_unsent value.trailer) value.mac setup line
 
-  -- set up so, it has taken these ticks, and its journal is this one
+  -- Holds if the transmitter, with this setup, has taken the ticks of `line`, and its journal is
+  -- `journal`.
   abbrev pub StandsFor : {B : ℕ} → Sealer R M B → Journal → Setup → List Tick → Type 0
   StandsFor value journal setup line = StandsAt value (journal_floor journal) setup line
 
-  -- After these ticks the transmitter has taken one more: it then stands for this, the last number
-  -- used is that of the last sealed frame, and it answers as the definitions say.
+  -- Holds if the transmitter, after `line`, has taken the tick `t` as well: it represents both, the
+  -- last number used is that of the last sealed frame, and `step` is what the definitions say.
   pub record HasTaken {B : ℕ} (value : Sealer R M B) (last : ℕ) (setup : Setup) (line : List Tick)
       (t : Tick)
       (step : BoxStep SealNote) : Type 0 where
@@ -78,10 +82,10 @@ module _ {R M : Type 0} (proto : LineRules R) (macs : Mac M) where
     pub answers : AnswersTick (profile_of proto macs B LIMIT setup) proto.rules setup.floor line t
         step
 
--- how many ticks it has taken
+-- how many ticks the transmitter has taken
 abbrev pub ticks_taken : {R M : Type 0} {B : ℕ} → Sealer R M B → ℕ
 ticks_taken value = ticks_cut value.cut
 
--- the number of its direction
+-- the number of the transmitter's direction
 abbrev pub direction_of : {R M : Type 0} {B : ℕ} → Sealer R M B → ℕ
 direction_of value = direction_number value.direction

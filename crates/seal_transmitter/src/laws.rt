@@ -18,10 +18,10 @@ use hmac_tag::Mac;
 use line_rules::LineRules;
 use yasir_io::SlotDisk;
 
-/// A law of the transmitter's definitions, for words of any length, any greatest number, and each
-/// key, direction and floor: notes, link line and sealed frames of a longer line of the device
-/// begin with those of the line, and the sealed frames have the numbers after the floor, one after
-/// the other.
+/// When a line of the device goes on, its notes, link line and sealed frames begin with those of
+/// the line so far, and the sealed frames have the numbers after the floor, one after the other.
+/// This is a law of the transmitter's definitions, for words of any length, any greatest number,
+/// and each key, direction and floor.
 pub fn longer_lines<R: LineRules, M: Mac>()
     ensures extends { (word_len limit : ℕ) (setup : Setup) (line more : List Tick)
         → Extends (sealer (profile_of R.LineRules M.Mac word_len limit setup) R.rules)
@@ -36,9 +36,10 @@ pub fn longer_lines<R: LineRules, M: Mac>()
         (sealed (profile_of R.LineRules M.Mac word_len limit setup) R.rules setup.floor line) }
 {}
 
-/// A call of the transmitter's `step` is a step of an uptime: it returns the number of its note,
-/// and a crash at any moment inside it leaves no floor below the one before. The next step goes on
-/// from the last number answered. The calls that take runs have no disk.
+/// A call of the transmitter's `step` is a step of an uptime, if the journal is crash-safe before
+/// it: its number, if it has one, is that of the note that it returns, and a crash at any moment
+/// inside it leaves no floor below the one before it. The next step goes on from the last number
+/// returned. The calls that take runs have no disk.
 pub fn steps_are_of_an_uptime<D: SlotDisk>()
     ensures is_step { (old new : Journal) (before after : D)
         (result : Result (BoxStep SealNote) JournalFault)

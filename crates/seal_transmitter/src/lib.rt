@@ -1,7 +1,7 @@
 //! The transmitter: it forwards the bursts of a device and seals those that are frames, each with a
 //! number and a tag.
 //!
-//! Modbus RTU with the profile y18, two bytes of number and HMAC-SHA-1:
+//! For Modbus RTU with the profile y18 (two bytes of number, and HMAC-SHA-1):
 //!
 //!     let mut sealer: Sealer<Rtu, HmacSha1, 2> = Sealer::new(&key, Dir::Ab);
 //!     let mut journal = Journal::load(&mut disk, &link)?;

@@ -16,22 +16,22 @@ mod foretelling;
 mod resting;
 
 /// The transmitter, by the rules `R` of a protocol, with words of `B` bytes and tags by `M`. It
-/// forwards the live bytes of a device's bursts, each in its own tick, and sends a trailer after
-/// each that is a frame: the low bytes of its number and its tag.
+/// forwards the live bytes of each burst that isn't early, each in its own tick. After a burst that
+/// it seals, it sends a trailer: the low bytes of the number, and the tag.
 ///
-/// It keeps no frame itself: each live byte goes into the text of the tag as it comes, and waits
-/// nowhere but in the MAC.
+/// It keeps no frame: each live byte goes into the text of the tag as it comes, and is held nowhere
+/// but in the MAC.
 #[derive(Drop)]
 pub struct Sealer<R, M, const B: usize> {
     cut: BurstCut<R>,
     mac: M,
     direction: Dir,
-    // the first tick at which a burst that starts isn't early
+    // a burst that starts before this tick is early
     earliest_start: u64,
     trailer: Trailer<B>,
 }
 
-// Puts these bytes into `sent` in place of what is there, and says how many they are.
+// Replaces what is in `sent` by these bytes, and returns how many they are.
 #[inline]
 fn put(sent: &mut RunBytes, bytes: &LineBytes) -> usize
     ensures items { sent.new.items ≡ bytes.now.items }
@@ -70,7 +70,7 @@ impl<R: LineRules, M: Mac, const B: usize> Sealer<R, M, B> {
     ghost use Rattle.seal_transmitter.specs.Between.{IsBetween, Judges, judgement_of, noteless};
     ghost use Rattle.seal_transmitter.specs.Between.{IsSealedNote, IsUnsealedNote};
 
-    /// A transmitter that has taken no tick, for a key of any length and a direction.
+    /// Makes a transmitter that has taken no tick, for a key of any length and a direction.
     pub fn new(key: &[u8], dir: Dir) -> Sealer<R, M, B>
         requires word { IsWordLen B }
         ensures taken { ticks_taken result ≡ 0 }
@@ -87,13 +87,13 @@ impl<R: LineRules, M: Mac, const B: usize> Sealer<R, M, B> {
         }
     }
 
-    /// Takes the next tick of the device, and returns the tick of the link at the same place, with
-    /// the note that falls into this step. The journal is that of the steps before and serves the
-    /// transmitter's own link, and the disk is the journal's. Fewer than `MAX_TICKS` ticks were
-    /// taken before.
+    /// Takes the next tick of the device. Returns the tick of the link at the same place, and the
+    /// note that falls into this step, if there is one. The journal must be that of the steps
+    /// before and serve the transmitter's own link, and the disk must be the journal's. Fewer than
+    /// `MAX_TICKS` ticks may have been taken before.
     ///
-    /// It fails where the number of a frame isn't committed. The frame isn't sealed then, and no
-    /// step follows.
+    /// It fails if the number of a frame isn't committed. Then the frame isn't sealed, and no step
+    /// may follow.
     #[inline(always)]
     pub fn step<D: SlotDisk>(
         &mut self,
@@ -111,7 +111,7 @@ impl<R: LineRules, M: Mac, const B: usize> Sealer<R, M, B> {
             → StandsFor R.LineRules M.Mac self.old journal.old setup line
             → HasTaken R.LineRules M.Mac self.new (journal_floor journal.new) setup line t step) }
 
-        // It fails only in a step that seals.
+        // It fails only in a step in which a burst is sealed by the definitions.
         ensures err_seals { OnErr result ((setup : Setup) (line : List Tick)
             → StandsFor R.LineRules M.Mac self.old journal.old setup line
             → SealsWith (profile_of R.LineRules M.Mac B LIMIT setup) R.rules setup.floor line t
@@ -127,7 +127,8 @@ impl<R: LineRules, M: Mac, const B: usize> Sealer<R, M, B> {
         }
     }
 
-    // Forwards the first of these bytes, if it begins a burst that isn't early, and says how many.
+    // Forwards the first of these bytes, if it begins a burst that isn't early. Returns how many
+    // bytes it has taken, one or none.
     #[inline]
     fn begin_some(&mut self, bytes: &[u8]) -> usize
         requires { ticks_taken self.old + length bytes.now ≤ MAX_TICKS }
@@ -154,8 +155,8 @@ impl<R: LineRules, M: Mac, const B: usize> Sealer<R, M, B> {
         1
     }
 
-    // Forwards the first of these bytes, as far as each is a further live byte of a burst that
-    // isn't early, and says how many.
+    // Forwards these bytes, as long as each is another live byte of a burst that isn't early.
+    // Returns how many it has taken.
     #[inline]
     fn go_on_some(&mut self, bytes: &[u8]) -> usize
         requires { ticks_taken self.old + length bytes.now ≤ MAX_TICKS }
@@ -178,9 +179,10 @@ impl<R: LineRules, M: Mac, const B: usize> Sealer<R, M, B> {
         count
     }
 
-    /// Forwards the first of these bytes, one a tick, as far as each is a live byte of a burst that
-    /// isn't early, and says how many. The ticks of the link are these bytes. With 0 the caller
-    /// goes on by another call. At most `MAX_TICKS` ticks are taken then.
+    /// Forwards these bytes, one in each tick, as long as each is a live byte of a burst that isn't
+    /// early. Returns how many it has taken; the ticks of the link are the same bytes. If it
+    /// returns 0, the caller must go on with another call. The ticks taken before and these bytes
+    /// may be at most `MAX_TICKS` together.
     #[inline(never)]
     pub fn forward(&mut self, bytes: &[u8]) -> usize
         requires { ticks_taken self.old + length bytes.now ≤ MAX_TICKS }
@@ -197,9 +199,9 @@ impl<R: LineRules, M: Mac, const B: usize> Sealer<R, M, B> {
         begun + more
     }
 
-    /// Takes the first of these bytes, as far as each is a further live byte of an early burst and
-    /// nothing is left of the trailer, and says how many. The link is silent meanwhile. At most
-    /// `MAX_TICKS` ticks are taken then.
+    /// Takes these bytes, one in each tick, as long as each is another live byte of an early burst,
+    /// if nothing is left of a trailer. Returns how many it has taken; the link is silent
+    /// meanwhile. The ticks taken before and these bytes may be at most `MAX_TICKS` together.
     #[inline]
     pub fn hold(&mut self, bytes: &[u8]) -> usize
         requires { ticks_taken self.old + length bytes.now ≤ MAX_TICKS }
@@ -220,9 +222,10 @@ impl<R: LineRules, M: Mac, const B: usize> Sealer<R, M, B> {
         self.cut.go_on_some(bytes)
     }
 
-    /// Takes the first of these bytes, as far as each is a further byte of a burst that isn't live
-    /// and nothing is left of the trailer, and says how many: all or none. The link is silent
-    /// meanwhile. At most `MAX_TICKS` ticks are taken then.
+    /// Takes these bytes, one in each tick, if they belong to a running burst that can have no more
+    /// live bytes, and nothing is left of a trailer. Returns how many it has taken, all or none;
+    /// the link is silent meanwhile. The ticks taken before and these bytes may be at most
+    /// `MAX_TICKS` together.
     #[inline]
     pub fn pass_over(&mut self, bytes: &[u8]) -> usize
         requires { ticks_taken self.old + length bytes.now ≤ MAX_TICKS }
@@ -240,9 +243,10 @@ impl<R: LineRules, M: Mac, const B: usize> Sealer<R, M, B> {
         self.cut.pass_over_some(bytes)
     }
 
-    /// Takes the first of these bytes, as far as each is a further live byte of an early burst and
-    /// something is left of the trailer. Returns what is sent of it, a byte for each. At most
-    /// `MAX_TICKS` ticks are taken then.
+    /// Takes these bytes, one in each tick, as long as each is another live byte of an early burst
+    /// and something is left of the trailer. Returns the bytes of the trailer that are sent
+    /// meanwhile, one for each byte taken. The ticks taken before and these bytes may be at most
+    /// `MAX_TICKS` together.
     #[inline]
     pub fn send_over(&mut self, bytes: &[u8]) -> LineBytes
         requires { ticks_taken self.old + length bytes.now ≤ MAX_TICKS }
@@ -262,9 +266,9 @@ impl<R: LineRules, M: Mac, const B: usize> Sealer<R, M, B> {
         self.trailer.send_some(count)
     }
 
-    /// Takes the first of this many silent ticks, as far as none closes a burst, if nothing is left
-    /// of the trailer, and says how many. The link is silent too. At most `MAX_TICKS` ticks are
-    /// taken then.
+    /// Takes up to `ticks` silent ticks, as long as none closes a burst, if nothing is left of a
+    /// trailer. Returns how many it has taken; the link is silent too. The ticks taken before and
+    /// these may be at most `MAX_TICKS` together.
     #[inline]
     pub fn keep_silent(&mut self, ticks: u32) -> u32
         requires { ticks_taken self.old + ticks ≤ MAX_TICKS }
@@ -282,9 +286,9 @@ impl<R: LineRules, M: Mac, const B: usize> Sealer<R, M, B> {
         wait_open(&mut self.cut, ticks)
     }
 
-    /// Takes of this many silent ticks as many as something is left of the trailer for, as far as
-    /// none closes a burst. Returns what is sent of it, a byte for each. At most `MAX_TICKS` ticks
-    /// are taken then.
+    /// Takes up to `ticks` silent ticks, as long as none closes a burst and something is left of
+    /// the trailer. Returns the bytes of the trailer that are sent meanwhile, one for each tick
+    /// taken. The ticks taken before and these may be at most `MAX_TICKS` together.
     #[inline]
     pub fn send_some(&mut self, ticks: u32) -> LineBytes
         requires { ticks_taken self.old + ticks ≤ MAX_TICKS }
@@ -301,7 +305,8 @@ impl<R: LineRules, M: Mac, const B: usize> Sealer<R, M, B> {
         self.trailer.send_some(count as usize)
     }
 
-    // Takes the first of these bytes over which the link is silent, and says how many.
+    // Takes these bytes, as long as they aren't forwarded and the link is silent. Returns how many
+    // it has taken.
     #[inline]
     fn hold_some(&mut self, bytes: &[u8]) -> usize
         requires { ticks_taken self.old + length bytes.now ≤ MAX_TICKS }
@@ -320,10 +325,11 @@ impl<R: LineRules, M: Mac, const B: usize> Sealer<R, M, B> {
         self.pass_over(bytes)
     }
 
-    /// Takes the first of these bytes, as far as none is forwarded, and says how many: while an
-    /// early burst goes on, or bytes come that aren't live. Puts into `sent` what is sent meanwhile
-    /// of a trailer, a byte for each, or nothing where the link is silent. With 0 the caller goes
-    /// on by another call. At most `MAX_TICKS` ticks are taken then.
+    /// Takes these bytes, one in each tick, as long as they aren't forwarded, because they belong
+    /// to an early burst or aren't live. Returns how many it has taken. Puts into `sent` the bytes
+    /// of a trailer that are sent meanwhile, one for each byte taken, or nothing if the link is
+    /// silent. If it returns 0, the caller must go on with another call. The ticks taken before and
+    /// these bytes may be at most `MAX_TICKS` together.
     #[inline]
     pub fn pass_bytes(&mut self, bytes: &[u8], sent: &mut RunBytes) -> usize
         requires { ticks_taken self.old + length bytes.now ≤ MAX_TICKS }
@@ -343,10 +349,10 @@ impl<R: LineRules, M: Mac, const B: usize> Sealer<R, M, B> {
         put(sent, &self.send_over(bytes))
     }
 
-    /// Takes the first of this many silent ticks, as far as they close no burst, and says how many.
-    /// Puts into `sent` what is sent meanwhile of a trailer, a byte for each, or nothing where the
-    /// link is silent. With 0 the caller goes on by another call. At most `MAX_TICKS` ticks are
-    /// taken then.
+    /// Takes up to `ticks` silent ticks, as long as none closes a burst and something is left of
+    /// the trailer. Returns how many it has taken, and puts into `sent` the bytes of the trailer
+    /// that are sent meanwhile, one for each tick taken. If it returns 0, the caller must go on
+    /// with another call. The ticks taken before and these may be at most `MAX_TICKS` together.
     #[inline]
     pub fn pass_silence(&mut self, ticks: u32, sent: &mut RunBytes) -> u32
         requires { ticks_taken self.old + ticks ≤ MAX_TICKS }
@@ -365,7 +371,7 @@ impl<R: LineRules, M: Mac, const B: usize> Sealer<R, M, B> {
         put(sent, &self.send_some(ticks)) as u32
     }
 
-    // Whether the burst that is running or was the last is early.
+    // Whether the running burst, or else the last one, is early.
     #[inline]
     fn is_early(&self) -> bool
         ensures { (line : List Tick) → CutStandsFor R.LineRules self.now.cut line
@@ -374,7 +380,8 @@ impl<R: LineRules, M: Mac, const B: usize> Sealer<R, M, B> {
         self.cut.start() < self.earliest_start
     }
 
-    // The next byte of the trailer, or silence.
+    // Sends the next byte of the trailer, or silence if nothing is left of it. The step has no
+    // note.
     #[inline]
     fn send(&mut self) -> BoxStep<SealNote>
         ensures rest { self.new ≡ record self.old { trailer = self.new.trailer } }
@@ -387,7 +394,7 @@ impl<R: LineRules, M: Mac, const B: usize> Sealer<R, M, B> {
         }
     }
 
-    // A tick that is neither forwarded nor closes a burst.
+    // Takes a tick that isn't forwarded and closes no burst.
     #[inline]
     fn pass(&mut self) -> BoxStep<SealNote>
         ensures cut { self.new.cut ≡ self.old.cut }
@@ -401,7 +408,7 @@ impl<R: LineRules, M: Mac, const B: usize> Sealer<R, M, B> {
         self.send()
     }
 
-    // The first byte of a burst.
+    // Takes the first byte of a burst.
     #[inline]
     fn begin(&mut self, byte: u8) -> BoxStep<SealNote>
         ensures cut { self.new.cut ≡ self.old.cut }
@@ -422,7 +429,7 @@ impl<R: LineRules, M: Mac, const B: usize> Sealer<R, M, B> {
         }
     }
 
-    // A further live byte of it.
+    // Takes another live byte of a burst.
     #[inline]
     fn go_on(&mut self, byte: u8) -> BoxStep<SealNote>
         ensures cut { self.new.cut ≡ self.old.cut }
@@ -442,7 +449,7 @@ impl<R: LineRules, M: Mac, const B: usize> Sealer<R, M, B> {
         }
     }
 
-    // Why the burst that is now closed isn't sealed; none where it is.
+    // Returns why the burst that is now closed isn't sealed, or `None` if it must be.
     fn unsealed_why(&self, journal: &Journal) -> Option<UnsealedWhy>
         ensures within { IfNone result (journal_floor journal.now < LIMIT) }
         ensures judged { (setup : Setup) (line : List Tick)
@@ -465,7 +472,7 @@ impl<R: LineRules, M: Mac, const B: usize> Sealer<R, M, B> {
         None
     }
 
-    // Judges the burst that this tick closes.
+    // Judges the burst that this tick closes, and seals it or leaves it.
     fn close<D: SlotDisk>(
         &mut self,
         journal: &mut Journal,
@@ -500,7 +507,7 @@ impl<R: LineRules, M: Mac, const B: usize> Sealer<R, M, B> {
         }
     }
 
-    // Leaves the closed burst without a trailer.
+    // Leaves the closed burst without a trailer, for this reason.
     fn leave(&mut self, why: UnsealedWhy) -> BoxStep<SealNote>
         ensures cut { self.new.cut ≡ self.old.cut }
         ensures note { IsUnsealedNote why result.note }
@@ -519,7 +526,7 @@ impl<R: LineRules, M: Mac, const B: usize> Sealer<R, M, B> {
         }
     }
 
-    // Seals the closed burst with a number that is committed.
+    // Seals the closed burst with this number, which must have been committed.
     fn seal(&mut self, number: u64) -> BoxStep<SealNote>
         requires room { ticks_taken self.old ≤ MAX_TICKS }
         ensures cut { self.new.cut ≡ self.old.cut }
@@ -534,7 +541,7 @@ impl<R: LineRules, M: Mac, const B: usize> Sealer<R, M, B> {
         self.mac.update(&number.to_be_bytes());
         let tag = self.mac.finish();
         self.trailer.load(number, &tag);
-        // this tick is the trailer's first one
+        // the tick of this step is the trailer's first one
         self.earliest_start = self.cut.ticks() + (B + M::TAG) as u64 + u64::from(T3_5_TICKS - 1);
         BoxStep {
             tick: self.trailer.next_tick(),
@@ -546,7 +553,7 @@ impl<R: LineRules, M: Mac, const B: usize> Sealer<R, M, B> {
         }
     }
 
-    /// The live bytes of the burst that is running or was the last.
+    /// Returns the live bytes of the running burst, or else of the last one.
     #[inline]
     pub fn live_bytes(&self) -> &R
         ensures { (last : ℕ) (setup : Setup) (line : List Tick)

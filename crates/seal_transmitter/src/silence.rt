@@ -1,4 +1,4 @@
-//! Runs of ticks of a line that is cut: silence that closes no burst, and bytes.
+//! Runs of ticks for the value that cuts a line: silence that closes no burst, and bytes.
 ghost use Rattle.std.specs.Prelude.{◌≡◌, ◌+◌, ◌≤◌, ◌++◌, List, All, length, map};
 ghost use Rattle.yasir_ticks.specs.Ticks.{silent};
 ghost use Rattle.yasir_ticks.specs.declared.tick.Tick.{Tick};
@@ -10,7 +10,7 @@ use frame_ending::BurstCut;
 use line_rules::LineRules;
 use yasir_ticks::{MAX_TICKS, T3_5_TICKS, Tick};
 
-/// Takes the first of this many silent ticks, as far as none closes a burst, and says how many.
+/// Takes up to `ticks` silent ticks, as long as none closes a burst. Returns how many it has taken.
 #[inline]
 pub(crate) fn wait_open<R: LineRules>(cut: &mut BurstCut<R>, ticks: u32) -> u32
     requires { ticks_taken cut.old + ticks ≤ MAX_TICKS }
@@ -31,7 +31,8 @@ pub(crate) fn wait_open<R: LineRules>(cut: &mut BurstCut<R>, ticks: u32) -> u32
     count
 }
 
-/// Takes these bytes, one a tick: the live ones at once, and then what is left, if anything is.
+/// Takes these bytes, one in each tick: the live ones at once, and then the others, if there are
+/// any.
 #[inline]
 pub(crate) fn cut_all<R: LineRules>(cut: &mut BurstCut<R>, bytes: &[u8])
     requires { ticks_taken cut.old + length bytes.now ≤ MAX_TICKS }

@@ -1,5 +1,4 @@
-//! Ticks without a note: whether the next one is such a tick, and how many surely go through at
-//! once.
+//! Noteless ticks: whether the next tick is one, and how many ticks surely go through at once.
 ghost use Rattle.std.specs.Prelude.{◌≡◌};
 ghost use Rattle.seal_transmitter.specs.Foretold.{closes_none, Foretold};
 
@@ -13,7 +12,7 @@ use line_rules::LineRules;
 use link_box::{ForetellingBox, NotelessBox, put_bytes, put_tick};
 use yasir_ticks::{MAX_TICKS, T3_5_TICKS, Tick, TickRun};
 
-/// How many bytes are forwarded at once at most: as many as `RunBytes` has room for.
+/// The greatest number of bytes that are forwarded at once: as many as `RunBytes` has room for.
 const MAX_RUN: usize = 64;
 
 impl<R: LineRules, M: Mac, const B: usize> NotelessBox for Sealer<R, M, B> {
@@ -69,8 +68,8 @@ impl<R: LineRules, M: Mac, const B: usize> Sealer<R, M, B> {
     ghost use Rattle.seal_transmitter.specs.Runs.{HasTakenRun};
     ghost use Rattle.seal_transmitter.specs.Stands.{StandsAt, direction_of, ticks_taken};
 
-    // How many of this many ticks are answered alike: with bytes of the trailer, or where nothing
-    // is left of it with silence.
+    // Returns for how many of `ticks` silent ticks the link's ticks are alike: bytes of the
+    // trailer, or silence if nothing is left of it.
     #[inline]
     fn alike_most(&self, ticks: u32) -> u32
         ensures within { result ≤ ticks }
@@ -85,7 +84,7 @@ impl<R: LineRules, M: Mac, const B: usize> Sealer<R, M, B> {
         ticks.min(unsent as u32)
     }
 
-    // How many of this many silent ticks close no burst.
+    // Returns how many of `ticks` silent ticks come before one that closes a burst.
     #[inline]
     fn open_most(&self, ticks: u32) -> u32
         ensures within { result ≤ ticks }
@@ -102,7 +101,7 @@ impl<R: LineRules, M: Mac, const B: usize> Sealer<R, M, B> {
         count
     }
 
-    // How many of this many silent ticks surely go through at once.
+    // Returns how many of `ticks` silent ticks surely go through at once.
     #[inline]
     fn foretell_silence(&self, ticks: u32) -> u32
         ensures within { result ≤ ticks }
@@ -115,7 +114,8 @@ impl<R: LineRules, M: Mac, const B: usize> Sealer<R, M, B> {
         self.open_most(most)
     }
 
-    // Takes this many silent ticks, all of them.
+    // Takes all of these silent ticks. Puts into `sent` the bytes of the trailer that are sent
+    // meanwhile, or nothing if the link is silent.
     #[inline]
     fn follow_silence(&mut self, ticks: u32, sent: &mut RunBytes)
         requires foretold { Foretold R.LineRules self.old (silent ticks) }
@@ -132,7 +132,8 @@ impl<R: LineRules, M: Mac, const B: usize> Sealer<R, M, B> {
         self.cut.wait_some(ticks);
     }
 
-    // Takes these bytes, all of them.
+    // Takes all of these bytes. Puts into `sent` the bytes that are sent meanwhile, or nothing if
+    // the link is silent.
     #[inline]
     fn follow_bytes(&mut self, bytes: &[u8], sent: &mut RunBytes)
         requires foretold { Foretold R.LineRules self.old (map Byte bytes.now) }
@@ -157,7 +158,7 @@ impl<R: LineRules, M: Mac, const B: usize> Sealer<R, M, B> {
         self.mac.update(bytes);
     }
 
-    // Takes a tick that closes no burst, and returns that of the link.
+    // Takes a tick that closes no burst, and returns the tick of the link.
     #[inline]
     fn hear(&mut self, t: Tick) -> Tick
         requires room { ticks_taken self.old < MAX_TICKS }
@@ -181,8 +182,8 @@ impl<R: RoomTelling, M: Mac, const B: usize> Sealer<R, M, B> {
     ghost use Rattle.yasir_ticks.specs.declared.tick.Tick.TheVariants.{Byte};
     ghost use Rattle.seal_transmitter.specs.Foretold.{Foretold};
 
-    // How many of this many bytes surely go through at once, whatever they are: those that are
-    // forwarded and have room, or else one.
+    // Returns how many of `count` bytes surely go through at once, whatever they are: those that
+    // are forwarded and have room, or else one.
     #[inline]
     fn foretell_bytes(&self, count: usize) -> usize
         ensures within { result ≤ count }
