@@ -2,6 +2,6 @@
 use Rattle.std.specs.Prelude.{ℕ, List}
 use Rattle.check_receiver.specs.declared.arriving.Arriving.{Arriving}
 
--- its bytes
+-- the bytes of the trailer that have come
 abbrev pub bytes_come : {B : ℕ} → Arriving B → List ℕ
 bytes_come value = value.bytes.items

@@ -1,5 +1,5 @@
--- A receiver in the middle of a step: the value that cuts the link has taken the tick, one step
--- fewer is left until the last live byte leaves, and all else is as before.
+-- A receiver in the middle of a step: the value that cuts the link has taken the tick, there is one
+-- step less until the last live byte leaves, and everything else is as before.
 use Rattle.std.specs.Prelude.{◌≡◌, ℕ, ◌+◌, ◌-◌, ◌≤◌, true, List, [], ◌∷◌, ◌++◌, Option, Some, None}
 use Rattle.std.specs.Prelude.{Result, Ok, Err}
 use Rattle.yasir_ticks.specs.declared.tick.Tick.{Tick}
@@ -41,7 +41,8 @@ module _ {R M : Type 0} (proto : LineRules R) (macs : Mac M) {B D : ℕ} (value 
     pub walks : Walks proto macs B D last value.earliest_start (is_open value.phase)
         (passes_in value.phase) value.mac value.arriving value.ring before value.outlet setup line
 
-  -- A byte has come that isn't live: the last one of a trailer of the burst whose verdict is open.
+  -- Holds if the tick `t` is the last byte of the trailer of the burst whose verdict is open, a
+  -- byte that isn't live, and the receiver has already kept it with the other bytes of the trailer.
   pub record IsWhole (t : Tick) : Type 0 where
     pub word_is : IsWordLen B
     pub wide : 2 ≤ B
@@ -62,12 +63,13 @@ module _ {R M : Type 0} (proto : LineRules R) (macs : Mac M) {B D : ℕ} (value 
     pub mac_holds : (d : Burst) → last_burst (line ++ t ∷ []) ≡ Some d
         → MacHolds proto macs setup value.mac value.arriving d
 
--- the verdict on a burst with a whole trailer, by the number with which it passes or why not
+-- the verdict on a burst with a whole trailer: it passes with this number, or is refused for this
+-- reason
 abbrev pub verdict_told : Result ℕ RefusedWhy → Verdict
 verdict_told (Ok number) = passed_with number
 verdict_told (Err why) = refused why
 
--- a tick that is silent, as it is told
+-- Holds if a tick that is cut so is silent.
 abbrev pub IsSilence : Cut → Type 0
 IsSilence (Start b) = ⊥
 IsSilence (Live b) = ⊥
@@ -76,7 +78,7 @@ IsSilence (Pause n) = Unit {0}
 IsSilence Closed = Unit {0}
 IsSilence Quiet = Unit {0}
 
--- a note with which nothing is committed
+-- Holds if no burst passes in a step with this note, so that nothing is committed.
 abbrev pub IsNoPass : Option CheckNote → Type 0
 IsNoPass None = Unit {0}
 IsNoPass (Some (Passed number start len)) = ⊥

@@ -9,7 +9,7 @@ use Rattle.link_verdicts.specs.Verdicts.{CheckState}
 use Rattle.link_verdicts.specs.Checking.{FullNote, checker, at_floor, brief_note, passed_in}
 use Rattle.link_verdicts.specs.declared.note.CheckNote.{CheckNote}
 
--- its walk, by the rules of a protocol and a MAC, with words of this many bytes
+-- the walk of the receiver, for the rules of a protocol and a MAC, with words of this many bytes
 abbrev pub check_walking : {R M : Type 0} → LineRules R → Mac M → ℕ → Walking CheckNote
 check_walking proto macs word_len = record {
   State = CheckState;

@@ -1,4 +1,4 @@
--- What the steps of a receiver answer, and what they do to its journal.
+-- What the steps of a receiver return, and what they do to its journal.
 use Rattle.std.specs.Prelude.{◌≡◌, ℕ, List, [], ◌∷◌, ◌++◌, length, Option, Some, None}
 use Rattle.std.specs.Prelude.{Result, IfOk, OnOk, OnErr}
 use Rattle.yasir_ticks.specs.declared.tick.Tick.{Tick}
@@ -18,13 +18,14 @@ use Rattle.link_verdicts.specs.declared.note.CheckNote.{CheckNote}
 use Rattle.link_verdicts.specs.declared.note.CheckNote.TheVariants.{Passed, Refused, Dropped}
 use Rattle.burst_walk.specs.declared.box_step.BoxStep.{BoxStep}
 
--- A step answers, after these ticks of the link and with one tick more, the tick of the device's
--- line and the note that the definitions add.
+-- Holds if the step for the tick `t`, after the ticks `line` of the link, returns the tick of the
+-- device's line and the note that the definitions add.
 abbrev pub AnswersTick : Profile → Rules → ℕ → List Tick → Tick → BoxStep CheckNote → Type 0
 AnswersTick profile rules floor line t step =
     AnswersTickOf (checker profile rules) brief_note (at_floor floor) line t step.tick step.note
 
--- By the definitions a burst passes with this number in the step of this tick.
+-- Holds if, by the definitions, a burst passes with this number in the step of the tick `t`, which
+-- comes after `line`.
 pub record PassesWith (profile : Profile) (rules : Rules) (floor : ℕ) (line : List Tick) (t : Tick)
     (number : ℕ) : Type 0 where
   pub start : ℕ
@@ -33,8 +34,8 @@ pub record PassesWith (profile : Profile) (rules : Rules) (floor : ℕ) (line : 
       ≡ check_notes profile rules floor line
       ++ record { tick = length line; note = passed_note number start frame } ∷ []
 
--- By its note a step has committed the number of a frame that passes, or has left journal and disk
--- as they were.
+-- Holds if a step did what its note says: it has committed the number of the frame that passes, or
+-- has left the journal and the disk as they were.
 abbrev pub CommitsNoted : {S : Type 0} → SlotDisk S → Journal → Journal → S → S → Option CheckNote
     → Type 0
 CommitsNoted d old new disk_old disk_new (Some (Passed number start len)) =
@@ -45,7 +46,7 @@ CommitsNoted d old new disk_old disk_new (Some (Dropped start why)) =
     (new ≡ old) × (disk_new ≡ disk_old)
 CommitsNoted d old new disk_old disk_new None = (new ≡ old) × (disk_new ≡ disk_old)
 
--- the number that a note has
+-- the number of the note, if it has one
 abbrev pub numbers_noted : Option CheckNote → List ℕ
 numbers_noted (Some (Passed number start len)) = number ∷ []
 numbers_noted (Some (Refused start why)) = []
@@ -60,8 +61,8 @@ pub record KeepsJournal {S : Type 0} (d : SlotDisk S) (old new : Journal) (disk_
   pub fits : OnOk result (Fits new (d.told disk_new))
   pub failed : OnErr result
       ((number : ℕ) × HasFailed old new (d.told disk_old) (d.told disk_new) number)
-  -- Where a crash before the step left no floor below the journal's, one after it leaves none below
-  -- what is then the journal's, and one at any moment inside it leaves none below what was.
+  -- If the journal is crash-safe before the step, it is so after it, and a crash at any moment
+  -- inside the step leaves no floor below the one before it.
   pub crash_safe : IsCrashSafe old (d.told disk_old) (d.may_leave disk_old)
       → IsCrashSafe new (d.told disk_new) (d.may_leave disk_new)
   pub any_moment : IsCrashSafe old (d.told disk_old) (d.may_leave disk_old)

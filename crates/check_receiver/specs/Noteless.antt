@@ -1,4 +1,4 @@
--- Ticks of which a receiver is sure that they have no note.
+-- Ticks of which a receiver is sure that they are noteless.
 use Rattle.std.specs.Prelude.{ℕ, ◌+◌, ◌-◌, ◌==◌, nat_le, nat_lt, not, Bool, true, false, List}
 use Rattle.std.specs.Prelude.{[], ◌∷◌, length, if◌then◌else◌}
 use Rattle.yasir_ticks.specs.declared.TheConstants.{T3_5_TICKS}
@@ -12,7 +12,7 @@ use Rattle.frame_ending.specs.SoFar.{live_bytes_so_far, is_over_so_far, quiet_so
 use Rattle.check_receiver.specs.Phases.{is_open}
 use Rattle.check_receiver.specs.declared.checker.Checker.{Checker}
 
--- whether a header isn't whole, is good, is no bad one
+-- whether a header isn't whole yet, whether it is good, and whether it isn't bad
 abbrev pub is_short : Head → Bool
 is_short Short = true
 is_short Good = false
@@ -30,17 +30,17 @@ is_no_bad Good = true
 
 module _ {R M : Type 0} (proto : LineRules R) {B D : ℕ} (value : Checker R M B D)
     (line : List Tick) where
-  -- in how many steps the last live byte leaves, counted from the next one on
+  -- how many steps after the next one the last live byte leaves
   abbrev still : ℕ
   still = value.until - 1
 
-  -- What the header says of the burst whose verdict is open.
+  -- what is known of the header of the burst whose verdict is open
   abbrev head : Head
   head = head_of proto.rules (live_bytes_so_far proto.rules line)
 
-  -- Silence has no note where no verdict is open. Else it breaks the burst off where a byte of the
-  -- trailer is due; and as the second silent tick behind the live bytes it ends them, so that their
-  -- header must be whole.
+  -- Whether a silent tick is noteless. It is if no verdict is open. Otherwise it isn't in two
+  -- cases: a byte of the trailer must come now, and so the burst is refused; or this is the second
+  -- silent tick after the live bytes and the header isn't whole, and so the burst is dropped.
   abbrev pub silence_has_none : Bool
   silence_has_none =
       if not (is_open value.phase) then true
@@ -48,18 +48,21 @@ module _ {R M : Type 0} (proto : LineRules R) {B D : ℕ} (value : Checker R M B
       else if still + 2 == D then not (is_short head)
       else true
 
-  -- The first byte of a burst has no note where the burst is in time and the byte is no bad header.
+  -- Whether the first byte of a burst is noteless: the burst doesn't start too soon, and the byte
+  -- isn't a bad header by itself.
   abbrev pub first_has_none : ℕ → Bool
   first_has_none b =
       if nat_lt (length line) value.earliest_start then false
       else is_no_bad (head_of proto.rules (b ∷ []))
 
-  -- A byte that isn't live has none where it is one of the trailer, and not its last one.
+  -- Whether a byte that isn't live is noteless while a verdict is open: it is one of the trailer,
+  -- but not its last one.
   abbrev pub extra_has_none : Bool
   extra_has_none = if nat_lt (still + 3) D then nat_lt 1 still else false
 
-  -- A further byte has none where no verdict is open. A live one has none behind a good header; of
-  -- one that makes a header whole the receiver isn't sure.
+  -- Whether a byte that begins no burst is noteless. It is if no verdict is open. Otherwise a byte
+  -- that isn't live is as `extra_has_none` says, and a live byte is if it follows a good header: of
+  -- the bytes of a header the receiver isn't sure.
   abbrev pub further_has_none : Bool
   further_has_none =
       if not (is_open value.phase) then true

@@ -1,4 +1,4 @@
--- What a receiver is in, and what is left to leave then.
+-- The phases of a receiver, and what hasn't left yet in each of them.
 use Rattle.std.specs.Prelude.{◌≡◌, ℕ, ◌+◌, ◌<◌, nat_lt, Bool, true, false, if◌then◌else◌}
 use Rattle.check_receiver.specs.declared.phase.Phase.{Phase}
 use Rattle.check_receiver.specs.declared.phase.Phase.TheVariants.{Idle, Open, Leaving}
@@ -9,26 +9,28 @@ is_open Idle = false
 is_open Open = true
 is_open (Leaving passed) = false
 
--- whether a burst that passes is leaving, behind its verdict
+-- whether a burst that has passed is still leaving
 abbrev pub passes_in : Phase → Bool
 passes_in Idle = false
 passes_in Open = false
 passes_in (Leaving passed) = passed
 
--- whether no verdict is open and nothing is left to leave
+-- whether no verdict is open, and everything has left
 abbrev pub is_idle : Phase → Bool
 is_idle Idle = true
 is_idle Open = false
 is_idle (Leaving passed) = false
 
--- What is left to leave: live ticks, the last of them so many steps from now, and so many bytes of
--- a fill. Nothing while the receiver is idle, and something while a noted burst still leaves.
+-- Holds if a receiver in this phase can have live ticks of which the last leaves `until` steps from
+-- now, and owe `owed` bytes of a fill: both are 0 if it is idle, and one of them isn't while a
+-- noted burst is still leaving.
 abbrev pub LeftIn : Phase → ℕ → ℕ → Type 0
 LeftIn Idle until owed = (until ≡ 0) × (owed ≡ 0)
 LeftIn Open until owed = Unit {0}
 LeftIn (Leaving passed) until owed = 0 < until + owed
 
--- what it is in where the last live tick leaves so many steps from now, and a fill is owed or none
+-- the phase at the end of a step, if the last live tick leaves `until` steps later, and `owes` says
+-- whether bytes of a fill are owed
 abbrev pub settled : Phase → ℕ → Bool → Phase
 settled Idle until owes = Idle
 settled Open until owes = Open

@@ -1,4 +1,4 @@
--- What a receiver stands for.
+-- What a receiver represents: its setup, and the ticks that it has taken.
 use Rattle.std.specs.Prelude.{◌≡◌, ℕ, ◌+◌, ◌-◌, ◌<◌, ◌≤◌, Bool, false, List, ◌∷◌, ◌++◌, []}
 use Rattle.std.specs.Prelude.{length, Option, IfSome, IfNone, is_some}
 use Rattle.yasir_ticks.specs.Ticks.{silent, bytes_in}
@@ -30,16 +30,17 @@ use Rattle.burst_walk.specs.declared.box_step.BoxStep.{BoxStep}
 use Rattle.link_verdicts.specs.declared.note.CheckNote.{CheckNote}
 
 module _ {R M : Type 0} (proto : LineRules R) (macs : Mac M) where
-  -- Of a burst whose verdict is open the MAC has taken the live bytes, and the bytes of the
-  -- trailer are kept.
+  -- Holds if the MAC has taken the live bytes of the burst `d`, whose verdict is open, and the
+  -- bytes of its trailer that have come are kept.
   pub record MacHolds {B : ℕ} (setup : Setup) (mac : M) (arriving : Arriving B) (d : Burst) :
       Type 0 where
     pub mac_is : macs.stands mac setup.key
         (proto.rules.label ∷ setup.direction ∷ live_bytes proto.rules d)
     pub come : bytes_come arriving ≡ trailer_so_far proto.rules d
 
-  -- A receiver has come so far over a link: the last number that passed, the first tick at which a
-  -- burst isn't too soon, and what it holds.
+  -- Holds if a receiver has come so far over the ticks of a link: `last` is the last number that
+  -- passed, a burst that starts before tick `earliest` starts too soon, and the other values are
+  -- what it holds.
   pub record Walks (B D last earliest : ℕ) (waits passes : Bool) (mac : M) (arriving : Arriving B)
       (ring : DelayRing D) (until : ℕ) (outlet : Outlet R) (setup : Setup) (line : List Tick) :
       Type 0 where
@@ -50,7 +51,7 @@ module _ {R M : Type 0} (proto : LineRules R) (macs : Mac M) where
         (length line) (bursts line) (record { floor = last; earliest_start = earliest }) passes
         left live (owed_by outlet) waiting
     pub outlet_is : OutletStandsFor proto outlet left
-    -- all bytes of a refused burst are known while they leave
+    -- while the live ticks of a refused burst leave, the outlet knows all its bytes
     pub knows : IfNone waiting (passes ≡ false → 0 < length live
         → Refuses proto outlet (left ++ bytes_in live))
     pub ring_is : ring_ticks ring ≡ live ++ silent (D - length live)
@@ -60,11 +61,12 @@ module _ {R M : Type 0} (proto : LineRules R) (macs : Mac M) where
     pub mac_stands : (text : List ℕ) × macs.stands mac setup.key text
     pub mac_holds : IfSome waiting (λ d. MacHolds setup mac arriving d)
 
-  -- Set up so, the receiver has taken these ticks, and the last number that passed is this one.
+  -- Holds if the receiver, with this setup, has taken the ticks of `line`, and `last` is the last
+  -- number that passed.
   pub record StandsAt {B D : ℕ} (value : Checker R M B D) (last : ℕ) (setup : Setup)
       (line : List Tick) : Type 0 where
     pub word_is : IsWordLen B
-    -- so that a header is whole before its first byte leaves
+    -- a word has at least two bytes, so that a header is whole before its first byte leaves
     pub wide : 2 ≤ B
     pub delay_is : D ≡ 4 + B + macs.TAG
     pub direction_is : direction_number value.direction ≡ setup.direction
@@ -73,12 +75,13 @@ module _ {R M : Type 0} (proto : LineRules R) (macs : Mac M) where
     pub walks : Walks B D last value.earliest_start (is_open value.phase) (passes_in value.phase)
         value.mac value.arriving value.ring value.until value.outlet setup line
 
-  -- set up so, it has taken these ticks, and its journal is this one
+  -- Holds if the receiver, with this setup, has taken the ticks of `line`, and its journal is
+  -- `journal`.
   abbrev pub StandsFor : {B D : ℕ} → Checker R M B D → Journal → Setup → List Tick → Type 0
   StandsFor value journal setup line = StandsAt value (journal_floor journal) setup line
 
-  -- After these ticks the receiver has taken one more: it then stands for this, the last number
-  -- is that of the last frame that passed, and it answers as the definitions say.
+  -- Holds if the receiver, after `line`, has taken the tick `t` as well: it represents both, the
+  -- last number is that of the last frame that passed, and `step` is what the definitions say.
   pub record HasTaken {B D : ℕ} (value : Checker R M B D) (last : ℕ) (setup : Setup)
       (line : List Tick) (t : Tick) (step : BoxStep CheckNote) : Type 0 where
     pub stands : StandsAt value last setup (line ++ t ∷ [])
@@ -87,10 +90,10 @@ module _ {R M : Type 0} (proto : LineRules R) (macs : Mac M) where
     pub answers : AnswersTick (profile_of proto macs B LIMIT setup) proto.rules setup.floor line t
         step
 
--- how many ticks it has taken
+-- how many ticks the receiver has taken
 abbrev pub ticks_taken : {R M : Type 0} {B D : ℕ} → Checker R M B D → ℕ
 ticks_taken value = ticks_cut value.cut
 
--- the number of its direction
+-- the number of the receiver's direction
 abbrev pub direction_of : {R M : Type 0} {B D : ℕ} → Checker R M B D → ℕ
 direction_of value = direction_number value.direction

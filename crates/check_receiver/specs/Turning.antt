@@ -1,4 +1,4 @@
--- What the turn of the ring does: a tick enters it, and what leaves goes through the outlet.
+-- What a turn of the ring does: a tick enters it, and what leaves goes through the outlet.
 use Rattle.std.specs.Prelude.{◌≡◌, ℕ, ◌==◌, nat_lt, false, List, [], ◌∷◌, ◌++◌, slice_index_or}
 use Rattle.std.specs.Prelude.{drop}
 use Rattle.yasir_ticks.specs.declared.tick.Tick.{Tick}
@@ -16,8 +16,8 @@ use Rattle.check_receiver.specs.Phases.{passes_in, settled}
 use Rattle.check_receiver.specs.declared.checker.Checker.{Checker}
 use Rattle.check_receiver.specs.declared.phase.Phase.TheVariants.{Idle, Leaving}
 
--- A tick has entered the ring, and this one has left. Where all of a burst has left then, the
--- receiver is idle; all else is as it was.
+-- Holds if the tick `entering` has entered the ring, and the tick `answer` has left through the
+-- outlet. If all of a burst has left with it, the receiver is idle. Everything else is as it was.
 pub record Turned {R M : Type 0} {B D : ℕ} (proto : LineRules R) (old new : Checker R M B D)
     (entering answer : Tick) : Type 0 where
   pub others : new ≡ record old { ring = new.ring; outlet = new.outlet; phase = new.phase }
@@ -27,23 +27,24 @@ pub record Turned {R M : Type 0} {B D : ℕ} (proto : LineRules R) (old new : Ch
       (slice_index_or (ring_ticks old.ring) 0 Silent)
   pub phase : new.phase ≡ settled old.phase old.until (nat_lt 0 (owed_by new.outlet))
 
--- with this ring, and idle
+-- the receiver with this ring, and idle
 abbrev pub dropped : {R M : Type 0} {B D : ℕ} → Checker R M B D → DelayRing D → Checker R M B D
 dropped old ring = record old { phase = Idle; until = 0; ring = ring }
 
--- all ticks of the ring are gone, and then a silent one has entered
+-- Holds if the ring has been cleared and the receiver made idle, and then a silent tick has entered
+-- the ring.
 pub record TurnedClear {R M : Type 0} {B D : ℕ} (proto : LineRules R) (old new : Checker R M B D)
     (answer : Tick) : Type 0 where
   pub ring : DelayRing D
   pub clear : ring_ticks ring ≡ silent D
   pub turned : Turned proto (dropped old ring) new Silent answer
 
--- the last live byte leaves this many steps later
+-- the receiver, whose last live byte leaves `n` steps later
 abbrev pub with_until : {R M : Type 0} {B D : ℕ} → ℕ → Checker R M B D → Checker R M B D
 with_until n old = record old { until = n }
 
--- with this outlet, what follows of a burst that doesn't pass leaves, and the next burst may start
--- from this tick on
+-- the receiver after it has refused a burst: what follows of the burst leaves through this outlet,
+-- and the next burst may start from tick `earliest` on
 abbrev pub refused : {R M : Type 0} {B D : ℕ} → Checker R M B D → Outlet R → ℕ → Checker R M B D
 refused old outlet earliest = record old {
   phase = Leaving false;
@@ -51,7 +52,8 @@ refused old outlet earliest = record old {
   outlet = outlet;
 }
 
--- the outlet knows all bytes of the burst that is refused, and then a silent tick has entered
+-- Holds if the outlet knows all bytes of the burst that is refused, and then a silent tick has
+-- entered the ring.
 pub record TurnedRefused {R M : Type 0} {B D : ℕ} (proto : LineRules R) (old new : Checker R M B D)
     (answer : Tick) : Type 0 where
   pub outlet : Outlet R

@@ -7,12 +7,13 @@ use byteorder::{BigEndian, ByteOrder};
 use hmac_tag::TagBytes;
 use sequence_journal::{LIMIT, full_with};
 
-/// How many bytes a trailer has at most: a word of 4 and a tag of 16.
+/// How many bytes a trailer can have: a word of 4 and a tag of 16.
 const ROOM: usize = 20;
 
 // Whether these are the same bytes. All of them are looked at, wherever they differ, and none of
-// them decides a branch: the bits that differ are gathered, and whether there are any is asked
-// once. So what can be seen of the time tells nothing of how many bytes of a forged tag are right.
+// them decides a branch: the bits that differ are gathered, and only after the last byte it is
+// asked whether there are any. So the time that this takes says nothing about how many bytes of a
+// forged tag are right.
 fn are_same(left: &[u8], right: &[u8]) -> bool
     ensures { result ≡ bytes_eq left.now right.now }
 {
@@ -41,7 +42,7 @@ impl<const B: usize> Arriving<B> {
     ghost use Rattle.sequence_journal.specs.Numbers.{full_of};
     ghost use Rattle.check_receiver.specs.Arrivals.{bytes_come};
 
-    /// Nothing has come.
+    /// Makes a trailer of which nothing has come.
     pub fn none() -> Arriving<B>
         requires word { IsWordLen B }
         ensures { bytes_come result ≡ [] }
@@ -59,7 +60,7 @@ impl<const B: usize> Arriving<B> {
         self.bytes = ArrayVec::new();
     }
 
-    /// Takes the next byte.
+    /// Takes the next byte, if there is room for it.
     #[inline]
     pub fn take(&mut self, byte: u8)
         ensures { length (bytes_come self.old) < 20
@@ -68,7 +69,7 @@ impl<const B: usize> Arriving<B> {
         let _ = self.bytes.try_push(byte);
     }
 
-    /// Takes the next bytes.
+    /// Takes the next bytes, if there is room for them.
     #[inline]
     pub fn take_some(&mut self, bytes: &[u8])
         ensures { length (bytes_come self.old) + length bytes.now ≤ 20
@@ -77,7 +78,7 @@ impl<const B: usize> Arriving<B> {
         let _ = self.bytes.try_extend_from_slice(bytes);
     }
 
-    // How many words there are.
+    // Returns how many different words of `B` bytes there are.
     fn words() -> u64
         requires word { IsWordLen B }
         ensures count { result ≡ 256 ^ B }
@@ -96,7 +97,7 @@ impl<const B: usize> Arriving<B> {
         4_294_967_296
     }
 
-    /// The number that the word stands for above this floor, if there is one.
+    /// Returns the full number of the word above this floor, if there is one.
     #[inline]
     pub fn number_above(&self, floor: u64) -> Option<u64>
         requires floor { floor ≤ LIMIT }
@@ -112,7 +113,7 @@ impl<const B: usize> Arriving<B> {
         full_with(LIMIT, words, floor, word % words)
     }
 
-    /// Whether the bytes behind the word are those of this tag.
+    /// Whether the bytes after the word are those of this tag.
     pub fn has_tag(&self, tag: &TagBytes) -> bool
         ensures { B ≤ length (bytes_come self.now)
             → result ≡ bytes_eq (drop B (bytes_come self.now)) tag.now.items }

@@ -23,24 +23,24 @@ const PAUSE: usize = 3;
 
 /// The receiver, by the rules `R` of a protocol, with words of `B` bytes and tags by `M`. Each live
 /// byte of a burst that isn't dropped leaves `D` ticks after it came. So a burst may begin to leave
-/// before the verdict on it is known, but its last byte leaves just behind the verdict: spoiled,
-/// where the burst is refused. For that `D` is as long as the pause, the word and the tag, and one
-/// tick more.
+/// before the verdict on it is known, but its last byte leaves right after the verdict, and can be
+/// spoiled if the burst is refused. For this, `D` is one tick more than the pause, the word and the
+/// tag together.
 ///
-/// Of a frame it keeps the bytes that are still to leave, and no others itself: each live byte goes
-/// into the text of the tag as it comes, and may wait in the MAC. The bytes of a trailer are kept,
-/// and the tag is made where the burst is a frame with a whole trailer.
+/// Of a frame it keeps only the bytes that haven't left yet. Each live byte also goes into the text
+/// of the tag as it comes, and may wait in the MAC. The bytes of a trailer are kept, and the tag is
+/// made only if the burst is a frame with a whole trailer.
 #[derive(Drop)]
 pub struct Checker<R, M, const B: usize, const D: usize> {
     cut: BurstCut<R>,
     mac: M,
     direction: Dir,
-    // the first tick at which a burst that starts isn't dropped for want of time
+    // a burst that starts before this tick is dropped, as the receiver is busy
     earliest_start: u64,
     phase: Phase,
     // what has come of the trailer of the burst whose verdict is open
     arriving: Arriving<B>,
-    // the live ticks that are still to leave, and how many steps from now the last of them leaves
+    // the live ticks that haven't left yet, and in how many steps the last of them leaves
     ring: DelayRing<D>,
     until: u8,
     outlet: Outlet<R>,
@@ -79,8 +79,8 @@ impl<R: LineRules, M: Mac, const B: usize, const D: usize> Checker<R, M, B, D> {
     ghost use Rattle.check_receiver.specs.Stands.{StandsAt, direction_of};
     ghost use Rattle.check_receiver.specs.Runs.{HasTakenRun};
 
-    /// A receiver that has taken no tick, for a key of any length and a direction. A word has two
-    /// bytes at least, so that each header is judged before its first byte leaves.
+    /// Makes a receiver that has taken no tick, for a key of any length and a direction. A word
+    /// must have at least two bytes, so that each header is judged before its first byte leaves.
     pub fn new(key: &[u8], dir: Dir) -> Checker<R, M, B, D>
         requires word { IsWordLen B }
         requires wide { 2 ≤ B }
@@ -103,12 +103,12 @@ impl<R: LineRules, M: Mac, const B: usize, const D: usize> Checker<R, M, B, D> {
         }
     }
 
-    /// Takes the next tick of the link, and returns the tick that the device is sent at the same
-    /// place, with the note that falls into this step. The journal is that of the steps before and
-    /// serves the receiver's own link, and the disk is the journal's. Fewer than `MAX_TICKS` ticks
-    /// were taken before.
+    /// Takes the next tick of the link. Returns the tick that the device is sent at the same place,
+    /// and the note that falls into this step, if there is one. The journal must be that of the
+    /// steps before and serve the receiver's own link, and the disk must be the journal's. Fewer
+    /// than `MAX_TICKS` ticks may have been taken before.
     ///
-    /// It fails where the number of a frame that passes isn't committed. No step follows.
+    /// It fails if the number of a frame that passes isn't committed. Then no step may follow.
     #[inline(always)]
     pub fn step<S: SlotDisk>(
         &mut self,
@@ -126,7 +126,8 @@ impl<R: LineRules, M: Mac, const B: usize, const D: usize> Checker<R, M, B, D> {
             → StandsFor R.LineRules M.Mac self.old journal.old setup line
             → HasTaken R.LineRules M.Mac self.new (journal_floor journal.new) setup line t step) }
 
-        // It fails only in a step in which a burst passes, with the number that isn't committed.
+        // It fails only in a step in which a burst passes by the definitions, and its number isn't
+        // committed.
         ensures err_passes { OnErr result ((number : ℕ)
             × HasFailed journal.old journal.new (S.told disk.old) (S.told disk.new) number
             × ((setup : Setup) (line : List Tick)
@@ -146,9 +147,10 @@ impl<R: LineRules, M: Mac, const B: usize, const D: usize> Checker<R, M, B, D> {
         }
     }
 
-    /// Takes the first of these bytes, one a tick, as far as no note falls into their steps and
-    /// what leaves is alike, all bytes or all silence. Returns how many; `sent` gets the bytes that
-    /// leave, one for each, or none where silence leaves. With 0 the caller goes on by `step`.
+    /// Takes these bytes, one in each tick, as long as no note falls into their steps and the ticks
+    /// that leave are alike, all bytes or all silence. Returns how many it has taken. Puts into
+    /// `sent` the bytes that leave, one for each byte taken, or nothing if silence leaves. If it
+    /// returns 0, the caller must go on with `step`.
     #[inline(always)]
     pub fn pass_bytes(&mut self, bytes: &[u8], sent: &mut RunBytes) -> usize
         requires { ticks_taken self.old + length bytes.now ≤ MAX_TICKS }
@@ -173,9 +175,10 @@ impl<R: LineRules, M: Mac, const B: usize, const D: usize> Checker<R, M, B, D> {
         }
     }
 
-    /// Takes the first of this many silent ticks, as far as no note falls into their steps and what
-    /// leaves is alike, all bytes or all silence. Returns how many; `sent` gets the bytes that
-    /// leave, one for each, or none where silence leaves. With 0 the caller goes on by `step`.
+    /// Takes up to `ticks` silent ticks, as long as no note falls into their steps and the ticks
+    /// that leave are alike, all bytes or all silence. Returns how many it has taken. Puts into
+    /// `sent` the bytes that leave, one for each tick taken, or nothing if silence leaves. If it
+    /// returns 0, the caller must go on with `step`.
     #[inline(always)]
     pub fn pass_silence(&mut self, ticks: u32, sent: &mut RunBytes) -> u32
         requires { ticks_taken self.old + ticks ≤ MAX_TICKS }
@@ -198,7 +201,7 @@ impl<R: LineRules, M: Mac, const B: usize, const D: usize> Checker<R, M, B, D> {
         }
     }
 
-    // Whether the burst has a whole and good header.
+    // Whether the running burst, or else the last one, has a whole and good header.
     #[inline]
     fn has_good_head(&self) -> bool
         ensures { result ≡ true → (line : List Tick) → CutStandsFor R.LineRules self.now.cut line
@@ -210,8 +213,8 @@ impl<R: LineRules, M: Mac, const B: usize, const D: usize> Checker<R, M, B, D> {
         }
     }
 
-    // What leaves in this step, where the tick `t` enters the ring. The receiver is idle once all
-    // of a burst has left.
+    // Puts the tick `t` into the ring, and returns the tick that leaves in this step. The receiver
+    // is idle when all of a burst has left.
     #[inline(always)]
     fn turn(&mut self, t: Tick) -> Tick
         ensures { Turned R.LineRules self.old self.new t result }
@@ -221,7 +224,7 @@ impl<R: LineRules, M: Mac, const B: usize, const D: usize> Checker<R, M, B, D> {
         left
     }
 
-    // What leaves, through the outlet.
+    // Puts the tick `t` into the ring, and returns what leaves, which goes through the outlet.
     #[inline(always)]
     fn let_out(&mut self, t: Tick) -> Tick
         ensures others { self.new
@@ -242,7 +245,7 @@ impl<R: LineRules, M: Mac, const B: usize, const D: usize> Checker<R, M, B, D> {
         }
     }
 
-    // A step in which no live byte enters the ring, and with this note.
+    // Makes a step in which no live byte enters the ring, with this note.
     #[inline(always)]
     fn pass_by(&mut self, note: Option<CheckNote>) -> BoxStep<CheckNote>
         ensures turned { Turned R.LineRules self.old self.new Silent result.tick }
@@ -254,7 +257,7 @@ impl<R: LineRules, M: Mac, const B: usize, const D: usize> Checker<R, M, B, D> {
         }
     }
 
-    // What the header of the burst says that is running or was the last.
+    // Returns what is known of the header of the running burst, or else of the last one.
     #[inline]
     fn head(&self) -> Head
         ensures { (line : List Tick) → CutStandsFor R.LineRules self.now.cut line
@@ -263,7 +266,7 @@ impl<R: LineRules, M: Mac, const B: usize, const D: usize> Checker<R, M, B, D> {
         self.cut.rules().head()
     }
 
-    /// The live bytes of the burst of the link that is running or was the last.
+    /// Returns the live bytes of the running burst of the link, or else of the last one.
     #[inline]
     pub fn live_bytes(&self) -> &R
         ensures { (last : ℕ) (setup : Setup) (link : List Tick)

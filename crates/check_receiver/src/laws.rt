@@ -10,9 +10,10 @@ ghost use Rattle.check_receiver.specs.Checkings.{KeepsJournal, numbers_noted};
 
 use yasir_io::SlotDisk;
 
-/// A call of the receiver's `step` is a step of an uptime: it returns the number of its note, and a
-/// crash at any moment inside it leaves no floor below the one before. The next step goes on from
-/// the last number answered. The calls that take runs have no disk.
+/// A call of the receiver's `step` is a step of an uptime, if the journal is crash-safe before it:
+/// its number, if it has one, is that of the note that it returns, and a crash at any moment inside
+/// it leaves no floor below the one before it. The next step goes on from the last number returned.
+/// The calls that take runs have no disk.
 pub fn steps_are_of_an_uptime<D: SlotDisk>()
     ensures is_step { (old new : Journal) (before after : D)
         (result : Result (BoxStep CheckNote) JournalFault)

@@ -1,7 +1,8 @@
-//! The receiver: it hands each byte of a link on a fixed number of ticks later, before it knows the
-//! verdict on its burst, and spoils the ending of what it refuses.
+//! The receiver: it sends on the live bytes of each burst that it doesn't drop, a fixed number of
+//! ticks later. A burst may begin to leave before its verdict is known, and the ending of a burst
+//! that is refused is spoiled.
 //!
-//! Modbus RTU with the profile y18, whose delay is 18 ticks:
+//! For Modbus RTU with the profile y18, whose delay is 18 ticks:
 //!
 //!     let mut checker: Checker<Rtu, HmacSha1, 2, 18> = Checker::new(&key, Dir::Ab);
 //!     let mut journal = Journal::load(&mut disk, &link)?;

@@ -1,23 +1,23 @@
-//! What a receiver is in.
+//! The phases of a receiver.
 ghost use Rattle.std.specs.Prelude.{◌≡◌};
 ghost use Rattle.check_receiver.specs.Phases.{is_idle, is_open, passes_in, settled};
 
-/// What a receiver is in. The first byte of a burst that isn't too soon opens it, and the burst's
-/// note ends that. The receiver is then idle as soon as all of the burst that leaves has left,
-/// which is at once where nothing of it does.
+/// What a receiver is doing. The first byte of a burst that doesn't start too soon opens its
+/// verdict, and the burst's note ends that. The receiver is then idle as soon as all of the burst
+/// that leaves has left, which is at once if nothing of it leaves.
 #[derive(Clone, Copy)]
 pub enum Phase {
-    /// No verdict is open, and nothing is left to leave.
+    /// No verdict is open, and everything has left.
     Idle,
     /// The verdict on a burst is open.
     Open,
-    /// The verdict on a burst is known, whether it passes or is refused, and live ticks of it are
-    /// still leaving, or the fill behind those of a refused one.
+    /// The verdict on a burst is known, whether it passes or is refused, and some of its live ticks
+    /// are still leaving, or the fill after those of a refused one.
     Leaving { passed: bool },
 }
 
 impl Phase {
-    /// Whether no verdict is open, and nothing is left to leave.
+    /// Whether no verdict is open, and everything has left.
     #[inline]
     pub fn is_idle(self) -> bool
         ensures { result ≡ is_idle self }
@@ -39,7 +39,7 @@ impl Phase {
         }
     }
 
-    /// Whether a burst that passes is leaving, behind its verdict.
+    /// Whether a burst that has passed is still leaving.
     #[inline]
     pub fn passes(self) -> bool
         ensures { result ≡ passes_in self }
@@ -50,8 +50,9 @@ impl Phase {
         }
     }
 
-    /// What it is in where the last live tick leaves so many steps from now, and a fill is owed or
-    /// none: once all of a burst has left, it is idle.
+    /// Returns the phase at the end of a step, if the last live tick leaves `until` steps later,
+    /// and `owes` says whether bytes of a fill are owed. When all of a burst has left, the receiver
+    /// is idle.
     #[inline]
     pub fn settled(self, until: u8, owes: bool) -> Phase
         ensures { result ≡ settled self until owes }

@@ -18,8 +18,8 @@ use delay_ring::DelayRing;
 use frame_ending::BurstCut;
 use line_rules::{Head, LineRules};
 
-// Takes the first of these bytes, one a tick, as far as they are alike, all live or none, and begin
-// no burst. Returns how many.
+// Takes these bytes, one in each tick, as long as they begin no burst and are alike: all live, or
+// none. Returns how many it has taken.
 #[inline]
 pub fn cut_some<R: LineRules>(cut: &mut BurstCut<R>, bytes: &[u8]) -> usize
     requires { ticks_cut cut.old + length bytes.now ≤ MAX_TICKS }
@@ -39,10 +39,10 @@ pub fn cut_some<R: LineRules>(cut: &mut BurstCut<R>, bytes: &[u8]) -> usize
     cut.pass_over_some(bytes)
 }
 
-// How many bytes a header has at most.
+// The greatest number of bytes that a header has.
 const HEADER_MOST: usize = 10;
 
-// Whether there is a whole and good header so far.
+// Whether the bytes so far have a whole and good header.
 #[inline]
 fn has_good_head<R: LineRules>(rules: &R) -> bool
     ensures { result ≡ true → (x : List ℕ) → R.stands rules.now x → head_of R.rules x ≡ Good }
@@ -71,8 +71,8 @@ pub fn begin_well<R: LineRules>(bytes: &[u8]) -> bool
     }
 }
 
-// The first ones of these bytes that begin a burst without a note: all of them where they begin with
-// a good header, and else those in which it isn't whole as yet.
+// Returns the bytes at the front that begin a burst without a note: all of them if they begin with
+// a good header, and otherwise those in which the header isn't whole yet.
 #[inline]
 pub fn noteless_front<R: LineRules>(bytes: &[u8]) -> &[u8]
     ensures within { length result.now ≤ length bytes.now }
@@ -86,8 +86,8 @@ pub fn noteless_front<R: LineRules>(bytes: &[u8]) -> &[u8]
     front_of_header::<R>(bytes)
 }
 
-// The bytes in front in which a header isn't whole as yet; none where it is whole in fewer than
-// `HEADER_MOST` bytes.
+// Returns the bytes at the front in which a header isn't whole yet, or none if it is whole in fewer
+// than `HEADER_MOST` bytes.
 #[inline(never)]
 fn front_of_header<R: LineRules>(bytes: &[u8]) -> &[u8]
     ensures within { length result.now ≤ length bytes.now }
@@ -104,8 +104,8 @@ fn front_of_header<R: LineRules>(bytes: &[u8]) -> &[u8]
     }
 }
 
-// Lends the bytes that leave in the next ticks, this many and none of them a burst's last one. The
-// ticks are alike, and where they are silent it lends none.
+// Puts into `sent` the bytes that leave in the next `count` ticks, none of which is a burst's last
+// one. The ticks must be alike; if they are silent, there are no such bytes.
 #[inline]
 pub fn lend<const D: usize>(ring: &DelayRing<D>, count: usize, sent: &mut RunBytes)
     requires within { count ≤ D }
@@ -120,11 +120,11 @@ pub fn lend<const D: usize>(ring: &DelayRing<D>, count: usize, sent: &mut RunByt
     let _ = sent.try_extend_from_slice(front);
 }
 
-// How many bytes a run has at most.
+// The greatest number of bytes of a run.
 const LONGEST: usize = 64;
 
-// How many of these bytes may come while all ticks that leave are alike, all bytes or all silence:
-// those of the ring, and behind them the bytes themselves.
+// Returns how many of these bytes can come while all ticks that leave are alike, all bytes or all
+// silence. First the ticks of the ring leave, and then the bytes themselves.
 #[inline]
 pub fn alike_along<const D: usize>(ring: &DelayRing<D>, bytes: &[u8]) -> usize
     ensures within { result ≤ length bytes.now }
@@ -142,9 +142,9 @@ pub fn alike_along<const D: usize>(ring: &DelayRing<D>, bytes: &[u8]) -> usize
     most
 }
 
-// Lends the bytes that leave while this many of these bytes come, none of them a burst's last one.
-// All ticks that leave are alike: where they are bytes, it lends those that leave the ring, and
-// behind those of a whole ring the bytes themselves.
+// Puts into `sent` the bytes that leave while the first `count` of these bytes come, none of which
+// is a burst's last one. All ticks that leave must be alike. If they are bytes, first those of the
+// ring leave, and after a whole ring the bytes themselves.
 #[inline]
 pub fn lend_along<const D: usize>(
     ring: &DelayRing<D>,

@@ -1,4 +1,4 @@
-//! Ticks without a note: whether the next tick is surely one, and the step of one, which needs no
+//! Noteless ticks: whether the next tick is surely one, and the step for one, which needs no
 //! journal.
 ghost use Rattle.std.specs.Prelude.{◌≡◌, [], ◌∷◌};
 ghost use Rattle.line_rules.specs.Rules.{head_of};
@@ -34,7 +34,7 @@ impl<R: LineRules, M: Mac, const B: usize, const D: usize> NotelessBox for Check
     }
 }
 
-// Whether a burst may begin with this byte: it isn't a whole header that is bad.
+// Whether this byte, as the first one of a burst, isn't a bad header by itself.
 #[inline]
 fn may_begin<R: LineRules>(byte: u8) -> bool
     ensures { result ≡ is_no_bad (head_of R.rules (byte ∷ [])) }
@@ -60,7 +60,7 @@ impl<R: LineRules, M: Mac, const B: usize, const D: usize> Checker<R, M, B, D> {
     ghost use Rattle.check_receiver.specs.Noteless.{extra_has_none, further_has_none, has_none};
     ghost use Rattle.check_receiver.specs.Noteless.{is_short, is_good};
 
-    // Whether a silent tick surely has no note.
+    // Whether a silent tick is surely noteless.
     #[inline]
     fn silence_has_none(&self) -> bool
         ensures { (line : List Tick) → CutStandsFor R.LineRules self.now.cut line
@@ -79,7 +79,7 @@ impl<R: LineRules, M: Mac, const B: usize, const D: usize> Checker<R, M, B, D> {
         true
     }
 
-    // Whether the header is whole.
+    // Whether the header of the burst is whole.
     #[inline]
     fn has_whole_head(&self) -> bool
         ensures { (line : List Tick) → CutStandsFor R.LineRules self.now.cut line
@@ -91,7 +91,7 @@ impl<R: LineRules, M: Mac, const B: usize, const D: usize> Checker<R, M, B, D> {
         }
     }
 
-    // Whether it is a good one too.
+    // Whether the header of the burst is whole and good.
     #[inline]
     fn is_head_good(&self) -> bool
         ensures { (line : List Tick) → CutStandsFor R.LineRules self.now.cut line
@@ -103,7 +103,7 @@ impl<R: LineRules, M: Mac, const B: usize, const D: usize> Checker<R, M, B, D> {
         }
     }
 
-    // Whether a byte that begins a burst surely has none.
+    // Whether a byte that begins a burst is surely noteless.
     #[inline]
     fn first_has_none(&self, byte: u8) -> bool
         ensures { (line : List Tick) → CutStandsFor R.LineRules self.now.cut line
@@ -115,7 +115,7 @@ impl<R: LineRules, M: Mac, const B: usize, const D: usize> Checker<R, M, B, D> {
         may_begin::<R>(byte)
     }
 
-    // Whether a byte that isn't live surely has none, while a verdict is open.
+    // Whether a byte that isn't live is surely noteless, while a verdict is open.
     #[inline]
     fn extra_has_none(&self) -> bool
         ensures { (line : List Tick) → CutStandsFor R.LineRules self.now.cut line
@@ -128,7 +128,7 @@ impl<R: LineRules, M: Mac, const B: usize, const D: usize> Checker<R, M, B, D> {
         false
     }
 
-    // Whether a further byte of a burst surely has none.
+    // Whether a byte that begins no burst is surely noteless.
     #[inline]
     fn further_has_none(&self) -> bool
         ensures { (line : List Tick) → CutStandsFor R.LineRules self.now.cut line
@@ -143,7 +143,8 @@ impl<R: LineRules, M: Mac, const B: usize, const D: usize> Checker<R, M, B, D> {
         self.is_head_good()
     }
 
-    // Takes a tick of which the receiver is sure, and returns the tick that the device is sent.
+    // Takes a tick of which the receiver is sure that it is noteless, and returns the tick that the
+    // device is sent.
     #[inline]
     fn hear(&mut self, t: Tick) -> Tick
         requires room { ticks_taken self.old < MAX_TICKS }

@@ -1,4 +1,4 @@
-//! The receiver at rest: it is idle, and so nothing is left to leave.
+//! The receiver at rest: it is idle, and so everything has left.
 ghost use Rattle.std.specs.Prelude.{◌≡◌};
 ghost use Rattle.check_receiver.specs.Resting.{is_at_rest};
 

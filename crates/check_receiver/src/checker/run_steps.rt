@@ -1,4 +1,4 @@
-//! Runs of ticks that the receiver takes at once, by its phase.
+//! Runs of ticks that the receiver takes at once, in each of its phases.
 use super::{Checker, PAUSE};
 use crate::runs::{alike_along, cut_some, lend, lend_along, noteless_front};
 use burst_walk::RunBytes;
@@ -6,7 +6,7 @@ use hmac_tag::Mac;
 use line_rules::LineRules;
 use yasir_ticks::{MAX_TICKS, T3_5_TICKS, Tick};
 
-// How many bytes of a fill leave at once at most.
+// The greatest number of bytes of a fill that leave at once.
 const MOST_FILLED: u32 = 64;
 
 impl<R: LineRules, M: Mac, const B: usize, const D: usize> Checker<R, M, B, D> {
@@ -33,7 +33,7 @@ impl<R: LineRules, M: Mac, const B: usize, const D: usize> Checker<R, M, B, D> {
     ghost use Rattle.check_receiver.specs.Runs.{HasTakenRun, BeginsNone};
     ghost use Rattle.spoiler.specs.Outlet.{owed_by};
 
-    // Live bytes of the burst whose verdict is open.
+    // Takes live bytes of the burst whose verdict is open, if its header is a good one.
     #[inline(never)]
     pub(super) fn follow(&mut self, bytes: &[u8], sent: &mut RunBytes) -> usize
         requires room { ticks_taken self.old + length bytes.now ≤ MAX_TICKS }
@@ -53,8 +53,8 @@ impl<R: LineRules, M: Mac, const B: usize, const D: usize> Checker<R, M, B, D> {
         self.follow_on(bytes, sent)
     }
 
-    // Live bytes of the burst whose verdict is open, where its header stays a good one as far as it is
-    // whole.
+    // Takes live bytes of the burst whose verdict is open. With them, its header must be a good one
+    // as soon as it is whole.
     #[inline(always)]
     fn follow_on(&mut self, bytes: &[u8], sent: &mut RunBytes) -> usize
         requires room { ticks_taken self.old + length bytes.now ≤ MAX_TICKS }
@@ -86,7 +86,7 @@ impl<R: LineRules, M: Mac, const B: usize, const D: usize> Checker<R, M, B, D> {
         taken
     }
 
-    // Bytes of the trailer of the burst whose verdict is open, but for the last one.
+    // Takes bytes of the trailer of the burst whose verdict is open, but not the last one.
     #[inline(never)]
     pub(super) fn hear_trailer(&mut self, bytes: &[u8], sent: &mut RunBytes) -> usize
         requires room { ticks_taken self.old + length bytes.now ≤ MAX_TICKS }
@@ -120,7 +120,7 @@ impl<R: LineRules, M: Mac, const B: usize, const D: usize> Checker<R, M, B, D> {
         taken
     }
 
-    // Silence in the pause behind the live bytes of the burst whose verdict is open.
+    // Takes silent ticks of the pause after the live bytes of the burst whose verdict is open.
     #[inline(never)]
     pub(super) fn pause_some(&mut self, ticks: u32, sent: &mut RunBytes) -> u32
         requires room { ticks_taken self.old + ticks ≤ MAX_TICKS }
@@ -150,7 +150,8 @@ impl<R: LineRules, M: Mac, const B: usize, const D: usize> Checker<R, M, B, D> {
         count as u32
     }
 
-    // Bytes while a burst that is noted still leaves, but for the last of its live ticks.
+    // Takes bytes that begin no burst while a noted burst is still leaving, but not in the step in
+    // which the last of its live ticks leaves.
     #[inline(never)]
     pub(super) fn pass_over(&mut self, bytes: &[u8], sent: &mut RunBytes) -> usize
         requires room { ticks_taken self.old + length bytes.now ≤ MAX_TICKS }
@@ -167,7 +168,7 @@ impl<R: LineRules, M: Mac, const B: usize, const D: usize> Checker<R, M, B, D> {
         if self.until == 0 {
             return self.fill_along(bytes, sent);
         }
-        // the last live tick leaves
+        // the last live tick leaves in the next step
         if self.until < 2 {
             return 0;
         }
@@ -180,8 +181,8 @@ impl<R: LineRules, M: Mac, const B: usize, const D: usize> Checker<R, M, B, D> {
         taken
     }
 
-    // Bytes while the receiver is idle: those of a burst that is noted, or the first ones of
-    // another, if the burst isn't early, as far as its header isn't whole, or is a good one.
+    // Takes bytes while the receiver is idle: those of a burst that is noted, or the first ones of
+    // a burst that doesn't start too soon, as long as its header isn't whole, or is a good one.
     #[inline(never)]
     pub(super) fn start_some(&mut self, bytes: &[u8], sent: &mut RunBytes) -> usize
         requires room { ticks_taken self.old + length bytes.now ≤ MAX_TICKS }
@@ -211,8 +212,8 @@ impl<R: LineRules, M: Mac, const B: usize, const D: usize> Checker<R, M, B, D> {
         1 + self.follow_on(&front[1..], sent)
     }
 
-    // The first byte of a burst that isn't early, and that doesn't begin with a bad header, while
-    // nothing is left to leave.
+    // Takes the first byte of a burst that doesn't start too soon. The byte must not be a bad
+    // header by itself, and all live ticks must have left.
     #[inline]
     fn start(&mut self, first: u8)
         requires room { ticks_taken self.old < MAX_TICKS }
@@ -233,7 +234,8 @@ impl<R: LineRules, M: Mac, const B: usize, const D: usize> Checker<R, M, B, D> {
         let _ = self.begin(first);
     }
 
-    // Silence while a burst that is noted still leaves, but for the last of its live ticks.
+    // Takes silent ticks while a noted burst is still leaving, but not in the step in which the
+    // last of its live ticks leaves.
     #[inline(never)]
     pub(super) fn rest_some(&mut self, ticks: u32, sent: &mut RunBytes) -> u32
         requires room { ticks_taken self.old + ticks ≤ MAX_TICKS }
@@ -250,7 +252,7 @@ impl<R: LineRules, M: Mac, const B: usize, const D: usize> Checker<R, M, B, D> {
         if self.until == 0 {
             return self.fill_some(ticks, sent);
         }
-        // the last live tick leaves
+        // the last live tick leaves in the next step
         if self.until < 2 {
             return 0;
         }
@@ -264,7 +266,7 @@ impl<R: LineRules, M: Mac, const B: usize, const D: usize> Checker<R, M, B, D> {
         count as u32
     }
 
-    // Silence while a fill leaves.
+    // Takes silent ticks while a fill leaves.
     #[inline(never)]
     fn fill_some(&mut self, ticks: u32, sent: &mut RunBytes) -> u32
         requires room { ticks_taken self.old + ticks ≤ MAX_TICKS }
@@ -290,7 +292,7 @@ impl<R: LineRules, M: Mac, const B: usize, const D: usize> Checker<R, M, B, D> {
         most
     }
 
-    // Bytes of a burst while a fill leaves.
+    // Takes bytes that begin no burst while a fill leaves.
     #[inline(never)]
     fn fill_along(&mut self, bytes: &[u8], sent: &mut RunBytes) -> usize
         requires room { ticks_taken self.old + length bytes.now ≤ MAX_TICKS }
@@ -320,7 +322,7 @@ impl<R: LineRules, M: Mac, const B: usize, const D: usize> Checker<R, M, B, D> {
         most
     }
 
-    // The next byte of a fill, which leaves for a tick that begins no burst.
+    // Takes a tick that begins no burst, and returns the byte of a fill that leaves for it.
     #[inline(always)]
     fn fill_one(&mut self, t: Tick) -> u8
         requires { ticks_taken self.old < MAX_TICKS }

@@ -1,4 +1,4 @@
-//! What a single tick does, once it is cut: bytes of a burst, bytes that aren't live, and silence.
+//! What a single tick does after it is cut: a byte of a burst, a byte that isn't live, or silence.
 use super::{Checker, PAUSE};
 use crate::phase::Phase;
 use burst_walk::BoxStep;
@@ -39,7 +39,7 @@ impl<R: LineRules, M: Mac, const B: usize, const D: usize> Checker<R, M, B, D> {
     ghost use Rattle.yasir_ticks.specs.Ticks.{silent};
     ghost use Rattle.line_rules.specs.declared.head.Head.TheVariants.{Good};
 
-    // The first byte of a burst.
+    // Takes the first byte of a burst.
     #[inline(always)]
     pub(super) fn begin(&mut self, byte: u8) -> BoxStep<CheckNote>
         ensures cut { self.new.cut ≡ self.old.cut }
@@ -69,7 +69,7 @@ impl<R: LineRules, M: Mac, const B: usize, const D: usize> Checker<R, M, B, D> {
         }
     }
 
-    // A further live byte of it.
+    // Takes another live byte of a burst.
     #[inline]
     pub(super) fn go_on(&mut self, byte: u8) -> BoxStep<CheckNote>
         ensures cut { self.new.cut ≡ self.old.cut }
@@ -93,7 +93,7 @@ impl<R: LineRules, M: Mac, const B: usize, const D: usize> Checker<R, M, B, D> {
         }
     }
 
-    // A live byte of the burst whose verdict is open enters the ring.
+    // Puts a live byte of the burst whose verdict is open into the ring.
     #[inline(always)]
     fn enter(&mut self, byte: u8) -> BoxStep<CheckNote>
         ensures turned { Turned R.LineRules (with_until self.new.until self.old) self.new
@@ -108,7 +108,7 @@ impl<R: LineRules, M: Mac, const B: usize, const D: usize> Checker<R, M, B, D> {
         }
     }
 
-    // Silence.
+    // Takes a silent tick.
     #[inline(always)]
     pub(super) fn wait(&mut self) -> BoxStep<CheckNote>
         requires room { ticks_cut self.old.cut ≤ MAX_TICKS }
@@ -131,14 +131,14 @@ impl<R: LineRules, M: Mac, const B: usize, const D: usize> Checker<R, M, B, D> {
         if usize::from(self.until) + PAUSE < D {
             return self.refuse(RefusedWhy::Trailer);
         }
-        // the second silent tick after a live byte
+        // this is the second silent tick after a live byte
         if usize::from(self.until) + 2 == D {
             return self.pause();
         }
         self.pass_by(None)
     }
 
-    // The burst has no further live byte.
+    // Takes the silent tick from which on the burst can have no more live bytes.
     #[inline(always)]
     fn pause(&mut self) -> BoxStep<CheckNote>
         requires room { ticks_cut self.old.cut ≤ MAX_TICKS }
@@ -159,8 +159,8 @@ impl<R: LineRules, M: Mac, const B: usize, const D: usize> Checker<R, M, B, D> {
         }
     }
 
-    // A byte that isn't live, while no verdict is open, or one of the trailer that isn't its last
-    // one.
+    // Takes a byte that isn't live, while no verdict is open, or a byte of the trailer that isn't
+    // its last one.
     #[inline]
     pub(super) fn hear_more(&mut self, extra: u8) -> BoxStep<CheckNote>
         ensures cut { self.new.cut ≡ self.old.cut }
@@ -179,7 +179,7 @@ impl<R: LineRules, M: Mac, const B: usize, const D: usize> Checker<R, M, B, D> {
         self.pass_by(None)
     }
 
-    // A byte that isn't live.
+    // Takes a byte that isn't live.
     #[inline(always)]
     pub(super) fn hear_extra<S: SlotDisk>(
         &mut self,

@@ -1,4 +1,4 @@
-//! The verdict on a burst, and the steps that note it.
+//! The verdict on a burst, and the steps into which its note falls.
 use super::Checker;
 use crate::phase::Phase;
 use burst_walk::BoxStep;
@@ -44,7 +44,7 @@ impl<R: LineRules, M: Mac, const B: usize, const D: usize> Checker<R, M, B, D> {
     ghost use Rattle.check_receiver.specs.Between.{IsWhole};
     ghost use Rattle.check_receiver.specs.Between.{verdict_told};
 
-    // The trailer's last byte has come: the verdict.
+    // Decides on a burst when the last byte of its trailer has come.
     #[inline(always)]
     pub(super) fn decide<S: SlotDisk>(
         &mut self,
@@ -76,7 +76,7 @@ impl<R: LineRules, M: Mac, const B: usize, const D: usize> Checker<R, M, B, D> {
         Ok(self.pass(number))
     }
 
-    // The number with which the burst with a whole trailer passes, or why it is refused.
+    // Returns the number with which a burst with a whole trailer passes, or why it is refused.
     #[inline(always)]
     fn verdict(&mut self, journal: &Journal) -> Result<u64, RefusedWhy>
         ensures others { self.new ≡ record self.old { mac = self.new.mac } }
@@ -100,7 +100,7 @@ impl<R: LineRules, M: Mac, const B: usize, const D: usize> Checker<R, M, B, D> {
         let Some(number) = self.arriving.number_above(floor) else {
             return Err(RefusedWhy::Number);
         };
-        // what a word stands for is above the floor and within the limit
+        // neither happens: a full number is above the floor and within the limit
         if number <= floor {
             return Err(RefusedWhy::Number);
         }
@@ -113,7 +113,7 @@ impl<R: LineRules, M: Mac, const B: usize, const D: usize> Checker<R, M, B, D> {
         Ok(number)
     }
 
-    // Whether the trailer has the tag of this number and the burst.
+    // Whether the trailer has the tag of the burst with this number.
     fn has_tag_of(&mut self, number: u64) -> bool
         ensures others { self.new ≡ record self.old { mac = self.new.mac } }
         ensures mac_is { (key text : List ℕ) → M.stands self.old.mac key text
@@ -128,7 +128,7 @@ impl<R: LineRules, M: Mac, const B: usize, const D: usize> Checker<R, M, B, D> {
         self.arriving.has_tag(&tag)
     }
 
-    // The burst passes with a number that is committed.
+    // Passes the burst with this number, which must have been committed.
     #[inline(always)]
     fn pass(&mut self, number: u64) -> BoxStep<CheckNote>
         requires room { ticks_cut self.old.cut ≤ MAX_TICKS }
@@ -150,7 +150,7 @@ impl<R: LineRules, M: Mac, const B: usize, const D: usize> Checker<R, M, B, D> {
         self.pass_by(Some(CheckNote::Passed { number, start, len }))
     }
 
-    // The burst is refused.
+    // Refuses the burst for this reason.
     #[inline(never)]
     pub(super) fn refuse(&mut self, why: RefusedWhy) -> BoxStep<CheckNote>
         requires room { ticks_cut self.old.cut ≤ MAX_TICKS }
@@ -171,7 +171,7 @@ impl<R: LineRules, M: Mac, const B: usize, const D: usize> Checker<R, M, B, D> {
         self.pass_by(Some(CheckNote::Refused { start, why }))
     }
 
-    // The burst is dropped, for its header: its bytes don't leave.
+    // Drops the burst for its header: its bytes don't leave.
     #[inline(never)]
     pub(super) fn drop_headless(&mut self) -> BoxStep<CheckNote>
         ensures turned { TurnedClear R.LineRules self.old self.new result.tick }
@@ -189,7 +189,7 @@ impl<R: LineRules, M: Mac, const B: usize, const D: usize> Checker<R, M, B, D> {
         }))
     }
 
-    // The burst is dropped: others still leave.
+    // Drops the burst because others are still leaving.
     #[inline(never)]
     pub(super) fn drop_busy(&mut self) -> BoxStep<CheckNote>
         ensures turned { Turned R.LineRules self.old self.new Silent result.tick }
