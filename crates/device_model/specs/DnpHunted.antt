@@ -39,7 +39,7 @@ says-room x more ten good =
     ap room_by (length_byte-append x more (omega arith))
     ∙ room_by-right (length_byte x) (is_good_header-begins x good).1
 
--- one that is a frame has a right ending
+-- a good header that is a frame by itself has a right ending
 header-ends : (x : List ℕ) → is_good_header x ≡ true → size_by (length_byte x) ≡ 10
     → has_right_ending x ≡ true
 unfolding has_right_ending
@@ -53,7 +53,7 @@ header-ends x good bare =
     (eq-eqb (length x) (size_by (length_byte x)) (ten ∙ sym bare)))
     (ap ends_in_crc (running_block-header x (omega arith)) ∙ begin.2)
 
--- and none any more where its last byte is spoiled
+-- a good header that is a frame by itself isn't good any more if its last byte is spoiled
 spoiled-header : (h : List ℕ) (c : ℕ) → suc (length h) ≡ 10
     → is_good_header (h ++ c ∷ []) ≡ true → size_by (length_byte (h ++ c ∷ [])) ≡ 10
     → is_good_header (h ++ dnp_rules.spoil h c ∷ []) ≡ false

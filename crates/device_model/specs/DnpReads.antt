@@ -1,5 +1,5 @@
--- What a DNP3 device reads of a line: it hunts for 05 64, with which IEEE 1815 lets each header
--- begin, by the rules of the link layer.
+-- What a DNP3 device reads from a line: it hunts by the rules of the link layer for 05 64, with
+-- which each header begins (IEEE 1815).
 use Rattle.std.specs.Prelude.{List}
 use Rattle.yasir_ticks.specs.declared.tick.Tick.{Tick}
 use Rattle.dnp_link_frame.specs.Rules.{dnp_rules}

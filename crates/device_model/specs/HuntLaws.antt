@@ -1,13 +1,13 @@
--- What is asked of rules by which a device hunts, and the hunt by cases.
+-- What rules must say so that a device can hunt by them, and the hunt case by case.
 use Rattle.std.specs.Prelude.{◌≡◌, ℕ, suc, ◌<◌, ◌≤◌, true, false, List, [], ◌∷◌, ◌++◌, length}
 use Rattle.std.specs.Prelude.{take, drop, if◌then◌else◌}
 use Rattle.line_rules.specs.Rules.{Rules}
 use Rattle.device_model.specs.Frames.{FrameRead}
 use Rattle.device_model.specs.Hunt.{Timed, timed_bytes, header_in, begins, hunt}
 
--- A header begins with these two bytes, and has more. A good one says the size of the frame, for
--- which there is just room; where the frame is a header alone, its last byte spoiled makes it a bad
--- one. A device has room for each frame.
+-- Holds if a good header begins with these two bytes, has more, and says the size of the frame, for
+-- which there is exactly room. If the frame is only a header, that isn't good any more when its
+-- last byte is spoiled. A device has room for each frame.
 pub record IsHunted (first second : ℕ) (rules : Rules) : Type 0 where
   pub start_within : 2 < rules.header_len
   pub starts : (x : List ℕ) → rules.is_good_header x ≡ true → begins first second x ≡ true
@@ -29,9 +29,9 @@ whole_frame rules (t ∷ x) =
     then record { start = t.tick; frame = timed_bytes (t ∷ x) } ∷ []
     else []
 
--- The hunt over these bytes by cases: where too few are there, nothing is read; where no header
--- begins, one byte is dropped; a bad header is dropped whole; and of a good one as many bytes are
--- taken as it says, and read if they are a frame.
+-- The hunt over these bytes, case by case. If there are too few, nothing is read. If no header
+-- begins, one byte is dropped. A bad header is dropped whole. With a good one, as many bytes are
+-- taken as it says, and they are read if they are a frame.
 pub record HuntsByCases (first second : ℕ) (rules : Rules) (x : List Timed) : Type 0 where
   pub few : length x < 2 → hunt first second rules 0 x ≡ []
   pub no_start : begins first second (timed_bytes x) ≡ false

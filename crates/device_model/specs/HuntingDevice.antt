@@ -9,41 +9,44 @@ use Rattle.device_model.specs.declared.hunting.HuntingDevice.{HuntingDevice}
 use Rattle.device_model.specs.Frames.{FrameRead}
 use Rattle.device_model.specs.Hunt.{Timed, timed_bytes, timed, header_in, begins, bytes_taken, hunt}
 
--- Of these bytes nothing is decided yet: there are none, or the first of a start alone, or fewer
--- than are taken where a header begins.
+-- Nothing is decided yet of these bytes: there are none, or only one that can begin a header, or a
+-- header begins and not all bytes that are taken with it are there.
 pub data IsUndecided (first second : ℕ) (rules : Rules) : List ℕ → Type 0 where
   nothing : IsUndecided first second rules []
   first_byte : IsUndecided first second rules (first ∷ [])
   header_begun : (x : List ℕ) → begins first second x ≡ true
       → length x < bytes_taken first second rules x → IsUndecided first second rules x
 
--- The hunt over these bytes goes on with those that are held of them, whatever follows.
+-- Holds if the hunt over the bytes `x` goes on with those of them that are held, whatever follows.
+-- Nothing is decided yet of those.
 pub record GoesOn (first second : ℕ) (rules : Rules) (x held : List Timed) : Type 0 where
   pub goes : (z : List Timed) → hunt first second rules 0 (x ++ z)
       ≡ hunt first second rules 0 x ++ hunt first second rules 0 (held ++ z)
   pub undecided : IsUndecided first second rules (timed_bytes held)
 
--- this is the tick of the first of these bytes, if there are any
+-- Holds if `start` is the tick of the first of these bytes, or there are none.
 abbrev pub StartsAt : ℕ → List Timed → Type 0
 StartsAt start [] = Unit {0}
 StartsAt start (t ∷ x) = start ≡ t.tick
 
--- how many bytes are lacking of those that are taken where a header begins
+-- how many bytes are lacking of those that are taken with a header that begins here, or 0 if none
+-- does
 abbrev pub bytes_lacking : ℕ → ℕ → Rules → List ℕ → ℕ
 bytes_lacking first second rules x =
     if begins first second x then bytes_taken first second rules x - length x else 0
 
--- the bytes that it holds or lends
+-- the bytes that the device holds or lends
 abbrev pub frame_kept : {R : Type 0} → HuntingDevice R → List ℕ
 frame_kept value = value.bytes.items
 
--- The bytes of which nothing is decided yet. Those of a frame that is lent aren't held any more.
+-- The bytes of which nothing is decided yet. The bytes of a frame that is lent aren't held any
+-- more.
 abbrev pub held_by : {R : Type 0} → HuntingDevice R → List ℕ
 held_by value = if value.lends then [] else value.bytes.items
 
 module _ {R : Type 0} (proto : LineRules R) (first second : ℕ) where
-  -- A device that holds these bytes, from this tick on, and lacks so many, has heard such bytes.
-  -- The rules have taken the header, once that is whole.
+  -- Holds if a device that has heard the bytes `x` holds `bytes` of them, from tick `start` on, and
+  -- lacks as many as `lacking` says. If the header is whole, `rules` have taken it.
   pub record HasHeard (rules : R) (bytes : List ℕ) (lacking start : ℕ) (x : List Timed) : Type 0 where
     pub held : List Timed
     pub goes_on : GoesOn first second proto.rules x held
@@ -56,13 +59,13 @@ module _ {R : Type 0} (proto : LineRules R) (first second : ℕ) where
   abbrev pub HeardBy : HuntingDevice R → List Timed → Type 0
   HeardBy value x = HasHeard value.rules (held_by value) value.lacking value.start x
 
-  -- it has heard this line
+  -- Holds if the device has heard this line.
   pub record HuntStandsFor (value : HuntingDevice R) (line : List Tick) : Type 0 where
     pub count : value.ticks ≡ length line
     pub heard : HeardBy value (timed 0 line)
 
-  -- It takes these bytes, the first at this tick. With the last of them these frames are read, and
-  -- none before it.
+  -- Holds if the device takes the bytes `y`, the first at tick `at`, and reads `frames` with the
+  -- last of them, and nothing before it.
   pub record TakesRun (old new : HuntingDevice R) (at : ℕ) (y : List ℕ) (frames : List FrameRead) :
       Type 0 where
     pub ticks : new.ticks ≡ old.ticks
@@ -75,30 +78,30 @@ module _ {R : Type 0} (proto : LineRules R) (first second : ℕ) where
         → hunt first second proto.rules 0 (x ++ timed at (map (λ b. Byte b) (take n y)))
         ≡ hunt first second proto.rules 0 x
 
--- ---- what becomes of the bytes that are held
+-- ---- what happens to the bytes that are held
 
--- the frame that is read of these bytes, if one is
+-- the frame with these bytes, if it is read
 abbrev pub frames_told : Bool → ℕ → List ℕ → List FrameRead
 frames_told reads start x =
     if reads then record { start = start; frame = x } ∷ [] else []
 
--- the frame that they are, if they are one
+-- the frame that these bytes are, if they are one
 abbrev pub frame_at : Rules → ℕ → List ℕ → List FrameRead
 frame_at rules start x = frames_told (rules.is_frame x) start x
 
--- there is room for each of these bytes behind those before it
+-- Holds if there is room for each of these bytes after those before it.
 abbrev pub HasRoom : Rules → List ℕ → Type 0
 HasRoom rules x = (n : ℕ) → n < length x → fills_room rules (take n x) ≡ false
 
--- It holds nothing of these bytes any more, the first of which has this tick, and lends them if
--- they are a frame.
+-- Holds if the device holds nothing any more of the bytes `x`, the first of which came at tick
+-- `start`, and lends them if they are a frame.
 pub record LetsGo {R : Type 0} (rules : Rules) (start : ℕ) (x : List ℕ) (new : HuntingDevice R)
     (reads : Bool) : Type 0 where
   pub none : held_by new ≡ []
   pub lacking : new.lacking ≡ 0
   pub frames : frames_told reads new.start new.bytes.items ≡ frame_at rules start x
 
--- It goes on with a header, which the rules have taken.
+-- Holds if the device goes on after a header, which the rules have taken.
 pub record GoesBehind {R : Type 0} (proto : LineRules R) (old new : HuntingDevice R)
     (reads : Bool) : Type 0 where
   pub start : new.start ≡ old.start

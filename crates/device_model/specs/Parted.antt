@@ -1,12 +1,11 @@
--- A line up to now, which `cut` silent ticks together part: its closed bursts, and the one that
--- isn't closed yet.
+-- A line so far, which `cut` silent ticks together part: its closed bursts, and the running one.
 use Rattle.std.specs.Prelude.{◌≡◌, ℕ, ◌+◌, ◌<◌, List, ◌++◌, length, Option, Some, None}
 use Rattle.yasir_ticks.specs.Bursts.{Burst, bursts_from, end_of, AreClosed}
 use Rattle.yasir_ticks.specs.declared.tick.Tick.{Tick}
 use Rattle.frame_ending.specs.Divided.{running_part}
 
--- So many silent ticks are the last of a line of m ticks, counted up to `cut`, where this burst is
--- running, or none.
+-- Holds if a line of `m` ticks ends in `quiet` silent ones, counted up to `cut`: in `cut` if no
+-- burst is running, and in fewer if one is.
 abbrev pub IsQuiet : ℕ → ℕ → ℕ → Option Burst → Type 0
 IsQuiet cut quiet m None = quiet ≡ cut
 IsQuiet cut quiet m (Some d) = (quiet < cut) × (end_of d + quiet ≡ m)

@@ -1,18 +1,18 @@
-//! What a device is: it hears ticks, and reads frames of them.
+//! What a device is: it hears ticks, and reads frames from them.
 use yasir_ticks::Tick;
 
 /// What a device heard of some ticks.
 #[derive(Clone, Copy, Debug, PartialEq, Eq)]
 pub struct Met {
-    /// How many of the ticks it has taken.
+    /// How many of the ticks the device has taken.
     pub taken: usize,
-    /// The tick of the first byte of the frame that was read in the last tick taken; with none the
-    /// device has taken all.
+    /// The tick of the first byte of the frame that was read in the last tick taken. With `None`
+    /// the device has taken all the ticks.
     pub start: Option<u64>,
 }
 
-/// A device that listens to a line and reads frames of it. It lends the bytes of a frame that it has
-/// read, up to the next call that takes ticks.
+/// A device that listens to a line and reads frames from it. It lends the bytes of a frame that it
+/// has read, until the next call that takes ticks.
 pub trait Device {
     ghost use Rattle.std.specs.Prelude.{◌≡◌, ℕ, ◌+◌, ◌<◌, ◌≤◌, List, [], ◌∷◌, ◌++◌, length, map};
     ghost use Rattle.std.specs.Prelude.{take, None};
@@ -22,32 +22,32 @@ pub trait Device {
     ghost use Rattle.yasir_ticks.specs.declared.TheConstants.{MAX_TICKS};
     ghost use Rattle.device_model.specs.Frames.{FrameRead, frames_lent};
 
-    // What such a device reads of a line.
+    // What such a device reads from a line.
     ghost reads: { List Tick → List FrameRead };
 
-    // The device has heard this line, and no more.
+    // Holds if the device has heard this line, and no more.
     ghost stands: { Self → List Tick → Type 0 };
 
-    // How many ticks it has taken.
+    // How many ticks the device has taken.
     ghost taken: { Self → ℕ };
 
-    // The bytes that it lends. They are those of a frame where the last call that took ticks says
-    // so.
+    // The bytes that the device lends. They are those of a frame if the last call that took ticks
+    // says so.
     ghost lent: { Self → List ℕ };
 
-    /// A device that has heard nothing.
+    /// Makes a device that has heard nothing.
     fn fresh() -> Self
         ensures taken { taken result ≡ 0 }
         ensures stands { stands result [] }
         ensures nothing { reads [] ≡ [] };
 
-    /// The bytes of the frame that was read in the last tick taken.
+    /// Returns the bytes of the frame that was read in the last tick taken.
     fn frame_bytes(&self) -> &[u8]
         ensures bytes { result.now ≡ lent self.now }
         ensures few { length result.now ≤ 292 };
 
-    /// Takes the next tick of the line. Returns the tick of the first byte of the frame that is
-    /// read in this very tick, whose bytes are lent then, and `None` where none is.
+    /// Takes the next tick of the line. If a frame is read in this very tick, returns the tick of
+    /// its first byte, and lends its bytes. Otherwise returns `None`.
     fn step(&mut self, t: Tick) -> Option<u64>
         requires { taken self.old < MAX_TICKS }
         ensures taken { taken self.new ≡ taken self.old + 1 }

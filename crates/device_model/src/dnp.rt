@@ -27,5 +27,5 @@ impl Hunted for Dnp {
 /// A DNP3 device, which reads the frames of the link layer (IEEE 1815).
 pub type DnpDevice = HuntingDevice<Dnp>;
 
-/// A DNP3 device to which this many silent ticks together end what it has taken.
+/// A DNP3 device for which a stated number of silent ticks together end what it has taken.
 pub type DnpFamily = HuntingFamily<Dnp>;

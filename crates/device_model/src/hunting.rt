@@ -14,28 +14,29 @@ const MARK_LEN: u8 = 2;
 #[derive(Clone, Copy)]
 struct Part {
     taken: usize,
-    // a frame is read with the last of them
+    // whether a frame is read with the last of them
     reads: bool,
 }
 
-/// A device that hunts for frames by the rules `R`: it takes no notice of silence, looks for the
-/// two bytes with which a header begins, and drops a bad header whole. Where a good header begins
-/// it takes as many bytes as that says, and reads them if they are a frame.
+/// A device that hunts for frames by the rules `R`: it ignores silence, looks for the two bytes
+/// with which a header begins, and drops a bad header whole. If a good header begins, it takes as
+/// many bytes as that says, and reads them if they are a frame.
 #[derive(Drop)]
 pub struct HuntingDevice<R> {
     pub(crate) ticks: u64,
-    // the bytes of which nothing is decided yet, and the tick of the first of them; or those of the
-    // frame that was read last, which are lent until the next byte
+    // the bytes of which nothing is decided yet, and the tick of the first of them; or else those
+    // of the frame that was read last, which are lent until the next byte
     bytes: ArrayVec<u8, 292>,
     start: u64,
     lends: bool,
-    // how many bytes are lacking of a header that has begun, or of the frame behind it; else 0
+    // how many bytes are lacking of a header that has begun, or of the frame after it; otherwise 0
     lacking: u16,
-    // the header by the rules, once it is whole: what follows they take when all of it is there
+    // what the rules have taken: the header, when it is whole, and what follows only when all of it
+    // is there
     rules: R,
 }
 
-// How many of these bytes come before the first one that is `byte`.
+// Returns how many of these bytes come before the first one that is `byte`.
 #[inline]
 fn bytes_before(byte: u8, bytes: &[u8]) -> usize
     ensures within { result ≤ length bytes.now }
@@ -59,7 +60,7 @@ impl<R: Hunted> HuntingDevice<R> {
     ghost use Rattle.device_model.specs.HuntingDevice.{HeardBy, TakesRun, frames_told};
     ghost use Rattle.device_model.specs.HuntingDevice.{HasRoom, LetsGo, GoesBehind};
 
-    // How many bytes a header has behind the two that mark it.
+    // Returns how many bytes a header has after the two that mark it.
     #[inline]
     fn behind_mark() -> u16
         ensures { result ≡ R.HEADER_LEN - 2 }
@@ -67,7 +68,7 @@ impl<R: Hunted> HuntingDevice<R> {
         u16::from(R::HEADER_LEN.saturating_sub(MARK_LEN))
     }
 
-    // Holds further bytes, for which there is room in each frame.
+    // Holds these bytes as well; there is room for as many as a frame has.
     #[inline]
     fn keep(&mut self, bytes: &[u8])
         ensures ticks { self.new.ticks ≡ self.old.ticks }
@@ -81,7 +82,7 @@ impl<R: Hunted> HuntingDevice<R> {
         let _ = self.bytes.try_extend_from_slice(bytes);
     }
 
-    // Holds no bytes any more, and lends none.
+    // Lets go of all bytes: it holds none any more, and lends none.
     #[inline]
     pub(crate) fn lose(&mut self)
         ensures ticks { self.new.ticks ≡ self.old.ticks }
@@ -96,7 +97,7 @@ impl<R: Hunted> HuntingDevice<R> {
         self.lacking = 0;
     }
 
-    // Lends a frame no longer.
+    // Lends a frame no longer, if it lends one.
     #[inline]
     fn let_go(&mut self)
         requires { self.old.lacking ≡ 0 }
@@ -111,8 +112,8 @@ impl<R: Hunted> HuntingDevice<R> {
         }
     }
 
-    // All that was lacking is there: the rules take what follows the header. Whether the bytes are
-    // a frame, which is lent then; else they go.
+    // Takes what follows the header by the rules, when all that was lacking is there. Returns
+    // whether the bytes are a frame. If so, they are lent, and otherwise they are dropped.
     #[inline]
     fn end(&mut self) -> bool
         ensures ticks { self.new.ticks ≡ self.old.ticks }
@@ -131,8 +132,8 @@ impl<R: Hunted> HuntingDevice<R> {
         true
     }
 
-    // A header is whole: the rules take it, and say how many bytes follow. Whether none does and it
-    // is a frame by itself.
+    // Takes a whole header by the rules, which say how many bytes follow. Returns whether none
+    // follows and the header is a frame by itself.
     #[inline]
     fn meet_header(&mut self) -> bool
         ensures ticks { self.new.ticks ≡ self.old.ticks }
@@ -153,8 +154,8 @@ impl<R: Hunted> HuntingDevice<R> {
         false
     }
 
-    // The first of these bytes where a header has begun: as many as are lacking of it, or of the
-    // frame behind it.
+    // Takes the first of these bytes when a header has begun: as many as are lacking of it, or of
+    // the frame after it.
     #[inline]
     fn go_on(&mut self, following: &[u8]) -> Part
         requires { 0 < self.old.lacking }
@@ -181,7 +182,7 @@ impl<R: Hunted> HuntingDevice<R> {
         Part { taken, reads }
     }
 
-    // A header begins with the first two of these bytes.
+    // Begins a header with the first two of these bytes, and goes on with the others.
     #[inline]
     fn begin_header(&mut self, at: u64, following: &[u8]) -> Part
         requires none { self.old.bytes.items ≡ [] }
@@ -206,7 +207,7 @@ impl<R: Hunted> HuntingDevice<R> {
         }
     }
 
-    // A byte that may be a header's first one; what is held before it goes.
+    // Takes a byte that may be the first one of a header, and drops what is held before it.
     #[inline]
     fn begin(&mut self, at: u64, byte: u8)
         requires lends { self.old.lends ≡ false }
@@ -221,7 +222,7 @@ impl<R: Hunted> HuntingDevice<R> {
         }
     }
 
-    // A byte where no header has begun yet.
+    // Takes a byte when no header has begun yet.
     #[inline]
     fn look(&mut self, at: u64, byte: u8)
         requires lends { self.old.lends ≡ false }
@@ -236,8 +237,8 @@ impl<R: Hunted> HuntingDevice<R> {
         }
     }
 
-    // The first of these bytes where no header has begun yet: those where none begins, or what one
-    // that begins takes, or a single byte.
+    // Takes the first of these bytes when no header has begun yet: those before the first one that
+    // can begin a header, or those that a header that begins takes, or a single byte.
     #[inline]
     fn seek(&mut self, at: u64, following: &[u8]) -> Part
         requires some { 0 < length following.now }
@@ -268,7 +269,7 @@ impl<R: Hunted> HuntingDevice<R> {
         }
     }
 
-    // The first of these bytes, as far as one step takes them.
+    // Takes the first of these bytes, as many as one step takes.
     #[inline]
     fn hear_part(&mut self, at: u64, following: &[u8]) -> Part
         requires { 0 < length following.now }
@@ -285,7 +286,8 @@ impl<R: Hunted> HuntingDevice<R> {
         self.seek(at, following)
     }
 
-    // The next byte of the line.
+    // Takes the next byte of the line. Returns the tick of the first byte of the frame that is read
+    // with it, if one is.
     #[inline]
     pub(crate) fn hear_byte(&mut self, at: u64, byte: u8) -> Option<u64>
         ensures { TakesRun R.LineRules R.FIRST R.SECOND self.old self.new at (byte ∷ [])
@@ -359,7 +361,7 @@ impl<R: Hunted> Device for HuntingDevice<R> {
         }
     }
 
-    // Silence is nothing, however long.
+    // Takes silent ticks, and ignores them, however many they are.
     #[inline]
     fn wait(&mut self, ticks: usize) -> Met {
         self.ticks += ticks as u64;

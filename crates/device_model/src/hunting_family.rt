@@ -5,8 +5,8 @@ use crate::hunting::HuntingDevice;
 use crate::silence::Silence;
 use yasir_ticks::{MAX_TICKS, Tick};
 
-/// A device that hunts for frames by the rules `R` as `HuntingDevice` does, and to which this many
-/// silent ticks together end what it has taken: then it hunts anew with the next byte.
+/// A device that hunts for frames by the rules `R` as `HuntingDevice` does, but for which a stated
+/// number of silent ticks together end what it has taken: then it hunts anew with the next byte.
 #[derive(Drop)]
 pub struct HuntingFamily<R> {
     device: HuntingDevice<R>,
@@ -21,8 +21,8 @@ impl<R: Hunted> HuntingFamily<R> {
     ghost use Rattle.device_model.specs.HuntFamily.{hunt_family, FamilyStandsFor, family_ticks};
     ghost use Rattle.device_model.specs.HuntFamily.{family_lent};
 
-    /// A device that has heard nothing. `cut` is 0, for a device that takes no notice of silence,
-    /// or at least 2 silent ticks.
+    /// Makes a device that has heard nothing. `cut` is 0 for a device that ignores silence, or at
+    /// least 2 silent ticks.
     pub fn new(cut: u8) -> HuntingFamily<R>
         requires { (cut ≡ 0) ⊎ (2 ≤ cut) }
         ensures taken { family_ticks result ≡ 0 }
@@ -73,7 +73,7 @@ impl<R: Hunted> HuntingFamily<R> {
         self.device.lose();
     }
 
-    /// The bytes of the frame that was read in the last tick taken.
+    /// Returns the bytes of the frame that was read in the last tick taken.
     #[inline]
     pub fn frame_bytes(&self) -> &[u8]
         ensures bytes { result.now ≡ family_lent self.now }
@@ -82,9 +82,9 @@ impl<R: Hunted> HuntingFamily<R> {
         self.device.frame_bytes()
     }
 
-    /// Takes the next tick of the line. Returns the tick of the first byte of the frame that is
-    /// read in this very tick, which is lent then, and `None` where none is. Fewer than `MAX_TICKS`
-    /// ticks were taken before.
+    /// Takes the next tick of the line. If a frame is read in this very tick, returns the tick of
+    /// its first byte, and lends its bytes. Otherwise returns `None`. Fewer than `MAX_TICKS` ticks
+    /// may have been taken before.
     #[inline]
     pub fn step(&mut self, t: Tick) -> Option<u64>
         requires { family_ticks self.old < MAX_TICKS }

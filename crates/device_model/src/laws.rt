@@ -17,10 +17,10 @@ ghost use Rattle.device_model.specs.RtuReads.{is_frame_body, rtu_reads};
 
 use crate::hunted::Hunted;
 
-/// A law of the definitions, for each line: what a transmitter takes for a frame is what a Modbus
-/// RTU device reads. Each burst passes the test of the one exactly where it passes that of the
-/// other; the live bytes are then all its bytes; and so the frames that the device reads are those
-/// that are forwarded, of the bursts that are ended.
+/// What a transmitter takes for a frame is what a Modbus RTU device reads: a burst meets the test
+/// of the one exactly if it meets that of the other, and then all its bytes are live. So the frames
+/// that the device reads are those that are forwarded, from the bursts that four silent ticks
+/// follow. This is a law of the definitions, for each line.
 pub fn forwarded_frames_are_read()
     ensures same { (line : List Tick) (d : Burst) → Contains (bursts line) d
         → is_forwarded rtu_rules d ≡ is_frame_body T1_5_TICKS d.body }
@@ -30,15 +30,15 @@ pub fn forwarded_frames_are_read()
     ensures read { (line : List Tick) → rtu_reads line ≡ rtu_forwarded line }
 {}
 
-/// A law of the hunt, for the rules of each protocol whose devices hunt for frames, and each list
-/// of bytes: what is read of them, case by case.
+/// What is read from a list of bytes, case by case. This is a law of the hunt, for the rules of
+/// each protocol whose devices hunt for frames.
 pub fn hunts_by_cases<R: Hunted>()
     ensures { (x : List Timed) → HuntsByCases R.FIRST R.SECOND R.rules x }
 {}
 
-/// A law of the definitions, for each line: the stated devices are members of the families. The
-/// Modbus RTU device is the one that four silent ticks end a burst for and that lets one stand
-/// inside a frame, and the DNP3 device is the one that takes no notice of silence.
+/// The stated devices are members of the families: the Modbus RTU device is the one for which four
+/// silent ticks end a burst and which allows one inside a frame, and the DNP3 device is the one
+/// that ignores silence. This is a law of the definitions, for each line.
 pub fn stated_devices_are_members()
     ensures rtu { (line : List Tick) → rtu_reads line ≡ rtu_family_reads T3_5_TICKS 1 line }
     ensures dnp { (line : List Tick) → dnp_reads line ≡ dnp_family_reads 0 line }

@@ -1,4 +1,4 @@
-//! The devices that stand at the end of a serial line.
+//! The devices at the end of a serial line.
 //!
 //! A device takes a line tick by tick, and lends a frame in the step in which it reads it:
 //!

@@ -3,8 +3,8 @@ use crate::device::{Device, Met};
 use crate::rtu_family::RtuFamily;
 use yasir_ticks::{T1_5_TICKS, T3_5_TICKS, Tick};
 
-/// A Modbus RTU device: it reads a burst that four silent ticks follow, where no two adjacent ticks
-/// in it are silent and its bytes are a frame.
+/// A Modbus RTU device: it reads a burst that four silent ticks follow, if no two adjacent ticks in
+/// it are silent and its bytes are a frame.
 #[derive(Drop)]
 pub struct RtuDevice {
     family: RtuFamily,

@@ -17,8 +17,8 @@ pub struct RtuFamily {
     ticks: u64,
     silence: Silence,
     gap: u8,
-    // of the burst that is running or was the last: the tick of its first byte, whether it can be
-    // no frame any more, and if it can, its bytes
+    // of the running burst, or else of the last one: the tick of its first byte, whether it can't
+    // be a frame any more, and its bytes if it can
     start: u64,
     broken: bool,
     bytes: ArrayVec<u8, 292>,
@@ -35,8 +35,8 @@ impl RtuFamily {
     ghost use Rattle.device_model.specs.RtuFamily.{RtuFamilyStandsFor, rtu_family_reads};
     ghost use Rattle.device_model.specs.RtuFamily.{ticks_heard, bytes_lent, frame_at_end};
 
-    /// A device that has heard nothing. `cut` is 2 to 18 silent ticks, `gap` at least 1 and fewer
-    /// than `cut`.
+    /// Makes a device that has heard nothing. `cut` is 2 to 18 silent ticks, and `gap` is at least
+    /// 1 and less than `cut`.
     pub fn new(cut: u8, gap: u8) -> RtuFamily
         requires shortest { 2 ≤ cut }
         requires longest { cut ≤ 18 }
@@ -56,7 +56,7 @@ impl RtuFamily {
         }
     }
 
-    // The first byte of a burst.
+    // Takes the first byte of a burst.
     #[inline]
     fn begin(&mut self, byte: u8)
         requires { self.old.ticks < MAX_TICKS }
@@ -76,7 +76,7 @@ impl RtuFamily {
         self.ticks += 1;
     }
 
-    // Keeps a further byte of a burst, if it can still be a frame.
+    // Keeps another byte of a burst, if the burst can still be a frame with it.
     #[inline]
     fn keep(&mut self, byte: u8)
         ensures ticks { self.new.ticks ≡ self.old.ticks }
@@ -96,7 +96,7 @@ impl RtuFamily {
         self.bytes.push(byte);
     }
 
-    // A further byte of a burst.
+    // Takes another byte of a burst.
     #[inline]
     fn go_on(&mut self, byte: u8)
         requires { self.old.ticks < MAX_TICKS }
@@ -116,8 +116,8 @@ impl RtuFamily {
         self.ticks += 1;
     }
 
-    // Keeps further bytes of a burst, for which there is room. One alone is put down by itself,
-    // which costs less than the copy of a run.
+    // Keeps more bytes of a burst, for which there is room. A single byte is pushed, which costs
+    // less than the copy of a run.
     #[inline(always)]
     fn keep_some(&mut self, bytes: &[u8])
         requires { length self.old.bytes.items + length bytes.now ≤ 256 }
@@ -135,7 +135,7 @@ impl RtuFamily {
         let _ = self.bytes.try_extend_from_slice(bytes);
     }
 
-    // Further bytes of a burst, right behind the last one.
+    // Takes more bytes of a burst, right after its last one.
     #[inline(always)]
     fn go_on_some(&mut self, bytes: &[u8])
         requires { self.old.ticks + length bytes.now ≤ MAX_TICKS }
@@ -156,7 +156,7 @@ impl RtuFamily {
         self.keep_some(bytes);
     }
 
-    // The end of a burst: where its first byte stands, if its bytes are a frame.
+    // Returns the tick of the first byte of a burst that ends, if the burst is a frame.
     #[inline]
     fn close(&self) -> Option<u64>
         ensures { frames_lent result self.now.bytes.items
@@ -214,7 +214,7 @@ impl RtuFamily {
         None
     }
 
-    // Silent ticks with which the silence doesn't come to part the line.
+    // Takes silent ticks in none of which the silence parts the line.
     #[inline]
     fn wait_some(&mut self, ticks: usize)
         requires some { ticks_heard self.old + ticks ≤ MAX_TICKS }
@@ -233,7 +233,8 @@ impl RtuFamily {
         self.silence.wait_some(ticks);
     }
 
-    // Bytes behind silence. It is kept separate from those that go on with a burst, which are more.
+    // Takes bytes that come after silence. It is a function of its own, as most bytes come right
+    // after another one.
     #[inline(never)]
     fn hear_behind(&mut self, bytes: &[u8])
         requires { ticks_heard self.old + length bytes.now ≤ MAX_TICKS }
@@ -253,8 +254,8 @@ impl RtuFamily {
         self.go_on_some(wait_some);
     }
 
-    /// Takes the next ticks, which have these bytes. A frame is read in none of them. At most
-    /// `MAX_TICKS` ticks were then taken.
+    /// Takes the next ticks, which have these bytes. No frame is read in them. The ticks taken
+    /// before and these may be at most `MAX_TICKS` together.
     #[inline(always)]
     pub fn hear(&mut self, bytes: &[u8])
         requires { ticks_heard self.old + length bytes.now ≤ MAX_TICKS }
@@ -275,7 +276,7 @@ impl RtuFamily {
     }
 
     /// Takes this many silent ticks, up to the first one in which a frame is read, which is lent
-    /// then. At most `MAX_TICKS` ticks were then taken.
+    /// then. The ticks taken before and these may be at most `MAX_TICKS` together.
     pub fn wait(&mut self, ticks: usize) -> Met
         requires { ticks_heard self.old + ticks ≤ MAX_TICKS }
         ensures some { 0 < ticks → 0 < result.taken }
@@ -322,8 +323,8 @@ impl RtuFamily {
         }
     }
 
-    /// The bytes of the frame that was read in the last tick taken: those that are kept of the
-    /// burst that is running or was the last.
+    /// Returns the bytes of the frame that was read in the last tick taken: those that are kept of
+    /// the running burst, or else of the last one.
     #[inline]
     pub fn frame_bytes(&self) -> &[u8]
         ensures bytes { result.now ≡ bytes_lent self.now }
@@ -332,9 +333,9 @@ impl RtuFamily {
         self.bytes.as_slice()
     }
 
-    /// Takes the next tick of the line. Returns the tick of the first byte of the frame that is
-    /// read in this very tick, which is lent then, and `None` where none is. Fewer than `MAX_TICKS`
-    /// ticks were taken before.
+    /// Takes the next tick of the line. If a frame is read in this very tick, returns the tick of
+    /// its first byte, and lends its bytes. Otherwise returns `None`. Fewer than `MAX_TICKS` ticks
+    /// may have been taken before.
     #[inline]
     pub fn step(&mut self, t: Tick) -> Option<u64>
         requires { ticks_heard self.old < MAX_TICKS }

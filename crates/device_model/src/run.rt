@@ -8,8 +8,7 @@ ghost use Rattle.device_model.specs.Frames.{frames_lent};
 use crate::{Device, Met};
 use yasir_ticks::TickRun;
 
-/// A device takes the next ticks, which are those of this run, up to the first one in which a frame
-/// is read.
+/// Lets a device take the ticks of this run, up to the first one in which it reads a frame.
 #[inline(always)]
 pub fn hear_run<V: Device>(device: &mut V, run: TickRun<'_>) -> Met
     requires { V.taken device.old + length (run_ticks run) ≤ MAX_TICKS }

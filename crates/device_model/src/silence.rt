@@ -13,7 +13,7 @@ impl Silence {
     ghost use Rattle.std.specs.Prelude.{◌≡◌, ◌+◌, ◌-◌, ◌<◌, ◌≤◌, ◌⊎◌, ◌==◌, nat_le, nat_lt};
     ghost use Rattle.std.specs.Prelude.{if◌then◌else◌};
 
-    // The start of a line counts as silence.
+    // Starts to count at the start of a line, which counts as silence.
     pub(crate) fn new(cut: u8) -> Silence
         ensures cut { result.cut ≡ cut }
         ensures quiet { result.quiet ≡ cut }
@@ -21,7 +21,7 @@ impl Silence {
         Silence { cut, quiet: cut }
     }
 
-    // The silent ticks since the last byte.
+    // Returns the silent ticks since the last byte, counted up to `cut`.
     #[inline]
     pub(crate) fn ticks(&self) -> u8
         ensures { result ≡ self.now.quiet }
@@ -37,7 +37,7 @@ impl Silence {
         self.quiet >= self.cut
     }
 
-    // One more silent tick; whether the silence parts the line in this very tick.
+    // Takes another silent tick. Returns whether the silence parts the line in this very tick.
     #[inline]
     pub(crate) fn wait(&mut self) -> bool
         ensures cut { self.new.cut ≡ self.old.cut }
@@ -52,7 +52,7 @@ impl Silence {
         self.quiet == self.cut
     }
 
-    // How many silent ticks more part the line; 0 where it has been parted.
+    // Returns how many more silent ticks part the line, or 0 if it has been parted.
     #[inline]
     pub(crate) fn left(&self) -> u8
         ensures { result ≡ self.now.cut - self.now.quiet }
@@ -60,7 +60,7 @@ impl Silence {
         self.cut.saturating_sub(self.quiet)
     }
 
-    // This many silent ticks more, with which the silence doesn't come to part the line.
+    // Takes this many more silent ticks, in none of which the silence parts the line.
     #[inline]
     pub(crate) fn wait_some(&mut self, ticks: usize)
         requires { (self.old.cut ≤ self.old.quiet) ⊎ (self.old.quiet + ticks < self.old.cut) }
@@ -73,7 +73,7 @@ impl Silence {
         }
     }
 
-    // A byte ends the silence.
+    // Ends the silence with a byte.
     #[inline]
     pub(crate) fn end(&mut self)
         ensures cut { self.new.cut ≡ self.old.cut }
