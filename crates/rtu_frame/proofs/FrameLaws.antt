@@ -35,13 +35,13 @@ is_frame-from f frame =
     (and_from _ _ (le-leb 4 (length f) frame.at_least) (le-leb (length f) 256 frame.at_most))
     (has_right_ending-from f frame.ends_in_crc)
 
--- a test that holds exactly of frames is `is_frame`
+-- A test that holds exactly for frames is `is_frame`.
 pub is_frame_lem : (f : List ℕ) (answer : Bool)
     → (IsTrue answer → IsFrame f) × (IsFrame f → IsTrue answer) → answer ≡ is_frame f
 is_frame_lem f answer iff =
     same_from_decides answer (is_frame f) (iff.0, iff.1) (is_frame-true f, is_frame-from f)
 
--- Where the last byte but one is right, the last one decides.
+-- If the last byte but one is right, the last one decides whether the bytes are a frame.
 pub last_byte_decides : (f sent : List ℕ) (r : ℕ) → 4 ≤ length f → length f ≤ 256 → r < 2 ^ 16
     → r ≡ crc_rtu (body_of f)
     → sent ≡ to_le_bytes w16 r → get_or f (length f - 2) 0 ≡ get_or sent 0 0

@@ -30,7 +30,7 @@ pub frames : (is_frame (0x01 ∷ 0x03 ∷ 0x00 ∷ 0x00 ∷ 0x00 ∷ 0x0A ∷ 0x
 unfolding bit_step bit_steps byte_step crc is_frame has_right_ending ends_in_check
 frames = (refl, refl, refl, refl, refl)
 
--- the last byte of a right ending has its lowest bit turned; every other byte stays
+-- If the last byte makes a right ending, its lowest bit is turned; any other byte stays.
 pub spoiled_bytes : (rtu_rules.spoil (0x01 ∷ 0x7E ∷ []) 0x80 ≡ 0x81)
     × (rtu_rules.spoil (0x01 ∷ 0x03 ∷ 0x40 ∷ []) 0x21 ≡ 0x20)
     × (rtu_rules.spoil (0x01 ∷ 0x03 ∷ 0x40 ∷ []) 0x20 ≡ 0x20)

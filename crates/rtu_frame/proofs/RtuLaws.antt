@@ -1,5 +1,5 @@
--- Bytes whose CRC is 0 end in the CRC of those before, and the other way round; so length and CRC
--- tell a frame.
+-- Bytes have the CRC 0 exactly if they end in the CRC of those before; so length and CRC tell a
+-- frame.
 use Rattle.line_rules.proofs.CrcLaws.{crc-nil, crc-parts}
 use Rattle.line_rules.proofs.CrcZero.{byte_step-zero, crc-zero, crc-own, crc-append}
 use Rattle.line_rules.{proofs.EndingLaws.apart, specs.Bytes.AreBytes}
@@ -16,7 +16,7 @@ use Rattle.std.proofs.lemmas.Bool.{eqb-true, eq-eqb, leb-true, le-leb, Decides.s
 use Rattle.std.proofs.lemmas.List.{length-take, Elements.All-nil}
 use Rattle.std.proofs.lemmas.List.Elements.{All-push, All-take, All-get_or, All-head, All-append}
 
--- a byte alone, or none, never leaves the register 0
+-- A single byte, or none, never leaves the register 0.
 crc_rtu-long : (x : List ℕ) → AreBytes x → crc_rtu x ≡ 0 → 2 ≤ length x
 crc_rtu-long [] bytes none = let e = crc-nil 0xA001 0xFFFF in absurd (omega arith)
 crc_rtu-long (b ∷ []) bytes none =
@@ -54,7 +54,7 @@ crc_rtu-right x bytes right =
     ∙ crc-own 0xA001 (lit≤ tt) (lit< tt) 0xFFFF right.body (lit< tt)
     (subst P front (All-take (λ b. b < 256) (length right.body) x bytes))
 
--- the CRC tells a right ending
+-- The CRC of all bytes tells whether they have a right ending.
 pub right_ending_by_crc : (x : List ℕ) → AreBytes x
     → (IsTrue (nat_eq (crc_rtu x) 0) → HasRightEnding x)
     × (HasRightEnding x → IsTrue (nat_eq (crc_rtu x) 0))
@@ -63,7 +63,7 @@ right_ending_by_crc x bytes = (
   (λ right. eq-eqb _ _ (crc_rtu-right x bytes right)),
 )
 
--- length and CRC tell a frame
+-- The length and the CRC of all bytes tell whether they are a frame.
 pub is_frame_by_crc : (x : List ℕ) → AreBytes x → length x ≤ 256
     → (nat_le 4 (length x) && nat_eq (crc_rtu x) 0) ≡ is_frame x
 is_frame_by_crc x bytes short =
@@ -125,7 +125,7 @@ rtu_good value x stands =
     ∙ (ap (λ r. nat_le 4 (length x) && nat_eq r 0) stands.check
     ∙ is_frame_by_crc x stands.bytes stands.short)
 
--- the register tells a right ending
+-- The register of a value tells whether its bytes have a right ending.
 pub rtu_ends_right : (value : Rtu) (x : List ℕ) → RtuStandsFor value x
     → nat_eq value.register 0 ≡ has_right_ending x
 rtu_ends_right value x stands =

@@ -14,6 +14,7 @@ pub record RtuStandsFor (value : Rtu) (x : List ℕ) : Type 0 where
   pub short : length x ≤ 256
   pub bytes : AreBytes x
 
+-- whether the value says that its room is full
 abbrev pub is_full_rtu : Rtu → Bool
 is_full_rtu value = nat_le 256 value.len
 

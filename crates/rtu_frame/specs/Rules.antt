@@ -12,6 +12,7 @@ use Rattle.line_rules.specs.Spoiling.{IsSpoiling, spoiling_by_ending}
 use Rattle.rtu_frame.specs.Crc.{crc_rtu}
 use Rattle.rtu_frame.specs.Frame.{is_frame, has_right_ending}
 
+-- the rules of Modbus RTU: the label is 1, a frame has up to 256 bytes, and no header
 abbrev pub rtu_rules : Rules
 rtu_rules = headerless 1 256 is_frame has_right_ending
 
