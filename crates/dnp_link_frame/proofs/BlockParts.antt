@@ -23,7 +23,8 @@ pub in_blocks-next : (n : ℕ) (user : List ℕ)
 unfolding in_blocks
 in_blocks-next n user = refl
 
--- a first block, which is shorter only where nothing follows
+-- the blocks of user data whose first block is given; only a last block may be shorter than 16
+-- bytes
 pub in_blocks-first : (n : ℕ) (block rest : List ℕ) → length block ≤ 16
     → (length block < 16 → length rest ≡ 0)
     → in_blocks (suc n) (block ++ rest) ≡ with_crc block ++ in_blocks n rest
@@ -63,7 +64,7 @@ unfolding right_in_blocks
 right_in_blocks-stop n user_len x short =
     cond-false (right_in_part (min 16 user_len) x == min 16 user_len + 2) _ _ (ne_eqb _ _ short)
 
--- no more bytes are right than there are
+-- There are no more right bytes than bytes.
 pub right_in_blocks-within : (n user_len : ℕ) (x : List ℕ) → right_in_blocks n user_len x ≤ length x
 right_in_blocks-within zero user_len x = let e = right_in_blocks-none user_len x in omega arith
 right_in_blocks-within (suc n) user_len x =
@@ -79,7 +80,7 @@ right_in_blocks-within (suc n) user_len x =
 
 -- ---- what is right begins blocks of some user data
 
--- some user data, in blocks that begin so
+-- user data of `user_len` bytes, whose blocks begin with `x`
 pub record SomeUser (n user_len : ℕ) (x : List ℕ) : Type 0 where
   pub user : List ℕ
   pub bytes : AreBytes user
@@ -153,7 +154,8 @@ blocks_start (suc n) user_len x is bytes =
     })
     (cases_eq (right_in_part (min 16 user_len) x) (min 16 user_len + 2))
   where
-    -- the whole blocks so far, and then some of the next
+    -- The whole blocks so far, followed by the first bytes of the next one, are the first bytes of
+    -- all.
     joined : (n user_len : ℕ) (x : List ℕ) (k : ℕ) → suc n ≡ blocks_for user_len
         → (n ≡ 0 → k ≡ 0)
         → take (min 16 user_len + 2) x ++ take k (drop 18 x) ≡ take (min 16 user_len + 2 + k) x
@@ -174,7 +176,7 @@ blocks_start (suc n) user_len x is bytes =
         ∙ ap (λ i. take i x) (let e : 18 + k ≡ min 16 user_len + 2 + k = omega arith in e)))))
         (cases_lt user_len 17)
 
--- ---- and no longer beginning does
+-- ---- no longer beginning begins blocks of user data
 
 pub blocks_longest : (n user_len : ℕ) (x user rest : List ℕ) (m : ℕ) → n ≡ blocks_for user_len
     → length user ≡ user_len → m ≤ length x → in_blocks n user ≡ take m x ++ rest
@@ -256,7 +258,7 @@ pub user_in_blocks-none : (x : List ℕ) → user_in_blocks 0 x ≡ []
 unfolding user_in_blocks
 user_in_blocks-none x = refl
 
--- the size of blocks
+-- how many bytes the blocks of user data have
 pub length-in_blocks : (n : ℕ) (user : List ℕ) → n ≡ blocks_for (length user)
     → length (in_blocks n user) ≡ length user + 2 * n
 length-in_blocks zero user is = let e = ap length (in_blocks-none user) in omega arith

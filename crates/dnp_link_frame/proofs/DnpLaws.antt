@@ -96,7 +96,7 @@ register_of-push x b =
 
 -- ---- the blocks
 
--- where a block ends, it counts from now on
+-- When the next block begins, the one that has ended counts from now on.
 blocks-ended : (x : List ℕ) (b : ℕ) → AreBytes x → 10 < length x → Begins (length x)
     → blocks_so_far (x ++ b ∷ []) ≡ (blocks_so_far x && register_of (running_block x) == residue)
 blocks-ended x b bytes user begins =
@@ -127,7 +127,7 @@ blocks-ended x b bytes user begins =
     ∙ sym (residue_decides (running_block x)
     (All-drop (λ c. c < 256) (block_start (length x)) x bytes))))))
 
--- and before, nothing changes
+-- While a block goes on, nothing changes.
 blocks-kept : (x : List ℕ) (b : ℕ) → 10 < length x → GoesOn (length x)
     → blocks_so_far (x ++ b ∷ []) ≡ blocks_so_far x
 blocks-kept x b user goes_on =
@@ -139,7 +139,7 @@ blocks-kept x b user goes_on =
     ∙ end_in_crcs-append ((length x - 11) / 18) (drop 10 x) (b ∷ [])
     (omega (arith, length-drop 10 x)))
 
--- no block is finished with the header
+-- With a header and at most one more byte, no block is finished.
 pub blocks-none : (x : List ℕ) → length x ≤ 11 → blocks_so_far x ≡ true
 blocks-none x header =
     let none : (length x - 11) / 18 ≡ 0 = omega arith in
@@ -182,7 +182,8 @@ length_byte-push x b =
 
 -- ---- frames and right endings
 
--- the last block of a frame
+-- The blocks so far and the register of the last one say whether all blocks of a frame end in their
+-- CRC.
 last_block : (x : List ℕ) → AreBytes x → length x ≡ size_by (length_byte x)
     → is_good_header (take 10 x) ≡ true
     → (blocks_so_far x && register_of (running_block x) == residue)
@@ -341,7 +342,7 @@ pub dnp_fresh-room : is_full_dnp (record {
 }) ≡ false
 dnp_fresh-room = refl
 
--- what a value says of the header
+-- What a value says of the header is what the rules say of its bytes.
 pub dnp_head : (value : Dnp) (x : List ℕ) → DnpStandsFor value x
     → head_by value.len value.header_right ≡ head_of dnp_rules x
 dnp_head value x stands =

@@ -207,9 +207,9 @@ goes_on-block value next (b ∷ y) behind few room bytes count tells check heade
     goes_on value next (b ∷ y) ((value.len - 10) / 18) ((value.len - 10) % 18) (omega arith)
     (omega arith) (omega arith) room bytes count tells check header blocks size lacks x stands
 
--- ---- the same of a value that keeps the room and what the block lacks
+-- ---- the same steps, for a value that keeps the room and how much the block lacks
 
--- the room of what a value stands for
+-- A value that keeps LEN and the room still has the room that LEN says.
 room_kept : (value next : Dnp) (x : List ℕ) → DnpStandsFor value x → next.len_byte ≡ value.len_byte
     → next.room ≡ value.room → next.room ≡ room_by next.len_byte
 room_kept value next x stands tells room =
@@ -218,7 +218,7 @@ room_kept value next x stands tells room =
 room_there : (value : Dnp) (x : List ℕ) → DnpStandsFor value x → value.room ≡ room_by value.len_byte
 room_there value x stands = room_kept value value x stands refl refl
 
--- what the block lacks
+-- A value says how many bytes the running block lacks.
 lacks_there : (value : Dnp) (x : List ℕ) → DnpStandsFor value x
     → value.block_left ≡ left_in_block value.len
 lacks_there value x stands = stands.lacks ∙ ap left_in_block (sym stands.count)
@@ -238,7 +238,7 @@ dnp_header_byte value next b few byte count tells check header blocks room lacks
     dnp_take-in_header value next b few byte count tells check header blocks room (omega arith) x
     stands
 
--- bytes of the block that has begun
+-- more bytes of the block that has begun
 pub dnp_go_on : (value next : Dnp) (y : List ℕ) → 10 ≤ value.len → length y ≤ value.block_left
     → value.len + length y ≤ value.room → AreBytes y
     → next.len ≡ value.len + length y
@@ -259,7 +259,7 @@ dnp_go_on value next y behind few room bytes count tells check header blocks sam
   same_room = same;
 }
 
--- where a block begins, the one before is judged
+-- When a block begins, the one before it is judged.
 blocks_at_beginning-is : (n : ℕ) (right : Bool) (register : ℕ) → begins_block n ≡ true
     → blocks_at_beginning n right register ≡ blocks_after n right register
 blocks_at_beginning-is n right register begins =
@@ -294,13 +294,13 @@ dnp_begin_block value next y behind none some few room bytes count tells check h
       same_room = same;
     }
 
--- ---- runs behind one another
+-- ---- runs that follow one another
 
--- what is left of a run
+-- What is left of a run is all of what follows its first `n` bytes.
 pub take_rest : (n : ℕ) (run : List ℕ) → take (length run - n) (drop n run) ≡ drop n run
 take_rest n run = take_all (length run - n) (drop n run) (omega (arith, length-drop n run))
 
--- nothing more
+-- A value that stays as it is has appended no byte.
 pub appends-none : (value : Dnp) → Appends value value []
 appends-none value = record {
   stands = λ x stands. subst (DnpStandsFor value) (sym (append-nil x)) stands;
@@ -308,7 +308,7 @@ appends-none value = record {
   same_room = refl;
 }
 
--- a run, and then another one
+-- A run and then another one are one run.
 pub appends-more : (old value next : Dnp) (y z : List ℕ) → Appends old value y
     → Appends value next z → Appends old next (y ++ z)
 appends-more old value next y z first second = record {
@@ -318,8 +318,8 @@ appends-more old value next y z first second = record {
   same_room = second.same_room ∙ first.same_room;
 }
 
--- What follows of a run begins a block, the blocks before are judged, and there is room for it. Who
--- appends it too has appended the whole run.
+-- Holds if `following`, the end of a run, begins a block, the blocks before it are judged, and it
+-- has room. A value that appends it as well has appended the whole run.
 pub record IsBegun (old : Dnp) (run : List ℕ) (right : Bool) (following : List ℕ) : Type 0 where
   pub value : Dnp
   pub behind : 10 ≤ value.len
@@ -334,7 +334,7 @@ pub record IsBegun (old : Dnp) (run : List ℕ) (right : Bool) (following : List
   pub same_room : value.room ≡ old.room
   pub ends : (next : Dnp) → Appends value next following → Appends old next run
 
--- before the first block
+-- It holds before the first block.
 pub is_begun-first : (old : Dnp) (run : List ℕ) (right : Bool) → 10 ≤ old.len
     → old.block_left ≡ 0 → 0 < length run → old.len + length run ≤ old.room → AreBytes run
     → right ≡ blocks_at_beginning old.len old.blocks_right old.register
@@ -354,7 +354,7 @@ is_begun-first old run right behind begins some room bytes judged = record {
   ends = λ next more. more;
 }
 
--- behind one more block
+-- It goes on to hold after one more block.
 pub is_begun-next : (old : Dnp) (run following block more : List ℕ) (right next_right : Bool)
     (register : ℕ) → 18 < length following → block ≡ take 18 following
     → more ≡ drop 18 following → register ≡ crc 0xA6BC 0 block
@@ -403,7 +403,7 @@ is_begun-next old run following block more right next_right register long front 
           (appends-more before.value next last block more begun more_of));
     }
 
--- and the last one
+-- With the last block, the whole run is appended.
 pub is_begun-last : (old next : Dnp) (run following : List ℕ) (right : Bool)
     → IsBegun old run right following → length following ≤ 18
     → next.len ≡ old.len + length run
@@ -452,7 +452,7 @@ dnp_take_header value next y none whole bytes count tells check header blocks ro
       bytes = bytes;
     })
 
--- what a header has behind its first byte
+-- the other nine bytes of a header, after its first one
 pub dnp_take_behind_first : (value next : Dnp) (y : List ℕ) → value.len ≡ 1 → length y ≡ 9
     → AreBytes y
     → next.len ≡ 10
@@ -497,7 +497,7 @@ dnp_take_behind_first value next y one nine bytes count tells check header block
     (b ∷ c ∷ x) stands =
     let more = stands.count in absurd (omega arith)
 
--- a header has room
+-- Each byte of a header has room.
 pub header_has_room : (value : Dnp) (x y : List ℕ) → DnpStandsFor value x
     → value.len + length y < 10 → fills_room dnp_rules (x ++ y) ≡ false
 header_has_room value x y stands few =
@@ -505,14 +505,14 @@ header_has_room value x y stands few =
     let least = room_by-least (length_byte (x ++ y)) in
     ne_eqb (length (x ++ y)) (room_of (x ++ y)) (λ all. omega (arith, length-append x y))
 
--- for the next byte too
+-- The next byte of a header has room.
 pub header_has_room-next : (value : Dnp) (x : List ℕ) → DnpStandsFor value x → value.len < 10
     → false ≡ fills_room dnp_rules x
 header_has_room-next value x stands few =
     sym (ap (fills_room dnp_rules) (sym (append-nil x))
     ∙ header_has_room value x [] stands (omega arith))
 
--- there is room as long as there are fewer bytes than the room has
+-- The next byte has room as long as there are fewer bytes than the room.
 pub has_room : (value : Dnp) (x y : List ℕ) → DnpStandsFor value x → 3 ≤ value.len
     → value.len + length y < value.room → fills_room dnp_rules (x ++ y) ≡ false
 has_room value x y stands behind below =

@@ -131,7 +131,7 @@ blocks_end (suc n) user is =
 
 -- ---- frames
 
--- the parts of a good header
+-- The parts of a good header: its first two bytes and its CRC are right.
 good_header : (x : List ℕ) → is_good_header x ≡ true
     → (get_or x 0 0x05 ≡ 0x05) × (get_or x 1 0x64 ≡ 0x64) × (ends_in_crc x ≡ true)
 unfolding is_good_header begins_right
@@ -164,7 +164,7 @@ user_in_blocks-bytes (suc n) x bytes =
     (All-take (λ b. b < 256) (min 18 (length x) - 2) x bytes)
     (user_in_blocks-bytes n (drop 18 x) (All-drop (λ b. b < 256) 18 x bytes)))
 
--- the header of bytes that are a frame
+-- The header of the bytes of a frame is made of its fields and their CRC.
 header_is : (x : List ℕ) → AreBytes x → is_good_header (take 10 x) ≡ true
     → take 10 x ≡ with_crc (header_fields (header_in (take 8 x)) (user_len_by (length_byte x)))
 header_is x bytes good =

@@ -1,4 +1,4 @@
--- How many bytes are right as a frame's, and a frame taken apart again.
+-- How many bytes are right as those of a frame, and how a frame is taken apart.
 use Rattle.dnp_link_frame.proofs.BlockParts.{blocks_start, blocks_longest, length-in_blocks}
 use Rattle.dnp_link_frame.proofs.BlockParts.{right_in_blocks-within, user_in_blocks-in_blocks}
 use Rattle.dnp_link_frame.proofs.Parts.{Starts, part_data, length-part_data, part_data-bytes}
@@ -111,7 +111,7 @@ start_of x =
     (λ other. none (cond-false (get_or x 0 0 == 0x05) _ _ (ne_eqb _ _ other)) other)
     (cases_eq (get_or x 0 0) 0x05)
 
--- a byte that isn't 0 is there
+-- A place that holds a byte other than 0 is within the list.
 there : (x : List ℕ) (i b : ℕ) → get_or x i 0 ≡ b → 0 < b → i < length x
 there x i b is some =
     ⊎_elim
@@ -144,7 +144,7 @@ right_in_frame-blocks x start whole =
     cond-false (nat_lt (right_in_start x) 3) _ _ (le-ltb (right_in_start x) 3 (omega arith))
     ∙ cond-true (right_in_part 8 x == 10) _ _ (eq-eqb _ _ whole)
 
--- no more bytes are right than there are
+-- There are no more right bytes than bytes.
 pub right_in_frame-within : (x : List ℕ) → right_in_frame x ≤ length x
 right_in_frame-within x =
     let bounds = part_bounds 8 x in
@@ -187,7 +187,7 @@ begins_from header user x fits bytes short starts = record {
   };
 }
 
--- some frame, for beginnings that say nothing of it
+-- some header, for beginnings that don't depend on its fields
 abbrev any_header : Header
 any_header = record { control = 0; destination = 0; source = 0 }
 
@@ -230,7 +230,8 @@ begins-two x is first second =
       is = ap (λ y. y ++ drop 2 (frame_of any_header [])) (sym front);
     })
 
--- the fields of a header that begins right, zeros in place of those that aren't there
+-- The first eight bytes of a header that begins right are its fields, with zeros in place of bytes
+-- that haven't come.
 data_fields : (x : List ℕ) → AreBytes x → get_or x 0 0 ≡ 0x05 → get_or x 1 0 ≡ 0x64
     → 5 ≤ length_byte x
     → part_data 8 x ≡ header_fields (header_in (part_data 8 x)) (user_len_by (length_byte x))
@@ -254,7 +255,7 @@ user_fits x bytes =
     (λ short. let e = get_or_past x 2 0 short in omega arith)
     (cases_lt 2 (length x))
 
--- of a header that isn't whole, and any user data of the length that it says
+-- A header that isn't whole begins a frame, with any user data of the length that it says.
 begins-with : (x user : List ℕ) → AreBytes x → get_or x 0 0 ≡ 0x05 → get_or x 1 0 ≡ 0x64
     → 5 ≤ length_byte x → right_in_frame x ≡ right_in_part 8 x → AreBytes user
     → length user ≡ user_len_by (length_byte x) → BeginsFrame (take (right_in_frame x) x)
@@ -334,7 +335,7 @@ right_in_frame-begins x bytes =
           (cases_eq (right_in_part 8 x) 10)
     ]
 
--- ---- and no longer beginning does
+-- ---- no longer beginning begins a frame
 
 longest-header : (x : List ℕ) (m : ℕ) (header : Header) (user rest : List ℕ) → m ≤ length x
     → take m x ++ rest ≡ frame_of header user → right_in_start x ≡ 3 → m ≤ 10
@@ -427,7 +428,7 @@ right_in_frame-longest x m within begins =
 
 -- ---- a frame taken apart
 
--- as many bytes as its LEN says
+-- A frame has as many bytes as its LEN says.
 pub length-frame_of : (header : Header) (user : List ℕ)
     → length (frame_of header user) ≡ size_by (length_byte (frame_of header user))
 length-frame_of header user =
@@ -461,7 +462,8 @@ header_in-frame_of header user fits =
     }) d
     ∙ ap (λ n. record { control = header.control; destination = header.destination; source = n }) s
 
--- bytes that are right to their end, and of which none is lacking, are the frame of what is in them
+-- Bytes that are right to their end, and lack none, are the frame of the header and the user data
+-- in them.
 pub frame_from : (x : List ℕ) → AreBytes x → right_in_frame x ≡ length x
     → length x ≡ size_by (length_byte x) → IsFrameOf (header_in x) (user_in x) x
 frame_from x bytes all size =
@@ -496,7 +498,7 @@ frame_from x bytes all size =
       is = same;
     }))
 
--- a frame is right to its end, and lacks no byte
+-- A frame is right to its end, and lacks no byte.
 pub frame_is_right : (x : List ℕ) → IsFrame x
     → (right_in_frame x ≡ length x) × (length x ≡ size_by (length_byte x))
 frame_is_right x framed =
@@ -560,7 +562,7 @@ blocks_judged x n right start whole len is =
     ∙ ap (λ k. right_in_blocks (blocks_for k) k (drop 10 x)) len) in
     ap (λ k. 10 + k) behind ∙ sym (right_in_frame-blocks x (omega arith) whole)
 
--- whether this many right bytes are a frame
+-- whether the bytes are a frame, if the first `right` of them are right
 abbrev pub judged_whole : List ℕ → ℕ → Bool
 judged_whole x right = right == length x && length x == size_by (length_byte x)
 

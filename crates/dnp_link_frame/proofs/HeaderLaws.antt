@@ -1,4 +1,4 @@
--- The header, as far as it is there, and what one more byte does to it.
+-- The header, as far as it has come, and what one more byte does to it.
 use Rattle.dnp_link_frame.{proofs.Residue.residue_decides, specs.BlockLaws.running_block-header}
 use Rattle.dnp_link_frame.specs.Blocks.{ends_in_crc, begins_right, is_good_header, running_block}
 use Rattle.dnp_link_frame.specs.{Crc.register_of, Dnp.header_so_far}
@@ -36,7 +36,8 @@ test_at-same n i t here = cond-true (n == i) t true (eq-eqb n i here)
 test_at-other : (n i : ℕ) (t : Bool) → (n ≡ i → ⊥) → test_at n i t ≡ true
 test_at-other n i t there = cond-false (n == i) t true (ne_eqb n i there)
 
--- A test that passes where there is no byte is made of the byte that comes at its place alone.
+-- If a test of the byte at one place passes while that byte hasn't come, then only a byte that
+-- comes at this place changes the result.
 test-push : (p : ℕ → Bool) (x : List ℕ) (b i d : ℕ) → p d ≡ true
     → p (get_or (x ++ b ∷ []) i d) ≡ (p (get_or x i d) && test_at (length x) i (p b))
 test-push p x b i d passes =
@@ -86,7 +87,7 @@ only_4 true a b c d here first second third =
     sym (and_from _ _ (and_from _ _ (and_from a b first second) third) here)
 only_4 false a b c d here first second third = sym (and_right _ d here)
 
--- what a header asks of a byte is one of these
+-- What a header asks of a byte is one of these four tests, by the byte's place.
 fits_header-parts : (n r b : ℕ)
     → fits_header n r b
     ≡ (((test_at n 0 (b == 0x05) && test_at n 1 (b == 0x64)) && test_at n 2 (nat_le 5 b))
@@ -155,7 +156,7 @@ begins_right-take x =
 
 -- ---- its CRC
 
--- the CRC is right, or isn't there yet
+-- whether the CRC is right, or hasn't come yet
 abbrev crc_so_far : List ℕ → Bool
 crc_so_far x = nat_lt (length x) 10 || ends_in_crc (take 10 x)
 
@@ -217,14 +218,14 @@ pub header_so_far-none : header_so_far [] ≡ true
 unfolding header_so_far begins_right
 header_so_far-none = refl
 
--- of one byte
+-- For one byte, it says whether that byte is 05.
 pub header_so_far-one : (b : ℕ) → header_so_far (b ∷ []) ≡ (b == 0x05)
 unfolding header_so_far begins_right
 header_so_far-one b =
     and_true (((b == 0x05) && true) && true)
     ∙ (and_true ((b == 0x05) && true) ∙ and_true (b == 0x05))
 
--- of ten bytes or more it says whether the first ten are a good header
+-- For ten bytes or more, it says whether the first ten are a good header.
 pub header_so_far-whole : (x : List ℕ) → 10 ≤ length x
     → header_so_far x ≡ is_good_header (take 10 x)
 unfolding header_so_far is_good_header
@@ -234,7 +235,7 @@ header_so_far-whole x whole =
     ∙ ap (λ t. t && begins_right (take 10 x) && ends_in_crc (take 10 x))
     (sym (eq-eqb (length (take 10 x)) 10 (length-take-le 10 x whole))))
 
--- of ten bytes
+-- For ten bytes, it is what the first three of them and the register say.
 pub header_so_far-ten : (x : List ℕ) → length x ≡ 10 → AreBytes x
     → header_so_far x
     ≡ is_header (get_or x 0 0 == 0x05) (get_or x 1 0) (get_or x 2 0) (register_of x)

@@ -1,4 +1,4 @@
--- What a loop over blocks has done, and what it does with the next one.
+-- What a loop over blocks has done so far, and what it does with the next block.
 use Rattle.dnp_link_frame.proofs.BlockParts.{in_blocks-none, in_blocks-next, length-in_blocks}
 use Rattle.dnp_link_frame.proofs.BlockParts.{right_in_blocks-none, right_in_blocks-on}
 use Rattle.dnp_link_frame.proofs.BlockParts.{right_in_blocks-stop, user_in_blocks-none}
@@ -13,12 +13,13 @@ use Rattle.std.proofs.lemmas.List.{length-take, length-drop, drop-drop, take_all
 
 -- ---- blocks that are built
 
--- What is there and the blocks of what follows are the header and the blocks of all user data.
+-- Holds if `items`, followed by the blocks of `following`, are the header followed by the blocks of
+-- all user data.
 pub record IsBuilt (header user items following : List ℕ) : Type 0 where
   pub is : items ++ in_blocks (blocks_for (length following)) following
       ≡ with_crc header ++ in_blocks (blocks_for (length user)) user
 
--- before the first block there is the header
+-- It holds before the first block, when there is only the header.
 pub is_built-first : (header fields items before user : List ℕ) → before ≡ []
     → items ≡ before ++ with_crc fields → fields ≡ header → IsBuilt header user items user
 is_built-first header fields items before user none pushed is = record {
@@ -26,7 +27,7 @@ is_built-first header fields items before user none pushed is = record {
       (pushed ∙ (ap (λ y. y ++ with_crc fields) none ∙ ap with_crc is));
 }
 
--- a whole block
+-- It goes on to hold when a whole block has been added.
 pub is_built-next : (header user items next following block more : List ℕ)
     → 16 ≤ length following → block ≡ take 16 following → more ≡ drop 16 following
     → next ≡ items ++ with_crc block → IsBuilt header user items following
@@ -48,7 +49,7 @@ is_built-next header user items next following block more whole front behind pus
           ∙ (ap (λ y. items ++ y) (sym parts) ∙ before.is));
     }
 
--- the last block, where it is shorter
+-- With the last block, which may be shorter, what is there is the header and all blocks.
 pub is_built-last : (header user items next following : List ℕ) → 0 < length following
     → length following ≤ 16 → next ≡ items ++ with_crc following
     → IsBuilt header user items following
@@ -63,7 +64,7 @@ is_built-last header user items next following some short pushed before =
     ∙ append-nil (with_crc following)))) in
     pushed ∙ (ap (λ y. items ++ y) (sym alone) ∙ before.is)
 
--- where nothing follows
+-- If nothing follows, what is there is the header and all blocks.
 pub is_built-whole : (header user items following : List ℕ) → following ≡ []
     → IsBuilt header user items following
     → items ≡ with_crc header ++ in_blocks (blocks_for (length user)) user
@@ -72,7 +73,7 @@ is_built-whole header user items following none before =
     ap (λ y. in_blocks (blocks_for (length y)) y) none ∙ in_blocks-none [] in
     sym (append-nil items) ∙ (ap (λ y. items ++ y) (sym nothing) ∙ before.is)
 
--- there is room for the next block and its CRC
+-- The next block and its CRC have room.
 pub is_built-room : (header user items following block : List ℕ) → length header ≡ 8
     → length user ≤ 250 → 0 < length following → length block ≤ 16
     → length block ≤ length following → IsBuilt header user items following
@@ -146,11 +147,11 @@ user_in_blocks-room n blocks to x items fit whole left is before =
 
 -- ---- blocks that are judged
 
--- where the next block begins
+-- where the block after the first `n` ones begins, counted from the first block
 abbrev pub place_of : ℕ → ℕ → ℕ
 place_of n user_len = min (16 * n) user_len + 2 * n
 
--- this many blocks are right
+-- Holds if the first `n` blocks are right.
 pub record AreRight (n user_len : ℕ) (x : List ℕ) : Type 0 where
   pub within : place_of n user_len ≤ length x
   pub is : right_in_blocks (blocks_for user_len) user_len x
@@ -167,7 +168,7 @@ none_are_right user_len x =
     (let e : user_len ≡ user_len - 16 * 0 = omega arith in e) in
     record { within = omega arith; is = omega arith }
 
--- how many bytes are right of the next block, as the code asks it
+-- The number of right bytes of the next block is the same when written as the code has it.
 next_right : (n len user_len : ℕ) (x : List ℕ) → len ≡ min (user_len - n * 16) 16
     → right_in_part len (take (length x - n * 18) (drop (n * 18) x))
     ≡ right_in_part (min 16 (user_len - 16 * n)) (drop (18 * n) x)

@@ -1,4 +1,4 @@
--- How many bytes of a part are right: of this many bytes of any sort and their CRC.
+-- How many bytes of a part are right. A part is `n` bytes of any value and their CRC.
 use Rattle.dnp_link_frame.specs.{Beginnings.right_in_part, Crc.crc_dnp, Frame.with_crc}
 use Rattle.line_rules.specs.Bytes.{AreBytes, low_first}
 use Rattle.std.proofs.Common.{◌≡◌, ℕ, ◌+◌, ◌-◌, ◌/◌, ◌%◌, ◌<◌, ◌≤◌, nat_le, nat_lt, ◌&&◌, ◌==◌}
@@ -12,12 +12,12 @@ use Rattle.std.proofs.lemmas.List.{take-append-le, get_or_append_left, get_or-ta
 use Rattle.std.proofs.lemmas.List.{length-take, take-take}
 use Rattle.std.proofs.lemmas.List.Elements.{All-append, All-take, All-replicate}
 
--- a list begins so
+-- Holds if `whole` begins with `x`.
 pub record Starts (x whole : List ℕ) : Type 0 where
   pub rest : List ℕ
   pub is : whole ≡ x ++ rest
 
--- the bytes before the CRC, zeros in place of those that aren't there
+-- the bytes before the CRC, with zeros in place of those that haven't come
 abbrev pub part_data : ℕ → List ℕ → List ℕ
 part_data n x = take n x ++ replicate (n - length x) 0
 
@@ -36,7 +36,7 @@ part_data-bytes n x bytes =
     (All-take (λ b. b < 256) n x bytes)
     (All-replicate (λ b. b < 256) (n - length x) 0 (omega arith))
 
--- all of them are there
+-- If all of them have come, there are no zeros.
 pub part_data-whole : (n : ℕ) (x : List ℕ) → n ≤ length x → part_data n x ≡ take n x
 part_data-whole n x whole =
     let none : n - length x ≡ 0 = omega arith in
@@ -92,7 +92,7 @@ module _ (n : ℕ) (x : List ℕ) where
       ∙ (ap (λ y. y ++ (crc_dnp (take n x) / 256) ∷ []) (take_low long low)
       ∙ append_assoc (take n x) (crc_dnp (take n x) % 256 ∷ []) (crc_dnp (take n x) / 256 ∷ []))))
 
-  -- what is right begins a part
+  -- The bytes that are right begin a part.
   part_starts-short : length x ≤ n → Starts (take (right_in_part n x) x) (with_crc (part_data n x))
   part_starts-short short = record {
     rest = replicate (n - length x) 0 ++ low_first (crc_dnp (part_data n x));
@@ -145,7 +145,7 @@ module _ (n : ℕ) (x : List ℕ) where
       (λ short. part_starts-short short)
       (cases_lt n (length x))
 
-  -- bounds, and what is known where all of it is right
+  -- the bounds of the number of right bytes, and what is known if all of them are right
   pub record PartBounds : Type 0 where
     pub within : right_in_part n x ≤ length x
     pub at_most : right_in_part n x ≤ n + 2
@@ -175,7 +175,7 @@ module _ (n : ℕ) (x : List ℕ) where
 
 -- ---- no longer beginning begins a part
 
--- the bytes of a part at a place in front of which all is right
+-- If the first `m` bytes of `x` begin a part, each of them is the part's byte at its place.
 part_at : (n m i : ℕ) (x data' rest : List ℕ) → with_crc data' ≡ take m x ++ rest → i < m
     → m ≤ length x → get_or x i 0 ≡ get_or (with_crc data') i 0
 part_at n m i x data' rest is before within =

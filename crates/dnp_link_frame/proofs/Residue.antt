@@ -1,5 +1,5 @@
--- Bytes end in their CRC exactly where the register of all is 66C5: the CRC is the complement of
--- the register, and what the complement adds doesn't depend on the bytes.
+-- Bytes end in their CRC exactly if the register of all of them is 66C5: the CRC is the complement
+-- of the register, and what the complement adds doesn't depend on the bytes.
 use Rattle.dnp_link_frame.specs.Crc.{register_of, crc_dnp}
 use Rattle.line_rules.proofs.{CrcLaws.crc-nil, CrcLinear.byte_steps-turned}
 use Rattle.line_rules.proofs.CrcZero.{crc-zero, crc-own, crc-fits, crc-append}
@@ -16,7 +16,7 @@ use Rattle.std.proofs.lemmas.List.Elements.{All-take, All-get_or, All-head}
 use Rattle.std.{proofs.lemmas.Nat.and_mask, specs.Int.Bits.xor_add_and}
 use Rattle.std.specs.{Int.Bits.xor_self, Int.Bits.xor_assoc, Int.Bits.xor_zero_r, Prelude.bit_xor}
 
--- the complement of a byte, and of two
+-- the complement of a byte, and of two bytes
 pub complement : (b : ℕ) → b < 256 → bit_xor b 0xFF ≡ 0xFF - b
 complement b byte =
     let sum = xor_add_and b 0xFF in
@@ -29,7 +29,7 @@ complemented_low r fits = omega arith
 complemented_high : (r : ℕ) → r < 2 ^ 16 → (0xFFFF - r) / 256 ≡ 0xFF - r / 256
 complemented_high r fits = omega arith
 
--- what the complement of two bytes adds
+-- what the complement of two bytes adds to the register
 complement_adds : byte_step 0xA6BC (byte_step 0xA6BC 0 0xFF) 0xFF ≡ 0x66C5
 unfolding byte_step bit_steps bit_step
 complement_adds = refl
@@ -41,7 +41,7 @@ crc-two x low high =
     ∙ (crc-append 0xA6BC (lit≤ tt) (lit< tt) 0 (x ++ low ∷ []) high
     ∙ ap (λ r. byte_step 0xA6BC r high) (crc-append 0xA6BC (lit≤ tt) (lit< tt) 0 x low))
 
--- the register after two more bytes, by their complements
+-- the register after two more bytes, in terms of their complements
 pub register_of-two : (x : List ℕ) (low high : ℕ) → low < 256 → high < 256
     → register_of (x ++ (low ∷ high ∷ []))
     ≡ bit_xor (register_of (x ++ ((0xFF - low) ∷ (0xFF - high) ∷ []))) 0x66C5
@@ -59,7 +59,7 @@ register_of-two x low high first second =
     ∙ ap (λ r. bit_xor r 0x66C5)
     (sym (crc-two x (0xFF - low) (0xFF - high)))))))
 
--- turning by a number and back
+-- A number that turns no bit of another one is 0.
 turned_to_self : (a k : ℕ) → bit_xor a k ≡ k → a ≡ 0
 turned_to_self a k e =
     sym (xor_zero_r a)
@@ -69,7 +69,7 @@ turned_to_self a k e =
 pub register_of-fits : (x : List ℕ) → AreBytes x → register_of x < 2 ^ 16
 register_of-fits x bytes = crc-fits 0xA6BC (lit≤ tt) (lit< tt) 0 x (lit< tt) bytes
 
--- where the register is the residue, the last two bytes are the CRC,
+-- If the register is the residue, the last two bytes are the CRC.
 pub residue-ending : (x : List ℕ) (low high : ℕ) → AreBytes x → low < 256 → high < 256
     → register_of (x ++ (low ∷ high ∷ [])) ≡ 0x66C5 → low ∷ high ∷ [] ≡ low_first (crc_dnp x)
 residue-ending x low high bytes first second is =
@@ -87,7 +87,7 @@ residue-ending x low high bytes first second is =
     let e = complemented_high (register_of x) fits in omega arith in
     ap (λ b. b ∷ high ∷ []) low_same ∙ ap (λ b. crc_dnp x % 256 ∷ b ∷ []) high_same
 
--- and where they are the CRC, it is.
+-- If the last two bytes are the CRC, the register is the residue.
 pub residue-own : (x : List ℕ) → AreBytes x → register_of (x ++ low_first (crc_dnp x)) ≡ 0x66C5
 residue-own x bytes =
     let fits = register_of-fits x bytes in
@@ -103,7 +103,7 @@ residue-own x bytes =
 
 -- ---- the residue tells an ending
 
--- no byte alone leaves it
+-- A single byte doesn't leave the residue.
 byte_step-other : (b : ℕ) → b < 256 → nat_eq (byte_step 0xA6BC 0 b) 0x66C5 ≡ false
 unfolding byte_step bit_steps bit_step
 byte_step-other b byte =

@@ -12,7 +12,7 @@ use Rattle.std.proofs.Common.{◌≡◌, ℕ, List, [], ◌∷◌, ◌++◌, tru
 abbrev pub reset_link : List ℕ
 reset_link = 0x05 ∷ 0x64 ∷ 0x05 ∷ 0xC0 ∷ 0x01 ∷ 0x00 ∷ 0x00 ∷ 0x04 ∷ 0xE9 ∷ 0x21 ∷ []
 
--- without its last byte, and with a wrong one
+-- the reset of a link without its last byte, and with a wrong last byte
 abbrev pub reset_begun : List ℕ
 reset_begun = 0x05 ∷ 0x64 ∷ 0x05 ∷ 0xC0 ∷ 0x01 ∷ 0x00 ∷ 0x00 ∷ 0x04 ∷ 0xE9 ∷ []
 
@@ -23,7 +23,7 @@ abbrev pub read_class : List ℕ
 read_class = (0x05 ∷ 0x64 ∷ 0x0B ∷ 0xC4 ∷ 0x01 ∷ 0x00 ∷ 0x00 ∷ 0x04 ∷ 0xF4 ∷ 0x5C ∷ [])
     ++ (0xC0 ∷ 0xC0 ∷ 0x01 ∷ 0x3C ∷ 0x02 ∷ 0x06 ∷ 0x54 ∷ 0xE0 ∷ [])
 
--- but for its last two bytes, which are 00 00
+-- a frame without its last two bytes, which are 00 00
 abbrev pub cut_before_zeros : List ℕ
 cut_before_zeros = 0x05 ∷ 0x64 ∷ 0x07 ∷ 0xC4 ∷ 0x01 ∷ 0x00 ∷ 0x00 ∷ 0x04 ∷ 0x46 ∷ 0x8B
     ∷ 0xC7 ∷ 0x70 ∷ []
@@ -55,7 +55,7 @@ pub rooms : (room_of [] ≡ 292) × (room_of (0x05 ∷ 0x64 ∷ []) ≡ 292)
 unfolding room_by
 rooms = (refl, refl, refl, refl, refl)
 
--- the frames of their headers and user data
+-- the frames that headers and user data make
 pub frames_of : (frame_of (record { control = 0xC0; destination = 1; source = 1024 }) []
     ≡ reset_link)
     × (frame_of (record { control = 0xC4; destination = 1; source = 1024 })
@@ -76,7 +76,7 @@ unfolding bit_step bit_steps byte_step crc ends_in_check begins_right is_good_he
     is_frame
 frames = (refl, refl, refl, refl, refl, refl, refl)
 
--- the last byte of a right ending has its lowest bit turned; every other byte stays
+-- If the last byte makes a right ending, its lowest bit is turned; any other byte stays.
 pub spoiled_bytes : (dnp_rules.spoil reset_begun 0x21 ≡ 0x20)
     × (dnp_rules.spoil reset_begun 0x20 ≡ 0x20)
     × (dnp_rules.spoil (cut_before_zeros ++ 0x00 ∷ []) 0x00 ≡ 0x01)
@@ -85,7 +85,7 @@ pub spoiled_bytes : (dnp_rules.spoil reset_begun 0x21 ≡ 0x20)
 unfolding bit_step bit_steps byte_step crc ends_in_check block_start has_right_ending
 spoiled_bytes = (refl, refl, refl, refl, refl)
 
--- what a header says, and what is lacking then
+-- what a header says, and how many bytes are lacking then
 pub heads : (head_of dnp_rules reset_link ≡ Good)
     × (head_of dnp_rules (0x05 ∷ 0x64 ∷ 0x05 ∷ []) ≡ Short)
     × (head_of dnp_rules wrong_reset ≡ Bad)

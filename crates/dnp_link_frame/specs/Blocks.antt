@@ -24,6 +24,7 @@ size_by len = 10 + user_len_by len + 2 * blocks_for (user_len_by len)
 unfoldable pub room_by : ℕ → ℕ
 room_by len = if nat_le 5 len then size_by len else 292
 
+-- for how many bytes there is room in a burst that begins with these
 abbrev pub room_of : List ℕ → ℕ
 room_of x = room_by (length_byte x)
 

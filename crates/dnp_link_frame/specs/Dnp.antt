@@ -38,6 +38,7 @@ pub record Appends (old new : Dnp) (run : List ℕ) : Type 0 where
   pub count : new.len ≡ old.len + length run
   pub same_room : new.room ≡ old.room
 
+-- whether the value says that its room is full
 abbrev pub is_full_dnp : Dnp → Bool
 is_full_dnp value = nat_le value.room value.len
 
