@@ -1,4 +1,4 @@
--- Bytes with marks, and the ticks that they are.
+-- Bytes with marks, and the ticks that they represent.
 use Rattle.delay_ring.specs.DelayRing.{marked, marked_ticks}
 use Rattle.std.proofs.Common.{◌≡◌, ◌∙◌, ℕ, zero, suc, ◌+◌, ◌<◌, ◌≤◌, List, [], ◌∷◌, ◌++◌, length}
 use Rattle.std.proofs.Common.{length-append, take, drop, map, replicate, get_or, refl, sym, ap}
@@ -45,12 +45,12 @@ ticks-at (b ∷ x) [] i in_x in_m = absurd (omega arith)
 ticks-at (b ∷ x) (k ∷ m) zero in_x in_m = refl
 ticks-at (b ∷ x) (k ∷ m) (suc i) in_x in_m = ticks-at x m i (omega arith) (omega arith)
 
--- marks of silent ticks
+-- The ticks are silent if the marks are those of silent ticks.
 pub ticks-silent : (x : List ℕ) → marked_ticks x (replicate (length x) 0) ≡ silent (length x)
 ticks-silent [] = refl
 ticks-silent (b ∷ x) = ap (λ l. Silent ∷ l) (ticks-silent x)
 
--- marks of bytes
+-- The ticks are bytes if the marks are those of bytes.
 pub ticks-bytes : (x : List ℕ) → marked_ticks x (replicate (length x) 1) ≡ map (λ b. Byte b) x
 ticks-bytes [] = refl
 ticks-bytes (b ∷ x) = ap (λ l. Byte b ∷ l) (ticks-bytes x)
@@ -63,7 +63,7 @@ pub marked-byte : (b k : ℕ) → (k ≡ 0 → ⊥) → marked b k ≡ Byte b
 marked-byte b zero some = absurd (some refl)
 marked-byte b (suc k) some = refl
 
--- none of these marks is a silent tick's
+-- If no mark is that of a silent tick, all ticks are bytes.
 pub all-bytes : (x m : List ℕ) → length x ≡ length m
     → ((k : ℕ) → k < length m → (get_or m k 0 ≡ 0 → ⊥)) → marked_ticks x m ≡ map (λ b. Byte b) x
 all-bytes [] m same some = refl
@@ -73,7 +73,7 @@ all-bytes (b ∷ x) (k ∷ m) same some =
     ∙ ap (λ l. Byte b ∷ l)
     (all-bytes x m (omega arith) (λ j less. some (suc j) (omega arith)))
 
--- all of them are
+-- If each mark is that of a silent tick, all ticks are silent.
 pub all-silent : (x m : List ℕ) → length x ≡ length m
     → ((k : ℕ) → k < length m → get_or m k 0 ≡ 0) → marked_ticks x m ≡ silent (length x)
 all-silent [] m same none = refl
@@ -83,7 +83,8 @@ all-silent (b ∷ x) (k ∷ m) same none =
     ∙ ap (λ l. Silent ∷ l)
     (all-silent x m (omega arith) (λ j less. none (suc j) (omega arith)))
 
--- Ticks come behind those that stand from place `o` on, and as many of the oldest leave.
+-- If ticks are put right after the window of `n` ticks from place `o` on, and the window moves on
+-- by as many, then its oldest ticks leave and the new ones come last.
 window : (n o k : ℕ) (ticks entering behind : List Tick) → o + n ≤ length ticks
     → length entering ≡ k
     → take n (drop (o + k) (take (o + n) ticks ++ (entering ++ behind)))
@@ -109,8 +110,8 @@ window n o k ticks entering behind within size =
         ap (λ k. drop (suc o) (take k (t ∷ ticks) ++ entering)) next
         ∙ drop-front o n ticks entering (omega arith)
 
--- Where bytes and marks are written behind those that are kept, the ticks that they stand for enter
--- behind the ticks that are kept, whatever follows them.
+-- If bytes and marks are written right after those that are kept, the ticks that they represent
+-- come after the ticks that are kept, whatever follows them.
 pub entered : (n o k : ℕ) (bytes marks x m rest last : List ℕ) → length bytes ≡ length marks
     → o + n ≤ length bytes → length x ≡ k → length m ≡ k
     → take n (drop (o + k) (marked_ticks (take (o + n) bytes ++ (x ++ rest))

@@ -2,7 +2,7 @@
 use Rattle.std.proofs.Common.{◌≡◌, ℕ, ◌+◌, ◌-◌, ◌<◌, List, arith, subst, ⊎_elim}
 use Rattle.std.{proofs.lemmas.Bool.cases_lt, specs.Prelude.slice_index_or}
 
--- those up to a place, and the next ones
+-- If the first `at` marks are those of silence, and the next `n` too, then the first `at + n` are.
 pub silence-more : (marks : List ℕ) (at n : ℕ)
     → ((k : ℕ) → k < at → slice_index_or marks k 0 ≡ 0)
     → ((k : ℕ) → k < n → slice_index_or marks (at + k) 0 ≡ 0)

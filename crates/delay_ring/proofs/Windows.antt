@@ -1,4 +1,4 @@
--- The ticks of a ring, which stand from a place on.
+-- The ticks of a ring, which are a window of its bytes and marks.
 use Rattle.delay_ring.proofs.Marks.{ticks-append, ticks-length, ticks-take, ticks-drop, ticks-at}
 use Rattle.delay_ring.proofs.Marks.{ticks-silent, ticks-bytes, all-bytes, all-silent, entered}
 use Rattle.delay_ring.proofs.Marks.{marked-silent, marked-byte}
@@ -12,7 +12,7 @@ use Rattle.std.proofs.lemmas.List.{get_or-drop, drop-drop, length-replicate}
 use Rattle.yasir_ticks.specs.Ticks.{silent}
 use Rattle.yasir_ticks.specs.declared.tick.Tick.{Tick, TheVariants.Silent, TheVariants.Byte}
 
--- the ticks that stand from a place on
+-- the `n` ticks from place `o` on
 abbrev from : ℕ → ℕ → List ℕ → List ℕ → List Tick
 from n o bytes marks = take n (drop o (marked_ticks bytes marks))
 
@@ -48,7 +48,7 @@ silent-first (suc k) some = refl
 
 module _ (n o : ℕ) (bytes marks : List ℕ) (same : length bytes ≡ length marks)
     (within : o + n ≤ length bytes) where
-  -- the part of them
+  -- The first ticks of the window are those of its first bytes and marks.
   parts : (k : ℕ) → k ≤ n
       → take k (from n o bytes marks) ≡ marked_ticks (take k (drop o bytes)) (take k (drop o marks))
   parts k few =
@@ -64,7 +64,7 @@ module _ (n o : ℕ) (bytes marks : List ℕ) (same : length bytes ≡ length ma
   part-at : (k j : ℕ) → j < k → get_or (take k (drop o marks)) j 0 ≡ get_or marks (o + j) 0
   part-at k j few = get_or-take k (drop o marks) j 0 few ∙ get_or-drop o marks j 0
 
-  -- a tick of them
+  -- Each tick of the window is that of the byte and the mark at its place.
   pub ring-at : (k : ℕ) → k < n
       → get_or (from n o bytes marks) k Silent
       ≡ marked (get_or bytes (o + k) 0) (get_or marks (o + k) 0)
@@ -79,7 +79,7 @@ module _ (n o : ℕ) (bytes marks : List ℕ) (same : length bytes ≡ length ma
       get_or-take n (drop o (marked_ticks bytes marks)) k Silent few
       ∙ get_or-drop o (marked_ticks bytes marks) k Silent
 
-  -- the first ones, where all their marks are of bytes
+  -- The first ticks are bytes if all their marks are those of bytes.
   pub front-bytes : (k : ℕ) → k ≤ n
       → ((j : ℕ) → j < k → (get_or marks (o + j) 0 ≡ 0 → ⊥))
       → map (λ b. Byte b) (take k (drop o bytes)) ≡ take k (from n o bytes marks)
@@ -90,7 +90,7 @@ module _ (n o : ℕ) (bytes marks : List ℕ) (same : length bytes ≡ length ma
       ∙ all-bytes (take k (drop o bytes)) (take k (drop o marks)) (here ∙ sym long)
       (λ j less none. some j (omega arith) (sym (part-at k j (omega arith)) ∙ none)))
 
-  -- the same where they are alike, and the first mark is of a byte
+  -- The first ticks are bytes if they are alike and the first mark is that of a byte.
   pub alike-bytes : (k : ℕ) → k ≤ n → AreAlike (take k (from n o bytes marks))
       → (get_or marks o 0 ≡ 0 → ⊥)
       → map (λ b. Byte b) (take k (drop o bytes)) ≡ take k (from n o bytes marks)
@@ -123,7 +123,7 @@ module _ (n o : ℕ) (bytes marks : List ℕ) (same : length bytes ≡ length ma
       byte-at bytes_all.0 j (omega arith) (sym (ap (λ l. get_or l j Silent) bytes_all.1) ∙ here))
       alike)
 
-  -- the first ones, where all their marks are of silence
+  -- The first ticks are silent if all their marks are those of silence.
   pub front-silent : (k : ℕ) → k ≤ n
       → ((j : ℕ) → j < k → get_or marks (o + j) 0 ≡ 0)
       → take k (from n o bytes marks) ≡ silent k
@@ -135,7 +135,7 @@ module _ (n o : ℕ) (bytes marks : List ℕ) (same : length bytes ≡ length ma
       (λ j less. part-at k j (omega arith) ∙ none j (omega arith))
       ∙ ap silent here)
 
-  -- moved to the front they are the same
+  -- If the window is moved to the front, its ticks are the same.
   pub moved : (more less : List ℕ)
       → from n 0 (take n (drop o bytes) ++ more) (take n (drop o marks) ++ less)
       ≡ from n o bytes marks
@@ -151,7 +151,7 @@ module _ (n o : ℕ) (bytes marks : List ℕ) (same : length bytes ≡ length ma
       ∙ sym (ap (λ l. take n l) (ticks-drop o bytes marks)
       ∙ ticks-take n (drop o bytes) (drop o marks)))
 
-  -- with marks of silence over them they are silent
+  -- If marks of silence are written over the window, its ticks are silent.
   pub cleared : (marks_before behind : List ℕ) → length marks_before ≡ o
       → from n o bytes (marks_before ++ (replicate n 0 ++ behind)) ≡ silent n
   cleared marks_before behind size =
@@ -166,7 +166,7 @@ module _ (n o : ℕ) (bytes marks : List ℕ) (same : length bytes ≡ length ma
       ∙ (ap (λ k. marked_ticks (take n (drop o bytes)) (replicate k 0)) (sym here)
       ∙ (ticks-silent (take n (drop o bytes)) ∙ ap silent here)))))
 
-  -- ---- what comes behind them
+  -- ---- what comes after the window
 
   pub bytes-come : (x rest last : List ℕ)
       → from n (o + length x) (take (o + n) bytes ++ (x ++ rest))
