@@ -51,7 +51,7 @@ no_extra false other is = refl
 -- ---- emissions
 
 module _ (profile : Profile) (rules : Rules) (lawful : IsLawful rules) where
-  -- the live bytes alone
+  -- the tick of the link at place `i`, if the burst is forwarded without a trailer
   pub shown : Burst → ℕ → Tick
   shown d i = tick_at (forwarded rules d [] ∷ []) i
 
@@ -66,7 +66,7 @@ module _ (profile : Profile) (rules : Rules) (lawful : IsLawful rules) where
       tick_at-from (forwarded rules d []) i from
       ∙ ap (λ x. get_or x (i - d.start) Silent) (append-nil (live_ticks rules d))
 
-  -- the trailer isn't shown before the burst is closed
+  -- The trailer isn't shown before the burst is closed.
   sealed-shown : (d : Burst) (more : List Tick) (i : ℕ) → IsContiguous 4 d.body
       → has_extra rules d ≡ false → i < end_of d + 3
       → tick_at (forwarded rules d (silent 3 ++ more) ∷ []) i ≡ shown d i
@@ -117,7 +117,7 @@ module _ (profile : Profile) (rules : Rules) (lawful : IsLawful rules) where
       ∙ ap (λ e. judge_by e (has_extra rules d || not (rules.is_frame (live_bytes rules d)))
       (s.floor == profile.limit) (suc s.floor)) early)
 
-  -- what is shown before tick m doesn't change where the burst goes on at tick m
+  -- If a burst goes on at tick `m`, what is shown before that tick doesn't change.
   shown-stays : (d : Burst) (m b i : ℕ) → MayGoOn d m → i < m → shown (going_on d m b) i ≡ shown d i
   shown-stays d m b i may before =
       let within : IsWithin m d = record { contiguous = may.contiguous; within = may.after } in
@@ -166,8 +166,8 @@ module _ (profile : Profile) (rules : Rules) (lawful : IsLawful rules) where
   longer d m b may = let within : IsWithin m d =
       record { contiguous = may.contiguous; within = may.after } in longer-end m b d within
 
-  -- The transmitter's walk is causal: so notes and link line of a longer device line begin with
-  -- those of the line.
+  -- The transmitter's walk is causal. So when a line of the device goes on, its notes and link line
+  -- begin with those of the line so far.
   pub sealer-causal : IsCausal (sealer profile rules)
   sealer-causal = record {
     not_before = λ s d contiguous. omega arith;

@@ -1,5 +1,5 @@
--- The sealed frames: their numbers rise by one from the floor, and those of a longer line begin
--- with those of the line.
+-- The sealed frames: their numbers rise by one from the floor, and when a line goes on, its sealed
+-- frames begin with those of the line so far.
 use Rattle.burst_walk.proofs.Spread.{AreSpread, bursts-spread}
 use Rattle.burst_walk.proofs.Walks.{before-early, before-late, none_before}
 use Rattle.burst_walk.specs.{Longer.Begins, Walk.Noted, Walk.noted, Walk.walked, Walk.notes_before}
@@ -25,7 +25,7 @@ sealed-number false true last number n is = cc
 sealed-number false false true number n is = cc
 sealed-number false false false number n is = cc
 
--- the frames among these notes
+-- the sealed frames of these notes
 abbrev pub frames_in : List (Noted FullNote) → List NumberedFrame
 frames_in notes = filter_map (λ n. sealed_in n.note) notes
 

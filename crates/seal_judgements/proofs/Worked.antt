@@ -1,5 +1,5 @@
--- The definitions of the transmitter on small lines of a Modbus RTU device, with a tag that stands
--- in for HMAC.
+-- The definitions of the transmitter on small lines of a Modbus RTU device, with a MAC that is used
+-- in place of HMAC.
 use Rattle.burst_walk.proofs.Rows.{Row, row, noted_at, AreNotes, AreOthers}
 use Rattle.burst_walk.specs.Laid.{tick_at}
 use Rattle.frame_ending.specs.LiveBytes.{before_pause, up_to_byte}
@@ -29,7 +29,7 @@ one_frame = row 0 (on_line READ_TEN_REGISTERS ++ silent 64)
     (on_line READ_TEN_REGISTERS ++ silent 3 ++ on_line (0 ∷ 1 ∷ stand_in 12 1 READ_TEN_REGISTERS)
     ++ silent 47)
 
--- a frame one tick too early after a sealed one
+-- a frame that begins one tick too early after a sealed one
 abbrev too_early : Row FullNote
 too_early = row 0
     (on_line READ_TEN_REGISTERS ++ silent 20 ++ on_line READ_ONE_REGISTER ++ silent 24)
@@ -37,7 +37,7 @@ too_early = row 0
     (on_line READ_TEN_REGISTERS ++ silent 3 ++ on_line (0 ∷ 1 ∷ stand_in 12 1 READ_TEN_REGISTERS)
     ++ silent 35)
 
--- and one tick later
+-- a frame that begins one tick later, which isn't early
 abbrev soon_enough : Row FullNote
 soon_enough = row 0
     (on_line READ_TEN_REGISTERS ++ silent 21 ++ on_line READ_ONE_REGISTER ++ silent 24)
@@ -60,12 +60,12 @@ paused = row 0
     ∷ []) ++ silent 24) (noted_at 13 (unsealed_note 0 Form) ∷ [])
     (on_line (0x01 ∷ 0x03 ∷ 0x00 ∷ []) ++ silent 31)
 
--- a byte three silent ticks after a frame
+-- a byte that comes three silent ticks after a frame
 abbrev byte_behind : Row FullNote
 byte_behind = row 0 (on_line READ_TEN_REGISTERS ++ silent 3 ++ on_line (0 ∷ []) ++ silent 24)
     (noted_at 15 (unsealed_note 0 Form) ∷ []) (on_line READ_TEN_REGISTERS ++ silent 28)
 
--- the greatest number is used
+-- the greatest number has been used
 abbrev spent : Row FullNote
 spent = row 281474976710655 (on_line READ_TEN_REGISTERS ++ silent 64)
     (noted_at 11 (unsealed_note 0 Spent) ∷ []) (on_line READ_TEN_REGISTERS ++ silent 64)
@@ -81,7 +81,7 @@ high_number = row 65537 (on_line READ_TEN_REGISTERS ++ silent 24)
 abbrev not_yet : Row FullNote
 not_yet = row 0 (on_line READ_TEN_REGISTERS ++ silent 3) [] (on_line READ_TEN_REGISTERS ++ silent 3)
 
--- nothing
+-- a line of no tick
 abbrev no_tick : Row FullNote
 no_tick = row 0 [] [] []
 

@@ -1,5 +1,5 @@
 -- The definitions of the transmitter with words of four bytes and tags of sixteen, on small lines
--- of a Modbus RTU device, with a tag that is in for HMAC.
+-- of a Modbus RTU device, with a MAC that is used in place of HMAC.
 use Rattle.burst_walk.proofs.Rows.{Row, row, noted_at, AreNotes, AreOthers}
 use Rattle.burst_walk.specs.Laid.{tick_at}
 use Rattle.frame_ending.specs.LiveBytes.{before_pause, up_to_byte}
@@ -23,7 +23,7 @@ one_frame = row 0 (on_line READ_TEN_REGISTERS ++ silent 64)
     (on_line READ_TEN_REGISTERS ++ silent 3 ++ on_line (0 ∷ 0 ∷ 0 ∷ 1
     ∷ stand_in 16 1 READ_TEN_REGISTERS) ++ silent 41)
 
--- a frame one tick too early after a sealed one
+-- a frame that begins one tick too early after a sealed one
 abbrev too_early : Row FullNote
 too_early = row 0
     (on_line READ_TEN_REGISTERS ++ silent 26 ++ on_line READ_ONE_REGISTER ++ silent 30)
@@ -31,7 +31,7 @@ too_early = row 0
     (on_line READ_TEN_REGISTERS ++ silent 3 ++ on_line (0 ∷ 0 ∷ 0 ∷ 1
     ∷ stand_in 16 1 READ_TEN_REGISTERS) ++ silent 41)
 
--- and one tick later
+-- a frame that begins one tick later, which isn't early
 abbrev soon_enough : Row FullNote
 soon_enough = row 0
     (on_line READ_TEN_REGISTERS ++ silent 27 ++ on_line READ_ONE_REGISTER ++ silent 30)
@@ -54,7 +54,7 @@ high_number = row 4294967297 (on_line READ_TEN_REGISTERS ++ silent 30)
     (on_line READ_TEN_REGISTERS ++ silent 3 ++ on_line (0 ∷ 0 ∷ 0 ∷ 2
     ∷ stand_in 16 4294967298 READ_TEN_REGISTERS) ++ silent 7)
 
--- the greatest number is used
+-- the greatest number has been used
 abbrev spent : Row FullNote
 spent = row 281474976710655 (on_line READ_TEN_REGISTERS ++ silent 30)
     (noted_at 11 (unsealed_note 0 Spent) ∷ []) (on_line READ_TEN_REGISTERS ++ silent 30)

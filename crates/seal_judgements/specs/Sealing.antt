@@ -41,6 +41,7 @@ judged profile rules s d =
 abbrev pub start_after : Profile → Rules → Burst → ℕ
 start_after profile rules d = live_end rules d + pause_len + trailer_len profile + T3_5_TICKS
 
+-- the state after a burst with this judgement
 abbrev pub state_by : Profile → Rules → SealState → Burst → Judgement → SealState
 state_by profile rules s d (sealed_with number) =
     record { floor = number; earliest_start = start_after profile rules d }
@@ -51,6 +52,7 @@ pub data FullNote : Type 0 where
   sealed_note : (number start : ℕ) (frame : List ℕ) → FullNote
   unsealed_note : (start : ℕ) → UnsealedWhy → FullNote
 
+-- the note of a burst with this judgement
 abbrev pub note_by : Rules → Burst → Judgement → FullNote
 note_by rules d (sealed_with number) = sealed_note number d.start (live_bytes rules d)
 note_by rules d (unsealed why) = unsealed_note d.start why
@@ -94,6 +96,7 @@ seal_notes profile rules floor line = notes_of (sealer profile rules) (at_floor 
 abbrev pub link_line : Profile → Rules → ℕ → List Tick → List Tick
 link_line profile rules floor line = line_of (sealer profile rules) (at_floor floor) line
 
+-- the sealed frame of a note, if it has one
 abbrev pub sealed_in : FullNote → Option NumberedFrame
 sealed_in (sealed_note number start frame) =
     Some (record { number = number; start = start; frame = frame })
