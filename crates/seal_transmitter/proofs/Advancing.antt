@@ -1,4 +1,4 @@
--- One more tick of a transmitter, over the values that it has before and after.
+-- One more tick of a transmitter, by the values that it has before and after.
 use Rattle.burst_walk.specs.declared.box_step.BoxStep.{BoxStep}
 use Rattle.frame_ending.proofs.LastBurst.{last_burst-silent, last_burst-within}
 use Rattle.frame_ending.proofs.{LiveTicks.live_end-whole, Running.with_byte_at, Running.IsRunning}
@@ -33,7 +33,7 @@ use Rattle.yasir_ticks.proofs.BurstLaws.{alone, with_last}
 use Rattle.yasir_ticks.specs.{Bursts.Burst, Bursts.bursts, Bursts.end_of, BurstsOf.IsContiguous}
 use Rattle.yasir_ticks.specs.declared.tick.Tick.{Tick, TheVariants.Silent, TheVariants.Byte}
 
--- The walk over a line goes on by a tick, with this answer.
+-- Holds if the walk over `line` goes on by the tick `t`, and the step is what the definitions say.
 pub record WalksOn {R M : Type 0} (proto : LineRules R) (macs : Mac M) (word_len : ℕ)
     (setup : Setup) (last earliest : ℕ)
     (unsent : List ℕ) (mac : M) (line : List Tick) (t : Tick) (step : BoxStep SealNote) : Type 0 where
@@ -89,7 +89,7 @@ module _ {R M : Type 0} (proto : LineRules R) (macs : Mac M) (word_len : ℕ) (s
         (walked-divided profile rules proto.lawful tags setup.floor line state unsent old.running
         old.walked)
 
-    -- the last number used is that of the last sealed frame
+    -- The last number used is that of the last sealed frame.
     pub number-is : last ≡ last_number setup.floor (sealed profile rules setup.floor line)
     number-is = walked-number profile rules proto.lawful tags setup.floor line state unsent
         old.running old.walked
@@ -114,7 +114,7 @@ module _ {R M : Type 0} (proto : LineRules R) (macs : Mac M) (word_len : ℕ) (s
           answers = step.1;
         }
 
-    -- the burst that silence closes
+    -- A silent tick that is cut as `Closed` closes the running burst.
     closes : cut_of rules line Silent ≡ Closed → Closes rules line old.running
     closes closed = silent-closes rules line old.running runs closed
 
@@ -170,7 +170,7 @@ module _ {R M : Type 0} (proto : LineRules R) (macs : Mac M) (word_len : ℕ) (s
           answers = subst P start step.1;
         }
 
-    -- what the text of the running burst is
+    -- the text of the running burst
     text-of : (d : Burst) → old.running ≡ Some d → earliest ≤ d.start
         → old.text ≡ rules.label ∷ setup.direction ∷ live_bytes rules d
     text-of d is late =
@@ -265,7 +265,7 @@ module _ {R M : Type 0} (proto : LineRules R) (macs : Mac M) (word_len : ℕ) (s
     next-start : (b : ℕ) → start_so_far (line ++ Byte b ∷ []) ≡ (next_burst b).start
     next-start b = ap start_in (last-next rules proto.lawful line b old.running runs)
 
-    -- a byte that begins a burst begins it now
+    -- A byte that is cut as the first of a burst begins the burst at its own tick.
     pub starts-now : (b : ℕ) → cut_of rules line (Byte b) ≡ Start b
         → start_so_far (line ++ Byte b ∷ []) ≡ m
     starts-now b starts =
@@ -273,7 +273,7 @@ module _ {R M : Type 0} (proto : LineRules R) (macs : Mac M) (word_len : ℕ) (s
         let is : next_burst b ≡ alone m b = ap (λ o. with_byte_at m b o) none in
         next-start b ∙ ap (λ (d : Burst). d.start) is
 
-    -- a byte of an early burst
+    -- A byte of an early burst is passed over, and the next byte of the trailer is sent.
     pub advance-early : (b : ℕ) → start_so_far (line ++ Byte b ∷ []) < earliest
         → On last earliest (drop 1 unsent) mac (Byte b) (noteless (first_of unsent))
     advance-early b early =
@@ -291,7 +291,7 @@ module _ {R M : Type 0} (proto : LineRules R) (macs : Mac M) (word_len : ℕ) (s
           answers = step.1;
         }
 
-    -- a live byte of any other burst
+    -- A live byte of a burst that isn't early is forwarded.
     live-on : (b : ℕ) (new : M) (text : List ℕ) → earliest ≤ start_so_far (line ++ Byte b ∷ [])
         → live_end rules (next_burst b) ≡ m + 1
         → macs.stands new setup.key text
@@ -343,7 +343,7 @@ module _ {R M : Type 0} (proto : LineRules R) (macs : Mac M) (word_len : ℕ) (s
         (ap (λ x. x ++ b ∷ []) text ∙ ap (λ h. rules.label ∷ setup.direction ∷ h)
         (sym on.bytes ∙ sym (ap (λ d. live_bytes rules d) is)))
 
-    -- a byte of it that isn't live
+    -- A byte that isn't live, of a burst that isn't early, is passed over.
     pub advance-extra : (b : ℕ) → cut_of rules line (Byte b) ≡ Extra b
         → earliest ≤ start_so_far (line ++ Byte b ∷ [])
         → On last earliest (drop 1 unsent) mac (Byte b) (noteless (first_of unsent))
@@ -373,7 +373,7 @@ module _ {R M : Type 0} (proto : LineRules R) (macs : Mac M) (word_len : ℕ) (s
           answers = subst Q (sym step.0) step.2;
         }
 
-    -- any tick that is neither forwarded nor closes a burst
+    -- Any tick that isn't forwarded and closes no burst is passed over.
     pub advance-passing : (t : Tick) (cut : Cut) → cut_of rules line t ≡ cut → IsPassing cut
         → On last earliest (drop 1 unsent) mac t (noteless (first_of unsent))
     advance-passing Silent cut is passing =

@@ -15,7 +15,7 @@ use Rattle.std.proofs.Common.{◌≡◌, ℕ, ◌≤◌, List, [], ◌∷◌, �
 use Rattle.std.specs.Prelude.{slice_get}
 use Rattle.yasir_ticks.specs.declared.tick.Tick.{Tick, TheVariants.Byte}
 
--- the first of these bytes
+-- If the first of some bytes is `b`, the list of their first one is `b`.
 pub first-of : (x : List ℕ) (b : ℕ) → Some b ≡ slice_get x 0 → take 1 x ≡ b ∷ []
 first-of [] b is = cc
 first-of (a ∷ x) b is = cc

@@ -1,4 +1,4 @@
--- Ticks without a note, and runs that surely have none.
+-- Noteless ticks, and runs that surely are noteless.
 use Rattle.burst_walk.proofs.Runs.{run-tick}
 use Rattle.burst_walk.specs.{Answered.answered, Answers.AnswersTick as AnswersTickOf}
 use Rattle.burst_walk.specs.declared.box_step.BoxStep.{BoxStep}
@@ -30,13 +30,13 @@ use Rattle.yasir_ticks.specs.declared.tick.Tick.{Tick, TheVariants.Silent, TheVa
 
 -- ---- which ticks close a burst
 
--- the fourth silent one behind a byte does
+-- The fourth silent tick after a byte closes a burst.
 pub fourth-closes : (line : List Tick) → quiet_so_far line ≡ 3 → closes_none line Silent ≡ false
 fourth-closes line is = ap (λ q. not (q == T3_5_TICKS - 1)) is
 
 module _ {R : Type 0} (proto : LineRules R) (v : BurstCut R) (line : List Tick)
     (old : CutStandsFor proto v line) where
-  -- and no other
+  -- No other tick closes a burst.
   pub closing-noted : (t : Tick) → cut_of proto.rules line t ≡ Closed → closes_none line t ≡ true
       → ⊥
   closing-noted (Byte b) closed none =
@@ -56,7 +56,7 @@ module _ {R : Type 0} (proto : LineRules R) (v : BurstCut R) (line : List Tick)
       let both : Quiet ≡ Closed = quiet ∙ closed in absurd cc)
       (cases_lt v.quiet 4)
 
--- a tick that is neither live nor closes a burst passes
+-- A tick that isn't live and closes no burst passes.
 pub passes-by : (cut : Cut) → ((n : ℕ) × (cut ≡ Extra n))
     ⊎ (((n : ℕ) × (cut ≡ Pause n)) ⊎ ((cut ≡ Closed) ⊎ (cut ≡ Quiet))) → (cut ≡ Closed → ⊥)
     → IsPassing cut
@@ -70,7 +70,7 @@ passes-by cut which open' =
     others)
     which
 
--- a step without a note, as a run of one tick
+-- A noteless step is a run of one tick.
 pub step-taken : {R M : Type 0} (proto : LineRules R) (macs : Mac M) {B : ℕ} (new : Sealer R M B)
     (last : ℕ) (setup : Setup) (line : List Tick) (t : Tick) (step : BoxStep SealNote)
     → HasTaken proto macs new last setup line t step → step.note ≡ None
@@ -105,7 +105,7 @@ module _ {R M : Type 0} (proto : LineRules R) {B : ℕ} (value : Sealer R M B) w
   foretold-silence (suc n) waits =
       subst (λ k. WaitsOpen proto value (suc k)) (length-replicate n Silent) waits
 
-  -- fewer of such silent ticks
+  -- If `most` silent ticks close no burst, fewer of them don't either.
   pub fewer-open : (most n : ℕ) → n ≤ most
       → ((line : List Tick) → CutStandsFor proto value.cut line
       → (T3_5_TICKS ≤ quiet_so_far line) ⊎ (quiet_so_far line + most < T3_5_TICKS))
@@ -128,7 +128,7 @@ module _ {R M : Type 0} (proto : LineRules R) {B : ℕ} (value : Sealer R M B) w
       (λ runs. wait-open proto n value.cut line cuts (omega arith))
       (waits.closes_none_yet line cuts)
 
-  -- where no tick of some silence goes through, its first one closes a burst
+  -- If no silent tick goes through, the first one closes a burst.
   pub silence-noted : (macs : Mac M) (n : ℕ)
       → (0 < n → (line : List Tick) → CutStandsFor proto value.cut line → quiet_so_far line ≡ 3)
       → MayNoteAt (StandsAt proto macs) (λ x line t. closes_none line t) value (silent n)
@@ -136,7 +136,7 @@ module _ {R M : Type 0} (proto : LineRules R) {B : ℕ} (value : Sealer R M B) w
   silence-noted macs (suc n) fourth = λ last setup line stands.
       fourth-closes line (fourth (omega arith) line stands.cuts)
 
--- what goes out in n ticks, where this many bytes go out and nothing is left then, or a byte a tick
+-- What is sent in `n` ticks is alike if `n` bytes are sent, or none because nothing is left.
 module _ (n count : ℕ) (unsent items : List ℕ) (items_are : items ≡ take count unsent) where
   nothing-left : unsent ≡ [] → count ≡ 0
       → (drop count unsent ≡ drop n unsent) × (sent n unsent ≡ answered n items)
@@ -164,14 +164,14 @@ module _ (n count : ℕ) (unsent items : List ℕ) (items_are : items ≡ take c
 -- ---- bytes
 
 module _ {R M : Type 0} (proto : LineRules R) {B : ℕ} (value : Sealer R M B) where
-  -- a single one
+  -- A run of one byte goes through.
   pub byte-foretold : (x : List ℕ) (n : ℕ) → n ≤ 1 → Foretold proto value (take n (map Byte x))
   byte-foretold x zero few = tt
   byte-foretold [] (suc n) few = tt
   byte-foretold (b ∷ x) (suc zero) few = inl refl
   byte-foretold (b ∷ x) (suc (suc n)) few = absurd (omega arith)
 
-  -- the first ones of some, as many as are forwarded
+  -- The first bytes go through, if they are among those that are forwarded.
   pub bytes-foretold : (x : List ℕ) (most n : ℕ) → n ≤ most → Forwards proto value most
       → Foretold proto value (take n (map Byte x))
   bytes-foretold x most zero few all = tt
@@ -196,7 +196,7 @@ module _ {R M : Type 0} (proto : LineRules R) {B : ℕ} (value : Sealer R M B) w
       (λ all. subst (λ n. Forwards proto value (suc n)) (length-map x Byte) all)
       foretold
 
-  -- they are no more than are lent at once
+  -- A run of bytes that goes through has at most 64 bytes.
   pub foretold-few : (x : List ℕ) → Foretold proto value (map Byte x) → length x ≤ 64
   foretold-few [] foretold = omega arith
   foretold-few (b ∷ x) foretold =

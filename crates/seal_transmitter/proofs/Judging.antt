@@ -1,4 +1,4 @@
--- How a burst is judged, by what is asked of it.
+-- How a burst is judged, by the questions that the code asks in turn.
 use Rattle.frame_ending.specs.LiveBytes.{live_bytes, has_extra}
 use Rattle.frame_ending.specs.SoFar.{last_burst, start_so_far, start_in, has_extra_so_far}
 use Rattle.frame_ending.specs.SoFar.{has_extra_in, live_bytes_so_far, live_bytes_in}
@@ -17,7 +17,8 @@ module _ (profile : Profile) (rules : Rules) (last earliest : ℕ) where
   abbrev state : SealState
   state = record { floor = last; earliest_start = earliest }
 
-  -- each answer by the first of these that holds
+  -- Holds if the burst, if there is one, is judged so: unsealed for the reason `why`, or sealed
+  -- with the next number if there is none.
   abbrev IsJudgedIn : Option Burst → Option UnsealedWhy → Type 0
   IsJudgedIn o why = IfSome o (λ d. judged profile rules state d ≡ judgement_of why (last + 1))
 

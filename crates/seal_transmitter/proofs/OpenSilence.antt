@@ -18,14 +18,14 @@ module _ {R : Type 0} (proto : LineRules R) where
   abbrev rules : Rules
   rules = proto.rules
 
-  -- where no burst runs, none is closed
+  -- If no burst runs, silence closes none.
   pub rest-open : (n : ℕ) (v : BurstCut R) (line : List Tick) → StandsFor proto v line
       → 4 ≤ v.quiet → All IsPassing (cuts_after rules line (silent n))
   rest-open n v line old quiet =
       subst (λ (l : List Cut). All IsPassing l) (sym (cuts-silence proto n v line old quiet))
       (quiet-passing n)
 
-  -- a running burst isn't closed by fewer than four ticks in all
+  -- A running burst isn't closed by fewer than four silent ticks in all.
   pub wait-open : (n : ℕ) (v : BurstCut R) (line : List Tick) → StandsFor proto v line
       → v.quiet + n < 4 → All IsPassing (cuts_after rules line (silent n))
   wait-open zero v line old few = All-nil IsPassing

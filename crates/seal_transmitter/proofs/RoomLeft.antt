@@ -1,4 +1,4 @@
--- Room for further bytes of a burst, and bytes that are live since they have room.
+-- Room for more bytes of a burst, and bytes that are live because they have room.
 use Rattle.frame_ending.{proofs.Runs.cuts-bytes, specs.Cuts.cuts_after}
 use Rattle.frame_ending.specs.SoFar.{last_burst, quiet_in, quiet_so_far, has_paused_in, is_over_in}
 use Rattle.frame_ending.specs.SoFar.{is_over_so_far, live_bytes_in, live_bytes_so_far}
@@ -21,7 +21,7 @@ module _ {R : Type 0} (proto : LineRules R) where
   abbrev rules : Rules
   rules = proto.rules
 
-  -- bytes lack behind a whole header alone
+  -- Bytes can be lacking only after a whole header.
   lacks-whole : (x : List ℕ) → 0 < lacking_of rules x → rules.header_len ≤ length x
   lacks-whole x some =
       ⊎_elim
@@ -46,7 +46,7 @@ module _ {R : Type 0} (proto : LineRules R) where
       subst P (append_assoc x (b ∷ []) more)
       (lacking-fits more (x ++ b ∷ []) (omega arith) (omega arith))
 
-  -- Where this many bytes fit, there is room before each of them.
+  -- If this many bytes fit, whatever they are, there is room before each of them.
   before-each : (more x : List ℕ)
       → ((front : List ℕ) → length front ≤ length more
       → length (x ++ front) ≤ rules.room (x ++ front))
@@ -71,7 +71,7 @@ module _ {R : Type 0} (proto : LineRules R) where
 
   -- ---- bytes that have room are live
 
-  -- a list stands for itself
+  -- Holds if a list, as a value, represents itself.
   record IsItself (value x : List ℕ) : Type 0 where
     same : value ≡ x
     bytes : AreBytes x
@@ -127,7 +127,7 @@ module _ {R : Type 0} (proto : LineRules R) where
       };
     }
 
-    -- while a burst runs whose live bytes aren't over, no two silent ticks stood together in it
+    -- While a burst runs whose live bytes aren't over, it has had no two silent ticks in a row.
     not-paused : quiet_so_far line < 4 → is_over_so_far rules line ≡ false → v.paused ≡ false
     not-paused runs open' = by_last (last_burst line) refl
       where

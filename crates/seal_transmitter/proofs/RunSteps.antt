@@ -1,4 +1,4 @@
--- A run of ticks of a transmitter: bytes that are forwarded, and ticks over which what is left of
+-- A run of ticks of a transmitter: bytes that are forwarded, and ticks during which what is left of
 -- the trailer is sent.
 use Rattle.burst_walk.proofs.Runs.{run-none, run-joined, run-tick}
 use Rattle.{burst_walk.specs.Runs.AnswersRun, frame_ending.proofs.Runs.live-start}
@@ -24,7 +24,8 @@ use Rattle.std.proofs.lemmas.List.Elements.{All-head, All-tail}
 use Rattle.{std.specs.List.All, yasir_ticks.specs.Ticks.silent}
 use Rattle.yasir_ticks.specs.declared.tick.Tick.{Tick, TheVariants.Silent, TheVariants.Byte}
 
--- what goes out in n ticks, of which none is forwarded: what is left of the trailer, then silence
+-- what is sent in `n` ticks if nothing is forwarded: the bytes left of the trailer, and then
+-- silence
 abbrev pub sent : ℕ → List ℕ → List Tick
 sent zero unsent = []
 sent (suc n) unsent = first_of unsent ∷ sent n (drop 1 unsent)
@@ -91,7 +92,8 @@ module _ {R M : Type 0} (proto : LineRules R) (macs : Mac M) (word_len : ℕ) (s
         text_is = w.text_is;
       }
 
-  -- The walk over a line goes on by a run, with this answer.
+  -- Holds if the walk over `line` goes on by `run`, and the ticks `answer` are on the link
+  -- meanwhile.
   pub record RunsOn (last earliest : ℕ) (unsent text : List ℕ) (line run answer : List Tick) :
       Type 0 where
     pub walks : TextWalks last earliest unsent text (line ++ run)
@@ -124,7 +126,7 @@ module _ {R M : Type 0} (proto : LineRules R) (macs : Mac M) (word_len : ℕ) (s
               (at_floor setup.floor) line t u on.answers) rest.answers;
         }
 
-    -- live bytes of a burst that isn't early are forwarded
+    -- Live bytes of a burst that isn't early are forwarded.
     pub forwards : (x : List ℕ) (unsent text : List ℕ) (line : List Tick)
         → TextWalks last earliest unsent text line
         → cuts_after rules line (map Byte x) ≡ map Live x → earliest ≤ start_so_far line
@@ -146,7 +148,7 @@ module _ {R M : Type 0} (proto : LineRules R) (macs : Mac M) (word_len : ℕ) (s
         (map Byte x) (map Byte x) on
         (forwards x unsent (text ++ b ∷ []) (line ++ Byte b ∷ []) on.walks others from))
 
-    -- over silence that closes no burst, what is left of the trailer is sent
+    -- During silence that closes no burst, what is left of the trailer is sent.
     pub sends-open : (n : ℕ) (unsent text : List ℕ) (line : List Tick)
         → TextWalks last earliest unsent text line
         → All IsPassing (cuts_after rules line (silent n))
@@ -165,7 +167,7 @@ module _ {R M : Type 0} (proto : LineRules R) (macs : Mac M) (word_len : ℕ) (s
         (sends-open n (drop 1 unsent) text (line ++ Silent ∷ []) on.walks
         (All-tail IsPassing first others open')))
 
-    -- so it is while bytes come that aren't live
+    -- While bytes come that aren't live, what is left of the trailer is sent.
     pub sends-extra : (x : List ℕ) (unsent text : List ℕ) (line : List Tick)
         → TextWalks last earliest unsent text line
         → cuts_after rules line (map Byte x) ≡ map Extra x
@@ -183,7 +185,7 @@ module _ {R M : Type 0} (proto : LineRules R) (macs : Mac M) (word_len : ℕ) (s
         (first_of unsent) (map Byte x) (sent (length x) (drop 1 unsent)) on
         (sends-extra x (drop 1 unsent) text (line ++ Byte b ∷ []) on.walks others))
 
-    -- and while an early burst goes on
+    -- While an early burst goes on, what is left of the trailer is sent.
     pub sends-early : (x : List ℕ) (unsent text : List ℕ) (line : List Tick)
         → TextWalks last earliest unsent text line
         → cuts_after rules line (map Byte x) ≡ map Live x → start_so_far line < earliest
@@ -253,7 +255,7 @@ module _ {R M : Type 0} (proto : LineRules R) (macs : Mac M) {B : ℕ} (old : Se
       (forwards proto macs B setup last old.earliest_start x unsent stands.walks.text line walks-text
       live late)
 
-  -- what goes out is told by the bytes that were left
+  -- If a run has sent what was left of the trailer, and then silence, the transmitter has taken it.
   module _ (cut : BurstCut R) (trailer : Trailer B) where
     sends : (n : ℕ) (run answer : List Tick) → CutStandsFor proto cut (line ++ run)
         → bytes_unsent trailer ≡ drop n unsent → sent n unsent ≡ answer
@@ -319,7 +321,7 @@ run-then proto macs {B} last mid new setup line run answer more next first then 
           (at_floor setup.floor) line run more answer next first.answers then.answers;
     }
 
--- bytes and those that follow them
+-- The first `n` bytes, and the first `k` of those that follow, are the first `n + k`.
 pub bytes-then : (n k : ℕ) (x : List ℕ) → map Byte (take n x) ++ map Byte (take k (drop n x))
     ≡ map Byte (take (n + k) x)
 bytes-then n k x =
@@ -331,7 +333,7 @@ bytes-then n k x =
     ∙ (ap (λ y. take n all ++ y) (sym rest) ∙ take-append-drop n all) in
     sym (map-append Byte (take n x) (take k (drop n x))) ∙ ap (λ y. map Byte y) whole
 
--- a run behind one of no tick
+-- A run after a run of no tick is a run.
 pub run-behind : {R M : Type 0} (proto : LineRules R) (macs : Mac M) {B : ℕ} (last : ℕ)
     (mid new : Sealer R M B) (setup : Setup) (line none run nothing answer : List Tick)
     → none ≡ [] → HasTakenRun proto macs mid last setup line none nothing

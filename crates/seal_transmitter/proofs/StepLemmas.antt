@@ -1,4 +1,4 @@
--- What is on the link where the line of the device goes on.
+-- What is on the link as the line of the device goes on.
 use Rattle.burst_walk.proofs.Emissions.{tick_at-none, tick_at-from}
 use Rattle.burst_walk.specs.{HasCome.AreNoted, Laid.tick_at, Walk.Noted, Walk.walked, Walk.emitted}
 use Rattle.{burst_walk.specs.Walk.state_after, frame_ending.proofs.LiveTicks.live_end-within}
@@ -21,7 +21,7 @@ use Rattle.yasir_ticks.specs.declared.tick.Tick.{Tick, TheVariants.Silent, TheVa
 
 -- ---- ticks over one another
 
--- a tick, and another one where it is silent
+-- a tick, or else another one if it is silent
 abbrev pub or_else : Tick → Tick → Tick
 or_else Silent t = t
 or_else (Byte b) t = Byte b
@@ -34,11 +34,11 @@ pub or_else-silent : (a : Tick) → or_else a Silent ≡ a
 or_else-silent Silent = refl
 or_else-silent (Byte x) = refl
 
--- where an emission covers tick i, it has a byte there
+-- Holds if the emission has a byte at tick `i`, in case it covers this tick.
 abbrev IsBright : Burst → ℕ → Type 0
 IsBright e i = e.start ≤ i → i < end_of e → (x : ℕ) × (get_or e.body (i - e.start) Silent ≡ Byte x)
 
--- in front of others these emissions hide tick i only by a byte
+-- Holds if these emissions, when others follow them, hide tick `i` of the others only by a byte.
 abbrev pub Overlays : List Burst → ℕ → Type 0
 Overlays a i = (more : List Burst) → tick_at (a ++ more) i ≡ or_else (tick_at a i) (tick_at more i)
 
@@ -96,7 +96,7 @@ sent-later m (b ∷ unsent) i later =
 -- ---- emissions of closed bursts
 
 module _ (profile : Profile) (rules : Rules) where
-  -- the live bytes alone have ended before
+  -- Without a trailer, an emission ends with its burst or before.
   forwarded-dark : (d : Burst) (i : ℕ) → end_of d ≤ i → end_of (forwarded rules d []) ≤ i
   forwarded-dark d i later =
       let few = live_end-within rules d in
@@ -112,7 +112,8 @@ module _ (profile : Profile) (rules : Rules) where
       tick_at-from (forwarded rules d []) i from
       ∙ get_or_past (live_ticks rules d ++ []) (i - d.start) Silent past
 
-  -- a sealed emission after three silent ticks: its trailer
+  -- After the three silent ticks that follow its live bytes, the emission of a sealed burst has the
+  -- bytes of its trailer.
   pub sealed-from : (d : Burst) (bytes : List ℕ) (i : ℕ) → live_end rules d + 3 ≤ i
       → get_or (forwarded rules d (trailing bytes)).body (i - d.start) Silent
       ≡ sent_at (live_end rules d + 3) bytes i
@@ -175,7 +176,7 @@ module _ (profile : Profile) (rules : Rules) where
   number-more s d tick floor (sealed_with n) more rest = rest
   number-more s d tick floor (unsealed why) more rest = rest
 
-  -- the last number among the notes is the floor of the state
+  -- The last number among the notes is the floor of the state.
   pub noted-number : (s : SealState) (ds : List Burst)
       → (state_after (sealer profile rules) s ds).floor
       ≡ last_number s.floor (frames_in (walked (sealer profile rules) s ds))

@@ -21,7 +21,8 @@ use Rattle.std.proofs.Common.{ℕ, ◌+◌, ◌<◌, ◌≤◌, List, [], ◌∷
 use Rattle.std.specs.Int.{w64, to_be_bytes, bytes_high_first}
 use Rattle.yasir_ticks.specs.declared.tick.Tick.{Tick, TheVariants.Silent, TheVariants.Byte}
 
--- where the next byte of the trailer was sent, or silence
+-- Holds if the step has sent the next byte of the trailer, or silence if nothing is left of it, and
+-- has changed nothing else.
 pub record HasSent {R M : Type 0} {B : ℕ} (old new : Sealer R M B) (step : BoxStep SealNote) :
     Type 0 where
   pub rest : new ≡ record old { trailer = new.trailer }
@@ -41,7 +42,8 @@ module _ {R M : Type 0} (proto : LineRules R) (macs : Mac M) {B : ℕ} (old : Se
   On number earliest unsent mac t step = WalksOn proto macs B setup number earliest unsent mac line t
       step
 
-  -- the walk goes on, and all else has taken the tick
+  -- If the walk goes on by the tick, and the value that cuts the line has taken it, then the
+  -- transmitter has taken it.
   taken : (new : Sealer R M B) (number : ℕ) (t : Tick) (step : BoxStep SealNote)
       → direction_number new.direction ≡ setup.direction
       → CutStandsFor proto new.cut (line ++ t ∷ [])
@@ -90,7 +92,7 @@ module _ {R M : Type 0} (proto : LineRules R) (macs : Mac M) {B : ℕ} (old : Se
       (bytes_unsent old.trailer) old.mac between.walks b soon)
       early)
 
-  -- ---- a byte that starts a burst, and a further live one
+  -- ---- a byte that starts a burst, and another live byte
 
   pub begin-early : (new : Sealer R M B) (step : BoxStep SealNote) → HasSent old new step
       → (t : Tick) (b : ℕ) → Between t (Start b)

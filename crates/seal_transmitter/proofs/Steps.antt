@@ -1,4 +1,4 @@
--- One more tick of the device: how far the walk then has come, and what the step answers.
+-- One more tick of the device: how far the walk has come with it, and what the step returns.
 use Rattle.burst_walk.proofs.Coming.{come-begun, come-waits, come-noted, come-silent, come-joined}
 use Rattle.burst_walk.proofs.Coming.{come-alone, notes_before-come, notes-step, answers-step}
 use Rattle.burst_walk.proofs.Coming.{note-now, note-later}
@@ -76,7 +76,7 @@ module _ (profile : Profile) (rules : Rules) (floor : ℕ) where
   unfolding bursts_from
   walked-begun = walked-nothing
 
-  -- noted bursts are closed
+  -- Noted bursts are closed.
   noted-closed : (s : SealState) (m : ℕ) (ds : List Burst) → AreNoted (sealer profile rules) s m ds
       → AreClosed T3_5_TICKS m ds
   noted-closed s m [] are = tt
@@ -110,13 +110,14 @@ module _ (profile : Profile) (rules : Rules) (lawful : IsLawful rules) (tags : H
   abbrev Walked : Option Burst → Type 0
   Walked running = HasWalked profile rules floor m (bursts line) s unsent running
 
-  -- the walk after a further tick, with this state, these bytes to send and this running burst
+  -- the walk after one more tick, with this state, these bytes still to be sent, and this running
+  -- burst
   abbrev WalkedThen : Tick → SealState → List ℕ → Option Burst → Type 0
   WalkedThen t next to_send running =
       HasWalked profile rules floor (length (line ++ t ∷ [])) (bursts (line ++ t ∷ [])) next to_send
       running
 
-  -- the tick is taken, and the burst that runs must be judged
+  -- Holds if the tick has come, and the burst `now` is the running one.
   abbrev Taken : (running now : Option Burst) → Walked running → Tick → Type 0
   Taken running now so_far t =
       HasCome walker (at_floor floor) m (bursts (line ++ t ∷ [])) s so_far.emissions now
@@ -124,7 +125,7 @@ module _ (profile : Profile) (rules : Rules) (lawful : IsLawful rules) (tags : H
   abbrev judgement_now : Burst → Judgement
   judgement_now d = judged profile rules s d
 
-  -- so the line is divided
+  -- The line is divided into the bursts that are settled and the running one.
   pub walked-divided : (running : Option Burst) (so_far : Walked running)
       → IsDivided line so_far.come.settled running
   walked-divided running so_far = record {
@@ -158,7 +159,8 @@ module _ (profile : Profile) (rules : Rules) (lawful : IsLawful rules) (tags : H
 
   -- ---- what a taken tick makes of the walk
 
-  -- the link from here on: what is still to be sent, and what else is emitted
+  -- From tick `m` on, the link has what is still to be sent, and below it what the other emissions
+  -- have.
   link-more : (running : Option Burst) (so_far : Walked running) (more : List Burst) (i : ℕ) → m ≤ i
       → tick_at (so_far.emissions ++ more) i ≡ or_else (sent_at m unsent i) (tick_at more i)
   link-more running so_far more i from =
@@ -185,7 +187,8 @@ module _ (profile : Profile) (rules : Rules) (lawful : IsLawful rules) (tags : H
         in_time = unsent-in_time unsent m s.earliest_start so_far.in_time;
       })
 
-  -- what a step answers, by the burst that runs
+  -- If the tick and the note of a step are those of the walk up to the running burst, the step is
+  -- what the definitions say.
   answers : (running now : Option Burst) (so_far : Walked running) (t : Tick)
       (step : BoxStep SealNote)
       → Taken running now so_far t
@@ -208,7 +211,7 @@ module _ (profile : Profile) (rules : Rules) (lawful : IsLawful rules) (tags : H
   emission-alone d i =
       ap (λ x. tick_at x i) (append-nil (emission_by profile rules d (judgement_now d)))
 
-  -- the emission shows the live bytes up to the third silent tick
+  -- The emission of a burst that isn't early shows its live bytes, up to the third silent tick.
   emission-live : (d : Burst) (i : ℕ) → IsContiguous 4 d.body → s.earliest_start ≤ d.start
       → d.start ≤ i → i < end_of d + 3
       → tick_at (emission_by profile rules d (judgement_now d)) i
@@ -224,7 +227,7 @@ module _ (profile : Profile) (rules : Rules) (lawful : IsLawful rules) (tags : H
       (lt-ltb d.start s.earliest_start early))
       ∙ tick_at-none i
 
-  -- behind the live bytes it is dark
+  -- After the live bytes, the emission is silent up to the third silent tick.
   emission-past : (d : Burst) (i : ℕ) → IsContiguous 4 d.body → d.start ≤ i → live_end rules d ≤ i
       → i < end_of d + 3
       → tick_at (emission_by profile rules d (judgement_now d)) i ≡ Silent
@@ -243,7 +246,8 @@ module _ (profile : Profile) (rules : Rules) (lawful : IsLawful rules) (tags : H
   emission-unsealed d Form i past = forwarded-past profile rules d i past
   emission-unsealed d Spent i past = forwarded-past profile rules d i past
 
-  -- where the link is silent but for what is still to be sent
+  -- If the other emissions are silent at tick `m`, the link has the first byte that is still to be
+  -- sent.
   only-sent : (dark : List Burst) → tick_at dark m ≡ Silent
       → or_else (sent_at m unsent m) (tick_at dark m) ≡ first_of unsent
   only-sent dark is =
@@ -348,7 +352,7 @@ module _ (profile : Profile) (rules : Rules) (lawful : IsLawful rules) (tags : H
             (ap (λ j. Some (brief_note (note_by rules d j))) is),
       )
 
-  -- only a burst with no extra byte that starts late enough is sealed
+  -- A burst that is sealed isn't early.
   pub seals-late : (d : Burst) (number : ℕ) → judgement_now d ≡ sealed_with number
       → s.earliest_start ≤ d.start
   seals-late d number is =
@@ -370,7 +374,7 @@ module _ (profile : Profile) (rules : Rules) (lawful : IsLawful rules) (tags : H
       number
       (sym (judged-is profile rules s d) ∙ is))
 
-  -- then the link is silent up to this step, and the trailer is sent from it on
+  -- If the burst is sealed, the link is silent up to this step, and the trailer is sent from it on.
   sealed-sends : (d : Burst) (number : ℕ) (bytes : List ℕ) → Walked (Some d)
       → live_end rules d + 3 ≡ m
       → judgement_now d ≡ sealed_with number → bytes ≡ trailer profile number (live_bytes rules d)
@@ -476,7 +480,7 @@ module _ (profile : Profile) (rules : Rules) (lawful : IsLawful rules) (tags : H
         (ap (λ x. or_else (sent_at m unsent m) x) (emission-alone d m) ∙ is)
         (ap (λ x. told_notes brief_note x) (note-later walker s m (Some d) later))
 
-    -- a byte of an early burst isn't forwarded
+    -- A byte of an early burst isn't forwarded.
     pub walks-early : d.start < s.earliest_start
         → WalkedThen (Byte b) s (drop 1 unsent) (Some d)
         × AnswersTick profile rules floor line (Byte b) (noteless (first_of unsent))
@@ -487,7 +491,7 @@ module _ (profile : Profile) (rules : Rules) (lawful : IsLawful rules) (tags : H
           ∙ (or_else-silent (sent_at m unsent m) ∙ sent-first m unsent)),
     )
 
-    -- where the burst isn't early, nothing is left to be sent
+    -- If the burst isn't early, nothing is left to be sent.
     byte-none_left : s.earliest_start ≤ d.start → unsent ≡ []
     byte-none_left late =
         let begun = byte-begun line closed b running (walked-divided running so_far) in

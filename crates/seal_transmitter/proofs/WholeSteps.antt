@@ -1,4 +1,5 @@
--- A whole step of a transmitter: the value that cuts the line takes the tick, and then all else.
+-- A whole step of a transmitter: the value that cuts the line takes the tick first, and then
+-- everything else does.
 use Rattle.burst_walk.specs.declared.box_step.BoxStep.{BoxStep}
 use Rattle.frame_ending.proofs.Running.{closed-tick}
 use Rattle.frame_ending.specs.{Cuts.cut_of, Stands.StandsFor as CutStandsFor}
@@ -38,7 +39,8 @@ module _ {R M : Type 0} (proto : LineRules R) (macs : Mac M) {B : ℕ} (old : Se
     walks = stands.walks;
   }
 
-  -- what is told of the tick, and then all else has taken it
+  -- If the tick is cut as `what`, and everything else takes a tick that is cut so, the transmitter
+  -- takes the tick.
   pub taken-then : (what : Cut) → told ≡ what → (new : Sealer R M B) (number : ℕ)
       (step : BoxStep SealNote)
       → ((setup : Setup) (line : List Tick) → Between what setup line t
@@ -80,4 +82,4 @@ module _ {R M : Type 0} (proto : LineRules R) (macs : Mac M) {B : ℕ} (old : Se
         let P : Tick → Type 0 = λ u. Between Closed setup line u → SealsThen u setup line in
         subst P (sym (closed-tick proto.rules line t at.is_cut)) (seals setup line) at
 
--- ---- a step that seals nothing leaves journal and disk as they were
+-- ---- a step that seals nothing leaves the journal and the disk as they were
