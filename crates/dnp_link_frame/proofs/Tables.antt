@@ -1,5 +1,5 @@
--- The tables of the polynomial A6BC are right: each entry is computed. Also the
--- register after one byte.
+-- The tables of the polynomial A6BC are right: each entry is computed. Also the register after one
+-- byte.
 use Rattle.dnp_link_frame.specs.declared.table.TheConstants.{TABLES}
 use Rattle.line_rules.proofs.CrcTableChecks.{tables_agree, tables_right}
 use Rattle.line_rules.specs.{Crc.bit_step, Crc.bit_steps, CrcTables.AreCrcTables}
