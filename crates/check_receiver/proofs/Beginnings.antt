@@ -42,7 +42,7 @@ byte-cases rules n b (Some d) =
     (cases_Bool (live_end rules d == suc n)))
     (cases_Bool (d.start == n))
 
--- a byte that is no further one of a burst begins one
+-- A byte that doesn't go on with a burst begins one.
 pub byte-begins : (rules : Rules) (line : List Tick) (b : ℕ)
     → (cut_of rules line (Byte b) ≡ Live b → ⊥) → (cut_of rules line (Byte b) ≡ Extra b → ⊥)
     → cut_of rules line (Byte b) ≡ Start b
@@ -54,14 +54,14 @@ byte-begins rules line b live extra =
 
 -- ---- headers
 
--- a header that is good stays so
+-- A good header stays good.
 pub good-keeps : (rules : Rules) (x more : List ℕ) → head_of rules x ≡ Good
     → KeepsHeader rules x more
 good-keeps rules x more good = λ n few whole.
     let is = head-is-good rules x good in
     ap rules.is_good_header (take-append-le rules.header_len x (take n more) is.0) ∙ is.1
 
--- it stays so with fewer of the bytes
+-- If a header stays good with some bytes, it does so with fewer of them.
 pub keeps-front : (rules : Rules) (x more : List ℕ) (n : ℕ) (front : List ℕ) → n ≤ length more
     → front ≡ take n more → KeepsHeader rules x more → KeepsHeader rules x front
 keeps-front rules x more n front few is keeps =
@@ -77,7 +77,8 @@ pub first-byte : (bytes : List ℕ) → 0 < length bytes → get_or bytes 0 0 �
 first-byte [] some = absurd (omega arith)
 first-byte (b ∷ bytes) some = refl
 
--- bytes that begin with a good header keep it from the first one on
+-- If bytes begin with a good header, the header is good from the first byte on as soon as it is
+-- whole.
 pub start-keeps : (rules : Rules) (b : ℕ) (rest bytes : List ℕ) (n : ℕ) → b ∷ rest ≡ bytes
     → n ≤ length bytes → head_of rules (take n bytes) ≡ Good → KeepsHeader rules (b ∷ []) rest
 start-keeps rules b rest bytes n is few good = λ k within whole.
@@ -106,7 +107,7 @@ not-bad rules b rest keeps bad =
 
 -- ---- what leaves
 
--- where silence leaves next, no byte does
+-- If silence leaves next, no byte does.
 pub front-none : (Q : List Tick) (k : ℕ) (x : List ℕ) → IsFront Q k x → get_or Q 0 Silent ≡ Silent
     → x ≡ []
 front-none Q k [] front quiet = refl
@@ -116,7 +117,7 @@ front-none (q ∷ Q) k (b ∷ x) front quiet =
     let both : Byte b ≡ Silent = first ∙ quiet in
     absurd cc
 
--- behind a first byte silence still leaves
+-- After a first byte has entered a silent ring, silence still leaves next.
 pub ring-still : (n b : ℕ) → 2 ≤ n → get_or (drop 1 (silent n) ++ Byte b ∷ []) 0 Silent ≡ Silent
 ring-still zero b many = absurd (omega arith)
 ring-still (suc zero) b many = absurd (omega arith)
@@ -129,7 +130,7 @@ module _ {R M : Type 0} (proto : LineRules R) (macs : Mac M) {B D : ℕ} (new : 
   abbrev w : Walker CheckState FullNote
   w = checker (profile_of proto macs B LIMIT setup) proto.rules
 
-  -- a tick without a note is a run
+  -- A noteless tick is a run of one tick.
   pub one-taken : (t a : Tick) (step : BoxStep CheckNote)
       → HasTaken proto macs new last setup line t step
       → step.note ≡ None → step.tick ≡ a
@@ -143,7 +144,7 @@ module _ {R M : Type 0} (proto : LineRules R) (macs : Mac M) {B D : ℕ} (new : 
             (subst (λ u. A u None) is (subst (λ n. A step.tick n) none taken.answers));
       }
 
-  -- and a run goes on by another one
+  -- A run and then another one are one run.
   pub more-taken : (mid : Checker R M B D) (run more answer next : List Tick)
       → HasTakenRun proto macs mid last setup line run answer
       → HasTakenRun proto macs new last setup (line ++ run) more next
@@ -156,7 +157,7 @@ module _ {R M : Type 0} (proto : LineRules R) (macs : Mac M) {B D : ℕ} (new : 
             first.answers rest.answers;
       }
 
--- the receiver after no byte
+-- The receiver stays as it is if no byte comes.
 pub still-stands : {R M : Type 0} (proto : LineRules R) (macs : Mac M) {B D : ℕ}
     (old : Checker R M B D) (last : ℕ) (setup : Setup) (line : List Tick) (cut : BurstCut R)
     (k : ℕ) (bytes : List ℕ) → StandsAt proto macs old last setup line → k ≡ 0
@@ -175,7 +176,7 @@ still-stands proto macs old last setup line cut k bytes stands none cuts =
       walks = stands.walks;
     }
 
--- a first byte and a run behind it
+-- A first byte and the run of those that follow it are a run.
 pub run-whole : (first : ℕ) (tail bytes : List ℕ) (more all : ℕ) → first ∷ tail ≡ bytes
     → all ≡ 1 + more
     → Byte first ∷ map (λ b. Byte b) (take more tail) ≡ map (λ b. Byte b) (take all bytes)

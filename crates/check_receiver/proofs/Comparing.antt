@@ -1,4 +1,4 @@
--- Two lists of bytes that are compared by gathering the bits in which they differ.
+-- Two lists of bytes are compared by gathering the bits in which they differ.
 use Rattle.std.proofs.Common.{◌≡◌, ℕ, ◌+◌, ◌<◌, ◌≤◌, inl, inr, List, length, get_or, nat_eq}
 use Rattle.std.proofs.Common.{bytes_eq, sym, ◌∙◌, ap, subst, arith}
 use Rattle.std.proofs.lemmas.Bool.{cases_lt, Decides.same_from_decides}
@@ -14,7 +14,8 @@ same_without_bits a b none =
     let right = and_le_r a b in
     omega arith
 
--- no bit of lists that are the same is gathered, and where none is, the first n bytes are the same
+-- No bit is gathered if the lists are the same, and if no bit has been gathered, their first `n`
+-- bytes are the same.
 pub record IsGathered (left right : List ℕ) (n differing : ℕ) : Type 0 where
   pub none : left ≡ right → differing ≡ 0
   pub same : differing ≡ 0 → (k : ℕ) → k < n → get_or left k 0 ≡ get_or right k 0

@@ -1,4 +1,4 @@
--- The verdict on the burst with a whole trailer.
+-- The verdict on a burst with a whole trailer.
 use Rattle.burst_walk.specs.{Causal.going_on, declared.box_step.BoxStep.BoxStep}
 use Rattle.check_receiver.proofs.Hearing.{Hears, hears-whole, next-last, whole-long, whole-trailer}
 use Rattle.check_receiver.proofs.Hearing.{refuse-taken, pass-taken, passes-with}
@@ -21,7 +21,8 @@ use Rattle.std.proofs.Common.{Some, Result, Ok, Err, true}
 use Rattle.yasir_ticks.specs.{Bursts.Burst, declared.TheConstants.MAX_TICKS}
 use Rattle.yasir_ticks.specs.declared.tick.Tick.{Tick, TheVariants.Silent}
 
--- A burst with a whole trailer is judged so.
+-- Holds if `result` is the verdict on the last burst, whichever burst with a whole trailer it is
+-- that the receiver represents.
 abbrev pub Judges : {R M : Type 0} → LineRules R → Mac M → {B D : ℕ} → Checker R M B D → ℕ
     → Result ℕ RefusedWhy → Type 0
 Judges proto macs {B = B} old last result = (setup : Setup) (line : List Tick) (d : Burst)
@@ -55,7 +56,7 @@ module _ {R M : Type 0} (proto : LineRules R) (macs : Mac M) {B D : ℕ} (old : 
   abbrev e : Burst
   e = going_on hears.burst (length line) whole.byte
 
-  -- Where the verdict is told, the MAC has gone on.
+  -- the receiver after the verdict is found, for which the MAC has gone on
   abbrev after : Checker R M B D
   after = record old { mac = told.mac }
 
@@ -132,7 +133,7 @@ module _ {R M : Type 0} (proto : LineRules R) (macs : Mac M) {B D : ℕ} (old : 
       (judged (Ok number) judges) new step (subst T rest turned) (subst E rest earliest)
       (subst N rest (noted link) whole.cuts)
 
-  -- and where its number can't be committed, it would have passed
+  -- If the number can't be committed, the burst would have passed.
   pub decide-fails : (number : ℕ) → Judges proto macs old last (Ok number)
       → PassesWith profile rules setup.floor line t number
   decide-fails number judges =

@@ -53,7 +53,7 @@ module _ {R M : Type 0} (proto : LineRules R) (macs : Mac M) {B D : ℕ} (setup 
   abbrev m : ℕ
   m = length line
 
-  -- all that was to leave is the burst's
+  -- All that hasn't left yet is of this burst.
   pub drops : (emissions : List Burst) (d : Burst)
       → HasCome (checker profile proto.rules) (at_floor setup.floor) m (bursts (line ++ t ∷ []))
       state emissions (Some d)
@@ -95,7 +95,7 @@ module _ {R M : Type 0} (proto : LineRules R) (macs : Mac M) {B D : ℕ} (old : 
     (between : IsBetween proto macs old last setup line Silent cut) (new : Checker R M B D)
     (step : BoxStep CheckNote) (clear : TurnedClear proto old new step.tick)
     (noted : step.note ≡ Some (Dropped (start_so_far (line ++ Silent ∷ [])) NoHead)) where
-  -- the second silent tick in a row comes after it
+  -- The second silent tick in a row comes after a header that is too short.
   pub drop-silent : (d : Burst) → between.walks.waiting ≡ Some d
       → length line ≡ live_end proto.rules d + 1
       → length (live_bytes proto.rules d) < proto.rules.header_len
@@ -118,7 +118,7 @@ module _ {R M : Type 0} (proto : LineRules R) (macs : Mac M) {B D : ℕ} (old : 
 
 -- ---- a header that isn't good
 
--- A live byte that makes it so is its last one: the burst is noted then.
+-- A live byte that makes a header bad is the burst's last one: the burst is noted in its step.
 pub bad-now : (profile : Profile) (rules : Rules) (lawful : IsLawful rules)
     (headed : IsHeaded rules) (d : Burst) (m b : ℕ) (may : MayGoOn d m) → d.start < m
     → is_over profile rules lawful headed d m b may ≡ false
@@ -154,7 +154,7 @@ module _ {R M : Type 0} (proto : LineRules R) (macs : Mac M) {B D : ℕ} (old : 
     (noted : step.note ≡ Some (Dropped (start_so_far (line ++ Byte b ∷ [])) NoHead))
     (bad : head_of proto.rules (live_bytes_so_far proto.rules (line ++ Byte b ∷ [])) ≡ Bad)
     (mac_stands : (text : List ℕ) × macs.stands mac setup.key text) where
-  -- its last byte comes
+  -- The live byte that makes the header bad comes.
   pub drop-live : (d : Burst) → between.walks.waiting ≡ Some d
       → HasTaken proto macs new last setup line (Byte b) step
   drop-live d is =

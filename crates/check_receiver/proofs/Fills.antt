@@ -1,4 +1,4 @@
--- The bytes of a fill, which leave for silent ticks.
+-- The bytes of a fill, which leave while ticks come that begin no burst.
 use Rattle.burst_walk.specs.{Answered.answered, declared.box_step.BoxStep.BoxStep}
 use Rattle.check_receiver.proofs.{Beginnings.one-taken, Resting.rest-taken}
 use Rattle.check_receiver.specs.Between.{IsBetween}
@@ -21,13 +21,13 @@ use Rattle.std.proofs.lemmas.Bool.{cases_Bool, cond-true, cond-false, cond_both,
 use Rattle.yasir_ticks.specs.Ticks.{silent}
 use Rattle.yasir_ticks.specs.declared.tick.Tick.{Tick, TheVariants.Silent, TheVariants.Byte}
 
--- so many bytes are what leaves in so many ticks
+-- If `n` bytes leave in `n` ticks, the ticks are these bytes.
 pub answered-bytes : (x : List ℕ) (n : ℕ) → length x ≡ n → map (λ b. Byte b) x ≡ answered n x
 answered-bytes [] zero long = refl
 answered-bytes [] (suc n) long = absurd (omega arith)
 answered-bytes (b ∷ x) n long = refl
 
--- no byte begins a burst before four silent ticks have come
+-- A byte begins no burst before four silent ticks have come.
 pub runs-none : {R : Type 0} (proto : LineRules R) (cut : BurstCut R) (line : List Tick)
     → CutStandsFor proto cut line → (b : ℕ) → quiet_so_far line < 4
     → BeginsNone proto.rules line (Byte b)
@@ -42,7 +42,7 @@ runs-none proto cut line cuts b runs =
     inl (sym (cut-go_on proto cut line cuts full b (omega arith) full_is parts.0 parts.1)))
     (cases_Bool (cut.paused || full))
 
--- a fill that is owed has a next byte
+-- If bytes of a fill are owed, there is a next one.
 fill-some : (rules : Rules) (left : List ℕ) (owed : ℕ) → 0 < owed
     → tick_or_silence (filled rules left owed) ≡ Silent → ⊥
 fill-some rules left owed some is =
@@ -56,7 +56,7 @@ fill-some rules left owed some is =
     let both = sym byte ∙ is in absurd cc)
     (cases_Bool (owed == 1))
 
--- no verdict opens where a burst has left
+-- No verdict opens when a burst has left.
 pub still-closed : (p : Phase) (until : ℕ) (owes : Bool) → is_open p ≡ false
     → is_open (settled p until owes) ≡ false
 still-closed Idle until owes closed = refl
@@ -65,7 +65,7 @@ still-closed (Leaving passed) until owes closed =
     cond_both (nat_lt 0 until) _ _ (λ p. is_open p ≡ false) (λ held. refl)
     (λ gone. cond_both owes _ _ (λ p. is_open p ≡ false) (λ some. refl) (λ none. refl))
 
--- where no live tick is held, silence is first
+-- If the ring holds no live tick, silence leaves next.
 still-first : (live : List Tick) (n : ℕ) → length live ≡ 0
     → get_or (live ++ silent n) 0 Silent ≡ Silent
 still-first [] zero none = refl
@@ -76,7 +76,7 @@ module _ {R M : Type 0} (proto : LineRules R) (macs : Mac M) {B D : ℕ} (old : 
     (last : ℕ) (setup : Setup) (line : List Tick) (stands : StandsAt proto macs old last setup line)
     (cut : BurstCut R) (new : Checker R M B D) (answer : Tick)
     (turned : Turned proto (record old { cut = cut }) new Silent answer) (gone : old.until ≡ 0) where
-  -- a fill that is owed leaves
+  -- If bytes of a fill are owed, one of them leaves.
   pub fill-leaves : 0 < owed_by old.outlet → answer ≡ Silent → ⊥
   fill-leaves some is =
       let left : List ℕ = stands.walks.left in

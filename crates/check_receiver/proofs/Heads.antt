@@ -1,4 +1,4 @@
--- What a header is by what the head says.
+-- What is known of a header by what `head_of` says.
 use Rattle.std.proofs.Common.{◌≡◌, ◌<◌, ◌≤◌, ℕ, true, false, List, length, take, ⊎_elim}
 use Rattle.std.proofs.lemmas.Bool.{cases_Bool, cases_lt}
 use Rattle.line_rules.specs.Rules.{Rules, head_of}
@@ -6,7 +6,7 @@ use Rattle.line_rules.specs.declared.head.Head.TheVariants.{Short, Good, Bad}
 use Rattle.link_verdicts.proofs.Judging.{head-short, head-good, head-bad}
 
 module _ (rules : Rules) (x : List ℕ) where
-  -- It is short where the head says so, and is whole where it says anything else.
+  -- If it says `Short`, the header isn't whole; if it says anything else, the header is whole.
   pub head-is-short : head_of rules x ≡ Short → length x < rules.header_len
   head-is-short is =
       ⊎_elim
@@ -22,7 +22,7 @@ module _ (rules : Rules) (x : List ℕ) where
       ⊎_elim (λ short. absurd (other (head-short rules x short))) (λ long. long)
       (cases_lt (length x) rules.header_len)
 
-  -- It isn't good where the head says that it is bad.
+  -- If it says `Bad`, the header isn't a good one.
   pub head-is-bad : head_of rules x ≡ Bad
       → rules.is_good_header (take rules.header_len x) ≡ false
   head-is-bad is =
@@ -34,7 +34,7 @@ module _ (rules : Rules) (x : List ℕ) where
       (cases_Bool (rules.is_good_header (take rules.header_len x))))
       (cases_lt (length x) rules.header_len)
 
-  -- It is whole and good where the head says so.
+  -- If it says `Good`, the header is whole and good.
   pub head-is-good : head_of rules x ≡ Good
       → (rules.header_len ≤ length x)
       × (rules.is_good_header (take rules.header_len x) ≡ true)

@@ -1,4 +1,4 @@
--- A byte that isn't live, of the burst whose verdict is open.
+-- A byte that isn't live comes, of the burst whose verdict is open.
 use Rattle.burst_walk.proofs.Coming.{notes-step, note-now}
 use Rattle.burst_walk.specs.{Causal.going_on, Walk.Noted, declared.box_step.BoxStep.BoxStep}
 use Rattle.check_receiver.proofs.Machine.{waiting-some, ring-waits, assembled}
@@ -43,10 +43,11 @@ use Rattle.std.proofs.lemmas.{Bool.ne_eqb, List.length-drop, List.take_all}
 use Rattle.yasir_ticks.specs.{Bursts.Burst, Bursts.end_of, Ticks.silent, Ticks.bytes_in}
 use Rattle.yasir_ticks.specs.declared.tick.Tick.{Tick, TheVariants.Silent, TheVariants.Byte}
 
--- ---- what is known then
+-- ---- what is known when the byte comes
 
--- Of the receiver the MAC and the arriving trailer may have gone on; all else is as it was before
--- the byte.
+-- Holds if the byte `b`, which isn't live, has come after `line` while the verdict on its burst is
+-- open. The value that cuts the link has taken it, the MAC and the bytes kept of the trailer may
+-- have gone on, and everything else is as it was before the byte.
 pub record Hears {R M : Type 0} (proto : LineRules R) (macs : Mac M) {B D : ℕ}
     (old : Checker R M B D) (last : ℕ) (setup : Setup) (line : List Tick) (t : Tick) (b : ℕ) :
     Type 0 where
@@ -160,7 +161,7 @@ module _ {R M : Type 0} (proto : LineRules R) (macs : Mac M) {B D : ℕ} (old : 
       let L : Tick → Type 0 = λ u. last_burst (line ++ u ∷ []) ≡ Some e in
       subst L (sym is-byte) (joined-last it b)
 
-  -- how many live ticks are still to leave
+  -- how many live ticks haven't left yet
   pub still-long : length live + m ≡ live_end rules d + D
   still-long = let sum = long-of it in let delay_is = hears.delay_is in omega arith
 
@@ -198,7 +199,7 @@ module _ {R M : Type 0} (proto : LineRules R) (macs : Mac M) {B D : ℕ} (old : 
       (ap (λ x. ring_ticks x) ring ∙ hears.walks.ring_is)
       none (subst U (sym until) another) (more-of it)
 
-  -- what has left then
+  -- the bytes that have left after this step
   abbrev after : List ℕ
   after = left ++ bytes_in (take 1 live)
 
@@ -212,7 +213,7 @@ module _ {R M : Type 0} (proto : LineRules R) (macs : Mac M) {B D : ℕ} (old : 
       let ends = (may-of it).after in
       omega arith
 
-  -- as many bytes have come as ticks behind the pause
+  -- As many bytes of the trailer have come as ticks after the pause.
   pub trailer-long : length (trailer_so_far rules d) ≡ m - (live_end rules d + pause_len)
   trailer-long = grown it
 
@@ -220,7 +221,7 @@ module _ {R M : Type 0} (proto : LineRules R) (macs : Mac M) {B D : ℕ} (old : 
     pub trailer-next : trailer_so_far rules e ≡ trailer_so_far rules d ++ b ∷ []
     trailer-next = extra-adds it b is-extra behind
 
-    -- ---- what stands for it
+    -- ---- the MAC and the kept bytes
 
     pub mac_holds : MacHolds proto macs setup hears.mac hears.arriving d
     mac_holds =
@@ -241,7 +242,7 @@ module _ {R M : Type 0} (proto : LineRules R) (macs : Mac M) {B D : ℕ} (old : 
 
   -- ---- the receiver has taken it
 
-  -- of the trailer's bytes it isn't the last one
+  -- If the byte is one of the trailer, and not its last one, the receiver takes it.
   pub trailer-taken : (new : Checker R M B D) (step : BoxStep CheckNote)
       → Turned proto old new Silent step.tick → step.note ≡ None → is_open old.phase ≡ true
       → live_end rules d + pause_len ≤ m → m + 2 < live_end rules d + D
@@ -265,7 +266,7 @@ module _ {R M : Type 0} (proto : LineRules R) (macs : Mac M) {B D : ℕ} (old : 
       (omega arith) (omega arith) waits hears.mac_stands mac_holds' tt
       (open-stays old.phase old.until (owed_by new.outlet) waits)
 
-  -- ---- it refuses the burst
+  -- ---- the burst is refused
 
   module _ (new : Checker R M B D) (step : BoxStep CheckNote)
       (refuses : TurnedRefused proto old new step.tick)
@@ -310,7 +311,7 @@ module _ {R M : Type 0} (proto : LineRules R) (macs : Mac M) {B D : ℕ} (old : 
         ∙ (extra-bytes it b is-extra ∙ sym (bytes-next it ∙ bytes-of it)))
         (refuses.knows (line ++ t ∷ []) hears.cuts))) tt
 
-    -- inside the pause,
+    -- It is refused because the byte comes inside the pause.
     pub break-taken : why ≡ Trailer → m < live_end rules d + pause_len
         → HasTaken proto macs new last setup line t step
     break-taken is few =
@@ -322,7 +323,7 @@ module _ {R M : Type 0} (proto : LineRules R) (macs : Mac M) {B D : ℕ} (old : 
         false after (drop 1 live) 0 None (get_or live 0 Silent) (Some (Refused e.start w)) in
         refused-taken (subst G (sym is) (extra-breaks it b is-extra few))
 
-    -- and by its whole trailer
+    -- It is refused by its whole trailer.
     pub refuse-taken : old.until ≡ 1
         → whole_verdict profile rules last (live_bytes rules e) (trailer_of profile rules e)
         ≡ refused why
@@ -368,7 +369,7 @@ module _ {R M : Type 0} (proto : LineRules R) (macs : Mac M) {B D : ℕ} (old : 
       passes-now = ap (λ v. note_tick profile rules e v) passes-checked
           ∙ whole-tick it b is-extra final
 
-      -- so by the definitions it passes
+      -- By the definitions, the burst passes with this number.
       pub passes-with : PassesWith profile rules setup.floor line t number
       passes-with =
           let N : Tick → Type 0 = λ u. check_notes profile rules setup.floor (line ++ u ∷ [])
@@ -387,7 +388,7 @@ module _ {R M : Type 0} (proto : LineRules R) (macs : Mac M) {B D : ℕ} (old : 
                 n ∷ []) passes-checked));
           }
 
-      -- and the receiver passes it
+      -- The receiver passes the burst.
       pub pass-taken : (new : Checker R M B D) (step : BoxStep CheckNote)
           → Turned proto (record old {
             phase = Leaving true;

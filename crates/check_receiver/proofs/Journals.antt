@@ -15,7 +15,7 @@ module _ {S : Type 0} (d : SlotDisk S) (journal : Journal) (disk : S) where
   commits-none (Some (Refused start why)) none = (refl, refl)
   commits-none (Some (Dropped start why)) none = (refl, refl)
 
-  -- A step in which no burst passes leaves both as they were.
+  -- A step in which no burst passes leaves the journal and the disk as they were.
   pub journal-kept : ((c : Slots) → d.left_since disk (d.moment disk) c → d.may_leave disk c)
       → Fits journal (d.told disk) → (step : BoxStep CheckNote) → IsNoPass step.note
       → KeepsJournal d journal journal disk disk (Ok step)

@@ -1,4 +1,4 @@
--- What a step does to the journal and its disk, as a step of a box of a link; and runs as its runs.
+-- What a step does to the journal and its disk, as a step of a box of a link, and what a run does.
 use Rattle.burst_walk.specs.declared.box_step.BoxStep.{BoxStep}
 use Rattle.check_receiver.specs.{Boxed.check_walking, Checkings.CommitsNoted}
 use Rattle.check_receiver.specs.{Checkings.KeepsJournal, Runs.HasTakenRun, Stands.StandsAt}
@@ -15,7 +15,7 @@ use Rattle.std.proofs.Common.{◌≡◌, ◌≤◌, ℕ, List, Ok, Err, Option, 
 use Rattle.yasir_io.specs.declared.disk.SlotDisk.{Ghosts as SlotDisk}
 use Rattle.yasir_ticks.specs.declared.tick.Tick.{Tick}
 
--- a step doesn't lower the journal's floor
+-- A step doesn't lower the journal's floor.
 pub commits-rise : {S : Type 0} (d : SlotDisk S) (old new : Journal) (disk_old disk_new : S)
     (note : Option CheckNote)
     → CommitsNoted d old new disk_old disk_new note → journal_floor old ≤ journal_floor new
@@ -62,7 +62,7 @@ module _ {S : Type 0} (d : SlotDisk S) (old new : Journal) (disk_old disk_new : 
 
 module _ {R M : Type 0} (proto : LineRules R) (macs : Mac M) {B D : ℕ}
     (old new : Checker R M B D) where
-  -- A run that it takes is one of a box, by other names.
+  -- A run that the receiver takes is a run that a box takes, if the ticks are the same.
   pub takes-run : (run answer front told : List Tick) → run ≡ front → answer ≡ told
       → ((last : ℕ) (setup : Setup) (line : List Tick) → StandsAt proto macs old last setup line
       → HasTakenRun proto macs new last setup line run answer)

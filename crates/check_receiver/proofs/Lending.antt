@@ -1,4 +1,4 @@
--- The bytes that are lent for a run of ticks.
+-- The bytes that leave in a run of ticks.
 use Rattle.burst_walk.{proofs.Runs.run-none, specs.Answered.answered}
 use Rattle.check_receiver.specs.Runs.{HasTakenRun, IsFront}
 use Rattle.check_receiver.specs.{Stands.StandsAt, declared.checker.Checker.Checker}
@@ -22,7 +22,7 @@ use Rattle.std.specs.Prelude.{Result, Ok, Err, IsOk, OnOk}
 use Rattle.yasir_ticks.specs.Ticks.{silent}
 use Rattle.yasir_ticks.specs.declared.tick.Tick.{Tick, TheVariants.Silent, TheVariants.Byte}
 
--- a ring has its ticks
+-- A ring of `D` ticks has `D` ticks.
 pub ring-whole : {D : ℕ} (ring : DelayRing D) → length (ring_ticks ring) ≡ D
 ring-whole {D} ring =
     let bytes = ring.byte_room in
@@ -32,7 +32,7 @@ ring-whole {D} ring =
     let less = length-drop ring.oldest (marked_ticks ring.bytes ring.marks) in
     length-take-le D (drop ring.oldest (marked_ticks ring.bytes ring.marks)) (omega arith)
 
--- ticks of which the first is a byte aren't silent
+-- If the first of some ticks is a byte, they aren't silent.
 byte-first : (n : ℕ) (x : List ℕ) (Q : List Tick) → 0 < length x
     → map (λ b. Byte b) x ≡ take (length x) Q → 0 < n → take n Q ≡ silent n → ⊥
 byte-first n [] Q some bytes any is = absurd (omega arith)
@@ -44,7 +44,7 @@ byte-first (suc n) (b ∷ x) (q ∷ Q) some bytes any is =
     let both : Byte b ≡ Silent = byte ∙ first in
     absurd cc
 
--- fewer of them are alike, too
+-- If ticks are alike, fewer of them are, too.
 pub less-alike : (j k : ℕ) (Q : List Tick) → j ≤ k → k ≤ length Q → AreAlike (take k Q)
     → AreAlike (take j Q)
 less-alike j k Q less within alike =
@@ -61,7 +61,7 @@ less-alike j k Q less within alike =
     ))
     alike
 
--- and of ticks of a ring and what is behind it, those of the ring
+-- If the first ticks of a ring, followed by others, are alike, those of the ring are, too.
 pub ring-alike : (Q E : List Tick) (j k : ℕ) → j ≤ k → j ≤ length Q → k ≤ length (Q ++ E)
     → AreAlike (take k (Q ++ E)) → AreAlike (take j Q)
 ring-alike Q E j k less few within alike =
@@ -72,15 +72,15 @@ pub no-bytes : (x : List ℕ) → length x ≡ 0 → x ≡ []
 no-bytes [] none = refl
 no-bytes (b ∷ x) none = absurd (omega arith)
 
--- Ticks of which this many at the front are alike, of a ring and of bytes behind it: within the
--- ring, as they are there,
+-- If the first ticks of a ring are alike, they are so with others after the ring.
 pub alike-front : (Q E : List Tick) (k : ℕ) → k ≤ length Q → AreAlike (take k Q)
     → AreAlike (take k (Q ++ E))
 alike-front Q E k few alike =
     let A : List Tick → Type 0 = λ l. AreAlike l in
     subst A (sym (take-append-le k Q E few)) alike
 
--- and also past it, where the first one is a byte.
+-- If the ticks of a ring are alike, and the first one is a byte, they are alike with bytes after
+-- the ring.
 pub alike-past : (Q : List Tick) (x bytes : List ℕ) (k : ℕ) → 0 < length Q
     → AreAlike (take (length Q) Q) → 0 < length x → map (λ b. Byte b) x ≡ take (length x) Q
     → AreAlike (take k (Q ++ map (λ b. Byte b) bytes))
@@ -103,7 +103,7 @@ pub first-along : (Q E : List Tick) → 0 < length Q → get_or (Q ++ E) 0 Silen
 first-along [] E some = absurd (omega arith)
 first-along (q ∷ Q) E some = refl
 
--- ---- what leaves while bytes come: of the ring alone,
+-- ---- what leaves while bytes come
 pub front-along : (Q E : List Tick) (D k most : ℕ) (x : List ℕ) → length Q ≡ D → most ≡ min k D
     → length x < D → length x ≤ most → map (λ b. Byte b) x ≡ take (length x) Q
     → (length x < most → get_or Q (length x) Silent ≡ Silent) → IsFront (Q ++ E) k x
@@ -119,7 +119,7 @@ front-along Q E D k most x whole is short within bytes first = record {
     get_or-front (p ∷ P) F zero few = refl
     get_or-front (p ∷ P) F (suc n) few = get_or-front P F n (omega arith)
 
--- and of the bytes behind it
+-- A whole ring of bytes leaves, and then the bytes that come.
 pub whole-along : (Q : List Tick) (D k : ℕ) (x bytes : List ℕ) → length Q ≡ D → length x ≡ D
     → D ≤ k → k ≤ length bytes → map (λ b. Byte b) x ≡ take (length x) Q
     → IsFront (Q ++ map (λ b. Byte b) bytes) k (x ++ take (k - D) bytes)
@@ -141,7 +141,7 @@ whole-along Q D k x bytes whole size more few front =
       all = λ less. absurd (omega arith);
     }
 
--- what holds of an answer that is Ok
+-- what holds of a result that is `Ok`
 pub of-ok : {T E : Type 0} (r : Result T E) (P : Type 0) → IsOk r → OnOk r P → P
 of-ok (Ok x) P ok holds = holds
 of-ok (Err e) P ok holds = absurd cc
@@ -157,7 +157,7 @@ not-owed n none =
     (λ few. omega arith)
     (cases_lt 0 n)
 
--- the receiver after no tick
+-- The receiver takes a run of no tick.
 pub none-taken : {R M : Type 0} (proto : LineRules R) (macs : Mac M) {B D : ℕ}
     (old : Checker R M B D) (last : ℕ) (setup : Setup) (line : List Tick)
     → StandsAt proto macs old last setup line → (cut : BurstCut R)
@@ -180,7 +180,7 @@ none-taken proto macs {B} old last setup line stands cut cuts =
           (at_floor setup.floor) line;
     }
 
--- the same where nothing has changed
+-- The receiver takes a run of no tick if nothing has changed.
 pub same-taken : {R M : Type 0} (proto : LineRules R) (macs : Mac M) {B D : ℕ}
     (old : Checker R M B D) (last : ℕ) (setup : Setup) (line : List Tick)
     → StandsAt proto macs old last setup line → (left : List ℕ) → left ≡ []

@@ -22,7 +22,8 @@ module _ {R : Type 0} (proto : LineRules R) (profile : Profile) (floor : ℕ) (s
   abbrev rules : Rules
   rules = proto.rules
 
-  -- The burst has gone on by these bytes: what leaves of a ring, and what is left in it.
+  -- Holds if the burst has gone on by the live bytes `x`, with what has left of the ring meanwhile,
+  -- and what is left in it.
   pub record LiveRun (line : List Tick) (left : List ℕ) (live Q : List Tick) (d : Burst)
       (x : List ℕ) : Type 0 where
     pub burst : Burst

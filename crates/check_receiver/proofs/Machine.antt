@@ -1,4 +1,4 @@
--- How the machine's parts are together after a step.
+-- How the parts of a receiver fit together after a step.
 use Rattle.burst_walk.specs.{Answers.AnswersTick, declared.box_step.BoxStep.BoxStep}
 use Rattle.check_receiver.proofs.Settled.{IsIn, settles, StaysIdle}
 use Rattle.check_receiver.specs.{Phases.is_open, Phases.passes_in, Stands.MacHolds, Stands.HasTaken}
@@ -29,7 +29,7 @@ pub waiting-some : (o : Option Burst) → is_some o ≡ true → (d : Burst) × 
 waiting-some None there = absurd cc
 waiting-some (Some d) there = (d, refl)
 
--- the last live byte leaves where no step is left until it does
+-- The last live tick leaves in this step exactly if no step is left until it does.
 pub until-last : (live : List Tick) (n : ℕ) → n ≡ length live - 1 → 0 < length live
     → (n == 0) ≡ is_none (drop 1 live)
 until-last [] n is some = absurd (omega arith)
@@ -40,14 +40,14 @@ first-none : (live : List Tick) → length live ≡ 0 → get_or live 0 Silent �
 first-none [] none = refl
 first-none (t ∷ live) none = absurd (omega arith)
 
--- more are left where there were two
+-- If there were two live ticks or more, one is left.
 pub some-left : (live : List Tick) → 1 < length live → is_none (drop 1 live) ≡ false
 some-left [] more = absurd (omega arith)
 some-left (t ∷ []) more = absurd (omega arith)
 some-left (t ∷ u ∷ live) more = refl
 
 module _ {R M : Type 0} (proto : LineRules R) (macs : Mac M) {B D : ℕ} where
-  -- ---- a turn, by what is to leave
+  -- ---- a turn, by what hasn't left yet
 
   module _ (base new : Checker R M B D) (entering answer : Tick)
       (turned : Turned proto base new entering answer) (left : List ℕ) (live : List Tick)
@@ -67,7 +67,7 @@ module _ {R M : Type 0} (proto : LineRules R) (macs : Mac M) {B D : ℕ} where
         unowed last (λ there at_last refused. knows refused there)
         (subst P first (turned.out left stands))
 
-    -- where nothing is left to leave, nothing is owed after the turn
+    -- If everything has left and nothing is owed, nothing is owed after the turn.
     pub still-unowed : length live ≡ 0 → owed_by base.outlet ≡ 0 → owed_by new.outlet ≡ 0
     still-unowed none unowed =
         let P : Tick → Type 0 = λ u. HasTurned proto base.outlet new.outlet (base.until == 0)
@@ -86,7 +86,7 @@ module _ {R M : Type 0} (proto : LineRules R) (macs : Mac M) {B D : ℕ} where
       ∙ (ap (λ l. drop 1 l ++ Silent ∷ []) is ∙ ring-silent live D some few)
 
   module _ (setup : Setup) (line : List Tick) (t : Tick) where
-    -- the machine's parts after a step
+    -- If the parts are as the walk says, the receiver has taken the tick.
     pub assembled : (base new : Checker R M B D) (entering : Tick) (step : BoxStep CheckNote)
         → Turned proto base new entering step.tick
         → IsWordLen B → 2 ≤ B → D ≡ 4 + B + macs.TAG

@@ -1,4 +1,4 @@
--- Ticks that surely have no note: what is known of the burst that each belongs to.
+-- Ticks that are surely noteless: what is known of the burst that each of them belongs to.
 use Rattle.check_receiver.proofs.Beginnings.{good-keeps}
 use Rattle.check_receiver.proofs.Heads.{head-is-bad, head-isn't-short}
 use Rattle.check_receiver.specs.Noteless.{is_short, is_good, is_no_bad, silence_has_none}
@@ -28,7 +28,7 @@ use Rattle.yasir_ticks.specs.declared.tick.Tick.{Tick, TheVariants.Silent, TheVa
 
 -- ---- live bytes
 
--- a further live byte comes behind the others
+-- Another live byte comes after the other live bytes.
 pub live-longer : (rules : Rules) → IsLawful rules → (line : List Tick) (b : ℕ)
     → cut_of rules line (Byte b) ≡ Live b
     → live_bytes_so_far rules (line ++ Byte b ∷ []) ≡ live_bytes_so_far rules line ++ b ∷ []
@@ -60,12 +60,12 @@ live-longer rules lawful line b live = by_last (last_burst line) refl
         (λ far. absurd (not_alone (now ∙ ap Some (cond-false _ _ _ (le-ltb _ _ far)))))
         (cases_lt (length line) (end_of d + 4))
 
--- silence brings none
+-- Silence adds no live byte.
 pub live-silent : (rules : Rules) (line : List Tick)
     → live_bytes_so_far rules (line ++ Silent ∷ []) ≡ live_bytes_so_far rules line
 live-silent rules line = ap (live_bytes_in rules) (last_burst-silent line)
 
--- a header that is good isn't bad with more bytes
+-- A good header doesn't become a bad one with more bytes.
 pub good-not_bad : (rules : Rules) (x more : List ℕ) → head_of rules x ≡ Good
     → head_of rules (x ++ more) ≡ Bad → ⊥
 good-not_bad rules x more good bad =
@@ -89,7 +89,7 @@ module _ {R : Type 0} (proto : LineRules R) (v : BurstCut R) (line : List Tick)
   abbrev full : Bool
   full = fills_room rules (live_bytes_so_far rules line)
 
-  -- while a burst runs, its live bytes are over by the value as by the definition
+  -- While a burst runs, its live bytes are over by the value exactly if they are by the definition.
   over-is : v.quiet < 4 → (v.paused || full) ≡ is_over_so_far rules line
   over-is runs = by_last (last_burst line) refl
     where
@@ -116,7 +116,7 @@ module _ {R : Type 0} (proto : LineRules R) (v : BurstCut R) (line : List Tick)
       let parts = or_parts v.paused full (over-is runs ∙ open') in
       cut-go_on proto v line old full b runs refl parts.0 parts.1
 
-  -- the first byte of a burst comes where none runs
+  -- If a byte begins a burst, none was running.
   pub start-rests : cut_of rules line (Byte b) ≡ Start b → 4 ≤ quiet_so_far line
   start-rests is =
       let same = old.quiet_is in
@@ -128,7 +128,7 @@ module _ {R : Type 0} (proto : LineRules R) (v : BurstCut R) (line : List Tick)
       (λ rests. omega arith)
       (cases_lt v.quiet 4)
 
-  -- a further live one where one runs whose live bytes aren't over
+  -- If a byte is another live one, a burst is running whose live bytes aren't over.
   pub live-open : cut_of rules line (Byte b) ≡ Live b
       → (quiet_so_far line < 4) × (is_over_so_far rules line ≡ false)
   live-open is =
@@ -144,7 +144,7 @@ module _ {R : Type 0} (proto : LineRules R) (v : BurstCut R) (line : List Tick)
       (λ rests. let both : Start b ≡ Live b = begins rests ∙ is in absurd cc)
       (cases_lt v.quiet 4)
 
-  -- and another one where they are
+  -- If a byte isn't live, a burst is running whose live bytes are over.
   pub extra-over : cut_of rules line (Byte b) ≡ Extra b
       → (quiet_so_far line < 4) × (is_over_so_far rules line ≡ true)
   extra-over is =
@@ -160,7 +160,7 @@ module _ {R : Type 0} (proto : LineRules R) (v : BurstCut R) (line : List Tick)
       (λ rests. let both : Start b ≡ Extra b = begins rests ∙ is in absurd cc)
       (cases_lt v.quiet 4)
 
--- ---- what it must be sure
+-- ---- what the receiver must be sure of
 
 good-is : (h : Head) → is_good h ≡ true → h ≡ Good
 good-is Good is = refl
@@ -175,8 +175,8 @@ module _ {R M : Type 0} (proto : LineRules R) {B D : ℕ} (value : Checker R M B
   abbrev heads : Head
   heads = head_of proto.rules (live_bytes_so_far proto.rules line)
 
-  -- of silence while a verdict is open: no byte of the trailer is due, and if the live bytes end
-  -- here their header is whole
+  -- If silence is noteless while a verdict is open, no byte of the trailer must come now; and if
+  -- this tick ends the live bytes, their header is whole.
   pub silence-may : silence_has_none proto value line ≡ true → is_open value.phase ≡ true
       → (D ≤ fewer + 3) × (fewer + 2 ≡ D → heads ≡ Short → ⊥)
   silence-may is waits =
@@ -197,7 +197,8 @@ module _ {R M : Type 0} (proto : LineRules R) {B D : ℕ} (value : Checker R M B
       ))
       (cases_lt (fewer + 3) D)
 
-  -- of the first byte of a burst: it is in time, and the byte is no bad header
+  -- If the first byte of a burst is noteless, it doesn't come too soon, and isn't a bad header by
+  -- itself.
   pub first-may : (b : ℕ) → first_has_none proto value line b ≡ true
       → (value.earliest_start ≤ length line) × (head_of proto.rules (b ∷ []) ≡ Bad → ⊥)
   first-may b is =
@@ -218,11 +219,12 @@ module _ {R M : Type 0} (proto : LineRules R) {B D : ℕ} (value : Checker R M B
         else is_good heads) ≡ true
     open-may = sym (cond-false (not (is_open value.phase)) true _ (ap not waits)) ∙ is
 
-    -- of a further live byte while a verdict is open: the header is good
+    -- If another live byte is noteless while a verdict is open, the header is good.
     pub live-may : is_over_so_far proto.rules line ≡ false → heads ≡ Good
     live-may open' = good-is heads (sym (cond-false _ _ _ open') ∙ open-may)
 
-    -- of another one: it is one of the trailer, and not its last one
+    -- If a byte that isn't live is noteless while a verdict is open, it is one of the trailer, and
+    -- not its last one.
     pub extra-may : is_over_so_far proto.rules line ≡ true → (fewer + 3 < D) × (1 < fewer)
     extra-may over =
         let more : extra_has_none proto value line ≡ true =

@@ -1,4 +1,4 @@
--- The burst whose verdict is open, as the machine holds it.
+-- The burst whose verdict is open, as the receiver holds it.
 use Rattle.check_receiver.{proofs.Machine.some-left, specs.Phases.passes_in, specs.Stands.Walks}
 use Rattle.check_receiver.specs.{Turning.Turned}
 use Rattle.check_receiver.specs.declared.{arriving.Arriving.Arriving, checker.Checker.Checker}
@@ -16,7 +16,7 @@ use Rattle.std.proofs.Common.{length, take, get_or, sym, ap, subst, arith, ⊎_e
 use Rattle.yasir_ticks.specs.{Bursts.Burst, Bursts.bursts, Ticks.silent, Ticks.bytes_in}
 use Rattle.yasir_ticks.specs.declared.tick.Tick.{Tick, TheVariants.Silent, TheVariants.Byte}
 
--- a header is whole before its first byte leaves
+-- A header is whole before its first byte leaves.
 pub timely : {R M : Type 0} (proto : LineRules R) (macs : Mac M) (B : ℕ) (setup : Setup) → 2 ≤ B
     → IsTimely (profile_of proto macs B LIMIT setup) proto.rules
 timely proto macs B setup wide =
@@ -45,8 +45,8 @@ open-walks {R} {M} {proto} {macs} {B} {D} {last} {earliest} {waits} {passes} {ma
       walked = subst W is walks.walked;
     }
 
--- ---- the turn of a ring that holds more than one live tick: what isn't the last one leaves as it
--- came, whatever the verdict
+-- ---- the turn of a ring that holds more than one live tick: a tick that isn't the last one leaves
+-- as it came, whatever the verdict
 
 turned-any : {R : Type 0} (proto : LineRules R) (old new : Outlet R) (p q : Bool) (x : List ℕ)
     (answer u : Tick) → HasTurned proto old new false p x answer u

@@ -1,4 +1,4 @@
--- Silence in the pause behind the live bytes of the burst whose verdict is open.
+-- Silence in the pause after the live bytes of the burst whose verdict is open.
 use Rattle.check_receiver.proofs.RunTicks.{RunsTo, runs-none, runs-first}
 use Rattle.frame_ending.specs.LiveBytes.{live_bytes, live_end}
 use Rattle.line_rules.specs.{Rules.Rules, declared.line_rules.LineRules.Ghosts as LineRules}

@@ -43,7 +43,7 @@ pub silence-begin_none : (rules : Rules) (n : ℕ) (line : List Tick)
 silence-begin_none rules zero line = tt
 silence-begin_none rules (suc n) line = (tt, silence-begin_none rules n (line ++ Silent ∷ []))
 
--- what leaves first of more than one live tick
+-- If there is more than one live tick, the first one leaves as it came.
 leaves-more : (rules : Rules) (p : Bool) (left : List ℕ) (live : List Tick) → 1 < length live
     → leaves rules p left live 0
     ≡ get_or live 0 Silent ∷ leaves rules p (left ++ bytes_in (take 1 live)) (drop 1 live) 0
@@ -70,7 +70,7 @@ module _ {R : Type 0} (proto : LineRules R) (profile : Profile)
   Comes line t emissions = HasCome w (at_floor floor) (length line) (bursts (line ++ t ∷ [])) s
       emissions None
 
-  -- ---- nothing is to leave
+  -- ---- everything has left
 
   idle-one : (line : List Tick) (left : List ℕ) (t : Tick) (walked : Walked line left [])
       → Comes line t walked.emissions
@@ -109,7 +109,7 @@ module _ {R : Type 0} (proto : LineRules R) (profile : Profile)
       (silent (length run)) goes
       (idle-run run (line ++ t ∷ []) left goes.walked none.1)
 
-  -- ---- more than one live tick is to leave
+  -- ---- more than one live tick hasn't left yet
 
   flow-one : (line : List Tick) (left : List ℕ) (live : List Tick) (t : Tick)
       (walked : Walked line left live) → Comes line t walked.emissions → 1 < length live

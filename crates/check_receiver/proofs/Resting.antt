@@ -1,4 +1,4 @@
--- A tick that begins no burst, where no verdict is open.
+-- A tick that begins no burst comes while no verdict is open.
 use Rattle.burst_walk.proofs.Coming.{RunsOn, closed-or-runs_on, come-runs_on, come-silent}
 use Rattle.burst_walk.specs.{HasCome.HasCome, declared.box_step.BoxStep.BoxStep}
 use Rattle.check_receiver.proofs.Machine.{waiting-none, until-last, flow, still-unowed, ring-waits}
@@ -24,7 +24,7 @@ use Rattle.std.proofs.lemmas.List.{length-drop, append-nil}
 use Rattle.yasir_ticks.specs.{Bursts.Burst, Bursts.bursts, Ticks.bytes_in}
 use Rattle.yasir_ticks.specs.declared.tick.Tick.{Tick, TheVariants.Silent, TheVariants.Byte}
 
--- a byte that begins no burst comes while one runs
+-- If a byte begins no burst, one is running.
 runs-on : (rules : Rules) (lawful : IsLawful rules) (line : List Tick) (b : ℕ)
     → (cut_of rules line (Byte b) ≡ Live b) ⊎ (cut_of rules line (Byte b) ≡ Extra b)
     → RunsOn (length line) (bursts line)
@@ -46,7 +46,7 @@ begins-none rules line t b is which =
     let P : Tick → Type 0 = λ u. BeginsNone rules line u in
     subst P (sym is) (subst C is which)
 
--- the walk over the bursts waits for no note after it
+-- After the tick, the walk over the bursts waits for no note.
 pub comes : {R : Type 0} (proto : LineRules R) (profile : Profile)
     (timely : IsTimely profile proto.rules) (floor : ℕ) (s : CheckState) (line : List Tick)
     (t : Tick) (emissions : List Burst)

@@ -1,4 +1,4 @@
--- Runs of ticks without a note, joined from single ticks, and what they make of a ring.
+-- Runs of noteless ticks, joined from single ticks, and what they do to a ring.
 use Rattle.burst_walk.proofs.Runs.{run-none, run-joined, run-tick}
 use Rattle.burst_walk.specs.{Answered.answered, Runs.AnswersRun, Walk.Walker}
 use Rattle.{check_receiver.specs.Runs.IsFront, line_rules.specs.Rules.Rules}
@@ -13,7 +13,7 @@ use Rattle.yasir_ticks.proofs.SilenceLaws.{bytes_in-append}
 use Rattle.yasir_ticks.specs.{Bursts.Burst, Bursts.bursts, Ticks.silent, Ticks.bytes_in}
 use Rattle.yasir_ticks.specs.declared.tick.Tick.{Tick, TheVariants.Silent, TheVariants.Byte}
 
--- ---- what a ring makes of ticks that enter
+-- ---- what ticks that enter do to a ring
 
 pub entered-next : (Q : List Tick) (t : Tick) (E : List Tick) (k : ℕ) → 0 < length Q
     → drop k ((drop 1 Q ++ t ∷ []) ++ E) ≡ drop (suc k) (Q ++ t ∷ E)
@@ -35,7 +35,7 @@ bytes-next left (q ∷ Q) t E k some =
     ∙ ap (λ l. left ++ l) (sym (bytes_in-append (q ∷ []) (take k ((Q ++ t ∷ []) ++ E)))
     ∙ ap (λ l. bytes_in (q ∷ take k l)) (append_assoc Q (t ∷ []) E))
 
--- ---- what leaves, told by its bytes
+-- ---- what leaves, in terms of its bytes
 
 bytes-silent : (n : ℕ) → bytes_in (silent n) ≡ []
 bytes-silent zero = refl
@@ -60,14 +60,14 @@ take-less (suc k) zero x few = absurd (omega arith)
 take-less (suc k) (suc n) [] few = refl
 take-less (suc k) (suc n) (t ∷ x) few = ap (λ l. t ∷ l) (take-less k n x (omega arith))
 
--- the first of ticks and of the first of others
+-- The first ticks of a ring and of the first of others are the first of all.
 pub take-along : (k j : ℕ) (Q E : List Tick) → k ≤ length Q + j
     → take k (Q ++ take j E) ≡ take k (Q ++ E)
 take-along zero j Q E few = refl
 take-along (suc k) j [] E few = take-less (suc k) j E (omega arith)
 take-along (suc k) j (q ∷ Q) E few = ap (λ l. q ∷ l) (take-along k j Q E (omega arith))
 
--- the first of ticks that are silent
+-- If the first ticks are silent, silence leaves.
 front-silence : (Q : List Tick) (c k : ℕ) (x : List ℕ) → k ≤ c → c ≤ length Q
     → take c Q ≡ silent c → IsFront Q k x → take k Q ≡ answered k x
 front-silence Q c k [] few within is front =
@@ -90,7 +90,7 @@ byte-at [] j less is = absurd (omega arith)
 byte-at (b ∷ y) zero less is = absurd cc
 byte-at (b ∷ y) (suc j) less is = byte-at y j (omega arith) is
 
--- the first of ticks that are bytes
+-- If the first ticks are bytes, these bytes leave.
 front-bytes : (Q : List Tick) (c k : ℕ) (x y : List ℕ) → k ≤ c → c ≤ length Q
     → take c Q ≡ map (λ b. Byte b) y → IsFront Q k x → take k Q ≡ answered k x
 front-bytes Q c k x y few within is front =
@@ -112,7 +112,7 @@ front-bytes Q c k x y few within is front =
     map-long [] = refl
     map-long (b ∷ z) = ap suc (map-long z)
 
--- What leaves in the next ticks, where those are alike.
+-- If the next ticks are alike, they are what leaves.
 pub front-answered : (Q : List Tick) (c k : ℕ) (x : List ℕ) → k ≤ c → c ≤ length Q
     → (take c Q ≡ silent (length (take c Q))) ⊎ ((y : List ℕ) × (take c Q ≡ map (λ b. Byte b) y))
     → IsFront Q k x → take k Q ≡ answered k x
@@ -129,8 +129,8 @@ module _ (profile : Profile) (rules : Rules) (floor : ℕ) where
   abbrev w : Walker CheckState FullNote
   w = checker profile rules
 
-  -- After this line a run comes whose ticks have no note: the walk then stands so, and this is
-  -- answered.
+  -- Holds if the run `run`, of noteless ticks, comes after `line`, the walk has then come so far,
+  -- and the ticks `answer` leave during the run.
   pub record RunsTo (line run : List Tick) (s : CheckState) (passes : Bool) (left : List ℕ)
       (live : List Tick) (owed : ℕ) (waiting : Option Burst) (answer : List Tick) : Type 0 where
     pub walked : HasWalked profile rules floor (length (line ++ run)) (bursts (line ++ run)) s

@@ -41,7 +41,7 @@ no-ticks : (x : List Tick) → length x ≡ 0 → x ≡ []
 no-ticks [] none = refl
 no-ticks (t ∷ x) none = absurd (omega arith)
 
--- silence enters a ring, and as many of its live ticks leave
+-- If silence enters a ring, as many of its live ticks leave.
 ring-rest : (live : List Tick) (D k : ℕ) → k ≤ length live → length live ≤ D
     → drop k ((live ++ silent (D - length live)) ++ silent k)
     ≡ drop k live ++ silent (D - length (drop k live))
@@ -74,12 +74,14 @@ module _ {R M : Type 0} (proto : LineRules R) (macs : Mac M) {B D : ℕ} (old : 
   abbrev Q : List Tick
   Q = ring_ticks old.ring
 
-  -- a run that the walk has gone on by, with what of the burst is still to leave
+  -- Holds if the walk has gone on by a run, with these live ticks of the burst that haven't left
+  -- yet.
   abbrev Runs : List Tick → Bool → List ℕ → List Tick → ℕ → Option Burst → List Tick → Type 0
   Runs run passes y l owing waiting answer =
       RunsTo profile rules setup.floor line run state passes y l owing waiting answer
 
-  -- The receiver has taken a run, by what has changed in it.
+  -- If the walk has gone on by a run, and the values that have changed are those of the walk, the
+  -- receiver has taken the run.
   made : (run answer : List Tick) (mac : M) (arriving : Arriving B) (ring : DelayRing D)
       (until : ℕ) (waiting : Option Burst) (y : List ℕ) (l : List Tick)
       → CutStandsFor proto cut (line ++ run) → Runs run (passes_in old.phase) y l 0 waiting answer
@@ -181,7 +183,7 @@ module _ {R M : Type 0} (proto : LineRules R) (macs : Mac M) {B D : ℕ} (old : 
   time : IsTimely profile rules
   time = timely proto macs B setup stands.wide
 
-  -- nothing is to leave
+  -- While everything has left, silence leaves.
   pub idle-taken : (run : List Tick) → old.phase ≡ Idle → CutStandsFor proto cut (line ++ run)
       → BeginNone rules line run
       → HasTakenRun proto macs (record old { cut = cut }) last setup line run
@@ -205,7 +207,7 @@ module _ {R M : Type 0} (proto : LineRules R) (macs : Mac M) {B D : ℕ} (old : 
 
   -- ---- live ticks leave
 
-  -- where no verdict is open, the outlet knows all bytes of a refused burst while they leave
+  -- While no verdict is open, the outlet still knows all bytes of a refused burst while they leave.
   knows-still : (k : ℕ) → is_open old.phase ≡ false → k ≤ length live → passes_in old.phase ≡ false
       → 0 < length (drop k live)
       → Refuses proto old.outlet ((left ++ bytes_in (take k live)) ++ bytes_in (drop k live))
@@ -224,7 +226,7 @@ module _ {R M : Type 0} (proto : LineRules R) (macs : Mac M) {B D : ℕ} (old : 
 
   module _ (ring : DelayRing D) (c : ℕ) (x : List ℕ) (until : ℕ)
       (within : c ≤ D) (alike : AreAlike (take c (ring_ticks old.ring))) where
-    -- So many silent ticks have entered the ring, and as many of its live ticks have left.
+    -- If `k` silent ticks have entered the ring, `k` of its live ticks have left.
     entered : (run : List Tick) (k : ℕ) (arriving : Arriving B) (waiting : Option Burst)
         (passes : Bool) → k ≤ c → k ≤ length live → CutStandsFor proto cut (line ++ run)
         → IsFront (ring_ticks old.ring) k x
@@ -270,7 +272,7 @@ module _ {R M : Type 0} (proto : LineRules R) (macs : Mac M) {B D : ℕ} (old : 
         ∙ (ap (λ l. drop k (l ++ silent k)) stands.walks.ring_is ∙ ring-rest live D k less most))
         (omega arith) (omega arith) waits stands.walks.mac_stands mac_holds left_in)
 
-    -- ---- no verdict is open, and live ticks are still to leave
+    -- ---- no verdict is open, and live ticks are leaving
 
     pub flow-counted : (run : List Tick) (k : ℕ) → length run ≡ k → is_open old.phase ≡ false
         → k < old.until → k ≤ c → CutStandsFor proto cut (line ++ run)
@@ -293,7 +295,7 @@ module _ {R M : Type 0} (proto : LineRules R) (macs : Mac M) {B D : ℕ} (old : 
         (more-left old.phase old.until until (owed_by old.outlet) stands.left_in (omega arith)
         (omega arith))
 
-    -- ---- silence comes in the pause behind the live bytes of the burst that is open
+    -- ---- silence comes in the pause after the live bytes of the burst whose verdict is open
 
     pub pause-taken : (n : ℕ) → is_open old.phase ≡ true
         → head_of rules (live_bytes_so_far rules line) ≡ Good → n ≤ c → D + n ≤ old.until + 3

@@ -1,4 +1,4 @@
--- What a receiver is in after a step.
+-- The phase of a receiver after a step.
 use Rattle.check_receiver.specs.Phases.{is_idle, is_open, passes_in, LeftIn, settled}
 use Rattle.check_receiver.specs.declared.phase.Phase.{Phase}
 use Rattle.check_receiver.specs.declared.phase.Phase.TheVariants.{Idle, Open, Leaving}
@@ -14,14 +14,14 @@ use Rattle.std.proofs.lemmas.Bool.{cases_lt, cond-true, cond-false, lt-ltb, le-l
 use Rattle.yasir_ticks.specs.{Bursts.Burst, Ticks.bytes_in}
 use Rattle.yasir_ticks.specs.declared.tick.Tick.{Tick, TheVariants.Silent}
 
--- ---- what is left in a phase
+-- ---- what hasn't left yet in a phase
 
 pub idle-is : (p : Phase) → is_idle p ≡ true → p ≡ Idle
 idle-is Idle is = refl
 idle-is Open is = absurd cc
 idle-is (Leaving passed) is = absurd cc
 
--- whether it is idle is whether it is at rest
+-- A receiver is idle exactly if it is at rest.
 pub rest-told : (p : Phase) (until owed : ℕ) → LeftIn p until owed
     → is_idle p ≡ ((not (is_open p) && not (nat_lt 0 owed)) && until == 0)
 rest-told Idle until owed left =
@@ -39,20 +39,20 @@ rest-told (Leaving passed) until owed left =
     sym (ap (λ b. (true && not b) && until == 0) none ∙ more))
     (cases_lt 0 owed)
 
--- where a verdict is open, the walk says it
+-- If a verdict is open, `LeftIn` asks nothing: the walk says what hasn't left yet.
 pub open-left : (p : Phase) (until owed : ℕ) → is_open p ≡ true → LeftIn p until owed
 open-left Idle until owed opens = absurd cc
 open-left Open until owed opens = tt
 open-left (Leaving passed) until owed opens = absurd cc
 
--- while live ticks leave, and some are left behind them, it is the same phase
+-- While live ticks leave, and one more hasn't left yet, the phase stays.
 pub more-left : (p : Phase) (before until owed : ℕ) → LeftIn p before owed → 0 < before → 0 < until
     → LeftIn p until owed
 more-left Idle before until owed left some more = absurd (omega (arith, left.0, some))
 more-left Open before until owed left some more = tt
 more-left (Leaving passed) before until owed left some more = omega arith
 
--- Nothing is left to leave of an idle receiver, which a turn leaves idle.
+-- Holds if everything has left, in case the receiver is idle: a turn leaves an idle receiver so.
 abbrev pub StaysIdle : Phase → ℕ → ℕ → Type 0
 StaysIdle Idle until owed = (until ≡ 0) × (owed ≡ 0)
 StaysIdle Open until owed = Unit {0}
@@ -70,7 +70,7 @@ left-stays Idle before until owed later left less still =
 left-stays Open before until owed later left less still = tt
 left-stays (Leaving passed) before until owed later left less still = tt
 
--- ---- where nothing is left to leave, it is all the same whether the last burst has passed
+-- ---- if everything has left, it makes no difference whether the last burst has passed
 
 rests-any : (rules : Rules) (p q : Bool) (m earliest : ℕ) (left : List ℕ) (live : List Tick)
     (owed : ℕ) (emissions : List Burst) → length live ≡ 0
@@ -119,7 +119,8 @@ module _ {R : Type 0} (proto : LineRules R) (profile : Profile) (floor m : ℕ) 
   Knows p = IfNone waiting (passes_in p ≡ false → 0 < length live
       → Refuses proto outlet (left ++ bytes_in live))
 
-  -- With this left to leave, it is in this phase.
+  -- Holds if the receiver is in the phase `p`, with these live ticks and bytes of a fill that
+  -- haven't left yet.
   pub record IsIn (p : Phase) : Type 0 where
     pub walked : Walked p
     pub knows : Knows p

@@ -1,4 +1,4 @@
--- A silent tick.
+-- A silent tick comes.
 use Rattle.burst_walk.specs.declared.box_step.BoxStep.{BoxStep}
 use Rattle.check_receiver.proofs.{Machine.ring-waits, Machine.assembled, OpenBursts.open-walks}
 use Rattle.check_receiver.{proofs.OpenBursts.moved, specs.Between.IsBetween, specs.Stands.MacHolds}
@@ -26,7 +26,7 @@ pub use Rattle.check_receiver.proofs.OpenBursts.{timely}
 use Rattle.std.proofs.{Common.◌==◌, Common.take, lemmas.Bool.ne_eqb}
 use Rattle.yasir_ticks.specs.Ticks.{bytes_in}
 
--- where more than one live tick is to leave, this step's isn't the last one
+-- If more than one live tick hasn't left yet, the one that leaves in this step isn't the last.
 pub not-last : {R M : Type 0} (proto : LineRules R) (macs : Mac M) {B D : ℕ} (old : Checker R M B D)
     (last : ℕ) (setup : Setup) (line : List Tick) (t : Tick) (cut : Cut)
     (between : IsBetween proto macs old last setup line t cut) → 1 < length between.walks.live
@@ -77,19 +77,19 @@ module _ {R M : Type 0} (proto : LineRules R) (macs : Mac M) {B D : ℕ} (old : 
     (last : ℕ) (setup : Setup) (line : List Tick) (cut : Cut)
     (between : IsBetween proto macs old last setup line Silent cut) (d : Burst)
     (is : between.walks.waiting ≡ Some d) where
-  -- how many live ticks are still to leave of the burst whose verdict is open
+  -- how many live ticks haven't left yet of the burst whose verdict is open
   pub waits-long : length between.walks.live + length line ≡ live_end proto.rules d + D
   waits-long =
       let sum = long-of (open-walks between.walks between.wide d is) in
       let delay_is = between.delay_is in
       omega arith
 
-  -- it is the last one
+  -- The burst whose verdict is open is the last one.
   pub waits-last : last_burst (line ++ Silent ∷ []) ≡ Some d
   waits-last =
       last_burst-silent line ∙ last-of (open-walks between.walks between.wide d is)
 
-  -- its header is whole behind two ticks
+  -- When two ticks have come after its live bytes, its header is whole.
   pub waits-header : live_end proto.rules d + 2 ≤ length line
       → proto.rules.header_len ≤ length (live_bytes proto.rules d)
   waits-header behind =
@@ -109,7 +109,7 @@ module _ {R M : Type 0} (proto : LineRules R) (macs : Mac M) {B D : ℕ} (old : 
   abbrev at : ℕ
   at = length line
 
-  -- behind the pause silence refuses the burst
+  -- Silence after the pause refuses the burst.
   pub refuse-silent : (d : Burst) → between.walks.waiting ≡ Some d
       → live_end proto.rules d + 3 ≤ at → HasTaken proto macs new last setup line Silent step
   refuse-silent d is behind =

@@ -1,4 +1,4 @@
--- The first byte of a burst.
+-- The first byte of a burst comes.
 use Rattle.burst_walk.proofs.Coming.{closed-or-runs_on, come-alone, waiting-may}
 use Rattle.burst_walk.specs.{HasCome.HasCome, declared.box_step.BoxStep.BoxStep}
 use Rattle.check_receiver.proofs.{Beginnings.ring-still, Dropping.drops}
@@ -86,7 +86,7 @@ module _ {R M : Type 0} (proto : LineRules R) (macs : Mac M) {B D : ℕ} (old : 
   time : IsTimely profile rules
   time = timely proto macs B setup between.wide
 
-  -- so no verdict is open
+  -- No burst is running, so no verdict is open.
   rests-still : (o : Option Burst) → Walked o → o ≡ None
   rests-still None walked = refl
   rests-still (Some d) walked =
@@ -122,7 +122,7 @@ module _ {R M : Type 0} (proto : LineRules R) (macs : Mac M) {B D : ℕ} (old : 
   pub start-is : start_so_far (line ++ Byte b ∷ []) ≡ m
   start-is = ap start_in last-is
 
-  -- ---- others still leave
+  -- ---- others are still leaving
 
   module _ (new : Checker R M B D) (step : BoxStep CheckNote)
       (turned : Turned proto old new Silent step.tick)
@@ -158,7 +158,7 @@ module _ {R M : Type 0} (proto : LineRules R) (macs : Mac M) {B D : ℕ} (old : 
         between.left_in fewer (λ gone unowed. still-unowed proto macs old new Silent step.tick
         turned left live between.walks.outlet_is between.walks.ring_is (omega arith) unowed))
 
-  -- ---- nothing is left to leave
+  -- ---- everything has left
 
   bytes : live_bytes rules e ≡ b ∷ []
   bytes = start-bytes rules proto.lawful line b
@@ -172,7 +172,7 @@ module _ {R M : Type 0} (proto : LineRules R) (macs : Mac M) {B D : ℕ} (old : 
   module _ (mac : M) (arriving : Arriving B) (outlet : Outlet R)
       (unowed : owed_by outlet ≡ 0)
       (free : old.earliest_start ≤ m) (new : Checker R M B D) (step : BoxStep CheckNote) where
-    -- another burst begins
+    -- the receiver, which opens the verdict on the burst
     abbrev base : Checker R M B D
     base = record old {
       phase = Open;
@@ -184,7 +184,7 @@ module _ {R M : Type 0} (proto : LineRules R) (macs : Mac M) {B D : ℕ} (old : 
     begun : OutletStandsFor proto outlet []
     begun = stands-unowed proto outlet [] unowed
 
-    -- its one byte is a header that isn't good
+    -- The burst is dropped if its one byte is a header that isn't good.
     pub start-bad : TurnedClear proto base new step.tick
         → step.note ≡ Some (Dropped (start_so_far (line ++ Byte b ∷ [])) NoHead)
         → head_of rules (live_bytes_so_far rules (line ++ Byte b ∷ [])) ≡ Bad
@@ -204,7 +204,7 @@ module _ {R M : Type 0} (proto : LineRules R) (macs : Mac M) {B D : ℕ} (old : 
         (head-is-bad rules (live_bytes rules e) is))
         now noted
 
-    -- or its verdict is open
+    -- Otherwise its verdict is open.
     module _ (n : ℕ) (turned : Turned proto (with_until n base) new (Byte b) step.tick) where
       empty : ring_ticks old.ring ≡ silent D
       empty =
@@ -216,7 +216,7 @@ module _ {R M : Type 0} (proto : LineRules R) (macs : Mac M) {B D : ℕ} (old : 
           between.walks.ring_is
           ∙ (ap (λ l. l ++ silent (D - length l)) none ∙ ap (λ k. silent k) whole)
 
-      -- silence leaves
+      -- In this step, silence leaves.
       quiet : (step.tick ≡ Silent) × OutletStandsFor proto new.outlet [] × (owed_by new.outlet ≡ 0)
       quiet =
           let T : Tick → Type 0 = λ u. HasTurned proto outlet new.outlet (n == 0) false [] step.tick
@@ -292,7 +292,7 @@ module _ {R M : Type 0} (proto : LineRules R) (macs : Mac M) {B D : ℕ} (old : 
           (rules.label ∷ setup.direction ∷ live_bytes rules e, mac_holds.mac_is) mac_holds
           tt tt
 
-  -- its MAC and its trailer
+  -- The MAC has the text of this one byte, and no byte of a trailer has come.
   pub start-mac_holds : (mac : M) (arriving : Arriving B) → bytes_come arriving ≡ []
       → macs.stands mac setup.key (rules.label ∷ setup.direction ∷ b ∷ [])
       → MacHolds proto macs setup mac arriving e

@@ -1,4 +1,4 @@
--- A byte of a trailer is kept.
+-- A byte of a trailer comes, and is kept.
 use Rattle.burst_walk.specs.{Causal.going_on, declared.box_step.BoxStep.BoxStep}
 use Rattle.check_receiver.proofs.Hearing.{Hears, hears-between, next-last, until-long, until-some}
 use Rattle.check_receiver.proofs.Hearing.{mac_holds, next-mac_holds, trailer-long, trailer-taken}
@@ -24,7 +24,7 @@ module _ {R M : Type 0} (proto : LineRules R) (macs : Mac M) {B D : ℕ} (old : 
   abbrev rules : Rules
   rules = proto.rules
 
-  -- before the byte is kept, and after
+  -- what is known before the byte is kept
   abbrev hears : Hears proto macs old last setup line t b
   hears = hears-between proto macs old last setup line t b between waits old.arriving old.mac
       between.walks.mac_stands
@@ -44,7 +44,7 @@ module _ {R M : Type 0} (proto : LineRules R) (macs : Mac M) {B D : ℕ} (old : 
   behind-pause : live_end rules d + pause_len ≤ length line
   behind-pause = let all = long in omega arith
 
-  -- there is room for it
+  -- There is room for the byte.
   few-come : length (bytes_come old.arriving) < 20
   few-come =
       let before = mac_holds proto macs old last setup line t b hears behind-pause in
@@ -63,7 +63,7 @@ module _ {R M : Type 0} (proto : LineRules R) (macs : Mac M) {B D : ℕ} (old : 
   hears-after = hears-between proto macs old last setup line t b between waits arriving old.mac
       between.walks.mac_stands
 
-  -- more bytes of the trailer are to come
+  -- If more bytes of the trailer must come, the receiver has taken this one.
   pub more-taken : 1 < old.until → (new : Checker R M B D) (step : BoxStep CheckNote)
       → Turned proto after new Silent step.tick → step.note ≡ None
       → HasTaken proto macs new last setup line t step
@@ -72,7 +72,7 @@ module _ {R M : Type 0} (proto : LineRules R) (macs : Mac M) {B D : ℕ} (old : 
       trailer-taken proto macs after last setup line t b hears-after new step turned noted waits
       behind-pause (omega arith) mac_is
 
-  -- it was the last one
+  -- If the byte was the last one of the trailer, the trailer is whole.
   pub whole-taken : old.until ≤ 1 → IsWhole proto macs after last setup line t
   whole-taken few =
       let some = until-some proto macs old last setup line t b hears in

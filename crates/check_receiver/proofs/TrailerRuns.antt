@@ -19,7 +19,7 @@ module _ {R : Type 0} (proto : LineRules R) (profile : Profile) (floor : ℕ) (s
   abbrev rules : Rules
   rules = proto.rules
 
-  -- The trailer has gone on by these bytes.
+  -- Holds if the bytes `x` have come of the trailer, with what has left meanwhile.
   pub record TrailerRun (line : List Tick) (left : List ℕ) (live : List Tick) (d : Burst)
       (x : List ℕ) : Type 0 where
     pub burst : Burst

@@ -1,4 +1,4 @@
--- What has come of a whole trailer gives the verdict.
+-- The bytes of a whole trailer that have come give the verdict.
 use Rattle.{byteorder.specs.Endian.big_number, check_receiver.specs.Arrivals.bytes_come}
 use Rattle.check_receiver.specs.{Stands.MacHolds, declared.arriving.Arriving.Arriving}
 use Rattle.frame_ending.specs.LiveBytes.{live_bytes}
@@ -17,14 +17,14 @@ use Rattle.std.proofs.lemmas.Bool.{cond-true, cond-false}
 use Rattle.std.specs.Int.{w64, to_be_bytes}
 use Rattle.yasir_ticks.specs.{Bursts.Burst, declared.tick.Tick.Tick}
 
--- the live bytes of the last burst are a frame
+-- If the test of the last burst's live bytes says that they are a frame, they are.
 pub last-frame : (rules : Rules) (line : List Tick) (d : Burst) (good : Bool)
     → good ≡ is_frame_of rules (live_bytes_so_far rules line) → last_burst line ≡ Some d
     → good ≡ true → rules.is_frame (live_bytes rules d) ≡ true
 last-frame rules line d good is last whole =
     sym (ap (λ o. rules.is_frame (live_bytes_in rules o)) last) ∙ (sym is ∙ whole)
 
--- Above this floor, as it was told, this is read of the bytes of the word.
+-- `o` is the full number that was read from the bytes of the word, above the floor `told`.
 module _ {R M : Type 0} (proto : LineRules R) (macs : Mac M) {B : ℕ} (setup : Setup) {mac : M}
     {arriving : Arriving B} (d : Burst) (mac_is : MacHolds proto macs setup mac arriving d)
     (long : length (trailer_so_far proto.rules d) ≡ B + macs.TAG) (floor told : ℕ)
@@ -46,7 +46,7 @@ module _ {R M : Type 0} (proto : LineRules R) (macs : Mac M) {B : ℕ} (setup : 
   whole : B ≤ length (bytes_come arriving)
   whole = let size = ap length mac_is.come in omega arith
 
-  -- the number that is read is that of the trailer's bytes
+  -- The number that was read is that of the trailer's bytes.
   numbered : o ≡ number_of profile floor bytes
   numbered = read whole
       ∙ (ap (λ y. full_of LIMIT (256 ^ B) told (big_number B y)) mac_is.come
@@ -57,13 +57,13 @@ module _ {R M : Type 0} (proto : LineRules R) (macs : Mac M) {B : ℕ} (setup : 
   framed good = cond-true (rules.is_frame frame) _ _ good
       ∙ ap (λ n. verdict_by_number profile frame bytes n) (sym numbered)
 
-  -- without a number
+  -- If there is no number, the burst is refused for its number.
   pub wrong-number : rules.is_frame frame ≡ true → o ≡ None
       → refused Number ≡ whole_verdict profile rules floor frame bytes
   wrong-number good is =
       sym (framed good ∙ ap (λ n. verdict_by_number profile frame bytes n) is)
 
-  -- its number lies above the floor, and within the limit
+  -- If there is a number, it is above the floor and within the limit.
   pub number-in : (n : ℕ) → o ≡ Some n → (floor < n) × (n ≤ LIMIT)
   number-in n is =
       let lies = number-within profile floor bytes n (sym numbered ∙ is) in

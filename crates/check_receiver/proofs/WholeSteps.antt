@@ -1,5 +1,5 @@
--- A whole step of a receiver: the value that cuts the link takes the tick, one step fewer is left
--- until the last live byte leaves, and then all else takes it.
+-- A whole step of a receiver: first the value that cuts the link takes the tick, and one step less
+-- is left until the last live byte leaves; then everything else takes the tick.
 use Rattle.burst_walk.specs.declared.box_step.BoxStep.{BoxStep}
 use Rattle.check_receiver.specs.{Between.IsBetween, Between.IsSilence, Checkings.PassesWith}
 use Rattle.check_receiver.specs.{Stands.StandsAt, Stands.HasTaken, declared.checker.Checker.Checker}
@@ -18,7 +18,7 @@ use Rattle.std.proofs.Common.{◌≡◌, ◌∙◌, ◌⊎◌, ⊎_elim, ℕ, �
 use Rattle.std.proofs.Common.{Result, Ok, Err, IfOk, OnErr}
 use Rattle.yasir_ticks.specs.declared.tick.Tick.{Tick, TheVariants.Silent, TheVariants.Byte}
 
--- ---- what is told of silence
+-- ---- the cut of a silent tick
 
 pub silence-is : (cut : Cut) → ((n : ℕ) × (cut ≡ Pause n)) ⊎ ((cut ≡ Closed) ⊎ (cut ≡ Quiet))
     → IsSilence cut
@@ -70,7 +70,8 @@ module _ {R M : Type 0} (proto : LineRules R) (macs : Mac M) {B D : ℕ} (old : 
     walks = stands.walks;
   }
 
-  -- what is told of the tick, and then all else has taken it
+  -- If the tick is cut as `what`, and everything else takes a tick that is cut so, the receiver
+  -- takes the tick.
   pub taken-then : (what : Cut) → told ≡ what → (new : Checker R M B D) (number : ℕ)
       (step : BoxStep CheckNote)
       → ((setup : Setup) (line : List Tick) → Between what setup line t
@@ -80,7 +81,8 @@ module _ {R M : Type 0} (proto : LineRules R) (macs : Mac M) {B D : ℕ} (old : 
   taken-then what is new number step rest setup line stands =
       rest setup line (between what is setup line stands)
 
-  -- what is told of silence is told of a silent tick
+  -- If the tick is cut as silence, and the receiver takes a silent tick that is cut so, it takes
+  -- the tick.
   pub taken-silence : IsSilence told → (new : Checker R M B D) (number : ℕ)
       (step : BoxStep CheckNote)
       → ((setup : Setup) (line : List Tick) → Between told setup line Silent

@@ -1,4 +1,4 @@
--- The number of a word doesn't depend on more than its remainder.
+-- The full number of a word depends only on the remainder of the word.
 use Rattle.sequence_journal.specs.Numbers.{least_with, full_of}
 use Rattle.std.proofs.Common.{◌≡◌, ◌∙◌, ℕ, ◌+◌, ◌-◌, ◌%◌, ◌<◌, nat_le, ap, arith, Some, None}
 use Rattle.std.proofs.{Common.if◌then◌else◌, Math.Nat.mod-add-mod, Math.Nat.mod-lt}

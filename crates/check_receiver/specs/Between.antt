@@ -28,6 +28,9 @@ use Rattle.check_receiver.specs.declared.checker.Checker.{Checker}
 
 module _ {R M : Type 0} (proto : LineRules R) (macs : Mac M) {B D : ℕ} (value : Checker R M B D)
     (last : ℕ) (setup : Setup) (line : List Tick) where
+  -- Holds if `value` is a receiver in the middle of the step for the tick `t`, after `line`: the
+  -- value that cuts the link has taken `t` and cuts it as `cut`, one step less is left until the
+  -- last live byte leaves, and everything else is as it was after `line`.
   pub record IsBetween (t : Tick) (cut : Cut) : Type 0 where
     pub word_is : IsWordLen B
     pub wide : 2 ≤ B

@@ -12,17 +12,19 @@ use Rattle.frame_ending.specs.SoFar.{live_bytes_so_far, is_over_so_far, quiet_so
 use Rattle.check_receiver.specs.Phases.{is_open}
 use Rattle.check_receiver.specs.declared.checker.Checker.{Checker}
 
--- whether a header isn't whole yet, whether it is good, and whether it isn't bad
+-- whether a header isn't whole yet
 abbrev pub is_short : Head → Bool
 is_short Short = true
 is_short Good = false
 is_short Bad = false
 
+-- whether a header is whole and good
 abbrev pub is_good : Head → Bool
 is_good Good = true
 is_good Short = false
 is_good Bad = false
 
+-- whether a header isn't bad: it is good, or isn't whole yet
 abbrev pub is_no_bad : Head → Bool
 is_no_bad Bad = false
 is_no_bad Short = true
@@ -69,6 +71,7 @@ module _ {R M : Type 0} (proto : LineRules R) {B D : ℕ} (value : Checker R M B
       else if is_over_so_far proto.rules line then extra_has_none
       else is_good head
 
+  -- whether the receiver is sure that the next tick is noteless
   abbrev pub has_none : Tick → Bool
   has_none Silent = silence_has_none
   has_none (Byte b) =

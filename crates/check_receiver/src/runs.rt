@@ -18,8 +18,9 @@ use delay_ring::DelayRing;
 use frame_ending::BurstCut;
 use line_rules::{Head, LineRules};
 
-// Takes these bytes, one in each tick, as long as they begin no burst and are alike: all live, or
-// none. Returns how many it has taken.
+/// Takes these bytes, one in each tick, as long as they begin no burst and are alike: all live, or
+/// none. Returns how many it has taken. The ticks taken before and these bytes may be at most
+/// `MAX_TICKS` together.
 #[inline]
 pub fn cut_some<R: LineRules>(cut: &mut BurstCut<R>, bytes: &[u8]) -> usize
     requires { ticks_cut cut.old + length bytes.now ≤ MAX_TICKS }
@@ -53,7 +54,7 @@ fn has_good_head<R: LineRules>(rules: &R) -> bool
     }
 }
 
-// Whether these bytes begin with a whole and good header.
+/// Whether these bytes begin with a whole and good header. If the protocol has no headers, they do.
 #[inline]
 pub fn begin_well<R: LineRules>(bytes: &[u8]) -> bool
     ensures { result ≡ true → (n : ℕ) × (n ≤ length bytes.now)
@@ -71,8 +72,8 @@ pub fn begin_well<R: LineRules>(bytes: &[u8]) -> bool
     }
 }
 
-// Returns the bytes at the front that begin a burst without a note: all of them if they begin with
-// a good header, and otherwise those in which the header isn't whole yet.
+/// Returns the bytes at the front with which a burst can begin without a note: all of them if they
+/// begin with a good header, and otherwise those in which the header isn't whole yet.
 #[inline]
 pub fn noteless_front<R: LineRules>(bytes: &[u8]) -> &[u8]
     ensures within { length result.now ≤ length bytes.now }
@@ -104,8 +105,8 @@ fn front_of_header<R: LineRules>(bytes: &[u8]) -> &[u8]
     }
 }
 
-// Puts into `sent` the bytes that leave in the next `count` ticks, none of which is a burst's last
-// one. The ticks must be alike; if they are silent, there are no such bytes.
+/// Puts into `sent`, which must be empty, the bytes that leave in the next `count` ticks, none of
+/// which is a burst's last one. The ticks must be alike; if they are silent, `sent` stays empty.
 #[inline]
 pub fn lend<const D: usize>(ring: &DelayRing<D>, count: usize, sent: &mut RunBytes)
     requires within { count ≤ D }
@@ -123,8 +124,8 @@ pub fn lend<const D: usize>(ring: &DelayRing<D>, count: usize, sent: &mut RunByt
 // The greatest number of bytes of a run.
 const LONGEST: usize = 64;
 
-// Returns how many of these bytes can come while all ticks that leave are alike, all bytes or all
-// silence. First the ticks of the ring leave, and then the bytes themselves.
+/// Returns how many of these bytes, up to 64, can come while all ticks that leave are alike, all
+/// bytes or all silence. First the ticks of the ring leave, and then the bytes themselves.
 #[inline]
 pub fn alike_along<const D: usize>(ring: &DelayRing<D>, bytes: &[u8]) -> usize
     ensures within { result ≤ length bytes.now }
@@ -142,9 +143,9 @@ pub fn alike_along<const D: usize>(ring: &DelayRing<D>, bytes: &[u8]) -> usize
     most
 }
 
-// Puts into `sent` the bytes that leave while the first `count` of these bytes come, none of which
-// is a burst's last one. All ticks that leave must be alike. If they are bytes, first those of the
-// ring leave, and after a whole ring the bytes themselves.
+/// Puts into `sent`, which must be empty, the bytes that leave while the first `count` of these
+/// bytes come, none of which is a burst's last one. All ticks that leave must be alike. If they are
+/// bytes, first those of the ring leave, and after a whole ring the bytes themselves.
 #[inline]
 pub fn lend_along<const D: usize>(
     ring: &DelayRing<D>,

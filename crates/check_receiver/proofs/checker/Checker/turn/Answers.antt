@@ -3,7 +3,7 @@ use Rattle.check_receiver.specs.declared.{checker.Checker.Checker, phase.Phase.P
 use Rattle.std.proofs.Common.{◌≡◌, ◌∙◌, ℕ, ap}
 use Rattle.check_receiver.proofs.checker.Checker.turn.Goals as goal
 
--- the phase is set behind all else
+-- The phase can be set after everything else.
 set-phase : {R M : Type 0} {B D : ℕ} (old left : Checker R M B D) (p : Phase)
     → left ≡ record old { ring = left.ring; outlet = left.outlet }
     → record left { phase = p } ≡ record old { ring = left.ring; outlet = left.outlet; phase = p }
