@@ -1,4 +1,4 @@
--- Whether ticks are no frame, whatever their bytes are, as a byte follows them.
+-- When ticks can be no frame, whatever their bytes are, and how a byte that follows changes that.
 use Rattle.device_model.specs.{RtuFamily.is_broken, RtuReads.begins_silent, RtuReads.has_silence}
 use Rattle.frame_ending.proofs.Pauses.{contiguous-ends}
 use Rattle.std.proofs.Common.{◌≡◌, ◌∙◌, ℕ, zero, suc, ◌+◌, ◌<◌, ◌≤◌, nat_lt, nat_le, Bool, true}
@@ -9,9 +9,9 @@ use Rattle.yasir_ticks.{proofs.SilenceLaws.bytes_in-append, specs.BurstsOf.IsCon
 use Rattle.yasir_ticks.specs.Ticks.{silent, bytes_in}
 use Rattle.yasir_ticks.specs.declared.tick.Tick.{Tick, TheVariants.Silent, TheVariants.Byte}
 
--- ---- silent ticks that are together
+-- ---- silent ticks in a row
 
--- a byte ends them
+-- Silent ticks in a row end at a byte, whatever follows it.
 begins-seam : (k : ℕ) (w : List Tick) (a : ℕ) (z : List Tick)
     → begins_silent k (w ++ Byte a ∷ z) ≡ begins_silent k (w ++ Byte a ∷ [])
 begins-seam zero w a z = refl
@@ -23,7 +23,7 @@ or-assoc : (x y z : Bool) → (x || (y || z)) ≡ ((x || y) || z)
 or-assoc true y z = refl
 or-assoc false y z = refl
 
--- they come before the byte or after it
+-- Silent ticks in a row come before the byte or after it.
 silence-seam : (g : ℕ) (w : List Tick) (a : ℕ) (z : List Tick)
     → has_silence (suc g) (w ++ Byte a ∷ z)
     ≡ (has_silence (suc g) (w ++ Byte a ∷ []) || has_silence (suc g) z)
@@ -104,13 +104,13 @@ over-many n =
     lt-ltb 256 (n + 1) lt ∙ sym (le-leb 256 n full))
     (cases_lt n 256)
 
--- a single byte isn't broken
+-- A single byte isn't broken.
 pub alone-whole : (gap b : ℕ) → is_broken gap (Byte b ∷ []) ≡ false
 unfolding has_silence
 alone-whole gap b = refl
 
--- The ticks with this byte are broken where they were before, or too much silence is between,
--- or there was no room for the byte.
+-- With one more byte, ticks are broken if they were before, if too much silence comes before the
+-- byte, or if there was no room for it.
 grown-broken : (gap c : ℕ) (body : List Tick) (q b : ℕ) → IsContiguous c body
     → is_broken gap (body ++ (silent q ++ Byte b ∷ []))
     ≡ ((has_silence (suc gap) body || nat_lt gap q) || nat_le 256 (length (bytes_in body)))
@@ -131,7 +131,7 @@ both-whole : (s m q k : Bool) → (s || m) ≡ false → ((s || q) || k) ≡ (q 
 both-whole true m q k is = absurd (cc)
 both-whole false m q k is = refl
 
--- what is broken stays so
+-- Ticks that are broken stay so.
 broken-stays : (gap c : ℕ) (body : List Tick) (q b : ℕ) → IsContiguous c body
     → is_broken gap body ≡ true → is_broken gap (body ++ (silent q ++ Byte b ∷ [])) ≡ true
 broken-stays gap c body q b contiguous broken =
@@ -149,7 +149,8 @@ whole-grown gap c body q b contiguous whole =
     grown-broken gap c body q b contiguous
     ∙ both-whole (has_silence (suc gap) body) (nat_lt 256 n) (nat_lt gap q) (nat_le 256 n) whole
 
--- so a device knows it, which knows of ticks that aren't broken whether there is room
+-- A device can tell whether the ticks are broken with one more byte, as it knows whether there is
+-- room as long as they aren't broken.
 pub grown-is : (gap c : ℕ) (body : List Tick) (q b : ℕ) (broken full : Bool)
     → IsContiguous c body → broken ≡ is_broken gap body
     → (broken ≡ false → full ≡ nat_le 256 (length (bytes_in body)))

@@ -1,4 +1,4 @@
--- What a transmitter forwards as a frame is what a device reads.
+-- A device reads the frames that a transmitter forwards, and no others.
 use Rattle.device_model.{proofs.ReadLaws.is_frame-long, specs.Forwarded.is_forwarded}
 use Rattle.device_model.specs.Forwarded.{frame_forwarded, is_ended_frame, frames_forwarded}
 use Rattle.device_model.specs.{Forwarded.rtu_forwarded, Frames.FrameRead, RtuReads.has_silence}
@@ -32,9 +32,9 @@ burst-contiguous line d contains =
     All-contains (λ (e : Burst). IsContiguous 4 e.body) (bursts line) d
     (contiguous-all 0 line (bursts line) (bursts_from-are 4 0 line)) contains
 
--- ---- two silent ticks together
+-- ---- two silent ticks in a row
 
--- both definitions of two silent ticks that are together say the same
+-- Both definitions of two silent ticks in a row say the same.
 pauses : (x : List Tick) → has_silence 2 x ≡ has_pause x
 unfolding has_silence has_pause
 pauses [] = refl
@@ -43,7 +43,7 @@ pauses (Silent ∷ []) = refl
 pauses (Silent ∷ Silent ∷ x) = refl
 pauses (Silent ∷ Byte b ∷ x) = pauses x
 
--- a byte comes after them
+-- If there are two silent ticks in a row, at least one byte comes after them.
 before-fewer : (w : List Tick) (a : ℕ) → has_pause (ended w a) ≡ true
     → length (bytes_in (before_pause (ended w a))) < length (bytes_in (ended w a))
 unfolding has_pause before_pause
@@ -79,7 +79,7 @@ module _ (d : Burst) (contiguous : IsContiguous 4 d.body) where
       subst P (sym last.2) (λ calm. ap bytes_in (before_pause-whole last.0 last.1 calm)) in
       whole none
 
-  -- with no pause the live bytes are the first 256
+  -- If there is no pause, the live bytes are the first 256 bytes.
   live-first : has_pause d.body ≡ false → live_bytes rtu_rules d ≡ take 256 (bytes_in d.body)
   live-first none = ap (λ x. take 256 x) (spelled-all none)
 
@@ -90,7 +90,7 @@ module _ (d : Burst) (contiguous : IsContiguous 4 d.body) where
   abbrev forwards : Bool
   forwards = is_forwarded rtu_rules d
 
-  -- fewer bytes are live than there are
+  -- If fewer bytes are live than there are, the burst isn't forwarded as a frame.
   extra-fewer : length (live_bytes rtu_rules d) < length (bytes_in d.body) → forwards ≡ false
   extra-fewer fewer =
       ap (λ e. not e && is_frame (live_bytes rtu_rules d))
@@ -122,7 +122,7 @@ module _ (d : Burst) (contiguous : IsContiguous 4 d.body) where
       (le-ltb (length (live_bytes rtu_rules d)) (length (bytes_in d.body)) (omega arith))
       ∙ (ap is_frame (live-all none few) ∙ sym (calm-body none))
 
-  -- the transmitter's test of a burst is the device's
+  -- The transmitter's test of a burst says the same as the device's.
   pub forwarded-same : forwards ≡ is_frame_body 2 d.body
   forwarded-same =
       ⊎_elim
@@ -133,7 +133,7 @@ module _ (d : Burst) (contiguous : IsContiguous 4 d.body) where
       (cases_lt 256 (length (bytes_in d.body))))
       (cases_Bool (has_pause d.body))
 
-  -- and then all bytes are live
+  -- If a burst is a frame for the device, all its bytes are live.
   pub forwarded-whole : is_frame_body 2 d.body ≡ true → live_bytes rtu_rules d ≡ bytes_in d.body
   forwarded-whole framed =
       ⊎_elim
@@ -144,7 +144,8 @@ module _ (d : Burst) (contiguous : IsContiguous 4 d.body) where
 
 -- ---- a line
 
--- a burst that both tests or neither take, in front of others of which the same is taken
+-- If both tests take a burst, or neither does, and the same is taken of the bursts after it, then
+-- the same is taken of all.
 cons-same : (d : Burst) (xs ys : List Burst) (read tell : Burst → FrameRead)
     → map read xs ≡ map tell ys → (ended one other : Bool) → other ≡ one
     → (one ≡ true → read d ≡ tell d)
@@ -168,7 +169,7 @@ read-same m n line (d ∷ ds) are =
     (λ framed. ap (λ f. let r : FrameRead = record { start = d.start; frame = f } in r)
     (sym (forwarded-whole d are.4 framed)))
 
--- the frames that a device reads of a line are those that are forwarded
+-- The frames that a device reads from a line are those that are forwarded.
 pub forwarded-read : (line : List Tick) → rtu_reads line ≡ rtu_forwarded line
 forwarded-read line =
     read-same (length line) 0 line (bursts line) (bursts_from-are 4 0 line)

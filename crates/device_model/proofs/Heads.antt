@@ -1,4 +1,4 @@
--- What the first bytes of a list say, case by case, and as the list goes on.
+-- What the first bytes of a list say as a header, case by case, and as the list goes on.
 use Rattle.std.proofs.Common.{◌≡◌, ◌∙◌, ℕ, ◌<◌, ◌≤◌, Bool, true, false, cond, List}
 use Rattle.std.proofs.Common.{◌++◌, length, take, sym, ap, arith, ⊎_elim, length-append}
 use Rattle.std.proofs.lemmas.Bool.{cond-true, cond-false, lt-ltb, le-ltb, cases_lt, cases_Bool}
@@ -21,7 +21,7 @@ module _ (rules : Rules) (x : List ℕ) where
   head-bad long bad = cond-false _ _ _ (le-ltb (length x) rules.header_len long)
       ∙ cond-false good_header Good Bad bad
 
-  -- a good header is whole
+  -- A good header is whole.
   pub good-long : head_of rules x ≡ Good → rules.header_len ≤ length x
   good-long good =
       ⊎_elim
@@ -53,7 +53,7 @@ module _ (rules : Rules) (x : List ℕ) where
       (cases_Bool good_header))
       (cases_lt (length x) rules.header_len)
 
--- a whole header stays the same
+-- A whole header stays the same as the list goes on.
 pub header-more : (rules : Rules) (x z : List ℕ) → rules.header_len ≤ length x
     → take rules.header_len (x ++ z) ≡ take rules.header_len x
 header-more rules x z long = take-append-le rules.header_len x z long

@@ -1,4 +1,4 @@
--- The hunt by cases, and what is undecided.
+-- The hunt by cases, and bytes that are undecided.
 use Rattle.device_model.proofs.Heads.{head-short, head-good, head-bad, good-long, good-header}
 use Rattle.device_model.proofs.{Heads.short-short, Heads.head-more, Hunts.timed_bytes-length}
 use Rattle.device_model.proofs.Hunts.{begins-more, begins-front, hunt-none, hunt-no_start, taken-is}
@@ -24,7 +24,7 @@ module _ (first second : ℕ) (rules : Rules) (headed : IsHeaded rules)
 
   -- ---- headers
 
-  -- where a good header stands a header begins
+  -- A good header begins as each header does.
   pub good-starts : (x : List ℕ) → rules.is_good_header (header_in rules x) ≡ true
       → begins first second x ≡ true
   good-starts x good =
@@ -32,7 +32,8 @@ module _ (first second : ℕ) (rules : Rules) (headed : IsHeaded rules)
       ∙ begins-more first second (header_in rules x) (drop rules.header_len x)
       (hunted.starts (header_in rules x) good)
 
-  -- it says the room, and the size of what begins with it
+  -- A good header says how many bytes there is room for, and the size of a frame that begins with
+  -- it.
   pub good-room : (x : List ℕ) → rules.header_len ≤ length x
       → rules.is_good_header (header_in rules x) ≡ true
       → rules.room x ≡ rules.size (header_in rules x)
@@ -49,7 +50,7 @@ module _ (first second : ℕ) (rules : Rules) (headed : IsHeaded rules)
       ∙ hunted.says_size (header_in rules x) (drop rules.header_len x)
       (length-take-le rules.header_len x long) good
 
-  -- at least a header is taken, and there is room for what is taken
+  -- At least a header is taken, and there is room for what is taken.
   pub taken-header : (head : Head) (x : List ℕ) → head_of rules x ≡ head
       → rules.header_len ≤ taken_by rules head x
   taken-header Good x is =
@@ -79,7 +80,7 @@ module _ (first second : ℕ) (rules : Rules) (headed : IsHeaded rules)
   dropped-one [] none = refl
   dropped-one (t ∷ x) none = hunt-no_start first second rules t x none
 
-  -- bytes that are taken are dropped
+  -- Bytes that are taken together are dropped together.
   taken-dropped : (n : ℕ) (t : Timed) (x : List Timed) → 0 < n → n ≤ length (t ∷ x)
       → bytes_taken first second rules (timed_bytes (t ∷ x)) ≡ n
       → hunts (t ∷ x) ≡ found first second rules t.tick (timed_bytes (t ∷ x))
@@ -103,7 +104,7 @@ module _ (first second : ℕ) (rules : Rules) (headed : IsHeaded rules)
       ∙ ap (λ f. f ++ hunts (drop rules.header_len (t ∷ x)))
       (found-is first second rules Bad t.tick bytes starts is)
 
-  -- the frame of bytes that are all there
+  -- If all bytes of a frame have come, it is the frame of these bytes.
   whole-read : (n : ℕ) (t : Timed) (x : List Timed) → 0 < n → n ≤ length (t ∷ x)
       → frame_of rules t.tick n (timed_bytes (t ∷ x)) ≡ whole_frame rules (take n (t ∷ x))
   whole-read zero t x some fits = absurd (omega arith)
@@ -184,7 +185,7 @@ module _ (first second : ℕ) (rules : Rules) (headed : IsHeaded rules)
       hunt-few first second rules x (ap (begins first second) is ∙ starts)
       (let taken = ap (bytes_taken first second rules) is in omega arith)
 
-  -- nothing is read of bytes that are undecided
+  -- Nothing is read from bytes that are undecided.
   pub quiet : (x : List Timed) → IsUndecided first second rules (timed_bytes x) → hunts x ≡ []
   quiet x undecided = undecided-quiet (timed_bytes x) undecided x refl
 
@@ -202,13 +203,13 @@ module _ (first second : ℕ) (rules : Rules) (headed : IsHeaded rules)
 
   -- ---- how many bytes are taken
 
-  -- where less than a header is there, a header
+  -- If the header isn't whole, as many bytes are taken as a header has.
   pub taken-short : (x : List ℕ) → begins first second x ≡ true → length x < rules.header_len
       → bytes_taken first second rules x ≡ rules.header_len
   taken-short x starts short =
       taken-is first second rules Short x starts (head-short rules x short)
 
-  -- behind a whole header, what it says
+  -- If the header is whole, the bytes after it don't change how many are taken.
   pub taken-long : (x z : List ℕ) → begins first second x ≡ true → rules.header_len ≤ length x
       → bytes_taken first second rules (x ++ z) ≡ bytes_taken first second rules x
   taken-long x z starts long =
@@ -217,7 +218,7 @@ module _ (first second : ℕ) (rules : Rules) (headed : IsHeaded rules)
       ∙ (taken_by-more first second rules (head_of rules x) x z long
       ∙ sym (taken-is first second rules (head_of rules x) x starts refl))
 
-  -- while fewer are there, as many as before
+  -- As long as fewer bytes have come than are taken, more bytes don't change how many are taken.
   pub taken-stays : (x z : List ℕ) → begins first second x ≡ true
       → length (x ++ z) < bytes_taken first second rules x
       → bytes_taken first second rules (x ++ z) ≡ bytes_taken first second rules x
@@ -230,7 +231,7 @@ module _ (first second : ℕ) (rules : Rules) (headed : IsHeaded rules)
       (λ long. taken-long x z starts long)
       (cases_lt (length x) rules.header_len)
 
-  -- a whole header of which more is taken is good
+  -- A whole header with which more bytes are taken is good.
   pub begun-good : (x : List ℕ) → begins first second x ≡ true → rules.header_len ≤ length x
       → length x < bytes_taken first second rules x → head_of rules x ≡ Good
   begun-good x starts long few =
@@ -241,7 +242,7 @@ module _ (first second : ℕ) (rules : Rules) (headed : IsHeaded rules)
       absurd (omega arith))
       (cases_Bool (rules.is_good_header (header_in rules x)))
 
-  -- a good header says the size of a frame for which a device has room
+  -- A good header says the size of a frame for which a device has room.
   pub size-readable : IsLawful rules → (h : List ℕ) → AreBytes h → length h ≡ rules.header_len
       → rules.is_good_header h ≡ true → rules.size h ≤ 292
   size-readable lawful h bytes long good =
@@ -251,7 +252,7 @@ module _ (first second : ℕ) (rules : Rules) (headed : IsHeaded rules)
       let readable = hunted.readable in
       omega arith
 
-  -- The first of bytes of which more are taken are undecided.
+  -- The first bytes are undecided as long as more are taken.
   fronts-are : (x z : List ℕ) → begins first second (x ++ z) ≡ true
       → length x < bytes_taken first second rules (x ++ z) → IsUndecided first second rules x
   fronts-are [] z starts few = nothing
@@ -285,7 +286,7 @@ module _ (first second : ℕ) (rules : Rules) (headed : IsHeaded rules)
   -- ---- bytes that are taken together
 
   module _ (framed : IsFramed rules) (x : List ℕ) (starts : begins first second x ≡ true) where
-    -- no frame has a bad header
+    -- No frame has a bad header.
     bad-frame : (start : ℕ) → head_of rules x ≡ Bad → frame_at rules start x ≡ []
     bad-frame start bad =
         ⊎_elim
@@ -305,7 +306,7 @@ module _ (first second : ℕ) (rules : Rules) (headed : IsHeaded rules)
         let short = short-short rules x is in absurd (omega arith)
     found-by Bad is whole start = sym (bad-frame start is)
 
-    -- their frame is found
+    -- If all bytes that are taken have come, what is found is their frame.
     pub found-whole : bytes_taken first second rules x ≡ length x → (start : ℕ)
         → found first second rules start x ≡ frame_at rules start x
     found-whole whole start =
@@ -313,7 +314,7 @@ module _ (first second : ℕ) (rules : Rules) (headed : IsHeaded rules)
         ∙ found-by (head_of rules x) refl
         (sym (taken-is first second rules (head_of rules x) x starts refl) ∙ whole) start
 
-  -- Of the first of them nothing is read.
+  -- Nothing is read from the first bytes of those that are taken together.
   pub hunt-cut : (x : List Timed) (rest : List ℕ) → 0 < length rest
       → begins first second (timed_bytes x ++ rest) ≡ true
       → bytes_taken first second rules (timed_bytes x ++ rest) ≡ length (timed_bytes x ++ rest)

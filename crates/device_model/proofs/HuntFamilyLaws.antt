@@ -26,7 +26,7 @@ timed-run n m zero b at = let same : n ≡ m = omega arith in ap (λ k. byte_at 
 timed-run n m (suc q) b at =
     let next : suc n + q ≡ m = omega arith in timed-run (suc n) m q b next
 
--- the silent ticks after one more
+-- the count of silent ticks after one more
 abbrev waited : ℕ → ℕ → ℕ
 waited cut quiet = cond (nat_lt quiet cut) (quiet + 1) quiet
 
@@ -76,7 +76,8 @@ module _ (first second : ℕ) (rules : Rules) where
       ∙ (ap (λ x. x ++ of_bursts (d ∷ [])) (sym are)
       ∙ ap (λ x. frames ++ x) (one-burst d ∙ ap hunts (sym is))))
 
-  -- what was read, and then what the hunt over the bytes since gives
+  -- What is read from a line is what was read up to the last silence, and then what the hunt over
+  -- the bytes since gives.
   pub since-reads : (cut quiet : ℕ) (line : List Tick) (frames : List FrameRead)
       (since : List Timed) → Since cut quiet line frames since
       → reads cut line ≡ frames ++ hunts since
@@ -157,7 +158,7 @@ module _ (first second : ℕ) (rules : Rules) where
         since_is = is;
       }
 
-  -- It changes nothing,
+  -- A silent tick that doesn't part the line changes nothing.
   pub since-waits : (cut quiet : ℕ) (line : List Tick) (frames : List FrameRead)
       (since : List Timed) → (quiet + 1 ≡ cut → ⊥) → Since cut quiet line frames since
       → Since cut (waited cut quiet) (line ++ Silent ∷ []) frames since
@@ -185,7 +186,7 @@ module _ (first second : ℕ) (rules : Rules) where
     since_is = refl;
   }
 
-  -- or the hunt begins anew.
+  -- If a silent tick parts the line, the hunt begins anew.
   pub since-parts : (cut quiet : ℕ) (line : List Tick) (frames : List FrameRead)
       (since : List Timed) → quiet + 1 ≡ cut → Since cut quiet line frames since
       → Since cut cut (line ++ Silent ∷ []) (frames ++ hunts since) []
@@ -206,7 +207,8 @@ module _ {R : Type 0} (proto : LineRules R) (first second cut : ℕ) where
   abbrev read_of : List Tick → List FrameRead
   read_of line = hunt_family first second its cut line
 
-  -- The device has taken the tick, and these frames are read with it.
+  -- Holds if a device with this value has taken the tick `t` after `line`, and `frames` are read
+  -- with it.
   pub record Steps (value : HuntingFamily R) (line : List Tick) (t : Tick)
       (frames : List FrameRead) : Type 0 where
     pub stands : Stands value (line ++ t ∷ [])
@@ -221,7 +223,7 @@ module _ {R : Type 0} (proto : LineRules R) (first second cut : ℕ) where
     abbrev Heard : HuntingFamily R → List Timed → Type 0
     Heard value x = HeardBy proto first second value.device x
 
-    -- a byte
+    -- A byte comes.
     module _ (b : ℕ) (answer : List FrameRead) (quiet : new.silence.quiet ≡ 0)
         (takes : (x : List Timed) → Heard old x
         → Heard new (x ++ byte_at old.device.ticks b ∷ []))
@@ -262,7 +264,7 @@ module _ {R : Type 0} (proto : LineRules R) (first second cut : ℕ) where
             heard.frames heard.since heard.is))));
       }
 
-    -- a silent tick
+    -- A silent tick comes.
     module _ (quiet : new.silence.quiet ≡ waited old.silence.cut old.silence.quiet) where
       still : (after_it : ℕ) (frames : List FrameRead) (since : List Timed)
           → IsSince first second its cut after_it (line ++ Silent ∷ []) frames since
@@ -274,7 +276,7 @@ module _ {R : Type 0} (proto : LineRules R) (first second cut : ℕ) where
           ∙ (sym same ∙ (sym (since-reads first second its cut old.silence.quiet line heard.frames
           heard.since heard.is) ∙ sym (append-nil (read_of line))))
 
-      -- that parts nothing
+      -- The silent tick doesn't part the line.
       module _ (parts : old.silence.quiet + 1 == old.silence.cut ≡ false)
           (keeps : Heard old heard.since → Heard new heard.since) where
         since-on : IsSince first second its cut (waited cut old.silence.quiet)
@@ -302,7 +304,7 @@ module _ {R : Type 0} (proto : LineRules R) (first second cut : ℕ) where
               is = still (waited cut old.silence.quiet) heard.frames heard.since since-on refl;
             }
 
-      -- or after which the device has lost what it had taken
+      -- The silent tick parts the line, and the device has lost what it had taken.
       module _ (hunted : IsHunted first second its)
           (parts : old.silence.quiet + 1 == old.silence.cut ≡ true)
           (empty : held_by new.device ≡ []) (lacking : new.device.lacking ≡ 0) where

@@ -1,5 +1,5 @@
--- A device that hunts over bytes behind a header that has begun: those of the header, and those of
--- the frame behind it.
+-- A device that hunts takes the bytes after the beginning of a header: those of the header, and
+-- those of the frame that follow it.
 use Rattle.device_model.proofs.Heads.{good-header, short-short, header-more}
 use Rattle.device_model.proofs.HuntCases.{good-size, taken-header, taken-short, taken-long}
 use Rattle.device_model.proofs.HuntCases.{taken-stays, begun-good, size-readable}
@@ -36,7 +36,7 @@ module _ {R : Type 0} (proto : LineRules R) (first second : ℕ)
   abbrev Takes : HuntingDevice R → HuntingDevice R → ℕ → List ℕ → List FrameRead → Type 0
   Takes old new at y frames = TakesRun proto first second old new at y frames
 
-  -- ---- bytes behind a header that has begun
+  -- ---- bytes that follow the beginning of a header
 
   module _ (old : HuntingDevice R) (some : 0 < old.lacking) (x : List Timed)
       (heard : Heard old x) where
@@ -77,7 +77,7 @@ module _ {R : Type 0} (proto : LineRules R) (first second : ℕ)
         subst (λ u. proto.stands old.rules (header_in its u)) items-held
         (heard.stands (omega arith))
 
-    -- there is room for all that is taken
+    -- There is room for all bytes that are taken with the header.
     pub items-bound : bytes_taken first second its old.bytes.items ≤ 292
     items-bound =
         let b : List ℕ = old.bytes.items in
@@ -97,7 +97,7 @@ module _ {R : Type 0} (proto : LineRules R) (first second : ℕ)
         omega arith)
         (cases_lt (length b) its.header_len)
 
-  -- Of bytes behind a header that has begun at most as many as are lacking are held, too.
+  -- Bytes follow the beginning of a header, at most as many as are lacking: they are held, too.
   module _ (old mid : HuntingDevice R) (y : List ℕ) (some : 0 < old.lacking)
       (within : length y ≤ old.lacking) (lends : mid.lends ≡ old.lends)
       (bytes : length old.bytes.items + length y ≤ 292
@@ -130,7 +130,7 @@ module _ {R : Type 0} (proto : LineRules R) (first second : ℕ)
           let two = begins-two first second old.bytes.items (items-begin old some x heard) in
           omega arith
 
-    -- some are lacking still
+    -- If some bytes are still lacking, no frame is read.
     pub lacking-run : (at : ℕ) → mid.ticks ≡ old.ticks → mid.start ≡ old.start
         → mid.rules ≡ old.rules → mid.lacking + length y ≡ old.lacking → 0 < mid.lacking
         → Takes old mid at y []
@@ -166,7 +166,7 @@ module _ {R : Type 0} (proto : LineRules R) (first second : ℕ)
           gives = refl;
         })
 
-    -- None is lacking any more, and they are more than a header: the frame is whole.
+    -- If no byte is lacking any more, and there are more than a header has, the frame is whole.
     module _ (new : HuntingDevice R) (frames : List FrameRead) (start : mid.start ≡ old.start)
         (rules : mid.rules ≡ old.rules) (all : length y ≡ old.lacking)
         (behind : length mid.bytes.items ≡ its.header_len → ⊥)
@@ -236,7 +236,7 @@ module _ {R : Type 0} (proto : LineRules R) (first second : ℕ)
                   ∙ ap (frame_at its old.start) (grown x heard));
             })
 
-    -- None is lacking any more of a header.
+    -- If no byte of a header is lacking any more, it is whole.
     module _ (start : mid.start ≡ old.start) (all : length y ≡ old.lacking)
         (whole : length mid.bytes.items ≡ its.header_len) where
       module _ (x : List Timed) (heard : Heard old x) where
@@ -255,7 +255,7 @@ module _ {R : Type 0} (proto : LineRules R) (first second : ℕ)
             (all-room proto first second hunted (old.bytes.items ++ y) (grown-begins x heard)
             header-within)
 
-      -- more follows
+      -- More bytes are taken with the header.
       module _ (new : HuntingDevice R) (frames : Bool → List FrameRead)
           (none : frames false ≡ []) (reads : Bool) (more : 0 < lacking_of its mid.bytes.items)
           (goes : HasRoom its mid.bytes.items → GoesBehind proto mid new reads) where
@@ -312,7 +312,7 @@ module _ {R : Type 0} (proto : LineRules R) (first second : ℕ)
               gives = ap frames is.none ∙ none;
             })
 
-      -- or none does
+      -- No more bytes are taken with the header.
       module _ (new : HuntingDevice R) (frames : List FrameRead)
           (none : lacking_of its mid.bytes.items ≡ 0)
           (goes : HasRoom its mid.bytes.items

@@ -1,5 +1,5 @@
--- What a hunt reads, computed with small rules: a header is 05 64, a count and that count again;
--- the count says how many bytes follow; and the last byte of a frame is the count.
+-- What a hunt reads, computed with small rules: a header is 05 64, a count, and that count again.
+-- The count says how many bytes follow, and the last byte of a frame is the count.
 use Rattle.device_model.specs.{Frames.FrameRead, Hunt.begins, Hunt.hunt, Hunt.hunt_line}
 use Rattle.{line_rules.specs.Rules.Rules, std.proofs.Common.◌≡◌}
 use Rattle.std.proofs.Common.{ℕ, ◌+◌, ◌-◌, ◌==◌, ◌&&◌, false, List, [], ◌∷◌, ◌++◌, length, get_or}
@@ -22,7 +22,7 @@ small_rules = record {
 abbrev reads : List Tick → List FrameRead
 reads line = hunt_line 0x05 0x64 small_rules line
 
--- a frame of the header alone, and one of six bytes with silence inside
+-- a frame that is only a header, and a frame of six bytes with silence inside
 abbrev bare : List Tick
 bare = Byte 0x05 ∷ Byte 0x64 ∷ Byte 0x00 ∷ Byte 0x00 ∷ []
 
@@ -36,25 +36,27 @@ bare_at n = record { start = n; frame = 0x05 ∷ 0x64 ∷ 0x00 ∷ 0x00 ∷ [] }
 abbrev parted_at : ℕ → FrameRead
 parted_at n = record { start = n; frame = 0x05 ∷ 0x64 ∷ 0x02 ∷ 0x02 ∷ 0x07 ∷ 0x02 ∷ [] }
 
--- silence is nothing; other bytes are dropped one by one, and a first byte before a start too
+-- Silence means nothing. Other bytes are dropped one by one, also a first byte that comes before
+-- another one.
 pub frames_found : reads (Silent ∷ Byte 0x64 ∷ Byte 0x05 ∷ bare ++ parted)
     ≡ bare_at 3 ∷ parted_at 7 ∷ []
 unfolding hunt
 frames_found = refl
 
--- a bad header is dropped whole, with the start inside it, and the hunt goes on behind it
+-- A bad header is dropped as a whole, with the start inside it, and the hunt goes on after it.
 pub bad_header_dropped : reads (Byte 0x05 ∷ Byte 0x64 ∷ Byte 0x05 ∷ Byte 0x64 ∷ Byte 0x00
     ∷ Byte 0x00 ∷ bare) ≡ bare_at 6 ∷ []
 unfolding hunt
 bad_header_dropped = refl
 
--- what a good header says is taken, and nothing is searched inside it, though it is no frame
+-- As many bytes are taken as a good header says, and no header is looked for inside them, although
+-- they are no frame.
 pub taken_unread : reads (Byte 0x05 ∷ Byte 0x64 ∷ Byte 0x04 ∷ Byte 0x04 ∷ bare ++ bare)
     ≡ bare_at 8 ∷ []
 unfolding hunt
 taken_unread = refl
 
--- a frame that is cut isn't read, and takes what follows
+-- A frame that is cut off isn't read, and takes the bytes that follow.
 pub cut_unread : reads (Byte 0x05 ∷ Byte 0x64 ∷ Byte 0x08 ∷ Byte 0x08 ∷ bare) ≡ []
 unfolding hunt
 cut_unread = refl

@@ -1,5 +1,5 @@
--- A device that hunts over a run of bytes: those where no header begins, those that it holds, and
--- those with which all that a header takes is there.
+-- A device that hunts over a run of bytes: those with which no header begins, those that it holds,
+-- and those that complete what is taken with a header.
 use Rattle.device_model.proofs.HuntCases.{found-whole, front-undecided}
 use Rattle.device_model.proofs.HuntSteps.{timed-append, reads-after, goes-after, starts-more}
 use Rattle.device_model.proofs.HuntSteps.{undecided-open, same-heard, nothing-held, held-first}
@@ -56,7 +56,7 @@ grown-bytes : (held : List Timed) (at : ℕ) (y : List ℕ)
 grown-bytes held at y =
     timed_bytes-append held (run at y) ∙ ap (λ u. timed_bytes held ++ u) (run-bytes at y)
 
--- the first two of some bytes
+-- the first two bytes of a list
 pub first-two : (first second : ℕ) (rest : List ℕ) → 2 ≤ length rest → get_or rest 0 0 ≡ first
     → get_or rest 1 0 ≡ second → take 2 rest ≡ first ∷ second ∷ []
 first-two first second [] two is after = absurd (omega arith)
@@ -138,7 +138,7 @@ module _ {R : Type 0} (proto : LineRules R) (first second : ℕ)
             (cases_lt n (length y));
       }
 
-  -- the first of some bytes, and then the first of the rest
+  -- The first bytes of a list, and then the first of the others, are one run.
   pub part-joined : (old mid new : HuntingDevice R) (from : ℕ) (bytes rest : List ℕ) (taken n : ℕ)
       (frames : List FrameRead) → rest ≡ drop taken bytes → taken ≤ length bytes
       → Takes old mid from (take taken bytes) [] → Takes mid new (from + taken) (take n rest) frames
@@ -150,14 +150,14 @@ module _ {R : Type 0} (proto : LineRules R) (first second : ℕ)
       (joined-run old mid new from (from + taken) (take taken bytes) (take n rest) frames
       (omega arith) former later)
 
-  -- the first of some bytes is one alone
+  -- The first byte of a list is a run of one byte.
   pub first-run : (old new : HuntingDevice R) (at b : ℕ) (rest : List ℕ) → 0 < length rest
       → b ≡ get_or rest 0 0 → Takes old new at (b ∷ []) [] → Takes old new at (take 1 rest) []
   first-run old new at b [] some is takes = absurd (omega arith)
   first-run old new at b (a ∷ rest) some is takes =
       subst (λ c. Takes old new at (c ∷ []) []) is takes
 
-  -- so does a device that has let go what it lent
+  -- A device that lets go of what it lent, and then takes a run, takes the run.
   pub after-letting : (old mid new : HuntingDevice R) (at : ℕ) (y : List ℕ)
       (frames : List FrameRead) → mid.ticks ≡ old.ticks
       → ((x : List Timed) → Heard old x → Heard mid x)
@@ -171,7 +171,7 @@ module _ {R : Type 0} (proto : LineRules R) (first second : ℕ)
 
   -- ---- bytes where no header begins
 
-  -- a byte with which none begins
+  -- A byte comes with which no header begins.
   pub passed-byte : (old new : HuntingDevice R) (at b : ℕ) → new.ticks ≡ old.ticks → old.lacking ≡ 0
       → (length (held_by old) ≡ 1 → b ≡ second → ⊥) → (b ≡ first → ⊥)
       → held_by new ≡ [] → new.lacking ≡ 0 → Takes old new at (b ∷ []) []
@@ -205,7 +205,8 @@ module _ {R : Type 0} (proto : LineRules R) (first second : ℕ)
 
   -- ---- bytes that are held with those before them
 
-  -- Behind bytes that it held the device holds these, too, and reads nothing.
+  -- Holds if the device, which held the bytes `b`, now holds them and the bytes `y`, and reads
+  -- nothing.
   pub record Holds (old new : HuntingDevice R) (at : ℕ) (b y : List ℕ) (frames : List FrameRead) :
       Type 0 where
     pub was : held_by old ≡ b
@@ -225,7 +226,7 @@ module _ {R : Type 0} (proto : LineRules R) (first second : ℕ)
     bytes-all z =
         grown-bytes heard.held at z ∙ ap (λ u. u ++ z) (sym heard.bytes_are ∙ was)
 
-    -- nothing is read of bytes that are undecided
+    -- Nothing is read from bytes that are undecided.
     front-reads : (z : List ℕ) → Undecided (b ++ z) → hunts (x ++ run at z) ≡ hunts x ++ []
     front-reads z undecided =
         reads-after proto first second hunted x heard.held (heard.held ++ run at z) (run at z) []
@@ -268,7 +269,7 @@ module _ {R : Type 0} (proto : LineRules R) (first second : ℕ)
         ∙ append-nil (hunts x);
   }
 
-  -- the fronts of bytes that are taken together
+  -- The first bytes of those that are taken together are undecided.
   pub fronts-of : (b y : List ℕ) → begins first second (b ++ y) ≡ true
       → length (b ++ y) ≤ bytes_taken first second its (b ++ y) → (n : ℕ) → n < length y
       → Undecided (b ++ take n y)
@@ -314,7 +315,7 @@ module _ {R : Type 0} (proto : LineRules R) (first second : ℕ)
         gives = refl;
       })
 
-  -- the second one after the first
+  -- The second byte of a header comes after the first one.
   pub second-run : (old new : HuntingDevice R) (at b : ℕ) → b ≡ second → new.ticks ≡ old.ticks
       → length (held_by old) ≡ 1 → held_by new ≡ held_by old ++ b ∷ []
       → new.lacking ≡ its.header_len - 2 → new.start ≡ old.start → Takes old new at (b ∷ []) []
@@ -341,7 +342,7 @@ module _ {R : Type 0} (proto : LineRules R) (first second : ℕ)
         gives = refl;
       }))
 
-  -- ---- all that a header takes is there
+  -- ---- all bytes have come that are taken with a header
 
   whole-steps : (start : ℕ) (held z : List Timed) → begins first second (timed_bytes held) ≡ true
       → bytes_taken first second its (timed_bytes held) ≡ length (timed_bytes held)
@@ -356,7 +357,8 @@ module _ {R : Type 0} (proto : LineRules R) (first second : ℕ)
       ∙ found-whole first second its proto.headed hunted proto.framed (timed_bytes (u ∷ held))
       starts all start)
 
-  -- With these bytes all that is taken is there, and the device has let it go.
+  -- Holds if with the bytes `y` all bytes have come that are taken with the header, the device has
+  -- let them go, and `frames` is their frame, if they are one.
   pub record Ends (old new : HuntingDevice R) (b y : List ℕ) (frames : List FrameRead) : Type 0 where
     pub was : held_by old ≡ b
     pub some : 0 < length b

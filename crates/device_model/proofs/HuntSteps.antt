@@ -1,4 +1,4 @@
--- The steps of a device that hunts, over the values that it has before and after.
+-- The steps of a device that hunts, by the values that it has before and after.
 use Rattle.device_model.proofs.HuntCases.{quiet, undecided-room, taken-short}
 use Rattle.device_model.proofs.Hunts.{timed_bytes-length, begins-two, begins-other, begins-before}
 use Rattle.device_model.{proofs.Hunts.hunt-none, proofs.Hunts.hunt-no_start, specs.Frames.FrameRead}
@@ -52,7 +52,7 @@ timed-silences line n =
     timed-append 0 (length line) line (silent n) at
     ∙ (ap (λ y. timed 0 line ++ y) (silent-timed (length line) n) ∙ append-nil (timed 0 line))
 
--- a device that lends nothing holds its bytes
+-- A device that lends nothing holds the bytes that it keeps.
 pub items-held : {R : Type 0} → (value : HuntingDevice R) → value.lends ≡ false
     → held_by value ≡ value.bytes.items
 items-held value lends = cond-false _ _ _ lends
@@ -74,8 +74,8 @@ module _ {R : Type 0} (proto : LineRules R) (first second : ℕ)
 
   -- ---- the hunt goes on
 
-  -- Where the hunt over what is held and some bytes gives these frames, and goes on with what is
-  -- held then, so does the hunt over all.
+  -- If the hunt over the held bytes and the bytes `ts` gives `frames` and then goes on with the
+  -- bytes `later`, so does the hunt over all bytes.
   module _ (x held later ts : List Timed) (frames : List FrameRead)
       (goes : GoesOn first second its x held) (undecided : Undecided (timed_bytes later))
       (steps : (z : List Timed) → hunts (held ++ (ts ++ z)) ≡ frames ++ hunts (later ++ z)) where
@@ -101,13 +101,13 @@ module _ {R : Type 0} (proto : LineRules R) (first second : ℕ)
 
   -- ---- room
 
-  -- bytes that are undecided have room for one more
+  -- If bytes are undecided, there is room for one more.
   pub undecided-open : (x : List ℕ) → Undecided x → fills_room its x ≡ false
   undecided-open x undecided =
       let room = undecided-room first second its proto.headed hunted proto.lawful x undecided in
       ne_eqb (length x) (its.room x) (λ all. omega arith)
 
-  -- The rules take all of these bytes where there is room for each.
+  -- The rules take all of these bytes if there is room for each.
   pub takes-all : (rules : R) (x y : List ℕ) (n : ℕ)
       → ((k : ℕ) → k < length y → fills_room its (x ++ take k y) ≡ false)
       → proto.stands rules (x ++ take n y) → (n < length y → proto.is_full rules ≡ true)
@@ -119,7 +119,7 @@ module _ {R : Type 0} (proto : LineRules R) (first second : ℕ)
       (λ all. subst (λ z. proto.stands rules (x ++ z)) (take_all n y all) stands)
       (cases_lt n (length y))
 
-  -- all of them, from the first one on
+  -- The rules take all bytes, from the first one on.
   pub takes-whole : (rules : R) (items given : List ℕ) (n : ℕ) → given ≡ items → HasRoom its items
       → proto.stands rules (take n given) → (n < length given → proto.is_full rules ≡ true)
       → proto.stands rules items
@@ -129,7 +129,7 @@ module _ {R : Type 0} (proto : LineRules R) (first second : ℕ)
       (takes-all rules [] given n
       (λ k below. ap (λ u. fills_room its (take k u)) is ∙ room k (omega arith)) stands full)
 
-  -- and those behind a header that they have taken
+  -- The rules take all bytes after a header that they have taken.
   pub takes-rest : (rules : R) (items given : List ℕ) (header n : ℕ) → header ≡ its.header_len
       → header ≤ length items → given ≡ drop header items → HasRoom its items
       → proto.stands rules (header_in its items ++ take n given)
@@ -158,7 +158,7 @@ module _ {R : Type 0} (proto : LineRules R) (first second : ℕ)
   abbrev Heard : HuntingDevice R → List Timed → Type 0
   Heard value x = HeardBy proto first second value x
 
-  -- a device that holds the same has heard the same
+  -- A device that holds the same as before has heard the same.
   pub same-heard : (old new : HuntingDevice R) (x : List Timed) → new.rules ≡ old.rules
       → held_by new ≡ held_by old → new.lacking ≡ old.lacking → new.start ≡ old.start
       → Heard old x → Heard new x
@@ -169,7 +169,7 @@ module _ {R : Type 0} (proto : LineRules R) (first second : ℕ)
       (subst (λ s. HasHeard proto first second old.rules (held_by old) old.lacking s x) (sym start)
       heard)))
 
-  -- nothing is held, whatever the rules have taken
+  -- If nothing is held, it doesn't matter what the rules have taken.
   pub nothing-held : (value : HuntingDevice R) (x : List Timed) → GoesOn first second its x []
       → held_by value ≡ [] → value.lacking ≡ 0 → Heard value x
   nothing-held value x goes empty lacking =
@@ -231,7 +231,7 @@ module _ {R : Type 0} (proto : LineRules R) (first second : ℕ)
   pub two-lack : bytes_lacking first second its (first ∷ second ∷ []) ≡ its.header_len - 2
   two-lack = cond-true _ _ _ two-begins ∙ ap (λ n. n - 2) two-taken
 
-  -- ---- what is held goes, and the byte may be a first one
+  -- ---- the held bytes are let go, and the byte may be the first one of a header
 
   module _ (old : HuntingDevice R) (t : Timed) (x : List Timed) (heard : Heard old x)
       (unbegun : old.lacking ≡ 0)
@@ -249,7 +249,7 @@ module _ {R : Type 0} (proto : LineRules R) (first second : ℕ)
         let few = held-few old x heard unbegun in
         absurd (omega arith)
 
-    -- it isn't
+    -- The byte isn't a first one.
     module _ (not_first : t.byte ≡ first → ⊥) where
       steps-out : (z : List Timed) → hunts (heard.held ++ t ∷ z) ≡ [] ++ hunts ([] ++ z)
       steps-out z =
@@ -266,7 +266,7 @@ module _ {R : Type 0} (proto : LineRules R) (first second : ℕ)
       pub passes-reads : hunts (x ++ t ∷ []) ≡ hunts x ++ []
       passes-reads = reads-after x heard.held [] (t ∷ []) [] heard.goes_on nothing steps-out
 
-    -- it is
+    -- The byte is a first one.
     module _ (first_comes : t.byte ≡ first) where
       one-undecided : Undecided (t.byte ∷ [])
       one-undecided = subst (λ b. Undecided (b ∷ [])) (sym first_comes) first_byte
@@ -311,11 +311,11 @@ module _ {R : Type 0} (proto : LineRules R) (first second : ℕ)
   abbrev Stands : HuntingDevice R → List Tick → Type 0
   Stands value line = HuntStandsFor proto first second value line
 
-  -- a tick has been counted
+  -- the device, which has counted one more tick
   abbrev counted : HuntingDevice R → HuntingDevice R
   counted value = record value { ticks = value.ticks + 1 }
 
-  -- silence is nothing
+  -- Silence changes nothing but the count of ticks.
   pub silence-stands : (old : HuntingDevice R) (t : Tick) → t ≡ Silent → (line : List Tick)
       → Stands old line → Stands (counted old) (line ++ t ∷ [])
   silence-stands old t is line heard =

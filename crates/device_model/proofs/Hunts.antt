@@ -1,4 +1,4 @@
--- The hunt: what it does with the bytes that are taken together, and with too few.
+-- The hunt: what it does with bytes that are taken together, and with too few bytes.
 use Rattle.device_model.proofs.Heads.{good-long, bad-long, short-short, header-more, head-more}
 use Rattle.device_model.specs.Frames.{FrameRead}
 use Rattle.device_model.specs.Hunt.{Timed, timed_bytes, header_in, taken_by, frame_of, found_by}
@@ -20,14 +20,14 @@ pub timed_bytes-length : (x : List Timed) → length (timed_bytes x) ≡ length 
 timed_bytes-length x = length-map x (λ (t : Timed). t.byte)
 
 module _ (first second : ℕ) where
-  -- where a header begins it does so whatever follows
+  -- If a header begins with some bytes, it does so whatever follows.
   pub begins-more : (x z : List ℕ) → begins first second x ≡ true
       → begins first second (x ++ z) ≡ true
   begins-more [] z is = cc
   begins-more (a ∷ []) z is = cc
   begins-more (a ∷ b ∷ x) z is = is
 
-  -- and so it does by its first two bytes
+  -- Whether a header begins depends only on the first two bytes.
   pub begins-front : (x z : List ℕ) → 2 ≤ length x → begins first second (x ++ z) ≡ true
       → begins first second x ≡ true
   begins-front [] z long is = absurd (omega arith)
@@ -39,7 +39,8 @@ module _ (first second : ℕ) where
   begins-two (a ∷ []) is = cc
   begins-two (a ∷ b ∷ x) is = omega arith
 
-  -- none begins with another byte, or before another one
+  -- No header begins with another byte than the first one, or if another byte than the second one
+  -- follows.
   pub begins-other : (a : ℕ) (x : List ℕ) → (a ≡ first → ⊥) → begins first second (a ∷ x) ≡ false
   begins-other a [] other = refl
   begins-other a (b ∷ x) other = and_left (a == first) (b == second) (ne_eqb a first other)
@@ -66,7 +67,7 @@ module _ (first second : ℕ) (rules : Rules) where
   unfolding hunt
   hunt-here t x = refl
 
-  -- this many bytes are passed over
+  -- The first `k` bytes are passed over.
   pub hunt-drop : (k : ℕ) (x z : List Timed) → length x ≡ k → hunts k (x ++ z) ≡ hunts 0 z
   hunt-drop k [] z is = ap (λ n. hunts n z) (sym is)
   hunt-drop zero (t ∷ x) z is = absurd (omega arith)
@@ -79,7 +80,7 @@ module _ (first second : ℕ) (rules : Rules) where
   hunt-all (suc k) (t ∷ x) few =
       let less : length x ≤ k = omega arith in hunt-over k t x ∙ hunt-all k x less
 
-  -- where no header begins, one byte is dropped
+  -- If no header begins, one byte is dropped.
   pub hunt-no_start : (t : Timed) (x : List Timed)
       → begins first second (timed_bytes (t ∷ x)) ≡ false → hunts 0 (t ∷ x) ≡ hunts 0 x
   hunt-no_start t x none =
@@ -100,7 +101,7 @@ module _ (first second : ℕ) (rules : Rules) where
   found-is head start x starts is =
       cond-true _ _ _ starts ∙ ap (λ h. found_by rules h start x) is
 
-  -- too few bytes are no frame
+  -- Fewer bytes than a frame has give no frame.
   frame_of-few : (start n : ℕ) (x : List ℕ) → length x < n → frame_of rules start n x ≡ []
   frame_of-few start n x few =
       cond-false _ _ _ (and_left (nat_le n (length x)) (rules.is_frame (take n x))
@@ -112,7 +113,7 @@ module _ (first second : ℕ) (rules : Rules) where
   found_by-few Short start x few = refl
   found_by-few Bad start x few = refl
 
-  -- while fewer bytes are there than are taken, nothing is read
+  -- As long as fewer bytes have come than are taken, nothing is read.
   pub hunt-few : (x : List Timed) → begins first second (timed_bytes x) ≡ true
       → length x < bytes_taken first second rules (timed_bytes x) → hunts 0 x ≡ []
   hunt-few [] starts few = hunt-none 0
@@ -135,7 +136,7 @@ module _ (first second : ℕ) (rules : Rules) where
       ap (λ y. hunts n y) (sym (take-append-drop n x))
       ∙ hunt-drop n (take n x) (drop n x) (length-take-le n x fits)
 
-  -- as many are passed over as are taken
+  -- As many bytes are passed over as are taken.
   pub hunt-taken : (t : Timed) (x : List Timed) (n : ℕ)
       → bytes_taken first second rules (timed_bytes (t ∷ x)) ≡ suc n → n ≤ length x
       → hunts 0 (t ∷ x)
@@ -179,7 +180,7 @@ module _ (first second : ℕ) (rules : Rules) where
   found_by-more Short start x z long fits = refl
   found_by-more Bad start x z long fits = refl
 
-  -- bytes that are taken have a whole header
+  -- Bytes that are all that is taken have a whole header.
   whole-header : (head : Head) (x : List ℕ) → head_of rules x ≡ head
       → taken_by rules head x ≡ length x → rules.header_len ≤ length x
   whole-header Good x is whole = good-long rules x is

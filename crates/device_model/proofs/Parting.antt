@@ -9,7 +9,7 @@ use Rattle.yasir_ticks.{proofs.BurstLaws.AreClosed-more, specs.Bursts.Burst}
 use Rattle.yasir_ticks.specs.{Bursts.bursts_from, Bursts.end_of, Bursts.AreClosed, Ticks.silent}
 use Rattle.yasir_ticks.specs.declared.tick.Tick.{Tick, TheVariants.Silent, TheVariants.Byte}
 
--- this burst, and after so much silence a byte
+-- a burst with `quiet` silent ticks and then a byte added to it
 abbrev pub grown_by : Burst → ℕ → ℕ → Burst
 grown_by d quiet b = record { start = d.start; body = d.body ++ (silent quiet ++ Byte b ∷ []) }
 
@@ -28,7 +28,7 @@ module _ (cut : ℕ) where
         let n = longer line t in
         AreClosed-later cut (length line) (length (line ++ t ∷ [])) closed (omega arith) are
 
-    -- a byte begins a burst
+    -- If no burst is running, a byte begins one.
     pub parted-begins : (quiet b : ℕ) → 0 < cut → IsParted cut quiet line closed None
         → IsParted cut 0 (line ++ Byte b ∷ []) closed (Some (alone (length line) b))
     parted-begins quiet b some parted =
@@ -43,7 +43,7 @@ module _ (cut : ℕ) where
           is_quiet = (some, end);
         }
 
-    -- or is the next one of the running burst
+    -- If a burst is running, a byte goes on with it.
     pub parted-goes_on : (quiet b : ℕ) (d : Burst) → IsParted cut quiet line closed (Some d)
         → IsParted cut 0 (line ++ Byte b ∷ []) closed (Some (grown_by d quiet b))
     parted-goes_on quiet b d parted =
@@ -68,7 +68,7 @@ module _ (cut : ℕ) where
           is_quiet = (some, end);
         }
 
-    -- Silence goes on where no burst is running,
+    -- If no burst is running, silence goes on.
     pub parted-rests : (quiet : ℕ) → IsParted cut quiet line closed None
         → IsParted cut quiet (line ++ Silent ∷ []) closed None
     parted-rests quiet parted = record {
@@ -77,7 +77,7 @@ module _ (cut : ℕ) where
       is_quiet = parted.is_quiet;
     }
 
-    -- or doesn't end the running one yet,
+    -- A silent tick that comes too early to end the running burst leaves it running.
     pub parted-waits : (quiet : ℕ) (d : Burst) → quiet + 1 < cut
         → IsParted cut quiet line closed (Some d)
         → IsParted cut (quiet + 1) (line ++ Silent ∷ []) closed (Some d)
@@ -91,7 +91,7 @@ module _ (cut : ℕ) where
           is_quiet = (few, next);
         }
 
-    -- or ends it.
+    -- The silent tick with which the silence is as long as `cut` ends the running burst.
     pub parted-ends : (quiet : ℕ) (d : Burst) → quiet + 1 ≡ cut
         → IsParted cut quiet line closed (Some d)
         → IsParted cut cut (line ++ Silent ∷ []) (closed ++ d ∷ []) None

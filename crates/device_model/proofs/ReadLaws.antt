@@ -1,4 +1,4 @@
--- What is read of bursts, as the line goes on.
+-- Which frames of bursts are read as the line goes on.
 use Rattle.device_model.specs.Frames.{FrameRead}
 use Rattle.device_model.specs.RtuReads.{is_frame_body, frame_in, frames_read}
 use Rattle.rtu_frame.{proofs.FrameLaws.is_frame-true, specs.Frame.is_frame}
@@ -22,7 +22,8 @@ no_test : (ended whole : Bool) (d : Burst) → ended ≡ false
 no_test false whole d e = refl
 no_test true whole d e = absurd (cc)
 
--- the frames of those of these bursts that are whole by some test, and end this many ticks before m
+-- the frames of those of these bursts that are whole by the test `whole`, and that end at least
+-- `cut` ticks before tick `m`
 abbrev pub frames_ended : ℕ → (Burst → Bool) → ℕ → List Burst → List FrameRead
 frames_ended cut whole m ds = map frame_in (filter (λ d. nat_le (end_of d + cut) m && whole d) ds)
 
@@ -35,13 +36,13 @@ module _ (cut : ℕ) (whole : Burst → Bool) where
       ap (λ x. map frame_in x) (filter-append test xs ys)
       ∙ map-append frame_in (filter test xs) (filter test ys)
 
-  -- a burst that is ended is read if it is whole
+  -- A burst that has ended is read if it is whole.
   pub frames_ended-ended : (m : ℕ) (d : Burst) → end_of d + cut ≤ m
       → frames_ended cut whole m (d ∷ []) ≡ cond (whole d) (frame_in d ∷ []) []
   frames_ended-ended m d ended =
       one_test (nat_le (end_of d + cut) m) (whole d) d (le-leb (end_of d + cut) m ended)
 
-  -- an open burst isn't read
+  -- A burst that hasn't ended isn't read.
   pub frames_ended-open : (m : ℕ) (d : Burst) → m < end_of d + cut
       → frames_ended cut whole m (d ∷ []) ≡ []
   frames_ended-open m d here =
@@ -61,7 +62,7 @@ module _ (cut pause : ℕ) where
       → frames_read cut pause m (d ∷ []) ≡ []
   frames_read-open = frames_ended-open cut (λ d. is_frame_body pause d.body)
 
-  -- what is read of ended bursts doesn't change as the line goes on
+  -- What is read from ended bursts doesn't change as the line goes on.
   pub frames_read-later : (m n : ℕ) (ds : List Burst) → m ≤ n → AreClosed cut m ds
       → frames_read cut pause n ds ≡ frames_read cut pause m ds
   frames_read-later m n [] later closed = refl
@@ -74,7 +75,7 @@ module _ (cut pause : ℕ) where
       ∙ (ap (λ x. frames_read cut pause m (d ∷ []) ++ x) (frames_read-later m n ds later closed.1)
       ∙ sym (frames_read-append m (d ∷ []) ds)))
 
-  -- An open burst after ended ones adds nothing.
+  -- A burst that hasn't ended, after ended ones, adds nothing.
   pub frames_read-front : (m n : ℕ) (front : List Burst) (d : Burst) → m ≤ n → AreClosed cut m front
       → n < end_of d + cut
       → frames_read cut pause n (front ++ d ∷ []) ≡ frames_read cut pause m front
@@ -83,7 +84,7 @@ module _ (cut pause : ℕ) where
       ∙ (ap (λ x. frames_read cut pause n front ++ x) (frames_read-open n d here)
       ∙ (append-nil (frames_read cut pause n front) ∙ frames_read-later m n front later closed))
 
-  -- A burst that ends after ended ones adds its frame.
+  -- A burst that has ended, after ended ones, adds its frame.
   pub frames_read-last : (m n : ℕ) (front : List Burst) (d : Burst) → m ≤ n → AreClosed cut m front
       → end_of d + cut ≤ n
       → frames_read cut pause n (front ++ d ∷ [])
@@ -94,7 +95,7 @@ module _ (cut pause : ℕ) where
       ∙ ap (λ x. x ++ cond (is_frame_body pause d.body) (frame_in d ∷ []) [])
       (frames_read-later m n front later closed))
 
--- a frame isn't longer than the longest one
+-- Bytes that are longer than the longest frame are no frame.
 pub is_frame-long : (f : List ℕ) → 256 < length f → is_frame f ≡ false
 is_frame-long f long =
     ⊎_elim

@@ -1,6 +1,6 @@
--- What is read of a recorded exchange, computed: a query, the same with a wrong check, and the
--- least frame with one silent tick in it. A burst in which two silent ticks are together isn't
--- read, nor one that only three silent ticks follow.
+-- What is read from a recorded exchange, computed: a query, the same query with a wrong CRC, and
+-- the shortest frame, with one silent tick in it. A burst with two silent ticks in a row isn't
+-- read, nor one that is followed by only three silent ticks.
 use Rattle.device_model.specs.RtuReads.{has_silence, rtu_reads}
 use Rattle.line_rules.specs.Endings.{ends_in_check}
 use Rattle.rtu_frame.specs.Crc.{bit_step, bit_steps, byte_step, crc}

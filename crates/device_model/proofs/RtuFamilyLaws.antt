@@ -1,4 +1,4 @@
--- The steps of a Modbus RTU device, over the values that it has before and after.
+-- The steps of a Modbus RTU device, by the values that it has before and after.
 use Rattle.device_model.proofs.Broken.{grown-bytes, alone-whole, grown-is}
 use Rattle.device_model.proofs.Parting.{longer, grown_by, parted-nothing, parted-begins}
 use Rattle.device_model.proofs.Parting.{parted-goes_on, parted-rests, parted-waits, parted-ends}
@@ -25,7 +25,7 @@ module _ (cut gap : ℕ) where
   abbrev reads : List Tick → List FrameRead
   reads line = rtu_family_reads cut gap line
 
-  -- the frames of its closed bursts
+  -- What is read from a line are the frames of its closed bursts.
   pub reads-parted : (quiet : ℕ) (line : List Tick) (closed : List Burst) (running : Option Burst)
       → IsParted cut quiet line closed running
       → reads line ≡ frames_read cut (suc gap) (length line) closed
@@ -39,7 +39,7 @@ module _ (cut gap : ℕ) where
       ∙ frames_read-front cut (suc gap) (length line) (length line) closed d (omega arith)
       parted.are_closed near
 
-  -- a tick that ends no burst adds nothing
+  -- A tick that ends no burst adds nothing.
   reads-same : (line : List Tick) (t : Tick) (quiet after_it : ℕ) (closed : List Burst)
       (before after : Option Burst) → IsParted cut quiet line closed before
       → IsParted cut after_it (line ++ t ∷ []) closed after
@@ -54,7 +54,7 @@ module _ (cut gap : ℕ) where
   abbrev frame_of_burst : Burst → List FrameRead
   frame_of_burst d = cond (is_frame_body (suc gap) d.body) (frame_in d ∷ []) []
 
-  -- one that ends a burst adds its frame
+  -- A silent tick that ends a burst adds the frame of the burst.
   reads-ends : (line : List Tick) (quiet : ℕ) (closed : List Burst) (d : Burst)
       → IsParted cut quiet line closed (Some d) → quiet + 1 ≡ cut
       → reads (line ++ Silent ∷ []) ≡ reads line ++ frame_of_burst d
@@ -102,7 +102,8 @@ module _ (cut gap : ℕ) where
 
   -- ---- a step
 
-  -- The device has taken the tick, and these frames are read with it.
+  -- Holds if a device with this value has taken the tick `t` after `line`, and `frames` are read
+  -- with it.
   pub record Hears (value : RtuFamily) (line : List Tick) (t : Tick) (frames : List FrameRead) :
       Type 0 where
     pub stands : RtuFamilyStandsFor cut gap value (line ++ t ∷ [])
@@ -135,7 +136,7 @@ module _ (cut gap : ℕ) where
           heard.parted parted;
     }
 
-    -- a byte at rest
+    -- A byte comes while no burst is running.
     module _ (b : ℕ) (parts : nat_le old.silence.cut old.silence.quiet ≡ true)
         (quiet_is : new.silence.quiet ≡ 0) where
       rests : (running : Option Burst)
@@ -164,7 +165,7 @@ module _ (cut gap : ℕ) where
             bytes_are = λ whole. bytes;
           })
 
-    -- a byte in a burst
+    -- A byte comes while a burst is running.
     module _ (b : ℕ) (parts : nat_le old.silence.cut old.silence.quiet ≡ false)
         (quiet_is : new.silence.quiet ≡ 0) (start : new.start ≡ old.start)
         (broken : new.broken ≡ (old.broken || (nat_lt old.gap old.silence.quiet
@@ -217,7 +218,7 @@ module _ (cut gap : ℕ) where
 
     module _ (quiet_is : new.silence.quiet ≡ (if nat_lt old.silence.quiet old.silence.cut
         then old.silence.quiet + 1 else old.silence.quiet)) where
-      -- that ends no burst
+      -- The silent tick ends no burst.
       module _ (waits : old.silence.quiet + 1 == old.silence.cut ≡ false)
           (start : new.start ≡ old.start)
           (broken : new.broken ≡ old.broken) (bytes : new.bytes.items ≡ old.bytes.items) where
@@ -258,7 +259,7 @@ module _ (cut gap : ℕ) where
         pub waits_on : Hears new line Silent []
         waits_on = waits-on heard.running heard.parted heard.kept
 
-      -- or ends one
+      -- The silent tick ends a burst.
       module _ (parts : old.silence.quiet + 1 == old.silence.cut ≡ true) (answer : List FrameRead)
           (tells : answer ≡ frame_at_end old.broken old.start old.bytes.items) where
         ends-with : (running : Option Burst)
@@ -314,7 +315,7 @@ nothing-heard cut gap value some cut_is quiet_is gap_is count =
       kept = tt;
     }
 
--- the bytes are a frame, or they aren't
+-- At the end of a burst that isn't broken, its bytes are read if they are a frame.
 pub ended-frame : (broken : Bool) (start : ℕ) (x : List ℕ) → broken ≡ false
     → is_frame x ≡ true
     → (let r : FrameRead = record { start = start; frame = x } in r ∷ [])

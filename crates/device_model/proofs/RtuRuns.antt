@@ -1,5 +1,5 @@
 -- A Modbus RTU device over a run of bytes, or of silent ticks: what it reads in the run, and what
--- it keeps behind it.
+-- it keeps after it.
 use Rattle.device_model.proofs.{Broken.grown-bytes, Broken.grown-silence, Parting.grown_by}
 use Rattle.device_model.proofs.Parting.{parted-begins, parted-goes_on, parted-rests, parted-waits}
 use Rattle.device_model.proofs.{ReadLaws.frames_read-later, RtuFamilyLaws.reads-parted}
@@ -16,7 +16,7 @@ use Rattle.yasir_ticks.proofs.{BurstLaws.alone, BurstsOfLaws.contiguous-more}
 use Rattle.yasir_ticks.specs.{Bursts.Burst, BurstsOf.IsContiguous, Ticks.bytes_in, Ticks.silent}
 use Rattle.yasir_ticks.specs.declared.tick.Tick.{Tick, TheVariants.Silent, TheVariants.Byte}
 
--- ---- the running burst, and bytes right behind it
+-- ---- the running burst, and bytes right after it
 
 abbrev pub grown_run : Burst → List ℕ → Burst
 grown_run d [] = d
@@ -54,7 +54,7 @@ or-same : (s q r : Bool) → (s ≡ false → q ≡ r) → (s || q) ≡ (s || r)
 or-same true q r same = refl
 or-same false q r same = same refl
 
--- it is broken where it was before, or the bytes have no room
+-- With more bytes, a burst is broken if it was before, or if there is no room for them.
 run-broken : (gap cut : ℕ) (d : Burst) (y : List ℕ) (broken : Bool) → 0 < cut
     → IsContiguous cut d.body → broken ≡ is_broken gap d.body
     → (broken || nat_lt 256 (length (bytes_in d.body) + length y))
@@ -75,7 +75,7 @@ run-broken gap cut d y broken some contiguous is =
     joined false true k more = sym (more refl)
     joined false false k more = refl
 
--- ---- a line, and ticks behind it
+-- ---- a line, and ticks after it
 
 module _ (cut : ℕ) where
   parted-run : (y : List ℕ) (line : List Tick) (closed : List Burst) (d : Burst)
@@ -89,7 +89,7 @@ module _ (cut : ℕ) where
       (parted-run y (line ++ Byte b ∷ []) closed (grown_by d 0 b)
       (parted-goes_on cut line closed 0 b d parted))
 
-  -- some burst is running behind bytes
+  -- Holds if some burst is running after a byte.
   record Runs (line : List Tick) (closed : List Burst) : Type 0 where
     running : Burst
     parted : IsParted cut 0 line closed (Some running)
@@ -127,7 +127,7 @@ module _ (cut : ℕ) where
       (parted-waits cut line closed quiet d (omega arith) parted))
 
 module _ (cut gap : ℕ) where
-  -- ticks that end no burst add nothing
+  -- Ticks that end no burst add nothing.
   reads-run : (line more : List Tick) (quiet after_it : ℕ) (closed : List Burst)
       (before after : Option Burst) → IsParted cut quiet line closed before
       → IsParted cut after_it (line ++ more) closed after
@@ -139,7 +139,7 @@ module _ (cut gap : ℕ) where
       (omega arith) parted.are_closed
       ∙ sym (reads-parted cut gap quiet line closed before parted))
 
-  -- so bytes don't,
+  -- In a run of bytes, nothing is read.
   pub bytes-unread : (value : RtuFamily) (line : List Tick) (y : List ℕ)
       → RtuFamilyStandsFor cut gap value line
       → rtu_family_reads cut gap (line ++ map (λ b. Byte b) y) ≡ rtu_family_reads cut gap line
@@ -155,12 +155,12 @@ module _ (cut gap : ℕ) where
       reads-run line (map (λ c. Byte c) (b ∷ y)) value.silence.quiet 0 heard.closed heard.running
       (Some (grown_run first.running y)) heard.parted all
 
-  -- these silent ticks end no burst
+  -- Holds if `n` silent ticks end no burst.
   abbrev pub EndsNone : RtuFamily → ℕ → Type 0
   EndsNone value n =
       (value.silence.cut ≤ value.silence.quiet) ⊎ (value.silence.quiet + n < value.silence.cut)
 
-  -- the line behind them
+  -- the line after `n` silent ticks
   record Rests (value : RtuFamily) (line : List Tick) (n : ℕ) (closed : List Burst)
       (running : Option Burst) : Type 0 where
     quiet : ℕ
@@ -194,7 +194,7 @@ module _ (cut gap : ℕ) where
             (lt-ltb value.silence.quiet value.silence.cut (omega arith)));
       }
 
-  -- and nor does silence that comes not to part the line.
+  -- In a run of silent ticks that end no burst, nothing is read.
   pub silence-unread : (value : RtuFamily) (line : List Tick) (n : ℕ) → EndsNone value n
       → RtuFamilyStandsFor cut gap value line
       → rtu_family_reads cut gap (line ++ silent n) ≡ rtu_family_reads cut gap line
@@ -304,12 +304,13 @@ pub silent-behind : (line : List Tick) (n m all : ℕ) → n + m ≡ all
 silent-behind line n m all end =
     append_assoc line (silent n) (silent m) ∙ ap (λ x. line ++ x) (silent-parts n m all end)
 
--- silence that was counted on
+-- If the silence isn't counted up to `cut` yet, all `n` ticks are counted.
 pub counted-on : (quiet cut n next : ℕ) → quiet < cut
     → next ≡ (if nat_lt quiet cut then quiet + n else quiet) → next ≡ quiet + n
 counted-on quiet cut n next few is = is ∙ cond-true _ _ _ (lt-ltb quiet cut few)
 
--- what is read in the last of this many silent ticks
+-- What is read in a run of silent ticks of which only the last one can end a burst is what is read
+-- in that one.
 pub read-last : (cut gap : ℕ) (old : RtuFamily) (line : List Tick) (n left : ℕ)
     (frames : List FrameRead) → n + 1 ≡ left → EndsNone cut gap old n
     → RtuFamilyStandsFor cut gap old line
@@ -320,7 +321,8 @@ read-last cut gap old line n left frames end ends heard reads =
     ap (rtu_family_reads cut gap) (sym (silent-behind line n 1 left end))
     ∙ (reads ∙ ap (λ x. x ++ frames) (silence-unread cut gap old line n ends heard))
 
--- the line was parted after this many silent ticks, and no frame was read
+-- If the line was parted after `left` silent ticks, and no frame was read, none is read in any
+-- number of silent ticks.
 module _ (cut gap : ℕ) (old parted : RtuFamily) (line : List Tick) (left : ℕ)
     (heard : RtuFamilyStandsFor cut gap old line)
     (left_is : old.silence.quiet + left ≡ old.silence.cut)

@@ -5,20 +5,21 @@ use Rattle.device_model.specs.Frames.{FrameRead}
 
 module _ {D : Type 0} (stands : D → List Tick → Type 0) (reads : List Tick → List FrameRead)
     (taken : D → ℕ) where
-  -- A device has taken these ticks, and these frames are read in them.
+  -- Holds if a device has taken the ticks `ticks`, and `frames` are the frames that it reads in
+  -- them.
   pub record Takes (before after : D) (ticks : List Tick) (frames : List FrameRead) : Type 0 where
     pub count : taken after ≡ taken before + length ticks
     pub hears : (line : List Tick) → stands before line → stands after (line ++ ticks)
     pub answers : (line : List Tick) → stands before line
         → reads (line ++ ticks) ≡ reads line ++ frames
 
-  -- no frame is read in the first n of these ticks, for each n below m
+  -- Holds if, for each `n` below `m`, no frame is read in the ticks `ticks n`, the first `n`.
   abbrev pub IsUnread : D → (ℕ → List Tick) → ℕ → Type 0
   IsUnread before ticks m =
       (n : ℕ) → n < m → (line : List Tick) → stands before line
       → reads (line ++ ticks n) ≡ reads line
 
-  -- A device has taken the first m ticks, and has read no frame in them.
+  -- Holds if a device has taken the first `m` ticks, and no frame is read in them.
   pub record IsQuiet (before after : D) (ticks : ℕ → List Tick) (m : ℕ) : Type 0 where
     pub so_far : Takes before after (ticks m) []
     pub unread : IsUnread before ticks m

@@ -6,5 +6,6 @@ use Rattle.dnp_link_frame.specs.Rules.{dnp_rules}
 use Rattle.device_model.specs.Frames.{FrameRead}
 use Rattle.device_model.specs.Hunt.{hunt_line}
 
+-- the frames that a DNP3 device reads from a line
 abbrev pub dnp_reads : List Tick → List FrameRead
 dnp_reads line = hunt_line 0x05 0x64 dnp_rules line

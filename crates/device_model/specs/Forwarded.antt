@@ -12,6 +12,7 @@ use Rattle.device_model.specs.Frames.{FrameRead}
 abbrev pub is_forwarded : Rules → Burst → Bool
 is_forwarded rules d = not (has_extra rules d) && rules.is_frame (live_bytes rules d)
 
+-- the live bytes of a burst, as a frame
 abbrev pub frame_forwarded : Rules → Burst → FrameRead
 frame_forwarded rules d = record { start = d.start; frame = live_bytes rules d }
 

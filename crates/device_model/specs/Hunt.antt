@@ -17,6 +17,7 @@ pub record Timed : Type 0 where
   pub tick : ℕ
   pub byte : ℕ
 
+-- the bytes without their ticks
 abbrev pub timed_bytes : List Timed → List ℕ
 timed_bytes x = map (λ t. t.byte) x
 

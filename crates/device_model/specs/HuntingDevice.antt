@@ -56,6 +56,7 @@ module _ {R : Type 0} (proto : LineRules R) (first second : ℕ) where
         → proto.stands rules (header_in proto.rules bytes)
     pub starts : StartsAt start held
 
+  -- Holds if the device has heard the bytes `x`.
   abbrev pub HeardBy : HuntingDevice R → List Timed → Type 0
   HeardBy value x = HasHeard value.rules (held_by value) value.lacking value.start x
 

@@ -10,6 +10,8 @@ abbrev pub IsQuiet : ℕ → ℕ → ℕ → Option Burst → Type 0
 IsQuiet cut quiet m None = quiet ≡ cut
 IsQuiet cut quiet m (Some d) = (quiet < cut) × (end_of d + quiet ≡ m)
 
+-- Holds if `line`, which `cut` silent ticks together part, has the closed bursts `closed` and then
+-- the running burst, if there is one, and ends in `quiet` silent ticks, counted up to `cut`.
 pub record IsParted (cut quiet : ℕ) (line : List Tick) (closed : List Burst)
     (running : Option Burst) : Type 0 where
   pub is : bursts_from cut 0 line ≡ closed ++ running_part running

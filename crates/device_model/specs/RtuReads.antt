@@ -33,6 +33,7 @@ is_frame_body pause body = not (has_silence pause body) && is_frame (bytes_in bo
 abbrev pub is_read : ℕ → ℕ → ℕ → Burst → Bool
 is_read cut pause m d = nat_le (end_of d + cut) m && is_frame_body pause d.body
 
+-- all bytes of a burst, as a frame
 abbrev pub frame_in : Burst → FrameRead
 frame_in d = record { start = d.start; frame = bytes_in d.body }
 
