@@ -1,5 +1,5 @@
--- A receiver in the middle of a step: the value that cuts the link has taken the tick, there is one
--- step less until the last live byte leaves, and everything else is as before.
+-- A receiver in the middle of a step: the value that cuts the link has taken the tick, one step
+-- less is left until the last live byte leaves, and everything else is as before.
 use Rattle.std.specs.Prelude.{◌≡◌, ℕ, ◌+◌, ◌-◌, ◌≤◌, true, List, [], ◌∷◌, ◌++◌, Option, Some, None}
 use Rattle.std.specs.Prelude.{Result, Ok, Err}
 use Rattle.yasir_ticks.specs.declared.tick.Tick.{Tick}

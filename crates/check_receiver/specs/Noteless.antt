@@ -63,8 +63,8 @@ module _ {R M : Type 0} (proto : LineRules R) {B D : ℕ} (value : Checker R M B
   extra_has_none = if nat_lt (still + 3) D then nat_lt 1 still else false
 
   -- Whether a byte that begins no burst is noteless. It is if no verdict is open. Otherwise a byte
-  -- that isn't live is as `extra_has_none` says, and a live byte is if it follows a good header: of
-  -- the bytes of a header the receiver isn't sure.
+  -- that isn't live is as `extra_has_none` says, and a live byte is if it follows a good header:
+  -- about the bytes of a header the receiver isn't sure.
   abbrev pub further_has_none : Bool
   further_has_none =
       if not (is_open value.phase) then true

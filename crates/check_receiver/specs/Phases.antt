@@ -21,9 +21,9 @@ is_idle Idle = true
 is_idle Open = false
 is_idle (Leaving passed) = false
 
--- Holds if a receiver in this phase can have live ticks of which the last leaves `until` steps from
--- now, and owe `owed` bytes of a fill: both are 0 if it is idle, and one of them isn't while a
--- noted burst is still leaving.
+-- Holds if these two numbers fit the phase: the last live tick leaves `until` steps from now, and
+-- `owed` bytes of a fill are owed. Both are 0 if the receiver is idle, and not both while a noted
+-- burst is still leaving.
 abbrev pub LeftIn : Phase → ℕ → ℕ → Type 0
 LeftIn Idle until owed = (until ≡ 0) × (owed ≡ 0)
 LeftIn Open until owed = Unit {0}

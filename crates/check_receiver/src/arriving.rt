@@ -69,7 +69,7 @@ impl<const B: usize> Arriving<B> {
         let _ = self.bytes.try_push(byte);
     }
 
-    /// Takes the next bytes, if there is room for them.
+    /// Takes the next bytes, if there is room for all of them.
     #[inline]
     pub fn take_some(&mut self, bytes: &[u8])
         ensures { length (bytes_come self.old) + length bytes.now ≤ 20
@@ -97,7 +97,8 @@ impl<const B: usize> Arriving<B> {
         4_294_967_296
     }
 
-    /// Returns the full number of the word above this floor, if there is one.
+    /// Returns the full number of the word above this floor, or `None` if it would be above the
+    /// limit, or the word isn't whole.
     #[inline]
     pub fn number_above(&self, floor: u64) -> Option<u64>
         requires floor { floor ≤ LIMIT }
@@ -113,7 +114,7 @@ impl<const B: usize> Arriving<B> {
         full_with(LIMIT, words, floor, word % words)
     }
 
-    /// Whether the bytes after the word are those of this tag.
+    /// Whether the word is whole, and the bytes after it are those of this tag.
     pub fn has_tag(&self, tag: &TagBytes) -> bool
         ensures { B ≤ length (bytes_come self.now)
             → result ≡ bytes_eq (drop B (bytes_come self.now)) tag.now.items }

@@ -449,7 +449,7 @@ impl<R: LineRules, M: Mac, const B: usize> Sealer<R, M, B> {
         }
     }
 
-    // Returns why the burst that is now closed isn't sealed, or `None` if it must be.
+    // Returns why the burst that is now closed isn't sealed, or `None` if it must be sealed.
     fn unsealed_why(&self, journal: &Journal) -> Option<UnsealedWhy>
         ensures within { IfNone result (journal_floor journal.now < LIMIT) }
         ensures judged { (setup : Setup) (line : List Tick)

@@ -100,7 +100,7 @@ impl<R: LineRules, M: Mac, const B: usize, const D: usize> Checker<R, M, B, D> {
         let Some(number) = self.arriving.number_above(floor) else {
             return Err(RefusedWhy::Number);
         };
-        // neither happens: a full number is above the floor and within the limit
+        // neither of these happens: a full number is above the floor and within the limit
         if number <= floor {
             return Err(RefusedWhy::Number);
         }
