@@ -169,7 +169,7 @@ module _ {R : Type 0} (proto : LineRules R) (first second : ℕ)
     unread = λ n below x heard. takes.unread n below x (keeps x heard);
   }
 
-  -- ---- bytes where no header begins
+  -- ---- bytes with which no header begins
 
   -- A byte comes with which no header begins.
   pub passed-byte : (old new : HuntingDevice R) (at b : ℕ) → new.ticks ≡ old.ticks → old.lacking ≡ 0

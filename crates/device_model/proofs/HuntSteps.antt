@@ -184,7 +184,7 @@ module _ {R : Type 0} (proto : LineRules R) (first second : ℕ)
         starts = tt;
       }
 
-  -- ---- where no header has begun
+  -- ---- if no header has begun
 
   unbegun-few : (y : List ℕ) → Undecided y → bytes_lacking first second its y ≡ 0 → length y < 2
   unbegun-few y nothing none = omega arith

@@ -89,7 +89,7 @@ module _ (first second : ℕ) (rules : Rules) where
       (cond-false _ _ _ none)
       ∙ ap (λ n. hunts (n - 1) x) (cond-false _ _ _ none))
 
-  -- ---- where a header begins
+  -- ---- if a header begins
 
   pub taken-is : (head : Head) (x : List ℕ) → begins first second x ≡ true
       → head_of rules x ≡ head → bytes_taken first second rules x ≡ taken_by rules head x

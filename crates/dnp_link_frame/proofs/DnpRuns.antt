@@ -21,7 +21,7 @@ use Rattle.std.proofs.lemmas.List.{length-drop, nil_from_length, take-append-dro
 use Rattle.std.proofs.lemmas.List.Elements.{All-cons, All-head, All-tail, All-drop, All-take}
 use Rattle.std.specs.Prelude.{if◌then◌else◌}
 
--- ---- one byte behind the header
+-- ---- one byte after the header
 
 fits_header-behind : (n register byte : ℕ) → 10 ≤ n → fits_header n register byte ≡ true
 fits_header-behind n register byte behind =
@@ -140,7 +140,7 @@ goes_on value next (b ∷ y) q m at some few room bytes count tells check header
     (All-tail (λ n. n < 256) b y bytes) (omega arith) tells
     (check ∙ crc-cons 0xA6BC value.register b y) header blocks size lacks (x ++ b ∷ []) first)
 
--- ---- bytes of one block, from its beginning or from further on
+-- ---- bytes of one block, from its beginning or from a later byte
 
 register_before-byte : (n register byte : ℕ)
     → byte_step 0xA6BC (register_before n register) byte ≡ register_after n register byte
@@ -354,7 +354,7 @@ is_begun-first old run right behind begins some room bytes judged = record {
   ends = λ next more. more;
 }
 
--- It goes on to hold after one more block.
+-- It still holds after one more block.
 pub is_begun-next : (old : Dnp) (run following block more : List ℕ) (right next_right : Bool)
     (register : ℕ) → 18 < length following → block ≡ take 18 following
     → more ≡ drop 18 following → register ≡ crc 0xA6BC 0 block

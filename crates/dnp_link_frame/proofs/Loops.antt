@@ -27,7 +27,7 @@ is_built-first header fields items before user none pushed is = record {
       (pushed ∙ (ap (λ y. y ++ with_crc fields) none ∙ ap with_crc is));
 }
 
--- It goes on to hold when a whole block has been added.
+-- It still holds when a whole block has been added.
 pub is_built-next : (header user items next following block more : List ℕ)
     → 16 ≤ length following → block ≡ take 16 following → more ≡ drop 16 following
     → next ≡ items ++ with_crc block → IsBuilt header user items following
