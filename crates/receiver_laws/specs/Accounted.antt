@@ -1,11 +1,11 @@
--- What the frames that pass are to those that were sealed.
+-- How the frames that passed relate to those that were sealed.
 use Rattle.std.specs.Prelude.{ℕ, ◌==◌, ◌&&◌, ◌||◌, Bool, false, not, List, [], ◌∷◌, map}
 use Rattle.std.specs.Prelude.{bytes_eq}
 use Rattle.std.specs.List.{filter}
 use Rattle.sequence_journal.specs.Uptimes.{RiseFrom}
 use Rattle.link_format.specs.NumberedFrame.{NumberedFrame, numbers_of}
 
--- a number and the bytes of its frame, wherever it is on a line
+-- a frame's number and bytes, wherever the frame is on a line
 pub record Pair : Type 0 where
   pub number : ℕ
   pub frame : List ℕ
@@ -24,22 +24,23 @@ abbrev pub is_among : List NumberedFrame → NumberedFrame → Bool
 is_among [] f = false
 is_among (g ∷ frames) f = is_same_pair g f || is_among frames f
 
--- the frames that passed and were sealed so, and those that passed and weren't
+-- of the frames that passed, those that were sealed with their numbers, and (`forged`) those that
+-- weren't
 abbrev pub rightly_passed : List NumberedFrame → List NumberedFrame → List NumberedFrame
 rightly_passed sealed_ones passed_ones = filter (λ f. is_among sealed_ones f) passed_ones
 
 abbrev pub forged : List NumberedFrame → List NumberedFrame → List NumberedFrame
 forged sealed_ones passed_ones = filter (λ f. not (is_among sealed_ones f)) passed_ones
 
--- The first list is the second one without some of its elements.
+-- Holds if the first list is the second one with some elements left out, which may be none or all.
 pub data IsSubsequence {X : Type 0} : List X → List X → Type 0 where
   none : IsSubsequence [] []
   skip : {x : List X} {a : X} {y : List X} → IsSubsequence x y → IsSubsequence x (a ∷ y)
   keep : {x : List X} {a : X} {y : List X} → IsSubsequence x y → IsSubsequence (a ∷ x) (a ∷ y)
 
--- The frames that passed are accounted for: those that aren't forged are, with their numbers, a
--- subsequence of the sealed ones. Numbers rise from the floors on both sides, so that none is
--- sealed or passed twice, forged ones included.
+-- Holds if the frames that passed are accounted for: those that aren't forged are, with their
+-- numbers, a subsequence of the sealed ones. On both sides numbers rise from the floor, so no
+-- number is sealed or passed twice, not even by a forged frame.
 pub record IsAccountedFor (seal_floor check_floor : ℕ)
     (sealed_ones passed_ones : List NumberedFrame) : Type 0 where
   pub subsequence :

@@ -4,8 +4,9 @@ use Rattle.line_rules.specs.Rules.{Rules}
 use Rattle.link_format.specs.Profile.{Profile, HasTags}
 use Rattle.link_verdicts.specs.Timely.{IsTimely}
 
--- Its tags have their length, a word has a byte at least, and a header of the protocol has come
--- before its first byte leaves.
+-- Holds if the profile's tags have its tag length, a word has at least one byte, and a header of
+-- the protocol, with at most one silent tick between its bytes, has come before its first byte must
+-- leave.
 pub record IsFit (profile : Profile) (rules : Rules) : Type 0 where
   pub tags : HasTags profile
   pub word : 1 ≤ profile.word_len

@@ -1,4 +1,4 @@
--- The frames that a device reads are those that were sealed.
+-- A device reads only frames that were sealed, unless a frame that passed is forged.
 use Rattle.std.specs.Prelude.{◌≡◌, ℕ, List, [], map}
 use Rattle.yasir_ticks.specs.declared.tick.Tick.{Tick}
 use Rattle.line_rules.specs.Rules.{Rules}
@@ -17,9 +17,10 @@ bytes_read reads = map (λ f. f.frame) reads
 abbrev pub bytes_sealed : List NumberedFrame → List (List ℕ)
 bytes_sealed frames = map (λ f. f.frame) frames
 
--- Of a line of a device a transmitter has sealed frames, and whatever came of them on the link, a
--- device behind the receiver that reads so has read of it a subsequence of the sealed frames,
--- unless one that passed is forged. What it reads has passed, and numbers rise on both sides.
+-- A transmitter has sealed frames of a device's line. Whatever happened to them on the link, a
+-- device behind the receiver that reads a line as `reads` says has read a subsequence of the sealed
+-- frames, unless a frame that passed is forged. It reads only frames that have passed, and numbers
+-- rise on both sides.
 pub record ReadsWhatWasSealed (rules : Rules) (reads : List Tick → List FrameRead) (ends : ℕ)
     (profile : Profile) (seal_floor check_floor : ℕ) (line link : List Tick) : Type 0 where
   pub only_sealed :

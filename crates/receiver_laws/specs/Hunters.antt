@@ -1,4 +1,4 @@
--- Devices that hunt for frames, whatever they make of silence between them.
+-- Devices that hunt for frames, whatever they make of longer silence inside a frame.
 use Rattle.std.specs.Prelude.{◌≡◌, ℕ, ◌+◌, ◌<◌, List, [], ◌++◌, length}
 use Rattle.yasir_ticks.specs.Ticks.{silent}
 use Rattle.yasir_ticks.specs.BurstsOf.{IsContiguous}
@@ -8,17 +8,18 @@ use Rattle.line_rules.specs.Rules.{Rules}
 use Rattle.device_model.specs.Frames.{FrameRead}
 use Rattle.device_model.specs.Hunt.{Timed, timed, hunt}
 
--- The front of such contiguous ticks as bursts of the receiver are: nothing, or contiguous ticks
--- and then less silence than parts them.
+-- Holds for a front of ticks that are contiguous as the receiver's bursts are: for no ticks, or for
+-- contiguous ticks and then less silence than would divide them.
 pub data IsFront : List Tick → Type 0 where
   nothing : IsFront []
   up_to : (x : List Tick) (gap : ℕ) → gap < T1_5_TICKS → IsContiguous T1_5_TICKS x
       → IsFront (x ++ silent gap)
 
--- A device that reads these frames of ticks, the first of which is tick n of the line, at rest
--- before. It reads nothing of silence. Contiguous ticks of which the hunt takes all, whatever
--- follows, it takes as the hunt does, and is at rest after them. And of ticks that are broken off
--- it reads nothing where the hunt doesn't.
+-- A device that hunts: `read n` has the frames that it reads of ticks if the first of them is tick
+-- n of the line and the device is at rest before it. It reads nothing of silence, and stays at
+-- rest. If the hunt takes all of some contiguous ticks, whatever follows, the device takes them as
+-- the hunt does, and is at rest after them. Of ticks that are broken off it reads nothing if the
+-- hunt reads nothing.
 pub record IsHunter (first second : ℕ) (rules : Rules) (read : ℕ → List Tick → List FrameRead) :
     Type 0 where
   pub none : (n : ℕ) → read n [] ≡ []

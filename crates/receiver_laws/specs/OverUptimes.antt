@@ -15,33 +15,34 @@ use Rattle.link_verdicts.specs.Checking.{passed, received_line}
 use Rattle.receiver_laws.specs.Accounted.{IsSubsequence, IsAccountedFor, forged}
 use Rattle.receiver_laws.specs.Headline.{bytes_read, bytes_sealed}
 
--- An uptime of a box: the floor that it loaded, the ticks that it answered before it ended, and the
--- image that it left of its journal's slots.
+-- An uptime of a box: the floor that it loaded, the ticks whose steps had returned before it ended,
+-- and the image that it left of its journal's slots.
 pub record BoxUptime : Type 0 where
   pub floor : ℕ
   pub line : List Tick
   pub image : Slots
 
--- By the frames of a box for a floor and a line: those that a transmitter seals, or those that a
--- receiver passes.
+-- `frames` has the frames of a box for a floor and a line: those that a transmitter seals, or those
+-- that a receiver passes.
 module _ (frames : ℕ → List Tick → List NumberedFrame) where
   -- the frames of all these uptimes, joined
   abbrev pub frames_over : List BoxUptime → List NumberedFrame
   frames_over [] = []
   frames_over (uptime ∷ uptimes) = frames uptime.floor uptime.line ++ frames_over uptimes
 
-  -- The first of these uptimes has loaded no number below this floor, and each other one none below
-  -- the last number that the one before it used.
+  -- Holds if the first of these uptimes has loaded a floor that isn't below this one, and each
+  -- later uptime a floor that isn't below the last number that the one before it used, or below
+  -- that one's floor if it used none.
   abbrev pub GoOnFrom : ℕ → List BoxUptime → Type 0
   GoOnFrom floor [] = Unit {0}
   GoOnFrom floor (uptime ∷ uptimes) =
       (floor ≤ uptime.floor)
       × GoOnFrom (last_number uptime.floor (frames uptime.floor uptime.line)) uptimes
 
-  -- The uptimes share a disk, for one link: each has loaded the floor of the slots that it found,
-  -- and has been an uptime with the numbers of its frames. It found the image that the one before
-  -- it left, or what runs between them left that ended before they had loaded a floor; these are
-  -- together one that is idle.
+  -- Holds if the uptimes share a disk, for one link: each has loaded the floor of the slots that it
+  -- found, and was an uptime with the numbers of its frames. It found the image that the uptime
+  -- before it left, or what that image was after runs in between which ended before they had loaded
+  -- a floor. All runs between two uptimes count as a single idle one.
   abbrev pub ShareDisk : LinkId → Slots → List BoxUptime → Type 0
   ShareDisk link begins [] = Unit {0}
   ShareDisk link begins (uptime ∷ uptimes) =
@@ -50,8 +51,8 @@ module _ (frames : ℕ → List Tick → List NumberedFrame) where
       × IsUptime link found (numbers_of (frames uptime.floor uptime.line)) uptime.image
       × ShareDisk link uptime.image uptimes
 
--- the bytes of all frames that a device reads in these uptimes of the receiver, where it begins
--- each of them at rest
+-- the bytes of all frames that a device reads in these uptimes of the receiver, if it is at rest at
+-- the start of each
 abbrev pub bytes_over : (List Tick → List FrameRead) → Profile → Rules → List BoxUptime
     → List (List ℕ)
 bytes_over reads profile rules [] = []
@@ -66,15 +67,16 @@ sealed_over profile rules seals = frames_over (sealed profile rules) seals
 abbrev pub passed_over : Profile → Rules → List BoxUptime → List NumberedFrame
 passed_over profile rules checks = frames_over (passed profile rules) checks
 
--- The uptimes of both boxes go on from one another, each box's over its own journal.
+-- Holds if the uptimes of each box go on from one another, over the box's own journal.
 pub record BothGoOn (profile : Profile) (rules : Rules) (seal_floor check_floor : ℕ)
     (seals checks : List BoxUptime) : Type 0 where
   pub sealing : GoOnFrom (sealed profile rules) seal_floor seals
   pub checking : GoOnFrom (passed profile rules) check_floor checks
 
--- Over these uptimes of both boxes, whatever came of the sealed frames on the link, a device that
--- reads so behind the receiver has read a subsequence of all sealed frames, unless one that passed
--- is forged. What it has read has passed, and numbers rise over all uptimes on both sides.
+-- Over these uptimes of both boxes, whatever happened to the sealed frames on the link, a device
+-- behind the receiver that reads a line as `reads` says has read a subsequence of all sealed
+-- frames, unless a frame that passed is forged. It has read only frames that have passed, and
+-- numbers rise over all uptimes on both sides.
 pub record ReadsOverUptimes (rules : Rules) (reads : List Tick → List FrameRead) (profile : Profile)
     (seal_floor check_floor : ℕ) (seals checks : List BoxUptime) : Type 0 where
   pub only_sealed : forged (sealed_over profile rules seals) (passed_over profile rules checks) ≡ []

@@ -17,9 +17,9 @@ delivered profile f = record { start = delay profile + f.start; frame = f.frame 
 abbrev pub delivered_of : Profile → Rules → ℕ → List Tick → List FrameRead
 delivered_of profile rules floor link = map (delivered profile) (passed profile rules floor link)
 
--- At this moment, whatever is on the link, a device that reads so has read frames that have
--- passed, in their order and without a gap, and nothing else. Once silence follows for as long as
--- the delay and the end of a frame take, it has read all of them.
+-- Whatever is on the link so far, a device that reads a line as `reads` says has read a front of
+-- the frames that have passed, each as late as the receiver is, and nothing else. Once silence
+-- follows for the delay and the `ends` ticks that end a frame, it has read all of them.
 pub record ReadsWhatPassed (rules : Rules) (reads : List Tick → List FrameRead) (ends : ℕ)
     (profile : Profile) (floor : ℕ) (link : List Tick) : Type 0 where
   pub prefix : Begins (reads (received_line profile rules floor link))

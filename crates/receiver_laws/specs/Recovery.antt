@@ -1,5 +1,5 @@
--- When a receiver works again by itself: an attacker has had the link and lets go of it, and from
--- then on it carries what the transmitter sends.
+-- When a receiver works again by itself: an attacker had the link and has let go of it, and from
+-- then on the link carries what the transmitter sends.
 use Rattle.std.specs.Prelude.{◌≡◌, ℕ, ◌+◌, ◌-◌, ◌≤◌, ◌<◌, List, ◌++◌, length, take, drop}
 use Rattle.std.specs.Prelude.{slice_index_or, All, Contains}
 use Rattle.yasir_ticks.specs.Ticks.{silent}
@@ -15,7 +15,7 @@ use Rattle.seal_judgements.specs.Sealing.{link_line, sealed}
 use Rattle.link_verdicts.specs.Checking.{passed}
 use Rattle.receiver_laws.specs.Standing.{StandsOn}
 
--- the frames that the transmitter seals of this line, where silence follows it
+-- the frames that the transmitter seals of this line once its last burst is closed
 abbrev pub all_sealed : Profile → Rules → ℕ → List Tick → List NumberedFrame
 all_sealed profile rules floor line = sealed profile rules floor (line ++ silent T3_5_TICKS)
 
@@ -23,21 +23,22 @@ all_sealed profile rules floor line = sealed profile rules floor (line ++ silent
 abbrev pub floor_after : Profile → Rules → ℕ → List Tick → ℕ
 floor_after profile rules floor link = last_number floor (passed profile rules floor link)
 
--- This burst of the link is a packet: one of these sealed frames starts it.
+-- Holds if this burst of the link is a packet: it starts at the tick at which one of these sealed
+-- frames starts.
 pub record BeginsPacket (frames : List NumberedFrame) (d : Burst) : Type 0 where
   pub frame : NumberedFrame
   pub is_sealed : Contains frames frame
   pub starts : frame.start ≡ d.start
 
--- the first of the four silent ticks up to this one. The start of a line counts as quiet, so that
--- before tick 3 it is tick 0.
+-- the first of the four silent ticks that end with this one. The start of a line counts as quiet,
+-- so for a tick before tick 3 it is tick 0.
 abbrev pub first_quiet : ℕ → ℕ
 first_quiet tick = tick + 1 - T3_5_TICKS
 
--- The link is left alone from a tick on: four silent ticks end with this one, such as part two
--- bursts, and from the first of them on the link carries what the transmitter makes of the device's
--- line. What the transmitter sends behind them is packets alone, and their numbers are above the
--- floor that the receiver then has.
+-- Holds if the link is left alone from a tick on. The four ticks that end with this one are silent,
+-- as between two bursts, and from the first of them on the link carries what the transmitter makes
+-- of the device's line. Each burst that the transmitter starts after this tick is a packet, and its
+-- number is above the floor that the receiver has after this tick.
 pub record IsLeftAlone (profile : Profile) (rules : Rules) (seal_floor check_floor : ℕ)
     (line link : List Tick) (tick : ℕ) : Type 0 where
   pub untouched : drop (first_quiet tick) link
@@ -50,13 +51,14 @@ pub record IsLeftAlone (profile : Profile) (rules : Rules) (seal_floor check_flo
       → floor_after profile rules check_floor (take (tick + 1) link) < f.number)
       (all_sealed profile rules seal_floor line)
 
--- No bytes for which there is room lack more than this many that their header says.
+-- Holds if bytes for which there is room never lack more than `most` of those that their header
+-- says.
 pub record LackAtMost (rules : Rules) (most : ℕ) : Type 0 where
   pub lack : (x : List ℕ) → AreBytes x → length x ≤ rules.room x → lacking_of rules x ≤ most
 
--- A packet is due: it starts when all has left of a burst that was cut off before the first of the
--- silent ticks, it is on the link whole, and its number is near enough to the receiver's floor
--- before it.
+-- Holds if a packet is due. It starts late enough: a burst that was cut off before the first of the
+-- silent ticks has left by then. It is on the link whole, and its number is near enough to the
+-- receiver's floor before it.
 pub record IsDue (profile : Profile) (rules : Rules) (seal_floor check_floor : ℕ)
     (line link : List Tick) (tick most : ℕ) (f : NumberedFrame) : Type 0 where
   pub late : first_quiet tick + delay profile + most ≤ f.start

@@ -1,4 +1,4 @@
--- What stood on the link of a frame that passes.
+-- What is on the link for each frame that passes.
 use Rattle.std.specs.Prelude.{◌≡◌, ℕ, ◌≤◌, true, List, ◌++◌, length, map, All}
 use Rattle.yasir_ticks.specs.Ticks.{silent, bytes_in, AreTicks}
 use Rattle.yasir_ticks.specs.Bursts.{Burst}
@@ -20,8 +20,9 @@ numbered_frame rules d number = record {
   frame = live_bytes rules d;
 }
 
--- A packet is on the link: from its start on the ticks of the frame, no two silent ones
--- together, then a pause, and then the word of the number and the tag of number and frame.
+-- Holds if the packet of a frame is on the link: from the frame's start on its ticks, with no two
+-- silent ones in a row, then a pause, and then the word of the number and the tag of the number and
+-- the frame.
 pub record StandsOn (profile : Profile) (link : List Tick) (f : NumberedFrame) : Type 0 where
   pub front : List Tick
   pub body : List Tick
@@ -32,8 +33,9 @@ pub record StandsOn (profile : Profile) (link : List Tick) (f : NumberedFrame) :
   pub spells : bytes_in body ≡ f.frame
   pub contiguous : IsContiguous T1_5_TICKS body
 
--- These frames of a link have passed: their numbers rise from the floor, none is above the limit,
--- they are frames of the protocol, and the packet of each is on the link.
+-- What holds for the frames of a link that have passed: their numbers rise from the floor, none is
+-- above the limit, and they are frames of the protocol. The packet of each is on the link, if the
+-- link's bytes are below 256 and a word has at least one byte.
 pub record HavePassed (profile : Profile) (rules : Rules) (floor : ℕ) (link : List Tick)
     (frames : List NumberedFrame) : Type 0 where
   pub rise : RiseFrom floor (numbers_of frames)

@@ -14,28 +14,30 @@ use Rattle.seal_judgements.specs.Sealing.{link_line, sealed}
 use Rattle.link_verdicts.specs.Checking.{received_line, passed}
 use Rattle.receiver_laws.specs.Standing.{numbered_frame}
 
--- All bytes of each of these bursts are live and are a frame; and from tick n on, a pause, a
--- trailer and the silence that ends a burst fit between each and the next one.
+-- Holds if all bytes of each of these bursts are live and are a frame, no burst starts before tick
+-- n, and a pause, a trailer and the silence that ends a burst fit between each burst and the next
+-- one.
 abbrev pub AreSpaced : Profile → Rules → ℕ → List Burst → Type 0
 AreSpaced profile rules n [] = Unit {0}
 AreSpaced profile rules n (d ∷ ds) =
     (n ≤ d.start) × (has_extra rules d ≡ false) × (rules.is_frame (live_bytes rules d) ≡ true)
     × AreSpaced profile rules (end_of d + pause_len + trailer_len profile + T3_5_TICKS) ds
 
--- the frames of these bursts, with the numbers after this floor, one after the other
+-- the frames of these bursts, with consecutive numbers that begin after this floor
 abbrev pub numbered : Rules → ℕ → List Burst → List NumberedFrame
 numbered rules floor [] = []
 numbered rules floor (d ∷ ds) = numbered_frame rules d (suc floor) ∷ numbered rules (suc floor) ds
 
--- what the transmitter makes of this line and this many silent ticks after it, and then this many
--- more
+-- what the transmitter makes of this line and `more` silent ticks after it, and then `rest` silent
+-- ticks
 abbrev pub untouched : Profile → Rules → ℕ → List Tick → ℕ → ℕ → List Tick
 untouched profile rules floor line more rest =
     link_line profile rules floor (line ++ silent more) ++ silent rest
 
--- A line whose frames are spaced, with numbers enough for all of them up to the limit, and this
--- many silent ticks after it that the last trailer is sent; and a receiver whose floor isn't above
--- the transmitter's, nor so far below it that words don't tell.
+-- Holds if the frames of a line are spaced, there are enough numbers up to the limit for all of
+-- them, and at least as many silent ticks as the delay follow the line, so that the last trailer is
+-- sent. The receiver's floor isn't above the transmitter's, nor so far below it that words no
+-- longer tell the numbers apart.
 pub record IsUntouched (profile : Profile) (rules : Rules) (floor behind : ℕ) (line : List Tick)
     (more : ℕ) : Type 0 where
   pub spaced : AreSpaced profile rules 0 (bursts line)
@@ -44,8 +46,8 @@ pub record IsUntouched (profile : Profile) (rules : Rules) (floor behind : ℕ) 
   pub near : floor < behind + words profile
   pub silence : delay profile ≤ more
 
--- All frames of the line are sealed and pass, and the receiver's line is the device's as late as
--- the receiver is.
+-- Holds if all frames of the line are sealed and pass, and the receiver's line is the device's
+-- line, later by the delay.
 pub record DeliversAll (profile : Profile) (rules : Rules) (floor behind : ℕ) (line : List Tick)
     (more rest : ℕ) : Type 0 where
   pub seals : sealed profile rules floor (line ++ silent more) ≡ numbered rules floor (bursts line)

@@ -1,4 +1,5 @@
-//! Laws of what a receiver holds back: all of it leaves in time, and a device reads it.
+//! Laws of what a receiver holds back: it all leaves in time, and a device reads all frames that
+//! passed.
 ghost use Rattle.std.specs.Prelude.{◌+◌, ◌≤◌, ℕ, List};
 ghost use Rattle.yasir_ticks.specs.Ticks.{AreTicks};
 ghost use Rattle.yasir_ticks.specs.declared.TheConstants.{T3_5_TICKS};
@@ -16,9 +17,9 @@ use crate::recovery::lacking_bytes_are_bounded;
 use line_rules::LineRules;
 
 /// A law of the receiver's definitions, for the rules of each protocol, each profile whose delay is
-/// long enough for the header, and each floor: when a link has ended, all that the receiver held
-/// back has left after the delay, and a tick more for each byte that a burst of the protocol can
-/// lack. From then on silence alone leaves, and nothing more passes.
+/// long enough for the header, and each floor: once a link has ended, all that the receiver held
+/// back has left after the delay and one more tick for each byte that a burst of the protocol can
+/// lack. From then on only silence leaves, and nothing more passes.
 pub fn all_leaves_in_time<R: LineRules>()
     ensures { (profile : Profile) → IsTimely profile R.rules
         → (most : ℕ) → LackAtMost R.rules most
@@ -28,10 +29,12 @@ pub fn all_leaves_in_time<R: LineRules>()
 {}
 
 /// A law of the receiver's definitions, for each profile whose delay is long enough for the header,
-/// each floor and link: where silence stood behind the link until all had left, a Modbus RTU device
-/// reads of the receiver's line, and of what ends a frame behind it, all frames that passed, each
-/// as late as the receiver is, and nothing else; and so does a DNP3 device. So a recording of the
-/// receiver's line and one of the link, both long enough, never differ.
+/// each floor and link: if the link is followed by silence until all has left, and the receiver's
+/// line then by the silence that ends a frame, a Modbus RTU device reads from that line all frames
+/// that passed, each as late as the receiver is, and nothing else. So does a DNP3 device, for which
+/// a frame ends without silence. So the frames that are read from a recording of the receiver's
+/// line never differ from those that pass of a recording of the link, if both recordings are long
+/// enough.
 pub fn recorded_line_reads_all_that_passed()
     ensures rtu { (profile : Profile) → IsTimely profile rtu_rules
         → (floor : ℕ) (link : List Tick) → AreTicks link

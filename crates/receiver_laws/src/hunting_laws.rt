@@ -12,11 +12,12 @@ ghost use Rattle.receiver_laws.specs.Reading.{ReadsWhatPassed};
 use device_model::Hunted;
 
 /// A law of the receiver's definitions, for the rules of each protocol whose devices hunt for
-/// frames, and each profile, floor and link: a device that hunts so, and is on the receiver's
-/// line, reads only frames that have passed, at every moment, and all of them once silence follows.
-/// So does each device to which two or more silent ticks together, as many as it has for a limit,
-/// end what was taken, and which hunts anew behind them; and so does any device that takes a burst
-/// without such silence as the hunt does, and is then at rest, whatever it makes of silence.
+/// frames, and each profile, floor and link: at every moment, a device that hunts on the receiver's
+/// line has read only frames that have passed, and all of them once silence follows for the delay.
+/// The same holds for a device that forgets what it has taken at `cut` silent ticks in a row, with
+/// a cut of 2 or more, and then hunts anew. It also holds for any device that takes contiguous
+/// ticks, with no two silent ones in a row, as the hunt takes them, and is then at rest, whatever
+/// it makes of longer silence inside a frame (`IsHunter`).
 pub fn hunting_device_reads_what_passed<R: Hunted>()
     ensures hunt { (profile : Profile) (floor : ℕ) (link : List Tick)
         → ReadsWhatPassed R.rules (hunt_line R.FIRST R.SECOND R.rules) 0 profile floor link }
@@ -28,10 +29,12 @@ pub fn hunting_device_reads_what_passed<R: Hunted>()
         → ReadsWhatPassed R.rules (read 0) 0 profile floor link }
 {}
 
-/// A law of the transmitter's and the receiver's definitions, for the same rules, and each profile,
-/// floors, line of a device and link: however the link was altered, cut, repeated or reordered, the
-/// frames that a device reads that hunts so behind the receiver are a subsequence of those that the
-/// transmitter sealed, unless one that passed is forged. So it is for the same other devices.
+/// A law of the transmitter's and the receiver's definitions, for the rules of each protocol whose
+/// devices hunt for frames, and each profile, any floors, any line of a device and any link:
+/// however the link was altered, cut, repeated or reordered, the frames that a hunting device
+/// behind the receiver reads are a subsequence of those that the transmitter sealed, unless one
+/// that passed is forged. The same holds for the other devices of
+/// `hunting_device_reads_what_passed`.
 pub fn hunting_device_reads_what_was_sealed<R: Hunted>()
     ensures hunt { (profile : Profile) (seal_floor check_floor : ℕ) (line link : List Tick)
         → ReadsWhatWasSealed R.rules (hunt_line R.FIRST R.SECOND R.rules) 0 profile seal_floor
@@ -46,11 +49,13 @@ pub fn hunting_device_reads_what_was_sealed<R: Hunted>()
         → ReadsWhatWasSealed R.rules (read 0) 0 profile seal_floor check_floor line link }
 {}
 
-/// A law of the transmitter's and the receiver's definitions, for the same rules, and each profile
-/// and such uptimes of both boxes as `device_reads_what_was_sealed_over_uptimes` speaks of: the
-/// frames that a device reads that hunts so behind the receiver in all uptimes are a subsequence of
-/// those that the transmitter sealed in all uptimes, unless one that passed is forged. So it is for
-/// the same other devices. Here too the device is at rest as each uptime of the receiver begins.
+/// A law of the transmitter's and the receiver's definitions, for the rules of each protocol whose
+/// devices hunt for frames, each profile, and any uptimes of both boxes of which none loads a floor
+/// below the last number of the one before: the frames that a hunting device behind the receiver
+/// reads in all uptimes are a subsequence of those that the transmitter sealed in all uptimes,
+/// unless one that passed is forged. The same holds for the other devices of
+/// `hunting_device_reads_what_passed`. It is a premise that the device is at rest when each uptime
+/// of the receiver begins.
 pub fn hunting_device_reads_sealed_over_uptimes<R: Hunted>()
     ensures hunt { (profile : Profile) (seal_floor check_floor : ℕ) (seals checks : List BoxUptime)
         → BothGoOn profile R.rules seal_floor check_floor seals checks

@@ -25,13 +25,14 @@ ghost use Rattle.receiver_laws.specs.Standing.{HavePassed, numbered_frame};
 
 use line_rules::LineRules;
 
-/// A law of the receiver's definitions, for each profile, floor and link: a Modbus RTU device that
-/// is on the receiver's line reads only frames that have passed, at every moment, and all of
-/// them once silence follows, and so does a DNP3 device. So does each member of their families: a
-/// Modbus RTU device for which a burst ends by some other number of silent ticks together, two up
-/// to the receiver's delay, and which lets some number of them, one or more, stand inside a frame;
-/// and a DNP3 device to which two or more silent ticks together, as many as it has for a limit, end
-/// what was taken.
+/// A law of the receiver's definitions, for each profile, floor and link: at every moment, a Modbus
+/// RTU device on the receiver's line has read only frames that have passed, and it has read all of
+/// them once silence follows for the delay and for as long as a frame takes to end. The same holds
+/// for a DNP3 device, and for the members of both families. A Modbus RTU member ends a burst at
+/// `cut` silent ticks in a row, with a cut from 2 up to the receiver's delay, and allows up to
+/// `gap` of them in a row inside a frame, with a gap of 1 or more. A DNP3 member forgets what it
+/// has taken at `cut` silent ticks in a row, with a cut of 2 or more. If its cut is 0, it ignores
+/// silence.
 pub fn device_reads_what_passed()
     ensures rtu { (profile : Profile) (floor : ℕ) (link : List Tick)
         → ReadsWhatPassed rtu_rules rtu_reads T3_5_TICKS profile floor link }
@@ -46,8 +47,8 @@ pub fn device_reads_what_passed()
 {}
 
 /// A law of the receiver's definitions, for the rules of each protocol, each profile whose delay is
-/// long enough for the header, and each floor: notes, line and passed frames of a longer link begin
-/// with those of the link.
+/// long enough for the header, and each floor: when a link goes on, the receiver's notes, its line
+/// and the frames that pass go on too. They begin with those of the link so far.
 pub fn longer_links<R: LineRules>()
     ensures extends { (profile : Profile) → IsTimely profile R.rules
         → (floor : ℕ) (link more : List Tick)
@@ -58,18 +59,18 @@ pub fn longer_links<R: LineRules>()
 {}
 
 /// A law of the receiver's definitions, for the rules of each protocol and each profile, floor and
-/// link: the numbers of the passed frames rise from the floor and are within the limit, so that
-/// none passes twice; and each is a frame whose packet, with this number's word and tag, is on
-/// the link.
+/// link: the numbers of the passed frames rise from the floor, so none passes twice, and none is
+/// above the limit. Each is a frame of the protocol, and its packet, with the word and tag of its
+/// number, is on the link, if the link's bytes are below 256 and a word has at least one byte.
 pub fn passed_frames_stand_on_the_link<R: LineRules>()
     ensures { (profile : Profile) (floor : ℕ) (link : List Tick)
         → HavePassed profile R.rules floor link (passed profile R.rules floor link) }
 {}
 
 /// A law of the receiver's definitions, for the rules of each protocol, each profile whose tags
-/// have its length, and each state: the verdict on a whole packet is that it passes with its
-/// number. So on any link, whatever stands elsewhere on it, each burst that is a whole packet for
-/// the receiver as the bursts before leave it is among the frames that pass.
+/// have its tag length, and each state: the verdict on a whole packet is that it passes with its
+/// number. So on any link, whatever else is on it, each burst that is a whole packet in the state
+/// in which the bursts before it leave the receiver is among the frames that pass.
 pub fn whole_packets_pass<R: LineRules>()
     ensures verdict { (profile : Profile) → HasTags profile
         → (s : CheckState) (d : Burst) (number : ℕ) → IsPacket profile R.rules s d number
@@ -83,21 +84,21 @@ pub fn whole_packets_pass<R: LineRules>()
 {}
 
 /// A law of the transmitter's and the receiver's definitions, for the rules of each protocol, each
-/// profile, floors, line of a device and link: however the link came about, the frames that passed
-/// are, with their numbers, a subsequence of those that were sealed, but for the forged ones; and
-/// numbers rise on both sides, so that none is sealed or passed twice. Forged is a frame that
-/// passed, so that its tag fits, with a number under which it wasn't sealed.
+/// profile, any floors, any line of a device and any link: however the link came about, the frames
+/// that passed and aren't forged are, with their numbers, a subsequence of those that were sealed.
+/// Numbers rise on both sides, so none is sealed or passed twice. A frame is forged if it passed,
+/// so that its tag fits, but wasn't sealed with its number.
 pub fn passed_frames_are_accounted_for<R: LineRules>()
     ensures { (profile : Profile) (seal_floor check_floor : ℕ) (line link : List Tick)
         → IsAccountedFor seal_floor check_floor (sealed profile R.rules seal_floor line)
         (passed profile R.rules check_floor link) }
 {}
 
-/// A law of the transmitter's and the receiver's definitions, for each profile, floors, line of a
-/// device and link: however the link was altered, cut, repeated or reordered, the frames that a
-/// Modbus RTU device or a DNP3 device reads behind the receiver are a subsequence of those that the
-/// transmitter sealed, unless one that passed is forged. So it is for the other devices of
-/// `device_reads_what_passed`.
+/// A law of the transmitter's and the receiver's definitions, for each profile, any floors, any
+/// line of a device and any link: however the link was altered, cut, repeated or reordered, the
+/// frames that a Modbus RTU device or a DNP3 device behind the receiver reads are a subsequence of
+/// those that the transmitter sealed, unless one that passed is forged. The same holds for the
+/// members of both families in `device_reads_what_passed`.
 pub fn device_reads_what_was_sealed()
     ensures rtu { (profile : Profile) (seal_floor check_floor : ℕ) (line link : List Tick)
         → ReadsWhatWasSealed rtu_rules rtu_reads T3_5_TICKS profile seal_floor check_floor line

@@ -1,12 +1,12 @@
-//! Laws of the receiver's definitions, for each link, whatever is on it: what a device behind
-//! the receiver reads of its line, what passes, what an untouched link delivers, and how notes,
-//! frames and line go on as the link does.
+//! Laws of the receiver's definitions, for each link, whatever is on it: what a device behind the
+//! receiver reads of its line, what passes, what an untouched link delivers, and how the notes, the
+//! passed frames and the line go on when the link does.
 //!
 //! Each law is the contract of a function that does nothing. `specs/` has the statements, over
-//! whole lines, and `proofs/` has how they follow from the walk over the bursts of the link.
+//! whole lines, and `proofs/` shows how they follow from the walk over the bursts of the link.
 //!
 //! A function whose proof needs a law calls the law's function. The call does nothing when it runs,
-//! and the clause is a fact of the proof from then on:
+//! and from then on the clause is a fact in the proof:
 //!
 //!     untouched_link_delivers_all::<Rtu>();
 #![tactic(auto)]

@@ -10,9 +10,11 @@ ghost use Rattle.receiver_laws.specs.Recovery.{IsLeftAlone, LackAtMost, Recovers
 use line_rules::LineRules;
 
 /// A law of the transmitter's and the receiver's definitions, for the rules of each protocol and
-/// each profile: a link that is left alone from a tick on works again by itself, whatever stood on
-/// it before. Each packet passes that starts a stated number of ticks later: the receiver's delay,
-/// and a tick for each byte that a burst of the protocol can lack.
+/// each profile: a link that is left alone from a tick on works again by itself, whatever was on it
+/// before. Each packet that is due passes: one that is whole, whose number is near enough to the
+/// receiver's floor, and that starts at least a stated number of ticks after the first of the four
+/// silent ones. That number is the receiver's delay, and a tick for each byte that a burst of the
+/// protocol can lack.
 pub fn untouched_link_recovers<R: LineRules>()
     ensures recovers { (profile : Profile) → HasTags profile → 1 ≤ profile.word_len
         → (most : ℕ) → LackAtMost R.rules most
@@ -23,8 +25,8 @@ pub fn untouched_link_recovers<R: LineRules>()
     ensures lacks { LackAtMost R.rules (R.rules.longest - R.rules.header_len) }
 {}
 
-/// A law of the rules of both protocols: in Modbus RTU, where no header says a size, a burst lacks
-/// no byte, and in DNP3 at most 282, those behind the header of the longest frame.
+/// A law of the rules of both protocols: in Modbus RTU, in which no header says a size, a burst
+/// lacks no byte, and in DNP3 at most 282, those after the header of the longest frame.
 pub fn lacking_bytes_are_bounded()
     ensures rtu { LackAtMost rtu_rules 0 }
     ensures dnp { LackAtMost dnp_rules 282 }

@@ -13,13 +13,13 @@ ghost use Rattle.receiver_laws.specs.Reflected.{with_tags, TagsMatch, IsReflecte
 use line_rules::LineRules;
 
 /// A law of the transmitter's and the receiver's definitions, for the rules of each protocol, each
-/// profile, floors and line of a device: a link that is sent back the way it came, so that the
-/// receiver of the line's other direction takes it under the same key, passes nothing, unless tags
-/// of the two directions match by chance. Each frame that passes there is one that was sealed, with
-/// its packet on the link; its number in the other direction has the same word, and the other
-/// direction's tag for that number and frame is the packet's. The text of which a tag of the one
-/// direction is made is never the text of one of the other. Where the far box has sealed nothing,
-/// each frame that passes counts as forged.
+/// fit profile, any floors and any line of a device: a link that is sent back the way it came, so
+/// that the receiver of the line's other direction takes it under the same key, passes nothing,
+/// unless tags of the two directions match by chance. A frame that does pass there was sealed, and
+/// its packet is on the link. The number with which it passes has the packet's word, and the other
+/// direction's tag for that number and the frame is the packet's. The text that is tagged in one
+/// direction is never one that is tagged in the other. If the transmitter of the other direction
+/// has sealed nothing, each frame that passes counts as forged.
 pub fn reflected_links_pass_nothing<R: LineRules>()
     ensures reflected { (profile : Profile) (other : ℕ → List ℕ → List ℕ) → IsFit profile R.rules
         → (seal_floor check_floor : ℕ) (line : List Tick)

@@ -7,8 +7,8 @@ ghost use Rattle.receiver_laws.specs.Untouched.{IsUntouched, DeliversAll};
 use line_rules::LineRules;
 
 /// A law of the transmitter's and the receiver's definitions, for the rules of each protocol and
-/// each profile: where a device's frames are spaced, and nothing is changed on the link, all of
-/// them pass, and the receiver's line is the device's, later by the receiver's delay.
+/// each profile: if a device's frames are spaced and nothing is changed on the link, all of them
+/// pass, and the receiver's line is the device's line, later by the receiver's delay.
 pub fn untouched_link_delivers_all<R: LineRules>()
     ensures { (profile : Profile) → HasTags profile → 1 ≤ profile.word_len
         → (floor behind : ℕ) (line : List Tick) (more rest : ℕ)

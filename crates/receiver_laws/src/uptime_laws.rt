@@ -1,4 +1,4 @@
-//! Laws over any number of runs of both boxes, each over its own journal.
+//! Laws over any number of uptimes of both boxes, each box over its own journal.
 ghost use Rattle.std.specs.Prelude.{◌≡◌, ◌≤◌, ◌⊎◌, ℕ, List};
 ghost use Rattle.yasir_ticks.specs.declared.TheConstants.{T3_5_TICKS};
 ghost use Rattle.yasir_ticks.specs.declared.tick.Tick.{Tick};
@@ -20,16 +20,15 @@ ghost use Rattle.receiver_laws.specs.OverUptimes.{sealed_over, passed_over, Read
 use line_rules::LineRules;
 
 /// A law of the transmitter's and the receiver's definitions, for the rules of each protocol, each
-/// profile, and any uptimes of both boxes, whatever moments they ended at, where none loads a floor
-/// below the last number of the one before: however the link came about, the frames that passed in
-/// all uptimes are, with their numbers, a subsequence of those that were sealed in all uptimes, but
-/// for the forged ones; and numbers rise over all uptimes on both sides, so that none is sealed or
-/// passed twice. Forged is a frame that passed with a number under which it was sealed in no
-/// uptime.
+/// profile, and any uptimes of both boxes, at whatever moments they ended, of which none loads a
+/// floor below the last number of the one before: however the link came about, the frames that
+/// passed in all uptimes and aren't forged are, with their numbers, a subsequence of those that
+/// were sealed in all uptimes. Numbers rise over all uptimes on both sides, so none is sealed or
+/// passed twice. A frame is forged here if it passed, but no uptime sealed it with its number.
 ///
-/// Uptimes over one disk do load so, each on the image that the one before left, if they are
-/// uptimes with the numbers of their frames, also where runs end in between before they have loaded
-/// a floor. All that the law asks of the numbers is that they rise on each side.
+/// Uptimes over one disk load such floors if each begins on the image that the one before left and
+/// is an uptime with the numbers of its frames. Between two of them, runs may end before they have
+/// loaded a floor. All that the law asks of the numbers is that they rise on each side.
 pub fn uptimes_are_accounted_for<R: LineRules>()
     ensures over { (profile : Profile) (seal_floor check_floor : ℕ) (seals checks : List BoxUptime)
         → BothGoOn profile R.rules seal_floor check_floor seals checks
@@ -45,15 +44,16 @@ pub fn uptimes_are_accounted_for<R: LineRules>()
         → IsAccountedFor seal_floor check_floor sealed_ones passed_ones }
 {}
 
-/// A law of the transmitter's and the receiver's definitions, for each profile and any such uptimes
-/// of both boxes: however the link was altered, cut, repeated or reordered, also from one uptime to
-/// another, the frames that a Modbus RTU device or a DNP3 device reads behind the receiver in all
-/// uptimes are a subsequence of those that the transmitter sealed in all uptimes, unless one that
-/// passed is forged. So it is for the other devices of `device_reads_what_passed`.
+/// A law of the transmitter's and the receiver's definitions, for each profile and any uptimes of
+/// both boxes of which none loads a floor below the last number of the one before: however the link
+/// was altered, cut, repeated or reordered, also from one uptime to another, the frames that a
+/// Modbus RTU device or a DNP3 device behind the receiver reads in all uptimes are a subsequence of
+/// those that the transmitter sealed in all uptimes, unless one that passed is forged. The same
+/// holds for the members of both families in `device_reads_what_passed`.
 ///
-/// It is a premise that the device is at rest as each uptime of the receiver begins: it begins to
-/// read the receiver's line anew there. Nothing is said of what it makes of bytes that a stop of
-/// the receiver cut short.
+/// It is a premise that the device is at rest when each uptime of the receiver begins: it begins to
+/// read the receiver's line anew there. Nothing is said about what it makes of a burst that a stop
+/// of the receiver cut short.
 pub fn device_reads_what_was_sealed_over_uptimes()
     ensures rtu { (profile : Profile) (seal_floor check_floor : ℕ) (seals checks : List BoxUptime)
         → BothGoOn profile rtu_rules seal_floor check_floor seals checks
