@@ -3,7 +3,7 @@ use Rattle.std.specs.Prelude.{ℕ, List, [], ◌∷◌, ◌++◌, length, map, d
 use Rattle.yasir_ticks.specs.declared.tick.Tick.{Tick}
 use Rattle.device_model.specs.Frames.{FrameRead}
 
--- A frame that is read in the step of this tick.
+-- A frame, and the step in which it is read.
 pub record Arrival : Type 0 where
   pub step : ℕ
   pub frame : FrameRead
@@ -11,13 +11,13 @@ pub record Arrival : Type 0 where
 abbrev pub arriving : ℕ → FrameRead → Arrival
 arriving step frame = record { step = step; frame = frame }
 
--- By what a device reads of a line.
+-- For a device that reads of a line what `reads` says.
 module _ (reads : List Tick → List FrameRead) where
-  -- what is read of a line with one more tick, and isn't read of the line alone
+  -- the frames that are read of a line with one more tick, but not of the line without it
   abbrev pub gained : List Tick → Tick → List FrameRead
   gained line t = drop (length (reads line)) (reads (line ++ t ∷ []))
 
-  -- the frames that are read in the steps of these ticks, behind this line
+  -- the frames that are read in the steps of these ticks, which follow this line
   unfoldable pub arrivals_behind : List Tick → List Tick → List Arrival
   arrivals_behind line [] = []
   arrivals_behind line (t ∷ more) =

@@ -8,9 +8,9 @@ use Rattle.line_spacer.specs.Spacing.{Spaced, spaced, accepted_of, lost_of}
 use Rattle.line_spacer.specs.Stands.{SentBy, frame_at, frames_waiting, unsent_of, taken_in}
 use Rattle.line_spacer.specs.declared.spacer.Spacer.{Spacer}
 
--- Behind a line these ticks come. Of all of them this was made so far, all but what is made of these
--- frames, which are read in the last tick. Before that one no frame is lost in these ticks, and what
--- leaves up to one of them doesn't hang on what is read behind it.
+-- Holds if `made` is what was made of a line and the ticks after it, without `frames`, which are
+-- read in the last of these ticks. No frame is lost in the ticks before the last one, and what
+-- leaves up to any of them doesn't depend on what is read after it.
 pub record ArePending (reads : List Tick → List FrameRead) (gap cap : ℕ) (line ticks : List Tick)
     (made : Spaced) (frames : List FrameRead) : Type 0 where
   pub none_lost : (n : ℕ) → n < length ticks
@@ -21,7 +21,7 @@ pub record ArePending (reads : List Tick → List FrameRead) (gap cap : ℕ) (li
   pub all : spaced reads gap cap (line ++ ticks)
       ≡ taken_in gap cap (length line + (length ticks - 1)) made frames
 
--- how many ticks these frames take, with so many silent ones behind each
+-- how many ticks these frames take, with `gap` silent ones after each
 abbrev pub ticks_for : ℕ → List (List ℕ) → ℕ
 ticks_for gap [] = 0
 ticks_for gap (frame ∷ queue) = length frame + gap + ticks_for gap queue
@@ -31,15 +31,15 @@ abbrev pub still_read : List Tick → List FrameRead → List FrameRead
 still_read [] frames = []
 still_read (t ∷ ticks) frames = frames
 
--- For how many ticks the other line is busy with a frame that has begun, and those that wait.
+-- for how many ticks the other line is busy with the frame that has begun, and with those that wait
 abbrev pub busy_ticks : {V : Type 0} {GAP : ℕ} → Spacer V GAP → ℕ
 busy_ticks {V} {GAP} value = length (unsent_of value.ready value.sent (frame_at value)) + value.pause
     + ticks_for GAP (frames_waiting value)
 
 module _ {V : Type 0} (device : Device V) where
-  -- The spacer, with room for this many frames to wait, has answered this line. It has heard these
-  -- ticks behind it too, and owes their answers. The frames that were read in them are taken in, but
-  -- for these, which are read in the last one.
+  -- Holds if the spacer, with room for `cap` frames to wait, has answered this line, and has also
+  -- heard the `owed` ticks after it, whose answers it owes. The frames that were read in them are
+  -- taken in, except for `frames`, which were read in the last one.
   pub record Owes {GAP : ℕ} (cap : ℕ) (value : Spacer V GAP) (line owed : List Tick)
       (frames : List FrameRead) : Type 0 where
     pub heard : device.stands value.device (line ++ owed)

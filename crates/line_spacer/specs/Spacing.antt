@@ -1,6 +1,6 @@
--- The spaced line: the frames that a device reads of a line, sent again on another line, each as a
--- whole and at least a stated number of silent ticks behind the one before. A frame for which there
--- is no room to wait is lost.
+-- The spaced line: the frames that a device reads of a line, sent again on another line, each one
+-- whole and at least a stated number of silent ticks after the one before it. A frame for which
+-- there is no room to wait is lost.
 use Rattle.std.specs.Prelude.{ℕ, ◌+◌, max, nat_le, List, [], ◌∷◌, ◌++◌, length, map, fold}
 use Rattle.std.specs.Prelude.{if◌then◌else◌}
 use Rattle.std.specs.List.{filter}
@@ -11,8 +11,8 @@ use Rattle.burst_walk.specs.Laid.{laid}
 use Rattle.device_model.specs.Frames.{FrameRead}
 use Rattle.line_spacer.specs.Arrivals.{Arrival, arrivals}
 
--- The frames that are accepted, as the bursts of the other line that they are, and those that are
--- lost, each with the step in which it is read.
+-- The frames that are accepted, each as its burst on the other line, and those that are lost, each
+-- with the step in which it is read.
 pub record Spaced : Type 0 where
   pub accepted : List Burst
   pub lost : List Arrival
@@ -20,7 +20,7 @@ pub record Spaced : Type 0 where
 abbrev pub none_yet : Spaced
 none_yet = record { accepted = []; lost = [] }
 
--- the burst that a frame is on the other line, whose first byte is sent in this tick
+-- a frame's burst on the other line, if its first byte is sent in this tick
 abbrev pub sent_from : ℕ → List ℕ → Burst
 sent_from start frame = record { start = start; body = map (λ b. Byte b) frame }
 
@@ -28,15 +28,15 @@ sent_from start frame = record { start = start; body = map (λ b. Byte b) frame 
 abbrev pub count_from : ℕ → List Burst → ℕ
 count_from m ds = length (filter (λ d. nat_le m d.start) ds)
 
--- the first tick, from tick n on, that stands this many silent ticks behind the last of these
--- bursts
+-- the first tick that is `gap` silent ticks after the last of these bursts, or tick n if there is
+-- none
 abbrev pub free_from : ℕ → ℕ → List Burst → ℕ
 free_from gap n [] = n
 free_from gap n (d ∷ ds) = free_from gap (end_of d + gap) ds
 
--- A frame is lost where, behind the step in which it is read, `cap` accepted frames are still to
--- begin. Else it begins as soon as it may: in the tick behind that step or, if that is later, so
--- many silent ticks behind the frame before.
+-- A frame is lost if, after the step in which it is read, `cap` accepted frames or more are still
+-- to begin. Otherwise it begins as soon as it may: in the tick after that step or, if that is
+-- later, `gap` silent ticks after the frame before it.
 unfoldable pub take_in : ℕ → ℕ → Spaced → Arrival → Spaced
 take_in gap cap s a =
     if nat_le cap (count_from (a.step + 1) s.accepted)
@@ -47,10 +47,10 @@ take_in gap cap s a =
       lost = s.lost;
     }
 
--- By what a device reads of a line, this many silent ticks between frames, and this many frames
--- that may wait.
+-- For a device that reads of a line what `reads` says, at least `gap` silent ticks between frames,
+-- and up to `cap` frames that may wait.
 module _ (reads : List Tick → List FrameRead) (gap cap : ℕ) where
-  -- what becomes of the frames of a line
+  -- what happens to the frames of a line
   abbrev pub spaced : List Tick → Spaced
   spaced line = fold (take_in gap cap) none_yet (arrivals reads line)
 
@@ -60,10 +60,10 @@ module _ (reads : List Tick → List FrameRead) (gap cap : ℕ) where
   abbrev pub lost_of : List Tick → List Arrival
   lost_of line = (spaced line).lost
 
-  -- The other line as far as the line goes: the accepted frames, and all else silent.
+  -- The other line, as long as the line: the accepted frames, and silence in all other ticks.
   abbrev pub spaced_line : List Tick → List Tick
   spaced_line line = laid (length line) (accepted_of line)
 
-  -- how many accepted frames are still to begin behind a line
+  -- how many accepted frames haven't begun by the end of a line
   abbrev pub waiting_of : List Tick → ℕ
   waiting_of line = count_from (length line) (accepted_of line)

@@ -1,4 +1,4 @@
-//! The frames that wait, as bytes one behind the other.
+//! The queue of the frames that wait, whose bytes are stored one frame after the other.
 ghost use Rattle.std.specs.Prelude.{◌≡◌, ◌<◌, ◌≤◌, ◌^◌, [], ◌∷◌, ◌++◌, length, take, IfOk, ◌==◌};
 
 use circular_buffer::HeapCircularBuffer;
@@ -20,8 +20,8 @@ pub(crate) fn fill_front(room: &mut [u8; LONGEST], frame: &[u8]) -> usize
     size
 }
 
-/// Frames in the order in which they came, each of up to `LONGEST` bytes. Their bytes stand one
-/// behind the other, so that a frame is copied by its length.
+/// Frames in the order in which they came, each of up to `LONGEST` bytes. They are stored one after
+/// the other, so that only the bytes that a frame has are copied.
 #[derive(Drop)]
 pub(crate) struct FrameQueue {
     bytes: HeapCircularBuffer<u8>,
@@ -45,7 +45,8 @@ impl Model for FrameQueue {
 impl FrameQueue {
     ghost use Rattle.line_spacer.specs.FrameQueue.{bytes_of};
 
-    /// No frame yet, and room for this many. It takes its memory here, and none later.
+    /// A queue without frames, with room for `capacity` of them. It takes its memory here, and none
+    /// later.
     pub(crate) fn with_capacity(alloc: Global, capacity: usize) -> Result<FrameQueue, NoMemory>
         ensures { IfOk result (λ q. (q.frames ≡ []) × (q.capacity ≡ capacity)) }
     {
@@ -70,7 +71,7 @@ impl FrameQueue {
         self.lengths.len()
     }
 
-    /// How many bytes the frames have that wait.
+    /// How many bytes the frames that wait have in all.
     #[inline]
     pub(crate) fn bytes_waiting(&self) -> usize
         ensures { result ≡ bytes_of self.now.frames }

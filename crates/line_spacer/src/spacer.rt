@@ -1,4 +1,4 @@
-//! The spacer: its queue of frames, and its answer to a tick and to a run of ticks.
+//! The spacer: its queue of frames, and what it returns for a tick and for a run of ticks.
 ghost use Rattle.std.specs.Prelude.{◌≡◌, ◌≤◌, ◌<◌, None};
 
 use crate::frame_queue::{FrameQueue, LONGEST, fill_front};
@@ -7,7 +7,7 @@ use std::alloc::Global;
 use yasir_io::NoMemory;
 use yasir_ticks::{MAX_TICKS, Tick, TickRun};
 
-// How many ticks are answered at once at most.
+// The most ticks that are answered at once.
 const MOST_TICKS: usize = 4_294_967_295;
 
 /// What a spacer returns for a tick.
@@ -15,22 +15,24 @@ const MOST_TICKS: usize = 4_294_967_295;
 pub struct SpaceStep {
     /// The tick of the other line.
     pub tick: Tick,
-    /// The tick of the first byte of the frame that was read in this step, and is lost since too
-    /// many wait. The spacer lends its bytes.
+    /// The tick of the first byte of the frame that was read in this step and is lost since too
+    /// many wait, if there is one. The spacer lends the frame's bytes.
     pub lost: Option<u64>,
 }
 
 /// What a spacer returns for some ticks. It lends the bytes that left.
 #[derive(Clone, Copy)]
 pub struct SpaceRun {
-    /// How many of the ticks it has taken, or of those that it owed it has answered.
+    /// How many ticks of the run it has taken, or how many of the ticks that it owed it has
+    /// answered.
     pub taken: usize,
-    /// The tick of the first byte of the frame that was read in the last one of them, and is lost
-    /// since too many wait. The spacer lends its bytes.
+    /// The tick of the first byte of the frame that was read in the last of these ticks and is lost
+    /// since too many wait, if there is one. The spacer lends the frame's bytes.
     pub lost: Option<u64>,
 }
 
-// What is read in the last of these ticks, if it was read in the last of all that are owed.
+// Returns `read`, which was read in the last of the ticks that are owed, if the first `ticks` of
+// them include that one, and `None` if they don't.
 #[inline(always)]
 fn read_in_front(ticks: usize, owed: usize, read: Option<u64>) -> Option<u64>
     ensures part { ticks < owed → result ≡ None }
@@ -42,22 +44,24 @@ fn read_in_front(ticks: usize, owed: usize, read: Option<u64>) -> Option<u64>
     read
 }
 
-/// A box that hears a line as the device `V` does, and sends each frame that is read on another
-/// line, as a whole and in order, at least `GAP` silent ticks behind the one before. Frames that
-/// can't be sent yet wait in a queue. All else that the line carries isn't handed on.
+/// A box that hears a line as the device `V` does. Each frame that it reads is sent again on
+/// another line, whole and in order, at least `GAP` silent ticks after the one before. Frames that
+/// can't be sent yet wait in a queue, and a frame that finds no room there is lost. Nothing else of
+/// the line is sent on.
 #[derive(Drop)]
 pub struct Spacer<V, const GAP: usize> {
     device: V,
     queue: FrameQueue,
-    // a room, at whose front the frame stands that was begun last, or is the next to begin
+    // the frame that was begun last, or is the next to begin, is at the front of this room
     room: [u8; LONGEST],
     size: usize,
     // whether that frame is still to begin, and so waits
     ready: bool,
-    // how many of its bytes were sent before the last ticks that were taken, and how many with them
+    // how many of its bytes were sent before the last ticks that were taken, and how many by the
+    // end of those ticks
     before: usize,
     sent: usize,
-    // the silent ticks that are still to pass behind the frame that was begun last
+    // the silent ticks that are still to pass after the frame that was begun last
     pause: usize,
     ghost grows: { before ≤ sent },
     ghost within: { sent ≤ size },
@@ -120,8 +124,8 @@ impl<V: Device, const GAP: usize> Spacer<V, GAP> {
         self.ready = true;
     }
 
-    // Makes a frame that waits the next to begin, if nothing is left of the one before and of the
-    // silence behind it.
+    // Makes the first frame of the queue the next to begin, if there is one, and if nothing is left
+    // of the frame before it and of the silence between them.
     #[inline(always)]
     fn make_ready(&mut self)
         ensures device { self.new.device ≡ self.old.device }
@@ -145,7 +149,8 @@ impl<V: Device, const GAP: usize> Spacer<V, GAP> {
         self.make_next();
     }
 
-    // For how many ticks the other line stays alike at least.
+    // Returns for how many ticks, at least, the other line stays alike: all bytes of one frame, or
+    // all silence.
     #[inline(always)]
     fn alike(&self) -> usize
         requires { IsMade self.now }
@@ -167,8 +172,9 @@ impl<V: Device, const GAP: usize> Spacer<V, GAP> {
         usize::MAX
     }
 
-    // The next ticks of the other line, in which it stays alike, where a frame is ready: silence
-    // before it, or its first bytes. It is kept separate, since few runs begin a frame.
+    // Sends the next ticks of the other line, in which it stays alike, when a frame is ready to
+    // begin: silence before it, or its first bytes. It is kept separate, since few runs begin a
+    // frame.
     #[inline(never)]
     fn send_next(&mut self, ticks: usize)
         requires some { 0 < ticks }
@@ -195,7 +201,7 @@ impl<V: Device, const GAP: usize> Spacer<V, GAP> {
         self.pause = GAP;
     }
 
-    // The next ticks of the other line, in which it stays alike.
+    // Sends the next ticks of the other line, in which it stays alike.
     #[inline(always)]
     fn send_some(&mut self, ticks: usize)
         requires some { 0 < ticks }
@@ -250,9 +256,9 @@ impl<V: Device, const GAP: usize> Spacer<V, GAP> {
         self.ready = true;
     }
 
-    // Queues the frame that begins here, which the device lends, and says so again where too many
-    // wait. Where none waits, and nothing of the frame before is sent or lent, it is the next one.
-    // It is kept separate, since few ticks end a frame.
+    // Queues the frame that the device lends, or returns its start if too many wait. If none waits,
+    // and nothing of the frame before it is still to be sent or is lent, it becomes the next to
+    // begin. It is kept separate, since few ticks end a frame.
     #[inline(never)]
     fn keep_frame(&mut self, start: u64) -> Option<u64>
         ensures device { self.new.device ≡ self.old.device }
@@ -278,7 +284,7 @@ impl<V: Device, const GAP: usize> Spacer<V, GAP> {
         None
     }
 
-    // Queues the frame that is read, if one is, and says so again where too many wait.
+    // Queues the frame that is read, if one is, or returns its start if too many wait.
     #[inline(always)]
     fn keep(&mut self, read: Option<u64>) -> Option<u64>
         ensures device { self.new.device ≡ self.old.device }
@@ -299,9 +305,9 @@ impl<V: Device, const GAP: usize> Spacer<V, GAP> {
         self.keep_frame(start)
     }
 
-    /// Takes the first ticks of this run, at least one of them, and no further than the other line
-    /// stays alike, all bytes or all silence, and no frame is read before the last of them. Lends
-    /// the bytes that leave, one in each tick, or none where silence leaves.
+    /// Takes the first ticks of this run, at least one of them. It goes no further than the other
+    /// line stays alike, all bytes or all silence, and no further than the first tick in which a
+    /// frame is read. Lends the bytes that leave, one in each tick, or none if silence leaves.
     #[inline(always)]
     pub fn take_some(&mut self, run: TickRun<'_>) -> SpaceRun
         requires room { ticks_taken V.Device self.old + length (run_ticks run) ≤ MAX_TICKS }
@@ -328,8 +334,9 @@ impl<V: Device, const GAP: usize> Spacer<V, GAP> {
         SpaceRun { taken, lost }
     }
 
-    /// Takes the first ticks of this run, at least one of them, up to the first one in which a frame
-    /// is read, and lends its bytes then. It owes what leaves in them: `give_some` answers it.
+    /// Takes the first ticks of this run, at least one of them, up to the first one in which a
+    /// frame is read, whose bytes it then lends. It owes what leaves in these ticks: `give_some`
+    /// answers them.
     #[inline(always)]
     pub fn hear_some(&mut self, run: TickRun<'_>) -> Met
         requires room { ticks_taken V.Device self.old + length (run_ticks run) ≤ MAX_TICKS }
@@ -345,7 +352,7 @@ impl<V: Device, const GAP: usize> Spacer<V, GAP> {
         hear_run(&mut self.device, run)
     }
 
-    // For how many ticks the other line is busy at least.
+    // Returns for how many ticks, at least, the other line is busy.
     #[inline(always)]
     fn busy(&self) -> usize
         ensures { result ≤ busy_ticks self.now }
@@ -360,9 +367,9 @@ impl<V: Device, const GAP: usize> Spacer<V, GAP> {
         behind.saturating_add(self.size - self.sent)
     }
 
-    /// Queues the frame that was read in the last of the ticks that are owed, of which there are so
-    /// many, before they are answered: where it is sure to find room, and to wait until they are.
-    /// Returns whether it did.
+    /// Queues the frame that was read in the last of the `owed` ticks that are owed, before they
+    /// are answered, if it is sure to find room, and to wait until they are answered. Returns
+    /// whether it did.
     #[inline(never)]
     pub fn queue_read(&mut self, owed: usize) -> bool
         requires { 0 < owed }
@@ -384,10 +391,10 @@ impl<V: Device, const GAP: usize> Spacer<V, GAP> {
         true
     }
 
-    /// Answers the first of the ticks that are owed, of which there are so many: at least one of
-    /// them, and no further than the other line stays alike, all bytes or all silence. `read` is
-    /// the tick of the first byte of the frame that was read in the last one, if one was. Lends the
-    /// bytes that leave, one in each tick, or none where silence leaves.
+    /// Answers the first of the `owed` ticks that are owed: at least one of them, and no further
+    /// than the other line stays alike, all bytes or all silence. `read` is the tick of the first
+    /// byte of the frame that was read in the last of the owed ticks, if one was. Lends the bytes
+    /// that leave, one in each tick, or none if silence leaves.
     #[inline(always)]
     pub fn give_some(&mut self, owed: usize, read: Option<u64>) -> SpaceRun
         requires { 0 < owed }
@@ -420,7 +427,7 @@ impl<V: Device, const GAP: usize> Spacer<V, GAP> {
         }
     }
 
-    // The first tick in which bytes left, or none.
+    // The first of the ticks that left last: a byte, or silence if no bytes left.
     fn tick_left(&self) -> Tick
         ensures { result ≡ tick_of 0 (bytes_sent self.now) 0 }
     {
@@ -447,7 +454,8 @@ impl<V: Device, const GAP: usize> Spacer<V, GAP> {
     }
 
     /// Takes the next tick of the line, and returns the tick of the other line at the same place,
-    /// and the frame that is lost in this step. Fewer than `MAX_TICKS` ticks were taken before.
+    /// and the frame that is lost in this step, if one is. Fewer than `MAX_TICKS` ticks were taken
+    /// before.
     pub fn step(&mut self, t: Tick) -> SpaceStep
         requires { ticks_taken V.Device self.old < MAX_TICKS }
         ensures taken { ticks_taken V.Device self.new ≡ ticks_taken V.Device self.old + 1 }
@@ -463,7 +471,7 @@ impl<V: Device, const GAP: usize> Spacer<V, GAP> {
         }
     }
 
-    /// The bytes that left in the last ticks taken, one in each; none where silence left.
+    /// The bytes that left in the last ticks taken, one in each tick, or none if silence left.
     #[inline(always)]
     pub fn sent_bytes(&self) -> &[u8]
         ensures { result.now ≡ bytes_sent self.now }
@@ -480,7 +488,7 @@ impl<V: Device, const GAP: usize> Spacer<V, GAP> {
         self.device.frame_bytes()
     }
 
-    /// How many frames wait: they are accepted, and not begun.
+    /// How many frames wait: those that are accepted and haven't begun.
     pub fn waiting(&self) -> usize
         ensures queued { result ≡ length (frames_waiting self.now) }
         ensures count { (cap : ℕ) (line : List Tick) → StandsFor V.Device cap self.now line
