@@ -16,19 +16,20 @@ abbrev pub spacer_ticks : HeldSpacer → ℕ
 spacer_ticks held = held.ticks
 
 module _ (rtu : Device RtuDevice) (dnp : Device (ForgetfulDevice Dnp)) where
-  -- It begins: it is a spacer of this kind, with room for this many frames to wait, and has taken
-  -- no tick.
+  -- Holds for a spacer of this kind, with room for `room` frames to wait, that has taken no tick.
   pub record BeginsSpacer (kind : SpacerKind) (room : ℕ) (held : HeldSpacer) : Type 0 where
     pub none_taken : spacer_ticks held ≡ 0
     pub kind_is : kind_of held.spacer ≡ kind
     pub stands : StandsAt rtu dnp room held.spacer []
 
-  -- A step adds a tick of the spaced line, whatever line the spacer had taken.
+  -- Holds if a step takes tick `t` and returns the next tick of the spaced line, whatever line the
+  -- spacer had taken.
   pub record StepsSpacer (old new : HeldSpacer) (t : Tick) (step : SpaceStep) : Type 0 where
     pub counted : spacer_ticks new ≡ spacer_ticks old + 1
     pub steps : StepsOn rtu dnp old.spacer new.spacer t step
 
-  -- or it has taken as many ticks as one can take, and is as it was
+  -- Holds if a step takes the tick, or if the spacer had taken as many ticks as it can take and is
+  -- as it was.
   abbrev pub StepsOrFull : HeldSpacer → HeldSpacer → Tick → Option SpaceStep → Type 0
   StepsOrFull old new t (Some step) = StepsSpacer old new t step
   StepsOrFull old new t None = (spacer_ticks old ≡ MAX_TICKS) × (new ≡ old)

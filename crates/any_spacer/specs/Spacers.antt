@@ -15,22 +15,22 @@ use Rattle.any_spacer.specs.declared.any_spacer.SpacerKind.TheVariants.{Rtu, Rtu
 use Rattle.dnp_link_frame.specs.declared.dnp.Dnp.{Dnp}
 use Rattle.any_spacer.specs.declared.forgetful.ForgetfulDevice.{ForgetfulDevice}
 
--- The frames that a spacer reads of a line. In DNP3 it is a device to which 18 silent ticks together
--- end what it has taken.
+-- The frames that a spacer reads of a line. For DNP3 it hears as a device that forgets what it has
+-- taken at 18 silent ticks in a row.
 abbrev pub reads_of : SpacerKind → List Tick → List FrameRead
 reads_of Rtu = rtu_reads
 reads_of RtuWide = rtu_reads
 reads_of Dnp3 = dnp_family_reads 18
 reads_of Dnp3Wide = dnp_family_reads 18
 
--- how many silent ticks it leaves between two frames at least
+-- the least number of silent ticks that it leaves between two frames
 abbrev pub gap_of : SpacerKind → ℕ
 gap_of Rtu = 21
 gap_of RtuWide = 27
 gap_of Dnp3 = 21
 gap_of Dnp3Wide = 27
 
--- which one a spacer is
+-- the kind of a spacer
 abbrev pub kind_of : AnySpacer → SpacerKind
 kind_of (Which.Rtu spacer) = Rtu
 kind_of (Which.RtuWide spacer) = RtuWide
@@ -45,15 +45,15 @@ module _ (rtu : Device RtuDevice) (dnp : Device (ForgetfulDevice Dnp)) where
   ticks_in (Which.Dnp3 spacer) = ticks_taken dnp spacer
   ticks_in (Which.Dnp3Wide spacer) = ticks_taken dnp spacer
 
-  -- With room for this many frames to wait, a spacer has taken this line.
+  -- Holds if a spacer, with room for `room` frames to wait, has taken this line.
   abbrev pub StandsAt : ℕ → AnySpacer → List Tick → Type 0
   StandsAt room (Which.Rtu spacer) line = StandsFor rtu room spacer line
   StandsAt room (Which.RtuWide spacer) line = StandsFor rtu room spacer line
   StandsAt room (Which.Dnp3 spacer) line = StandsFor dnp room spacer line
   StandsAt room (Which.Dnp3Wide spacer) line = StandsFor dnp room spacer line
 
-  -- What a step adds behind this line: this tick of the spaced line, and the frame that is lost,
-  -- which has these bytes.
+  -- Holds if a step takes tick `t` after this line, and returns the next tick of the spaced line
+  -- and the frame that is lost, if one is, which has the bytes `bytes`.
   pub record Adds (kind : SpacerKind) (room : ℕ) (new : AnySpacer) (line : List Tick) (t : Tick)
       (step : SpaceStep) : Type 0 where
     pub stands : StandsAt room new (line ++ t ∷ [])
@@ -61,8 +61,8 @@ module _ (rtu : Device RtuDevice) (dnp : Device (ForgetfulDevice Dnp)) where
     pub answers : AnswersSpaced (reads_of kind) (gap_of kind) room line (t ∷ []) (step.tick ∷ [])
         (length line) (frames_lent step.lost bytes)
 
-  -- A step adds so, whatever line the spacer had taken, and the spacer stays the same one of the
-  -- four.
+  -- Holds if a step takes tick `t` as `Adds` says, whatever line the spacer had taken, and the
+  -- spacer's kind stays the same.
   pub record StepsOn (old new : AnySpacer) (t : Tick) (step : SpaceStep) : Type 0 where
     pub kind_is : kind_of new ≡ kind_of old
     pub adds : (room : ℕ) (line : List Tick) → StandsAt room old line

@@ -8,8 +8,9 @@ use std::alloc::Global;
 use yasir_io::NoMemory;
 use yasir_ticks::{MAX_TICKS, Tick};
 
-/// Which of the four spacers one is: which protocol it reads, and how many silent ticks it leaves
-/// between two frames at least. These are what a transmitter asks for: 21, or 27 for y24.
+/// The kind of a spacer: which protocol it reads, and the least number of silent ticks that it
+/// leaves between two frames. That number is what a transmitter needs between them: 21, or 27 for
+/// y24.
 #[derive(Clone, Copy, Debug, PartialEq, Eq)]
 pub enum SpacerKind {
     /// Modbus RTU, 21 ticks.
@@ -51,9 +52,9 @@ impl AnySpacer {
         })
     }
 
-    /// Takes the next tick of the line, and returns the tick of the other line at the same place,
-    /// and the tick of the first byte of the frame that is lost in this step, since too many wait.
-    /// Fewer than `MAX_TICKS` ticks were taken before.
+    /// Takes the next tick of the line, and returns the tick of the other line at the same place.
+    /// If a frame is lost in this step, since too many wait, it also returns the tick of the
+    /// frame's first byte. Fewer than `MAX_TICKS` ticks were taken before.
     pub fn step(&mut self, t: Tick) -> SpaceStep
         requires { ticks_in ⟦<RtuDevice as Device>⟧ ⟦<ForgetfulDnp as Device>⟧ self.old
             < MAX_TICKS }

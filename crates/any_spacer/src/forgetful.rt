@@ -1,15 +1,16 @@
-//! The device as which a spacer of a live line hears where frames are hunted for.
+//! The device as which a spacer of a live line hears a protocol whose devices hunt for frames.
 use device_model::{Device, Hunted, HuntingFamily};
 use dnp_link_frame::Dnp;
 use yasir_ticks::Tick;
 
-/// A device that hunts for frames, and to which 18 silent ticks together end what it has taken. The
-/// stated one takes no notice of silence, so a frame that was cut would swallow up to 292 bytes of
-/// those behind it.
+/// A device that hunts for frames, and forgets what it has taken at 18 silent ticks in a row. The
+/// stated device takes no notice of silence, so for it a frame that was cut off would swallow up to
+/// 292 of the bytes that follow.
 #[derive(Drop)]
 pub struct ForgetfulDevice<R>(HuntingFamily<R>);
 
-/// A device of DNP3 that hunts for frames and lets a cut one go after 18 silent ticks.
+/// A DNP3 device that hunts for frames, and after 18 silent ticks in a row forgets a frame that was
+/// cut off.
 pub type ForgetfulDnp = ForgetfulDevice<Dnp>;
 
 impl<R: Hunted> Device for ForgetfulDevice<R> {

@@ -34,10 +34,10 @@ impl HeldSpacer {
         Ok(HeldSpacer { spacer, ticks: 0 })
     }
 
-    /// Takes the next tick, and returns that of the other line, and the frame that is lost in this
-    /// step.
+    /// Takes the next tick of the line, and returns the tick of the other line at the same place,
+    /// and the frame that is lost in this step, if one is.
     ///
-    /// It returns none where the spacer has taken `MAX_TICKS` ticks, and is then as it was.
+    /// Returns `None` if the spacer has taken `MAX_TICKS` ticks. It is then as it was.
     pub fn step(&mut self, t: Tick) -> Option<SpaceStep>
         ensures { StepsOrFull ⟦<RtuDevice as Device>⟧ ⟦<ForgetfulDnp as Device>⟧ self.old self.new t
             result }

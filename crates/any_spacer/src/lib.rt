@@ -1,6 +1,6 @@
-//! The spacers of a live line as one type: of Modbus RTU or DNP3, for either profile. Behind a
-//! receiver one is a guard: whatever the device behind it makes of bytes and silence, all that it is
-//! given are whole frames that have passed, and silence.
+//! The spacers of a live line as one type: for Modbus RTU or DNP3, and for either profile. Behind a
+//! receiver a spacer is a guard: whatever the device behind it makes of bytes and silence, all that
+//! the device is given is whole frames that have passed, and silence.
 //!
 //! A spacer behind the receiver of a Modbus RTU line, with room for four frames that wait:
 //!
