@@ -13,10 +13,10 @@ use Rattle.receiver_laws.specs.Untouched.{numbered, untouched}
 use Rattle.line_spacer.specs.Spacing.{accepted_of, spaced_line}
 use Rattle.spacer_laws.specs.Leaving.{HaveLeft}
 
--- The gap is that of the profile: the silence that ends a frame's burst, a pause, and a trailer fit
--- into it. All accepted frames have left, this many silent ticks follow that the last trailer is
--- sent, and there are numbers enough; the receiver's floor isn't above the transmitter's, nor so
--- far below it that words don't tell.
+-- Holds if the silence that ends a frame's burst, a pause and a trailer fit into the gap, all
+-- accepted frames have left by tick m, at least as many silent ticks as the delay follow, so that
+-- the last trailer is sent, and there are enough numbers up to the limit. The receiver's floor
+-- isn't above the transmitter's, nor so far below it that words no longer tell the numbers apart.
 pub record IsSpacedForSealing (profile : Profile) (gap floor behind m : ℕ) (accepted : List Burst)
     (more : ℕ) : Type 0 where
   pub fits : delay profile + 3 ≤ gap
@@ -26,8 +26,8 @@ pub record IsSpacedForSealing (profile : Profile) (gap floor behind m : ℕ) (ac
   pub near : floor < behind + words profile
   pub silence : delay profile ≤ more
 
--- The frames that are sealed of the spaced line are the accepted ones, in order. All of them pass,
--- and the receiver's line is the spaced line, as late as the receiver is.
+-- Holds if the frames that are sealed of the spaced line are the accepted ones, in order, all of
+-- them pass, and the receiver's line is the spaced line, later by the delay.
 pub record DeliversSpaced (profile : Profile) (rules : Rules) (heard : List Tick → List FrameRead)
     (gap cap floor behind : ℕ) (line : List Tick) (more rest : ℕ) : Type 0 where
   pub seals : sealed profile rules floor (spaced_line heard gap cap line ++ silent more)

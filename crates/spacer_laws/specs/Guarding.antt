@@ -23,21 +23,21 @@ pub record Placed : Type 0 where
 abbrev pub frames_placed : List Placed → List NumberedFrame
 frames_placed ps = map (λ p. p.frame) ps
 
--- the ticks of such frames, one behind the other, each of them whole
+-- the ticks of these frames, one after the other, each whole and after its silent ticks
 abbrev pub placed_ticks : List Placed → List Tick
 placed_ticks [] = []
 placed_ticks (p ∷ ps) =
     silent p.quiet ++ (map (λ b. Byte b) p.frame.frame ++ placed_ticks ps)
 
--- So many silent ticks at least come before the first of them, and `gap` of them or more in
--- front of each of the others.
+-- Holds if at least `least` silent ticks come before the first of these frames, and at least `gap`
+-- before each of the others.
 abbrev pub StandApart : ℕ → ℕ → List Placed → Type 0
 StandApart gap least [] = Unit {0}
 StandApart gap least (p ∷ ps) = (least ≤ p.quiet) × StandApart gap gap ps
 
--- All that is on this line is silence and frames of these, whole, in their order, and at least
--- this many silent ticks apart; the line may break off inside the last of them. Their numbers rise
--- from the floor, so that none is there twice.
+-- Holds if this line carries only silence and some of these frames, whole, in their order and at
+-- least `gap` silent ticks apart. The line may break off inside the last one. The numbers of these
+-- frames rise from the floor, so none is there twice.
 pub record CarriesOnly (gap floor : ℕ) (frames : List NumberedFrame) (line : List Tick) : Type 0
   where
     pub placed : List Placed
@@ -47,9 +47,9 @@ pub record CarriesOnly (gap floor : ℕ) (frames : List NumberedFrame) (line : L
     pub among : IsSubsequence (frames_placed placed) frames
     pub rise : RiseFrom floor (numbers_of (frames_placed placed))
 
--- Of a line of a device a transmitter has sealed frames, and whatever came of them on the link, all
--- that a spacer behind the receiver gives is frames that have passed. If none of these is forged,
--- it is frames that were sealed, in their order.
+-- A transmitter has sealed frames of a device's line. Whatever happened to them on the link, a
+-- spacer behind the receiver gives only frames that have passed, and silence. If none of the frames
+-- that passed is forged, it gives only frames that were sealed, in their order.
 pub record GivesOnlySealed (profile : Profile) (rules : Rules) (heard : List Tick → List FrameRead)
     (gap cap seal_floor check_floor : ℕ) (line link : List Tick) : Type 0 where
   pub only_passed : CarriesOnly gap check_floor (passed profile rules check_floor link)

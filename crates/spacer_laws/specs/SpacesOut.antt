@@ -11,25 +11,25 @@ use Rattle.device_model.specs.Frames.{FrameRead}
 use Rattle.device_model.specs.RtuReads.{frame_in}
 use Rattle.line_spacer.specs.Spacing.{accepted_of, spaced_line}
 
--- what such a device reads of a line is frames of the protocol
+-- Holds if a device that reads a line as `reads` says reads only frames of the protocol.
 abbrev pub ReadsFrames : Rules → (List Tick → List FrameRead) → Type 0
 ReadsFrames rules reads =
     (line : List Tick) → All (λ (f : FrameRead). rules.is_frame f.frame ≡ true) (reads line)
 
--- The burst is a frame of the protocol, a byte in each tick.
+-- Holds if the burst is a frame of the protocol, with a byte in each tick.
 pub record IsSent (rules : Rules) (d : Burst) : Type 0 where
   pub frame : List ℕ
   pub is : d.body ≡ map (λ b. Byte b) frame
   pub framed : rules.is_frame frame ≡ true
 
--- Each of these bursts is a frame, the first one begins in tick n or later, and each of the others
--- at least this many silent ticks behind the one before.
+-- Holds if each of these bursts is a frame, the first one begins in tick n or later, and each of
+-- the others begins at least `gap` silent ticks after the one before it.
 abbrev pub AreApart : Rules → ℕ → ℕ → List Burst → Type 0
 AreApart rules gap n [] = Unit {0}
 AreApart rules gap n (d ∷ ds) =
     (n ≤ d.start) × IsSent rules d × AreApart rules gap (end_of d + gap) ds
 
--- what stands of these bursts before tick m
+-- the ticks of these bursts that come before tick m
 abbrev pub within : ℕ → List Burst → List Burst
 within m [] = []
 within m (d ∷ ds) =
@@ -37,14 +37,14 @@ within m (d ∷ ds) =
     then record { start = d.start; body = take (m - d.start) d.body } ∷ within m ds
     else []
 
--- the frames of those of these bursts behind whose end this many ticks come before tick m
+-- the frames of those bursts whose end is at least `ends` ticks before tick m
 abbrev pub frames_by : ℕ → ℕ → List Burst → List FrameRead
 frames_by ends m ds = map frame_in (filter (λ d. nat_le (end_of d + ends) m) ds)
 
--- The spaced line of a line carries the accepted frames, and nothing else: they are frames of the
--- protocol, at least this many silent ticks apart; the bursts of the spaced line are they, as far
--- as they have been sent; and a device behind the spacer reads each of them this many ticks after
--- its end, and nothing else.
+-- Holds if the spaced line of a line carries the accepted frames and nothing else. They are frames
+-- of the protocol, at least `gap` silent ticks apart, and the bursts of the spaced line are these
+-- frames, as far as they have been sent. A device behind the spacer that reads a line as `reads`
+-- says reads each of them `ends` ticks after its end, and nothing else.
 pub record SpacesOut (rules : Rules) (heard reads : List Tick → List FrameRead)
     (ends gap cap : ℕ) (line : List Tick) : Type 0 where
   pub apart : AreApart rules gap 0 (accepted_of heard gap cap line)

@@ -1,4 +1,4 @@
-//! Laws of a spacer behind the receiver: it gives only frames that were sealed, to every device.
+//! Laws of a spacer behind the receiver: to every device it gives only frames that were sealed.
 ghost use Rattle.std.specs.Prelude.{◌≡◌, ◌≤◌, ◌⊎◌, ℕ, List};
 ghost use Rattle.yasir_ticks.specs.declared.TheConstants.{T3_5_TICKS};
 ghost use Rattle.yasir_ticks.specs.declared.tick.Tick.{Tick};
@@ -15,17 +15,17 @@ ghost use Rattle.spacer_laws.specs.Guarding.{GivesOnlySealed};
 
 use device_model::Hunted;
 
-/// A law of the definitions of spacer, transmitter and receiver, for each profile, floors, line of
-/// a device and link, at every moment, and each gap of at least the silence that parts bursts:
-/// however the link was altered, cut, repeated or reordered, all that a spacer gives that is on
-/// the receiver's line is silence and frames that have passed, whole, in order, at least the gap
-/// apart and each number at most once; the last of them may not have been given as a whole yet. If
-/// none of those that passed is forged, they are frames that were sealed, in their order.
+/// A law of the spacer's, the transmitter's and the receiver's definitions, for each profile, any
+/// floors, any line of a device and any link, at every moment, and each gap of at least the silence
+/// that divides bursts: however the link was altered, cut, repeated or reordered, a spacer that
+/// hears the receiver's line gives only silence and frames that have passed. The frames are whole,
+/// in order and at least the gap apart, and each number comes at most once. The last of them may
+/// still be unfinished. If none of the frames that passed is forged, they are frames that were
+/// sealed, in their order.
 ///
-/// So this holds of any device behind the spacer, whatever it makes of bytes and silence. It holds
-/// where the spacer hears as a Modbus RTU or a DNP3 device does, and as a member of the family of
-/// either does: for Modbus RTU one for which a burst ends by two silent ticks together or more, up
-/// to the receiver's delay.
+/// So this holds for any device behind the spacer, whatever it makes of bytes and silence. The
+/// spacer may hear as a Modbus RTU device or a DNP3 device does, or as a member of either family. A
+/// Modbus RTU member must have a cut from 2 silent ticks up to the receiver's delay.
 pub fn only_sealed_frames_are_given()
     ensures rtu { (profile : Profile) (gap cap seal_floor check_floor : ℕ) (line link : List Tick)
         → T3_5_TICKS ≤ gap
@@ -44,7 +44,8 @@ pub fn only_sealed_frames_are_given()
 {}
 
 /// The law `only_sealed_frames_are_given` for the rules of each protocol whose devices hunt for
-/// frames, and a spacer that hears as any device does that hunts so.
+/// frames, and a spacer that hears as any hunting device does: one that ignores silence, with a cut
+/// of 0, or one that forgets what it has taken at two or more silent ticks in a row.
 pub fn only_sealed_hunted_frames_are_given<R: Hunted>()
     ensures { (cut : ℕ) (profile : Profile) (gap cap seal_floor check_floor : ℕ)
         (line link : List Tick) → T3_5_TICKS ≤ gap → (cut ≡ 0) ⊎ (2 ≤ cut)
@@ -52,12 +53,13 @@ pub fn only_sealed_hunted_frames_are_given<R: Hunted>()
         seal_floor check_floor line link }
 {}
 
-/// A law of the same definitions, for each profile, floors, and line of a device whose frames are
-/// spaced: where nothing is changed on the link, a spacer behind the receiver loses no frame, if as
-/// many may wait as come while the longest is sent. It gives all of them, in order, each as a whole
-/// and byte behind byte. It begins with each this many ticks after it began on the device's line at
-/// most: the receiver's delay, the ticks of the longest, and those behind its end in which it is
-/// read. So it is for the same spacers.
+/// A law of the spacer's, the transmitter's and the receiver's definitions, for each profile, any
+/// floors, and any line of a device whose frames are spaced: if nothing is changed on the link, and
+/// as many frames may wait as come while the longest is sent, a spacer behind the receiver loses no
+/// frame. It gives all of them, in order, each whole and byte after byte. It begins with each at
+/// most this many ticks after the frame began on the device's line: the receiver's delay, the ticks
+/// of the longest frame, and the ticks after a frame's end that it takes to read it. This holds for
+/// each spacer of `only_sealed_frames_are_given`.
 pub fn untouched_link_gives_all()
     ensures rtu { (profile : Profile) → HasTags profile → 1 ≤ profile.word_len
         → (floor behind : ℕ) (line : List Tick) (more rest most gap cap : ℕ)
@@ -87,7 +89,8 @@ pub fn untouched_link_gives_all()
 {}
 
 /// The law `untouched_link_gives_all` for the rules of each protocol whose devices hunt for frames,
-/// and a spacer that hears as any device does that hunts so.
+/// and a spacer that hears as any hunting device does: one that ignores silence, with a cut of 0,
+/// or one that forgets what it has taken at two or more silent ticks in a row.
 pub fn untouched_link_gives_all_hunted<R: Hunted>()
     ensures { (cut : ℕ) (profile : Profile) → HasTags profile → 1 ≤ profile.word_len
         → (floor behind : ℕ) (line : List Tick) (more rest most gap cap : ℕ)

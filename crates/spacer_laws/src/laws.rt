@@ -20,9 +20,10 @@ use device_model::Hunted;
 use line_rules::LineRules;
 
 /// A law of the spacer's definitions, for each line, at every moment, and each gap of at least the
-/// silence that parts bursts: the spaced line carries whole frames of the protocol, at least the
-/// gap apart, and nothing else. Its bursts are they, and a device as the spacer hears reads each of
-/// them once it has ended. So it is for the members of the families of both devices.
+/// silence that divides bursts: the spaced line carries whole frames of the protocol, at least the
+/// gap apart, and nothing else. The last of them may still be unfinished. These frames are the
+/// bursts of the spaced line, and a device that hears as the spacer does reads each of them once it
+/// has ended. The same holds for the members of both families.
 pub fn frames_are_spaced()
     ensures rtu { (gap cap : ℕ) (line : List Tick) → T3_5_TICKS ≤ gap
         → SpacesOut rtu_rules rtu_reads rtu_reads T3_5_TICKS gap cap line }
@@ -38,8 +39,8 @@ pub fn frames_are_spaced()
 {}
 
 /// The law `frames_are_spaced` for the rules of each protocol whose devices hunt for frames, and
-/// each device that hunts so: one that takes no notice of silence, with a cut of 0, and one to
-/// which two or more silent ticks together end what was taken.
+/// each hunting device: one that ignores silence, with a cut of 0, and one that forgets what it has
+/// taken at two or more silent ticks in a row.
 pub fn hunted_frames_are_spaced<R: Hunted>()
     ensures { (cut gap cap : ℕ) (line : List Tick) → T3_5_TICKS ≤ gap → (cut ≡ 0) ⊎ (2 ≤ cut)
         → SpacesOut R.rules (hunt_family R.FIRST R.SECOND R.rules cut)
@@ -47,9 +48,9 @@ pub fn hunted_frames_are_spaced<R: Hunted>()
 {}
 
 /// A law of the spacer's definitions, for each line and each gap: all frames that are accepted of
-/// it have left once this many silent ticks follow that a frame more than may wait would fit into
-/// them, each of the longest, with its gap. For Modbus RTU the silence that ends the last frame
-/// comes first. So it is for the members of the families of both devices.
+/// the line have left once enough silent ticks follow it. There must be enough for as many of the
+/// longest frames as may wait and one more, each with its gap, and for Modbus RTU also for the
+/// silence that ends the last frame. The same holds for the members of both families.
 pub fn accepted_frames_leave()
     ensures rtu { (gap cap : ℕ) (line : List Tick) (rest : ℕ)
         → (cap + 1) * (256 + gap) + T3_5_TICKS ≤ rest → AllLeave rtu_reads gap cap line rest }
@@ -63,7 +64,7 @@ pub fn accepted_frames_leave()
 {}
 
 /// The law `accepted_frames_leave` for the rules of each protocol whose devices hunt for frames,
-/// and each device that hunts so.
+/// and each hunting device.
 pub fn hunted_accepted_frames_leave<R: Hunted>()
     ensures { (cut gap cap : ℕ) (line : List Tick) (rest : ℕ) → AreTicks line
         → (cap + 1) * (R.rules.longest + gap) ≤ rest
@@ -71,9 +72,9 @@ pub fn hunted_accepted_frames_leave<R: Hunted>()
 {}
 
 /// A law of the spacer's, the transmitter's and the receiver's definitions, for the rules of each
-/// protocol, each profile, and whatever the spacer hears, if it is frames of the protocol: with the
-/// gap of the profile, once all accepted frames have left, the transmitter seals exactly them, in
-/// order. On a link on which nothing is changed all of them pass, and the receiver's line is the
+/// protocol, each profile, and any spacer that reads only frames of the protocol: with the gap of
+/// the profile, and once all accepted frames have left, the transmitter seals exactly these frames,
+/// in order. If nothing is changed on the link, all of them pass, and the receiver's line is the
 /// spaced line, later by the receiver's delay.
 pub fn spaced_frames_are_sealed<R: LineRules>()
     ensures { (profile : Profile) → HasTags profile → 1 ≤ profile.word_len

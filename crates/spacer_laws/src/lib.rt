@@ -1,11 +1,11 @@
-//! Laws of the spacer's definitions, for each line, whatever is on it: what a spaced line
-//! carries, and what a device reads of it.
+//! Laws of the spacer's definitions, for each line, whatever is on it: what a spaced line carries,
+//! and what a device reads from it.
 //!
 //! Each law is the contract of a function that does nothing. `specs/` has the statements, over
 //! whole lines.
 //!
 //! A function whose proof needs a law calls the law's function. The call does nothing when it runs,
-//! and the clause is a fact of the proof from then on:
+//! and from then on the clause is a fact in the proof:
 //!
 //!     only_sealed_frames_are_given();
 #![tactic(auto)]
