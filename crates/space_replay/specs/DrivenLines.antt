@@ -11,7 +11,8 @@ use Rattle.space_replay.specs.SpacesLine.{DrivesSpacer}
 use Rattle.space_replay.specs.declared.spacers.LineSpacer.{Ghosts as LineSpacer}
 use Rattle.space_replay.specs.declared.spaced_lines.SpacedLines.{SpacedLines}
 
--- An input that had this left before has this left now, and the run over it ended so.
+-- What a run does over an input that had `in_before` left before it and has `in_now` left after it,
+-- if the run ended with `end`.
 pub record DrivesLines {B O L : Type 0} (b : LineSpacer B) (o : Sink O) (l : Sink L)
     (old new : SpacedLines B O L) (in_before in_now : Option (List ℕ)) (end : End) : Type 0 where
   pub driven : (start : SinkTexts) → SpacesItems b o l old start []

@@ -13,11 +13,11 @@ use Rattle.space_replay.specs.declared.spacers.LineSpacer.{Ghosts as LineSpacer}
 use Rattle.space_replay.specs.declared.spaced_lines.SpacedLines.{SpacedLines}
 
 module _ {B O L : Type 0} (b : LineSpacer B) (o : Sink O) (l : Sink L) where
-  -- the frame that its device lends, if this is the tick of its first byte
+  -- the frame that the spacer's device lends, if `read` has the tick of its first byte
   abbrev pub frames_of : SpacedLines B O L → Option ℕ → List FrameRead
   frames_of lines read = frames_lent read (b.lent lines.spacer.now)
 
-  -- Of so many ticks that were owed the answers to the first n were written.
+  -- Holds if the answers to the first n of the `owed` ticks were written.
   pub record WritesFirst (old new : SpacedLines B O L) (owed : ℕ) (read : Option ℕ) (n : ℕ) :
       Type 0 where
     pub some : 0 < n
@@ -30,7 +30,7 @@ module _ {B O L : Type 0} (b : LineSpacer B) (o : Sink O) (l : Sink L) where
     pub lends : b.lent new.spacer.now ≡ b.lent old.spacer.now
     pub keeps : KeepsHeld o l old new (Ok tt)
 
-  -- A write failed in the answers to so many ticks that were owed.
+  -- Holds if a write of the answers to the `owed` ticks failed.
   pub record StopsWriting (old new : SpacedLines B O L) (owed : ℕ) (read : Option ℕ) (stop : Stop) :
       Type 0 where
     pub why : stop ≡ WriteFault
@@ -39,13 +39,14 @@ module _ {B O L : Type 0} (b : LineSpacer B) (o : Sink O) (l : Sink L) where
         → StopsWithin b o l new start (line ++ ticks)
     pub keeps : KeepsHeld o l old new (Err stop)
 
-  -- It answers to how many of them the answers were written, or that a write failed.
+  -- Holds if the result is the number of ticks to which the answers were written, or that a write
+  -- failed.
   abbrev pub WritesSome : SpacedLines B O L → SpacedLines B O L → ℕ → Option ℕ → Result ℕ Stop
       → Type 0
   WritesSome old new owed read (Ok n) = WritesFirst old new owed read n
   WritesSome old new owed read (Err stop) = StopsWriting old new owed read stop
 
-  -- The answers to all ticks that were owed were written.
+  -- Holds if the answers to all ticks that were owed were written.
   pub record WritesAll (old new : SpacedLines B O L) (read : Option ℕ) : Type 0 where
     pub none : new.owed ≡ 0
     pub moved : (start : SinkTexts) (line ticks : List Tick) → length ticks ≡ old.owed
@@ -54,7 +55,7 @@ module _ {B O L : Type 0} (b : LineSpacer B) (o : Sink O) (l : Sink L) where
     pub counts : b.taken new.spacer.now ≡ b.taken old.spacer.now
     pub keeps : KeepsHeld o l old new (Ok tt)
 
-  -- It answers that they were, or that a write failed.
+  -- Holds if the result is that they were all written, or that a write failed.
   abbrev pub WritesOwed : SpacedLines B O L → SpacedLines B O L → Option ℕ
       → Result (Unit {0}) Stop → Type 0
   WritesOwed old new read (Ok done) = WritesAll old new read

@@ -1,4 +1,5 @@
--- What is said of a consumer that drives a spacer by references to it and to what it writes to.
+-- What is said of a consumer that drives a spacer. It holds references to the spacer, the texts and
+-- the two sinks.
 use Rattle.std.specs.Prelude.{◌≡◌, ◌≤◌, List, [], ◌++◌, length, Result}
 use Rattle.yasir_io.specs.Flushed.{NoneFlushed}
 use Rattle.yasir_io.specs.declared.sink.Sink.{Ghosts as Sink}
@@ -18,8 +19,8 @@ use Rattle.space_replay.specs.declared.spaced_lines.SpacedLines.{SpacedLines}
 abbrev pub writing_behind : {B O L : Type 0} → SpacedLines B O L → Writing O L
 writing_behind lines = writing lines.texts.now lines.out.now lines.log.now
 
--- What is held is what was held before. A sink failed where this is the answer, and none was
--- flushed.
+-- Holds if the references are those that were held before, no sink was flushed, and the count of
+-- faults of a sink rose exactly if the result is a write fault.
 pub record KeepsHeld {B O L : Type 0} (o : Sink O) (l : Sink L) (old new : SpacedLines B O L)
     (result : Result (Unit {0}) Stop) : Type 0 where
   pub spacer : new.spacer.ghost_name ≡ old.spacer.ghost_name
@@ -31,17 +32,18 @@ pub record KeepsHeld {B O L : Type 0} (o : Sink O) (l : Sink L) (old new : Space
   pub flushes : NoneFlushed o l old.out.now new.out.now old.log.now new.log.now
 
 module _ {B O L : Type 0} (b : LineSpacer B) (o : Sink O) (l : Sink L) where
-  -- The spacer has answered this line, and its texts are on their way to the two sinks, which held
-  -- this at the start. It owes the answers to these ticks behind the line, in the last of which these
-  -- frames are read.
+  -- Holds if the spacer has answered this line, and its texts are on their way to the two sinks,
+  -- which held `start` at first. It owes the answers to the `owed` ticks after the line. Of the
+  -- frames that were read in these ticks it has taken in all but `frames`, which were read in the
+  -- last one.
   pub record OwesTexts (lines : SpacedLines B O L) (frames : List FrameRead) (start : SinkTexts)
       (line owed : List Tick) : Type 0 where
     pub owes : b.owes lines.spacer.now line owed frames
     pub sends : SendsTexts (spaced_texts b.reads b.gap) (waiting_in lines.texts.now) start
         (texts_held o l (writing_behind lines)) line
 
-  -- The spacer has taken these items' ticks. Of the last of them, of which nothing is read, it owes
-  -- the answers.
+  -- Holds if the spacer has taken the ticks of these items. It owes the answers to the last of
+  -- them, and has taken in all frames that were read there.
   pub record SpacesItems (lines : SpacedLines B O L) (start : SinkTexts) (items : List Item) :
       Type 0 where
     pub line : List Tick
@@ -50,7 +52,7 @@ module _ {B O L : Type 0} (b : LineSpacer B) (o : Sink O) (l : Sink L) where
     pub many : length behind ≡ lines.owed
     pub texts : OwesTexts lines [] start line behind
 
-  -- A write failed: the sinks have got a front of each text of some first ones of these ticks.
+  -- Holds if a write failed: the sinks have got a front of each text of a front of these ticks.
   pub record StopsWithin (lines : SpacedLines B O L) (start : SinkTexts) (ticks : List Tick) :
       Type 0 where
     pub line : List Tick
@@ -59,7 +61,7 @@ module _ {B O L : Type 0} (b : LineSpacer B) (o : Sink O) (l : Sink L) where
     pub sent : HasSentFronts (spaced_texts b.reads b.gap) start
         (texts_held o l (writing_behind lines)) line
 
-  -- A write failed, at the last of these items or before.
+  -- Holds if a write failed, at the last of these items or before.
   pub record StopsSpacing (lines : SpacedLines B O L) (stop : Stop) (start : SinkTexts)
       (items : List Item) : Type 0 where
     pub why : stop ≡ WriteFault

@@ -1,4 +1,4 @@
--- What calls do to what a driven spacer holds, one after the other.
+-- What no call, and calls one after the other, do to what a consumer that drives a spacer holds.
 use Rattle.std.proofs.Common.{◌∙◌, refl, Ok}
 use Rattle.yasir_io.specs.declared.sink.Sink.{Ghosts as Sink}
 use Rattle.yasir_io.proofs.FlushLaws.{none_flushed, none_flushed_then}

@@ -12,18 +12,19 @@ use Rattle.line_texts.specs.Sending.{LineAndNotes}
 abbrev pub most_waiting : ℕ
 most_waiting = 64
 
--- a frame that is lost, with the tick of its first byte
+-- the line for a frame that is lost, with the tick of its first byte
 abbrev pub lost_line : FrameRead → List ℕ
 lost_line read = frame_line_of (codes "lost at ") read
 
 abbrev pub lost_lines : List FrameRead → List ℕ
 lost_lines reads = flat_map lost_line reads
 
--- the lines of frames that are lost, each read in a step
+-- the lines for frames that are lost
 abbrev pub arrival_lines : List Arrival → List ℕ
 arrival_lines lost = flat_map (λ a. lost_line a.frame) lost
 
--- By what a device reads of a line, and this many silent ticks between frames.
+-- the texts of a spacer for which `reads` says what it reads of a line, with at least `gap` silent
+-- ticks between frames
 abbrev pub spaced_texts : (List Tick → List FrameRead) → ℕ → LineAndNotes
 spaced_texts reads gap = record {
   other_line = λ line. spaced_line reads gap most_waiting line;

@@ -13,20 +13,21 @@ use Rattle.replay_status.specs.declared.status.Status.{Status}
 use Rattle.replay_status.specs.declared.status.Status.TheVariants.{Done, BadTicks, ReadFault}
 use Rattle.replay_status.specs.declared.status.Status.TheVariants.{WriteFault, TooLong, NoMemory}
 
--- How many silent ticks come after a whole input, so that all frames leave.
+-- how many silent ticks come after a whole input, so that all frames leave
 abbrev pub space_rest : ℕ
 space_rest = 21000
 
--- What is made of a line, what the input had left before and now, and what the sinks held.
+-- `made` has what is made of a line. The input had `in_before` left before and has `in_now` left
+-- now, and the sinks held `before` and hold `now`.
 module _ (made : LineAndNotes) (in_before in_now : Option (List ℕ)) (before now : SinkTexts) where
-  -- The sinks have got the texts of all ticks that were taken.
+  -- Holds if the sinks have got the texts of all ticks that were taken.
   pub record SpacesAll (end : End) : Type 0 where
     pub items : List Item
     pub takes : Takes 0 space_rest in_before in_now items end
     pub sent : HasSent made before now (ticks_in items)
 
-  -- A write failed: the sinks have got a front of each text of this many of the items that were
-  -- taken.
+  -- Holds if a write failed: the sinks have got a front of each text of the first `count` items
+  -- that were taken.
   pub record SpacesFront : Type 0 where
     pub items : List Item
     pub end : End
@@ -34,8 +35,8 @@ module _ (made : LineAndNotes) (in_before in_now : Option (List ℕ)) (before no
     pub takes : Takes 0 space_rest in_before in_now items end
     pub sent : HasSentFronts made before now (ticks_in (take count items))
 
-  -- What the run took of its input, and what the sinks have got of it. Where there is no memory,
-  -- that is nothing.
+  -- What the run took of its input, and what the sinks have got of it, for each status. If there is
+  -- no memory, both are nothing.
   abbrev pub SpacesLine : Status → Type 0
   SpacesLine Done = SpacesAll Whole
   SpacesLine (BadTicks bad) = SpacesAll (Refused bad)
@@ -45,18 +46,19 @@ module _ (made : LineAndNotes) (in_before in_now : Option (List ℕ)) (before no
   SpacesLine NoMemory = (in_now ≡ in_before) × (now ≡ before)
   SpacesLine status = ⊥
 
-  -- The texts of all ticks that were taken are on their way, some of them still waiting.
+  -- Holds if the texts of all ticks that were taken are on their way, some of them still waiting.
   pub record SendsAll (waits : Waiting) (end : End) : Type 0 where
     pub items : List Item
     pub takes : Takes 0 space_rest in_before in_now items end
     pub texts : SendsTexts made waits before now (ticks_in items)
 
-  -- A write failed, and nothing else.
+  -- Holds if the run stopped because a write failed, and for no other reason.
   pub record StopsAtWrite (stop : Stop) : Type 0 where
     pub why : stop ≡ stops.WriteFault
     pub front : SpacesFront
 
-  -- As the run over the input ended, or a write failed in what was owed at its end.
+  -- Holds if the run over the input ended with `end`, or a write failed, perhaps in what was owed
+  -- at the end of the run.
   abbrev pub DrivesSpacer : Waiting → End → Type 0
   DrivesSpacer waits (Stopped stop) = StopsAtWrite stop
   DrivesSpacer waits end = SendsAll waits end

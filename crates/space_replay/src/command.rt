@@ -24,11 +24,12 @@ use std::alloc::Global;
 use tick_drive::{End, drive_to_rest};
 use yasir_io::{Failed, Sink, Source};
 
-/// How many silent ticks come after a whole input, so that all frames leave: 65 of the longest
-/// with their gaps.
+/// How many silent ticks come after a whole input, so that all frames leave: 65 of the longest,
+/// each with its gap.
 const REST: u32 = 21_000;
 
-// Drives the input into what drives a spacer, and writes what is owed at its end.
+// Drives the input into the consumer that drives a spacer, and writes the answers that are owed at
+// the end of the input.
 fn drive_lines<B: LineSpacer, S: Source, O: Sink, L: Sink>(
     input: &mut S,
     lines: &mut SpacedLines<'_, B, O, L>,
@@ -50,7 +51,7 @@ fn drive_lines<B: LineSpacer, S: Source, O: Sink, L: Sink>(
     }
 }
 
-// Drives the input into the spacer. Its texts are on their way to the two sinks.
+// Drives the input into the spacer. The spacer's texts are then on their way to the two sinks.
 fn drive_spacer<B: LineSpacer, S: Source, O: Sink, L: Sink>(
     spacer: &mut B,
     texts: &mut Texts,
@@ -76,9 +77,9 @@ fn drive_spacer<B: LineSpacer, S: Source, O: Sink, L: Sink>(
     drive_lines(input, &mut lines)
 }
 
-/// Sends the frames of the input's line spaced: the text of the spaced line goes to `out`, and a
-/// line for each frame that is lost to the log. Where there is no memory for the spacer, nothing is
-/// read or written.
+/// Spaces the frames of the input's line: writes the text of the spaced line to `out`, and a line
+/// for each frame that is lost to `log`. If there is no memory for the spacer, nothing is read or
+/// written.
 pub fn space_frames<B: LineSpacer, S: Source, O: Sink, L: Sink>(
     alloc: Global,
     input: &mut S,

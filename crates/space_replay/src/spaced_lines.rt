@@ -19,9 +19,9 @@ use tick_drive::{Consumer, Stop};
 use yasir_io::{Failed, Sink, TextRoom};
 use yasir_ticks::TickRun;
 
-/// Drives a spacer: the spaced line goes on as canonical tick text, and a line for each frame that
-/// is lost to the log. What leaves is written where a frame is read that doesn't just wait
-/// behind others, and at the end.
+/// A consumer that drives a spacer: it writes the spaced line to `out` as canonical tick text, and
+/// a line for each frame that is lost to `log`. The answers that are owed are written when a frame
+/// is read that the spacer can't queue before they are, and at the end.
 #[derive(Drop)]
 pub struct SpacedLines<'a, B, O, L> {
     spacer: &'a mut B,
@@ -32,8 +32,8 @@ pub struct SpacedLines<'a, B, O, L> {
     owed: usize,
 }
 
-// Adds the line of a frame that is lost, and behind it the ticks of the run in which it is read. It
-// is kept separate, since few frames are lost.
+// Adds the line of a frame that is lost, and after it the ticks of the run in which the frame is
+// read. It is kept separate, since few frames are lost.
 #[inline(never)]
 fn push_lost<O: Sink, L: Sink>(
     texts: &mut Texts,
@@ -53,8 +53,8 @@ fn push_lost<O: Sink, L: Sink>(
     texts.push_noted(out, log, line.as_slice(), answer)
 }
 
-// Adds what a spacer lends of a run: the ticks that left, and before them the line of the frame
-// that was lost in it, if one was.
+// Adds what a spacer lends for a run: the line of the frame that was lost in it, if one was, and
+// then the ticks that left.
 #[inline(always)]
 fn push_answer<B: LineSpacer, O: Sink, L: Sink>(
     texts: &mut Texts,
@@ -76,7 +76,7 @@ fn push_answer<B: LineSpacer, O: Sink, L: Sink>(
 }
 
 impl<'a, B, O, L> SpacedLines<'a, B, O, L> {
-    /// Drives this spacer, whose texts go to these sinks.
+    /// A consumer that drives this spacer, whose texts go to these sinks.
     pub fn new(
         spacer: &'a mut B,
         texts: &'a mut Texts,
@@ -100,8 +100,8 @@ impl<'a, B, O, L> SpacedLines<'a, B, O, L> {
 }
 
 impl<'a, B: LineSpacer, O: Sink, L: Sink> SpacedLines<'a, B, O, L> {
-    // Writes the answers to the first of the ticks that are owed, of which there are so many, as
-    // far as the spacer gives them at once. Says to how many.
+    // Writes the answers to the first of the `owed` ticks that are owed, to as many of them as the
+    // spacer answers at once. Returns to how many.
     #[inline(always)]
     fn write_some(&mut self, owed: usize, read: Option<u64>) -> Result<usize, Stop>
         requires { 0 < owed }
@@ -114,7 +114,7 @@ impl<'a, B: LineSpacer, O: Sink, L: Sink> SpacedLines<'a, B, O, L> {
         }
     }
 
-    // Writes the answers to all ticks that are owed, of which there is one at least. `read` is the
+    // Writes the answers to all ticks that are owed, of which there is at least one. `read` is the
     // tick of the first byte of the frame that was read in the last one, if one was. It is kept
     // separate, since few runs end a frame.
     #[inline(never)]
@@ -143,8 +143,9 @@ impl<'a, B: LineSpacer, O: Sink, L: Sink> SpacedLines<'a, B, O, L> {
         self.write_owed(None)
     }
 
-    // Takes a run up to a frame that is read. Where the frame doesn't just wait behind others, what
-    // is owed is written then. Says how many ticks.
+    // Takes a run up to the first tick in which a frame is read. If the spacer can't queue the
+    // frame before the ticks that are owed are answered, their answers are written then. Returns
+    // how many ticks it has taken.
     #[inline(always)]
     fn space_some(&mut self, run: TickRun<'_>) -> Result<usize, Stop>
         requires some { 0 < length (run_ticks run) }
@@ -196,7 +197,7 @@ impl<'a, B: LineSpacer, O: Sink, L: Sink> Consumer for SpacedLines<'a, B, O, L> 
 
     ghost meaning = { spacing B.LineSpacer O.Sink L.Sink };
 
-    // Either kind has a part of its own, so that each is compiled for its kind.
+    // Each kind of run has a function of its own, so that `space_some` is compiled for each kind.
     #[inline(always)]
     fn take_some(&mut self, run: TickRun<'_>) -> Result<usize, Stop> {
         match run {
@@ -205,7 +206,7 @@ impl<'a, B: LineSpacer, O: Sink, L: Sink> Consumer for SpacedLines<'a, B, O, L> 
         }
     }
 
-    // A mark is no tick of the line.
+    // A mark isn't a tick of the line.
     fn take_mark(&mut self) -> Result<(), Stop> {
         Ok(())
     }

@@ -19,20 +19,21 @@ use yasir_ticks::TickRun;
 /// How many frames may wait.
 const MOST_WAITING: usize = 64;
 
-/// A spacer as a command drives it, with room for 64 frames to wait. So a function that is generic
-/// over spacers takes no type with a constant parameter.
+/// A spacer as a command drives it, with room for 64 frames to wait. With this trait, a function
+/// that is generic over spacers takes no type with a constant parameter.
 pub trait LineSpacer: Drop {
-    /// What the device reads that it hears as.
+    /// What is read of a line by the device as which the spacer hears it.
     ghost reads: { List Tick → List FrameRead };
 
-    /// How many silent ticks are between frames at least.
+    /// The least number of silent ticks between frames.
     ghost gap: { ℕ };
 
-    /// There are some.
+    /// There is at least one silent tick between frames.
     ghost gap_fits: { Type 0 };
 
-    /// It has answered a line, and has heard these ticks behind it, too. In the last of these ticks
-    /// these frames are read.
+    /// Holds if the spacer has answered a line, and has also heard these ticks after it, whose
+    /// answers it owes. Of the frames that were read in these ticks it has taken in all but these,
+    /// which were read in the last one.
     ghost owes: { Self → List Tick → List Tick → List FrameRead → Type 0 };
 
     /// How many ticks it has taken.
@@ -41,7 +42,7 @@ pub trait LineSpacer: Drop {
     /// The bytes that it lends of the other line: those that left in the last ticks answered.
     ghost sent: { Self → List ℕ };
 
-    /// The bytes that it lends: those of a frame that is lost, where the last call says so.
+    /// The bytes that it lends of a frame: the one that is read or lost, if the last call says so.
     ghost lent: { Self → List ℕ };
 
     /// A spacer that has taken no tick. It takes its memory here, and none later.
@@ -50,8 +51,8 @@ pub trait LineSpacer: Drop {
         ensures taken { IfOk result (λ spacer. taken spacer ≡ 0) }
         ensures owes { IfOk result (λ spacer. owes spacer [] [] []) };
 
-    /// Takes the first ticks of this run, at least one of them, up to the first one in which a frame
-    /// is read. It owes their answers.
+    /// Takes the first ticks of this run, at least one of them, up to the first one in which a
+    /// frame is read. It owes their answers, which `give_front` returns.
     fn hear_front(&mut self, run: TickRun<'_>) -> Met
         requires room { taken self.old + length (run_ticks run) ≤ MAX_TICKS }
         requires some { 0 < length (run_ticks run) }
@@ -62,9 +63,9 @@ pub trait LineSpacer: Drop {
             → owes self.new line (owed ++ take result.taken (run_ticks run.entry))
             (frames_lent result.start (lent self.new)) };
 
-    /// Takes in the frame that was read in the last of the ticks that are owed, of which there are
-    /// so many, before they are answered, if it is sure to wait until they are. Returns whether it
-    /// did.
+    /// Takes in the frame that was read in the last of the `owed` ticks that are owed, before they
+    /// are answered, if it is sure to find room, and to wait until they are answered. Returns
+    /// whether it did.
     fn queue_read(&mut self, owed: usize) -> bool
         requires { 0 < owed }
         ensures taken { taken self.new ≡ taken self.old }
@@ -73,10 +74,10 @@ pub trait LineSpacer: Drop {
             → owes self.old line ticks (frames_lent (Some start) (lent self.old))
             → owes self.new line ticks [] };
 
-    /// Answers the first of the ticks that are owed, of which there are so many: at least one of
-    /// them, as far as the other line stays all bytes or all silence. `read` is the tick of the
-    /// first byte of the frame that was read in the last one, if one was. Lends the bytes that
-    /// leave, one in each tick, or none where silence leaves.
+    /// Answers the first of the `owed` ticks that are owed: at least one of them, and no further
+    /// than the other line stays all bytes or all silence. `read` is the tick of the first byte of
+    /// the frame that was read in the last of the owed ticks, if one was. Lends the bytes that
+    /// leave, one in each tick, or none if silence leaves.
     fn give_front(&mut self, owed: usize, read: Option<u64>) -> SpaceRun
         requires { 0 < owed }
         ensures some { 0 < result.taken }
@@ -94,7 +95,7 @@ pub trait LineSpacer: Drop {
             (answered result.taken (sent self.new)) (length line + (result.taken - 1))
             (frames_lent result.lost (lent self.new)) };
 
-    /// The bytes that left in the last ticks answered, one in each; none where silence left.
+    /// The bytes that left in the last ticks answered, one in each tick, or none if silence left.
     fn sent_bytes(&self) -> &[u8]
         ensures { result.now ≡ sent self.now };
 
