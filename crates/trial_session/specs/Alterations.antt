@@ -8,7 +8,7 @@ use Rattle.trial_session.specs.declared.alteration.Alteration.{Alteration}
 use Rattle.trial_session.specs.declared.alteration.Alteration.TheVariants.{Nothing, Change, Lose}
 use Rattle.trial_session.specs.declared.alteration.Alteration.TheVariants.{Repeat, CutOff}
 
--- the alteration of a kind from 0 to 7, by a place and a value
+-- the alteration of a kind from 0 to 7, with a place and a value
 abbrev pub alteration_of : ℕ → ℕ → ℕ → Alteration
 alteration_of kind place value =
     if kind == 4 then Change place value
@@ -17,7 +17,7 @@ alteration_of kind place value =
     else if kind == 7 then CutOff place
     else Nothing
 
--- a byte has bits turned, and silence becomes a byte
+-- a changed tick: a byte has the bits of `value` turned, and silence becomes the byte `value`
 abbrev pub changed : ℕ → Tick → Tick
 changed value Silent = Byte value
 changed value (Byte b) = Byte (bit_xor b value)
@@ -26,8 +26,9 @@ changed value (Byte b) = Byte (bit_xor b value)
 abbrev pub half_len : ℕ
 half_len = 320
 
--- The ticks of a period as the alteration leaves them: one tick is changed; all are lost; the first
--- half stands again in place of the second; those from a place on are lost.
+-- The ticks of a period as an alteration leaves them: `Change` changes one tick, `Lose` makes all
+-- of them silent, `Repeat` puts the first half again in place of the second one, and `CutOff` makes
+-- those from a place on silent.
 abbrev pub altered : Alteration → List Tick → List Tick
 altered Nothing ticks = ticks
 altered (Change place value) ticks =

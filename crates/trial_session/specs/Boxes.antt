@@ -1,4 +1,4 @@
--- What is counted of transmitter and receiver.
+-- What is counted of the transmitter and the receiver.
 use Rattle.std.specs.Prelude.{ℕ, Bool, true, false, List, length, replicate, Option, Some, None}
 use Rattle.std.specs.List.{filter}
 use Rattle.yasir_ticks.specs.declared.tick.Tick.{Tick}
@@ -21,7 +21,7 @@ use Rattle.trial_session.specs.Counting.{Counting}
 use Rattle.trial_session.specs.declared.fate.Fate.{Fate}
 use Rattle.trial_session.specs.declared.fate.Fate.TheVariants.{Through, Refused, Dropped}
 
--- Both boxes have the key of sixteen bytes 0, direction `ab`, and new journals.
+-- the setup of both boxes: a key of sixteen bytes 0, direction `ab`, and a new journal
 abbrev pub trial_setup : Setup
 trial_setup = record { key = replicate 16 0; direction = 0; floor = 0 }
 
@@ -29,7 +29,7 @@ trial_setup = record { key = replicate 16 0; direction = 0; floor = 0 }
 abbrev pub trial_profile : {R M : Type 0} → LineRules R → Mac M → ℕ → Profile
 trial_profile proto macs word_len = profile_of proto macs word_len LIMIT trial_setup
 
--- what a box tells of the note of a step, if there is one
+-- the fate that a box tells of the note of a step, if there is a note
 abbrev pub told_by : {A : Type 0} → (A → Fate) → Option A → Option Fate
 told_by fate_of None = None
 told_by fate_of (Some note) = Some (fate_of note)

@@ -11,7 +11,7 @@ pub record Counting : Type 0 where
   pub refused : List Tick → ℕ
   pub dropped : List Tick → ℕ
 
--- how much a step counts of each fate
+-- how many bursts a step counts for each fate
 abbrev pub through_in : Option Fate → ℕ
 through_in None = 0
 through_in (Some Through) = 1
@@ -30,15 +30,15 @@ dropped_in (Some Through) = 0
 dropped_in (Some Refused) = 0
 dropped_in (Some Dropped) = 1
 
--- Of no line there is nothing.
+-- Holds if the other line of an empty line is empty, and none of its bursts is counted.
 pub record CountsNothing (counting : Counting) : Type 0 where
   pub no_tick : counting.other_line [] ≡ []
   pub none_through : counting.through [] ≡ 0
   pub none_refused : counting.refused [] ≡ 0
   pub none_dropped : counting.dropped [] ≡ 0
 
--- After these ticks of a line, and with one tick more, a step answers the tick of the other line,
--- and the fate of the burst that is counted then.
+-- Holds if, in a step that takes one more tick after this line, `tick` comes on the other line, and
+-- a burst of this fate is counted, or none.
 pub record CountsStep (counting : Counting) (line : List Tick) (t tick : Tick) (fate : Option Fate)
     : Type 0 where
   pub tick_is : counting.other_line (line ++ t ∷ []) ≡ counting.other_line line ++ tick ∷ []
@@ -46,8 +46,8 @@ pub record CountsStep (counting : Counting) (line : List Tick) (t tick : Tick) (
   pub refused_is : counting.refused (line ++ t ∷ []) ≡ counting.refused line + refused_in fate
   pub dropped_is : counting.dropped (line ++ t ∷ []) ≡ counting.dropped line + dropped_in fate
 
--- After these ticks of a line, a run of ticks more is answered with as many ticks of the other
--- line, and no burst is counted in it.
+-- Holds if a run after this line is answered with as many ticks of the other line, and no burst is
+-- counted in it.
 pub record CountsRun (counting : Counting) (line run answer : List Tick) : Type 0 where
   pub long : length answer ≡ length run
   pub ticks_are : counting.other_line (line ++ run) ≡ counting.other_line line ++ answer

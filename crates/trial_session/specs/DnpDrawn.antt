@@ -1,5 +1,5 @@
 -- The frames of the DNP3 link layer that are drawn: the first draw says how many bytes of user data
--- there are, the next two give destination and source, and each further one a byte of user data.
+-- there are, the next two give destination and source, and each one after them a byte of user data.
 use Rattle.std.specs.Prelude.{ℕ, ◌+◌, ◌%◌, List}
 use Rattle.dnp_link_frame.specs.Frame.{frame_of}
 use Rattle.dnp_link_frame.specs.declared.header.Header.{Header}

@@ -1,4 +1,4 @@
--- Draws one after the other, and frames that are drawn are frames.
+-- Laws of numbers that are drawn one after the other, and that drawn frames are frames.
 use Rattle.std.specs.Prelude.{◌≤◌, ◌≡◌, ℕ, zero, suc, ◌-◌, ◌%◌, ◌<◌, true, List}
 use Rattle.std.specs.Prelude.{length, map, refl, slice_index_or}
 use Rattle.std.proofs.Common.{arith, ◌∙◌, length-append, lit<}
@@ -60,7 +60,7 @@ dnp_are_frames x =
       };
     })
 
--- They have at most 292 bytes.
+-- Drawn frames have at most 292 bytes.
 pub rtu_are_short : (x : ℕ) → length (rtu_drawing.frame x) ≤ 292
 rtu_are_short x =
     let few = mod_below (nth_drawn 1 x) 253 (omega arith) in

@@ -1,4 +1,4 @@
--- Frames that are drawn, by protocol.
+-- How the frames of a protocol are drawn.
 use Rattle.std.specs.Prelude.{ℕ, List}
 
 pub record Drawing : Type 0 where

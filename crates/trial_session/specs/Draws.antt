@@ -1,5 +1,5 @@
--- Numbers that are drawn from a number: a linear congruential generator (Knuth, MMIX), of whose
--- state the high half is given.
+-- Numbers that are drawn from a seed: a linear congruential generator (Knuth, MMIX). Each draw
+-- gives the high half of its state.
 use Rattle.std.specs.Prelude.{ℕ, zero, suc, ◌+◌, ◌*◌, ◌/◌, ◌%◌, ◌^◌, List, [], ◌∷◌, map}
 use Rattle.trial_session.specs.declared.draws.Draws.{Draws}
 
@@ -7,7 +7,7 @@ use Rattle.trial_session.specs.declared.draws.Draws.{Draws}
 abbrev pub next_state : ℕ → ℕ
 next_state x = (6364136223846793005 * x + 1442695040888963407) % 2 ^ 64
 
--- what the draw gives that left this state: a number below 2^32
+-- what a draw gives that leaves this state: a number below 2^32
 abbrev pub drawn : ℕ → ℕ
 drawn x = x / 2 ^ 32
 
@@ -29,6 +29,6 @@ draws (suc n) x = drawn (next_state x) ∷ draws n (next_state x)
 abbrev pub bytes_drawn : ℕ → ℕ → List ℕ
 bytes_drawn n x = map (λ d. d % 256) (draws n x)
 
--- the state that a value stands at
+-- the state of a generator
 abbrev pub draw_state : Draws → ℕ
 draw_state value = value.state

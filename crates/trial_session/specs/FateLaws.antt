@@ -1,4 +1,4 @@
--- The bursts of transmitter and receiver are counted by the fates that their notes tell.
+-- The bursts of the transmitter and the receiver are counted by the fates that their notes tell.
 use Rattle.std.specs.Prelude.{◌≡◌, ℕ, ◌+◌, Bool, true, false, List, [], ◌∷◌, length}
 use Rattle.std.specs.Prelude.{Option, Some, None, is_some}
 use Rattle.std.specs.List.{filter, filter_map, cons_option}
@@ -32,7 +32,7 @@ length-cons : {X : Type 0} (o : Option X) (xs : List X)
 length-cons None xs = omega arith
 length-cons (Some x) xs = omega arith
 
--- frames among notes are as many as notes with a frame
+-- there are as many frames among notes as notes with a frame
 length-filter_map : {N F : Type 0} (frame_in : N → Option F) (p : N → Bool)
     → ((note : N) → is_some (frame_in note) ≡ p note) → (notes : List (Noted N))
     → length (filter_map (λ n. frame_in n.note) notes) ≡ tally p notes
@@ -43,7 +43,7 @@ length-filter_map frame_in p agree (n ∷ notes) =
     ∙ ap (λ k. cond (p n.note) 1 0 + k) (length-filter_map frame_in p agree notes)
     ∙ sym (length-cond (p n.note) n (filter (λ m. p m.note) notes))
 
--- notes that are told alike are as many
+-- two predicates that agree on each note hold of as many notes
 tally-alike : {N : Type 0} (p q : N → Bool) → ((note : N) → p note ≡ q note)
     → (notes : List (Noted N)) → tally p notes ≡ tally q notes
 tally-alike p q agree [] = refl

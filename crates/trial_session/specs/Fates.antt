@@ -24,11 +24,12 @@ is_dropped Through = false
 is_dropped Refused = false
 is_dropped Dropped = true
 
--- how many of these notes are told so
+-- of how many of these notes `p` holds
 abbrev pub tally : {N : Type 0} → (N → Bool) → List (Noted N) → ℕ
 tally p notes = length (filter (λ n. p n.note) notes)
 
--- A line has the other line of the walk, and of each fate as many bursts as there are notes of it.
+-- Holds if a line has the other line of the walk, and for each fate as many bursts as there are
+-- notes of it.
 pub record CountsFates {A : Type 0} (walking : Walking A) (fate_of : A → Fate) (counting : Counting)
     : Type 0 where
   pub other_is : (line : List Tick)

@@ -4,7 +4,7 @@ use Rattle.yasir_ticks.specs.{Ticks.silent, declared.tick.Tick.Tick}
 use Rattle.delay_ring.specs.DelayRing.{marked_ticks}
 use Rattle.trial_session.specs.declared.link.Link.{Link}
 
--- the ticks that are sent: those that are marked, and silence behind them
+-- the ticks that are sent: those that are marked, and then silence
 abbrev pub link_sent : Link → List Tick
 link_sent link = take link.marked (marked_ticks link.bytes link.marks)
     ++ silent (link.len - link.marked)

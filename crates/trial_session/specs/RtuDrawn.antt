@@ -1,5 +1,5 @@
--- The frames of Modbus RTU that are drawn: the first draw says how long the frame is, and each
--- further one gives a byte of what the CRC follows.
+-- The frames of Modbus RTU that are drawn: the first draw says how long the frame is, and each one
+-- after it gives a byte of what comes before the CRC.
 use Rattle.std.specs.Prelude.{ℕ, ◌+◌, ◌-◌, ◌%◌, List, ◌++◌}
 use Rattle.line_rules.specs.Bytes.{low_first}
 use Rattle.rtu_frame.specs.Crc.{crc_rtu}
@@ -10,7 +10,7 @@ use Rattle.trial_session.specs.DrawnFrames.{Drawing}
 abbrev pub rtu_frame_len : ℕ → ℕ
 rtu_frame_len x = 4 + nth_drawn 1 x % 253
 
--- all of them but the CRC
+-- all bytes of the frame but its CRC
 abbrev pub rtu_body : ℕ → List ℕ
 rtu_body x = bytes_drawn (rtu_frame_len x - 2) (state_after 1 x)
 

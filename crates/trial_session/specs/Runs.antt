@@ -9,7 +9,7 @@ use Rattle.trial_session.specs.Session.{period_len, state_at, session_line, alte
 use Rattle.trial_session.specs.Sides.{MayTake, HasTaken, MayReceive, HasReceived}
 use Rattle.trial_session.specs.declared.session.Session.{Session}
 
--- Both boxes and the device have taken this many ticks, and may take more.
+-- Holds if both boxes and the device have taken this many ticks, and may take more.
 pub record MayGoOn {S C V N K : Type 0} (seals : LinkBox S N) (checks : LinkBox C K)
     (device : Device V) (session : Session S C V) (ticks : ℕ) : Type 0 where
   pub may_seal : MayTake seals session.sealing
@@ -17,13 +17,13 @@ pub record MayGoOn {S C V N K : Type 0} (seals : LinkBox S N) (checks : LinkBox 
   pub sealed_ticks : seals.taken session.sealing.line_box ≡ ticks
   pub checked_ticks : checks.taken session.receiving.checking.line_box ≡ ticks
 
--- So many periods of the session of a seed have gone through both boxes and the device.
+-- Holds if `count` periods of the session of a seed have gone through both boxes and the device.
 pub record HasRun {S C V N K : Type 0} (seals : LinkBox S N) (sealing : Counting)
     (checks : LinkBox C K) (checking : Counting) (device : Device V) (drawing : Drawing)
     (behind : ℕ) (session : Session S C V) (seed count : ℕ) : Type 0 where
   pub state_is : draw_state session.draws ≡ state_at drawing seed count
   pub seals_line : HasTaken seals sealing session.sealing (session_line drawing seed count)
-  -- the link has as many ticks
+  -- the link has as many ticks as these periods
   pub link_long : length (sealing.other_line (session_line drawing seed count))
       ≡ period_len * count
   pub receives_link : HasReceived checks checking device session.receiving

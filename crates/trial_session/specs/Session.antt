@@ -1,4 +1,4 @@
--- A session that is made from a number: the line of the device, and what becomes of the link.
+-- A session that is made from a seed: the line of the device, and what happens to the link.
 use Rattle.std.specs.Prelude.{ℕ, zero, suc, ◌+◌, ◌-◌, ◌*◌, ◌%◌, List, [], ◌++◌, length, map, take}
 use Rattle.std.specs.Prelude.{drop}
 use Rattle.yasir_ticks.specs.Ticks.{silent}
@@ -13,16 +13,16 @@ use Rattle.trial_session.specs.declared.alteration.Alteration.{Alteration}
 abbrev pub period_len : ℕ
 period_len = 640
 
--- A frame stands first in its period, and the rest is silent.
+-- the ticks of a period: its frame, and then silence
 abbrev pub period_line : List ℕ → List Tick
 period_line frame = map (λ b. Byte b) frame ++ silent (period_len - length frame)
 
 module _ (drawing : Drawing) where
-  -- the state once the frame of a period is drawn, that began in this state
+  -- the state after the frame of a period is drawn, if the period began in this state
   abbrev pub after_frame : ℕ → ℕ
   after_frame x = state_after (drawing.draws x) x
 
-  -- the state at the end of the period: three more draws are made, for what becomes of the link
+  -- the state at the end of that period: three more draws are made, for the alteration of the link
   abbrev pub after_period : ℕ → ℕ
   after_period x = state_after 3 (after_frame x)
 
@@ -31,8 +31,9 @@ module _ (drawing : Drawing) where
   state_at seed zero = seed
   state_at seed (suc n) = after_period (state_at seed n)
 
-  -- What becomes of the link in the period that begins in this state, where this many ticks follow
-  -- a frame in its packet: a kind, a place within the packet, and a value from 1 to 255.
+  -- The alteration of the link in the period that begins in this state, if `behind` ticks follow
+  -- the frame in a packet. It is drawn by a kind, a place within the packet, and a value from 1 to
+  -- 255.
   abbrev pub alteration_in : ℕ → ℕ → Alteration
   alteration_in behind x =
       alteration_of (nth_drawn 1 (after_frame x) % 8)
@@ -48,7 +49,7 @@ module _ (drawing : Drawing) where
   abbrev pub ticks_of : ℕ → List Tick → List Tick
   ticks_of n line = take period_len (drop (period_len * n) line)
 
-  -- the first periods of a link, each altered as the session of this seed has it
+  -- the first periods of a link, each altered as in the session of this seed
   unfoldable pub altered_link : ℕ → ℕ → ℕ → List Tick → List Tick
   altered_link behind seed zero link = []
   altered_link behind seed (suc n) link = altered_link behind seed n link

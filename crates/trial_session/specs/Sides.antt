@@ -13,8 +13,8 @@ use Rattle.trial_session.specs.declared.receiving.Receiving.{Receiving}
 use Rattle.trial_session.specs.declared.side.Side.{Side}
 
 module _ {X N : Type 0} (line_box : LinkBox X N) where
-  -- The box may take a tick: the journal is that of the box's link, the disk is the journal's, and
-  -- no more is counted than there were ticks.
+  -- Holds if the box may take a tick: the journal is that of the box's link, the disk fits the
+  -- journal, and no more bursts are counted for a fate than the box has taken ticks.
   pub record MayTake (side : Side X) : Type 0 where
     pub of_link : journal_link side.journal ≡ line_box.link_of side.line_box
     pub fits : Fits side.journal (Some (steady_slots side.disk))
@@ -23,43 +23,44 @@ module _ {X N : Type 0} (line_box : LinkBox X N) where
     pub dropped_few : side.dropped ≤ line_box.taken side.line_box
 
 module _ {X N : Type 0} (line_box : LinkBox X N) (counting : Counting) where
-  -- The box has taken this line, and its bursts are counted.
+  -- Holds if the box has taken this line, and its bursts are counted.
   pub record HasTaken (side : Side X) (line : List Tick) : Type 0 where
     pub stands : line_box.stands side.line_box (journal_floor side.journal) trial_setup line
     pub through_is : side.through ≡ counting.through line
     pub refused_is : side.refused ≡ counting.refused line
     pub dropped_is : side.dropped ≡ counting.dropped line
 
-  -- After this line the box has taken these ticks more, and has answered these.
+  -- Holds if, after this line, the box has taken the ticks `more`, and has answered them with
+  -- `answers`.
   pub record HasSent (side : Side X) (line more answers : List Tick) : Type 0 where
     pub taken : HasTaken side (line ++ more)
     pub answered : counting.other_line (line ++ more) ≡ counting.other_line line ++ answers
 
-  -- After this line the box has taken a run more, and has answered it by as many ticks.
+  -- Holds if, after this line, the box has taken a run, and has answered it with as many ticks.
   pub record HasPassed (side : Side X) (line run answer : List Tick) : Type 0 where
     pub sent : HasSent side line run answer
     pub long : length answer ≡ length run
 
--- A device has heard this line, and its frames are counted.
+-- Holds if a device has heard this line, and the frames that it read are counted.
 pub record HasHeard {V : Type 0} (device : Device V) (value : Listening V) (line : List Tick)
     : Type 0 where
   pub stands : device.stands value.device line
   pub counts : value.read ≡ length (device.reads line)
 
--- Of this line a device is still to hear these bytes at its end.
+-- Holds if a device has heard this line but for the bytes `waiting`, which are at its end.
 pub record IsHearing {V : Type 0} (device : Device V) (value : Listening V) (waiting : List ℕ)
     (line : List Tick) : Type 0 where
   pub front : List Tick
   pub is : line ≡ front ++ map Byte waiting
   pub hears : HasHeard device value front
 
--- The receiver has taken this link, and the device has heard what it made of it.
+-- Holds if the receiver has taken this link, and the device has heard the line that it made of it.
 pub record HasReceived {C N V : Type 0} (checks : LinkBox C N) (checking : Counting)
     (device : Device V) (receiving : Receiving C V) (link : List Tick) : Type 0 where
   pub checks_link : HasTaken checks checking receiving.checking link
   pub hears_line : HasHeard device receiving.listening (checking.other_line link)
 
--- The receiver and the device have taken as many ticks, and may take more.
+-- Holds if the receiver and the device have taken equally many ticks, and may take more.
 pub record MayReceive {C N V : Type 0} (checks : LinkBox C N) (device : Device V)
     (receiving : Receiving C V) : Type 0 where
   pub may_check : MayTake checks receiving.checking
@@ -67,15 +68,16 @@ pub record MayReceive {C N V : Type 0} (checks : LinkBox C N) (device : Device V
   pub heard_ticks : device.taken receiving.listening.device
       ≡ checks.taken receiving.checking.line_box
 
--- The receiver has taken this link, and of what it made of it the device is still to hear these
--- bytes.
+-- Holds if the receiver has taken this link, and the device has heard the line that it made of it,
+-- but for the bytes `waiting` at the end.
 pub record IsReceiving {C N V : Type 0} (checks : LinkBox C N) (checking : Counting)
     (device : Device V) (receiving : Receiving C V) (waiting : List ℕ) (link : List Tick) : Type 0
   where
     pub checks_link : HasTaken checks checking receiving.checking link
     pub hears_line : IsHearing device receiving.listening waiting (checking.other_line link)
 
--- The device has taken fewer ticks than the receiver, by these bytes, and both may take more.
+-- Holds if the device has taken fewer ticks than the receiver, by as many as bytes wait, and both
+-- may take more.
 pub record MayGoOnReceiving {C N V : Type 0} (checks : LinkBox C N) (device : Device V)
     (receiving : Receiving C V) (waiting : List ℕ) : Type 0 where
   pub may_check : MayTake checks receiving.checking

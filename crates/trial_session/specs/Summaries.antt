@@ -11,13 +11,13 @@ use Rattle.trial_session.specs.DrawnFrames.{Drawing}
 use Rattle.trial_session.specs.Session.{session_line, altered_link}
 use Rattle.trial_session.specs.declared.summary.Summary.{Summary}
 
--- this many silent ticks follow the link, so that all that has passed is read
+-- how many silent ticks follow the link, so that all frames that have passed are read
 abbrev pub trial_rest : ℕ
 trial_rest = 320
 
--- Of a device's line and of a link: what the transmitter seals of the one, what the receiver makes
--- of the bursts of the other, and the frames that a device that reads so reads of the receiver's
--- line.
+-- What is counted of a device's line and of a link: the frames that the transmitter seals of the
+-- line, the bursts of the link that the receiver passes, refuses and drops, and the frames that a
+-- device reads of the receiver's line, by `reads`.
 abbrev pub summary_of : Counting → Counting → (List Tick → List FrameRead) → List Tick → List Tick
     → Summary
 summary_of sealing checking reads line link = record {
@@ -28,8 +28,8 @@ summary_of sealing checking reads line link = record {
   read = length (reads (checking.other_line link));
 }
 
--- the link of the session of this many frames from a seed: that of the transmitter, altered, where
--- so many ticks follow a frame in its packet, and then silence
+-- The link of the session of `count` frames from a seed: the transmitter's, altered, and then
+-- silence. In a packet `behind` ticks follow the frame.
 abbrev pub session_link : Drawing → ℕ → Counting → ℕ → ℕ → List Tick
 session_link drawing behind sealing seed count =
     altered_link drawing behind seed count
@@ -42,7 +42,8 @@ session_summary drawing behind sealing checking reads seed count =
     summary_of sealing checking reads (session_line drawing seed count)
     (session_link drawing behind sealing seed count)
 
--- the same of the transmitter and the receiver of a profile and of a protocol's rules
+-- what is counted of a session over the transmitter and the receiver of a profile and a protocol's
+-- rules
 abbrev pub trial_summary : Drawing → Profile → Rules → (List Tick → List FrameRead) → ℕ → ℕ
     → Summary
 trial_summary drawing profile rules reads seed count =

@@ -2,7 +2,7 @@
 use Rattle.std.specs.Prelude.{ℕ, List, ◌++◌, codes, decimal}
 use Rattle.trial_session.specs.declared.summary.Summary.{Summary}
 
--- a word, and a number behind it, each with a blank before it
+-- a word and then a number, each with a blank before it
 abbrev pub worded : List ℕ → ℕ → List ℕ
 worded word n = codes " " ++ word ++ codes " " ++ decimal n
 

@@ -7,17 +7,19 @@ ghost use Rattle.trial_session.specs.Alterations.{alteration_of};
 pub enum Alteration {
     /// Nothing.
     Nothing,
-    /// At this place a byte has the bits of `value` turned, and a silent tick becomes that byte.
+    /// The byte at this place has the bits of `value` turned. A silent tick there becomes the byte
+    /// `value`.
     Change { place: usize, value: u8 },
     /// The whole period is silent.
     Lose,
-    /// The first half of it stands again in place of the second half.
+    /// The first half of the period comes again in place of the second half.
     Repeat,
-    /// All from this place on is silent.
+    /// All ticks from this place on are silent.
     CutOff { place: usize },
 }
 
-/// The alteration of a kind, which is a number from 0 to 7: half of them change nothing.
+/// Returns the alteration of a kind, which is a number from 0 to 7. Half of the kinds change
+/// nothing.
 pub fn alteration_of(kind: u32, place: usize, value: u8) -> Alteration
     ensures { result ≡ alteration_of kind place value }
 {

@@ -1,4 +1,4 @@
-//! What a session asks of a box: what became of each burst.
+//! What a session asks of a box: what happened to each burst.
 ghost use Rattle.std.specs.Prelude.{◌≡◌};
 ghost use Rattle.trial_session.specs.declared.fate.Fate.{Fate};
 ghost use Rattle.trial_session.specs.Counting.{Counting};
@@ -7,19 +7,20 @@ ghost use Rattle.trial_session.specs.Fates.{CountsFates};
 use crate::fate::Fate;
 use link_box::LinkBox;
 
-/// A box of a link whose notes say what becomes of each burst. A session sets it up with the key of
+/// A box of a link whose notes say what happened to each burst. A session sets it up with a key of
 /// sixteen bytes 0, the direction `ab` and a new journal.
 pub trait CountingBox: LinkBox {
-    /// What becomes of the burst of a note.
+    /// The fate of the burst that a note is about.
     ghost fate_of: { Self.Note → Fate };
 
-    /// What it makes of a line.
+    /// What the box makes of a line: the other line, and how many bursts have each fate.
     ghost counting: { Counting };
 
-    /// What becomes of the burst of a note.
+    /// Returns the fate of the burst that a note is about.
     fn fate(note: Self::Note) -> Fate
         ensures { result ≡ fate_of note };
 
-    /// Of each fate are counted as many bursts as have a note of it.
+    /// The other line is that of the box's walk, and for each fate as many bursts are counted as
+    /// there are notes of it.
     ghost counts: { CountsFates Self.walking fate_of counting };
 }

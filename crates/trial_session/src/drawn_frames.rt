@@ -10,7 +10,7 @@ use rtu_frame::{Rtu, RtuBytes, close};
 
 /// A protocol whose frames can be drawn.
 pub trait DrawnFrames: LineRules {
-    /// Which frame is drawn, and by how many draws.
+    /// The frame that is drawn, and how many draws it takes.
     ghost drawing: { Drawing };
 
     /// Draws a frame.
@@ -19,7 +19,7 @@ pub trait DrawnFrames: LineRules {
         ensures state { draw_state draws.new
             ≡ state_after (drawing.draws (draw_state draws.old)) (draw_state draws.old) };
 
-    // By the protocol's rules it is a frame.
+    // Each drawn frame is a frame by the protocol's rules.
     ghost are_frames: { (x : ℕ) → Self.rules.is_frame (drawing.frame x) ≡ true };
 }
 

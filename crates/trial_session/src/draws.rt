@@ -6,8 +6,8 @@ use arrayvec::ArrayVec;
 /// The bytes of a frame of either protocol.
 pub type FrameBytes = ArrayVec<u8, 292>;
 
-/// Numbers that are drawn one after the other from a first one: a linear congruential generator
-/// (Knuth, MMIX), of whose state each draw gives the high half.
+/// Numbers that are drawn one after the other from a seed: a linear congruential generator (Knuth,
+/// MMIX). Each draw gives the high half of its state.
 #[derive(Drop)]
 pub struct Draws {
     state: u64,
@@ -17,7 +17,7 @@ impl Draws {
     ghost use Rattle.trial_session.specs.Draws.{next_state, drawn, state_after, bytes_drawn};
     ghost use Rattle.trial_session.specs.Draws.{draw_state};
 
-    /// Nothing is drawn yet.
+    /// A generator with this seed, from which nothing is drawn yet.
     pub fn new(seed: u32) -> Draws
         ensures { draw_state result ≡ seed }
     {
@@ -26,7 +26,7 @@ impl Draws {
         }
     }
 
-    /// The next number.
+    /// Draws the next number.
     #[inline]
     pub fn draw(&mut self) -> u32
         ensures state { draw_state self.new ≡ next_state (draw_state self.old) }

@@ -1,6 +1,6 @@
-//! What becomes of a burst in a session.
+//! What happens to a burst in a session.
 
-/// What becomes of a burst.
+/// What happens to a burst at a box.
 #[derive(Clone, Copy, Debug, PartialEq, Eq)]
 pub enum Fate {
     /// The transmitter seals it, or the receiver passes it.

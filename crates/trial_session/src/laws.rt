@@ -11,8 +11,8 @@ ghost use Rattle.trial_session.specs.Summaries.{trial_summary};
 ghost use Rattle.trial_session.specs.Telling.{Tells};
 
 /// A law of the definitions of a session, for both protocols and each profile with a trailer of at
-/// most 20 bytes: as long as there are numbers enough, each frame that is drawn is sealed, and the
-/// device reads as many frames as the receiver passes.
+/// most 20 bytes: if there are enough numbers, each frame that is drawn is sealed, and the device
+/// reads as many frames as the receiver passes.
 pub fn sessions_tell()
     ensures rtu { (profile : Profile) → HasTags profile → 1 ≤ profile.word_len
         → trailer_len profile ≤ 20 → (seed count : ℕ) → count ≤ profile.limit

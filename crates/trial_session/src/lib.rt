@@ -1,6 +1,6 @@
-//! A session that is made from a number: frames that are drawn go through the transmitter, over a
-//! link that is altered period by period, through the receiver and to a device, and all that comes
-//! of them is counted. No memory is taken.
+//! A session that is made from a number, its seed: drawn frames go through the transmitter, over a
+//! link that is altered period by period, through the receiver and to a device, and what happens to
+//! them is counted. No memory is taken.
 //!
 //! A session of 100 frames from the seed 7, over both boxes of Modbus RTU and the device:
 //!

@@ -12,12 +12,12 @@ pub const PERIOD: usize = 640;
 
 const HALF: usize = 320;
 
-// The marks of this many bytes, and of this many silent ticks.
+// The marks of a whole period of bytes, and of a whole period of silence.
 const BYTES: [u8; PERIOD] = [1; PERIOD];
 
 const SILENCE: [u8; PERIOD] = [0; PERIOD];
 
-// The first half of all places stands again in place of the second one.
+// Copies the first half of all places over the second half.
 fn repeat_half(places: &mut [u8; 640])
     ensures half { places.new ≡ take 320 places.old ++ take 320 places.old }
     ensures long { length places.new ≡ 640 }
@@ -26,14 +26,14 @@ fn repeat_half(places: &mut [u8; 640])
     second.copy_from_slice(first);
 }
 
-/// The link of a period, as far as it is sent.
+/// The link of a period, as far as it has been sent.
 #[derive(Drop)]
 pub struct Link {
     // The byte of each tick, and whether there is one: a mark that isn't 0.
     bytes: [u8; 640],
     marks: [u8; 640],
-    // So many ticks are marked, those up to the last byte at least. Those behind them are silent,
-    // and their marks say nothing.
+    // How many ticks are marked, which are at least those up to the last byte. The ticks after them
+    // are silent, and their marks say nothing.
     marked: usize,
     len: usize,
     ghost within: { len ≤ 640 },
@@ -50,7 +50,7 @@ impl Link {
     ghost use Rattle.burst_walk.specs.Answered.{answered};
     ghost use Rattle.trial_session.specs.Links.{link_sent};
 
-    /// Nothing is sent.
+    /// A link on which nothing has been sent.
     pub fn new() -> Link
         ensures len { result.len ≡ 0 }
         ensures sent { link_sent result ≡ [] }
@@ -63,7 +63,7 @@ impl Link {
         }
     }
 
-    /// Lets all go that is sent.
+    /// Forgets all that has been sent.
     pub fn clear(&mut self)
         ensures len { self.new.len ≡ 0 }
         ensures sent { link_sent self.new ≡ [] }
@@ -72,7 +72,7 @@ impl Link {
         self.len = 0;
     }
 
-    // Marks all that is sent.
+    // Marks all ticks that have been sent.
     #[inline]
     fn mark_all(&mut self)
         ensures marked { self.new.marked ≡ self.new.len }
@@ -109,7 +109,7 @@ impl Link {
         self.len += ticks;
     }
 
-    /// Sends an answer to this many ticks: as many bytes, or silence where there is none.
+    /// Sends the answer to `count` ticks: as many bytes, or silence if `sent` is empty.
     #[inline]
     pub fn add(&mut self, count: usize, sent: &[u8])
         requires { self.old.len + count ≤ 640 }
@@ -150,7 +150,8 @@ impl Link {
         }
     }
 
-    // Turns the bits of this value in a byte, or makes a byte of silence.
+    // Turns the bits of `value` in the byte at this place, or makes a silent tick there the byte
+    // `value`.
     fn change(&mut self, place: usize, value: u8)
         requires whole { self.old.len ≡ 640 }
         requires within { place < 640 }
@@ -178,7 +179,7 @@ impl Link {
         self.marked = self.marked.min(place);
     }
 
-    // The first half of a period stands again in place of the second one.
+    // Copies the first half of the period over the second half.
     fn repeat(&mut self)
         requires { self.old.len ≡ 640 }
         ensures len { self.new.len ≡ 640 }
@@ -226,7 +227,7 @@ impl Link {
         silence_in_front(&self.marks[at..self.marked])
     }
 
-    // The bytes that stand from a place on, up to the first silent tick.
+    // The bytes from a place on, up to the first silent tick.
     #[inline]
     fn bytes_from(&self, at: usize) -> &[u8]
         requires { at < self.now.marked }
@@ -239,7 +240,7 @@ impl Link {
         &self.bytes[at..at + count]
     }
 
-    /// The ticks that stand from a place on and are alike, one at least.
+    /// The run from a place on: at least one tick, all of them bytes or all of them silent.
     #[inline]
     pub fn run_from(&self, at: usize) -> TickRun<'_>
         requires { at < self.now.len }

@@ -21,7 +21,8 @@ impl<V> Listening<V> {
     }
 }
 
-// How many frames a device has read in some ticks, by the tick at which one begins.
+// How many frames a device has read in some ticks: one if `start` has the tick at which it begins,
+// or none.
 #[inline]
 fn frames_in(start: Option<u64>) -> u64
     ensures value { (bytes : List ℕ) → result ≡ length (frames_lent start bytes) }
@@ -113,7 +114,8 @@ impl<V: Device + Drop> Listening<V> {
         waiting.clear();
     }
 
-    // The next ticks have these bytes. They wait, if there is room for them.
+    // Takes the next ticks, which have these bytes. The bytes wait if there is room for them. If
+    // there isn't, the device hears all of them.
     #[inline]
     fn keep(&mut self, bytes: &[u8], waiting: &mut Waiting)
         requires few { self.old.read ≤ V.taken self.old.device }
@@ -132,7 +134,7 @@ impl<V: Device + Drop> Listening<V> {
         }
     }
 
-    // The next ticks are this many silent ones.
+    // Hears the bytes that wait, and then this many silent ticks.
     #[inline]
     fn hear_silence(&mut self, ticks: usize, waiting: &mut Waiting)
         requires few { self.old.read ≤ V.taken self.old.device }
@@ -148,8 +150,8 @@ impl<V: Device + Drop> Listening<V> {
         self.wait(ticks);
     }
 
-    /// Hears an answer to this many ticks: as many bytes, or silence where there is none. Bytes
-    /// wait for the end of their run, since a run costs the device little more than a single byte.
+    /// Hears the answer to `count` ticks: as many bytes, or silence if `sent` is empty. Bytes wait
+    /// for the end of their run, since a run costs the device little more than a single byte.
     #[inline]
     pub fn hear(&mut self, count: usize, sent: &[u8], waiting: &mut Waiting)
         requires few { self.old.read ≤ V.taken self.old.device }

@@ -8,7 +8,7 @@ use crate::{CountingBox, DrawnFrames, Summary, try_session};
 use device_model::Device;
 use replay_status::{Line, push_decimal};
 
-// Appends a word, and a number behind it, each with a blank before it.
+// Appends a word and then a number, each with a blank before it.
 fn push_worded(line: &mut Line, word: &[u8], n: u64)
     requires word { length word.now ≤ 10 }
     requires room { length line.old.items ≤ 500 }
@@ -40,7 +40,7 @@ fn trial_line(name: &[u8], seed: u32, count: u32, counted: Summary) -> Line
     line
 }
 
-/// Runs the session of this many frames from a seed, as `try_session` does, and returns its line,
+/// Runs the session of `count` frames from a seed, as `try_session` does, and returns its line,
 /// with the name of its protocol.
 pub fn session_line<R: DrawnFrames, S: CountingBox, C: CountingBox, V: Device + Drop>(
     name: &[u8],

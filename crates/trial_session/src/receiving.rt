@@ -8,7 +8,7 @@ use burst_walk::RunBytes;
 use device_model::Device;
 use yasir_ticks::{MAX_TICKS, TickRun};
 
-/// The receiver `C`, and the device `V` that hears what it lets through.
+/// The receiver `C`, and the device `V` that hears the receiver's line.
 #[derive(Drop)]
 pub struct Receiving<C, V> {
     checking: Side<C>,
@@ -39,7 +39,7 @@ impl<C: CountingBox, V: Device + Drop> Receiving<C, V> {
     ghost use Rattle.trial_session.specs.Sides.{MayGoOnReceiving, IsReceiving};
     ghost use Rattle.link_box.specs.Links.{AreLinks};
 
-    /// Neither has taken a tick.
+    /// A receiver and a device, neither of which has taken a tick.
     pub fn new() -> Receiving<C, V>
         requires widths { C.widths_fit }
         requires links { AreLinks C.link_in }
@@ -54,21 +54,21 @@ impl<C: CountingBox, V: Device + Drop> Receiving<C, V> {
         }
     }
 
-    /// How many bursts the receiver let through.
+    /// How many bursts the receiver passed.
     pub fn passed(&self) -> u64
         ensures { result ≡ self.now.checking.through }
     {
         self.checking.through()
     }
 
-    /// How many it refused.
+    /// How many bursts the receiver refused.
     pub fn refused(&self) -> u64
         ensures { result ≡ self.now.checking.refused }
     {
         self.checking.refused()
     }
 
-    /// How many it dropped.
+    /// How many bursts the receiver dropped.
     pub fn dropped(&self) -> u64
         ensures { result ≡ self.now.checking.dropped }
     {
@@ -82,8 +82,8 @@ impl<C: CountingBox, V: Device + Drop> Receiving<C, V> {
         self.listening.read()
     }
 
-    // Takes the first of these ticks, one at least, and returns how many. Bytes that the device is
-    // still to hear wait.
+    // Takes the first of these ticks, at least one of them, and returns how many. Bytes that the
+    // device is still to hear wait.
     #[inline]
     fn take_some(&mut self, run: TickRun<'_>, waiting: &mut Waiting) -> usize
         requires some { 0 < length (run_ticks run) }

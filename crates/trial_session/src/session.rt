@@ -16,11 +16,12 @@ use yasir_ticks::{MAX_TICKS, TickRun};
 #[cfg(test)]
 mod turn_tests;
 
-/// This many silent ticks follow the link of a session, so that all that has passed is read.
+/// How many silent ticks follow the link of a session, so that all frames that have passed are
+/// read.
 const REST: u32 = 320;
 
-/// A session on its way: frames go through the transmitter `S`, over the link, through the receiver
-/// `C` and to the device `V`.
+/// A session in progress: frames go through the transmitter `S`, over the link, through the
+/// receiver `C` and to the device `V`.
 #[derive(Drop)]
 pub struct Session<S, C, V> {
     draws: Draws,
@@ -30,7 +31,7 @@ pub struct Session<S, C, V> {
     receiving: Receiving<C, V>,
 }
 
-// Draws what becomes of the link in the period of a packet of this many ticks.
+// Draws the alteration of the link for a period whose packet has `packet_len` ticks.
 fn draw_alteration(draws: &mut Draws, packet_len: usize) -> Alteration
     requires { 0 < packet_len }
     ensures state { draw_state draws.new ≡ state_after 3 (draw_state draws.old) }
@@ -68,7 +69,7 @@ impl<S: CountingBox, C: CountingBox, V: Device + Drop> Session<S, C, V> {
         }
     }
 
-    // One more period, where this many ticks follow a frame in its packet.
+    // Runs one more period. In a packet `behind` ticks follow the frame.
     fn run_period<R: DrawnFrames>(&mut self, behind: usize)
         requires some { 0 < behind }
         requires few { behind ≤ 64 }
@@ -94,7 +95,7 @@ impl<S: CountingBox, C: CountingBox, V: Device + Drop> Session<S, C, V> {
         self.receiving.take(&self.link);
     }
 
-    // The silence behind the link, and what was counted.
+    // Ends the session with the silence after the link, and returns what was counted.
     fn close(&mut self) -> Summary
         requires able { MayGoOn S.LinkBox C.LinkBox V.Device self.old
             (S.taken self.old.sealing.line_box) }
@@ -115,8 +116,8 @@ impl<S: CountingBox, C: CountingBox, V: Device + Drop> Session<S, C, V> {
     }
 }
 
-/// Runs the session of this many frames from a seed: drawn by the protocol `R`, sealed by `S`,
-/// checked by `C` and read by `V`. This many ticks follow a frame in its packet.
+/// Runs the session of `count` frames from a seed: drawn by the protocol `R`, sealed by `S`,
+/// checked by `C` and read by `V`. In a packet `behind` ticks follow the frame.
 pub fn try_session<R: DrawnFrames, S: CountingBox, C: CountingBox, V: Device + Drop>(
     seed: u32,
     count: u32,

@@ -69,21 +69,21 @@ impl<X: CountingBox> Side<X> {
         self.through
     }
 
-    /// How many it refused.
+    /// How many bursts the box refused.
     pub fn refused(&self) -> u64
         ensures { result ≡ self.now.refused }
     {
         self.refused
     }
 
-    /// How many it dropped.
+    /// How many bursts the box dropped.
     pub fn dropped(&self) -> u64
         ensures { result ≡ self.now.dropped }
     {
         self.dropped
     }
 
-    // Counts a burst.
+    // Counts a burst by its fate, if there is one.
     #[inline]
     fn count(&mut self, fate: Option<Fate>)
         requires through { self.old.through < MAX_TICKS }
@@ -103,7 +103,7 @@ impl<X: CountingBox> Side<X> {
         }
     }
 
-    // The fate of a step's note.
+    // The fate of the burst that a step's note is about, if there is a note.
     #[inline]
     fn fate_in(note: Option<X::Note>) -> Option<Fate>
         ensures { result ≡ told_by X.fate_of note }
@@ -114,7 +114,7 @@ impl<X: CountingBox> Side<X> {
         }
     }
 
-    /// Takes the next tick, and returns that of the other line.
+    /// Takes the next tick, and returns the tick of the other line.
     #[inline]
     pub fn step(&mut self, t: Tick) -> Tick
         requires able { MayTake X.LinkBox self.old }
@@ -134,7 +134,8 @@ impl<X: CountingBox> Side<X> {
 
     /// Takes the first of these ticks, as far as the box answers all of them with silence or all of
     /// them with bytes, without a note, and returns how many. `sent` gets the bytes of the other
-    /// line, one for each, or none where that is silent. With 0 the caller goes on by `step`.
+    /// line, one for each tick, or none if that line is silent. If it returns 0, the caller goes on
+    /// with `step`.
     #[inline]
     pub fn pass(&mut self, run: TickRun<'_>, sent: &mut RunBytes) -> usize
         requires able { MayTake X.LinkBox self.old }
@@ -149,8 +150,8 @@ impl<X: CountingBox> Side<X> {
         self.line_box.pass(run, sent)
     }
 
-    // Takes the first of these ticks, one at least, and sends what the other line has. What the box
-    // forwards goes on as it is. Returns how many it took.
+    // Takes the first of these ticks, at least one of them, and sends on the link what the other
+    // line has in them. What the box forwards goes on as it is. Returns how many ticks it took.
     #[inline]
     fn send_on(&mut self, run: TickRun<'_>, link: &mut Link) -> usize
         requires some { 0 < length (run_ticks run) }
@@ -182,7 +183,7 @@ impl<X: CountingBox> Side<X> {
         1
     }
 
-    /// Takes these ticks, and sends what the other line has.
+    /// Takes these ticks, and sends on the link what the other line has in them.
     pub fn forward(&mut self, run: TickRun<'_>, link: &mut Link)
         requires able { MayTake X.LinkBox self.old }
         requires room { X.taken self.old.line_box + length (run_ticks run) ≤ MAX_TICKS }

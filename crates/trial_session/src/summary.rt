@@ -5,7 +5,7 @@
 pub struct Summary {
     /// The frames that the transmitter sealed.
     pub sealed: u64,
-    /// The bursts that passed, were refused and were dropped by the receiver.
+    /// The bursts that the receiver passed, refused and dropped.
     pub passed: u64,
     pub refused: u64,
     pub dropped: u64,

@@ -7,8 +7,8 @@ use std::marker::Model;
 /// How many bytes wait at most.
 const MOST: usize = 292;
 
-/// Bytes that a device is still to hear. Those behind the last of them stay as they are, so that
-/// all are let go at once.
+/// Bytes that a device is still to hear. The room after the last of them is never cleared, so that
+/// all of them are let go at once.
 #[derive(Drop)]
 pub struct Waiting {
     bytes: [u8; MOST],
@@ -27,7 +27,7 @@ impl Model for Waiting {
 }
 
 impl Waiting {
-    /// No byte waits.
+    /// A room in which no byte waits.
     pub fn new() -> Waiting
         ensures { result.items ≡ [] }
     {
@@ -37,7 +37,7 @@ impl Waiting {
         }
     }
 
-    /// The bytes.
+    /// The bytes that wait.
     #[inline]
     pub fn as_slice(&self) -> &[u8]
         ensures value { result.now ≡ self.now.items }
@@ -45,7 +45,7 @@ impl Waiting {
         &self.bytes[..self.len]
     }
 
-    /// Whether there is none.
+    /// Whether no byte waits.
     #[inline]
     pub fn is_empty(&self) -> bool
         ensures { result ≡ (length self.now.items == 0) }

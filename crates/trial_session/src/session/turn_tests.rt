@@ -1,5 +1,5 @@
-//! How many turns a frame takes the boxes of a session, and the device. No clause says that a run
-//! is taken at once.
+//! How many turns the boxes and the device of a session need for a frame. No clause says that a run
+//! is taken in one turn.
 ghost use Rattle.std.specs.Prelude.{◌≡◌};
 
 use super::Session;
@@ -69,7 +69,7 @@ impl<X: LinkBox> LinkBox for Counted<X> {
         self.inner.step(t, journal, disk)
     }
 
-    // Where no tick is taken another call follows, which is the turn.
+    // If no tick is taken here, another call follows, and that one is the turn.
     fn forward(&mut self, run: TickRun<'_>) -> usize {
         let count = self.inner.forward(run);
         if count > 0 {
@@ -137,16 +137,18 @@ impl<V: Device> Device for Counted<V> {
 
 const FRAME: &[u8] = b"\x01\x03\x00\x00\x00\x0a\xc5\xcd";
 
-// The transmitter forwards the frame at once, and so the silent ticks behind it but for the one
-// that closes it, which goes alone; then the trailer goes out at once, and then there is silence.
+// The transmitter forwards the frame in one turn, and the silent ticks after it in another, but for
+// the one that closes the burst, which takes a turn of its own. The trailer goes out in one turn,
+// and then there is silence.
 //
-// The receiver is silent as the frame comes, the silence behind it, and the first seven bytes of
-// the trailer, each of which is a run; with all of the trailer's other bytes but the last one the
-// frame leaves. The last one goes alone, and so does the tick in which the frame's last byte
-// leaves; then there is silence.
+// The receiver sends silence while the frame comes, while the silence after it comes, and during
+// the first seven bytes of the trailer. Each of these is a run. The frame begins to leave with the
+// trailer's other bytes, which are a run but for the last one. That one takes a turn of its own,
+// and so does the tick in which the frame's last byte leaves. Then there is silence.
 //
-// So the device waits three times, hears the frame at once, since its bytes wait for the silence
-// behind them, and waits up to the tick in which it reads the frame, and through what is left.
+// So the device waits three times. It hears the frame in one turn, since the frame's bytes wait for
+// the silence after them. Then it waits up to the tick in which it reads the frame, and through
+// what is left.
 #[test]
 fn a_frame_takes_few_turns(rt: HostRuntime) {
     let mut link = Link::new();
@@ -163,8 +165,8 @@ fn a_frame_takes_few_turns(rt: HostRuntime) {
 }
 
 // The first frame of this seed has 42 bytes, and its period isn't altered (computed by the
-// generator's formula). A session hands the frame and the silence behind it to the transmitter as
-// two runs, and the link to the receiver by its runs: so a period takes as many turns.
+// generator's formula). A session hands the frame and the silence after it to the transmitter as
+// two runs, and the link to the receiver run by run, so a period takes few turns.
 #[test]
 fn a_period_takes_few_turns(rt: HostRuntime) {
     let mut session: Session<
