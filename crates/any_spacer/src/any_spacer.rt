@@ -26,9 +26,13 @@ pub enum SpacerKind {
 /// One of the four spacers.
 #[derive(Drop)]
 pub enum AnySpacer {
+    /// Of kind `SpacerKind::Rtu`: it reads Modbus RTU, and leaves 21 silent ticks or more.
     Rtu(Spacer<RtuDevice, 21>),
+    /// Of kind `SpacerKind::RtuWide`: it reads Modbus RTU, and leaves 27 silent ticks or more.
     RtuWide(Spacer<RtuDevice, 27>),
+    /// Of kind `SpacerKind::Dnp3`: it reads DNP3, and leaves 21 silent ticks or more.
     Dnp3(Spacer<ForgetfulDnp, 21>),
+    /// Of kind `SpacerKind::Dnp3Wide`: it reads DNP3, and leaves 27 silent ticks or more.
     Dnp3Wide(Spacer<ForgetfulDnp, 27>),
 }
 

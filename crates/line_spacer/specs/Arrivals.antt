@@ -8,6 +8,7 @@ pub record Arrival : Type 0 where
   pub step : ℕ
   pub frame : FrameRead
 
+-- the arrival of a frame that is read in this step
 abbrev pub arriving : ℕ → FrameRead → Arrival
 arriving step frame = record { step = step; frame = frame }
 

@@ -14,6 +14,8 @@ pub record SendsRun (gap m : ℕ) (accepted : List Burst) (unsent : List ℕ) (p
   pub leave : laid (m + length answer) accepted ≡ laid m accepted ++ answer
   pub sent : HasSent gap (m + length answer) accepted unsent pause queued
 
+-- Holds if `answer` leaves in the ticks from m on, and after them the spacer has sent what this
+-- value of it says.
 abbrev pub SendsRunBy : {V : Type 0} {GAP : ℕ} → Spacer V GAP → ℕ → List Burst → List Tick → Type 0
 SendsRunBy {V} {GAP} value m accepted answer =
     SendsRun GAP m accepted (unsent_of value.ready value.sent (frame_at value)) value.pause

@@ -17,6 +17,7 @@ pub record Spaced : Type 0 where
   pub accepted : List Burst
   pub lost : List Arrival
 
+-- what is made of no frame
 abbrev pub none_yet : Spaced
 none_yet = record { accepted = []; lost = [] }
 
@@ -54,9 +55,11 @@ module _ (reads : List Tick → List FrameRead) (gap cap : ℕ) where
   abbrev pub spaced : List Tick → Spaced
   spaced line = fold (take_in gap cap) none_yet (arrivals reads line)
 
+  -- the accepted frames of a line, each as its burst on the other line
   abbrev pub accepted_of : List Tick → List Burst
   accepted_of line = (spaced line).accepted
 
+  -- the lost frames of a line, each with the step in which it is read
   abbrev pub lost_of : List Tick → List Arrival
   lost_of line = (spaced line).lost
 

@@ -10,12 +10,15 @@ pub record Pair : Type 0 where
   pub number : ℕ
   pub frame : List ℕ
 
+-- a frame without its place on the line
 abbrev pub pair_of : NumberedFrame → Pair
 pair_of f = record { number = f.number; frame = f.frame }
 
+-- frames without their places on the line, in their order
 abbrev pub pairs_of : List NumberedFrame → List Pair
 pairs_of frames = map pair_of frames
 
+-- whether two frames have the same number and bytes
 abbrev pub is_same_pair : NumberedFrame → NumberedFrame → Bool
 is_same_pair f g = f.number == g.number && bytes_eq f.frame g.frame
 
@@ -24,11 +27,11 @@ abbrev pub is_among : List NumberedFrame → NumberedFrame → Bool
 is_among [] f = false
 is_among (g ∷ frames) f = is_same_pair g f || is_among frames f
 
--- of the frames that passed, those that were sealed with their numbers, and (`forged`) those that
--- weren't
+-- of the frames that passed, those that were sealed with their numbers
 abbrev pub rightly_passed : List NumberedFrame → List NumberedFrame → List NumberedFrame
 rightly_passed sealed_ones passed_ones = filter (λ f. is_among sealed_ones f) passed_ones
 
+-- of the frames that passed, those that weren't sealed with their numbers
 abbrev pub forged : List NumberedFrame → List NumberedFrame → List NumberedFrame
 forged sealed_ones passed_ones = filter (λ f. not (is_among sealed_ones f)) passed_ones
 

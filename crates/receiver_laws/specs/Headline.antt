@@ -10,10 +10,11 @@ use Rattle.link_verdicts.specs.Checking.{passed, received_line}
 use Rattle.receiver_laws.specs.Accounted.{IsSubsequence, IsAccountedFor, forged}
 use Rattle.receiver_laws.specs.Reading.{ReadsWhatPassed}
 
--- the bytes of frames that were read, and of frames that were sealed, in their order
+-- the bytes of frames that were read, in their order
 abbrev pub bytes_read : List FrameRead → List (List ℕ)
 bytes_read reads = map (λ f. f.frame) reads
 
+-- the bytes of frames that were sealed, or that passed, in their order
 abbrev pub bytes_sealed : List NumberedFrame → List (List ℕ)
 bytes_sealed frames = map (λ f. f.frame) frames
 

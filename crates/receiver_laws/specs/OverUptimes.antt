@@ -60,10 +60,11 @@ bytes_over reads profile rules (uptime ∷ uptimes) =
     bytes_read (reads (received_line profile rules uptime.floor uptime.line))
     ++ bytes_over reads profile rules uptimes
 
--- the frames sealed in uptimes of the transmitter, and those that passed in uptimes of the receiver
+-- the frames that are sealed in these uptimes of the transmitter
 abbrev pub sealed_over : Profile → Rules → List BoxUptime → List NumberedFrame
 sealed_over profile rules seals = frames_over (sealed profile rules) seals
 
+-- the frames that pass in these uptimes of the receiver
 abbrev pub passed_over : Profile → Rules → List BoxUptime → List NumberedFrame
 passed_over profile rules checks = frames_over (passed profile rules) checks
 

@@ -16,10 +16,11 @@ most_waiting = 64
 abbrev pub lost_line : FrameRead → List ℕ
 lost_line read = frame_line_of (codes "lost at ") read
 
+-- the lines for frames that are lost
 abbrev pub lost_lines : List FrameRead → List ℕ
 lost_lines reads = flat_map lost_line reads
 
--- the lines for frames that are lost
+-- the lines for lost frames that have the steps in which they were read
 abbrev pub arrival_lines : List Arrival → List ℕ
 arrival_lines lost = flat_map (λ a. lost_line a.frame) lost
 

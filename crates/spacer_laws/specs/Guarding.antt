@@ -20,6 +20,7 @@ pub record Placed : Type 0 where
   pub quiet : ℕ
   pub frame : NumberedFrame
 
+-- these frames, without the silent ticks before them
 abbrev pub frames_placed : List Placed → List NumberedFrame
 frames_placed ps = map (λ p. p.frame) ps
 

@@ -36,10 +36,12 @@ told_by fate_of (Some note) = Some (fate_of note)
 
 -- ---- the transmitter
 
+-- the fate of the burst that a note of the transmitter is about
 abbrev pub fate_sealed : SealNote → Fate
 fate_sealed (Sealed number start len) = Through
 fate_sealed (Unsealed start why) = Refused
 
+-- whether the burst of a note wasn't sealed
 abbrev pub is_unsealed : SealFull → Bool
 is_unsealed (sealed_note number start frame) = false
 is_unsealed (unsealed_note start why) = true
@@ -48,6 +50,7 @@ is_unsealed (unsealed_note start why) = true
 abbrev pub unsealed : Profile → Rules → List Tick → List (Noted SealFull)
 unsealed profile rules line = filter (λ n. is_unsealed n.note) (seal_notes profile rules 0 line)
 
+-- what a transmitter with floor 0 makes of a line, and how many of its bursts have each fate
 abbrev pub seal_counting : Profile → Rules → Counting
 seal_counting profile rules = record {
   other_line = λ line. link_line profile rules 0 line;
@@ -56,33 +59,39 @@ seal_counting profile rules = record {
   dropped = λ line. 0;
 }
 
+-- `seal_counting` for the profile of a protocol and a MAC, with words of this many bytes
 abbrev pub sealing : {R M : Type 0} → LineRules R → Mac M → ℕ → Counting
 sealing proto macs word_len = seal_counting (trial_profile proto macs word_len) proto.rules
 
 -- ---- the receiver
 
+-- the fate of the burst that a note of the receiver is about
 abbrev pub fate_checked : CheckNote → Fate
 fate_checked (Check.Passed number start len) = Through
 fate_checked (Check.Refused start why) = Refused
 fate_checked (Check.Dropped start why) = Dropped
 
+-- whether the burst of a note was refused
 abbrev pub is_refused : CheckFull → Bool
 is_refused (passed_note number start frame) = false
 is_refused (refused_note start why) = true
 is_refused (dropped_note start why) = false
 
+-- whether the burst of a note was dropped
 abbrev pub is_dropped : CheckFull → Bool
 is_dropped (passed_note number start frame) = false
 is_dropped (refused_note start why) = false
 is_dropped (dropped_note start why) = true
 
--- the bursts of a link that are refused, and those that are dropped
+-- the bursts of a link that are refused
 abbrev pub refused : Profile → Rules → List Tick → List (Noted CheckFull)
 refused profile rules link = filter (λ n. is_refused n.note) (check_notes profile rules 0 link)
 
+-- the bursts of a link that are dropped
 abbrev pub dropped : Profile → Rules → List Tick → List (Noted CheckFull)
 dropped profile rules link = filter (λ n. is_dropped n.note) (check_notes profile rules 0 link)
 
+-- what a receiver with floor 0 makes of a link, and how many of its bursts have each fate
 abbrev pub check_counting : Profile → Rules → Counting
 check_counting profile rules = record {
   other_line = λ link. received_line profile rules 0 link;
@@ -91,5 +100,6 @@ check_counting profile rules = record {
   dropped = λ link. length (dropped profile rules link);
 }
 
+-- `check_counting` for the profile of a protocol and a MAC, with words of this many bytes
 abbrev pub checking : {R M : Type 0} → LineRules R → Mac M → ℕ → Counting
 checking proto macs word_len = check_counting (trial_profile proto macs word_len) proto.rules

@@ -11,19 +11,21 @@ pub record Counting : Type 0 where
   pub refused : List Tick → ℕ
   pub dropped : List Tick → ℕ
 
--- how many bursts a step counts for each fate
+-- how many bursts a step counts as having got through
 abbrev pub through_in : Option Fate → ℕ
 through_in None = 0
 through_in (Some Through) = 1
 through_in (Some Refused) = 0
 through_in (Some Dropped) = 0
 
+-- how many bursts a step counts as refused
 abbrev pub refused_in : Option Fate → ℕ
 refused_in None = 0
 refused_in (Some Through) = 0
 refused_in (Some Refused) = 1
 refused_in (Some Dropped) = 0
 
+-- how many bursts a step counts as dropped
 abbrev pub dropped_in : Option Fate → ℕ
 dropped_in None = 0
 dropped_in (Some Through) = 0

@@ -18,9 +18,11 @@ dnp_header x = record {
   source = nth_drawn 3 x % 65536;
 }
 
+-- the user data, drawn after the first three draws
 abbrev pub dnp_user : ℕ → List ℕ
 dnp_user x = bytes_drawn (dnp_user_len x) (state_after 3 x)
 
+-- how a frame of DNP3 is drawn
 abbrev pub dnp_drawing : Drawing
 dnp_drawing = record {
   frame = λ x. frame_of (dnp_header x) (dnp_user x);

@@ -9,16 +9,19 @@ use Rattle.trial_session.specs.Counting.{Counting}
 use Rattle.trial_session.specs.declared.fate.Fate.{Fate}
 use Rattle.trial_session.specs.declared.fate.Fate.TheVariants.{Through, Refused, Dropped}
 
+-- whether a burst with this fate got through: sealed by the transmitter, or passed by the receiver
 abbrev pub is_through : Fate → Bool
 is_through Through = true
 is_through Refused = false
 is_through Dropped = false
 
+-- whether a burst with this fate was refused
 abbrev pub is_refused : Fate → Bool
 is_refused Through = false
 is_refused Refused = true
 is_refused Dropped = false
 
+-- whether a burst with this fate was dropped
 abbrev pub is_dropped : Fate → Bool
 is_dropped Through = false
 is_dropped Refused = false

@@ -14,6 +14,7 @@ rtu_frame_len x = 4 + nth_drawn 1 x % 253
 abbrev pub rtu_body : ℕ → List ℕ
 rtu_body x = bytes_drawn (rtu_frame_len x - 2) (state_after 1 x)
 
+-- how a frame of Modbus RTU is drawn
 abbrev pub rtu_drawing : Drawing
 rtu_drawing = record {
   frame = λ x. rtu_body x ++ low_first (crc_rtu (rtu_body x));

@@ -36,6 +36,7 @@ session_link drawing behind sealing seed count =
     (sealing.other_line (session_line drawing seed count))
     ++ silent trial_rest
 
+-- what is counted of the session of `count` frames from a seed
 abbrev pub session_summary : Drawing → ℕ → Counting → Counting → (List Tick → List FrameRead)
     → ℕ → ℕ → Summary
 session_summary drawing behind sealing checking reads seed count =

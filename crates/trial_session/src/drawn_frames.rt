@@ -19,7 +19,7 @@ pub trait DrawnFrames: LineRules {
         ensures state { draw_state draws.new
             ≡ state_after (drawing.draws (draw_state draws.old)) (draw_state draws.old) };
 
-    // Each drawn frame is a frame by the protocol's rules.
+    /// Each drawn frame is a frame by the protocol's rules.
     ghost are_frames: { (x : ℕ) → Self.rules.is_frame (drawing.frame x) ≡ true };
 }
 
