@@ -1,4 +1,4 @@
--- How what becomes of the frames of a line goes on as the line does.
+-- What happens to the frames of a line when the line goes on.
 use Rattle.burst_walk.proofs.Emissions.{tick_at-none, tick_at-front, tick_at-before, laid-more}
 use Rattle.burst_walk.{proofs.Emissions.laid-same, specs.Laid.tick_at, specs.Laid.laid}
 use Rattle.device_model.specs.Frames.{FrameRead}
@@ -31,7 +31,7 @@ module _ (reads : List Tick → List FrameRead) where
       ∙ ap (λ l. (new ++ arrivals_behind reads (line ++ t ∷ []) x) ++ arrivals_behind reads l y)
       (append_assoc line (t ∷ []) x))
 
-  -- what one more tick brings
+  -- If `frames` are read with one more tick, these arrive in its step.
   pub arrivals-one : (line : List Tick) (t : Tick) (frames : List FrameRead)
       → reads (line ++ t ∷ []) ≡ reads line ++ frames
       → arrivals reads (line ++ t ∷ [])
@@ -55,7 +55,7 @@ module _ (reads : List Tick → List FrameRead) where
         ∙ fold-append (take_in gap cap) (record { accepted = []; lost = [] }) (arrivals reads line)
         (map (arriving (length line)) frames)
 
-    -- the other line with one more tick
+    -- the other line when the line has one more tick
     pub line-one : (line : List Tick) (t u : Tick) (frames lost : List FrameRead)
         → reads (line ++ t ∷ []) ≡ reads line ++ frames
         → tick_at (accepted_of reads gap cap line) (length line) ≡ u
@@ -76,7 +76,7 @@ module _ (reads : List Tick → List FrameRead) where
           are_lost = ap (λ s. s.lost) next ∙ takes.are_lost;
         }
 
--- ---- one frame, taken in
+-- ---- one frame is taken in
 
 module _ (gap cap step : ℕ) (s : Spaced) (frame : FrameRead) where
   pub accepts : count_from (step + 1) s.accepted < cap
@@ -110,7 +110,7 @@ module _ (gap cap step : ℕ) (s : Spaced) (frame : FrameRead) where
             ∙ ap (λ x. tick_at x i) (append-nil s.accepted));
       }
 
-  -- the queue has room for it
+  -- The frame is queued if the queue has room for it.
   module _ (unsent : List ℕ) (pause : ℕ) (queued : List (List ℕ))
       (has : HasSent gap (step + 1) s.accepted unsent pause queued) where
     few-wait : length queued < cap → count_from (step + 1) s.accepted < cap
@@ -147,7 +147,7 @@ module _ (gap cap step : ℕ) (s : Spaced) (frame : FrameRead) where
           stays = λ i within. ap (λ x. tick_at x.accepted i) same;
         }
 
--- none is read
+-- If no frame is read, none is taken in.
 pub none-taken : (gap cap step : ℕ) (s : Spaced) → TakesIn gap cap step s [] []
 none-taken gap cap step s = record {
   are_lost = sym (append-nil s.lost);

@@ -1,4 +1,4 @@
--- Frames that wait as bytes one behind the other: one more, and one less.
+-- Frames that wait as bytes, one after the other, with their lengths: one frame more, and one less.
 use Rattle.std.proofs.Common.{◌≡◌, ◌∙◌, ℕ, suc, ◌+◌, ◌*◌, ◌<◌, ◌≤◌, List, [], ◌∷◌, ◌++◌, length}
 use Rattle.std.proofs.Common.{take, drop, refl, sym, ap, subst, arith, length-drop}
 use Rattle.std.proofs.Common.{length-append, ◌-◌, min}
@@ -11,7 +11,7 @@ pub count-cut : (lengths bytes : List ℕ) → length (cut_by lengths bytes) ≡
 count-cut [] bytes = refl
 count-cut (n ∷ lengths) bytes = ap suc (count-cut lengths (drop n bytes))
 
--- they have all of the bytes
+-- The frames have all of the bytes.
 pub cut-bytes : (lengths bytes : List ℕ) → AreCut lengths bytes
     → bytes_of (cut_by lengths bytes) ≡ length bytes
 cut-bytes [] bytes are = sym (ap length are)
@@ -31,7 +31,7 @@ few-bytes (n ∷ lengths) bytes are =
     let long = length-drop n bytes in
     omega arith
 
--- where there is room for a length, there is for the bytes of the longest frame
+-- If fewer frames wait than may, there is room for the bytes of a longest one.
 pub room-left : (capacity room : ℕ) (lengths bytes : List ℕ)
     → AreFrames capacity room lengths bytes → length lengths < capacity
     → length bytes + 292 ≤ room
@@ -40,7 +40,7 @@ room-left capacity room lengths bytes frames few =
     let all = few-bytes lengths bytes frames.are in
     omega arith
 
--- one frame more
+-- A frame is added after the others.
 pub cut-more : (lengths bytes frame : List ℕ) → AreCut lengths bytes
     → cut_by (lengths ++ length frame ∷ []) (bytes ++ frame) ≡ cut_by lengths bytes ++ frame ∷ []
 cut-more [] bytes frame are =
@@ -80,7 +80,7 @@ frames-more capacity room lengths bytes frame frames few = record {
   are = are-more lengths bytes frame frames.are few;
 }
 
--- All of a frame goes in.
+-- All bytes of a new frame fit in.
 pub filled : (capacity room : ℕ) (lengths bytes frame : List ℕ)
     → AreFrames capacity room lengths bytes → length lengths < capacity → length frame ≤ 292
     → (n : ℕ) → n ≡ min (length frame) (room - length bytes)
@@ -90,7 +90,7 @@ filled capacity room lengths bytes frame frames few longest n is =
     let all : n ≡ length frame = grind (arith, is) in
     (all, ap (λ x. bytes ++ x) (take_all n frame (omega arith)))
 
--- No length goes out.
+-- With its length, no other length goes out.
 pub kept : (capacity : ℕ) (lengths frame : List ℕ) → length lengths < capacity
     → (n : ℕ) → n ≡ length frame
     → keep_last capacity (lengths ++ n ∷ []) ≡ lengths ++ length frame ∷ []

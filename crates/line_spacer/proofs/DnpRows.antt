@@ -1,6 +1,6 @@
--- What is made of small lines of DNP3, computed: a reset of a link, sent twice without a gap, and
--- three of which one alone may wait; and the same heard by a device to which 18 silent ticks end
--- what was taken.
+-- What is made of small lines of DNP3, computed: of a reset of a link that is sent twice without
+-- silence in between, and of three resets if only one may wait. Also what is made of a reset with
+-- silence inside it, for a device that forgets what it has taken at 18 silent ticks in a row.
 use Rattle.burst_walk.specs.Laid.{tick_at}
 use Rattle.device_model.specs.{DnpReads.dnp_reads, Hunt.hunt, HuntFamily.dnp_family_reads}
 use Rattle.dnp_link_frame.proofs.Rows.{reset_link}
@@ -13,8 +13,8 @@ use Rattle.std.proofs.Common.{◌≡◌, ℕ, List, [], ◌∷◌, ◌++◌, tak
 use Rattle.yasir_ticks.specs.Bursts.{with_byte, bursts_from}
 use Rattle.yasir_ticks.specs.{Ticks.silent, declared.tick.Tick.Tick}
 
--- Each is read with its last byte. The first one is sent in the ticks behind it, and the second one
--- 21 silent ticks behind the first.
+-- Each is read in its last tick. The first one is sent in the ticks after it, and the second one 21
+-- silent ticks after the first.
 pub two_are_spaced :
     spaced_line dnp_reads 21 64 (on_line reset_link ++ on_line reset_link ++ silent 34)
     ≡ silent 10 ++ on_line reset_link ++ silent 21 ++ on_line reset_link ++ silent 3
@@ -33,7 +33,7 @@ unfolding bit_step bit_steps byte_step crc ends_in_check begins_right is_good_he
     is_frame hunt arrivals_behind take_in
 third_is_lost = refl
 
--- With 19 ticks the second one isn't read yet, with 20 it waits, and from tick 41 on it is sent.
+-- After 19 ticks the second one isn't read yet, after 20 it waits, and from tick 41 on it is sent.
 pub one_waits : waiting_of dnp_reads 21 1 (on_line reset_link ++ on_line reset_link) ≡ 1
 unfolding bit_step bit_steps byte_step crc ends_in_check begins_right is_good_header end_in_crcs
     is_frame hunt arrivals_behind take_in
@@ -45,8 +45,8 @@ unfolding bit_step bit_steps byte_step crc ends_in_check begins_right is_good_he
     is_frame hunt arrivals_behind take_in
 none_waits = refl
 
--- Silence inside a frame: 17 ticks are nothing to a device to which 18 end what was taken, and
--- after 18 what is left is no frame.
+-- Silence inside a frame: 17 ticks mean nothing to a device that forgets what it has taken at 18,
+-- and what comes after 18 is no frame.
 abbrev parted : ℕ → List Tick
 parted gap = on_line (take 5 reset_link) ++ silent gap ++ on_line (drop 5 reset_link)
 

@@ -1,4 +1,4 @@
--- A frame that is queued before what was owed as it was read is answered.
+-- A frame that is queued early: while ticks that were owed when it was read aren't answered yet.
 use Rattle.device_model.specs.Frames.{FrameRead}
 use Rattle.line_spacer.proofs.Arriving.{accepts, accepted-takes}
 use Rattle.line_spacer.proofs.Sending.{earliest, frame-waits, on_line, waiting-count}
@@ -25,7 +25,7 @@ ticks-are gap (frame ∷ queue) =
 module _ (gap size sent pause : ℕ) (room : List ℕ) (queue : List (List ℕ)) (bytes gaps : ℕ)
     (fits : size ≤ length room) (bytes_are : bytes ≡ bytes_of queue)
     (few : gaps ≤ length queue * gap) where
-  -- a frame is the next to begin
+  -- A frame is ready to begin.
   pub busy-next : (ready : Bool) → ready ≡ true
       → bytes + gaps + pause + (size + gap)
       ≤ length (unsent_of ready sent (take size room)) + pause
@@ -36,7 +36,7 @@ module _ (gap size sent pause : ℕ) (room : List ℕ) (queue : List (List ℕ))
       omega arith
   busy-next false is = cc
 
-  -- a frame has begun
+  -- A frame has begun.
   pub busy-begun : (ready : Bool) → ready ≡ false
       → bytes + gaps + pause + (size - sent)
       ≤ length (unsent_of ready sent (take size room)) + pause
@@ -119,7 +119,7 @@ module _ (gap cap m step : ℕ) (s : Spaced) (frame : FrameRead) (unsent : List 
   pub early-takes : TakesIn gap cap step s (frame ∷ []) []
   early-takes = accepted-takes gap cap step s frame finds-room
 
--- what is pending then
+-- With the frame taken in, no frame is pending for the owed ticks.
 pub early-pending : (reads : List Tick → List FrameRead) (gap cap : ℕ) (line owed : List Tick)
     (made : Spaced) (frames : List FrameRead)
     → ArePending reads gap cap line owed made frames

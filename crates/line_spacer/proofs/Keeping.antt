@@ -1,4 +1,4 @@
--- A frame that is read, and waits as the next to begin or in the queue.
+-- A frame that is read is kept: as the next one to begin, or in the queue.
 use Rattle.device_model.specs.Frames.{FrameRead}
 use Rattle.line_spacer.{proofs.Arriving.kept-sent, specs.Spacing.Spaced}
 use Rattle.line_spacer.specs.Stands.{HasSent, taken_in, unsent_of, with_next}
@@ -31,7 +31,7 @@ module _ (gap cap step : ℕ) (s : Spaced) (read : FrameRead) (ready : Bool) (si
     (room : List ℕ) (queue : List (List ℕ)) (fits : size ≤ length room)
     (has : HasSent gap (step + 1) s.accepted (unsent_of ready sent (take size room)) pause
     (with_next ready (take size room) queue)) where
-  -- in the queue
+  -- A frame is added to the queue.
   pub queued-sent : length (with_next ready (take size room) queue) < cap
       → (new : List (List ℕ)) → new ≡ queue ++ read.frame ∷ []
       → HasSent gap (step + 1) (taken_in gap cap step s (read ∷ [])).accepted
@@ -44,7 +44,7 @@ module _ (gap cap step : ℕ) (s : Spaced) (read : FrameRead) (ready : Bool) (si
       (kept-sent gap cap step s read (unsent_of ready sent (take size room)) pause
       (with_next ready (take size room) queue) has few)
 
-  -- as the next to begin
+  -- A frame becomes the next one to begin.
   pub held-sent : length (with_next ready (take size room) queue) < cap
       → length (with_next ready (take size room) queue) ≤ 0 → size ≤ sent
       → (new : List ℕ) → new ≡ read.frame
@@ -69,7 +69,7 @@ module _ (gap cap step : ℕ) (s : Spaced) (read : FrameRead) (ready : Bool) (si
       (subst (λ q. HasSent gap (step + 1) (taken_in gap cap step s (read ∷ [])).accepted [] pause
       (read.frame ∷ q)) (sym empty.1) two)
 
--- nothing left in the last ticks, and nothing does
+-- If all of a frame had been sent before these ticks, no byte of it leaves in them.
 pub none-left : (before sent size : ℕ) (room new : List ℕ) → before ≤ sent → sent ≤ size
     → size ≤ before → take (0 - 0) (drop 0 new) ≡ take (sent - before) (drop before room)
 none-left before sent size room new low high over =

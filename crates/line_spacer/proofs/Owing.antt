@@ -94,7 +94,7 @@ module _ (reads : List Tick → List FrameRead) (gap cap : ℕ) where
           ∙ ap (λ k. taken_in gap cap k made frames) steps));
     }
 
-  -- ---- the first of them are answered
+  -- ---- the first n of the owed ticks are answered
 
   module _ (line owed : List Tick) (made : Spaced) (frames : List FrameRead) (n : ℕ)
       (was : ArePending reads gap cap line owed made frames) where
@@ -129,7 +129,8 @@ module _ (reads : List Tick → List FrameRead) (gap cap : ℕ) where
               ∙ (was.all ∙ ap (λ k. taken_in gap cap k made frames) last);
         }
 
-    -- what left before them
+    -- Up to the end of the line, what has left is the same with and without the frames of the owed
+    -- ticks.
     begun : 0 < length owed
         → laid (length line) made.accepted
         ≡ laid (length line) (accepted_of reads gap cap line)
@@ -154,7 +155,7 @@ module _ (reads : List Tick → List FrameRead) (gap cap : ℕ) where
         (λ i below. let within : i < length line + n = omega arith in was.stays n i less within)
         ∙ (leave ∙ ap (λ x. x ++ answer) (begun (omega arith))))
 
-  -- ---- all of them are answered
+  -- ---- all owed ticks are answered
 
   module _ (line owed : List Tick) (made : Spaced) (frames : List FrameRead) (some : 0 < length owed)
       (was : ArePending reads gap cap line owed made frames) where
@@ -189,7 +190,7 @@ module _ (reads : List Tick → List FrameRead) (gap cap : ℕ) where
               ∙ (takes.are_lost ∙ ap (λ x. x ++ map (arriving end) lost) was.lost);
         }
 
-  -- ---- so many of them are answered
+  -- ---- n of the owed ticks are answered, which may be all
 
   module _ (room : ℕ) (fits : room ≡ cap) (line owed : List Tick) (made : Spaced)
       (frames : List FrameRead) (n : ℕ) (some : 0 < n) (within : n ≤ length owed)
@@ -204,7 +205,7 @@ module _ (reads : List Tick → List FrameRead) (gap cap : ℕ) where
         let sum = length-append line (take n owed) in
         omega arith
 
-    -- what the spacer has sent, and the frames that it has taken in
+    -- what the spacer has sent when n owed ticks are answered
     pub given-sent : (accepted : List Burst) (unsent : List ℕ) (pause : ℕ) (queued : List (List ℕ))
         → HasSent gap (last_step + 1) accepted unsent pause queued
         → HasSent gap (length (line ++ take n owed)) accepted unsent pause queued

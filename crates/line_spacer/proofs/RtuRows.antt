@@ -1,5 +1,5 @@
--- What is made of two queries of Modbus RTU that no more silence parts than ends the first one,
--- computed.
+-- What is made of two queries of Modbus RTU with only as much silence between them as ends the
+-- first one, computed.
 use Rattle.burst_walk.specs.Laid.{tick_at}
 use Rattle.device_model.specs.RtuReads.{has_silence, rtu_reads}
 use Rattle.{line_rules.specs.Endings.ends_in_check, line_spacer.proofs.Sending.on_line}
@@ -15,8 +15,8 @@ read_ten = 0x01 ∷ 0x03 ∷ 0x00 ∷ 0x00 ∷ 0x00 ∷ 0x0A ∷ 0xC5 ∷ 0xCD �
 abbrev read_one : List ℕ
 read_one = 0x01 ∷ 0x03 ∷ 0x00 ∷ 0x00 ∷ 0x00 ∷ 0x01 ∷ 0x84 ∷ 0x0A ∷ []
 
--- Each is read with the fourth silent tick behind it, and sent from the next tick on, the second
--- one 21 silent ticks behind the first.
+-- Each is read in the fourth silent tick after it, and sent from the next tick on, the second one
+-- 21 silent ticks after the first.
 pub two_are_spaced :
     spaced_line rtu_reads 21 64 (on_line read_ten ++ silent 4 ++ on_line read_one ++ silent 31)
     ≡ silent 12 ++ on_line read_ten ++ silent 21 ++ on_line read_one ++ silent 2

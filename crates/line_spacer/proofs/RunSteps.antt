@@ -1,5 +1,5 @@
--- A run of ticks of a spacer, by what it holds: the bytes of a frame in a room, how many of them
--- were sent, and whether it is still to begin.
+-- A run of ticks of a spacer, by the fields of the spacer: the bytes of a frame in a room, how many
+-- of them have been sent, and whether the frame is still to begin.
 use Rattle.{burst_walk.specs.Answered.answered, line_spacer.proofs.Runs.bytes-leave}
 use Rattle.line_spacer.{proofs.Runs.silence-leaves, proofs.Runs.frame-leaves, specs.Runs.SendsRun}
 use Rattle.line_spacer.specs.Stands.{HasSent, unsent_of, with_next, rest_behind, tick_of}
@@ -11,7 +11,7 @@ use Rattle.std.proofs.lemmas.List.{take_all, length-map, length-replicate}
 use Rattle.yasir_ticks.specs.Bursts.{Burst}
 use Rattle.yasir_ticks.specs.declared.tick.Tick.TheVariants.{Silent, Byte}
 
--- ---- as many ticks as were taken
+-- ---- the answer is as long as the run
 
 answered-long : (n : ℕ) (x : List ℕ) → 0 < n → length x ≡ n → length (answered n x) ≡ n
 answered-long n [] some long = absurd (omega arith)
@@ -20,14 +20,14 @@ answered-long n (b ∷ x) some long = length-map (b ∷ x) (λ c. Byte c) ∙ lo
 answered-silent : (n : ℕ) (x : List ℕ) → x ≡ [] → length (answered n x) ≡ n
 answered-silent n x none = ap (λ y. length (answered n y)) none ∙ length-replicate n Silent
 
--- one tick
+-- If one tick is answered, the answer is that tick.
 pub answered-one : (n : ℕ) (x : List ℕ) → n ≡ 1 → length (answered n x) ≡ n
     → answered n x ≡ tick_of 0 x 0 ∷ []
 answered-one n [] one long = ap (λ k. answered k []) one
 answered-one n (b ∷ []) one long = refl
 answered-one n (b ∷ d ∷ x) one long = absurd (omega arith)
 
--- ---- parts of the room
+-- ---- parts of the room of a frame
 
 none-between : (n : ℕ) (room : List ℕ) → take (n - n) (drop n room) ≡ []
 none-between n room =
@@ -44,7 +44,8 @@ some-between sent n size room within =
     ∙ ap (take n) (sym (ap (λ k. drop sent (take k room)) whole
     ∙ drop-take sent (size - sent) room)))
 
--- of a frame that is no longer than that the first n bytes are all
+-- Up to n bytes at the front of the room are the first n bytes of its frame, or all of them if the
+-- frame is shorter.
 front-between : (n size : ℕ) (room : List ℕ) → size ≤ length room
     → take (min n size - 0) (drop 0 room) ≡ take n (take size room)
 front-between n size room fits =
@@ -92,7 +93,7 @@ module _ (gap m : ℕ) (accepted : List Burst) (ready : Bool) (size sent pause n
   waits is = subst (λ r. HasSent gap m accepted (unsent_of r sent frame) pause
       (with_next r frame queued)) is has
 
-  -- bytes of the frame that has begun
+  -- bytes of the frame that has begun leave
   pub bytes-go-on : ready ≡ false → sent + n ≤ size
       → SendsRun gap m accepted (unsent_of ready (sent + n) frame) pause
       (with_next ready frame queued) (answered n (take (sent + n - sent) (drop sent room)))
@@ -107,7 +108,7 @@ module _ (gap m : ℕ) (accepted : List Burst) (ready : Bool) (size sent pause n
       (drop-drop n sent frame)
       (bytes-leave gap m accepted n (drop sent frame) pause queued some (omega arith) (begun is))))
 
-  -- silence behind it, or where no frame waits
+  -- Silence leaves after the frame, or if no frame waits.
   pub rest-goes-on : ready ≡ false → size ≤ sent → (0 < pause → n ≤ pause)
       → (pause ≤ 0 → queued ≡ [])
       → SendsRun gap m accepted (unsent_of ready sent frame) (pause - n)
@@ -123,7 +124,7 @@ module _ (gap m : ℕ) (accepted : List Burst) (ready : Bool) (size sent pause n
       (silence-leaves gap m accepted n pause queued some quiet idle
       (subst (λ x. HasSent gap m accepted x pause queued) none (begun is)))))
 
-  -- silence before the next frame
+  -- Silence leaves before the next frame.
   pub next-waits : ready ≡ true → 0 < pause → n ≤ pause
       → SendsRun gap m accepted (unsent_of ready sent frame) (pause - n)
       (with_next ready frame queued) (answered n (take (sent - sent) (drop sent room)))
@@ -135,7 +136,7 @@ module _ (gap m : ℕ) (accepted : List Burst) (ready : Bool) (size sent pause n
       (silence-leaves gap m accepted n pause (frame ∷ queued) some (λ _. quiet)
       (λ none. absurd (omega arith)) (waits is)))
 
-  -- the first bytes of the next frame
+  -- The first bytes of the next frame leave.
   next-begins : ready ≡ true → pause ≤ 0 → n ≤ max size 1
       → SendsRun gap m accepted (drop (min n size) frame) (rest_behind gap frame) queued
       (answered n (take (min n size - 0) (drop 0 room)))
@@ -179,7 +180,7 @@ module _ (gap m : ℕ) (accepted : List Burst) (ready : Bool) (size sent pause n
       (answered n (take (min n size - 0) (drop 0 room)))) (rest-none frame (omega arith))
       (next-begins is done within))
 
--- as many ticks leave
+-- As many ticks leave as the run has.
 module _ (size sent n : ℕ) (room : List ℕ) (some : 0 < n) (fits : size ≤ length room) where
   pub bytes-long : sent + n ≤ size
       → length (answered n (take (sent + n - sent) (drop sent room))) ≡ n

@@ -124,12 +124,12 @@ module _ (reads : List Tick → List FrameRead) where
         ∙ (fold-append (take_in gap cap) start (arrivals reads line) (map (arriving last) frames)
         ∙ ap (λ c. taken_in gap c last (spaced reads gap cap line) frames) (sym fits))
 
-    -- the line is as long as the ticks of the run
+    -- With a run, the line is longer by as many ticks as the answer has.
     length-run : (answer : List Tick) → length answer ≡ length x
         → length (line ++ x) ≡ length line + length answer
     length-run answer same = let long = length-append line x in omega arith
 
-    -- before the frames of its last step are taken in
+    -- what the spacer has sent in the run, before the frames of its last step are taken in
     pub run-before : (accepted : List Burst) (unsent : List ℕ) (pause : ℕ) (queued : List (List ℕ))
         (answer : List Tick) → length answer ≡ length x
         → HasSent gap (length line + length answer) accepted unsent pause queued
@@ -173,7 +173,7 @@ answered-bytes n [] some = absurd (omega arith)
 answered-bytes n (b ∷ x) some = refl
 
 module _ (gap m : ℕ) (accepted : List Burst) where
-  -- bytes of the frame that has begun
+  -- bytes of the frame that has begun leave
   pub bytes-leave : (n : ℕ) (unsent : List ℕ) (pause : ℕ) (queued : List (List ℕ)) → 0 < n
       → n ≤ length unsent → HasSent gap m accepted unsent pause queued
       → SendsRun gap m accepted (drop n unsent) pause queued (answered n (take n unsent))
@@ -183,7 +183,7 @@ module _ (gap m : ℕ) (accepted : List Burst) where
       (sym (answered-bytes n (take n unsent) (omega arith)))
       (bytes-run gap accepted n m unsent pause queued within has)
 
-  -- silence behind a frame, or where no frame waits
+  -- Silence leaves, after a frame or if no frame waits.
   pub silence-leaves : (n pause : ℕ) (queued : List (List ℕ)) → 0 < n → (0 < pause → n ≤ pause)
       → (pause ≤ 0 → queued ≡ []) → HasSent gap m accepted [] pause queued
       → SendsRun gap m accepted [] (pause - n) queued (silent n)
@@ -201,7 +201,7 @@ module _ (gap m : ℕ) (accepted : List Burst) where
       (idle-run gap accepted n m (subst Q nothing (subst P zero_rest has)))))
       (cases_lt 0 pause)
 
-  -- the first bytes of the next frame
+  -- the first bytes of the next frame leave
   pub frame-leaves : (n : ℕ) (frame : List ℕ) (queued : List (List ℕ)) → 0 < n
       → n ≤ max (length frame) 1 → HasSent gap m accepted [] 0 (frame ∷ queued)
       → SendsRun gap m accepted (drop n frame) (rest_behind gap frame) queued

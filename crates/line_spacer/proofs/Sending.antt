@@ -1,5 +1,5 @@
--- What a spacer sends, tick by tick: it goes on with the frame that has begun, rests behind it, has
--- nothing to send, or begins with the next one.
+-- What a spacer does in a tick: it goes on with the frame that has begun, rests after it, has
+-- nothing to send, or begins with the next frame.
 use Rattle.burst_walk.proofs.Emissions.{tick_at-none, tick_at-front, tick_at-before, tick_at-from}
 use Rattle.burst_walk.specs.Laid.{tick_at}
 use Rattle.line_spacer.specs.Spacing.{count_from, free_from, sent_from}
@@ -16,7 +16,7 @@ on_line x = map (λ b. Byte b) x
 
 -- ---- bursts that are due
 
--- what isn't due yet is silent
+-- Before tick n, bursts that are due from tick n on are silent.
 pub due-silent : (gap n : ℕ) (ds : List Burst) (i : ℕ) → AreDue gap n ds → i < n
     → tick_at ds i ≡ Silent
 due-silent gap n [] i due before = tick_at-none i
@@ -28,7 +28,7 @@ due-silent gap n (d ∷ ds) i due before =
     (due-silent gap (end_of d + gap) ds i due.1 later ∙ sym (tick_at-none i))
     ∙ tick_at-before d i early
 
--- so what comes before it is what is there
+-- So before tick n they hide nothing of the bursts in front of them.
 pub due-hidden : (gap n : ℕ) (front ds : List Burst) (i : ℕ) → AreDue gap n ds → i < n
     → tick_at (front ++ ds) i ≡ tick_at front i
 due-hidden gap n front ds i due before =
@@ -58,7 +58,7 @@ behind-one : (d : Burst) (ds : List Burst) (i : ℕ) → end_of d ≤ i → tick
 unfolding tick_at
 behind-one d ds i past = rw (past-end d.start (end_of d) i past) refl
 
--- behind the end of all of them there is what follows
+-- After the end of bursts that have begun, only those that follow them show.
 begun-over : (m n : ℕ) (ds es : List Burst) (i : ℕ) → HaveBegun m n ds → n ≤ i
     → tick_at (ds ++ es) i ≡ tick_at es i
 begun-over m n [] es i begun over = refl
@@ -67,7 +67,7 @@ begun-over m n (d ∷ ds) es i begun over =
     let past : end_of d ≤ i = omega arith in
     behind-one d (ds ++ es) i past ∙ begun-over m n ds es i begun.2 over
 
--- ---- where the next frame may begin
+-- ---- when the next frame may begin
 
 pub free_from-append : (gap n : ℕ) (ds es : List Burst)
     → free_from gap n (ds ++ es) ≡ free_from gap (free_from gap n ds) es
@@ -89,7 +89,7 @@ due-append gap n (d ∷ ds) e due start = (due.0, due-append gap (end_of d + gap
 -- ---- a tick
 
 module _ (gap m : ℕ) (accepted : List Burst) where
-  -- the frame that has begun goes on
+  -- A byte of the frame that has begun leaves.
   pub byte-sent : (b : ℕ) (more : List ℕ) (pause : ℕ) (queued : List (List ℕ))
       → HasSent gap m accepted (b ∷ more) pause queued
       → Sends gap m accepted more pause queued (Byte b)
@@ -121,7 +121,7 @@ module _ (gap m : ℕ) (accepted : List Burst) where
         };
       }
 
-  -- the silence behind it goes on
+  -- A silent tick after the frame passes.
   pub rest-passes : (pause : ℕ) (queued : List (List ℕ)) → HasSent gap m accepted []
       (suc pause) queued
       → Sends gap m accepted [] pause queued Silent
@@ -153,7 +153,7 @@ module _ (gap m : ℕ) (accepted : List Burst) where
   none-waits [] none = refl
   none-waits (d ∷ ds) none = cc
 
-  -- there is nothing to send
+  -- Nothing is to be sent, and silence leaves.
   pub nothing-sent : HasSent gap m accepted [] 0 [] → Sends gap m accepted [] 0 [] Silent
   nothing-sent has =
       let from : m ≤ m = omega arith in
@@ -177,7 +177,7 @@ module _ (gap m : ℕ) (accepted : List Burst) where
         };
       }
 
-  -- the next frame begins
+  -- The next frame begins.
   module _ (frame : List ℕ) (queued : List (List ℕ)) (d : Burst) (ds begun : List Burst)
       (wide : 0 < gap) (is : accepted ≡ begun ++ (d ∷ ds)) (have_begun : HaveBegun m (m + 0) begun)
       (due : AreDue gap (m + 0 + 0) (d ∷ ds))
@@ -191,7 +191,8 @@ module _ (gap m : ℕ) (accepted : List Burst) where
     others : map (λ e. e.body) ds ≡ map on_line queued
     others = cc
 
-    -- what is sent of it behind its first byte, and the silence behind it
+    -- A frame and its gap take one tick for the first byte, one for each other byte, and the
+    -- silence after it.
     counts : (x : List ℕ) → length x + gap ≡ 1 + (length (drop 1 x) + rest_behind gap x)
     counts [] = omega arith
     counts (b ∷ x) = omega arith
@@ -282,7 +283,7 @@ module _ (gap m : ℕ) (accepted : List Burst) where
 
 module _ (gap m : ℕ) (accepted : List Burst) (unsent : List ℕ) (pause : ℕ)
     (queued : List (List ℕ)) where
-  -- where it may begin
+  -- when a frame that is read may begin, after all that are accepted
   pub earliest : (begun waiting : List Burst) → free_from gap 0 begun - m ≡ length unsent + pause
       → AreDue gap (m + length unsent + pause) waiting
       → max m (free_from gap 0 (begun ++ waiting))
@@ -295,7 +296,7 @@ module _ (gap m : ℕ) (accepted : List Burst) (unsent : List ℕ) (pause : ℕ)
       ap (λ n. max m n) (free_from-append gap 0 begun (d ∷ ds))
       ∙ omega arith
 
-  -- it waits behind the others
+  -- The frame waits behind the others.
   pub frame-waits : (frame : List ℕ) → HasSent gap m accepted unsent pause queued
       → HasSent gap m
       (accepted ++ sent_from (max m (free_from gap 0 accepted)) frame ∷ []) unsent pause
@@ -336,7 +337,7 @@ module _ (gap m : ℕ) (accepted : List Burst) (unsent : List ℕ) (pause : ℕ)
       let yes : nat_le m d.start ≡ true = grind arith in
       rw yes (ap (λ x. d ∷ x) (all-from (end_of d + gap) ds later due.1))
 
-  -- as many wait as are queued
+  -- As many accepted frames wait as are queued.
   pub waiting-count : HasSent gap m accepted unsent pause queued → count_from m accepted
       ≡ length queued
   waiting-count has =

@@ -41,8 +41,8 @@ module _ (frames : ℕ → List Tick → List NumberedFrame) where
 
   -- Holds if the uptimes share a disk, for one link: each has loaded the floor of the slots that it
   -- found, and was an uptime with the numbers of its frames. It found the image that the uptime
-  -- before it left, or what that image was after runs in between which ended before they had loaded
-  -- a floor. All runs between two uptimes count as a single idle one.
+  -- before it left or, if runs in between ended before they had loaded a floor, the image that
+  -- these left. All runs between two uptimes count as a single idle one.
   abbrev pub ShareDisk : LinkId → Slots → List BoxUptime → Type 0
   ShareDisk link begins [] = Unit {0}
   ShareDisk link begins (uptime ∷ uptimes) =

@@ -16,8 +16,8 @@ use device_model::Hunted;
 /// line has read only frames that have passed, and all of them once silence follows for the delay.
 /// The same holds for a device that forgets what it has taken at `cut` silent ticks in a row, with
 /// a cut of 2 or more, and then hunts anew. It also holds for any device that takes contiguous
-/// ticks, with no two silent ones in a row, as the hunt takes them, and is then at rest, whatever
-/// it makes of longer silence inside a frame (`IsHunter`).
+/// ticks, in which no two silent ones come in a row, as the hunt does if the hunt takes all of
+/// them, and is then at rest, whatever it makes of longer silence inside a frame (`IsHunter`).
 pub fn hunting_device_reads_what_passed<R: Hunted>()
     ensures hunt { (profile : Profile) (floor : ℕ) (link : List Tick)
         → ReadsWhatPassed R.rules (hunt_line R.FIRST R.SECOND R.rules) 0 profile floor link }

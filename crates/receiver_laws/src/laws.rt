@@ -47,8 +47,8 @@ pub fn device_reads_what_passed()
 {}
 
 /// A law of the receiver's definitions, for the rules of each protocol, each profile whose delay is
-/// long enough for the header, and each floor: when a link goes on, the receiver's notes, its line
-/// and the frames that pass go on too. They begin with those of the link so far.
+/// long enough for the header, and each floor: the notes, the receiver's line and the passed frames
+/// of a longer link begin with those of the link so far.
 pub fn longer_links<R: LineRules>()
     ensures extends { (profile : Profile) → IsTimely profile R.rules
         → (floor : ℕ) (link more : List Tick)

@@ -11,10 +11,10 @@ use line_rules::LineRules;
 
 /// A law of the transmitter's and the receiver's definitions, for the rules of each protocol and
 /// each profile: a link that is left alone from a tick on works again by itself, whatever was on it
-/// before. Each packet that is due passes: one that is whole, whose number is near enough to the
-/// receiver's floor, and that starts at least a stated number of ticks after the first of the four
-/// silent ones. That number is the receiver's delay, and a tick for each byte that a burst of the
-/// protocol can lack.
+/// before. Each packet that is due passes. A packet is due if it is whole, its number is near
+/// enough to the receiver's floor, and it starts late enough after the first of the four silent
+/// ticks: by at least the receiver's delay, and a tick for each byte that a burst of the protocol
+/// can lack.
 pub fn untouched_link_recovers<R: LineRules>()
     ensures recovers { (profile : Profile) → HasTags profile → 1 ≤ profile.word_len
         → (most : ℕ) → LackAtMost R.rules most

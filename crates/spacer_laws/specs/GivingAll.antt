@@ -23,8 +23,8 @@ AreGiven late (d ∷ ds) (e ∷ es) =
     × AreGiven late ds es
 
 -- Holds if the spacer's gap isn't wider than the least silence that spaced frames have between
--- them, each burst of the line takes at most `most` ticks, and there is room for as many frames to
--- wait as come while one of `most` ticks is sent.
+-- them, each burst of the line takes at most `most` ticks, and as many frames may wait as come
+-- while one of `most` ticks is sent.
 pub record HasRoomFor (profile : Profile) (most gap cap : ℕ) (line : List Tick) : Type 0 where
   pub near : gap ≤ delay profile + 3
   pub short : All (λ (d : Burst). length d.body ≤ most) (bursts line)
