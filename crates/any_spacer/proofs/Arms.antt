@@ -1,4 +1,4 @@
--- What a step does to a spacer, by which of the four it is.
+-- What a step does to a spacer, for each of the four kinds.
 use Rattle.any_spacer.specs.{Spacers.StepsOn, declared.any_spacer.AnySpacer.AnySpacer}
 use Rattle.any_spacer.specs.declared.forgetful.ForgetfulDevice.{ForgetfulDevice}
 use Rattle.device_model.specs.declared.{device.Device.Ghosts as Device, rtu.RtuDevice.RtuDevice}
