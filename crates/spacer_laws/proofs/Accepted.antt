@@ -22,7 +22,7 @@ pub all-cons : {X : Type 0} (P : X → Type 0) (x : X) (xs : List X) → P x →
 all-cons P x xs first others zero d within = first
 all-cons P x xs first others (suc k) d within = others k d (omega arith)
 
--- what holds of each burst that is sent holds of all of those that are apart
+-- A property of every burst that is a frame holds for all bursts that are apart.
 pub all-sent : (P : Burst → Type 0) (rules : Rules) (gap n : ℕ) (ds : List Burst)
     → ((d : Burst) → IsSent rules d → P d) → AreApart rules gap n ds → All P ds
 all-sent P rules gap n [] each apart = λ k d none. absurd (omega arith)
@@ -32,7 +32,7 @@ all-sent P rules gap n (d ∷ ds) each apart =
 -- ---- an arrival is accepted, or lost
 
 module _ (gap cap : ℕ) where
-  -- where it begins
+  -- the tick in which the frame of an arrival begins, if it is accepted
   abbrev pub begin_of : Spaced → Arrival → ℕ
   begin_of s a = max (a.step + 1) (free_from gap 0 s.accepted)
 
@@ -55,8 +55,8 @@ module _ (gap cap : ℕ) where
   unfolding take_in
   taken-many s a many = rw (le-leb cap (count_from (a.step + 1) s.accepted) many) refl
 
-  -- What holds of what was taken in holds with one more, if it holds with the frame where there is
-  -- room for it, and where it is lost.
+  -- A property of what is made of some arrivals holds with one more, if it holds both when the
+  -- frame is accepted, for which there must be room, and when it is lost.
   pub taken-keeps : (P : Spaced → Type 0) (s : Spaced) (a : Arrival)
       → (count_from (a.step + 1) s.accepted < cap → P (with_frame s a)) → P (without_frame s a)
       → P (take_in gap cap s a)
@@ -68,7 +68,7 @@ module _ (gap cap : ℕ) where
 
 -- ---- a property of each frame that is read
 
--- Each frame is read in a step of the line.
+-- Each frame is read in the step of a tick of the line.
 pub arrivals-steps : (reads : List Tick → List FrameRead) (line x : List Tick) (m : ℕ)
     → length line + length x ≡ m → All (λ (a : Arrival). a.step + 1 ≤ m)
     (arrivals_behind reads line x)
@@ -84,7 +84,7 @@ arrivals-steps reads line (t ∷ x) m long =
     (All-map IsBefore (arriving (length line)) new (λ k d within. here))
     (arrivals-steps reads (line ++ t ∷ []) x m (omega arith))
 
--- What holds of all that is read of the fronts of a line holds of its arrivals.
+-- A property of all frames that are read of the fronts of a line holds for the line's arrivals.
 pub arrivals-all : (R : FrameRead → Type 0) (reads : List Tick → List FrameRead)
     (line x : List Tick)
     → ((n : ℕ) → All R (reads (line ++ take n x)))

@@ -1,4 +1,4 @@
--- What is sealed of a spaced line, and passes on an untouched link.
+-- Which frames are sealed of a spaced line, and that they pass on an untouched link.
 use Rattle.device_model.specs.Frames.{FrameRead}
 use Rattle.frame_ending.specs.LiveBytes.{before_pause, live_bytes, has_extra}
 use Rattle.line_rules.specs.{Rules.Rules, RulesLaws.IsLawful, RulesLaws.IsFramed}
@@ -42,10 +42,10 @@ module _ (rules : Rules) (framed : IsFramed rules) where
       let live = ap length (all-live d sent) in
       le-ltb (length (live_bytes rules d)) (length (bytes_in d.body)) (omega arith)
 
-  -- ---- all of them
+  -- ---- all bursts
 
   module _ (gap : ℕ) where
-    -- they have been sent as a whole
+    -- Bursts that have left by tick m are whole before it.
     within-left : (m n : ℕ) (ds : List Burst) → AreApart rules gap n ds → HaveLeft m ds
         → within m ds ≡ ds
     within-left m n [] apart left = refl

@@ -20,15 +20,16 @@ bytes-few (Silent ∷ x) = let few = bytes-few x in omega arith
 bytes-few (Byte b ∷ x) = let few = bytes-few x in omega arith
 
 module _ (gap ends most cap : ℕ) (room : most ≤ cap * (gap + 1)) where
-  -- These bursts have this many ticks at most, the first begins in tick n or later, and each of the
-  -- others at least the gap behind the one before.
+  -- Holds if each of these bursts has at most `most` ticks, the first begins in tick n or later,
+  -- and each of the others begins at least `gap` silent ticks after the one before it.
   abbrev pub ComeApart : ℕ → List Burst → Type 0
   ComeApart n [] = Unit {0}
   ComeApart n (d ∷ ds) =
       (n ≤ d.start) × (0 < length d.body) × (length d.body ≤ most) × ComeApart (end_of d + gap) ds
 
-  -- Of what came before tick n so much is accepted: it is free again so soon, and so few still wait
-  -- from any tick on.
+  -- What holds for the frames that are accepted of what came before tick n: the next one may begin
+  -- by tick n + most + ends, and from any tick t up to that one there is room for those that
+  -- haven't begun by t, if each takes one byte and its gap.
   record IsAhead (n : ℕ) (accepted : List Burst) : Type 0 where
     soon : free_from gap 0 accepted ≤ n + (most + ends)
     few : (t : ℕ) → count_from t accepted * (gap + 1) ≤ n + (most + ends) - t
@@ -93,7 +94,7 @@ module _ (gap ends most cap : ℕ) (room : most ≤ cap * (gap + 1)) where
   abbrev arrive : List Burst → List Arrival
   arrive ds = map (arrival_of ends) ds
 
-  -- Behind what was accepted before, all of these bursts are given.
+  -- After what was accepted before, all of these bursts are given, and none is lost.
   record AllGiven (s after : Spaced) (ds : List Burst) : Type 0 where
     given : List Burst
     is : after.accepted ≡ s.accepted ++ given
@@ -144,7 +145,7 @@ module _ (gap ends most cap : ℕ) (room : most ≤ cap * (gap + 1)) where
         ap (λ s. s.lost) same ∙ all.lost,
       )
 
-  -- by when they have left
+  -- If these bursts end by tick m, they have left by tick m + most + ends.
   pub given-left : (m k : ℕ) (ds es : List Burst) → EndBy m ds → m + (most + ends) ≤ k
       → AreGiven (most + ends) ds es → HaveLeft k es
   given-left m k [] [] all by given = tt

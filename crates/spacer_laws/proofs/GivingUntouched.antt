@@ -1,4 +1,4 @@
--- What comes over an untouched link is given by a spacer behind the receiver.
+-- A spacer behind the receiver gives all that comes over an untouched link.
 use Rattle.burst_walk.proofs.Spread.{AreSpread, EndBy, bursts-spread, bursts-end}
 use Rattle.burst_walk.specs.{Laid.tick_at, Laid.laid, Laid.later, Walk.emitted}
 use Rattle.device_model.proofs.ReadLaws.{frames_ended}
@@ -25,7 +25,7 @@ use Rattle.std.specs.{List.filter, Prelude.All}
 use Rattle.yasir_ticks.specs.{Bursts.Burst, Bursts.bursts, Bursts.end_of, Ticks.silent}
 use Rattle.yasir_ticks.specs.declared.tick.Tick.{Tick, TheVariants.Silent}
 
--- ---- lists of which nothing is left out
+-- ---- lists from which nothing is left out
 
 filter-le : {X : Type 0} (p : X → Bool) (x : List X) → length (filter p x) ≤ length x
 filter-le p [] = omega arith

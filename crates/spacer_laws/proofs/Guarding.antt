@@ -29,7 +29,7 @@ use Rattle.yasir_ticks.proofs.BurstsOfLaws.{bursts_from-are}
 use Rattle.yasir_ticks.specs.Bursts.{Burst, bursts, end_of}
 use Rattle.yasir_ticks.specs.{BurstsOf.AreBursts, Ticks.silent, declared.tick.Tick.Tick}
 
--- ---- what is accepted are some of the frames that are read, in their order
+-- ---- the accepted frames are some of those that are read, in their order
 
 abbrev bodies : List Burst → List (List Tick)
 bodies ds = map (λ d. d.body) ds
@@ -69,7 +69,7 @@ module _ (gap cap : ℕ) where
       subst P (sym (taken-many gap cap s a many)) is)
       (cases_lt (count_from (a.step + 1) s.accepted) cap)
 
--- a subsequence of images is one of what they are images of
+-- A list of images under `f` of a subsequence of `y`, which is given here.
 record IsImage {X Y : Type 0} (f : X → Y) (x : List Y) (y : List X) : Type 0 where
   of : List X
   among : IsSubsequence of y
@@ -94,7 +94,7 @@ image-of f (c ∷ x) (a ∷ z) (b ∷ y) (keep is) same =
       is = ap (λ v. v ∷ x) first ∙ ap (λ w. f b ∷ w) others.is;
     }
 
--- numbers that rise still do where some are left out
+-- Numbers still rise if some are left out.
 rise-fewer : (floor n : ℕ) (x y : List ℕ) → IsSubsequence x y → n ≤ floor → RiseFrom floor y
     → RiseFrom n x
 rise-fewer floor n x y none le rise = tt
@@ -150,7 +150,7 @@ module _ (rules : Rules) (framed : IsFramed rules) (gap : ℕ) (wide : 4 ≤ gap
       (are.2 ∙ ap (λ x. silent are.0 ++ (x ++ are.1)) body) (omega arith)
       (placed-from (end_of d) gap are.1 ds frames are.6 apart.2 tail)
 
-  -- what is laid of them carries these frames only
+  -- A line on which these bursts are laid carries only these frames.
   laid-carries : (m : ℕ) (ds : List Burst) (frames : List NumberedFrame) → AreApart rules gap 0 ds
       → bodies ds ≡ map (λ f. on_line f.frame) frames → (floor : ℕ) (all : List NumberedFrame)
       → IsSubsequence frames all → RiseFrom floor (numbers_of frames)
@@ -177,8 +177,8 @@ module _ (rules : Rules) (framed : IsFramed rules) (gap : ℕ) (wide : 4 ≤ gap
 
 -- ---- behind the receiver
 
--- What is heard behind the receiver is frames that have passed: of the receiver's emissions those
--- that are whole, this many ticks after their end.
+-- What a spacer hears behind the receiver is frames that have passed: those of the receiver's
+-- emissions that are whole, each `ends` ticks after its end.
 pub record HearsEmissions (rules : Rules) (heard : List Tick → List FrameRead) (ends : ℕ)
     (profile : Profile) : Type 0 where
   pub sound : ReadsFrames rules heard

@@ -1,4 +1,4 @@
--- What a device reads of bursts that are laid on a line, and in which steps.
+-- What a device reads of bursts that are laid on a line, and in which steps it reads them.
 use Rattle.burst_walk.proofs.{Emissions.laid-more, Spread.AreSpread}
 use Rattle.burst_walk.specs.Laid.{tick_at, laid}
 use Rattle.device_model.{proofs.ReadLaws.frames_ended, specs.Frames.FrameRead}
@@ -16,12 +16,12 @@ pub contiguous-some : (cut : ℕ) (x : List Tick) → IsContiguous cut x → 0 <
 contiguous-some cut x (one b) = omega arith
 contiguous-some cut x (more b gap rest few contiguous) = omega arith
 
--- a burst as it is read this many ticks after its end
+-- the arrival of a burst that is read `ends` ticks after its end
 abbrev pub arrival_of : ℕ → Burst → Arrival
 arrival_of ends d = record { step = end_of d + ends - 1; frame = frame_in d }
 
 module _ (ends : ℕ) (whole : Burst → Bool) where
-  -- those of these bursts that are whole and have ended this many ticks before tick m
+  -- those of these bursts that are whole and have ended at least `ends` ticks before tick m
   abbrev pub ended : ℕ → List Burst → List Burst
   ended m ds = filter (λ d. nat_le (end_of d + ends) m && whole d) ds
 
@@ -45,7 +45,7 @@ module _ (ends : ℕ) (whole : Burst → Bool) where
       ended-no m d ds (omega arith)
       ∙ ended-none m (end_of d + 2) ds spread.2 (omega arith)
 
-  -- With one more tick these are ended too, in the step of that tick.
+  -- the bursts that have ended with one more tick, but not without it: they are read in its step
   record EndsNow (m : ℕ) (ds : List Burst) : Type 0 where
     new : List Burst
     is : ended (m + 1) ds ≡ ended m ds ++ new
@@ -99,11 +99,12 @@ module _ (ends : ℕ) (whole : Burst → Bool) where
       (cases_lt (m + 1) (end_of d + ends)))
       (cases_lt (end_of d + ends) (m + 1))
 
-  -- ---- what is read of them
+  -- ---- what is read of these bursts
 
   module _ (heard : List Tick → List FrameRead) (ds : List Burst) (spread : AreSpread 2 0 ds)
       (laid_read : (m : ℕ) → heard (laid m ds) ≡ frames_ended ends whole m ds) where
-    -- Each is read in the step that ends it.
+    -- Each of these bursts that is whole and has ended is read, in the step that `arrival_of` gives
+    -- it.
     pub arrivals-laid : (m : ℕ)
         → arrivals heard (laid m ds) ≡ map (arrival_of ends) (ended m ds)
     unfolding arrivals_behind
@@ -130,7 +131,7 @@ module _ (ends : ℕ) (whole : Burst → Bool) where
         ∙ (ap (map (arrival_of ends)) (sym now.is)
         ∙ ap (λ k. map (arrival_of ends) (ended k ds)) (sym next))))))))
 
-    -- All that is read is what arrives.
+    -- The frames that arrive are all that is read.
     pub frames-laid : (m : ℕ)
         → map (λ a. a.frame) (arrivals heard (laid m ds)) ≡ heard (laid m ds)
     frames-laid m =

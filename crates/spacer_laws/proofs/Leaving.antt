@@ -1,4 +1,5 @@
--- All that was accepted has left after as many ticks as this many frames of the longest kind take.
+-- All accepted frames have left after as many ticks as the frames that may wait, and one more, can
+-- take.
 use Rattle.burst_walk.proofs.Spread.{EndBy, bursts_from-end}
 use Rattle.device_model.proofs.{HuntSteps.timed-silences, ReadLaws.frames_read-append}
 use Rattle.device_model.{proofs.ReadLaws.frames_read-ended, specs.Frames.FrameRead}
@@ -27,7 +28,7 @@ use Rattle.yasir_ticks.specs.Bursts.{Burst, bursts_from, end_of}
 use Rattle.yasir_ticks.specs.{BurstsOf.AreBursts, Ticks.silent, Ticks.AreTicks}
 use Rattle.yasir_ticks.specs.declared.tick.Tick.{Tick, TheVariants.Silent, TheVariants.Byte}
 
--- ---- how many are still to begin
+-- ---- how many bursts haven't begun
 
 pub count-one : (m : ℕ) (d : Burst) (ds : List Burst) → m ≤ d.start
     → count_from m (d ∷ ds) ≡ suc (count_from m ds)
@@ -70,7 +71,8 @@ count-append m ds e =
 -- ---- how far they reach
 
 module _ (gap m b : ℕ) where
-  -- Each of these bursts begins as soon as it may, if that isn't before tick m, and is short.
+  -- Holds if each of these bursts begins in tick n or later, as soon as it may or before tick m,
+  -- and takes at most b ticks with its gap.
   abbrev AreSoon : ℕ → List Burst → Type 0
   AreSoon n [] = Unit {0}
   AreSoon n (d ∷ ds) =
@@ -84,7 +86,8 @@ module _ (gap m b : ℕ) where
   soon-append n (d ∷ ds) e soon from by short =
       (soon.0, soon.1, soon.2, soon-append (end_of d + gap) ds e soon.3 from by short)
 
-  -- The last of these bursts ends so soon.
+  -- The last of these bursts, with its gap, is over by b ticks after tick m (or tick n, if that is
+  -- later), and b more for each burst that begins in tick m or later.
   reach : (n : ℕ) (ds : List Burst) → AreSoon n ds
       → free_from gap n ds ≤ max n (m + b) + count_from m ds * b
   reach n [] soon = grind arith
@@ -110,7 +113,7 @@ module _ (gap m b : ℕ) where
       let others = grows (end_of d + gap) ds soon.3 in
       omega arith
 
-  -- all have ended by then
+  -- If the last burst, with its gap, is over by tick k, all have left by then.
   reached : (n k : ℕ) (ds : List Burst) → AreSoon n ds → free_from gap n ds ≤ k → HaveLeft k ds
   reached n k [] soon by = tt
   reached n k (d ∷ ds) soon by =
@@ -153,9 +156,9 @@ module _ (gap m b : ℕ) where
         (all-others IsBefore a more before) (all-others IsShort a more short)
         (one-more s a (all-first IsBefore a more before) (all-first IsShort a more short) is)
 
--- ---- behind a line on which nothing is read any more
+-- ---- after a line of which nothing more is read
 
--- nothing is read in this many silent ticks behind a line
+-- Holds if nothing more is read in any number of silent ticks after a line.
 abbrev pub ReadsNothing : (List Tick → List FrameRead) → List Tick → Type 0
 ReadsNothing heard line = (n : ℕ) → heard (line ++ silent n) ≡ heard line
 
@@ -205,7 +208,7 @@ module _ (heard : List Tick → List FrameRead) (gap cap b : ℕ) (line : List T
 -- ---- Modbus RTU
 
 module _ (cut pause : ℕ) where
-  -- what is read of bursts that are all closed doesn't hang on the moment
+  -- If all bursts are closed at two moments, the same is read of them at both.
   closed-read : (k m n : ℕ) (ds : List Burst) → EndBy k ds → k + cut ≤ m → k + cut ≤ n
       → frames_read cut pause m ds ≡ frames_read cut pause n ds
   closed-read k m n [] ends early late = refl
@@ -219,7 +222,7 @@ module _ (cut pause : ℕ) where
       ∙ (ap (λ x. frames_read cut pause n (d ∷ []) ++ x) (closed-read k m n ds ends.1 early late)
       ∙ sym (frames_read-append cut pause n (d ∷ []) ds)))
 
-  -- so nothing is read in silence behind the silence that ends a burst
+  -- Once the silence that ends a burst is over, nothing more is read in silence.
   rtu-nothing : (line : List Tick) → ReadsNothing (reads_with cut pause) (line ++ silent cut)
   rtu-nothing line n =
       let quiet : List Tick = line ++ silent cut in

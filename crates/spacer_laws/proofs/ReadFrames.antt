@@ -1,4 +1,4 @@
--- What devices read is frames of the protocol; and of bursts that are such frames they read each.
+-- Devices read only frames of the protocol, and they read each burst that is such a frame.
 use Rattle.device_model.proofs.ReadLaws.{frames_ended, frames_read-append}
 use Rattle.device_model.specs.{Frames.FrameRead, Hunt.Timed, Hunt.timed, Hunt.timed_bytes}
 use Rattle.device_model.specs.Hunt.{begins, found, found_by, frame_of, passed_over, header_in, hunt}
@@ -58,8 +58,8 @@ rtu-frames cut pause line = bursts-frames cut pause (length line) (bursts_from c
 
 -- ---- hunting
 
--- What holds of each frame that is taken of bytes of a kind holds of all that is read of such
--- bytes.
+-- `P` is a property of bytes, and `R` one of frames. If `R` holds for each frame that is taken from
+-- bytes with `P`, it holds for all frames that are read of such bytes.
 module _ (first second : ℕ) (rules : Rules) (P : List ℕ → Type 0) (R : FrameRead → Type 0)
     (fewer : (b : ℕ) (x : List ℕ) → P (b ∷ x) → P x)
     (takes : (start n : ℕ) (x : List ℕ) → P x → rules.is_frame (take n x) ≡ true
@@ -126,7 +126,7 @@ family-frames first second rules (suc cut) line =
 -- ---- what is read of whole frames
 
 module _ (ends m : ℕ) (whole : Burst → Bool) where
-  -- Of bursts that are whole by this test those are read that have ended.
+  -- If all bursts are whole by this test, those that have ended are read.
   pub ended-whole : (ds : List Burst) → All (λ d. whole d ≡ true) ds
       → frames_ended ends whole m ds ≡ frames_by ends m ds
   ended-whole [] all = refl

@@ -18,8 +18,8 @@ use Rattle.std.proofs.Common.{length, map, sym, ap, subst, arith, true, not, ◌
 use Rattle.yasir_ticks.specs.{Bursts.Burst, Bursts.end_of, Ticks.bytes_in}
 use Rattle.yasir_ticks.specs.declared.tick.Tick.{Tick, TheVariants.Byte}
 
--- By what is heard, which is frames of the protocol, and by a device behind that reads what is laid
--- of such bursts, once each has ended.
+-- For a spacer that hears only frames of the protocol, and a device behind it that reads each burst
+-- that is laid of these once it has ended.
 module _ (rules : Rules) (framed : IsFramed rules) (heard : List Tick → List FrameRead)
     (sound : ReadsFrames rules heard) (reads : List Tick → List FrameRead) (ends gap : ℕ)
     (wide : 4 ≤ gap)

@@ -1,4 +1,5 @@
--- What is laid of bursts before a tick is what stands of them before it.
+-- What is on a line before tick m, if bursts are laid on it, is the part of them that comes before
+-- m.
 use Rattle.burst_walk.proofs.Emissions.{tick_at-none, laid-same}
 use Rattle.burst_walk.proofs.{LaidBursts.bursts-laid, Spread.AreSpread, Spread.EndBy}
 use Rattle.burst_walk.specs.Laid.{tick_at, laid}
@@ -34,7 +35,7 @@ cut-inside : (a n m i : ℕ) → i < m → a < m
     → (nat_le a i && nat_lt i (a + min (m - a) n)) ≡ (nat_le a i && nat_lt i (a + n))
 cut-inside a n m i before begun = grind arith
 
--- a burst that is cut at tick m shows the same before it
+-- Before tick m, a burst that is cut at m shows the same as the whole one.
 cut-shows : (m i : ℕ) (d : Burst) (x y : List Burst) → i < m → d.start < m
     → tick_at x i ≡ tick_at y i
     → tick_at (record { start = d.start; body = take (m - d.start) d.body } ∷ x) i
@@ -71,7 +72,7 @@ within-none : (m : ℕ) (d : Burst) (ds : List Burst) → m ≤ d.start → with
 within-none m d ds yet = rw (le-ltb d.start m yet) refl
 
 module _ (gap : ℕ) (wide : 0 < gap) (rules : Rules) (framed : IsFramed rules) where
-  -- before they begin it is dark
+  -- Before the first of these bursts begins, all is silent.
   dark : (n i : ℕ) (ds : List Burst) → AreApart rules gap n ds → i < n → tick_at ds i ≡ Silent
   dark n i [] apart before = tick_at-none i
   dark n i (d ∷ ds) apart before =
@@ -90,7 +91,7 @@ module _ (gap : ℕ) (wide : 0 < gap) (rules : Rules) (framed : IsFramed rules) 
       ∙ (tick_at-none i ∙ sym (dark m i (d ∷ ds) (yet, apart.1, apart.2) before)))
       (cases_lt d.start m)
 
-  -- what stands of one before tick m is contiguous
+  -- The part of a burst that comes before tick m is contiguous.
   cut-contiguous : (cut m : ℕ) (d : Burst) → 0 < cut → d.start < m → IsSent rules d
       → IsContiguous cut (take (m - d.start) d.body)
   cut-contiguous cut m d some begun sent =
@@ -132,7 +133,7 @@ module _ (gap : ℕ) (wide : 0 < gap) (rules : Rules) (framed : IsFramed rules) 
       (λ yet. subst P (sym (within-none m d ds yet)) tt)
       (cases_lt d.start m)
 
-  -- The bursts of the line that they are laid on are they, as far as they have come.
+  -- The bursts of a line on which these are laid are these, as far as they come before its end.
   pub laid-bursts : (cut m : ℕ) (ds : List Burst) → 0 < cut → cut ≤ gap → AreApart rules gap 0 ds
       → bursts_from cut 0 (laid m ds) ≡ within m ds
   laid-bursts cut m ds some near apart =
@@ -144,7 +145,7 @@ module _ (gap : ℕ) (wide : 0 < gap) (rules : Rules) (framed : IsFramed rules) 
       ∙ bursts-laid cut m (within m ds) (within-spread cut m 0 0 ds some near start apart)
       (within-ends m ds)
 
-  -- Bursts so far apart are spread.
+  -- Bursts that are `gap` apart are also spread by a cut of at most `gap`.
   pub apart-spread : (cut n k : ℕ) (ds : List Burst) → 0 < cut → cut ≤ gap → k ≤ n
       → AreApart rules gap n ds → AreSpread cut k ds
   apart-spread cut n k [] some near le apart = tt
