@@ -1,4 +1,4 @@
--- The answers that a spacer owes, written in parts.
+-- The answers that a spacer owes are written part by part.
 use Rattle.{device_model.specs.Frames.frames_lent, line_spacer.proofs.Owing.still-some}
 use Rattle.{line_spacer.specs.Owing.still_read, line_texts.specs.Sending.SinkTexts}
 use Rattle.space_replay.specs.OwedTexts.{StopsWriting, WritesAll, WritesFirst, frames_of}
@@ -15,7 +15,7 @@ use Rattle.yasir_io.specs.declared.sink.Sink.{Ghosts as Sink}
 use Rattle.yasir_ticks.specs.declared.tick.Tick.{Tick}
 
 module _ {B O L : Type 0} (b : LineSpacer B) (o : Sink O) (l : Sink L) where
-  -- Of so many ticks that were owed this many are left, and the answers to those before are written.
+  -- Of the `owed` ticks, `left` are left, and the answers to those before them are written.
   pub record AreWritten (start now : SpacedLines B O L) (owed left : ℕ) (read : Option ℕ) :
       Type 0 where
     pub done : ℕ
@@ -49,7 +49,7 @@ module _ {B O L : Type 0} (b : LineSpacer B) (o : Sink O) (l : Sink L) where
     same-frames : frames_of b o l start read ≡ frames_of b o l now read
     same-frames = ap (frames_lent read) (sym are.lends)
 
-    -- as the next part of them finds it
+    -- The ticks that are left are owed, as the next part needs it.
     at-next : (origin : SinkTexts) (line ticks : List Tick) → 0 < left → length ticks ≡ owed
         → OwesTexts b o l start (frames_of b o l start read) origin line ticks
         → OwesTexts b o l now (frames_of b o l now read) origin (line ++ take are.done ticks)
@@ -67,7 +67,7 @@ module _ {B O L : Type 0} (b : LineSpacer B) (o : Sink O) (l : Sink L) where
     left-long ticks long =
         let rest = length-drop are.done ticks in let sum = are.sum in omega arith
 
-    -- some more are written
+    -- The answers to n more ticks are written.
     pub some_more : (n : ℕ) → WritesFirst b o l now new left read n
         → AreWritten start new owed (left - n) read
     some_more n wrote =
@@ -98,7 +98,7 @@ module _ {B O L : Type 0} (b : LineSpacer B) (o : Sink O) (l : Sink L) where
           keeps = holds-then b o l start now new (Ok tt) are.keeps wrote.keeps;
         }
 
-    -- a write failed in them
+    -- A write of the answers that are left failed.
     pub more_stopped : (stop : Stop) → 0 < left → StopsWriting b o l now new left read stop
         → StopsWriting b o l start new owed read stop
     more_stopped stop some wrote = record {
@@ -112,7 +112,7 @@ module _ {B O L : Type 0} (b : LineSpacer B) (o : Sink O) (l : Sink L) where
       keeps = holds-then b o l start now new (Err stop) are.keeps wrote.keeps;
     }
 
-    -- None is left.
+    -- If no tick is left, all answers are written.
     pub all_written : left ≤ 0 → (origin : SinkTexts) (line ticks : List Tick)
         → length ticks ≡ owed
         → OwesTexts b o l start (frames_of b o l start read) origin line ticks
@@ -126,7 +126,7 @@ module _ {B O L : Type 0} (b : LineSpacer B) (o : Sink O) (l : Sink L) where
         (line ++ take are.done ticks) x) (drop_all are.done ticks over)
         (are.moved origin line ticks long before))
 
-  -- Nothing was owed.
+  -- If nothing was owed, all answers are written.
   pub nothing_owed : (lines : SpacedLines B O L) → lines.owed ≡ 0
       → WritesAll b o l lines lines None
   nothing_owed lines none = record {

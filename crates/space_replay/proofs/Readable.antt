@@ -1,4 +1,4 @@
--- A right input, and no fault outside, give `Done`, or there is no memory.
+-- For a right input, and if no fault occurs outside, the status is `Done` or `NoMemory`.
 use Rattle.line_texts.specs.Sending.{LineAndNotes, SinkTexts}
 use Rattle.replay_status.proofs.Readable.{not_refused, not_too_long}
 use Rattle.replay_status.specs.Causes.{InputCause, SinkCause, NoneRose}

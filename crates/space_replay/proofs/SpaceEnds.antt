@@ -26,13 +26,13 @@ use Rattle.yasir_io.specs.{TextBuffer.waiting_bytes, declared.sink.Sink.Ghosts a
 use Rattle.yasir_ticks.specs.{CanonicalText.canonical_text, Ticks.Item, Ticks.ticks_in}
 use Rattle.yasir_ticks.specs.{Ticks.Item.mark, Ticks.Item.tick, declared.tick.Tick.Tick}
 
--- of no tick nothing is made
+-- Of a line without ticks nothing is made.
 nothing_spaced : (reads : List Tick → List FrameRead) (gap : ℕ)
     → spaced reads gap most_waiting [] ≡ none_yet
 unfolding arrivals_behind
 nothing_spaced reads gap = refl
 
--- so nothing is on its way yet
+-- So nothing has to be sent for such a line.
 pub nothing_sends : (reads : List Tick → List FrameRead) (gap : ℕ) (texts : Texts)
     → HasWritten texts.writer [] [] → texts.ticks.items ≡ []
     → waiting_bytes texts.notes ≡ [] → (held : SinkTexts)
@@ -42,7 +42,8 @@ nothing_sends reads gap texts written ticks notes held =
     (waiting_bytes texts.notes) held refl
     (ap (λ s. arrival_lines s.lost) (nothing_spaced reads gap)) written ticks notes
 
--- The ticks at the front of some items are those of so many first items.
+-- If `line` is at the front of the ticks of some items, it is the ticks of the first `count` of
+-- them.
 front-of : (items : List Item) (line behind : List Tick) → ticks_in items ≡ line ++ behind
     → (count : ℕ) × (ticks_in (take count items) ≡ line)
 front-of items [] behind are = (0, refl)
@@ -56,7 +57,7 @@ front-of (mark ∷ items) (u ∷ line) behind are =
     let more = front-of items (u ∷ line) behind are in
     (suc more.0, more.1)
 
--- an end that is no stop is what was answered last
+-- If the end is no stop, all items were taken without one.
 gives_ok : {C : Type 0} (meaning : Consuming C) (old new : C) (items : List Item) (end : End)
     → ((stop : Stop) → end ≡ Stopped stop → ⊥) → Gives meaning old new items (answer_of end)
     → Gives meaning old new items (Ok tt)
@@ -78,7 +79,8 @@ module _ {B O L : Type 0} (b : LineSpacer B) (o : Sink O) (l : Sink L)
   abbrev made : LineAndNotes
   made = spaced_texts b.reads b.gap
 
-  -- a write failed at one of so many first items, or before
+  -- A write failed at or before some item, so fronts of the texts of the first `count` items were
+  -- sent.
   front_spaces : (new : SpacedLines B O L) (start : SinkTexts) (items : List Item) (end : End)
       → Takes 0 space_rest before now items end → (count : ℕ)
       → StopsWithin b o l new start (ticks_in (take count items))
@@ -99,7 +101,7 @@ module _ {B O L : Type 0} (b : LineSpacer B) (o : Sink O) (l : Sink L)
             (sym front.1) stops.sent;
       }
 
-  -- It failed while the input was driven.
+  -- A write failed while the input was driven.
   pub drives_stopped : (old new : SpacedLines B O L) (stop : Stop)
       → Drives (spacing b o l) 0 space_rest before now old new (Stopped stop)
       → DrivesLines b o l old new before now (Stopped stop)
@@ -119,7 +121,7 @@ module _ {B O L : Type 0} (b : LineSpacer B) (o : Sink O) (l : Sink L)
     gave : Gives (spacing b o l) old mid driven.items (Ok tt)
     gave = gives_ok (spacing b o l) old mid driven.items end other driven.gives
 
-    -- the answers that were owed are on their way
+    -- After the answers that were owed are written, all texts are on their way.
     all_sends : WritesAll b o l mid new None → (start : SinkTexts) → SpacesItems b o l old start []
         → SendsAll made before now start (texts_held o l (writing_behind new))
         (waiting_in new.texts.now) end
@@ -149,7 +151,7 @@ module _ {B O L : Type 0} (b : LineSpacer B) (o : Sink O) (l : Sink L)
           (holds-then b o l old mid new (Ok tt) gave.went wrote.keeps);
     }
 
-    -- a write of them failed
+    -- A write of the answers that were owed failed.
     pub drives_failed : (stop : Stop) → StopsWriting b o l mid new mid.owed None stop
         → DrivesLines b o l old new before now (Stopped stop)
     drives_failed stop wrote = record {
@@ -166,7 +168,7 @@ module _ {B O L : Type 0} (b : LineSpacer B) (o : Sink O) (l : Sink L)
       keeps = holds-then b o l old mid new (Err stop) gave.went wrote.keeps;
     }
 
--- what was sent whole was sent in part
+-- Texts that were sent whole were sent in part.
 fronts_of_all : (made : LineAndNotes) (before now : SinkTexts) (line : List Tick)
     → HasSent made before now line → HasSentFronts made before now line
 fronts_of_all made before now line sent = record {
@@ -187,10 +189,11 @@ fronts_of_all made before now line sent = record {
       (sym (append-nil _));
 }
 
--- What a run left as its input ended, and where the sinks come after it.
+-- For a run of the program: what it did up to the end of its input, and the sinks after it
+-- (`last`).
 module _ (made : LineAndNotes) (in_before in_now : Option (List ℕ)) (before now last : SinkTexts)
     (waits : Waiting) where
-  -- the texts of an end that is no stop are on their way
+  -- If the end is no stop, all texts are on their way.
   on_its_way : (end : End) → ((stop : Stop) → end ≡ Stopped stop → ⊥)
       → DrivesSpacer made in_before in_now before now waits end
       → SendsAll made in_before in_now before now waits end
@@ -200,7 +203,7 @@ module _ (made : LineAndNotes) (in_before in_now : Option (List ℕ)) (before no
   on_its_way (TooLong what count) other driven = driven
   on_its_way ReadFault other driven = driven
 
-  -- what waited failed
+  -- A write of the texts that still waited failed.
   pub finish_fails : (end : End) → ((stop : Stop) → end ≡ Stopped stop → ⊥)
       → DrivesSpacer made in_before in_now before now waits end
       → ((line : List Tick) → SendsTexts made waits before now line
@@ -216,7 +219,7 @@ module _ (made : LineAndNotes) (in_before in_now : Option (List ℕ)) (before no
             (sym (take-length sends.items)) (finish _ sends.texts);
       }
 
-  -- all was written, and the input was no whole one
+  -- All was written, and the input wasn't whole.
   pub refusal_spaces : (end : End) → ((stop : Stop) → end ≡ Stopped stop → ⊥) → (end ≡ Whole → ⊥)
       → DrivesSpacer made in_before in_now before now waits end
       → ((line : List Tick) → SendsTexts made waits before now line → HasSent made before last line)
@@ -239,7 +242,7 @@ module _ (made : LineAndNotes) (in_before in_now : Option (List ℕ)) (before no
     sent = finish _ driven.texts;
   }
 
-  -- all of a whole input was written, and the sinks flushed or not
+  -- All that a whole input makes was written, and the sinks were flushed or not.
   pub whole_spaces : (status : Status) → (status ≡ Done) ⊎ (status ≡ WriteFault)
       → DrivesSpacer made in_before in_now before now waits Whole
       → ((line : List Tick) → SendsTexts made waits before now line → HasSent made before last line)
@@ -261,7 +264,7 @@ module _ (made : LineAndNotes) (in_before in_now : Option (List ℕ)) (before no
             (fronts_of_all made before last (ticks_in driven.items) (finish _ driven.texts));
       })
 
--- no write had failed as the input ended
+-- If the end is no stop, no write had failed when the input ended.
 pub no_stop : (end : End) → ((stop : Stop) → end ≡ Stopped stop → ⊥)
     → is_write_fault (answer_of end) ≡ false
 no_stop Whole other = refl
@@ -270,7 +273,7 @@ no_stop (TooLong what count) other = refl
 no_stop ReadFault other = refl
 no_stop (Stopped stop) other = absurd (other stop refl)
 
--- neither way of ending is want of memory
+-- If the status is `Done` or `WriteFault`, it isn't `NoMemory`.
 pub whole_has_memory : (status : Status) → (status ≡ Done) ⊎ (status ≡ WriteFault)
     → status ≡ NoMemory → ⊥
 whole_has_memory status (inl done) none = let both : Done ≡ NoMemory = sym done ∙ none in cc

@@ -1,4 +1,4 @@
--- A spacer and its texts have taken a run: what that does to the consumer.
+-- What happens to the consumer when its spacer and its texts have taken a run.
 use Rattle.{device_model.specs.Frames.FrameRead, line_spacer.specs.Arrivals.arriving}
 use Rattle.line_spacer.specs.{Owing.still_read, Spacing.lost_of, Stands.AnswersSpaced}
 use Rattle.line_texts.proofs.Sending.{sends_more, sent_in_part}
@@ -23,13 +23,13 @@ use Rattle.yasir_ticks.{proofs.TickRuns.length-run_items, specs.TickRun.run_tick
 use Rattle.yasir_ticks.specs.{TickRun.run_items, Ticks.Item, Ticks.ticks_in, Ticks.Item.mark}
 use Rattle.yasir_ticks.specs.declared.{tick.Tick.Tick, tick_run.TickRun.TickRun}
 
--- the lines of frames that are lost in one step
+-- the lines for frames that are lost in one step
 lines_of_step : (step : ℕ) (lost : List FrameRead)
     → arrival_lines (map (arriving step) lost) ≡ lost_lines lost
 lines_of_step step [] = refl
 lines_of_step step (f ∷ lost) = ap (λ l. lost_line f ++ l) (lines_of_step step lost)
 
--- what a spacer answers to a run, as ticks and notes
+-- what a spacer answers to a run, as ticks and note lines
 pub spacing_noted : (reads : List Tick → List FrameRead) (gap : ℕ) (line run answer : List Tick)
     (step : ℕ) (lost : List FrameRead)
     → AnswersSpaced reads gap most_waiting line run answer step lost
@@ -43,7 +43,7 @@ spacing_noted reads gap line run answer step lost answers = record {
       (lines_of_step step lost);
 }
 
--- a mark is no tick of the line
+-- A mark isn't a tick of the line, so it changes nothing.
 pub spaces_at_mark : {B O L : Type 0} (b : LineSpacer B) (o : Sink O) (l : Sink L)
     (lines : SpacedLines B O L) (start : SinkTexts) (items : List Item)
     → SpacesItems b o l lines start items → SpacesItems b o l lines start (items ++ mark ∷ [])
@@ -55,7 +55,7 @@ spaces_at_mark b o l lines start items before = record {
   texts = before.texts;
 }
 
--- The spacer has given the answers to the first n of so many ticks that were owed.
+-- For a spacer that has given the answers to the first n of the `owed` ticks.
 module _ {B O L : Type 0} (b : LineSpacer B) (o : Sink O) (l : Sink L) (old new : SpacedLines B O L)
     (owed : ℕ) (read : Option ℕ) (n : ℕ) (answer : List Tick) (note : List ℕ)
     (owes : (line ticks : List Tick) → length ticks ≡ owed
@@ -65,7 +65,7 @@ module _ {B O L : Type 0} (b : LineSpacer B) (o : Sink O) (l : Sink L) (old new 
     (answers : (line ticks : List Tick) → length ticks ≡ owed
     → b.owes old.spacer.now line ticks (frames_of b o l old read)
     → AnswersNoted (spaced_texts b.reads b.gap) line (take n ticks) answer note) where
-  -- its texts have taken them
+  -- The texts have taken the answers.
   pub some_written : 0 < n → n ≤ owed → b.taken new.spacer.now ≡ b.taken old.spacer.now
       → b.lent new.spacer.now ≡ b.lent old.spacer.now
       → Pushes o l (writing_behind old) (writing_behind new) answer note (Ok tt)
@@ -85,7 +85,7 @@ module _ {B O L : Type 0} (b : LineSpacer B) (o : Sink O) (l : Sink L) (old new 
     keeps = keeps;
   }
 
-  -- a write failed
+  -- A write of the answers failed.
   pub some_stopped : (e : Failed)
       → Pushes o l (writing_behind old) (writing_behind new) answer note (Err e)
       → KeepsHeld o l old new (Err WriteFault) → StopsWriting b o l old new owed read WriteFault
@@ -104,7 +104,8 @@ module _ {B O L : Type 0} (b : LineSpacer B) (o : Sink O) (l : Sink L) (old new 
     keeps = keeps;
   }
 
--- The spacer has heard this many first ticks of a run. In the last of them this is read.
+-- For a spacer that has heard the first n ticks of a run. `read` says what was read in the last of
+-- them.
 module _ {B O L : Type 0} (b : LineSpacer B) (o : Sink O) (l : Sink L)
     (old heard : SpacedLines B O L) (run : TickRun) (n : ℕ) (read : Option ℕ)
     (some : 0 < n) (within : n ≤ length (run_ticks run))
@@ -124,7 +125,7 @@ module _ {B O L : Type 0} (b : LineSpacer B) (o : Sink O) (l : Sink L)
   few : n ≤ length (run_items run)
   few = omega (arith, within, length-run_items run)
 
-  -- they are the ticks of as many items
+  -- the first n ticks of the run are those of its first n items
   all : (items : List Item) (before : List Tick) → ticks_in items ≡ before
       → ticks_in (items ++ take n (run_items run)) ≡ before ++ given
   all items before are = ticks_in-append items (take n (run_items run))
@@ -150,7 +151,7 @@ module _ {B O L : Type 0} (b : LineSpacer B) (o : Sink O) (l : Sink L)
     sends = sends start line before.sends;
   }
 
-  -- nothing is read
+  -- Nothing was read, and no answer is written yet.
   pub none_read : read ≡ None → old.owed ≤ b.taken old.spacer.now
       → GivesFirst (spacing b o l) old heard (run_items run) n
   none_read none able = record {
@@ -175,7 +176,7 @@ module _ {B O L : Type 0} (b : LineSpacer B) (o : Sink O) (l : Sink L)
     };
   }
 
-  -- what was owed is written
+  -- The answers that were owed are written.
   pub read_written : (new : SpacedLines B O L) → WritesAll b o l heard new read
       → GivesFirst (spacing b o l) old new (run_items run) n
   read_written new wrote = record {
@@ -201,7 +202,7 @@ module _ {B O L : Type 0} (b : LineSpacer B) (o : Sink O) (l : Sink L)
     };
   }
 
-  -- a write failed
+  -- A write of the answers failed.
   pub read_stopped : (new : SpacedLines B O L) (stop : Stop)
       → StopsWriting b o l heard new heard.owed read stop
       → Gives (spacing b o l) old new (run_items run) (Err stop)
