@@ -1,4 +1,4 @@
--- Marked ticks, and silence behind them.
+-- The ticks of a link's period: those that are marked, and silence after them.
 use Rattle.delay_ring.{proofs.Marks.ticks-length, specs.DelayRing.marked_ticks}
 use Rattle.std.proofs.Common.{◌≡◌, ◌∙◌, ℕ, ◌+◌, ◌-◌, ◌≤◌, List, ◌++◌, length, take, drop, ap, sym}
 use Rattle.std.proofs.Common.{arith, min, append-nil, length-append, ⊎_elim}
@@ -14,13 +14,13 @@ module _ (marked len : ℕ) (ticks : List Tick) where
   abbrev A : List Tick
   A = take marked ticks
 
-  -- nothing is behind them
+  -- If all ticks are marked, no silence follows them.
   pub all-marked : marked ≡ len → A ++ silent (len - marked) ≡ take len ticks
   all-marked all =
       let none : len - marked ≡ 0 = omega (arith, all) in
       ap (λ n. A ++ silent n) none ∙ append-nil A ∙ ap (λ n. take n ticks) all
 
-  -- more silence
+  -- More silence follows.
   pub more-behind : (n : ℕ) → marked ≤ len
       → A ++ silent (len + n - marked) ≡ A ++ silent (len - marked) ++ silent n
   more-behind n within =
@@ -31,7 +31,7 @@ module _ (marked len : ℕ) (ticks : List Tick) where
     long : length A ≡ marked
     long = length-take-le marked ticks (omega (arith, within, room))
 
-    -- how many these are
+    -- how many ticks these are
     pub sent-long : length (A ++ silent (len - marked)) ≡ len
     sent-long =
         length-append A (silent (len - marked))
@@ -45,7 +45,7 @@ module _ (marked len : ℕ) (ticks : List Tick) where
         ∙ take-append-le n (drop at A) (silent (len - marked))
         (omega (arith, few, long, length-drop at A))
 
-    -- a place behind the marked ones
+    -- After the marked ticks there is only silence.
     behind : (n : ℕ) → drop (marked + n) (A ++ silent (len - marked))
         ≡ silent (len - marked - n)
     behind n =
@@ -63,7 +63,7 @@ module _ (marked len : ℕ) (ticks : List Tick) where
         ∙ ap (λ l. A ++ take n l) (drop_at A S marked long)
         ∙ ap (λ l. A ++ l) (take-replicate n (len - marked) Silent few)
 
-    -- the silence from a place on
+    -- From a place after the marked ticks on, all is silent.
     pub all-behind : (at : ℕ) → marked ≤ at → at ≤ len
         → take (len - at) (drop at (A ++ silent (len - marked))) ≡ silent (len - at)
     all-behind at beyond few =
@@ -76,7 +76,7 @@ module _ (marked len : ℕ) (ticks : List Tick) where
           length-replicate (len - at) Silent,
         ))
 
-    -- all from a place on is silent
+    -- If all from a place on is made silent, the ticks before it stay.
     pub cut-behind : (place m : ℕ) → place ≤ len → m ≡ min marked place
         → take m ticks ++ silent (len - m)
         ≡ take place (A ++ silent (len - marked))

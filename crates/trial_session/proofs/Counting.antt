@@ -1,4 +1,4 @@
--- What one more step counts, and a run.
+-- What a box counts in one more step, and in one more run.
 use Rattle.burst_walk.proofs.Longer.{length-line_of}
 use Rattle.burst_walk.specs.Answers.{AnswersTick, told_notes, note_in}
 use Rattle.burst_walk.specs.{Runs.AnswersRun, Walk.Walker, Walk.Noted, Walk.notes_of, Walk.line_of}
@@ -15,12 +15,12 @@ use Rattle.trial_session.specs.declared.fate.Fate.{Fate}
 use Rattle.trial_session.specs.declared.fate.Fate.TheVariants.{Through, Refused, Dropped}
 use Rattle.yasir_ticks.specs.declared.tick.Tick.{Tick}
 
--- 1 where there is a note that is told so, else 0
+-- 1 if there is a note for which `told` holds, else 0
 abbrev pub counted : {A : Type 0} → (A → Bool) → Option A → ℕ
 counted told None = 0
 counted told (Some note) = cond (told note) 1 0
 
--- Notes are told alike as they are and in brief.
+-- If `told` says of a note in brief what `p` says of the note, both count the same notes.
 pub tally-told : {N A : Type 0} (brief : N → A) (p : N → Bool) (told : A → Bool)
     → ((note : N) → p note ≡ told (brief note)) → (notes : List (Noted N))
     → tally told (told_notes brief notes) ≡ tally p notes
@@ -38,7 +38,7 @@ tally-in told m (Some note) =
     length-cond (told note) _ [] ∙ (let more : cond (told note) 1 0 + 0 ≡ cond (told note) 1 0 =
     omega arith in more)
 
--- one step more counts its note
+-- One more step counts its note.
 pub tally-step : {S N A : Type 0} (w : Walker S N) (brief : N → A) (begun : S) (line : List Tick)
     (t answer : Tick) (note : Option A) (p : N → Bool) (told : A → Bool)
     → ((n : N) → p n ≡ told (brief n)) → AnswersTick w brief begun line t answer note
@@ -55,7 +55,7 @@ tally-step w brief begun line t answer note p told agree answers =
     (tally-told brief p told agree (notes_of w begun line))
     ∙ ap (λ n. tally p (notes_of w begun line) + n) (tally-in told (length line) note)
 
--- a run without a note counts nothing
+-- A run without a note counts nothing.
 pub tally-run : {S N A : Type 0} (w : Walker S N) (brief : N → A) (begun : S)
     (line run answer : List Tick) (p : N → Bool) (told : A → Bool)
     → ((n : N) → p n ≡ told (brief n)) → AnswersRun w brief begun line run answer
@@ -65,7 +65,7 @@ tally-run w brief begun line run answer p told agree answers =
     ∙ ap (tally told) answers.notes
     ∙ tally-told brief p told agree (notes_of w begun line)
 
--- a run is answered with as many ticks
+-- The answer to a run has as many ticks as the run.
 pub run-long : {S N A : Type 0} (w : Walker S N) (brief : N → A) (begun : S)
     (line run answer : List Tick) → AnswersRun w brief begun line run answer
     → length answer ≡ length run
@@ -120,7 +120,7 @@ module _ {A : Type 0} (walking : Walking A) (fate_of : A → Fate) (counting : C
   abbrev begun : walking.State
   begun = walking.begun trial_setup
 
-  -- the bursts of a line that are counted so
+  -- Holds if `count` counts the bursts of a line with the fates for which `is` holds.
   abbrev Counts : (Fate → Bool) → (List Tick → ℕ) → Type 0
   Counts is count = (line : List Tick) → count line
       ≡ tally (λ n. is (fate_of (walking.brief n))) (full_notes walking trial_setup line)
@@ -129,7 +129,7 @@ module _ {A : Type 0} (walking : Walking A) (fate_of : A → Fate) (counting : C
   none-of is count counted_is = counted_is []
       ∙ ap (tally (λ n. is (fate_of (walking.brief n)))) (no-note walker begun)
 
-  -- Of no line nothing is counted.
+  -- Of an empty line nothing is counted.
   pub counts-nothing : CountsNothing counting
   counts-nothing = record {
     no_tick = counts.other_is [] ∙ no-tick walker begun;
@@ -147,7 +147,7 @@ module _ {A : Type 0} (walking : Walking A) (fate_of : A → Fate) (counting : C
         (λ n. is (fate_of (walking.brief n))) (λ a. is (fate_of a)) (λ n. refl) answers
         ∙ ap (λ k. k + counted (λ a. is (fate_of a)) note) (sym (counted_is line))
 
-    -- one step more counts the fate of its note
+    -- One more step counts the fate of its note.
     pub counts-step : CountsStep counting line t tick (told_by fate_of note)
     counts-step = record {
       tick_is = counts.other_is (line ++ t ∷ []) ∙ answers.tick
@@ -169,7 +169,7 @@ module _ {A : Type 0} (walking : Walking A) (fate_of : A → Fate) (counting : C
         (λ n. is (fate_of (walking.brief n))) (λ a. is (fate_of a)) (λ n. refl) answers
         ∙ sym (counted_is line)
 
-    -- a run counts nothing
+    -- A run without a note counts nothing.
     pub counts-run : CountsRun counting line run answer
     counts-run = record {
       long = run-long walker walking.brief begun line run answer answers;

@@ -1,4 +1,4 @@
--- One draw more.
+-- One more draw.
 use Rattle.std.proofs.Common.{◌≡◌, ◌∙◌, ℕ, zero, suc, ◌+◌, ◌%◌, List, [], ◌∷◌, ◌++◌, refl, ap, sym}
 use Rattle.std.proofs.Common.{map, arith, add_comm}
 use Rattle.{std.proofs.lemmas.List.map-append, trial_session.specs.Alterations.alteration_of}
@@ -28,7 +28,7 @@ bytes_drawn-more n x =
     ∙ map-append (λ d. d % 256) (draws n x) (drawn (state_after (suc n) x) ∷ [])
     ∙ ap (λ s. bytes_drawn n x ++ (drawn s % 256) ∷ []) (state_after-suc n x)
 
--- two parts of draws
+-- Draws in two parts: n more draws after m.
 pub state_after-add : (m n x : ℕ) → state_after (m + n) x ≡ state_after n (state_after m x)
 unfolding state_after
 state_after-add zero n x =
@@ -46,7 +46,7 @@ pub bytes_drawn-zero : (x : ℕ) → bytes_drawn 0 x ≡ []
 unfolding draws
 bytes_drawn-zero x = refl
 
--- the same by a state that a value stands at
+-- If a value holds the state after n draws, it gives the next byte that is drawn.
 pub drawn-more : (bytes : List ℕ) (n x state value next : ℕ) → state ≡ state_after n x
     → bytes ≡ bytes_drawn n x → next ≡ next_state state → value ≡ drawn next
     → bytes ++ (value % 256) ∷ [] ≡ bytes_drawn (n + 1) x
@@ -70,7 +70,7 @@ pub after-three : (x : ℕ) → state_after 3 x ≡ next_state (next_state (next
 unfolding state_after
 after-three x = refl
 
--- three draws that follow a state
+-- three draws in a row
 module _ (x one two three a b c : ℕ) (first : one ≡ next_state x) (second : two ≡ next_state one)
     (third : three ≡ next_state two) where
   pub one-is : one ≡ state_after 1 x

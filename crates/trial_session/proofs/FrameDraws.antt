@@ -6,7 +6,7 @@ use Rattle.trial_session.specs.DnpDrawn.{dnp_header, dnp_user, dnp_user_len, dnp
 use Rattle.trial_session.specs.Draws.{next_state, drawn, state_after, bytes_drawn, nth_drawn}
 use Rattle.trial_session.specs.RtuDrawn.{rtu_body, rtu_frame_len}
 
--- what is put into an empty frame
+-- An empty frame has the bytes that are put into it.
 pub rtu-filled : (items before more body : List ℕ) → items ≡ before ++ more → before ≡ []
     → more ≡ body → items ≡ body
 rtu-filled items before more body is none same = is ∙ ap (λ l. l ++ more) none ∙ same

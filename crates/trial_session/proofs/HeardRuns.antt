@@ -14,7 +14,7 @@ none-waits [] none = refl
 none-waits (b ∷ x) none = absurd (omega (arith, none))
 
 module _ {V : Type 0} (device : Device V) where
-  -- a run in which a frame is read at most in the last tick
+  -- A device hears a run. If it reads a frame, that is in the run's last tick.
   pub hears-run : (value next : Listening V) (line run front : List Tick)
       (frames : List FrameRead) (n : ℕ) → run ≡ front
       → device.stands next.device (line ++ run)
@@ -31,13 +31,13 @@ module _ {V : Type 0} (device : Device V) where
             ∙ sym (ap length reads ∙ length-append (device.reads line) frames);
       })
 
-  -- the same bytes by other names
+  -- Bytes that wait may be replaced by equal ones.
   pub hearing-as : (value : Listening V) (x y : List ℕ) (line : List Tick) → x ≡ y
       → IsHearing device value x line → IsHearing device value y line
   hearing-as value x y line same =
       subst (λ (l : List ℕ). IsHearing device value l line) same
 
-  -- no byte waits
+  -- If no byte waits, the device has heard all of its line.
   pub hears-all : (value : Listening V) (line : List Tick)
       → IsHearing device value [] line → HasHeard device value line
   hears-all value line so =
@@ -65,7 +65,7 @@ module _ {V : Type 0} (device : Device V) where
   }
 
 module _ {C N V : Type 0} (checks : LinkBox C N) (checking : Counting) (device : Device V) where
-  -- a run more is checked, and what the receiver makes of it is heard, or waits
+  -- One more run is checked, and what the receiver makes of it is heard, or waits.
   pub receives-run : (old new : Receiving C V) (before after : List ℕ)
       (link run answer : List Tick) → IsReceiving checks checking device old before link
       → ((l : List Tick) → HasTaken checks checking old.checking l
@@ -81,7 +81,7 @@ module _ {C N V : Type 0} (checks : LinkBox C N) (checking : Counting) (device :
             (hear (checking.other_line link) so.hears_line);
       }
 
-  -- no byte waits at first
+  -- If no byte waits, `HasReceived` gives `IsReceiving`.
   pub receives-none : (value : Receiving C V) (waiting : List ℕ) (link : List Tick)
       → waiting ≡ [] → HasReceived checks checking device value link
       → IsReceiving checks checking device value waiting link

@@ -1,9 +1,9 @@
--- Ticks up to a place, and silence behind it.
+-- Ticks up to a place, and silence after it.
 use Rattle.std.proofs.Common.{◌≡◌, ◌∙◌, ℕ, ◌-◌, List, ◌++◌, length, take, ap, sym, arith, min}
 use Rattle.std.proofs.{Common.⊎_elim, lemmas.Bool.cases_lt, lemmas.List.take_all}
 use Rattle.yasir_ticks.specs.{Ticks.silent, declared.tick.Tick.Tick}
 
--- a place behind the last tick is as good as the end
+-- A place after the last of 640 ticks has the same effect as the end.
 pub cut-off : (ticks : List Tick) (place from : ℕ) → length ticks ≡ 640 → from ≡ min place 640
     → take from ticks ++ silent (640 - from) ≡ take place ticks ++ silent (length ticks - place)
 cut-off ticks place from long is =

@@ -1,4 +1,4 @@
--- Bytes with marks that are written, and the ticks that they are.
+-- Bytes are written with their marks: which ticks they are then.
 use Rattle.delay_ring.proofs.Marks.{ticks-append, ticks-take, ticks-bytes, ticks-silent}
 use Rattle.delay_ring.proofs.Marks.{ticks-length, ticks-at, marked-silent, marked-byte}
 use Rattle.delay_ring.specs.DelayRing.{marked, marked_ticks}
@@ -12,7 +12,7 @@ use Rattle.trial_session.{proofs.SentRuns.take-some, specs.Alterations.changed}
 use Rattle.yasir_ticks.specs.Ticks.{silent}
 use Rattle.yasir_ticks.specs.declared.tick.Tick.{Tick, TheVariants.Silent, TheVariants.Byte}
 
--- what is written at a place, as far as it reaches
+-- What is written at a place `o` comes after the first `o` places.
 written : (o k : ℕ) (places x more : List ℕ) → o ≤ length places → length x ≡ k
     → take (o + k) (take o places ++ (x ++ more)) ≡ take o places ++ x
 written o k places x more within long =
@@ -31,7 +31,7 @@ module _ (o : ℕ) (bytes marks : List ℕ) (same : length bytes ≡ length mark
     length-take-le o marks (omega (arith, same, within)),
   )
 
-  -- bytes that are written with their marks
+  -- If bytes are written with marks of 1, these bytes are the ticks there.
   pub bytes-come : (x ones more less : List ℕ) → ones ≡ replicate (length x) 1
       → take (o + length x) (marked_ticks (take o bytes ++ (x ++ more))
       (take o marks ++ (ones ++ less)))
@@ -49,7 +49,7 @@ module _ (o : ℕ) (bytes marks : List ℕ) (same : length bytes ≡ length mark
       ∙ ap (λ l. take o (marked_ticks bytes marks) ++ marked_ticks x l) are
       ∙ ap (λ l. take o (marked_ticks bytes marks) ++ l) (ticks-bytes x)
 
-  -- marks of silence that are written
+  -- If marks of 0 are written, silent ticks are there.
   pub silence-comes : (k : ℕ) (zeros less : List ℕ) → zeros ≡ replicate k 0
       → o + k ≤ length bytes
       → take (o + k) (marked_ticks bytes (take o marks ++ (zeros ++ less)))
@@ -82,7 +82,7 @@ tick-set (x ∷ bytes) (k ∷ marks) (suc at) b m same within =
     ap (λ l. marked x k ∷ l)
     (tick-set bytes marks at b m (omega (arith, same)) (omega (arith, within)))
 
--- a byte of a tick that is written, and its mark stays
+-- A byte that has its mark is written, and the mark stays.
 pub byte-set : (bytes marks : List ℕ) (at b : ℕ) → length bytes ≡ length marks
     → at < length bytes
     → marked_ticks (slice_set bytes at b) marks
@@ -139,7 +139,7 @@ repeated len bytes marks byte_room mark_room all =
     ∙ joined
     ∙ ap (λ l. l ++ l) half
 
--- a mark of a part
+-- a mark in a part of the marks
 pub mark-at : (n o k : ℕ) (marks : List ℕ) → k < n
     → slice_index_or (take n (drop o marks)) k 0 ≡ slice_index_or marks (o + k) 0
 mark-at n o k marks few = get_or-take n (drop o marks) k 0 few ∙ get_or-drop o marks k 0
@@ -150,7 +150,7 @@ module _ (len : ℕ) (bytes marks : List ℕ) (byte_room : length bytes ≡ 640)
     abbrev T : List Tick
     T = marked_ticks bytes marks
 
-    -- the altered tick, by what stands at the place
+    -- what the altered ticks are, by the tick at the place
     altered-as : (new : List Tick) (t : Tick) → slice_index_or T place Silent ≡ t
         → new ≡ slice_set T place (changed value t)
         → new ≡ slice_set (take len T) place
@@ -165,7 +165,7 @@ module _ (len : ℕ) (bytes marks : List ℕ) (byte_room : length bytes ≡ 640)
     found = ticks-at bytes marks place (omega (arith, byte_room, within))
         (omega (arith, mark_room, within))
 
-    -- silence becomes a byte
+    -- A silent tick becomes a byte.
     pub silence-changed : slice_index_or marks place 0 ≡ 0
         → take len (marked_ticks (slice_set bytes place value) (slice_set marks place 1))
         ≡ slice_set (take len T) place (changed value (slice_index_or (take len T) place Silent))
@@ -178,7 +178,7 @@ module _ (len : ℕ) (bytes marks : List ℕ) (byte_room : length bytes ≡ 640)
         ∙ tick-set bytes marks place value 1 (byte_room ∙ sym mark_room)
         (omega (arith, byte_room, within)))
 
-    -- a byte has bits turned
+    -- Bits of a byte are turned.
     pub byte-changed : (slice_index_or marks place 0 ≡ 0 → ⊥)
         → take len (marked_ticks
         (slice_set bytes place (bit_xor (slice_index_or bytes place 0) value)) marks)

@@ -1,4 +1,4 @@
--- One period more of a session.
+-- One more period of a session.
 use Rattle.device_model.specs.declared.device.Device.{Ghosts as Device}
 use Rattle.link_box.specs.declared.box_trait.LinkBox.{Ghosts as LinkBox}
 use Rattle.std.proofs.Common.{◌≡◌, ◌∙◌, ℕ, zero, suc, ◌+◌, ◌*◌, ◌%◌, ◌≤◌, List, [], ◌++◌, length}
@@ -24,7 +24,7 @@ ticks-front n l more long =
     ∙ take-append-le period_len (drop (period_len * n) l) more (omega (arith, left, long))
 
 module _ (drawing : Drawing) (behind seed : ℕ) where
-  -- The first periods of a link don't depend on what follows them.
+  -- The first n periods of an altered link don't depend on what follows them.
   altered-front : (n : ℕ) (l more : List Tick) → period_len * n ≤ length l
       → altered_link drawing behind seed n (l ++ more) ≡ altered_link drawing behind seed n l
   unfolding altered_link

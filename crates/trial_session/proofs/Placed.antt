@@ -32,7 +32,7 @@ unfolding before_pause
 unpaused [] = refl
 unpaused (b ∷ f) = ap (λ l. Byte b ∷ l) (unpaused f)
 
--- these frames, the first of which begins at tick k, each in a period of its own
+-- the bursts of these frames, of which the first begins at tick k, each in a period of its own
 abbrev pub placed : ℕ → List (List ℕ) → List Burst
 placed k [] = []
 placed k (f ∷ fs) = record { start = k; body = map (λ b. Byte b) f } ∷ placed (k + 640) fs
@@ -42,7 +42,7 @@ length-placed k [] = refl
 length-placed k (f ∷ fs) = ap suc (length-placed (k + 640) fs)
 
 module _ (rules : Rules) where
-  -- each of these is a frame of at most 292 bytes
+  -- Holds if each of these is a frame of the protocol, of at most 292 bytes and not empty.
   abbrev pub AreFrames : List (List ℕ) → Type 0
   AreFrames [] = Unit {0}
   AreFrames (f ∷ fs) = (0 < length f) × (length f ≤ 292) × (rules.is_frame f ≡ true) × AreFrames fs
@@ -77,7 +77,7 @@ module _ (rules : Rules) where
       ∙ ap (λ ds. record { start = k; body = body } ∷ ds)
       (quiet ∙ ap (λ n. bursts_from 4 n rest) next ∙ bursts-placed (k + 640) fs are.3)
 
-  -- all bytes of a frame that stands at once are live
+  -- If the bytes of a frame come without silence between them, all of them are live.
   module _ (framed : IsFramed rules) (k : ℕ) (f : List ℕ) (is : rules.is_frame f ≡ true) where
     abbrev it : Burst
     it = record { start = k; body = map (λ b. Byte b) f }
@@ -114,7 +114,7 @@ module _ (rules : Rules) where
 -- ---- the frames of a session
 
 module _ (drawing : Drawing) (seed : ℕ) where
-  -- the frames of this many periods
+  -- the frames of the first n periods
   abbrev pub frames_drawn : ℕ → List (List ℕ)
   frames_drawn zero = []
   frames_drawn (suc n) = frames_drawn n ++ drawing.frame (state_at drawing seed n) ∷ []

@@ -1,4 +1,4 @@
--- Each frame of a session is sealed, and each that has passed is read.
+-- Each frame of a session is sealed, and each frame that has passed is read.
 use Rattle.device_model.specs.Frames.{FrameRead}
 use Rattle.line_rules.specs.{Rules.Rules, RulesLaws.IsLawful, RulesLaws.IsFramed}
 use Rattle.link_format.specs.Profile.{Profile, HasTags, trailer_len}

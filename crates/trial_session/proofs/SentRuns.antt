@@ -12,7 +12,7 @@ use Rattle.trial_session.specs.declared.{fate.Fate.Fate, side.Side.Side}
 use Rattle.yasir_ticks.specs.Ticks.{silent}
 use Rattle.yasir_ticks.specs.declared.tick.Tick.{Tick, TheVariants.Silent, TheVariants.Byte}
 
--- ---- lists by places
+-- ---- lists up to a place
 
 pub take-some : {A : Type 0} (at n : ℕ) (l : List A)
     → take (at + n) l ≡ take at l ++ take n (drop at l)
@@ -23,14 +23,14 @@ take-some {A} (suc at) n (x ∷ xs) =
     let on : suc at + n ≡ suc (at + n) = omega arith in
     ap (λ k. take k (x ∷ xs)) on ∙ ap (λ (r : List A). x ∷ r) (take-some at n xs)
 
--- ticks up to a place, and the next ones
+-- ticks up to a place, and the next n
 pub run-more : (at n : ℕ) (ticks rest before : List Tick) → rest ≡ drop at ticks
     → before ++ take at ticks ++ take n rest ≡ before ++ take (at + n) ticks
 run-more at n ticks rest before is =
     append_assoc before (take at ticks) (take n rest)
     ∙ ap (λ l. before ++ l) (ap (λ l. take at ticks ++ take n l) is ∙ sym (take-some at n ticks))
 
--- bytes up to a place, and the next ones
+-- bytes up to a place, and the next n
 pub bytes-more : (at n : ℕ) (bytes : List ℕ) (before : List Tick)
     → before ++ map (λ b. Byte b) (take at bytes)
     ++ map (λ b. Byte b) (take n (take (length bytes - at) (drop at bytes)))
@@ -50,7 +50,7 @@ silence-more at n before =
     ∙ ap (λ l. before ++ l) (replicate-append-replicate at n Silent)
 
 module _ {X N : Type 0} (line_box : LinkBox X N) (counting : Counting) where
-  -- a run that the box takes, of which nothing is counted
+  -- The box takes a run in which nothing is counted.
   pub passes-run : (side next : Side X) (line run front answer : List Tick) → run ≡ front
       → line_box.stands next.line_box (journal_floor next.journal) trial_setup (line ++ run)
       → next.through ≡ side.through → next.refused ≡ side.refused → next.dropped ≡ side.dropped
@@ -70,7 +70,7 @@ module _ {X N : Type 0} (line_box : LinkBox X N) (counting : Counting) where
         long = counts.long;
       })
 
-  -- a tick that the box takes, in whose step a burst may be counted
+  -- The box takes a tick in whose step a burst may be counted.
   pub sends-step : (side next : Side X) (line : List Tick) (t tick : Tick) (fate : Option Fate)
       → line_box.stands next.line_box (journal_floor next.journal) trial_setup (line ++ t ∷ [])
       → next.through ≡ side.through + through_in fate
@@ -91,14 +91,14 @@ module _ {X N : Type 0} (line_box : LinkBox X N) (counting : Counting) where
     answered = counts.tick_is;
   }
 
-  -- a run of no tick changes nothing
+  -- A run without ticks changes nothing.
   pub passes-none : (side : Side X) (line run answer : List Tick) → run ≡ []
       → HasPassed line_box counting side line run answer → HasTaken line_box counting side line
   passes-none side line run answer none passed =
       subst (HasTaken line_box counting side) (ap (λ l. line ++ l) none ∙ append-nil line)
       passed.sent.taken
 
-  -- one tick that is sent is a run
+  -- A single tick that is sent is a run.
   pub passes-tick : (next : Side X) (line : List Tick) (t answer : Tick) (run answers : List Tick)
       → run ≡ t ∷ [] → answers ≡ answer ∷ []
       → HasSent line_box counting next line (t ∷ []) (answer ∷ [])
@@ -110,7 +110,7 @@ module _ {X N : Type 0} (line_box : LinkBox X N) (counting : Counting) where
         long = refl;
       }))
 
-  -- the same answer by other names
+  -- Bytes of an answer may be replaced by equal ones.
   pub passes-as : (next : Side X) (line run : List Tick) (n : ℕ) (left items : List ℕ)
       → left ≡ items → HasPassed line_box counting next line run (answered n items)
       → HasPassed line_box counting next line run (answered n left)
@@ -126,7 +126,7 @@ module _ {X N : Type 0} (line_box : LinkBox X N) (counting : Counting) where
         ∙ sym (append-nil (counting.other_line line));
   }
 
-  -- a run more is sent
+  -- One more run is sent.
   pub sends-run : (side next : Side X) (line more run answer before after : List Tick)
       → HasSent line_box counting side line more before
       → ((l : List Tick) → HasTaken line_box counting side l → HasPassed line_box counting next l

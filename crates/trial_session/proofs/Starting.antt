@@ -9,12 +9,12 @@ use Rattle.std.specs.Prelude.{OnErr, IfOk, IfErr, IsOk}
 use Rattle.yasir_io.specs.{Causes.Rose, Disks.Slots}
 use Rattle.yasir_ticks.specs.Bursts.{bursts_from}
 
--- a call on a disk that never fails
+-- On a disk that never fails, a call doesn't fail.
 pub never-fails : {T E : Type 0} (result : Result T E) → OnErr result (Rose 0 0) → IsOk result
 never-fails (Ok x) rose = search
 never-fails (Err e) rose = absurd (omega arith)
 
--- a walk over no line
+-- A walk over an empty line has no note.
 pub no-note : {S N : Type 0} (w : Walker S N) (s : S) → notes_of w s [] ≡ []
 unfolding bursts_from
 no-note w s = refl
@@ -23,7 +23,7 @@ pub no-tick : {S N : Type 0} (w : Walker S N) (s : S) → line_of w s [] ≡ []
 unfolding bursts_from
 no-tick w s = refl
 
--- a new journal is made where no call fails and no slot holds a number
+-- A new journal is made if no call fails and no slot holds a number.
 pub is-made : (link : LinkId) (slots : Slots) (told : Option Slots)
     (result : Result Journal InitError)
     → greatest slots ≡ None → IfErr result (RefusesInit link (Some slots) told 0 0) → IsOk result

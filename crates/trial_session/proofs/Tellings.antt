@@ -1,4 +1,4 @@
--- What the numbers of a session's line say of one another, by protocol.
+-- What the numbers of a session's line say about one another, for each protocol.
 use Rattle.device_model.specs.{DnpReads.dnp_reads, RtuReads.rtu_reads}
 use Rattle.dnp_link_frame.specs.{Rules.dnp_rules, RulesLaws.dnp_lawful, RulesLaws.dnp_framed}
 use Rattle.link_format.specs.Profile.{Profile, HasTags, pause_len, trailer_len}

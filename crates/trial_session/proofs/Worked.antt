@@ -1,4 +1,4 @@
--- Draws, a frame, and what becomes of the link, by hand.
+-- Draws and alterations of a link, as small examples.
 use Rattle.std.proofs.Common.{◌≡◌, [], ◌∷◌, refl}
 use Rattle.yasir_ticks.specs.declared.tick.Tick.TheVariants.{Silent, Byte}
 use Rattle.trial_session.specs.Alterations.{altered, alteration_of}
@@ -10,7 +10,7 @@ first-draw : nth_drawn 1 0 ≡ 335903614
 unfolding state_after
 first-draw = refl
 
--- by scripts/trial_model.py
+-- the numbers that scripts/trial_model.py draws
 more-draws : draws 3 0 ≡ 335903614 ∷ 436792849 ∷ 2599843874 ∷ []
 unfolding draws
 more-draws = refl
