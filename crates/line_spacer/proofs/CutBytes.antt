@@ -90,7 +90,7 @@ filled capacity room lengths bytes frame frames few longest n is =
     let all : n ≡ length frame = grind (arith, is) in
     (all, ap (λ x. bytes ++ x) (take_all n frame (omega arith)))
 
--- With its length, no other length goes out.
+-- If fewer lengths are kept than may be, the new one displaces none.
 pub kept : (capacity : ℕ) (lengths frame : List ℕ) → length lengths < capacity
     → (n : ℕ) → n ≡ length frame
     → keep_last capacity (lengths ++ n ∷ []) ≡ lengths ++ length frame ∷ []

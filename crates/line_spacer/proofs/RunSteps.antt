@@ -93,7 +93,7 @@ module _ (gap m : ℕ) (accepted : List Burst) (ready : Bool) (size sent pause n
   waits is = subst (λ r. HasSent gap m accepted (unsent_of r sent frame) pause
       (with_next r frame queued)) is has
 
-  -- bytes of the frame that has begun leave
+  -- Bytes of the frame that has begun leave.
   pub bytes-go-on : ready ≡ false → sent + n ≤ size
       → SendsRun gap m accepted (unsent_of ready (sent + n) frame) pause
       (with_next ready frame queued) (answered n (take (sent + n - sent) (drop sent room)))

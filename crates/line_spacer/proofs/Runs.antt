@@ -173,7 +173,7 @@ answered-bytes n [] some = absurd (omega arith)
 answered-bytes n (b ∷ x) some = refl
 
 module _ (gap m : ℕ) (accepted : List Burst) where
-  -- bytes of the frame that has begun leave
+  -- Bytes of the frame that has begun leave.
   pub bytes-leave : (n : ℕ) (unsent : List ℕ) (pause : ℕ) (queued : List (List ℕ)) → 0 < n
       → n ≤ length unsent → HasSent gap m accepted unsent pause queued
       → SendsRun gap m accepted (drop n unsent) pause queued (answered n (take n unsent))
@@ -201,7 +201,7 @@ module _ (gap m : ℕ) (accepted : List Burst) where
       (idle-run gap accepted n m (subst Q nothing (subst P zero_rest has)))))
       (cases_lt 0 pause)
 
-  -- the first bytes of the next frame leave
+  -- The first bytes of the next frame leave.
   pub frame-leaves : (n : ℕ) (frame : List ℕ) (queued : List (List ℕ)) → 0 < n
       → n ≤ max (length frame) 1 → HasSent gap m accepted [] 0 (frame ∷ queued)
       → SendsRun gap m accepted (drop n frame) (rest_behind gap frame) queued

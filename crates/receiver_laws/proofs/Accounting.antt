@@ -1,5 +1,5 @@
--- Frames that passed and were sealed so are a subsequence of the sealed ones, since the numbers of
--- both rise.
+-- If numbers rise on both sides, the frames that passed and were sealed with their numbers are a
+-- subsequence of the sealed ones.
 use Rattle.line_rules.specs.{Rules.Rules, RulesLaws.IsLawful}
 use Rattle.link_format.specs.NumberedFrame.{NumberedFrame, numbers_of}
 use Rattle.{link_format.specs.Profile.Profile, receiver_laws.proofs.Subsequences.nothing-is}
@@ -27,7 +27,7 @@ other-number : (g f : NumberedFrame) → (g.number ≡ f.number → ⊥) → is_
 other-number g f other = and_left (g.number == f.number) (bytes_eq g.frame f.frame)
     (ne_eqb g.number f.number other)
 
--- a frame isn't among frames whose numbers are all greater
+-- A frame isn't among frames whose numbers are all greater.
 below-all : (frames : List NumberedFrame) (f : NumberedFrame) (m : ℕ) → f.number ≤ m
     → RiseFrom m (numbers_of frames) → is_among frames f ≡ false
 below-all [] f m below rise = refl
@@ -38,7 +38,7 @@ below-all (g ∷ frames) f m below rise =
     ∙ below-all frames f g.number (omega arith) rise.1
 
 module _ (g : NumberedFrame) (frames : List NumberedFrame) where
-  -- of frames with greater numbers none is the first one
+  -- If all of these frames have numbers greater than `g`, none of them is `g`.
   behind : (passed_ones : List NumberedFrame) (m : ℕ) → g.number ≤ m
       → RiseFrom m (numbers_of passed_ones)
       → rightly_passed (g ∷ frames) passed_ones ≡ rightly_passed frames passed_ones
@@ -53,7 +53,7 @@ module _ (g : NumberedFrame) (frames : List NumberedFrame) where
       else rightly_passed (g ∷ frames) passed_ones) here
       ∙ ap (λ l. if is_among frames f then f ∷ l else l) rest
 
--- ---- the frames that passed and were sealed so
+-- ---- the frames that passed and were sealed with their numbers
 
 same-pair : (g f : NumberedFrame) → g.number ≡ f.number → bytes_eq g.frame f.frame ≡ true
     → pair_of f ≡ pair_of g
@@ -70,7 +70,7 @@ module _ (g : NumberedFrame) (frames : List NumberedFrame)
     (rises : RiseFrom g.number (numbers_of frames))
     (part : (passed_ones : List NumberedFrame) (m : ℕ) → RiseFrom m (numbers_of passed_ones)
     → IsPart frames passed_ones) where
-  -- a frame that isn't among the sealed ones is left out
+  -- A frame that isn't among the sealed ones is left out.
   left-out : (f : NumberedFrame) (passed_ones : List NumberedFrame)
       → is_among (g ∷ frames) f ≡ false → IsPart (g ∷ frames) passed_ones
       → IsPart (g ∷ frames) (f ∷ passed_ones)
@@ -80,7 +80,7 @@ module _ (g : NumberedFrame) (frames : List NumberedFrame)
       else rightly_passed (g ∷ frames) passed_ones)) (pairs_of (g ∷ frames)) in
       subst P (sym not_there) is
 
-  -- the first sealed frame is the next that passed
+  -- The next frame that passed is the first sealed one.
   taken : (f : NumberedFrame) (passed_ones : List NumberedFrame) → g.number ≡ f.number
       → bytes_eq g.frame f.frame ≡ true → RiseFrom f.number (numbers_of passed_ones)
       → IsPart (g ∷ frames) (f ∷ passed_ones)
@@ -139,14 +139,14 @@ part-of (g ∷ frames) floor rises passed_ones m rise =
 
 -- ---- the law
 
--- the numbers of the frames that a transmitter seals of a line rise
+-- The numbers of the frames that a transmitter seals of a line rise.
 pub sealed-rise : (profile : Profile) (rules : Rules) → IsLawful rules → (floor : ℕ)
     (line : List Tick) → RiseFrom floor (numbers_of (sealed profile rules floor line))
 sealed-rise profile rules lawful floor line =
     subst (λ l. RiseFrom floor l) (sym (sealed-numbered profile rules lawful floor line).numbers)
     (range-rises floor (length (sealed profile rules floor line)))
 
--- numbers that rise on both sides suffice
+-- If numbers rise on both sides, the frames that passed are accounted for.
 pub rising-accounted : (seal_floor check_floor : ℕ) (sealed_ones passed_ones : List NumberedFrame)
     → RiseFrom seal_floor (numbers_of sealed_ones) → RiseFrom check_floor (numbers_of passed_ones)
     → IsAccountedFor seal_floor check_floor sealed_ones passed_ones

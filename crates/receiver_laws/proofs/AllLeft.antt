@@ -1,4 +1,5 @@
--- All has left of a link that has ended, once the delay and what its last burst lacks are over.
+-- After a link has ended, all has left once the delay is over, and one more tick for each byte that
+-- its last burst lacks.
 use Rattle.burst_walk.proofs.Emissions.{tick_at-none, laid-more}
 use Rattle.burst_walk.proofs.Spread.{AreSpread, EndBy, bursts-spread, bursts-end}
 use Rattle.burst_walk.proofs.Walks.{before-early}
@@ -23,7 +24,7 @@ use Rattle.yasir_ticks.specs.declared.tick.Tick.{Tick, TheVariants.Silent}
 
 -- ---- any causal walk
 
--- emissions that are dark from a tick on leave silence behind it
+-- If emissions are silent from a tick on, silence follows what is laid of them.
 laid-dark : (es : List Burst) (m k : ℕ) → ((i : ℕ) → m ≤ i → tick_at es i ≡ Silent)
     → laid (m + k) es ≡ laid m es ++ silent k
 laid-dark es m zero dark =
@@ -38,7 +39,7 @@ laid-dark es m (suc k) dark =
     ∙ ap (λ t. laid m es ++ t ∷ silent k) (dark m (omega arith)))))
 
 module _ {S N : Type 0} (w : Walker S N) (causal : IsCausal w) where
-  -- bursts that have ended are noted three ticks later at the latest
+  -- Four ticks after the end of the last burst, all bursts have been noted.
   all-noted : (s : S) (n m k : ℕ) (ds : List Burst) → AreSpread T3_5_TICKS n ds → EndBy m ds
       → m + T3_5_TICKS ≤ k → notes_before k (walked w s ds) ≡ walked w s ds
   all-noted s n m k [] spread ends late = refl
@@ -64,10 +65,11 @@ module _ (profile : Profile) (rules : Rules) (lawful : IsLawful rules) (headed :
   abbrev begun : CheckState
   begun = at_floor floor
 
-  -- the bursts of the link, what they emit, and their notes
+  -- what the bursts of the link emit
   abbrev es : List Burst
   es = emitted w begun (bursts link)
 
+  -- the notes of these bursts
   abbrev all : List (Noted FullNote)
   all = walked w begun (bursts link)
 
@@ -89,7 +91,7 @@ module _ (profile : Profile) (rules : Rules) (lawful : IsLawful rules) (headed :
 
   module _ (most : ℕ) (lack : LackAtMost rules most) (ticks : AreTicks link) (rest : ℕ)
       (long : delay profile + most ≤ rest) where
-    -- from some tick on nothing leaves
+    -- Once `rest` silent ticks have followed the link, nothing more leaves.
     dark : (i : ℕ) → length link + rest ≤ i → tick_at es i ≡ Silent
     dark i from =
         let bound : ℕ = length link + delay profile + most in
@@ -111,7 +113,7 @@ module _ (profile : Profile) (rules : Rules) (lawful : IsLawful rules) (headed :
           passes = passes-all (rest + more) (omega arith) ∙ sym (passes-all rest some);
         }
 
-    -- a device that reads only what passed reads all of it
+    -- If a device reads only what passed, it reads all of it once all has left.
     pub reads-all : (reads : List Tick → List FrameRead) (ends : ℕ)
         → ReadsWhatPassed rules reads ends profile floor link
         → (more : ℕ) → ends ≤ more

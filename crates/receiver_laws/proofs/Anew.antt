@@ -1,4 +1,4 @@
--- A device that begins its hunt anew after silence takes a burst as the hunt does.
+-- A device that hunts anew after silence takes contiguous ticks as the hunt does.
 use Rattle.device_model.proofs.{HuntSteps.timed-append, Hunts.hunt-none}
 use Rattle.device_model.specs.{Frames.FrameRead, Hunt.Timed, Hunt.timed, Hunt.hunt, Hunt.hunt_anew}
 use Rattle.{device_model.specs.HuntLaws.IsHunted, line_rules.specs.Rules.Rules}
@@ -19,8 +19,9 @@ use Rattle.yasir_ticks.specs.{Bursts.with_byte, Bursts.bursts_from, BurstsOf.IsC
 use Rattle.yasir_ticks.specs.{BurstsOf.one, BurstsOf.more, BurstsOf.StartsFrom, Ticks.silent}
 use Rattle.yasir_ticks.specs.declared.tick.Tick.{Tick, TheVariants.Silent, TheVariants.Byte}
 
--- Of contiguous ticks from tick n on, and others from tick m on, the first burst is these ticks
--- and a tail, which is nothing, or the first burst of the others with the silence before it.
+-- Holds if the first burst of the contiguous ticks `x` from tick n on, and the others from tick m
+-- on, is `x` and a tail. The tail is nothing, or the first burst of the others with the silence
+-- before it.
 record Joins (cut n m : ℕ) (x others : List Tick) : Type 0 where
   tail : List Tick
   later : List Burst
@@ -108,7 +109,8 @@ module _ (cut : ℕ) (wide : 2 ≤ cut) where
     unfolding bursts_from
     anew-none n = refl
 
-    -- the hunt over a tail is that over the burst that it is
+    -- The hunt over the tail, and then over the later bursts, reads what the device reads of the
+    -- others.
     tail-read : (m : ℕ) (others : List Tick) (n : ℕ) (x : List Tick)
         → (join : Joins cut n m x others)
         → hunts (timed m join.tail) ++ of_bursts join.later ≡ read m others
@@ -141,7 +143,7 @@ module _ (cut : ℕ) (wide : 2 ≤ cut) where
     unfolding bursts_from
     no-bursts n = refl
 
-    -- ticks that are broken off are one burst
+    -- Contiguous ticks that are broken off are one burst.
     anew-contiguous : (n : ℕ) (x : List Tick) → IsContiguous 2 x
         → read n x ≡ hunts (timed n x)
     anew-contiguous n x contiguous =

@@ -1,4 +1,4 @@
--- In contiguous ticks no silence is long.
+-- Contiguous ticks have no long silence.
 use Rattle.device_model.specs.RtuReads.{has_silence}
 use Rattle.std.proofs.Common.{◌≡◌, ◌∙◌, ℕ, zero, suc, ◌<◌, false, List, [], ◌∷◌, ◌++◌, refl, arith}
 use Rattle.yasir_ticks.specs.{BurstsOf.IsContiguous, BurstsOf.one, BurstsOf.more, Ticks.silent}

@@ -1,5 +1,5 @@
--- What a causal walk notes before the end of a line is settled, however the line goes on. So a
--- burst that the end cuts isn't noted.
+-- What a causal walk notes before the end of a line doesn't change when the line goes on. So a
+-- burst that the end cuts off isn't noted.
 use Rattle.burst_walk.proofs.Walks.{adds_one_tick, before-early, before-late}
 use Rattle.burst_walk.specs.Causal.{IsCausal}
 use Rattle.burst_walk.specs.Walk.{Walker, Noted, walked, notes_before, notes_at, notes_of}

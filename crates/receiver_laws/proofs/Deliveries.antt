@@ -18,7 +18,7 @@ use Rattle.yasir_ticks.specs.Bursts.{Burst, bursts, end_of}
 use Rattle.yasir_ticks.specs.{BurstsOf.AreBursts, Ticks.silent}
 use Rattle.yasir_ticks.specs.declared.tick.Tick.{Tick, TheVariants.Silent}
 
--- ---- bursts and length of a line determine it
+-- ---- the bursts of a line and its length determine it
 
 parts-length : (gap : ℕ) (x y : List Tick)
     → length (silent gap ++ (x ++ y)) ≡ gap + (length x + length y)
@@ -48,7 +48,7 @@ end-later : (m n : ℕ) (ds : List Burst) → m ≤ n → EndBy m ds → EndBy n
 end-later m n [] le ends = tt
 end-later m n (d ∷ ds) le ends = let end = ends.0 in (omega arith, end-later m n ds le ends.1)
 
--- what is laid of a line's bursts is the line, and silence after it
+-- Laid on a line, the bursts of `line` give `line` again, and silence after it.
 laid-line : (line : List Tick) (k m : ℕ) → length line + k ≡ m
     → laid m (bursts line) ≡ line ++ silent k
 laid-line line k m here =
@@ -146,7 +146,7 @@ module _ (profile : Profile) (tags : HasTags profile) (some : 1 ≤ profile.word
       (omega arith)
       is.not_above is.near is.numbers
 
-  -- What the receiver emits is what the line carries, as late as the receiver is.
+  -- The receiver emits what the device's line carries, later by the delay.
   pub untouched-emits : emitted (checker profile rules) (check_floor behind) (bursts link)
       ≡ map (later (delay profile)) ds
   untouched-emits =

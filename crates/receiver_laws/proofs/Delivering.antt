@@ -1,4 +1,4 @@
--- What the receiver makes of the packets of spaced frames: each passes, and leaves as it came.
+-- What the receiver makes of the packets of spaced frames: each passes and leaves as it came.
 use Rattle.burst_walk.proofs.{Spread.AreSpread, Spread.EndBy, Walks.before-early}
 use Rattle.burst_walk.specs.{Laid.later, Walk.Noted, Walk.walked, Walk.emitted, Walk.notes_before}
 use Rattle.frame_ending.proofs.{BurstSteps.live-le, LiveTicks.live_ticks-whole}
@@ -24,7 +24,7 @@ use Rattle.std.proofs.lemmas.{Bool.cases_Bool, List.append-nil, List.take_all}
 use Rattle.yasir_ticks.specs.{Bursts.Burst, Bursts.end_of, BurstsOf.IsContiguous, Ticks.bytes_in}
 use Rattle.yasir_ticks.specs.declared.tick.Tick.{Tick, TheVariants.Silent, TheVariants.Byte}
 
--- ---- what comes before a pause stays, whatever comes behind it
+-- ---- what comes before a pause stays, whatever follows the pause
 
 before_pause-trailing : (w : List Tick) (a : ℕ) (y : List Tick)
     → before_pause (ended w a ++ (Silent ∷ Silent ∷ y)) ≡ before_pause (ended w a)
@@ -93,7 +93,7 @@ module _ (profile : Profile) (tags : HasTags profile) (some : 1 ≤ profile.word
             within = within;
           })
 
-  -- ---- all of them
+  -- ---- all packets
 
   module _ (m last : ℕ) (after : m + pause_len + trailer_len profile ≤ last) where
     pub record PassesAll (s : CheckState) (floor : ℕ) (ds : List Burst) : Type 0 where

@@ -1,5 +1,5 @@
--- What the transmitter puts on the link is apart, so that each packet that ends within the link
--- is a burst of it.
+-- The emissions of the transmitter are apart, so each packet that ends within the link is a burst
+-- of it.
 use Rattle.burst_walk.proofs.LaidBursts.{bursts-laid}
 use Rattle.burst_walk.proofs.Spread.{AreSpread, EndBy, bursts-spread, bursts-end}
 use Rattle.burst_walk.specs.{Laid.laid, Laid.tick_at, Walk.emitted}
@@ -38,7 +38,8 @@ ends-late w a body v same short =
     let long = length-append (bytes_in parts.0) (a ∷ []) in
     omega arith
 
--- Ticks that begin as others do, which end with a byte, and have all their bytes have all of them.
+-- If ticks begin as `x` does, which ends with a byte, and have at least as many bytes as `x`, they
+-- are at least as long.
 long-enough : (x u body y : List Tick) (h : List ℕ) → IsContiguous 4 x → body ++ y ≡ x ++ u
     → bytes_in body ≡ h → length (bytes_in x) ≤ length h → length x ≤ length body
 long-enough x u body y h contiguous same spells few =
@@ -58,7 +59,7 @@ long-enough x u body y h contiguous same spells few =
     absurd (omega arith))
     (cases_lt (length last.0) (length body))
 
--- lists whose fronts are as long go on alike
+-- If two equal lists have fronts of the same length, what follows the fronts is equal too.
 behind-same : (a b x y : List Tick) → a ++ x ≡ b ++ y → length a ≡ length b → x ≡ y
 behind-same a b x y same long =
     sym (drop-append_seam a x)
@@ -76,7 +77,7 @@ module _ (profile : Profile) (tags : HasTags profile) (some : 1 ≤ profile.word
     (rules : Rules) (lawful : IsLawful rules) where
   -- ---- emissions are apart
 
-  -- a burst that isn't sealed, before others
+  -- A burst that is forwarded without a trailer, before others, is apart from them.
   plain-spread : (d : Burst) (m : ℕ) (es : List Burst) → IsContiguous 4 d.body → m ≤ d.start
       → ((k : ℕ) → k ≤ end_of d + 4 → AreSpread 4 k es)
       → AreSpread 4 m (record { start = d.start; body = live_ticks rules d ++ [] } ∷ es)
@@ -170,7 +171,7 @@ module _ (profile : Profile) (tags : HasTags profile) (some : 1 ≤ profile.word
     abbrev pub more : ℕ
     more = pause_len + trailer_len profile
 
-    -- the link, as long as the last trailer needs
+    -- the link, long enough for the last trailer
     abbrev pub longer : List Tick
     longer = laid (length line + more) its
 
@@ -196,7 +197,7 @@ module _ (profile : Profile) (tags : HasTags profile) (some : 1 ≤ profile.word
     pub link-length : length link ≡ length line
     link-length = length-map-range_with_len (λ i. tick_at its i) 0 (length line)
 
-    -- An emission that ends within the link is a burst of it, behind those before it.
+    -- An emission that ends within the link is a burst of it, after those before it.
     pub link-bursts : (P : List Burst) (e : Burst) (Q : List Burst) → its ≡ P ++ e ∷ Q
         → end_of e ≤ length link → (X : List Burst) × (bursts link ≡ P ++ e ∷ X)
     link-bursts P e Q is within =

@@ -1,5 +1,5 @@
--- What a device reads is a subsequence of what was sealed, where nothing is forged: over uptimes of
--- both boxes, and so in one of each.
+-- If nothing is forged, what a device reads is a subsequence of what was sealed: over any uptimes
+-- of both boxes, and so over one uptime of each.
 use Rattle.{device_model.specs.Frames.FrameRead, line_rules.specs.Rules.Rules}
 use Rattle.{line_rules.specs.RulesLaws.IsLawful, link_format.specs.NumberedFrame.NumberedFrame}
 use Rattle.{link_format.specs.Profile.Profile, link_verdicts.specs.Checking.passed}
@@ -18,7 +18,7 @@ use Rattle.std.proofs.Common.{subst, ⊎_elim, if◌then◌else◌}
 use Rattle.std.proofs.lemmas.{Bool.cases_Bool, List.map-append, List.append-nil}
 use Rattle.{std.specs.List.filter, yasir_ticks.specs.declared.tick.Tick.Tick}
 
--- where none is left out, all stay
+-- If no element is left out, all stay.
 pub all-stay : {X : Type 0} (test : X → Bool) (x : List X) → filter (λ a. not (test a)) x ≡ []
     → filter test x ≡ x
 all-stay test [] none_out = refl
@@ -46,7 +46,8 @@ bytes-paired : (frames : List NumberedFrame) → map (λ a. a.frame) (pairs_of f
 bytes-paired [] = refl
 bytes-paired (f ∷ frames) = ap (λ l. f.frame ∷ l) (bytes-paired frames)
 
--- where nothing is forged, the bytes of the passed frames are a subsequence of those sealed
+-- If nothing is forged, the bytes of the passed frames are a subsequence of those of the sealed
+-- ones.
 pub passed-sealed : (seal_floor check_floor : ℕ) (sealed_ones passed_ones : List NumberedFrame)
     → IsAccountedFor seal_floor check_floor sealed_ones passed_ones
     → forged sealed_ones passed_ones ≡ []
@@ -69,7 +70,7 @@ passed-sealed seal_floor check_floor sealed_ones passed_ones accounted unforged 
 module _ (rules : Rules) (lawful : IsLawful rules) (reads : List Tick → List FrameRead) (ends : ℕ)
     (profile : Profile) (passes : (floor : ℕ) (link : List Tick)
     → ReadsWhatPassed rules reads ends profile floor link) where
-  -- in one uptime of the receiver a front of what passed is read
+  -- In one uptime of the receiver, the device reads a front of what passed.
   reads-front : (floor : ℕ) (link : List Tick)
       → IsSubsequence (bytes_read (reads (received_line profile rules floor link)))
       (bytes_sealed (passed profile rules floor link))

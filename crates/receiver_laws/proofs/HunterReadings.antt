@@ -1,5 +1,5 @@
--- A device behind the receiver that hunts for frames reads only what passed: of what leaves, the
--- hunt takes each burst as a whole, and of a refused one it reads nothing.
+-- A device behind the receiver that hunts for frames reads only what passed: the hunt takes each
+-- burst that leaves as a whole, and reads nothing of a refused one.
 use Rattle.burst_walk.{proofs.Spread.AreSpread, proofs.Spread.bursts-spread, specs.Walk.emitted}
 use Rattle.device_model.proofs.Heads.{head-good, head-bad, good-long, good-header, header-more}
 use Rattle.device_model.proofs.HuntCases.{good-starts, good-room, good-size}
@@ -63,7 +63,8 @@ module _ (first second : ℕ) (rules : Rules) (headed : IsHeaded rules) (framed 
             ∙ (sym (good-size first second rules headed hunted x long good) ∙ framed.whole x is);
       }
 
-  -- a good header, filled up to its size, with its last byte spoiled
+  -- For bytes `x` with a good header: filled up to their size they are `h` and a last byte `a`,
+  -- which is then spoiled.
   module _ (x zeros h : List ℕ) (a : ℕ) (head : head_of rules x ≡ Good)
       (fits : length x ≤ rules.room x) (all : h ++ a ∷ [] ≡ x ++ zeros)
       (count : length zeros ≡ lacking_of rules x) where
@@ -116,7 +117,7 @@ module _ (first second : ℕ) (rules : Rules) (headed : IsHeaded rules) (framed 
               ∙ (ap rules.size same ∙ same_size);
         }
 
-    -- where the header is the frame, it is a bad one then
+    -- If the header is the whole frame, it is spoiled, and so a bad one.
     spoiled-header : length h < rules.header_len → IsTaken first second rules (h ++ last ∷ [])
     spoiled-header few =
         let w : List ℕ = h ++ last ∷ [] in
@@ -170,7 +171,7 @@ module _ (first second : ℕ) (rules : Rules) (headed : IsHeaded rules) (framed 
         subst P (sym (live_ticks-bytes rules d))
         (frame-taken (live_bytes rules d) (passed-passing profile rules s d n is).framed)
 
-    -- a refused burst has a good header
+    -- A refused burst has a good header.
     refused-head : (s : CheckState) (d : Burst) (why : RefusedWhy)
         → checked profile rules s d ≡ refused why
         → head_of rules (live_bytes rules d) ≡ Good
@@ -279,7 +280,7 @@ module _ (first second : ℕ) (rules : Rules) (headed : IsHeaded rules) (framed 
           (λ d. rules.is_frame (bytes_in d.body)) whole-frame (wrong-frame spoiling) floor (read 0)
           (link-read floor) link
 
-    -- the hunt itself
+    -- The hunt itself reads what passed.
     pub hunt_reads_what_passed : IsSpoiling rules → (floor : ℕ) (link : List Tick)
         → ReadsWhatPassed rules (hunt_line first second rules) 0 profile floor link
     hunt_reads_what_passed spoiling floor link =

@@ -1,5 +1,5 @@
--- A device that hunts reads what wholly leaves the receiver, where all that leaves is such as the
--- hunt takes together.
+-- If the hunt takes each burst that leaves the receiver as a whole, a device that hunts reads the
+-- frames among those that have wholly left.
 use Rattle.burst_walk.{proofs.LaidBursts.bursts-laid, proofs.Spread.AreSpread, specs.Laid.tick_at}
 use Rattle.{burst_walk.specs.Laid.laid, device_model.proofs.HuntCases.found-whole}
 use Rattle.device_model.proofs.{HuntCases.hunt-cut, Hunts.hunt-whole, Hunts.timed_bytes-length}
@@ -84,18 +84,18 @@ contiguous-front x (suc j) (more b gap rest few contiguous) short =
 
 -- ---- what leaves is taken together
 
--- The hunt takes all of these bytes together.
+-- Holds if the hunt takes all of these bytes together.
 pub record IsTaken (first second : ℕ) (rules : Rules) (x : List ℕ) : Type 0 where
   pub starts : begins first second x ≡ true
   pub whole : bytes_taken first second rules x ≡ length x
 
--- and so it does with those of each of these bursts
+-- Holds if the hunt takes the bytes of each of these bursts together.
 abbrev pub AreTaken : ℕ → ℕ → Rules → List Burst → Type 0
 AreTaken first second rules [] = Unit {0}
 AreTaken first second rules (d ∷ ds) =
     IsTaken first second rules (bytes_in d.body) × AreTaken first second rules ds
 
--- contiguous ticks begin with a byte
+-- Contiguous ticks begin with a byte.
 contiguous-first : (c : ℕ) (x : List Tick) → IsContiguous c x
     → (b : ℕ) × (y : List Tick) × (x ≡ Byte b ∷ y)
 contiguous-first c x (one b) = (b, [], refl)
@@ -109,7 +109,8 @@ module _ (first second : ℕ) (rules : Rules) (headed : IsHeaded rules) (framed 
   abbrev is_whole : Burst → Bool
   is_whole d = rules.is_frame (bytes_in d.body)
 
-  -- the hunt over ticks that begin with a byte, and whose bytes are taken together
+  -- If the hunt takes the bytes of these ticks together, it reads them if they are a frame, and
+  -- goes on after them.
   taken-from : (n b : ℕ) (y : List Tick) (z : List Timed)
       → IsTaken first second rules (b ∷ bytes_in y)
       → hunts (timed n (Byte b ∷ y) ++ z) ≡ frame_at rules n (b ∷ bytes_in y) ++ hunts z
@@ -135,7 +136,7 @@ module _ (first second : ℕ) (rules : Rules) (headed : IsHeaded rules) (framed 
       let step : P d.body = subst P (sym begin.2) (taken-from n begin.0 begin.1 z) in
       step taken ∙ ap (λ s. frame_at rules s (bytes_in d.body) ++ hunts z) (sym at)
 
-  -- nothing is read of a front of them
+  -- Of a front of such a burst the hunt reads nothing.
   cut-none : (n j : ℕ) (d : Burst) → IsContiguous 2 d.body → j < length d.body
       → IsTaken first second rules (bytes_in d.body) → hunts (timed n (take j d.body)) ≡ []
   cut-none n j d contiguous short taken =
@@ -158,7 +159,7 @@ module _ (first second : ℕ) (rules : Rules) (headed : IsHeaded rules) (framed 
       (ap (begins first second) front ∙ taken.starts)
       (ap (bytes_taken first second rules) front ∙ (taken.whole ∙ sym (ap length front)))
 
-  -- ---- a device that hunts, over what leaves
+  -- ---- a device that hunts, and the bursts that leave
 
   module _ (read : ℕ → List Tick → List FrameRead) (hunter : IsHunter first second rules read)
     where
@@ -173,7 +174,7 @@ module _ (first second : ℕ) (rules : Rules) (headed : IsHeaded rules) (framed 
       take-silence (suc k) (suc m) =
           let less = take-silence k m in (suc less.0, ap (λ x. Silent ∷ x) less.1)
 
-      -- this many ticks of a line that carries these bursts
+      -- what the device reads of the first k ticks of a line that carries these bursts
       hunter-walk : (ds : List Burst) (n k m : ℕ) (line : List Tick) → n + k ≡ m
           → AreBursts 2 n line ds → AreSpread 2 n ds → AreTaken first second rules ds
           → read n (take k line) ≡ frames_ended 0 is_whole m ds
@@ -244,7 +245,7 @@ module _ (first second : ℕ) (rules : Rules) (headed : IsHeaded rules) (framed 
           spread-from a b (e ∷ es) le spread =
               let from : b ≤ e.start = spread.0 in (omega arith, spread.1, spread.2)
 
-      -- It reads the frames among what has wholly left.
+      -- The device reads the frames among the bursts that have wholly left.
       pub hunter-laid : (m : ℕ) (es : List Burst) → AreSpread 2 0 es
           → AreTaken first second rules es
           → read 0 (laid m es) ≡ frames_ended 0 is_whole m es

@@ -1,5 +1,5 @@
--- The receiver's walk over packets beside the transmitter's over the bursts that they are of: each
--- finds the receiver free, and its number above the receiver's floor.
+-- The receiver's walk over packets and the transmitter's walk over the bursts of these packets,
+-- side by side: each packet finds the receiver free, with a number above the receiver's floor.
 use Rattle.burst_walk.proofs.{Spread.AreSpread, Walks.before-early}
 use Rattle.burst_walk.specs.Walk.{Noted, walked, emitted, notes_before, state_after}
 use Rattle.frame_ending.{proofs.LiveTicks.live_end-whole, specs.LiveBytes.live_bytes}
@@ -50,7 +50,7 @@ module _ (profile : Profile) (rules : Rules) where
   floor-step m s d (dropped why) notes last closed rest =
       ap (λ l. last_number s.floor l) (unnoted m (note_of d (dropped why)) notes refl) ∙ rest
 
-  -- by the time when all bursts are closed it is that of the state after them
+  -- Once all bursts are closed, the floor so far is that of the state after them.
   pub floor-so-far : (m : ℕ) (s : CheckState) (ds : List Burst) → AreClosed 4 m ds
       → last_number s.floor (frames_in (notes_before m (walked (checker profile rules) s ds)))
       ≡ (state_after (checker profile rules) s ds).floor
@@ -61,7 +61,7 @@ module _ (profile : Profile) (rules : Rules) where
       (state_after (checker profile rules) (state_by profile rules s d v) ds).floor closed.0
       (floor-so-far m (state_by profile rules s d v) ds closed.1)
 
-  -- all of each of these bursts, and what it lacks, has left by a tick
+  -- Holds if all of each of these bursts, and the bytes that it lacks, has left by tick b.
   abbrev pub HaveLeft : ℕ → List Burst → Type 0
   HaveLeft b [] = Unit {0}
   HaveLeft b (d ∷ ds) = (start_after profile rules d + owed rules d ≤ b) × HaveLeft b ds
@@ -91,7 +91,7 @@ module _ (profile : Profile) (rules : Rules) where
       omega arith
   floor-limit s d (unsealed why) is within = within
 
-  -- its floor stays within the limit
+  -- The transmitter's floor stays within the limit.
   pub floor-within : (s : SealState) (ds : List Burst) → s.floor ≤ profile.limit
       → (state_after (sealer profile rules) s ds).floor ≤ profile.limit
   floor-within s [] within = within
@@ -99,7 +99,7 @@ module _ (profile : Profile) (rules : Rules) where
       let j : Judgement = judged profile rules s d in
       floor-within (seal_by profile rules s d j) ds (floor-limit s d j refl within)
 
-  -- this burst is early, or sealed with a number above a floor
+  -- Holds if this burst is early, or sealed with a number above k.
   abbrev pub IsSealedAbove : ℕ → SealState → Burst → Type 0
   IsSealedAbove k s d = (judged profile rules s d ≡ unsealed Early)
       ⊎ ((n : ℕ) × (judged profile rules s d ≡ sealed_with n) × (k < n))
@@ -109,7 +109,8 @@ module _ (profile : Profile) (rules : Rules) where
   AreSealedAbove k s (d ∷ ds) = IsSealedAbove k s d
       × AreSealedAbove k (seal_by profile rules s d (judged profile rules s d)) ds
 
-  -- The first sealed one has the number after the transmitter's floor.
+  -- If each of these bursts is early or sealed with a number above k, and the burst after them is
+  -- sealed with such a number, the transmitter's floor before them isn't below k.
   pub first-above : (k : ℕ) (s : SealState) (ds : List Burst) (d : Burst) (n : ℕ)
       → AreSealedAbove k s ds
       → judged profile rules (state_after (sealer profile rules) s ds) d ≡ sealed_with n → k < n
@@ -132,15 +133,15 @@ module _ (profile : Profile) (rules : Rules) where
 
 -- ---- both side by side
 
--- The receiver isn't ahead of the transmitter: its floor isn't above, and where a burst may be
--- sealed that starts late enough, the receiver is free.
+-- Holds if the receiver isn't ahead of the transmitter: its floor isn't above the transmitter's,
+-- and from tick `late` on it is free whenever the transmitter may seal a burst.
 pub record InStep (late : ℕ) (t : SealState) (s : CheckState) : Type 0 where
   pub below : s.floor ≤ t.floor
   pub free : (x : ℕ) → late ≤ x → t.earliest_start ≤ x → s.earliest_start ≤ x
 
 module _ (profile : Profile) (tags : HasTags profile) (some : 1 ≤ profile.word_len)
     (rules : Rules) (lawful : IsLawful rules) (framing : IsFramed rules) where
-  -- the trailer of a packet
+  -- The trailer of a packet is that of its number and frame.
   packet-trailer : (n : ℕ) (d : Burst) (whole : IsContiguous 4 d.body)
       (none : has_extra rules d ≡ false)
       → trailer_of profile rules (packet profile rules n d)
@@ -154,7 +155,7 @@ module _ (profile : Profile) (tags : HasTags profile) (some : 1 ≤ profile.word
       ∙ (ap bytes_in (take_all (trailer_len profile) (byte_ticks bytes) (omega arith))
       ∙ bytes_in-byte_ticks bytes)
 
-  -- a packet that passes does so with its own number, or with a lower one of the same word
+  -- A packet can only pass with its own number, or with a lower one that has the same word.
   number-low : (s : CheckState) (n low : ℕ) (d : Burst) (whole : IsContiguous 4 d.body)
       (none : has_extra rules d ≡ false) → s.floor < n
       → checked profile rules s (packet profile rules n d) ≡ passed_with low → low ≤ n
@@ -172,7 +173,7 @@ module _ (profile : Profile) (tags : HasTags profile) (some : 1 ≤ profile.word
       let under = least.least n above refl in
       omega arith
 
-  -- no byte of a frame is lacking
+  -- A frame lacks no byte.
   frame-whole : (frame : List ℕ) → rules.is_frame frame ≡ true → lacking_of rules frame ≡ 0
   frame-whole frame framed =
       let size = framing.whole frame framed in
@@ -218,7 +219,7 @@ module _ (profile : Profile) (tags : HasTags profile) (some : 1 ≤ profile.word
           free = λ x from after. step.free x from (omega arith);
         }
 
-    -- so they stay over packets
+    -- The two boxes stay in step over packets.
     pub stay-in_step : (k n : ℕ) (t : SealState) (s : CheckState) (ds : List Burst)
         → AreSealedAbove profile rules k t ds → AreSpread 4 n ds → InStep late t s
         → InStep late (state_after (sealer profile rules) t ds)

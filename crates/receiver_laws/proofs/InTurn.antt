@@ -1,4 +1,5 @@
--- Frames that are numbered in turn: one is among them exactly where it stands at its place.
+-- Frames with consecutive numbers: a frame is among them exactly if it is the one at the place that
+-- its number says.
 use Rattle.std.proofs.Common.{◌≡◌, ◌∙◌, ℕ, zero, suc, ◌+◌, ◌<◌, ◌≤◌, Bool, true, false, ◌||◌}
 use Rattle.std.proofs.Common.{◌&&◌, List, [], ◌∷◌, length, get_or, refl, sym, ap, arith, nat_lt, ◌-◌}
 use Rattle.std.proofs.Common.{ne_eqb, eq-eqb, bytes_eq, ⊎_elim}
@@ -60,7 +61,7 @@ among-at floor (g ∷ frames) f d (suc i) turn at within =
     ∙ among-at (floor + 1) frames f d i (later-numbers floor g frames turn) (omega (arith, at))
     (omega (arith, within))
 
--- so one look at that place tells
+-- So a look at that one place tells.
 pub among-in-place : (floor : ℕ) (frames : List NumberedFrame) (f : NumberedFrame)
     → AreNumberedFrom floor frames
     → (nat_lt floor f.number && nat_lt (f.number - floor - 1) (length frames)

@@ -1,4 +1,4 @@
--- What passes of a longer link begins with what passes of the link.
+-- The frames that pass of a longer link begin with those of the link.
 use Rattle.burst_walk.specs.Longer.{Begins}
 use Rattle.line_rules.specs.{Rules.Rules, RulesLaws.IsLawful, RulesLaws.IsHeaded}
 use Rattle.{link_format.specs.Profile.Profile, link_verdicts.proofs.Causality.checker-extends}

@@ -1,4 +1,4 @@
--- The passed frames among the notes of a walk, burst by burst.
+-- The frames that have passed, taken from the notes of a walk.
 use Rattle.burst_walk.{proofs.Walks.before-early, proofs.Walks.before-late, specs.Walk.Noted}
 use Rattle.{burst_walk.specs.Walk.notes_before, link_format.specs.NumberedFrame.NumberedFrame}
 use Rattle.link_verdicts.specs.Checking.{FullNote, passed_in}
@@ -9,7 +9,7 @@ use Rattle.std.{proofs.lemmas.Bool.cases_lt, specs.List.cons_option, specs.List.
 abbrev pub frames_in : List (Noted FullNote) → List NumberedFrame
 frames_in notes = filter_map (λ n. passed_in n.note) notes
 
--- a note of a burst that doesn't pass
+-- If the burst of a note doesn't pass, the note adds no frame.
 pub unnoted : (m : ℕ) (n : Noted FullNote) (notes : List (Noted FullNote))
     → passed_in n.note ≡ None
     → frames_in (notes_before m (n ∷ notes)) ≡ frames_in (notes_before m notes)

@@ -1,5 +1,5 @@
 -- What passed in all uptimes of a receiver is accounted for by what was sealed in all uptimes of a
--- transmitter, and so it is of one uptime of each.
+-- transmitter. So it is for one uptime of each.
 use Rattle.line_rules.specs.{Rules.Rules, RulesLaws.IsLawful}
 use Rattle.link_format.specs.NumberedFrame.{NumberedFrame, numbers_of, last_number}
 use Rattle.{link_format.specs.Profile.Profile, link_verdicts.specs.Checking.passed}
@@ -16,14 +16,15 @@ use Rattle.std.proofs.Common.{◌≡◌, ◌∙◌, ℕ, ◌≤◌, List, [], �
 use Rattle.std.proofs.{Common.arith, lemmas.List.map-append, lemmas.List.append-nil}
 use Rattle.{yasir_io.specs.Disks.Slots, yasir_ticks.specs.declared.tick.Tick.Tick}
 
--- the last of the numbers is the number of the last frame
+-- The last of the numbers is the number of the last frame.
 last-is : (floor : ℕ) (frames : List NumberedFrame)
     → last_from floor (numbers_of frames) ≡ last_number floor frames
 last-is floor [] = refl
 last-is floor (f ∷ frames) = last-is f.number frames
 
 module _ (frames : ℕ → List Tick → List NumberedFrame) where
-  -- where numbers rise in each uptime, and the uptimes go on from one another, they rise over all
+  -- If numbers rise in each uptime, and the uptimes go on from one another, numbers rise over all
+  -- of them.
   rise-over : ((floor : ℕ) (line : List Tick) → RiseFrom floor (numbers_of (frames floor line)))
       → (floor : ℕ) (uptimes : List BoxUptime) → GoOnFrom frames floor uptimes
       → RiseFrom floor (numbers_of (frames_over frames uptimes))
@@ -39,7 +40,7 @@ module _ (frames : ℕ → List Tick → List NumberedFrame) where
       (rise-append uptime.floor (numbers_of first) (numbers_of later)
       (each uptime.floor uptime.line) rest))
 
-  -- uptimes that share a disk go on from each number that their slots have no floor below
+  -- If the slots have no floor below n, uptimes that share them go on from n.
   pub share-go_on : (link : LinkId) (begins : Slots) (n : ℕ) (uptimes : List BoxUptime)
       → HasNoFloorBelow link n begins → ShareDisk frames link begins uptimes
       → GoOnFrom frames n uptimes
@@ -61,7 +62,7 @@ module _ (frames : ℕ → List Tick → List NumberedFrame) where
 
 -- ---- the law over uptimes, and of one uptime on each side
 
--- an uptime alone; nothing is asked of what it left
+-- a single uptime, of which the image doesn't matter
 abbrev pub alone : ℕ → List Tick → List BoxUptime
 alone floor line = record {
   floor = floor;

@@ -20,7 +20,7 @@ use Rattle.std.specs.List.{Contains}
 use Rattle.yasir_ticks.specs.{Bursts.Burst, Bursts.bursts, Bursts.end_of, Ticks.silent}
 use Rattle.yasir_ticks.specs.declared.tick.Tick.{Tick, TheVariants.Byte}
 
--- a packet is all in the burst
+-- A whole packet ends within its burst.
 module _ (profile : Profile) (tags : HasTags profile) (rules : Rules) (s : CheckState) (d : Burst)
     (n : ℕ) (packet : IsPacket profile rules s d n) where
   abbrev bytes : List ℕ

@@ -1,4 +1,4 @@
--- What the transmitter makes of spaced frames: the packets of all of them.
+-- The transmitter makes of spaced frames the packets of all of them.
 use Rattle.burst_walk.proofs.{Spread.AreSpread, Spread.EndBy, Walks.before-early}
 use Rattle.burst_walk.specs.Walk.{Noted, walked, emitted, notes_before}
 use Rattle.frame_ending.proofs.LiveTicks.{live_ticks-whole}
@@ -18,7 +18,8 @@ use Rattle.yasir_ticks.proofs.BurstsOfLaws.{contiguous-more}
 use Rattle.yasir_ticks.specs.{Bursts.Burst, Bursts.end_of, BurstsOf.IsContiguous, Ticks.silent}
 use Rattle.yasir_ticks.specs.declared.tick.Tick.{Tick, TheVariants.Byte}
 
--- the packet of a frame with a number, and those of several with the numbers after a floor
+-- the packet of a frame with a number, and the packets of several frames with consecutive numbers
+-- after a floor
 abbrev pub packet : Profile → Rules → ℕ → Burst → Burst
 packet profile rules number d =
     forwarded rules d (trailing (trailer profile number (live_bytes rules d)))
@@ -28,7 +29,7 @@ packets profile rules floor [] = []
 packets profile rules floor (d ∷ ds) =
     packet profile rules (suc floor) d ∷ packets profile rules (suc floor) ds
 
--- ---- bytes that stand at once
+-- ---- bytes without silence between them
 
 pub contiguous-bytes : (c : ℕ) (bytes : List ℕ) (x : List Tick) → 0 < c → IsContiguous c x
     → IsContiguous c (x ++ map (λ b. Byte b) bytes)
@@ -119,7 +120,7 @@ module _ (profile : Profile) (tags : HasTags profile) (some : 1 ≤ profile.word
       ∙ ap (λ e. judge_by false false e (suc s.floor)) last))
 
   module _ (m last : ℕ) (after : m + 4 ≤ last) where
-    -- what a walk from a state on gives
+    -- what the transmitter emits from a state on, and the frames that it notes
     pub record SealsAll (s : SealState) (ds : List Burst) : Type 0 where
       pub emits : emitted (sealer profile rules) s ds ≡ packets profile rules s.floor ds
       pub notes : frames_in (notes_before last (walked (sealer profile rules) s ds))

@@ -1,4 +1,4 @@
--- Bursts of the parts of a line: of its front, and of what comes after the silent ticks that part
+-- The bursts of a part of a line: of its front, and of what comes after silent ticks that divide
 -- two bursts.
 use Rattle.{burst_walk.proofs.Spread.AreSpread, link_verdicts.proofs.Spoiled.contiguous-some}
 use Rattle.std.proofs.Common.{◌≡◌, ◌∙◌, ℕ, zero, suc, ◌+◌, ◌-◌, ◌<◌, ◌≤◌, List, [], ◌∷◌, ◌++◌}
@@ -11,9 +11,9 @@ use Rattle.yasir_ticks.specs.Bursts.{Burst, with_byte, bursts_from, end_of, AreC
 use Rattle.yasir_ticks.specs.{BurstsOf.StartsFrom, BurstsOf.AreBursts, Ticks.silent}
 use Rattle.yasir_ticks.specs.declared.tick.Tick.{Tick, TheVariants.Silent, TheVariants.Byte}
 
--- ---- two ways to part a list
+-- ---- two ways to divide a list
 
--- where the first part of one is at least as long, it begins with that of the other
+-- If a list is divided in two ways, the longer first part begins with the shorter one.
 pub same-front : {A : Type 0} (x y z w : List A) → x ++ y ≡ z ++ w → length z ≤ length x
     → (v : List A) × (x ≡ z ++ v) × (w ≡ v ++ y)
 same-front x y [] w same short = (x, refl, sym same)
@@ -40,7 +40,7 @@ silent-swap a b =
     let same : a + b ≡ b + a = omega arith in
     silent-add a b ∙ (ap (λ k. silent k) same ∙ sym (silent-add b a))
 
--- ---- behind the silent ticks that part two bursts
+-- ---- after the silent ticks that divide two bursts
 
 module _ (cut : ℕ) where
   with_byte-none : (n b : ℕ) (y : List Burst) → StartsFrom (suc n + cut) y
@@ -64,7 +64,8 @@ module _ (cut : ℕ) where
   starts-weaker n m [] le starts = tt
   starts-weaker n m (d ∷ ds) le starts = omega arith
 
-  -- Bursts on both sides of `cut` silent ticks are bursts of their own.
+  -- The bursts of a line with `cut` silent ticks in it are those before these ticks and those after
+  -- them.
   pub bursts-parted : (n m : ℕ) (x y : List Tick) → n + length x + cut ≡ m
       → bursts_from cut n (x ++ (silent cut ++ y)) ≡ bursts_from cut n x ++ bursts_from cut m y
   unfolding bursts_from
@@ -80,7 +81,7 @@ module _ (cut : ℕ) where
 
   -- ---- the front of a line
 
-  -- the bursts of a line that begins with silence
+  -- The bursts of a front of a line that begins with silence start after the silence.
   dark-starts : (c k m : ℕ) (v rest w : List Tick) → v ++ rest ≡ silent c ++ w → k + c ≡ m
       → StartsFrom m (bursts_from cut k v)
   unfolding bursts_from
@@ -113,7 +114,7 @@ module _ (cut : ℕ) where
       ∙ append_assoc (silent cut) (silent more) (q.body ++ are.1))))
       refl
 
-  -- a burst doesn't start before the line that it is of
+  -- A burst doesn't start before its line.
   starts-later : (n : ℕ) (line : List Tick) (P : List Burst) (e : Burst) (Q : List Burst)
       → AreBursts cut n line (P ++ e ∷ Q) → n ≤ e.start
   starts-later n line [] e Q are = let begins : e.start ≡ n + are.0 = are.3 in omega arith
@@ -180,7 +181,7 @@ module _ (cut : ℕ) where
         ),
       )
 
-  -- What comes before a burst has the bursts before it.
+  -- The ticks before a burst have the bursts before it.
   pub are-before : (n k : ℕ) (line : List Tick) (G : List Burst) (e : Burst) (Q : List Burst)
       → AreBursts cut n line (G ++ e ∷ Q) → n + k ≡ e.start → AreBursts cut n (take k line) G
   are-before n k line [] e Q are here =
@@ -222,7 +223,7 @@ module _ (cut : ℕ) where
       let rest = spread-later (end_of g + cut) G e Q spread.2 in
       omega arith
 
-  -- and they are closed when it starts
+  -- The bursts before a burst are closed when it starts.
   pub closed-before : (n : ℕ) (G : List Burst) (e : Burst) (Q : List Burst)
       → AreSpread cut n (G ++ e ∷ Q) → AreClosed cut e.start G
   closed-before n [] e Q spread = tt
@@ -231,7 +232,7 @@ module _ (cut : ℕ) where
     closed-before (end_of g + cut) G e Q spread.2,
   )
 
-  -- Of the bursts of a line the tick at which one starts tells which it is.
+  -- Two bursts of a line that start at the same tick are the same.
   pub same-burst : (n : ℕ) (G H : List Burst) (x y : Burst) (Q R : List Burst)
       → G ++ x ∷ Q ≡ H ++ y ∷ R → AreSpread cut n (G ++ x ∷ Q) → x.start ≡ y.start
       → (G ≡ H) × (x ≡ y)
@@ -254,14 +255,15 @@ module _ (cut : ℕ) where
       in
       (ap (λ d. d ∷ G) first ∙ ap (λ l. h ∷ l) rest.0, rest.1)
 
--- ---- which bursts are behind
+-- ---- which bursts come later
 
--- each of these bursts starts before tick m
+-- Holds if each of these bursts starts before tick m.
 abbrev pub StartBefore : ℕ → List Burst → Type 0
 StartBefore m [] = Unit {0}
 StartBefore m (d ∷ ds) = (d.start < m) × StartBefore m ds
 
--- A burst that starts later is none of the first ones.
+-- If the bursts of `A` start before tick m, and `e` doesn't, `A` is a front of the bursts before
+-- `e`.
 pub parted-by : (m : ℕ) (P : List Burst) (e : Burst) (X A B : List Burst) → P ++ e ∷ X ≡ A ++ B
     → StartBefore m A → m ≤ e.start → (M : List Burst) × (P ≡ A ++ M) × (B ≡ M ++ e ∷ X)
 parted-by m P e X [] B same before late = (P, refl, sym same)

@@ -1,4 +1,5 @@
--- A line in which silent ticks part two bursts, and which of its bursts stand where.
+-- A line in which silent ticks divide two bursts: which of its bursts are before them, and which
+-- after.
 use Rattle.burst_walk.proofs.Spread.{AreSpread, EndBy}
 use Rattle.link_verdicts.proofs.Spoiled.{contiguous-some}
 use Rattle.receiver_laws.proofs.Parting.{bursts-parted, StartBefore, take-append-add}
@@ -35,7 +36,7 @@ module _ (tick : ℕ) where
   abbrev from : ℕ
   from = first_quiet tick
 
-  -- how many ticks from the first quiet one up to this one
+  -- how many silent ticks there are, from the first one to this one
   abbrev pub count : ℕ
   count = tick + 1 - first_quiet tick
 
@@ -47,7 +48,7 @@ module _ (tick : ℕ) where
       silent-first count (drop from l) (omega arith)
       (λ i below. get_or-drop from l i Silent ∙ dark (from + i) (omega arith) (omega arith))
 
-  -- silent ticks are in a line up to this one, and these ticks behind them
+  -- For a line with silent ticks up to this one, and then the ticks `y`.
   module _ (l y : List Tick) (quiet : drop from l ≡ silent count ++ y) where
     abbrev front : List Tick
     front = take from l
@@ -72,7 +73,8 @@ module _ (tick : ℕ) where
         let some = ap length quiet ∙ quiet-long in
         omega arith
 
-    -- at the start of a line
+    -- The bursts are those before the silence and those after it, if it is at the start of the
+    -- line.
     line-first : from ≡ 0 → bursts l ≡ bursts front ++ bursts_from 4 (tick + 1) y
     line-first start =
         let all : 0 + count ≡ tick + 1 = omega arith in
@@ -84,7 +86,7 @@ module _ (tick : ℕ) where
         ∙ sym (ap (λ x. bursts x ++ bursts_from 4 (tick + 1) y) none
         ∙ ap (λ ds. ds ++ bursts_from 4 (tick + 1) y) no-bursts))
 
-    -- and behind four silent ticks
+    -- The bursts are those before the silence and those after it, if it is four ticks long.
     line-later : count ≡ 4 → bursts l ≡ bursts front ++ bursts_from 4 (tick + 1) y
     line-later four =
         let long = front-long in
@@ -110,7 +112,7 @@ module _ (tick : ℕ) where
         ∙ (ap (λ x. bursts (front ++ x)) (take-append_seam (silent count) y)
         ∙ bursts_from-silent_end 4 0 count front))))
 
-  -- what ended before them is closed after them
+  -- Bursts that ended before the silent ticks are closed after them.
   pub closed-by : (n : ℕ) (ds : List Burst) → AreSpread 4 n ds → EndBy from ds
       → AreClosed 4 (tick + 1) ds
   closed-by n [] spread ends = tt

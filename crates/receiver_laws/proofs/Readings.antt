@@ -86,8 +86,8 @@ module _ (profile : Profile) (rules : Rules) where
   abbrev pub wrong : Burst → Burst
   wrong d = delayed profile d (spoiled rules [] (filled_ticks rules d))
 
-  -- A device reads what is whole by this test, this many ticks after its end: what leaves of a
-  -- passed burst is whole, and what leaves of a refused one isn't.
+  -- For a device that reads a burst `ends` ticks after its end if it is whole by this test: what
+  -- leaves of a passed burst is whole, and what leaves of a refused one isn't.
   module _ (lawful : IsLawful rules) (ends : ℕ) (near : ends ≤ delay profile)
       (is_whole : Burst → Bool)
       (passes : (s : CheckState) (d : Burst) (n : ℕ) → IsContiguous 4 d.body
@@ -112,7 +112,7 @@ module _ (profile : Profile) (rules : Rules) where
       abbrev told_now : Verdict → List FrameRead
       told_now v = told (notes_before m (note_of s d v ∷ notes))
 
-      -- Both lists have the frame of a passed burst, once it is read.
+      -- Once a passed burst has been read, its frame is in both lists.
       ended-both : (n : ℕ) → checked profile rules s d ≡ passed_with n
           → end_of (whole d) + ends ≤ m
           → (read_now (passed_with n) ≡ frame_in (whole d) ∷ read_by m more)
@@ -124,7 +124,7 @@ module _ (profile : Profile) (rules : Rules) where
                 ∙ ap (λ f. f ∷ told (notes_before m notes)) (sym (frame-is d n)),
           )
 
-      -- Neither has one of any other.
+      -- A refused burst adds no frame to either list.
       refused-both : (why : RefusedWhy) → checked profile rules s d ≡ refused why
           → (read_now (refused why) ≡ read_by m more)
           × (told_now (refused why) ≡ told (notes_before m notes))

@@ -74,7 +74,8 @@ module _ (profile : Profile) (rules : Rules) (lawful : IsLawful rules) (most : �
       let few = lack.lack (live_bytes rules d) bytes room in
       (omega arith, have-left m ds ends.1 on.5)
 
-  -- what the receiver makes of the front of a link has left soon after it
+  -- If bursts of a link end by tick `from`, what the receiver makes of them has left after the
+  -- delay and `most` more ticks.
   pub left-by : (from : ℕ) → length l ≡ from
       → HaveLeft profile rules (from + delay profile + most) (bursts l)
   left-by from long =
@@ -95,25 +96,25 @@ module _ (profile : Profile) (tags : HasTags profile) (some : 1 ≤ profile.word
   abbrev frames : List NumberedFrame
   frames = all_sealed profile rules seal_floor line
 
-  -- the first silent tick
+  -- the first of the silent ticks
   abbrev from : ℕ
   from = first_quiet tick
 
-  -- what is on the link behind the silent ticks
+  -- what is on the link after the silent ticks
   abbrev back : List Tick
   back = drop (count tick) (drop from link)
 
   abbrev begun : SealState
   begun = seal_floor_at seal_floor
 
-  -- the receiver's floor where the link is left alone
+  -- the receiver's floor when the link is left alone
   abbrev low : ℕ
   low = floor_after profile rules check_floor (take (tick + 1) link)
 
   abbrev late-bursts : List Burst
   late-bursts = bursts_from 4 (tick + 1) back
 
-  -- each sealed frame is of a burst of the line
+  -- Each sealed frame belongs to a burst of the line.
   of-line : (f : NumberedFrame) → Contains frames f → IsOf profile rules begun (bursts line) f
   of-line f there =
       let P : List Burst → Type 0 = λ ds. IsOf profile rules begun ds f in
@@ -126,7 +127,8 @@ module _ (profile : Profile) (tags : HasTags profile) (some : 1 ≤ profile.word
   abbrev IsNew : Burst → Type 0
   IsNew e = (tick < e.start) × BeginsPacket frames e
 
-  -- a burst of the line that sends a packet is the one that is sealed
+  -- If a burst of the line starts where a new packet does, it is sealed with a number above the
+  -- receiver's floor.
   sealed-here : (G : List Burst) (x : Burst) (Q : List Burst) (e : Burst)
       → bursts line ≡ G ++ x ∷ Q → e.start ≡ x.start → IsNew e
       → (n : ℕ) × (judged profile rules (state_after (sealer profile rules) begun G) x
@@ -206,7 +208,7 @@ module _ (profile : Profile) (tags : HasTags profile) (some : 1 ≤ profile.word
       abbrev n : ℕ
       n = f.number
 
-      -- the transmitter before it
+      -- the transmitter's state before the burst of the packet
       abbrev before : SealState
       before = state_after (sealer profile rules) begun of-burst.front
 
@@ -224,11 +226,11 @@ module _ (profile : Profile) (tags : HasTags profile) (some : 1 ≤ profile.word
       starts : f.start ≡ d.start
       starts = ap (λ (g : NumberedFrame). g.start) of-burst.frame
 
-      -- what is sent before it
+      -- what is sent before the packet
       abbrev sent-before : List Burst
       sent-before = emitted (sealer profile rules) begun of-burst.front
 
-      -- what the line sends after it
+      -- what is sent after the packet
       abbrev sent-after : List Burst
       sent-after = emitted (sealer profile rules)
           (seal_by profile rules before d (sealed_with n)) of-burst.back
@@ -247,12 +249,12 @@ module _ (profile : Profile) (tags : HasTags profile) (some : 1 ≤ profile.word
           stands-within profile tags some rules lawful seal_floor line sent-before sent-after d n
           sends whole its.no_extra (subst P of-burst.frame due.whole)
 
-      -- its packet is a burst of what is sent
+      -- The packet is a burst of what is sent.
       sent-bursts : (X : List Burst) × (bursts sent ≡ sent-before ++ e ∷ X)
       sent-bursts = link-bursts profile tags some rules lawful seal_floor line sent-before e
           sent-after sends ends
 
-      -- so the link is longer than up to the silent ticks
+      -- So the link goes on after the silent ticks.
       late-enough : tick < f.start
       late-enough = let late = due.late in omega arith
 
@@ -272,7 +274,8 @@ module _ (profile : Profile) (tags : HasTags profile) (some : 1 ≤ profile.word
       quiet-sent : drop from sent ≡ silent (count tick) ++ back
       quiet-sent = sym alone.untouched ∙ quiet-link
 
-      -- the part of it that comes late
+      -- What is sent before the packet has two parts: from before the silent ticks, and from after
+      -- them.
       parted : (M : List Burst) × (sent-before ≡ bursts (take from sent) ++ M)
           × (late-bursts ≡ M ++ e ∷ sent-bursts.0)
       parted =
@@ -289,7 +292,7 @@ module _ (profile : Profile) (tags : HasTags profile) (some : 1 ≤ profile.word
       abbrev between : List Burst
       between = parted.0
 
-      -- and the bursts of the device's line that it is of
+      -- The bursts of the device's line before it have two parts that emit these.
       emits : Emits profile rules begun of-burst.front (bursts (take from sent)) between
       emits = emits-parted profile rules begun of-burst.front (bursts (take from sent)) between
           parted.1
@@ -387,7 +390,7 @@ module _ (profile : Profile) (tags : HasTags profile) (some : 1 ≤ profile.word
           (front-long tick link back quiet-link)) in
           record { below = omega arith; free = λ x late after. omega arith }
 
-      -- the bursts of the link before it, and the receiver then
+      -- the bursts of the link before the packet, and the receiver's state after them
       abbrev bursts-before : List Burst
       bursts-before = first ++ between
 

@@ -1,4 +1,5 @@
--- What a receiver of the other direction makes of a reflected link: burst by burst of the device.
+-- What a receiver of the other direction makes of a reflected link, for each burst of the device's
+-- line.
 use Rattle.burst_walk.proofs.Spread.{AreSpread, bursts-spread}
 use Rattle.burst_walk.proofs.Walks.{before-early, before-late}
 use Rattle.burst_walk.specs.Walk.{Noted, noted, walked, emitted, notes_before, notes_of}
@@ -105,7 +106,7 @@ module _ (profile : Profile) (rules : Rules) where
 -- ---- what passes of a walk, burst by burst
 
 module _ (profile : Profile) (rules : Rules) (R : NumberedFrame → Type 0) (m : ℕ) where
-  -- all that pass of these bursts, from a state on, are such
+  -- Holds if all frames that pass of these bursts, from a state on, have the property `R`.
   abbrev AllPassed : CheckState → List Burst → Type 0
   AllPassed c es = All R (frames_in (notes_before m (walked (checker profile rules) c es)))
 
@@ -164,7 +165,7 @@ module _ (profile : Profile) (other : ℕ → List ℕ → List ℕ) (rules : Ru
   abbrev mirror : Profile
   mirror = with_tags profile other
 
-  -- What is forwarded without a trailer doesn't pass.
+  -- A burst that is forwarded without a trailer doesn't pass.
   plain-stays : (c : CheckState) (d : Burst) (n : ℕ) → IsContiguous 4 d.body
       → IsPassing mirror rules c (forwarded rules d []) n → ⊥
   plain-stays c d n whole passing =
@@ -214,7 +215,7 @@ module _ (profile : Profile) (other : ℕ → List ℕ → List ℕ) (rules : Ru
           let few : length word ≡ profile.word_len = omega arith in
           ap (λ k. drop k (word ++ tag)) (sym few) ∙ drop-append_seam word tag
 
-      -- a packet that passes does so by tags that match
+      -- If a packet passes, its tags match.
       matches : (c : CheckState) (number : ℕ) → IsPassing mirror rules c e number
           → TagsMatch profile other n number frame
       matches c number passing =
@@ -234,7 +235,7 @@ module _ (profile : Profile) (other : ℕ → List ℕ → List ℕ) (rules : Ru
                 ∙ (sym passing.tagged ∙ (ap (λ x. tag_in mirror x) trailer-is ∙ tag-is));
           }
 
-      -- It is noted with the last tick of the packet.
+      -- A packet that passes has ended when it is noted.
       ends-noted : (c : CheckState) (number m : ℕ) → IsPassing mirror rules c e number
           → note_tick mirror rules e (passed_with number) < m → end_of e ≤ m
       ends-noted c number m passing early =
@@ -291,7 +292,8 @@ module _ (profile : Profile) (other : ℕ → List ℕ → List ℕ) (rules : Ru
             match_tags = matches d n whole none c number passing;
           })
 
-      -- each sealed frame of these bursts, as far as it is noted within the link, is among them
+      -- Holds if each frame that is sealed of these bursts, and noted within the link, is one of
+      -- `all`.
       abbrev Among : SealState → List Burst → Type 0
       Among s ds = (f : NumberedFrame)
           → Contains (sealed_frames

@@ -1,4 +1,4 @@
--- The passed frames of a link: their numbers rise, and each stood on the link.
+-- The numbers of the passed frames of a link rise, and each of these frames is on the link.
 use Rattle.burst_walk.proofs.Walks.{before-early, before-late}
 use Rattle.burst_walk.specs.Walk.{Noted, walked, notes_before}
 use Rattle.line_rules.specs.{Rules.Rules, RulesLaws.IsLawful}
@@ -63,7 +63,7 @@ module _ (profile : Profile) (rules : Rules) where
       rise-step m s d (walked (checker profile rules) (next s d) ds) (checked profile rules s d)
       refl (rise-walk m (next s d) ds)
 
-  -- ---- what holds of each burst that passes holds of each frame
+  -- ---- what holds for each burst that passes holds for each frame
 
   module _ (P : NumberedFrame → Type 0) (m : ℕ) where
     each-step : (s : CheckState) (d : Burst) (notes : List (Noted FullNote)) (v : Verdict)

@@ -1,5 +1,5 @@
--- What the transmitter puts on the link, burst by burst: its packets are apart, and which of the
--- device's bursts are sealed.
+-- What the transmitter makes of each burst of the device's line: which bursts are sealed, and what
+-- they emit.
 use Rattle.burst_walk.proofs.Walks.{before-early, before-late}
 use Rattle.burst_walk.specs.Walk.{Noted, walked, emitted, notes_before, state_after}
 use Rattle.frame_ending.specs.LiveBytes.{live_bytes, has_extra}
@@ -38,8 +38,8 @@ spent-late : (early wrong last : Bool) (number : ℕ)
 spent-late true wrong last number is = cc
 spent-late false wrong last number is = refl
 
--- A burst that is sealed: it isn't early, all its bytes are live and are a frame, and its number is
--- the next one.
+-- What holds for a burst that is sealed: it isn't early, all its bytes are live and are a frame, a
+-- number is left, and its number is the next one.
 pub record IsSealed (profile : Profile) (rules : Rules) (s : SealState) (d : Burst) (n : ℕ) :
     Type 0 where
   pub late : s.earliest_start ≤ d.start
@@ -71,7 +71,7 @@ module _ (profile : Profile) (rules : Rules) where
         next = parts.3;
       }
 
-  -- what is forwarded starts late enough
+  -- A burst that is forwarded starts late enough.
   pub form-from : (s : SealState) (d : Burst) → judged profile rules s d ≡ unsealed Form
       → s.earliest_start ≤ d.start
   form-from s d is = ltb-false d.start s.earliest_start
@@ -84,9 +84,9 @@ module _ (profile : Profile) (rules : Rules) where
       (spent-late (nat_lt d.start s.earliest_start) (wrong d) (s.floor == profile.limit)
       (suc s.floor) (sym (judged-is profile rules s d) ∙ is))
 
-  -- ---- which burst a sealed frame is of
+  -- ---- which burst a sealed frame belongs to
 
-  -- A sealed frame is of a burst among these, at whose place the walk seals it.
+  -- A sealed frame belongs to one of these bursts, which the walk seals at its place.
   pub record IsOf (s : SealState) (ds : List Burst) (f : NumberedFrame) : Type 0 where
     pub front : List Burst
     pub burst : Burst
@@ -165,7 +165,8 @@ module _ (profile : Profile) (rules : Rules) where
   emission-one d (unsealed Form) = inr (forwarded rules d [], refl, refl)
   emission-one d (unsealed Spent) = inr (forwarded rules d [], refl, refl)
 
-  -- What these bursts emit, in two parts, comes from two parts of them.
+  -- Holds if the emissions of these bursts have the parts `A` and `M`, and each part comes from a
+  -- part of the bursts.
   pub record Emits (s : SealState) (ds A M : List Burst) : Type 0 where
     pub front : List Burst
     pub back : List Burst

@@ -1,5 +1,5 @@
--- What is read of a line doesn't change as the line goes on, and so it is what is read of the
--- emissions that are laid on it.
+-- What is read of a line doesn't change when the line goes on. So what is read of a line on which
+-- emissions are laid is what is read of the emissions.
 use Rattle.burst_walk.proofs.{Emissions.laid-more, LaidBursts.bursts-laid}
 use Rattle.burst_walk.proofs.Spread.{AreSpread, EndBy, bursts_from-end}
 use Rattle.burst_walk.specs.Laid.{tick_at, laid}
@@ -15,8 +15,8 @@ use Rattle.yasir_ticks.proofs.BurstLaws.{bursts_from-silent}
 use Rattle.yasir_ticks.specs.{Bursts.Burst, Bursts.bursts_from, Bursts.end_of, Ticks.silent}
 use Rattle.yasir_ticks.specs.declared.tick.Tick.{Tick, TheVariants.Silent, TheVariants.Byte}
 
--- What a device reads of a line, for which `cut` silent ticks end a burst, and `pause` silent ticks
--- together make that it is no frame. The RTU device has 4 and 2.
+-- What a device reads of a line if `cut` silent ticks end a burst for it, and `pause` silent ticks
+-- in a row inside a burst make it no frame. The RTU device has 4 and 2.
 abbrev pub reads_with : ℕ → ℕ → List Tick → List FrameRead
 reads_with cut pause line = frames_read cut pause (length line) (bursts_from cut 0 line)
 
@@ -37,7 +37,7 @@ laid-longer es m (suc k) n sum =
           ∙ (ap (λ x. x ++ t ∷ []) shorter.1 ∙ append_assoc (laid m es) shorter.0 (t ∷ []))),
     )
 
--- some tick by which all of these bursts have ended
+-- a tick by which all of these bursts have ended
 abbrev pub last_end : List Burst → ℕ
 last_end [] = 0
 last_end (d ∷ ds) = end_of d + last_end ds
@@ -117,8 +117,8 @@ module _ (cut pause : ℕ) where
       ap (λ x. frames_read cut pause m (bursts_from cut 0 x)) (sym (append_assoc l (t ∷ []) more))
       ∙ (reads-settled m (l ++ t ∷ []) more (omega arith) ∙ read-one_more m l t le)
 
-  -- What is read of a line by its end is what is read of the emissions that are laid on it, though
-  -- some may not have ended.
+  -- What is read of a line by its end is what is read of the emissions that are laid on it, even if
+  -- some haven't ended.
   pub reads-laid : (m : ℕ) (es : List Burst) → AreSpread cut 0 es
       → reads_with cut pause (laid m es) ≡ frames_read cut pause m es
   reads-laid m es spread =

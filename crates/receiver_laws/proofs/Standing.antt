@@ -1,4 +1,4 @@
--- A burst that passes is a packet that is on the link.
+-- A burst that passes is a packet, and is on the link.
 use Rattle.byteorder.specs.{Endian.big_number, Numbers.big_from-lt, Numbers.big_from-take}
 use Rattle.frame_ending.proofs.LiveTicks.{live_ticks-bytes, live_ticks-contiguous}
 use Rattle.frame_ending.specs.LiveBytes.{up_to_byte, live_bytes, live_ticks}
@@ -78,7 +78,7 @@ shape-kept (suc j) n (Silent ∷ x) some whole =
     (rest.0, rest.1, ap (λ y. Silent ∷ y) rest.2, rest.3)
 shape-kept (suc j) n (Byte b ∷ x) some whole = absurd (omega arith)
 
--- the live ticks are the first ones
+-- The live ticks come first.
 up_to_byte-first : (k : ℕ) (x : List Tick) → take (length (up_to_byte k x)) x ≡ up_to_byte k x
 unfolding up_to_byte
 up_to_byte-first zero x = refl
@@ -134,7 +134,7 @@ module _ (profile : Profile) (some : 1 ≤ profile.word_len) (rules : Rules) (s 
       (within.0 ∙ ap (λ x. least_with (words profile) s.floor (word_of profile x)) trailer-is)
       ∙ least.has_word
 
-  -- its bytes are the trailer of number and frame
+  -- The bytes after the live ticks are the trailer of the number and the frame.
   is_trailer : bytes ≡ trailer profile n (live_bytes rules d)
   is_trailer =
       let w : ℕ = profile.word_len in
@@ -163,7 +163,7 @@ module _ (profile : Profile) (some : 1 ≤ profile.word_len) (rules : Rules) (s 
 
 -- ---- bursts on a link
 
--- each of these bursts is on the link
+-- Holds if each of these bursts is on the link.
 abbrev pub AreOn : List Tick → List Burst → Type 0
 AreOn link [] = Unit {0}
 AreOn link (d ∷ ds) =

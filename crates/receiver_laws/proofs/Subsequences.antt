@@ -1,5 +1,5 @@
--- Subsequences: nothing, fronts, lists after lists, images under a function, and subsequences of
--- subsequences.
+-- Which lists are subsequences: no elements, fronts, one list after another, images under a
+-- function, and subsequences of subsequences.
 use Rattle.std.proofs.Common.{List, [], ◌∷◌, ◌++◌, map}
 use Rattle.receiver_laws.specs.Accounted.{IsSubsequence}
 use Rattle.receiver_laws.specs.Accounted.IsSubsequence.{none, skip, keep}

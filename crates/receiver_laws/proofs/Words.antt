@@ -1,4 +1,4 @@
--- Bytes are those of a number where they have its word.
+-- If bytes have the word of a number, they are its lowest bytes.
 use Rattle.byteorder.specs.{Endian.big_from, Endian.big_number, Numbers.big_from-cons}
 use Rattle.byteorder.specs.Numbers.{big_from-bytes, big_from-lt, length-bytes_high_first}
 use Rattle.line_rules.specs.Bytes.{AreBytes}
@@ -8,7 +8,7 @@ use Rattle.std.proofs.{Math.Nat.mod-lt, lemmas.Bool.cases_lt, lemmas.List.append
 use Rattle.std.proofs.lemmas.{List.get_or_past, List.Elements.All-cons, Nat.div-mul-add}
 use Rattle.std.{proofs.lemmas.Nat.mod-mul-add, specs.Int.byte_at, specs.Int.bytes_high_first}
 
--- every place of bytes holds a byte, 0 past their end
+-- At each place there is a byte, which is 0 after the end.
 pub byte-places : (x : List ℕ) → AreBytes x → (k : ℕ) → slice_index x k < 256
 byte-places x bytes k =
     ⊎_elim
@@ -27,7 +27,7 @@ two_digits p a b r s small few same = (
   sym (mod-mul-add a p r small) ∙ (ap (λ n. n % p) same ∙ mod-mul-add b p s few),
 )
 
--- bytes that spell the same number are the same
+-- Bytes that spell the same number are the same.
 same-number : (n : ℕ) (x y : List ℕ) → length x ≡ n → length y ≡ n → AreBytes x → AreBytes y
     → big_from 0 n x ≡ big_from 0 n y → x ≡ y
 same-number zero [] [] long long' bytes bytes' same = refl
@@ -57,7 +57,7 @@ high_first-bytes zero x = λ k d within. absurd (omega arith)
 high_first-bytes (suc n) x = All-cons (λ b. b < 256) (byte_at n x) (bytes_high_first n x)
     (byte-small n x) (high_first-bytes n x)
 
--- Bytes that have the word of a number are its lowest bytes.
+-- If bytes have the word of a number, they are its lowest bytes.
 pub word-bytes : (n x : ℕ) (y : List ℕ) → length y ≡ n → AreBytes y → x % 256 ^ n ≡ big_number n y
     → bytes_high_first n x ≡ y
 word-bytes n x y long bytes same =

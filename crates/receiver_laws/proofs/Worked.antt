@@ -1,4 +1,5 @@
--- What devices read of small lines of the receiver, with a tag that is in for HMAC.
+-- What Modbus RTU devices read of small lines of the receiver. The tags are a stand-in for those of
+-- HMAC.
 use Rattle.burst_walk.specs.Laid.{tick_at}
 use Rattle.device_model.specs.{Frames.FrameRead, RtuReads.has_silence, RtuReads.rtu_reads}
 use Rattle.frame_ending.specs.LiveBytes.{before_pause, up_to_byte}
@@ -12,7 +13,7 @@ use Rattle.std.proofs.Common.{◌≡◌, ℕ, List, [], ◌∷◌, ◌++◌, map
 use Rattle.yasir_ticks.specs.{Bursts.bursts_from, Bursts.with_byte, Ticks.silent}
 use Rattle.yasir_ticks.specs.declared.tick.Tick.{Tick, TheVariants.Byte}
 
--- twelve bytes of the number and the frame
+-- the stand-in for a tag: twelve bytes made of the number and the frame
 abbrev stand_in : ℕ → List ℕ → List ℕ
 stand_in number frame = take 12 (number ∷ frame ++ replicate 12 0xEE)
 
@@ -26,15 +27,15 @@ on_line x = map (λ b. Byte b) x
 abbrev pub READ_TEN_REGISTERS : List ℕ
 READ_TEN_REGISTERS = 0x01 ∷ 0x03 ∷ 0x00 ∷ 0x00 ∷ 0x00 ∷ 0x0A ∷ 0xC5 ∷ 0xCD ∷ []
 
--- 25 ticks: the request, with a word of 1 and this as the last byte of the tag
+-- 25 ticks: the request, the word of number 1, and a tag whose last byte is this one
 abbrev packet_ending : ℕ → List Tick
 packet_ending last =
     on_line READ_TEN_REGISTERS ++ silent 3
     ++ on_line (0x00 ∷ 0x01 ∷ 0x01 ∷ 0x01 ∷ 0x03 ∷ 0x00 ∷ 0x00 ∷ 0x00 ∷ 0x0A ∷ 0xC5 ∷ 0xCD ∷ 0xEE
     ∷ 0xEE ∷ last ∷ [])
 
--- what the device is sent of a whole packet, and of one whose tag is wrong in its last bit, with
--- this many ticks of the link
+-- what the device is sent for a whole packet and `more` silent ticks of the link, and for a packet
+-- with a tag that is wrong in its last bit
 abbrev of_packet : ℕ → List Tick
 of_packet more = received_line profile rtu_rules 0 (packet_ending 0xEE ++ silent more)
 
@@ -56,7 +57,7 @@ unfolding bursts_from with_byte before_pause up_to_byte tick_at kept spoiled ver
     byte_step bit_steps bit_step is_frame has_right_ending ends_in_check has_silence
 is_read-now = refl
 
--- ---- a device that two silent ticks suffice, and two that wait for 18
+-- ---- a device for which two silent ticks end a burst, and two that wait for 18
 
 soon_not_yet : reads_with 2 2 (of_packet 2) ≡ []
 unfolding bursts_from with_byte before_pause up_to_byte tick_at kept spoiled verdict_of checked crc
@@ -83,7 +84,7 @@ unfolding bursts_from with_byte before_pause up_to_byte tick_at kept spoiled ver
     byte_step bit_steps bit_step is_frame has_right_ending ends_in_check has_silence
 late_patient = refl
 
--- ---- a wrong tag: none of them reads anything
+-- ---- if the tag is wrong, none of these devices reads anything
 
 wrong-unread : rtu_reads (of_wrong 24) ≡ []
 unfolding bursts_from with_byte before_pause up_to_byte tick_at kept spoiled verdict_of checked crc

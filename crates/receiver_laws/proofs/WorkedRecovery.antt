@@ -1,7 +1,7 @@
--- When a receiver works again, on links of DNP3 with a tag that is in for HMAC. A burst can
--- lack 282 bytes, so packets are due 300 ticks after the first of the silent ticks where the link
--- is left alone. For each thing that the law asks there is a line where it alone is missing, and
--- the packet doesn't pass.
+-- When a receiver works again, on links of DNP3. The tags are a stand-in for those of HMAC. A burst
+-- can lack 282 bytes, so packets are due from 300 ticks after the first of the silent ticks on. For
+-- each condition of the law there is a line on which only that condition doesn't hold, and the
+-- packet doesn't pass.
 use Rattle.burst_walk.specs.{Laid.tick_at, Walk.Noted}
 use Rattle.device_model.specs.{DnpReads.dnp_reads, Hunt.hunt}
 use Rattle.dnp_link_frame.specs.Blocks.{room_by, begins_right, is_good_header, end_in_crcs}
@@ -26,7 +26,7 @@ use Rattle.yasir_ticks.{proofs.SilenceLaws.get_or-silence, specs.Bursts.Burst, s
 use Rattle.yasir_ticks.specs.{Bursts.bursts_from, Bursts.with_byte, BurstsOf.one, Ticks.silent}
 use Rattle.yasir_ticks.specs.declared.tick.Tick.{Tick, TheVariants.Silent, TheVariants.Byte}
 
--- twelve bytes of the number and the frame
+-- the stand-in for a tag: twelve bytes made of the number and the frame
 abbrev stand_in : ℕ → List ℕ → List ℕ
 stand_in number frame = take 12 (number ∷ frame ++ replicate 12 0xEE)
 
@@ -58,19 +58,20 @@ sealed_at number start = record { number = number; start = start; frame = RESET_
 abbrev noted_at : ℕ → FullNote → Noted FullNote
 noted_at tick entry = record { tick = tick; note = entry }
 
--- what the transmitter seals and sends of a line, from this floor on
+-- what the transmitter seals of a line and what it sends, with this floor at the start
 abbrev seals : ℕ → List Tick → List NumberedFrame
 seals floor line = all_sealed profile dnp_rules floor line
 
 abbrev sends : ℕ → List Tick → List Tick
 sends floor line = link_line profile dnp_rules floor line
 
--- A long header in the first ten ticks, in place of what was sent in them, and nothing behind it:
--- the link is left alone then, and where ticks 10 to 13 are silent, packets are due from 310 on.
+-- A long header is in the first ten ticks, in place of what was sent in them, and nothing follows
+-- it. From then on the link is left alone. If ticks 10 to 13 are silent, packets are due from tick
+-- 310 on.
 abbrev behind_header : List Tick → List Tick
 behind_header link = on_line LONG_HEADER ++ drop 10 link
 
--- the receiver's notes of a link, and of one with such a header
+-- the receiver's notes of a link, and of a link with a long header at its start
 abbrev notes : ℕ → List Tick → List (Noted FullNote)
 notes floor link = check_notes profile dnp_rules floor link
 
@@ -81,7 +82,7 @@ abbrev cut_off : Noted FullNote
 cut_off = noted_at 13 (refused_note 0 Trailer)
 
 -- ---- the receiver is busy up to tick 309 with what the burst lacks: a packet in tick 100 is
--- dropped for it, and the next one, in the first tick in which one is due, passes
+-- dropped for that reason, and a packet in tick 310, the first in which one is due, passes
 
 abbrev two_frames : List Tick
 two_frames =
@@ -108,7 +109,7 @@ unfolding bursts_from with_byte before_pause up_to_byte tick_at judged crc byte_
     ends_in_check kept spoiled verdict_of checked
 two_frames-notes = refl
 
--- ---- so does one that comes 200 ticks later
+-- ---- a packet that comes 200 ticks later also passes
 
 abbrev long_wait : List Tick
 long_wait =
@@ -132,7 +133,7 @@ unfolding bursts_from with_byte before_pause up_to_byte tick_at judged crc byte_
     ends_in_check kept spoiled verdict_of checked hunt
 two_frames-read = refl
 
--- ---- one tick earlier none is due
+-- ---- one tick earlier no packet is due
 
 abbrev frame_at : ℕ → List Tick
 frame_at n = silent n ++ on_line RESET_LINK ++ silent 24
@@ -173,7 +174,7 @@ unfolding bursts_from with_byte before_pause up_to_byte tick_at judged crc byte_
     ends_in_check kept spoiled verdict_of checked
 ends_early-notes = refl
 
--- ---- the number is 65537 above the receiver's floor: its word is that of 1
+-- ---- the number is 65537 above the receiver's floor, so its word is that of number 1
 
 far-sealed : seals 65536 (frame_at 310) ≡ sealed_at 65537 310 ∷ []
 unfolding bursts_from with_byte before_pause up_to_byte tick_at judged crc byte_step bit_steps
@@ -225,8 +226,8 @@ unfolding bursts_from with_byte before_pause up_to_byte tick_at judged crc byte_
     ends_in_check kept spoiled verdict_of checked
 changed-notes = refl
 
--- ---- no silence where the link is left alone: a packet is sent from tick 2 on, and its last two
--- bytes join the header, one tick later than they might. So the receiver is busy for a tick more
+-- ---- no silence when the link is left alone: a packet is sent from tick 2 on, and its last two
+-- bytes join the header, one tick later than they might. So the receiver is busy for one more tick
 
 abbrev no_silence : List Tick
 no_silence =
@@ -246,8 +247,8 @@ unfolding bursts_from with_byte before_pause up_to_byte tick_at judged crc byte_
     ends_in_check kept spoiled verdict_of checked
 no_silence-notes = refl
 
--- ---- a burst that isn't a packet: the device itself sends a long header and stops. Nobody has
--- touched the link, from tick 0 on
+-- ---- a burst that isn't a packet: the device itself sends a long header and stops. Nobody touches
+-- the link, from tick 0 on
 
 abbrev device_stops : List Tick
 device_stops =
@@ -267,7 +268,7 @@ unfolding bursts_from with_byte before_pause up_to_byte tick_at judged crc byte_
     ends_in_check kept spoiled verdict_of checked
 device_stops-notes = refl
 
--- ---- what the law asks holds together of the first of these lines
+-- ---- all conditions of the law together hold for the first of these lines
 
 abbrev their_link : List Tick
 their_link = behind_header (sends 0 two_frames)

@@ -1,6 +1,6 @@
--- When a receiver works again, on links of Modbus RTU with a tag that is in for HMAC. A burst
--- lacks nothing there, so packets are due 18 ticks after the first of the silent ticks where the
--- link is left alone.
+-- When a receiver works again, on links of Modbus RTU. The tags are a stand-in for those of HMAC. A
+-- burst lacks nothing there, so packets are due from 18 ticks after the first of the silent ticks
+-- on.
 use Rattle.burst_walk.specs.{Laid.tick_at, Walk.Noted}
 use Rattle.device_model.specs.RtuReads.{has_silence, rtu_reads}
 use Rattle.frame_ending.specs.LiveBytes.{before_pause, up_to_byte}
@@ -24,7 +24,7 @@ use Rattle.yasir_ticks.{proofs.SilenceLaws.get_or-silence, specs.Bursts.Burst, s
 use Rattle.yasir_ticks.specs.{Bursts.bursts_from, Bursts.with_byte, BurstsOf.one, Ticks.silent}
 use Rattle.yasir_ticks.specs.declared.tick.Tick.{Tick, TheVariants.Silent, TheVariants.Byte}
 
--- twelve bytes of the number and the frame
+-- the stand-in for a tag: twelve bytes made of the number and the frame
 abbrev stand_in : ℕ → List ℕ → List ℕ
 stand_in number frame = take 12 (number ∷ frame ++ replicate 12 0xEE)
 
@@ -56,15 +56,15 @@ sealed_at number start = record { number = number; start = start; frame = READ_T
 abbrev noted_at : ℕ → FullNote → Noted FullNote
 noted_at tick entry = record { tick = tick; note = entry }
 
--- what the transmitter seals and sends of a line, from floor 0 on
+-- what the transmitter seals of a line and what it sends, with floor 0 at the start
 abbrev seals : List Tick → List NumberedFrame
 seals line = all_sealed profile rtu_rules 0 line
 
 abbrev sends : List Tick → List Tick
 sends line = link_line profile rtu_rules 0 line
 
--- Three bytes in the first ticks, in place of what was sent in them, and nothing behind them: the
--- link is left alone then, and where ticks 3 to 6 are silent, packets are due from 21 on.
+-- Three bytes are in the first ticks, in place of what was sent in them, and nothing follows them.
+-- From then on the link is left alone. If ticks 3 to 6 are silent, packets are due from tick 21 on.
 abbrev behind_bytes : List Tick → List Tick
 behind_bytes link = on_line BEGUN_REQUEST ++ drop 3 link
 
@@ -74,8 +74,8 @@ notes_behind link = check_notes profile rtu_rules 0 (behind_bytes link)
 abbrev cut_off : Noted FullNote
 cut_off = noted_at 6 (refused_note 0 Trailer)
 
--- ---- the three bytes leave up to tick 20, the last of them spoiled: a packet in that tick is
--- dropped, and one in the next tick, the first in which one is due, passes
+-- ---- the three bytes leave up to tick 20, with the last of them spoiled: a packet in that tick is
+-- dropped, and a packet in tick 21, the first in which one is due, passes
 
 abbrev frame_at : ℕ → List Tick
 frame_at n = silent n ++ on_line READ_TEN_REGISTERS ++ silent 24
@@ -110,7 +110,7 @@ unfolding bursts_from with_byte before_pause up_to_byte tick_at judged crc byte_
     bit_step is_frame has_right_ending ends_in_check kept spoiled verdict_of checked has_silence
 due-read = refl
 
--- ---- what the law asks holds together of this link
+-- ---- all conditions of the law together hold for this link
 
 abbrev their_link : List Tick
 their_link = behind_bytes (sends (frame_at 21))

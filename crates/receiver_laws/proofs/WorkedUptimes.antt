@@ -1,5 +1,5 @@
--- Frames of two uptimes of a transmitter, on one link to a receiver, with a tag that is in for
--- HMAC.
+-- Frames of two uptimes of a transmitter, on one link to a receiver. The tags are a stand-in for
+-- those of HMAC.
 use Rattle.{burst_walk.specs.Laid.tick_at, device_model.specs.RtuReads.has_silence}
 use Rattle.{device_model.specs.RtuReads.rtu_reads, frame_ending.specs.LiveBytes.before_pause}
 use Rattle.{frame_ending.specs.LiveBytes.up_to_byte, line_rules.specs.Crc.crc}
@@ -23,14 +23,14 @@ use Rattle.{std.specs.Prelude.max, yasir_io.specs.Disks.Slots, yasir_io.specs.St
 use Rattle.yasir_ticks.specs.Bursts.{bursts_from, with_byte}
 use Rattle.yasir_ticks.specs.{Ticks.silent, declared.tick.Tick.Tick}
 
--- 36 ticks of a device, enough for its request and the trailer
+-- 36 ticks of a device: its request, and silence that is enough for the trailer
 abbrev request : List Tick
 request = on_line READ_TEN_REGISTERS ++ silent 28
 
 abbrev numbered_at : ℕ → ℕ → NumberedFrame
 numbered_at number start = record { number = number; start = start; frame = READ_TEN_REGISTERS }
 
--- the link, and slots that hold these numbers for it
+-- the link of the journals, and slots that hold these numbers for it
 abbrev rtu_link : LinkId
 rtu_link = record { label = 1; dir = 0; profile = 18 }
 
@@ -40,7 +40,7 @@ holding a b = record { a = slot_bytes a rtu_link; b = slot_bytes b rtu_link; old
 abbrev uptime_of : ℕ → List Tick → Slots → BoxUptime
 uptime_of floor line image = record { floor = floor; line = line; image = image }
 
--- The transmitter seals a request, is started anew, and seals the same request.
+-- The transmitter seals a request, starts anew, and seals the same request.
 abbrev first_seal : BoxUptime
 first_seal = uptime_of 0 request (holding 0 1)
 
@@ -50,7 +50,7 @@ second_seal = uptime_of 1 request (holding 2 1)
 abbrev link_of : BoxUptime → List Tick
 link_of uptime = link_line profile rtu_rules uptime.floor uptime.line
 
--- One uptime of the receiver hears both.
+-- One uptime of the receiver hears both packets.
 abbrev both_heard : BoxUptime
 both_heard = uptime_of 0 (link_of first_seal ++ link_of second_seal) (holding 2 1)
 
@@ -78,15 +78,15 @@ unfolding bursts_from with_byte before_pause up_to_byte tick_at judged kept spoi
     checked crc byte_step bit_steps bit_step is_frame has_right_ending ends_in_check has_silence
 both-read = refl
 
--- by the second uptime's frames alone, the first one's would count as forged
+-- If only the frames of the second uptime counted as sealed, the first one's frame would be forged.
 first-unknown : forged (sealed profile rtu_rules second_seal.floor second_seal.line)
     (passed profile rtu_rules both_heard.floor both_heard.line) ≡ numbered_at 1 0 ∷ []
 unfolding bursts_from with_byte before_pause up_to_byte tick_at judged kept spoiled verdict_of
     checked crc byte_step bit_steps bit_step is_frame has_right_ending ends_in_check
 first-unknown = refl
 
--- ---- The receiver too is started anew, and hears the first link again before the second: what has
--- passed before doesn't pass again.
+-- ---- The receiver also starts anew, and hears the first link a second time before it hears the
+-- other: what has passed before doesn't pass again.
 
 abbrev first_check : BoxUptime
 first_check = uptime_of 0 (link_of first_seal) (holding 0 1)
@@ -106,7 +106,7 @@ unfolding bursts_from with_byte before_pause up_to_byte tick_at judged kept spoi
     checked crc byte_step bit_steps bit_step is_frame has_right_ending ends_in_check has_silence
 anew-read = refl
 
--- ---- These are uptimes on one disk, which begins with the number 0 in both slots.
+-- ---- These are uptimes over one disk, which begins with the number 0 in both slots.
 
 no-old-number : old_floor (holding 0 0) ≡ None
 unfolding old_number_held old_slot_bytes
@@ -119,11 +119,11 @@ floor-is a b a_within b_within =
     floor_beside rtu_link (holding a b) (max a b) own
     ∙ ap (λ o. greater (Some (max a b)) o) no-old-number
 
--- with no run in between
+-- There is no run in between.
 no-run : (slots : Slots) → IsIdle rtu_link slots [] slots
 no-run slots = record { answers_none = refl; leaves = λ n below. below }
 
--- the uptime of one frame with the number
+-- an uptime with one frame, which has this number
 one-frame : (floor number : ℕ) (begins image : Slots) (frames : List NumberedFrame)
     → floor < number → floor_of rtu_link begins ≡ Some floor → floor_of rtu_link image ≡ Some number
     → frames ≡ numbered_at number 0 ∷ [] → IsUptime rtu_link begins (numbers_of frames) image
@@ -169,7 +169,7 @@ shared =
       ),
     )
 
--- ---- Uptimes over a journal that was set back don't go on from one another: the same number comes
+-- ---- If a journal is set back, its uptimes don't go on from one another: the same number comes
 -- twice.
 
 set_back : GoOnFrom (sealed profile rtu_rules) 0 (first_seal ∷ first_seal ∷ []) → ⊥
@@ -178,9 +178,9 @@ set_back go_on =
     let above : 1 ≤ 0 = subst (λ l. last_number 0 l ≤ 0) first-sealed again in
     absurd (omega (arith, above))
 
--- ---- Why the device must be at rest as an uptime of the receiver begins: a frame with a byte
--- right behind it and no trailer doesn't pass, and the byte leaves with another value. Where the
--- receiver stops just before it does, the device hears silence there, and reads the frame.
+-- ---- Why the device must be at rest when an uptime of the receiver begins: a frame that a byte
+-- follows at once, without a trailer, doesn't pass, and the byte leaves with another value. If the
+-- receiver stops just before that byte leaves, the device hears silence there, and reads the frame.
 
 abbrev with_byte_behind : List Tick
 with_byte_behind = on_line (READ_TEN_REGISTERS ++ 0x00 ∷ []) ++ silent 40

@@ -69,7 +69,7 @@ module _ (gap cap : ℕ) where
       subst P (sym (taken-many gap cap s a many)) is)
       (cases_lt (count_from (a.step + 1) s.accepted) cap)
 
--- A list of images under `f` of a subsequence of `y`, which is given here.
+-- The list `x` as the images under `f` of a subsequence of `y`.
 record IsImage {X Y : Type 0} (f : X → Y) (x : List Y) (y : List X) : Type 0 where
   of : List X
   among : IsSubsequence of y

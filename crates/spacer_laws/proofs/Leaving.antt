@@ -71,8 +71,8 @@ count-append m ds e =
 -- ---- how far they reach
 
 module _ (gap m b : ℕ) where
-  -- Holds if each of these bursts begins in tick n or later, as soon as it may or before tick m,
-  -- and takes at most b ticks with its gap.
+  -- Holds if each of these bursts, of which the first may begin in tick n, begins as soon as it may
+  -- or later, but then by tick m, and takes at most b ticks with its gap.
   abbrev AreSoon : ℕ → List Burst → Type 0
   AreSoon n [] = Unit {0}
   AreSoon n (d ∷ ds) =
