@@ -65,9 +65,9 @@ seals floor line = all_sealed profile dnp_rules floor line
 abbrev sends : ℕ → List Tick → List Tick
 sends floor line = link_line profile dnp_rules floor line
 
--- A long header is in the first ten ticks, in place of what was sent in them, and nothing follows
--- it. From then on the link is left alone. If ticks 10 to 13 are silent, packets are due from tick
--- 310 on.
+-- A link whose first ten ticks are replaced by a long header. The frame of that header never comes:
+-- from then on the link is left alone. If ticks 10 to 13 are silent, packets are due from tick 310
+-- on.
 abbrev behind_header : List Tick → List Tick
 behind_header link = on_line LONG_HEADER ++ drop 10 link
 

@@ -63,8 +63,9 @@ seals line = all_sealed profile rtu_rules 0 line
 abbrev sends : List Tick → List Tick
 sends line = link_line profile rtu_rules 0 line
 
--- Three bytes are in the first ticks, in place of what was sent in them, and nothing follows them.
--- From then on the link is left alone. If ticks 3 to 6 are silent, packets are due from tick 21 on.
+-- A link whose first three ticks are replaced by the first bytes of a request. Its other bytes
+-- never come: from then on the link is left alone. If ticks 3 to 6 are silent, packets are due from
+-- tick 21 on.
 abbrev behind_bytes : List Tick → List Tick
 behind_bytes link = on_line BEGUN_REQUEST ++ drop 3 link
 

@@ -101,7 +101,7 @@ impl<'a, B, O, L> SpacedLines<'a, B, O, L> {
 
 impl<'a, B: LineSpacer, O: Sink, L: Sink> SpacedLines<'a, B, O, L> {
     // Writes the answers to the first of the `owed` ticks that are owed, to as many of them as the
-    // spacer answers at once. Returns to how many.
+    // spacer answers at once, and returns how many these are.
     #[inline(always)]
     fn write_some(&mut self, owed: usize, read: Option<u64>) -> Result<usize, Stop>
         requires { 0 < owed }
