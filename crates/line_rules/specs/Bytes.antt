@@ -1,7 +1,7 @@
 -- Lists of bytes.
 use Rattle.std.specs.Prelude.{ℕ, ◌/◌, ◌%◌, ◌<◌, List, [], ◌∷◌, All}
 
--- each number is a byte
+-- Holds if each number is a byte.
 abbrev pub AreBytes : List ℕ → Type 0
 AreBytes x = All (λ b. b < 256) x
 

@@ -1,10 +1,10 @@
--- The cyclic redundancy check of 16 bits whose register is shifted right, over a polynomial and
--- from a first register. Modbus over Serial Line V1.02 has the polynomial A001 and the first
--- register FFFF; IEEE 1815 (DNP3) has A6BC and 0.
+-- The cyclic redundancy check of 16 bits whose register is shifted right, for a polynomial and a
+-- first register. Modbus over Serial Line V1.02 has the polynomial A001 and the first register
+-- FFFF. IEEE 1815 (DNP3) has the polynomial A6BC and the first register 0.
 use Rattle.std.specs.Prelude.{ℕ, zero, suc, ◌/◌, ◌%◌, ◌==◌, bit_xor, List, [], ◌∷◌, if◌then◌else◌}
 
--- The register is shifted right by one, and xored with the polynomial where the bit shifted out was
--- 1.
+-- The register is shifted right by one bit, and then xored with the polynomial if the bit that was
+-- shifted out was 1.
 unfoldable pub bit_step : ℕ → ℕ → ℕ
 bit_step polynomial register =
     if register % 2 == 1 then bit_xor (register / 2) polynomial else register / 2

@@ -1,9 +1,9 @@
--- Tables of what a register's single-bit shifts make of a byte.
+-- Tables of what the single-bit shifts of a register make of a byte.
 use Rattle.std.specs.Prelude.{◌≡◌, ℕ, suc, ◌*◌, ◌<◌, List, [], get_or}
 use Rattle.line_rules.specs.Crc.{bit_steps}
 
--- The first table has of each byte what the eight shifts of one byte make of it, the second what
--- those of two bytes do, and so on up to eighteen.
+-- Holds if the first table has, for each byte, what the 8 shifts of one byte make of it, the second
+-- what the 16 shifts of two bytes make of it, and so on up to the eighteenth.
 abbrev pub AreCrcTables : ℕ → List (List ℕ) → Type 0
 AreCrcTables polynomial tables =
     (n byte : ℕ) → n < 18 → byte < 256

@@ -1,4 +1,4 @@
--- Rules that are as small as the laws let them be: a frame is four bytes, of which the last is 0.
+-- The smallest rules that keep every law: a frame is four bytes, the last of which is 0.
 use Rattle.std.specs.Prelude.{◌≡◌, ℕ, ◌-◌, ◌≤◌, ◌==◌, ◌&&◌, nat_le, Bool, List, [], ◌∷◌, ◌++◌}
 use Rattle.std.specs.Prelude.{length, get_or, bit_xor, refl}
 use Rattle.std.proofs.Common.{arith, ◌∙◌, sym, ap, ⊎_elim, length-append}
@@ -13,7 +13,7 @@ use Rattle.line_rules.specs.Headerless.{headerless-framed, headerless-filling}
 use Rattle.line_rules.specs.Spoiling.{IsSpoiling, spoiling_by_ending}
 use Rattle.line_rules.specs.declared.four_bytes.FourBytes.{FourBytes}
 
--- the last byte, and 1 where there is none
+-- the last byte, or 1 if there is none
 abbrev pub last_byte : List ℕ → ℕ
 last_byte x = get_or x (length x - 1) 1
 
@@ -57,7 +57,7 @@ four_bytes-spoiling = spoiling_by_ending four_bytes (λ h c. refl)
 pub four_bytes-numbers : HasNumbers four_bytes 256 1
 four_bytes-numbers = record { longest_is = refl; label_is = refl }
 
--- A value keeps how many bytes there are, and the last one.
+-- Holds if the value represents these bytes: it keeps how many there are, and the last one.
 pub record FourBytesStandFor (value : FourBytes) (x : List ℕ) : Type 0 where
   pub count : value.len ≡ length x
   pub last : value.last ≡ last_byte x

@@ -7,7 +7,7 @@ use Rattle.line_rules.specs.RulesLaws.{IsLawful, IsHeaded, IsFramed, IsFilling}
 use Rattle.line_rules.specs.Spoiling.{spoil_by}
 use Rattle.line_rules.specs.declared.head.Head.TheVariants.{Good}
 
--- of a label, a longest frame, the frames and the right endings
+-- the rules with this label, this longest frame, these frames and these right endings
 abbrev pub headerless : ℕ → ℕ → (List ℕ → Bool) → (List ℕ → Bool) → Rules
 headerless label longest is_frame has_right_ending = record {
   label = label;
@@ -25,11 +25,11 @@ module _ (label longest : ℕ) (is_frame has_right_ending : List ℕ → Bool) w
   abbrev its : Rules
   its = headerless label longest is_frame has_right_ending
 
-  -- the header, of no bytes, is good
+  -- the header has no bytes, and is good
   pub headerless-head : (x : List ℕ) → head_of its x ≡ Good
   headerless-head x = cond-false (nat_lt (length x) 0) _ _ (le-ltb (length x) 0 (omega arith))
 
-  -- and no byte is lacking
+  -- no byte is lacking
   pub headerless-lacking : (x : List ℕ) → lacking_of its x ≡ 0
   headerless-lacking x = rw (headerless-head x) (omega arith)
 

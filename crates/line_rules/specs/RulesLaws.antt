@@ -4,9 +4,9 @@ use Rattle.line_rules.specs.Bytes.{AreBytes}
 use Rattle.line_rules.specs.Rules.{Rules, head_of, lacking_of}
 use Rattle.line_rules.specs.declared.head.Head.TheVariants.{Good}
 
--- There is room for a first byte; as long as the room isn't full, one more byte fits into the room
--- that the bytes then have; and once it is full it stays as it is. It is never greater than the
--- longest frame.
+-- There is room for a first byte. As long as the room isn't full, one more byte fits into the room
+-- that the bytes then have. A full room stays the same whatever byte comes. The room is never
+-- greater than the longest frame.
 pub record IsLawful (rules : Rules) : Type 0 where
   pub some_room : 0 < rules.room []
   pub fits : (x : List ℕ) (b : ℕ) → length x < rules.room x → length x < rules.room (x ++ b ∷ [])
@@ -14,20 +14,21 @@ pub record IsLawful (rules : Rules) : Type 0 where
       → rules.room (x ++ b ∷ []) ≡ rules.room x
   pub bounded : (x : List ℕ) → AreBytes x → rules.room x ≤ rules.longest
 
--- A header is short, and fits every room.
+-- A header has at most ten bytes, and any room is large enough for it.
 pub record IsHeaded (rules : Rules) : Type 0 where
   pub short : rules.header_len ≤ 10
   pub room_for_header : (x : List ℕ) → rules.header_len ≤ rules.room x
 
--- A frame has a byte, a good header, and the size that it says, for which there is room.
+-- A frame has at least one byte, a good header, and the size that the rules give for it, and there
+-- is room for it.
 pub record IsFramed (rules : Rules) : Type 0 where
   pub some_byte : (frame : List ℕ) → rules.is_frame frame ≡ true → 0 < length frame
   pub good_header : (frame : List ℕ) → rules.is_frame frame ≡ true → head_of rules frame ≡ Good
   pub whole : (frame : List ℕ) → rules.is_frame frame ≡ true → rules.size frame ≡ length frame
   pub has_room : (frame : List ℕ) → rules.is_frame frame ≡ true → length frame ≤ rules.room frame
 
--- What a frame still lacks that begins with a good header has room, and from a whole header on it
--- lessens by each byte that comes.
+-- There is room for the bytes that a frame still lacks. After a whole header, each byte that comes
+-- makes them one fewer, down to none.
 pub record IsFilling (rules : Rules) : Type 0 where
   pub has_room : (x : List ℕ) → length x ≤ rules.room x
       → length x + lacking_of rules x ≤ rules.room x

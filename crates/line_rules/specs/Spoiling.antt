@@ -1,15 +1,17 @@
--- How the last byte of bytes that are to be no frame is sent.
+-- How the last byte of a list is sent if the list must not be a frame.
 use Rattle.std.specs.Prelude.{◌≡◌, ℕ, Bool, true, false, List, [], ◌∷◌, ◌++◌, bit_xor}
 use Rattle.std.specs.Prelude.{if◌then◌else◌, refl}
 use Rattle.std.proofs.Common.{◌∙◌, ap}
 use Rattle.std.proofs.lemmas.Bool.{cond-true, cond-false}
 use Rattle.line_rules.specs.Rules.{Rules}
 
--- With its lowest bit turned where the bytes would have a right ending, and else as it is.
+-- the byte `c` after the bytes `h`, with its lowest bit turned if they would have a right ending
+-- together, and as it is otherwise
 abbrev pub spoil_by : (List ℕ → Bool) → List ℕ → ℕ → ℕ
 spoil_by has_right_ending h c = if has_right_ending (h ++ c ∷ []) then bit_xor c 1 else c
 
--- No spoiled bytes are a frame or have a right ending; a byte is changed only where there was one.
+-- A spoiled list isn't a frame and has no right ending. A byte is changed, in its lowest bit, only
+-- if the list would have a right ending with it.
 pub record IsSpoiling (rules : Rules) : Type 0 where
   pub no_frame : (h : List ℕ) (c : ℕ) → rules.is_frame (h ++ rules.spoil h c ∷ []) ≡ false
   pub no_right_ending : (h : List ℕ) (c : ℕ)
@@ -19,8 +21,8 @@ pub record IsSpoiling (rules : Rules) : Type 0 where
   pub turned : (h : List ℕ) (c : ℕ) → rules.has_right_ending (h ++ c ∷ []) ≡ true
       → rules.spoil h c ≡ bit_xor c 1
 
--- Rules whose bytes are spoiled so keep these laws where each frame has a right ending, and where
--- no right ending is left when the lowest bit of the last byte is turned.
+-- Rules that spoil as `spoil_by` does keep the laws of `IsSpoiling` if each frame has a right
+-- ending, and if no right ending stays right when the lowest bit of its last byte is turned.
 module _ (rules : Rules)
     (spoils : (h : List ℕ) (c : ℕ) → rules.spoil h c ≡ spoil_by rules.has_right_ending h c)
     (framed : (x : List ℕ) → rules.has_right_ending x ≡ false → rules.is_frame x ≡ false)

@@ -1,10 +1,10 @@
-//! A CRC of 16 bits, bit by bit: the definition that the tables are proved against.
+//! A CRC of 16 bits, computed bit by bit, without tables.
 ghost use Rattle.std.specs.Prelude.{◌≡◌};
 ghost use Rattle.line_rules.specs.Crc.{bit_step, bit_steps, crc};
 
 const BITS: u8 = 8;
 
-// The mask is all ones where the bit that is shifted out is 1, and else 0.
+// The mask is all ones if the bit that is shifted out is 1, and 0 otherwise.
 #[inline]
 fn after_bit<const POLY: u16>(register: u16) -> u16
     ensures { result ≡ bit_step POLY register }
@@ -13,7 +13,7 @@ fn after_bit<const POLY: u16>(register: u16) -> u16
     (register >> 1) ^ (POLY & mask)
 }
 
-// What this many single-bit shifts make of the register.
+// Returns the register after `count` single-bit shifts.
 #[inline]
 pub(crate) fn after_bits<const POLY: u16>(register: u16, count: u8) -> u16
     ensures { result ≡ bit_steps POLY count register }
@@ -25,8 +25,8 @@ pub(crate) fn after_bits<const POLY: u16>(register: u16, count: u8) -> u16
     shifted
 }
 
-/// The register that these bytes make of the register `first` in a CRC over the polynomial `POLY`,
-/// bit by bit.
+/// Returns the register after these bytes, if it was `first` before, in a CRC over the polynomial
+/// `POLY`. It is computed bit by bit.
 pub fn crc_by_bits<const POLY: u16>(first: u16, bytes: &[u8]) -> u16
     ensures { result ≡ crc POLY first bytes.now }
 {

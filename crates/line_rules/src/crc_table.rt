@@ -1,4 +1,4 @@
-//! A table for a CRC of 16 bits, which takes a byte at a time.
+//! Computed tables for a CRC of 16 bits, by which it takes a byte at a time.
 ghost use Rattle.std.specs.Prelude.{◌≡◌, ℕ, ◌*◌, ◌<◌, ◌≤◌, [], ◌∷◌, slice_index};
 ghost use Rattle.line_rules.specs.Crc.{bit_steps, crc};
 ghost use Rattle.line_rules.specs.CrcTables.{AreCrcTables};
@@ -6,8 +6,8 @@ ghost use Rattle.line_rules.specs.CrcTables.{AreCrcTables};
 use crate::crc_bits::after_bits;
 use crate::crc_tables::{CrcTables, shifted, step_by_table};
 
-/// What a CRC of 16 bits over the polynomial `POLY` makes of a byte, by tables that are computed.
-/// A program has those of its polynomials as constants.
+/// Tables for a CRC of 16 bits over the polynomial `POLY`, computed when they are made. A program
+/// has the tables of its polynomials as constants instead.
 #[derive(Drop)]
 pub struct CrcTable<const POLY: u16> {
     tables: CrcTables,
@@ -15,7 +15,7 @@ pub struct CrcTable<const POLY: u16> {
 }
 
 impl<const POLY: u16> CrcTable<POLY> {
-    /// The tables of this polynomial.
+    /// Computes the tables of the polynomial `POLY`.
     pub fn new() -> CrcTable<POLY> {
         CrcTable {
             tables: [
@@ -41,7 +41,8 @@ impl<const POLY: u16> CrcTable<POLY> {
         }
     }
 
-    // What the shifts of this many bytes make of each byte.
+    // Returns, for each byte, what the single-bit shifts of `count` bytes make of it: eight for
+    // each of them.
     fn after_bytes(count: u8) -> [u16; 256]
         requires { count ≤ 18 }
         ensures { (byte : ℕ) → byte < 256
@@ -54,7 +55,7 @@ impl<const POLY: u16> CrcTable<POLY> {
         entries
     }
 
-    /// What eight single-bit shifts make of `i`.
+    /// Returns what eight single-bit shifts make of `i`.
     #[inline]
     pub fn entry(&self, i: u8) -> u16
         ensures { result ≡ bit_steps POLY 8 i }
@@ -62,7 +63,7 @@ impl<const POLY: u16> CrcTable<POLY> {
         shifted::<POLY>(&self.tables, 0, i)
     }
 
-    /// The register that the byte `b` makes of the register `r`.
+    /// Returns the register after the byte `b`, if it was `r` before.
     #[inline]
     pub fn step(&self, r: u16, b: u8) -> u16
         ensures { result ≡ crc POLY r (b ∷ []) }

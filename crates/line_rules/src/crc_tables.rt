@@ -1,16 +1,17 @@
-//! Eighteen tables for a CRC of 16 bits, which take up to eighteen bytes at a time.
+//! Eighteen tables for a CRC of 16 bits, by which it takes up to eighteen bytes at a time.
 ghost use Rattle.std.specs.Prelude.{◌≡◌, suc, ◌*◌, ◌<◌, ◌≤◌, [], ◌∷◌, length};
 ghost use Rattle.line_rules.specs.Crc.{bit_steps, crc};
 ghost use Rattle.line_rules.specs.CrcTables.{AreCrcTables};
 
-// How many bytes are taken together at most, and so how many tables there are.
+// The most bytes that are taken at once, and so the number of tables.
 const TOGETHER: usize = 18;
 
-/// Tables by which a CRC of 16 bits takes up to eighteen bytes at once: of each byte what eight
-/// single-bit shifts of the register make of it, what sixteen do, and so on up to 144.
+/// Tables by which a CRC of 16 bits takes up to eighteen bytes at once. For each byte, the first
+/// table has what 8 single-bit shifts of the register make of it, the second what 16 make of it,
+/// and so on up to 144.
 pub type CrcTables = [[u16; 256]; 18];
 
-// What the shifts of `place + 1` bytes make of `byte`.
+// Returns what the single-bit shifts of `place + 1` bytes make of `byte`: eight for each of them.
 #[inline]
 pub(crate) fn shifted<const POLY: u16>(tables: &CrcTables, place: usize, byte: u8) -> u16
     requires right { AreCrcTables POLY tables.now }
@@ -20,7 +21,7 @@ pub(crate) fn shifted<const POLY: u16>(tables: &CrcTables, place: usize, byte: u
     tables[place][usize::from(byte)]
 }
 
-/// The register that the byte `b` makes of the register `r`, by the tables of the polynomial.
+/// Returns the register after the byte `b`, if it was `r` before, by the tables of the polynomial.
 #[inline]
 pub fn step_by_table<const POLY: u16>(tables: &CrcTables, r: u16, b: u8) -> u16
     requires { AreCrcTables POLY tables.now }
@@ -30,9 +31,9 @@ pub fn step_by_table<const POLY: u16>(tables: &CrcTables, r: u16, b: u8) -> u16
     (r / 256) ^ shifted::<POLY>(tables, 0, low ^ b)
 }
 
-/// The register that two to eighteen bytes make of the register `r`, by the tables of the
-/// polynomial, all of them at once: each byte of the register and of these goes through the shifts
-/// of itself and of those behind it, and no two meet on the way.
+/// Returns the register after two to eighteen bytes, if it was `r` before, by the tables of the
+/// polynomial. It takes all of them at once: each byte of the register and of `bytes` goes through
+/// its own shifts and those of the bytes after it, independently of the others.
 #[inline]
 pub fn crc_at_once<const POLY: u16>(tables: &CrcTables, r: u16, bytes: &[u8]) -> u16
     requires right { AreCrcTables POLY tables.now }
@@ -51,8 +52,8 @@ pub fn crc_at_once<const POLY: u16>(tables: &CrcTables, r: u16, bytes: &[u8]) ->
             ^ shifted::<POLY>(tables, last, low ^ bytes[0]))
 }
 
-/// The register that these bytes make of the register `r`, by the tables of the polynomial,
-/// eighteen bytes at a time.
+/// Returns the register after these bytes, if it was `r` before, by the tables of the polynomial.
+/// It takes eighteen bytes at a time.
 #[inline]
 pub fn crc_by_tables<const POLY: u16>(tables: &CrcTables, r: u16, bytes: &[u8]) -> u16
     requires { AreCrcTables POLY tables.now }

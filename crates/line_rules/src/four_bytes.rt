@@ -3,8 +3,8 @@ use crate::{Head, LineRules};
 
 const FRAME_LEN: u16 = 4;
 
-/// The smallest rules that keep every law: a frame is four bytes, of which the last is 0. An
-/// example of how rules are given, on which the tests of generic code run.
+/// The smallest rules that keep every law: a frame is four bytes, the last of which is 0. They show
+/// how rules are given, and the tests of generic code run on them.
 #[derive(Drop)]
 pub struct FourBytes {
     len: u16,

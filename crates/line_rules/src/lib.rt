@@ -1,5 +1,5 @@
-//! The rules of a protocol's frames on a serial line, as what transmitter and receiver ask of a
-//! protocol.
+//! The rules of a protocol's frames on a serial line: what the transmitter and the receiver ask of
+//! a protocol.
 //!
 //! The rules see a burst byte by byte, and say whether it is a frame so far. `FourBytes` is the
 //! smallest example:

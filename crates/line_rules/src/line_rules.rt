@@ -9,15 +9,15 @@ ghost use Rattle.line_rules.specs.Spoiling.{IsSpoiling};
 
 use crate::Head;
 
-/// The bytes that a burst of a line has given so far, as the rules of a protocol see them.
+/// The bytes of a burst so far, as the rules of a protocol see them.
 pub trait LineRules: Drop {
     // The protocol's rules over whole lists.
     ghost rules: { Rules };
 
-    // The value stands for these bytes.
+    // Holds if the value represents these bytes.
     ghost stands: { Self → List ℕ → Type 0 };
 
-    // No further byte has room.
+    // Whether there is no room for another byte.
     ghost is_full: { Self → Bool };
 
     ghost MAX: { ℕ };
@@ -49,21 +49,21 @@ pub trait LineRules: Drop {
     /// The number of the protocol: 1 is Modbus RTU, 2 is DNP3.
     const LABEL: u8;
 
-    /// A value that stands for no bytes.
+    /// Returns a value that represents no bytes.
     fn fresh() -> Self
         ensures stands { stands result [] }
         ensures room { is_full result ≡ false };
 
-    /// Makes the value stand for no bytes again.
+    /// Makes the value represent no bytes again.
     fn restart(&mut self)
         ensures stands { stands self.new [] }
         ensures room { is_full self.new ≡ false };
 
-    /// How many bytes there are.
+    /// Returns how many bytes there are.
     fn len(&self) -> u16
         ensures { (x : List ℕ) → stands self.now x → result ≡ length x };
 
-    /// Whether no further byte has room.
+    /// Whether there is no room for another byte.
     fn full(&self) -> bool
         ensures full { result ≡ is_full self.now }
         ensures stands { (x : List ℕ) → stands self.now x → result ≡ fills_room rules x };
@@ -73,7 +73,7 @@ pub trait LineRules: Drop {
         requires { is_full self.old ≡ false }
         ensures { (x : List ℕ) → stands self.old x → stands self.new (x ++ b ∷ []) };
 
-    /// Appends of these bytes as many as there is room for, and says how many.
+    /// Appends these bytes in order, as many as there is room for, and returns how many.
     fn take_some(&mut self, part: &[u8]) -> usize
         ensures within { result ≤ length part.now }
         ensures stands { (x : List ℕ) → stands self.old x
@@ -97,20 +97,21 @@ pub trait LineRules: Drop {
     fn good(&self) -> bool
         ensures { (x : List ℕ) → stands self.now x → result ≡ is_frame_of rules x };
 
-    /// What the header says.
+    /// Returns what the bytes say about the header.
     fn head(&self) -> Head
         ensures { (x : List ℕ) → stands self.now x → result ≡ head_of rules x };
 
-    /// How many bytes the frame still lacks that begins with a good header; 0 where there is none.
+    /// Returns how many bytes the frame still lacks, if the bytes begin with a good header, and 0
+    /// if they don't.
     fn lacking(&self) -> u16
         ensures { (x : List ℕ) → stands self.now x → result ≡ lacking_of rules x };
 
-    /// Whether the bytes end as a frame's do, in the check of what comes before it. Where they do
-    /// and are to be no frame, the last of them is sent with its lowest bit turned.
+    /// Whether the bytes end as a frame does, in the check of the bytes before it. If they do but
+    /// must not be a frame, the last one is sent with its lowest bit turned.
     fn ends_right(&self) -> bool
         ensures { (x : List ℕ) → stands self.now x → result ≡ has_right_ending_of rules x };
 
-    /// A second value that stands for the same bytes.
+    /// Returns a second value that represents the same bytes.
     fn fork(&self) -> Self
         ensures { (x : List ℕ) → stands self.now x → stands result x };
 }
