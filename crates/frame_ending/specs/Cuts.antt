@@ -1,4 +1,4 @@
--- What a tick is, by the ticks of the line up to it.
+-- What a tick is, by the ticks of the line up to and including it.
 use Rattle.std.specs.Prelude.{ℕ, suc, ◌-◌, nat_lt, ◌==◌, List, [], ◌∷◌, ◌++◌, length, Option, Some}
 use Rattle.std.specs.Prelude.{None, if◌then◌else◌}
 use Rattle.line_rules.specs.Rules.{Rules}
@@ -12,8 +12,8 @@ use Rattle.frame_ending.specs.declared.cut.Cut.TheVariants.{Quiet}
 use Rattle.frame_ending.specs.LiveBytes.{live_end}
 use Rattle.frame_ending.specs.SoFar.{last_burst}
 
--- A byte at tick n is the last one of the last burst: it is the first byte of that burst too, or
--- its last live one, or neither.
+-- A byte at tick n is the last byte of the last burst. It is also the first byte of that burst, or
+-- its last live byte, or neither.
 abbrev pub byte_cut : Rules → ℕ → ℕ → Option Burst → Cut
 byte_cut rules n b None = Start b
 byte_cut rules n b (Some d) =
@@ -21,29 +21,29 @@ byte_cut rules n b (Some d) =
     else if live_end rules d == suc n then Live b
     else Extra b
 
--- the n-th silent tick in a row after a byte
+-- what the n-th silent tick in a row after a byte is
 abbrev pub silence_cut : ℕ → Cut
 silence_cut n =
     if nat_lt n T3_5_TICKS then Pause n
     else if n == T3_5_TICKS then Closed
     else Quiet
 
--- a silent tick at tick n, after this burst
+-- what a silent tick at tick n after this burst is
 abbrev pub silent_cut : ℕ → Option Burst → Cut
 silent_cut n None = Quiet
 silent_cut n (Some d) = silence_cut (suc n - end_of d)
 
--- what the tick t is that comes after these ticks
+-- what the tick t after these ticks is
 abbrev pub cut_of : Rules → List Tick → Tick → Cut
 cut_of rules line (Byte b) = byte_cut rules (length line) b (last_burst (line ++ Byte b ∷ []))
 cut_of rules line Silent = silent_cut (length line) (last_burst line)
 
--- what each of these ticks is, which come after this line
+-- what each of these ticks after this line is
 abbrev pub cuts_after : Rules → List Tick → List Tick → List Cut
 cuts_after rules line [] = []
 cuts_after rules line (t ∷ more) = cut_of rules line t ∷ cuts_after rules (line ++ t ∷ []) more
 
--- a tick that is neither a live byte nor closes a burst
+-- Holds if the tick is neither a live byte nor the one that closes a burst.
 abbrev pub IsPassing : Cut → Type 0
 IsPassing (Start b) = ⊥
 IsPassing (Live b) = ⊥

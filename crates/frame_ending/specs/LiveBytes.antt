@@ -1,5 +1,5 @@
--- The live bytes of a burst: those before the first two silent ticks that are together, cut to
--- the room of these bytes. Only they can be a frame.
+-- The live bytes of a burst: those before the first two silent ticks in a row, cut to the room that
+-- these bytes have. Only they can be a frame.
 use Rattle.std.specs.Prelude.{ℕ, zero, suc, ◌+◌, nat_lt, Bool, true, false, List, [], ◌∷◌, length}
 use Rattle.std.specs.Prelude.{take}
 use Rattle.line_rules.specs.Rules.{Rules}
@@ -8,8 +8,7 @@ use Rattle.yasir_ticks.specs.Bursts.{Burst}
 use Rattle.yasir_ticks.specs.declared.tick.Tick.{Tick}
 use Rattle.yasir_ticks.specs.declared.tick.Tick.TheVariants.{Silent, Byte}
 
--- the ticks before the first two silent ones that are together; silence follows the end of the
--- list
+-- the ticks before the first two silent ticks in a row; silence follows the end of the list
 unfoldable pub before_pause : List Tick → List Tick
 before_pause [] = []
 before_pause (Byte b ∷ l) = Byte b ∷ before_pause l
@@ -17,7 +16,7 @@ before_pause (Silent ∷ []) = []
 before_pause (Silent ∷ Silent ∷ l) = []
 before_pause (Silent ∷ Byte b ∷ l) = Silent ∷ Byte b ∷ before_pause l
 
--- two silent ticks are together in these ticks
+-- whether these ticks have two silent ones in a row
 unfoldable pub has_pause : List Tick → Bool
 has_pause [] = false
 has_pause (Byte b ∷ l) = has_pause l
@@ -51,6 +50,6 @@ live_ticks rules d = up_to_byte (length (live_bytes rules d)) d.body
 abbrev pub live_end : Rules → Burst → ℕ
 live_end rules d = d.start + length (live_ticks rules d)
 
--- some byte of the burst isn't live
+-- whether some byte of the burst isn't live
 abbrev pub has_extra : Rules → Burst → Bool
 has_extra rules d = nat_lt (length (live_bytes rules d)) (length (bytes_in d.body))

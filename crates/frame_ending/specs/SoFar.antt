@@ -1,5 +1,5 @@
--- What is known of the burst of a line that is running or was the last, by the ticks of the line so
--- far.
+-- What the ticks of a line so far say about its last burst: the running one, or the last one if
+-- none runs.
 use Rattle.std.specs.Prelude.{ℕ, ◌-◌, nat_le, min, Bool, false, ◌||◌, List, [], ◌∷◌, length, Option}
 use Rattle.std.specs.Prelude.{Some, None}
 use Rattle.line_rules.specs.Rules.{Rules, fills_room}
@@ -14,11 +14,12 @@ last_of [] = None
 last_of (d ∷ []) = Some d
 last_of (d ∷ e ∷ ds) = last_of (e ∷ ds)
 
--- the burst that is running or was the last
+-- the running burst, or the last one if none runs
 abbrev pub last_burst : List Tick → Option Burst
 last_burst line = last_of (bursts line)
 
--- Each of these is said of the last burst, if there is one, after m ticks of the line.
+-- Each of the next definitions, up to `is_over_in`, is about the last burst, if there is one, after
+-- m ticks of the line.
 abbrev pub start_in : Option Burst → ℕ
 start_in None = 0
 start_in (Some d) = d.start
@@ -35,29 +36,29 @@ abbrev pub has_extra_in : Rules → Option Burst → Bool
 has_extra_in rules None = false
 has_extra_in rules (Some d) = has_extra rules d
 
--- Two silent ticks are together in the burst, or after it.
+-- whether there are two silent ticks in a row in the burst or after it
 abbrev pub has_paused_in : ℕ → Option Burst → Bool
 has_paused_in m None = false
 has_paused_in m (Some d) = has_pause d.body || nat_le T1_5_TICKS (m - end_of d)
 
--- the silent ticks after the burst, counted up to the fourth, which closes it
+-- how many silent ticks follow the burst, counted up to the fourth, which closes it
 abbrev pub quiet_in : ℕ → Option Burst → ℕ
 quiet_in m None = T3_5_TICKS
 quiet_in m (Some d) = min T3_5_TICKS (m - end_of d)
 
--- no further byte of the burst can be live
+-- whether no more bytes of the burst can be live
 abbrev pub is_over_in : Rules → ℕ → Option Burst → Bool
 is_over_in rules m None = false
 is_over_in rules m (Some d) = has_paused_in m (Some d) || fills_room rules (live_bytes rules d)
 
--- the tick of its first byte
+-- the tick of the first byte of the last burst
 abbrev pub start_so_far : List Tick → ℕ
 start_so_far line = start_in (last_burst line)
 
 abbrev pub live_bytes_so_far : Rules → List Tick → List ℕ
 live_bytes_so_far rules line = live_bytes_in rules (last_burst line)
 
--- the tick of its last live byte
+-- the tick of the last live byte of the last burst
 abbrev pub last_live_so_far : Rules → List Tick → ℕ
 last_live_so_far rules line = last_live_in rules (last_burst line)
 

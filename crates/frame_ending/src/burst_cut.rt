@@ -3,21 +3,21 @@ use crate::Cut;
 use line_rules::LineRules;
 use yasir_ticks::{MAX_TICKS, T1_5_TICKS, T3_5_TICKS, Tick};
 
-/// Cuts a line into bursts, a tick at a time, and tells the live bytes of each by the rules `R`:
-/// those before the first two silent ticks that are together, as many as there is room for.
+/// Cuts a line into bursts, a tick at a time, and tells the live bytes of each burst by the rules
+/// `R`: those before the first two silent ticks in a row, as many as there is room for.
 ///
-/// What it tells of a burst is that of the one that is running or was the last.
+/// What it tells of a burst is about the running one, or the last one if none runs.
 #[derive(Drop)]
 pub struct BurstCut<R> {
     taken: u64,
     // silent ticks since the last byte, counted up to `T3_5_TICKS`
     quiet: u8,
-    // the tick of the first byte, and that of the last live one
+    // the tick of the first byte, and the tick of the last live byte
     start: u64,
     last_live: u64,
     // whether there was a byte that isn't live
     extra: bool,
-    // whether two silent ticks stood together
+    // whether there were two silent ticks in a row
     paused: bool,
     // the live bytes
     rules: R,
@@ -35,7 +35,7 @@ impl<R: LineRules> BurstCut<R> {
     ghost use Rattle.frame_ending.specs.Cuts.{cut_of, cuts_after};
     ghost use Rattle.frame_ending.specs.Stands.{StandsFor, ticks_taken};
 
-    /// A value that has taken no tick.
+    /// Returns a value that has taken no tick.
     pub fn new() -> BurstCut<R>
         ensures taken { ticks_taken result ≡ 0 }
         ensures stands { StandsFor R.LineRules result [] }
@@ -51,7 +51,7 @@ impl<R: LineRules> BurstCut<R> {
         }
     }
 
-    // The first byte of a burst.
+    // Takes the first byte of a burst.
     #[inline]
     fn begin(&mut self, byte: u8) -> Cut
         requires room { self.old.taken < MAX_TICKS }
@@ -73,7 +73,7 @@ impl<R: LineRules> BurstCut<R> {
         Cut::Start(byte)
     }
 
-    // A further live byte.
+    // Takes a live byte after the first byte of a burst.
     #[inline]
     fn go_on(&mut self, byte: u8) -> Cut
         requires room { self.old.taken < MAX_TICKS }
@@ -93,7 +93,7 @@ impl<R: LineRules> BurstCut<R> {
         Cut::Live(byte)
     }
 
-    // A further byte that isn't live.
+    // Takes a byte of a burst that isn't live.
     #[inline]
     fn pass_over(&mut self, byte: u8) -> Cut
         requires room { self.old.taken < MAX_TICKS }
@@ -154,7 +154,7 @@ impl<R: LineRules> BurstCut<R> {
         }
     }
 
-    /// Takes the next tick, and says what it is. Fewer than `MAX_TICKS` ticks were taken before.
+    /// Takes the next tick, and returns what it is. Fewer than `MAX_TICKS` ticks were taken before.
     #[inline]
     pub fn step(&mut self, t: Tick) -> Cut
         requires { ticks_taken self.old < MAX_TICKS }
@@ -170,8 +170,8 @@ impl<R: LineRules> BurstCut<R> {
         }
     }
 
-    /// Takes the first of these bytes, one a tick, as far as each is a further live byte of the
-    /// burst that is running, and says how many. It begins no burst.
+    /// Takes the first of these bytes, one a tick, as long as each is another live byte of the
+    /// running burst, and returns how many. It takes none if no burst runs.
     #[inline]
     pub fn go_on_some(&mut self, bytes: &[u8]) -> usize
         requires { ticks_taken self.old + length bytes.now ≤ MAX_TICKS }
@@ -200,7 +200,7 @@ impl<R: LineRules> BurstCut<R> {
         count
     }
 
-    /// Takes this many silent ticks, if no burst runs, and says how many: all or none.
+    /// Takes `ticks` silent ticks if no burst runs, and returns how many it took: all or none.
     #[inline]
     pub fn rest_through(&mut self, ticks: u32) -> u32
         requires { ticks_taken self.old + ticks ≤ MAX_TICKS }
@@ -220,7 +220,7 @@ impl<R: LineRules> BurstCut<R> {
         ticks
     }
 
-    // Whether no further byte is live of a burst that runs.
+    // Whether no more bytes of a running burst can be live.
     #[inline]
     fn is_over(&self) -> bool
         ensures { result ≡ (self.now.paused || R.is_full self.now.rules) }
@@ -228,8 +228,8 @@ impl<R: LineRules> BurstCut<R> {
         self.paused || self.rules.full()
     }
 
-    /// Takes these bytes, one a tick, if a burst runs of which no further byte is live, and says
-    /// how many: all or none.
+    /// Takes these bytes, one a tick, if a burst runs and no more bytes of it can be live, and
+    /// returns how many it took: all or none.
     #[inline]
     pub fn pass_over_some(&mut self, bytes: &[u8]) -> usize
         requires { ticks_taken self.old + length bytes.now ≤ MAX_TICKS }
@@ -260,7 +260,7 @@ impl<R: LineRules> BurstCut<R> {
         count
     }
 
-    /// Takes this many silent ticks.
+    /// Takes `ticks` silent ticks.
     #[inline]
     pub fn wait_some(&mut self, ticks: u32)
         requires { ticks_taken self.old + ticks ≤ MAX_TICKS }
@@ -279,7 +279,7 @@ impl<R: LineRules> BurstCut<R> {
         self.quiet = quiet;
     }
 
-    /// The live bytes.
+    /// Returns the live bytes.
     #[inline]
     pub fn rules(&self) -> &R
         ensures { (line : List Tick) → StandsFor R.LineRules self.now line
@@ -288,7 +288,7 @@ impl<R: LineRules> BurstCut<R> {
         &self.rules
     }
 
-    /// The tick of the burst's first byte; 0 before the first burst.
+    /// Returns the tick of the burst's first byte, or 0 before the first burst.
     #[inline]
     pub fn start(&self) -> u64
         ensures { (line : List Tick) → StandsFor R.LineRules self.now line
@@ -297,7 +297,7 @@ impl<R: LineRules> BurstCut<R> {
         self.start
     }
 
-    /// The tick of the last live byte; 0 before the first burst.
+    /// Returns the tick of the last live byte, or 0 before the first burst.
     #[inline]
     pub fn last_live(&self) -> u64
         ensures { (line : List Tick) → StandsFor R.LineRules self.now line
@@ -306,7 +306,7 @@ impl<R: LineRules> BurstCut<R> {
         self.last_live
     }
 
-    /// Whether a byte of the burst isn't live.
+    /// Whether the burst has a byte that isn't live.
     #[inline]
     pub fn extra(&self) -> bool
         ensures { (line : List Tick) → StandsFor R.LineRules self.now line
@@ -315,8 +315,8 @@ impl<R: LineRules> BurstCut<R> {
         self.extra
     }
 
-    /// Whether no further byte of the burst can be live: two silent ticks stood together in it or
-    /// after it, or the room is full.
+    /// Whether no more bytes of the burst can be live: there were two silent ticks in a row in it
+    /// or after it, or the room is full.
     #[inline]
     pub fn live_over(&self) -> bool
         ensures { (line : List Tick) → StandsFor R.LineRules self.now line
@@ -325,8 +325,8 @@ impl<R: LineRules> BurstCut<R> {
         self.is_over()
     }
 
-    /// The silent ticks since the last byte, counted up to `T3_5_TICKS`: a burst runs while there
-    /// are fewer.
+    /// Returns the number of silent ticks since the last byte, counted up to `T3_5_TICKS`. A burst
+    /// runs while there are fewer than that.
     #[inline]
     pub fn quiet(&self) -> u8
         ensures { (line : List Tick) → StandsFor R.LineRules self.now line
@@ -335,7 +335,7 @@ impl<R: LineRules> BurstCut<R> {
         self.quiet
     }
 
-    /// How many ticks were taken.
+    /// Returns how many ticks were taken.
     #[inline]
     pub fn ticks(&self) -> u64
         ensures taken { result ≡ ticks_taken self.now }

@@ -5,9 +5,9 @@
 pub enum Cut {
     /// The first byte of a burst.
     Start(u8),
-    /// A further live byte of a burst.
+    /// A live byte of a burst, but not its first byte.
     Live(u8),
-    /// A byte of a burst that is not live.
+    /// A byte of a burst that isn't live.
     Extra(u8),
     /// The first, second or third silent tick in a row after a byte: 1, 2 or 3.
     Pause(u8),
