@@ -1,4 +1,4 @@
--- The lengths of digests and tags, and that they are bytes.
+-- How long digests and tags are, and that they consist of bytes.
 use Rattle.std.specs.Prelude.{◌≡◌, ℕ, zero, suc, ◌<◌, ◌≤◌, List, [], ◌++◌, length, All, refl}
 use Rattle.std.specs.Prelude.{slice_index}
 use Rattle.std.specs.Int.{byte_at, bytes_high_first}
@@ -45,7 +45,7 @@ All-digest_bytes_256 : (value : List ℕ) (k : ℕ) → All (λ b. b < 256) (dig
 unfolding digest_bytes_256
 All-digest_bytes_256 value = All-words (digest_bytes_256 value) (slice_index value) refl (λ k. refl)
 
--- the bytes of a digest are bytes
+-- a digest consists of bytes
 pub All-sha1 : (message : List ℕ) → All (λ b. b < 256) (sha1 message)
 unfolding sha1
 All-sha1 message = All-digest_bytes _ 5
@@ -54,7 +54,7 @@ pub All-sha256 : (message : List ℕ) → All (λ b. b < 256) (sha256 message)
 unfolding sha256
 All-sha256 message = All-digest_bytes_256 _ 8
 
--- a digest fits a block, and a tag has no more bytes
+-- a digest fits into a block, and a tag isn't longer than a digest
 pub sha1-fits_block : 20 ≤ 64
 sha1-fits_block = omega arith
 
@@ -74,14 +74,14 @@ pub sha256-tag_within : 16 ≤ 32
 sha256-tag_within = omega arith
 
 module _ (hash : List ℕ → List ℕ) where
-  -- a tag has its size, where digests have as many bytes
+  -- a tag has `size` bytes if digests have at least that many
   pub length-hmac_cut : (n size : ℕ) → ((m : List ℕ) → length (hash m) ≡ n) → size ≤ n
       → (key text : List ℕ)
       → length (hmac_cut hash size key text) ≡ size
   unfolding hmac
   length-hmac_cut n size sized within key text = length-take-le size _ (rw (sized _) within)
 
-  -- a tag's bytes are bytes, where those of digests are
+  -- a tag consists of bytes if digests do
   pub All-hmac_cut : (size : ℕ) → ((m : List ℕ) → All (λ b. b < 256) (hash m)) → (key text : List ℕ)
       → All (λ b. b < 256) (hmac_cut hash size key text)
   unfolding hmac

@@ -1,4 +1,4 @@
--- What the whole blocks of a message leave, by SHA-1 and by SHA-256.
+-- The hash values of SHA-1 and SHA-256 after the whole blocks of a message.
 use Rattle.std.specs.Prelude.{◌≡◌, ℕ, ◌/◌, List, length}
 use Rattle.sha1.specs.Sha1.{hash_after}
 use Rattle.sha2.specs.Sha256.{hash_after as hash_after_256, initial_hash_256}

@@ -10,7 +10,7 @@ xored pad bytes = map (λ b. bit_xor b pad) bytes
 abbrev pub filled : List ℕ → List ℕ
 filled key = key ++ replicate (64 - length key) 0
 
--- the block of a key, which is hashed first where it is longer than a block
+-- the block of a key; a key that is longer than a block is hashed first
 unfoldable pub key_block : (List ℕ → List ℕ) → List ℕ → List ℕ
 key_block hash key = if nat_lt 64 (length key) then filled (hash key) else filled key
 

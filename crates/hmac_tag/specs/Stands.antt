@@ -1,9 +1,10 @@
--- What a running HMAC stands for.
+-- What a running HMAC represents.
 use Rattle.std.specs.Prelude.{ℕ, List, ◌++◌}
 use Rattle.hmac_tag.specs.Hmac.{xored, key_block}
 use Rattle.hmac_tag.specs.declared.keyed_hash.Hmac.{Hmac}
 
--- it stands for this key and the text taken so far, by the hash function and what its hashers hold
+-- Holds if the running HMAC represents this key and the text so far, given the hash function and
+-- what its states and hashers hold.
 pub record StandsFor {D S : Type 0} {N : ℕ} (hash : List ℕ → List ℕ) (Starts : S → List ℕ → Type 0)
     (Holds : D → List ℕ → Type 0) (mac : Hmac D S N)
     (key text : List ℕ) : Type 0 where

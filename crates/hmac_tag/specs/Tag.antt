@@ -7,7 +7,7 @@ use Rattle.hmac_tag.specs.Hmac.{hmac}
 use Rattle.hmac_tag.specs.declared.dir.Dir.{Dir}
 use Rattle.hmac_tag.specs.declared.dir.Dir.TheVariants.{Ab, Ba}
 
--- how many bytes a tag has: 12 or 16
+-- Holds if a tag may have this many bytes: 12 or 16.
 abbrev pub IsTagSize : ℕ → Type 0
 IsTagSize size = (size ≡ 12) ⊎ (size ≡ 16)
 
@@ -29,16 +29,16 @@ hmac_sha256 = hmac sha256
 abbrev pub hmac_sha256_128 : List ℕ → List ℕ → List ℕ
 hmac_sha256_128 = hmac_cut sha256 16
 
--- the number of a direction
+-- the number of a direction in the tagged text
 abbrev pub direction_number : Dir → ℕ
 direction_number Ab = 0
 direction_number Ba = 1
 
--- what a numbered frame is tagged as: a byte for the protocol, a byte for the direction, the
--- frame's bytes and its whole number as 8 bytes, high byte first
+-- the tagged text of a numbered frame: a byte for the protocol, a byte for the direction, the
+-- frame's bytes, and its full number as 8 bytes, high byte first
 abbrev pub tag_text : ℕ → ℕ → List ℕ → ℕ → List ℕ
 tag_text label direction frame number = label ∷ direction ∷ frame ++ to_be_bytes w64 number
 
--- the tag of a numbered frame, by a tag of keys and texts
+-- the tag of a numbered frame, given how a tag is made of a key and a text
 abbrev pub tag : (List ℕ → List ℕ → List ℕ) → List ℕ → ℕ → ℕ → List ℕ → ℕ → List ℕ
 tag tag_of key label direction frame number = tag_of key (tag_text label direction frame number)

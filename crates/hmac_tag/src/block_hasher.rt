@@ -13,26 +13,27 @@ const ROOM: usize = 128;
 // Where the message's length is in the last block.
 const LENGTH_AT: usize = 56;
 
-/// A message of whole blocks, which are hashed.
+/// A message of whole blocks, all of which are hashed.
 #[derive(Clone, Copy, Drop)]
 pub struct BlockStart<V> {
     value: V,
-    // How many bytes are hashed, modulo 2^64, as the padding has the message's length.
+    // How many bytes are hashed, modulo 2^64, which is enough for the length in the padding.
     hashed: u64,
 }
 
-/// A hasher. The bytes behind the last hashed block wait, up to two blocks, which are hashed when a
-/// further byte comes or the message ends: its digest may never be asked for.
+/// A hasher. The bytes after the last hashed block wait, up to two blocks of them. They are hashed
+/// only when more bytes come than there is room for, or when the digest is asked for, which may
+/// never happen.
 #[derive(Clone, Copy, Drop)]
 pub struct BlockHasher<V> {
     start: BlockStart<V>,
     room: [u8; ROOM],
-    // The bytes that wait are in front of it.
+    // How many bytes wait: the first ones of `room`.
     waiting: u8,
 }
 
-// The bytes of a number, high byte first. It is kept separate: seen together with a product, its
-// bytes are put together one by one.
+// Returns the bytes of a number, high byte first. The function isn't inlined: the compiler, if it
+// saw it together with a product, would put the bytes together one by one.
 #[inline(never)]
 fn bytes_of(n: u64) -> [u8; 8]
     ensures { result ≡ to_be_bytes w64 n }
@@ -41,7 +42,7 @@ fn bytes_of(n: u64) -> [u8; 8]
 }
 
 impl<V: HashValue> BlockStart<V> {
-    /// No block yet.
+    /// Returns a message of no block.
     #[inline]
     fn new() -> BlockStart<V>
         ensures { HasBegun V.is_after result [] }
@@ -52,7 +53,7 @@ impl<V: HashValue> BlockStart<V> {
         }
     }
 
-    /// A message of one block.
+    /// Returns a message of one block.
     pub(crate) fn of_block(block: &[u8; BLOCK_LEN]) -> BlockStart<V>
         ensures { HasBegun V.is_after result block.now }
     {
@@ -61,7 +62,7 @@ impl<V: HashValue> BlockStart<V> {
         start
     }
 
-    // A block more.
+    // Takes one more block.
     #[inline]
     fn take_block(&mut self, block: &[u8; BLOCK_LEN])
         ensures { (m : List ℕ) → HasBegun V.is_after self.old m
@@ -71,7 +72,7 @@ impl<V: HashValue> BlockStart<V> {
         self.hashed = self.hashed.wrapping_add(BLOCK_LEN as u64);
     }
 
-    // The block in front of these bytes more.
+    // Takes one more block: the first 64 of these bytes.
     #[inline]
     fn take_front(&mut self, part: &[u8])
         requires { 64 ≤ length part.now }
@@ -83,7 +84,7 @@ impl<V: HashValue> BlockStart<V> {
         }
     }
 
-    // The value that is left by the last block, whose last bytes are these.
+    // Returns the value after the last block, whose last eight bytes are `bits`.
     #[inline]
     fn closed(mut self, mut block: [u8; BLOCK_LEN], bits: &[u8; 8]) -> V
         ensures { (blocks : List ℕ) → length blocks % 64 ≡ 0 → V.is_after self.value blocks
@@ -94,8 +95,8 @@ impl<V: HashValue> BlockStart<V> {
         self.value
     }
 
-    /// What is left of the message with these bytes behind it, less than a block, and the padding.
-    /// The last block is laid out in a new one.
+    /// Returns the value after the message, then `tail`, which is less than a block, and the
+    /// padding. The last block is laid out in a new array.
     pub(crate) fn ended(mut self, tail: &[u8]) -> V
         requires { length tail.now < 64 }
         ensures { (m : List ℕ) → HasBegun V.is_after self m
@@ -114,7 +115,7 @@ impl<V: HashValue> BlockStart<V> {
 }
 
 impl<V: HashValue> BlockHasher<V> {
-    /// A hasher of the empty message.
+    /// Returns a hasher of the empty message.
     #[inline]
     pub(crate) fn new() -> BlockHasher<V>
         ensures { HasTaken V.is_after result [] }
@@ -126,7 +127,7 @@ impl<V: HashValue> BlockHasher<V> {
         }
     }
 
-    /// Begins another message.
+    /// Begins another message, with the blocks that `start` has hashed.
     #[inline]
     pub(crate) fn begin(&mut self, start: &BlockStart<V>)
         ensures { (m : List ℕ) → HasBegun V.is_after start.now m → HasTaken V.is_after self.new m }
@@ -148,7 +149,7 @@ impl<V: HashValue> BlockHasher<V> {
         self.waiting = 0;
     }
 
-    // Appends what there is room for.
+    // Appends a piece that there is room for.
     #[inline(always)]
     fn extend(&mut self, part: &[u8])
         requires { self.old.waiting + length part.now ≤ 128 }
@@ -161,8 +162,8 @@ impl<V: HashValue> BlockHasher<V> {
         self.waiting = (used + part.len()) as u8;
     }
 
-    /// Appends to the message. Most pieces are short, and there is room for them. A last byte
-    /// waits.
+    /// Appends to the message. Most pieces are short, and there is room for them. At least the last
+    /// byte of a piece waits.
     #[inline(always)]
     pub(crate) fn update(&mut self, part: &[u8])
         ensures taken { (m : List ℕ) → HasTaken V.is_after self.old m
@@ -176,7 +177,7 @@ impl<V: HashValue> BlockHasher<V> {
         }
     }
 
-    // Appends a piece that there is no room for. What of it waits then is at most two blocks.
+    // Appends a piece that there isn't enough room for. At most two blocks of it then wait.
     #[inline(never)]
     fn update_blocks(&mut self, part: &[u8])
         requires most { self.old.waiting ≤ 128 }
@@ -195,7 +196,7 @@ impl<V: HashValue> BlockHasher<V> {
         self.extend(&part[done..]);
     }
 
-    /// What is left of the message with its padding.
+    /// Returns the value after the message with its padding.
     #[inline]
     pub(crate) fn ended(&self) -> V
         ensures { (m : List ℕ) → HasTaken V.is_after self.now m

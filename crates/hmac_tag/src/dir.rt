@@ -1,4 +1,4 @@
-//! The direction of a line, and its number in the text of a tag.
+//! The direction of a line, and its number in the tagged text.
 ghost use Rattle.std.specs.Prelude.{◌≡◌};
 ghost use Rattle.hmac_tag.specs.Tag.{direction_number};
 
@@ -12,7 +12,7 @@ pub enum Dir {
 }
 
 impl Dir {
-    /// Its number in the text of a tag: 0 for `ab`, 1 for `ba`.
+    /// Returns the number of the direction in the tagged text: 0 for `ab`, 1 for `ba`.
     #[inline]
     pub fn number(self) -> u8
         ensures { result ≡ direction_number self }

@@ -1,4 +1,4 @@
-//! The words of a block in vectors of four.
+//! The words of a block, in vectors of four.
 
 ghost use Rattle.std.specs.Prelude.{◌≡◌, ℕ, ◌+◌, ◌*◌, ◌≤◌};
 ghost use Rattle.sha2.specs.Sha256.{word_at};
@@ -6,7 +6,7 @@ ghost use Rattle.hmac_tag.specs.Words.{four_loaded};
 
 use std::simd::u32x4;
 
-// The word at a place of a block, high byte first.
+// Returns the word at byte `i` of a block, high byte first.
 #[inline(always)]
 fn word_at(block: &[u8; 64], i: usize) -> u32
     requires { i + 4 ≤ 64 }
@@ -15,7 +15,7 @@ fn word_at(block: &[u8; 64], i: usize) -> u32
     u32::from_be_bytes([block[i], block[i + 1], block[i + 2], block[i + 3]])
 }
 
-/// Four words of a block, from word t on.
+/// Returns four words of a block, from word `t` on.
 #[inline(always)]
 pub(crate) fn loaded(block: &[u8; 64], t: usize) -> u32x4
     requires { t + 4 ≤ 16 }

@@ -10,16 +10,16 @@ use crate::{sha1_block, sha256_block};
 /// The bytes of a block.
 pub(crate) const BLOCK_LEN: usize = 64;
 
-/// What the whole blocks of a message leave.
+/// The state of a hash function after the whole blocks of a message.
 pub trait HashValue: Copy + Drop {
-    /// The value is what these whole blocks leave.
+    /// Holds if the value is the state after these whole blocks.
     ghost is_after: { Self → List ℕ → Type 0 };
 
-    /// The value before the first block.
+    /// Returns the value before the first block.
     fn initial() -> Self
         ensures { is_after result [] };
 
-    /// Takes a block more.
+    /// Takes one more block.
     fn take_block(&mut self, block: &[u8; BLOCK_LEN])
         ensures { (blocks : List ℕ) → length blocks % 64 ≡ 0 → is_after self.old blocks
             → is_after self.new (blocks ++ block.now) };
@@ -37,7 +37,7 @@ pub struct Sha256Value {
     words: [u32; 8],
 }
 
-// Writes words one after the other, high byte first.
+// Writes the words one after the other, high byte first.
 #[inline(always)]
 fn write_words(words: &[u32], bytes: &mut [u8])
     requires { length bytes.old ≡ 4 * length words.now }
@@ -49,7 +49,7 @@ fn write_words(words: &[u32], bytes: &mut [u8])
 }
 
 impl Sha1Value {
-    /// The digest of a message, where this is what it leaves with its padding.
+    /// Returns the digest of a message, if this is the value after the message with its padding.
     #[inline]
     pub(crate) fn digest(&self) -> [u8; 20]
         ensures { (m : List ℕ) → IsSha1After self.now (padded_message m) → result ≡ sha1 m }
@@ -83,7 +83,7 @@ impl HashValue for Sha1Value {
 }
 
 impl Sha256Value {
-    /// The digest of a message, where this is what it leaves with its padding.
+    /// Returns the digest of a message, if this is the value after the message with its padding.
     #[inline]
     pub(crate) fn digest(&self) -> [u8; 32]
         ensures { (m : List ℕ) → IsSha256After self.now (padded_message m) → result ≡ sha256 m }

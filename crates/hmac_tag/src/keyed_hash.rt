@@ -15,8 +15,8 @@ const INNER_PAD: u8 = 0x36;
 
 const OUTER_PAD: u8 = 0x5C;
 
-/// HMAC (RFC 2104) of a text that comes in pieces: what the key's inner and outer block leave, and
-/// a hasher that has taken the inner block and the text so far.
+/// HMAC (RFC 2104) of a text that comes in pieces. It keeps the states after the key's inner block
+/// and after its outer block, and a hasher that has taken the inner block and the text so far.
 #[derive(Drop)]
 pub struct Hmac<D, S, const N: usize> {
     inner: S,
@@ -30,7 +30,7 @@ pub type HmacSha1 = Hmac<BlockHasher<Sha1Value>, BlockStart<Sha1Value>, 20>;
 /// HMAC over SHA-256, whose tags are its first 16 bytes (RFC 4868).
 pub type HmacSha256 = Hmac<BlockHasher<Sha256Value>, BlockStart<Sha256Value>, 32>;
 
-// A key of at most a block, filled with zeros.
+// Returns a key of at most a block, filled with zeros to a whole one.
 fn filled(key: &[u8]) -> [u8; BLOCK_LEN]
     requires { length key.now ≤ 64 }
     ensures { result ≡ filled key.now }
@@ -48,7 +48,7 @@ fn digest_of<D: Digest<S, N>, S, const N: usize>(message: &[u8]) -> [u8; N]
     hasher.finalize()
 }
 
-// The block of a key, which is hashed first where it is longer than a block.
+// Returns the block of a key. A key that is longer than a block is hashed first.
 #[tactic(auto, unfolding(crate::specs::Hmac::key_block))]
 fn key_block<D: Digest<S, N>, S, const N: usize>(key: &[u8]) -> [u8; BLOCK_LEN]
     ensures { result ≡ key_block D.digest_of key.now }
@@ -70,7 +70,7 @@ fn xored(pad: u8, mut block: [u8; BLOCK_LEN]) -> [u8; BLOCK_LEN]
 }
 
 impl<D: Digest<S, N>, S: Drop, const N: usize> Hmac<D, S, N> {
-    /// The whole MAC of a text under a key of any length.
+    /// Returns the whole MAC of a text under a key of any length.
     #[tactic(auto, unfolding(crate::specs::Hmac::hmac))]
     pub fn digest(key: &[u8], text: &[u8]) -> [u8; N]
         ensures { result ≡ hmac D.digest_of key.now text.now }
@@ -84,7 +84,7 @@ impl<D: Digest<S, N>, S: Drop, const N: usize> Hmac<D, S, N> {
     }
 }
 
-// The first bytes of a MAC.
+// Returns the first `size` bytes of a MAC.
 fn cut<const N: usize>(whole: &[u8; N], size: usize) -> TagBytes
     requires within { size ≤ N }
     requires short { size ≤ 16 }

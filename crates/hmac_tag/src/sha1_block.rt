@@ -40,7 +40,7 @@ fn rotated(x: u32x4, by: u32) -> u32x4
     (x << u32x4::splat(by)) | (x >> u32x4::splat(32 - by))
 }
 
-// Four words of the schedule from the sixteen before them. The last one needs the first.
+// Returns four words of the schedule, from the sixteen before them. The last one needs the first.
 #[inline(always)]
 fn next_four(a: u32x4, b: u32x4, c: u32x4, d: u32x4) -> u32x4
     ensures { (block : List ℕ) (t : ℕ) → t + 20 ≤ 80
@@ -56,8 +56,8 @@ fn next_four(a: u32x4, b: u32x4, c: u32x4, d: u32x4) -> u32x4
     rotated(x ^ zeros.shuffle(first, [0, 1, 2, 4]), 1)
 }
 
-// Four words of the schedule from some of the 32 before them, none of which is one of these four:
-// those from 32, 28, 16, 8 and 4 words before.
+// Returns four words of the schedule, from the fours that begin 32, 28, 16, 8 and 4 words before
+// them. None of the four needs another of them.
 #[inline(always)]
 fn far_four(a: u32x4, b: u32x4, e: u32x4, g: u32x4, h: u32x4) -> u32x4
     ensures { (block : List ℕ) (t : ℕ) → AreBytes block → t + 36 ≤ 80
@@ -71,7 +71,7 @@ fn far_four(a: u32x4, b: u32x4, e: u32x4, g: u32x4, h: u32x4) -> u32x4
     rotated(g.shuffle(h, [2, 3, 4, 5]) ^ e ^ b ^ a, 2)
 }
 
-// The constant of the rounds from 4 i to 4 i + 3.
+// Returns the constant of the rounds 4 i to 4 i + 3.
 #[inline(always)]
 fn constant(i: usize) -> u32
     requires { i < 20 }
@@ -88,7 +88,7 @@ fn constant(i: usize) -> u32
     }
 }
 
-// Writes four words with their constants.
+// Writes four words, each with the constant of its round.
 #[inline(always)]
 fn write_keyed(keyed: &mut [u32; 80], i: usize, four: u32x4)
     requires { i < 20 }
@@ -98,8 +98,8 @@ fn write_keyed(keyed: &mut [u32; 80], i: usize, four: u32x4)
     (four + u32x4::splat(constant(i))).copy_to_slice(&mut keyed[4 * i..4 * i + 4]);
 }
 
-// Writes the words of the schedule with their constants: each four as they are made, so that they
-// don't have to wait in registers.
+// Writes the words of the schedule, each with the constant of its round. Four are written as soon
+// as they are made, so that they don't have to wait in registers.
 #[inline(always)]
 fn keyed_schedule(keyed: &mut [u32; 80], block: &[u8; 64])
     ensures { AreKeyed (schedule block.now 64) keyed.new 80 }
@@ -134,7 +134,7 @@ fn keyed_schedule(keyed: &mut [u32; 80], block: &[u8; 64])
     }
 }
 
-// One round, whose word comes with the round's constant.
+// One round. `keyed` is its word with its constant.
 #[inline(always)]
 fn round(v: [u32; 5], f: u32, keyed: u32) -> [u32; 5]
     ensures { (k word : ℕ) → keyed ≡ add32 word k → result ≡ round v f k word }
@@ -238,7 +238,7 @@ fn last_rounds(state: &mut [u32; 5], keyed: &[u32; 80])
     *state = [v[0], v[1], v[2], v[3], v[4]];
 }
 
-// The 80 rounds, and the hash value with what they give.
+// Runs the 80 rounds, and adds their result to the hash value.
 #[inline(never)]
 fn run_rounds(state: &mut [u32; 5], keyed: &[u32; 80])
     ensures { (words : List ℕ) → AreKeyed words keyed.now 80
@@ -256,7 +256,7 @@ fn run_rounds(state: &mut [u32; 5], keyed: &[u32; 80])
     ];
 }
 
-/// The hash value after one block more.
+/// Takes one more block into the hash value.
 #[inline(never)]
 pub(crate) fn compress(state: &mut [u32; 5], block: &[u8; 64])
     ensures { state.new ≡ compress state.old block.now }

@@ -80,7 +80,7 @@ const CONSTANTS: [u32; 64] = [
     0xC671_78F2,
 ];
 
-// One operation fewer than the standard's form.
+// This takes one operation fewer than the standard's form.
 #[inline(always)]
 fn choose(x: u32, y: u32, z: u32) -> u32
     ensures { result ≡ ch x y z }
@@ -88,7 +88,7 @@ fn choose(x: u32, y: u32, z: u32) -> u32
     z ^ (x & (y ^ z))
 }
 
-// What is `x ^ y` in a round is `y ^ z` in the next one, and so is computed once.
+// `x ^ y` in a round is `y ^ z` in the next one, and so is computed only once for both.
 #[inline(always)]
 fn majority(x: u32, y: u32, z: u32) -> u32
     ensures { result ≡ maj x y z }
@@ -96,7 +96,7 @@ fn majority(x: u32, y: u32, z: u32) -> u32
     y ^ ((x ^ y) & (y ^ z))
 }
 
-// Rotations inside one another take fewer copies of the word than each on its own.
+// Nested rotations take fewer copies of the word than one for each rotation.
 #[inline(always)]
 fn big_sigma0(x: u32) -> u32
     ensures { result ≡ big_sigma0 x }
@@ -133,7 +133,8 @@ fn small_sigma1(x: u32x4) -> u32x4
     rotated(x, 17) ^ rotated(x, 19) ^ (x >> u32x4::splat(10))
 }
 
-// Four words of the schedule from the sixteen before them. The last two need the first two.
+// Returns four words of the schedule, from the sixteen before them. The last two need the first
+// two.
 #[inline(always)]
 fn next_four(a: u32x4, b: u32x4, c: u32x4, d: u32x4) -> u32x4
     ensures { (block : List ℕ) (t : ℕ) → t + 20 ≤ 64
@@ -149,7 +150,7 @@ fn next_four(a: u32x4, b: u32x4, c: u32x4, d: u32x4) -> u32x4
     first + small_sigma1(zeros.shuffle(first, [0, 0, 4, 5]))
 }
 
-// The constants of the rounds from 4 i to 4 i + 3.
+// Returns the constants of the rounds 4 i to 4 i + 3.
 #[inline(always)]
 fn constants(i: usize) -> u32x4
     requires { i < 16 }
@@ -158,7 +159,7 @@ fn constants(i: usize) -> u32x4
     u32x4::from_slice(&CONSTANTS[4 * i..])
 }
 
-// Writes four words with their constants.
+// Writes four words, each with the constant of its round.
 #[inline(always)]
 fn write_keyed(keyed: &mut [u32; 64], i: usize, four: u32x4)
     requires { i < 16 }
@@ -168,8 +169,8 @@ fn write_keyed(keyed: &mut [u32; 64], i: usize, four: u32x4)
     (four + constants(i)).copy_to_slice(&mut keyed[4 * i..4 * i + 4]);
 }
 
-// Writes the words of the schedule with their constants, sixteen a turn, so that no vector has to
-// move.
+// Writes the words of the schedule, each with the constant of its round. It makes sixteen in each
+// turn of the loop, so that no vector has to move.
 #[inline(always)]
 fn keyed_schedule(keyed: &mut [u32; 64], block: &[u8; 64])
     ensures { AreKeyed (schedule block.now 48) keyed.new 64 }
@@ -194,7 +195,7 @@ fn keyed_schedule(keyed: &mut [u32; 64], block: &[u8; 64])
     }
 }
 
-// One round, whose word comes with the round's constant.
+// One round. `keyed` is its word with its constant.
 #[inline(always)]
 fn round(v: [u32; 8], keyed: u32) -> [u32; 8]
     ensures { (k word : ℕ) → keyed ≡ add32 word k → result ≡ round v k word }
@@ -226,7 +227,7 @@ fn step(keyed: &[u32; 64], v: [u32; 8], t: usize) -> [u32; 8]
     round(v, keyed[t])
 }
 
-// Eight rounds, after which each variable is at its place again.
+// Runs eight rounds, after which each variable is back in its place.
 #[inline(always)]
 fn eight_steps(keyed: &[u32; 64], v: [u32; 8], t: usize) -> [u32; 8]
     requires { t + 8 ≤ 64 }
@@ -243,7 +244,7 @@ fn eight_steps(keyed: &[u32; 64], v: [u32; 8], t: usize) -> [u32; 8]
     step(keyed, v, t + 7)
 }
 
-// The 64 rounds, and the hash value with what they give.
+// Runs the 64 rounds, and adds their result to the hash value.
 #[inline(never)]
 fn run_rounds(state: &mut [u32; 8], keyed: &[u32; 64])
     ensures { (words : List ℕ) → AreKeyed words keyed.now 64
@@ -265,7 +266,7 @@ fn run_rounds(state: &mut [u32; 8], keyed: &[u32; 64])
     ];
 }
 
-/// The hash value after one block more.
+/// Takes one more block into the hash value.
 #[inline(never)]
 pub(crate) fn compress(state: &mut [u32; 8], block: &[u8; 64])
     ensures { state.new ≡ compress state.old block.now }

@@ -8,13 +8,13 @@ use arrayvec::ArrayVec;
 /// The bytes of a tag.
 pub type TagBytes = ArrayVec<u8, 16>;
 
-/// A MAC of a text that comes in pieces, cut to its first `TAG` bytes. A value stands for a
-/// key and the text so far.
+/// A MAC of a text that comes in pieces, cut to its first `TAG` bytes. A value represents a key and
+/// the text so far.
 pub trait Mac: Drop {
     /// The tag of a text under a key.
     ghost tag_of: { List ℕ → List ℕ → List ℕ };
 
-    /// The value stands for this key and this text.
+    /// Holds if the value represents this key and this text.
     ghost stands: { Self → List ℕ → List ℕ → Type 0 };
 
     /// The length of a tag in bytes.
@@ -29,11 +29,11 @@ pub trait Mac: Drop {
     /// The length of a tag in bytes.
     const TAG: usize;
 
-    /// Begins the empty text under a key of any length.
+    /// Returns a value that represents a key of any length and the empty text.
     fn with_key(key: &[u8]) -> Self
         ensures { stands result key.now [] };
 
-    /// Begins the empty text anew, under the same key.
+    /// Begins anew with the empty text, under the same key.
     fn begin(&mut self)
         ensures { (key text : List ℕ) → stands self.old key text → stands self.new key [] };
 
@@ -42,7 +42,7 @@ pub trait Mac: Drop {
         ensures { (key text : List ℕ) → stands self.old key text
             → stands self.new key (text ++ part.now) };
 
-    /// The tag of the text; the empty text begins anew.
+    /// Returns the tag of the text, and begins anew with the empty text, under the same key.
     fn finish(&mut self) -> TagBytes
         ensures tag { (key text : List ℕ) → stands self.old key text
             → result.items ≡ tag_of key text }
