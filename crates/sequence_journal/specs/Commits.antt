@@ -6,8 +6,9 @@ use Rattle.sequence_journal.specs.Slots.{slot_bytes}
 use Rattle.sequence_journal.specs.Journal.{journal_link, journal_floor, kept_slot, is_broken}
 use Rattle.sequence_journal.specs.Journal.{told_with, MaySet, IsEitherFloor}
 
--- A number above the floor was committed: it is the floor now, it is in the slot that didn't
--- keep the floor, for the journal's link, and a crash leaves just the slots as they read.
+-- Holds if a number above the floor was committed. The number is the floor now. The slot that
+-- didn't keep the floor now does, and holds the number for the journal's link. A crash leaves only
+-- the slots as a read gives them.
 pub record HasCommitted (old new : Journal) (told_old told_new : Option Slots)
     (may_leave : Slots → Type 0) (number : ℕ) : Type 0 where
   pub link : journal_link new ≡ journal_link old
@@ -18,8 +19,9 @@ pub record HasCommitted (old new : Journal) (told_old told_new : Option Slots)
   pub turned : kept_slot new ≡ other_slot (kept_slot old)
   pub synced : OneImage told_new may_leave
 
--- A commit failed: the journal is broken and keeps its floor, and the slot that didn't keep it may
--- have been set to the number.
+-- Holds if a commit failed. The journal is broken, and keeps its link, its floor and the slot that
+-- keeps it. The other slot may have been set to the number, so the floor of the slots, if they are
+-- told, is the journal's or the number.
 pub record HasFailed (old new : Journal) (told_old told_new : Option Slots) (number : ℕ) :
     Type 0 where
   pub link : journal_link new ≡ journal_link old

@@ -1,4 +1,4 @@
--- What a journal stands for, what its disk holds, and what a crash may leave of it.
+-- What a journal represents, what its disk holds, and what a crash may leave of the disk.
 use Rattle.std.specs.Prelude.{◌≡◌, ℕ, ◌≤◌, ◌⊎◌, List, Bool, false, Option, Some, IfSome}
 use Rattle.std.specs.Prelude.{IsSomeAnd, option_map}
 use Rattle.yasir_io.specs.declared.disk.Slot.{Slot}
@@ -11,15 +11,15 @@ use Rattle.sequence_journal.specs.declared.journal.InitError.TheVariants as Init
 use Rattle.sequence_journal.specs.declared.link.LinkId.{LinkId}
 use Rattle.sequence_journal.specs.Slots.{greatest, floor_of, floor_slot, slot_bytes}
 
--- the link that it serves
+-- the link that the journal serves
 abbrev pub journal_link : Journal → LinkId
 journal_link journal = journal.link
 
--- the last number used
+-- the floor of the journal: the last number used
 abbrev pub journal_floor : Journal → ℕ
 journal_floor journal = journal.floor
 
--- the slot that keeps it
+-- the slot that keeps the floor
 abbrev pub kept_slot : Journal → Slot
 kept_slot journal = journal.kept
 
@@ -27,8 +27,9 @@ kept_slot journal = journal.kept
 abbrev pub is_broken : Journal → Bool
 is_broken journal = journal.broken
 
--- The disk fits the journal: it isn't broken, and where the slots are told, their floor for its
--- link is the journal's, and the slot that it keeps holds the greatest number for this link.
+-- Holds if the disk fits the journal. The journal isn't broken. If the slots are told, their floor
+-- for the journal's link is the journal's, and the slot that keeps it holds the greatest number for
+-- this link.
 pub record Fits (journal : Journal) (told : Option Slots) : Type 0 where
   pub whole : is_broken journal ≡ false
   pub floor : IfSome told (λ slots. floor_of (journal_link journal) slots
@@ -36,49 +37,50 @@ pub record Fits (journal : Journal) (told : Option Slots) : Type 0 where
   pub kept : IfSome told (λ slots. floor_slot (journal_link journal) slots
       ≡ Some (kept_slot journal))
 
--- all slots are as they were, but for this one
+-- Holds if all slots but this one are as they were.
 abbrev pub AreSameBut : Slot → Slots → Slots → Type 0
 AreSameBut slot old new = new ≡ with_slot old slot (slot_in new slot)
 
--- an image which is as one of these but for a slot
+-- Holds if the slots differ from one of these images in at most this slot.
 abbrev pub IsBut : Slot → (Slots → Type 0) → Slots → Type 0
 IsBut slot images c = (d : Slots) × images d × AreSameBut slot d c
 
--- every image is as a read gives the slots, but for the slot that doesn't keep the floor
+-- Holds if every image is the slots as a read gives them, except in the slot that doesn't keep the
+-- floor.
 abbrev pub IsKept : Journal → Option Slots → (Slots → Type 0) → Type 0
 IsKept journal told images = (c : Slots) → images c
     → IsSomeAnd told (λ slots. AreSameBut (other_slot (kept_slot journal)) slots c)
 
--- slots whose floor for a link isn't below n
+-- Holds if the slots have a floor for a link, and it isn't below n.
 abbrev pub HasFloorAtLeast : LinkId → ℕ → Slots → Type 0
 HasFloorAtLeast link n slots = IsSomeAnd (floor_of link slots) (λ floor. n ≤ floor)
 
--- slots whose floor for the journal's link isn't below the journal's
+-- Holds if the slots have a floor for the journal's link, and it isn't below the journal's.
 abbrev pub HasFloorFrom : Journal → Slots → Type 0
 HasFloorFrom journal = HasFloorAtLeast (journal_link journal) (journal_floor journal)
 
--- slots whose floor for a link is one of two
+-- Holds if the floor of the slots for a link is m or n.
 abbrev pub IsEitherFloor : LinkId → ℕ → ℕ → Slots → Type 0
 IsEitherFloor link m n slots = (floor_of link slots ≡ Some m) ⊎ (floor_of link slots ≡ Some n)
 
--- the slots as told, with one of them set
+-- the slots as told, with one of them set to these bytes
 abbrev pub told_with : Option Slots → Slot → List ℕ → Option Slots
 told_with told slot bytes = option_map (λ slots. with_slot slots slot bytes) told
 
--- the slots are as they were, or one of them is set
+-- Holds if the slots are as they were, or as they were with one of them set to these bytes.
 abbrev pub MaySet : Option Slots → Slot → List ℕ → Option Slots → Type 0
 MaySet old slot bytes new = (new ≡ old) ⊎ (new ≡ told_with old slot bytes)
 
--- Why a journal isn't made: a call failed, and slot A may be set, or a slot holds a number already,
--- for whatever link, and nothing is written.
+-- Why a journal isn't made. If a call failed, slot A may have been set. If a slot or an old slot
+-- already holds a number, for whatever link, nothing was written.
 abbrev pub RefusesInit : LinkId → Option Slots → Option Slots → ℕ → ℕ → InitError → Type 0
 RefusesInit link old new before now Init.Fault =
     Rose before now × MaySet old A (slot_bytes 0 link) new
 RefusesInit link old new before now (Init.Stands floor) =
     IfSome old (λ slots. greatest slots ≡ Some floor) × (new ≡ old) × (now ≡ before)
 
--- Every image is as a read gives the slots, but for the slot that doesn't keep the floor, and no
--- image has a floor below the journal's.
+-- Holds if every image is the slots as a read gives them, except in the slot that doesn't keep the
+-- floor, and has a floor for the journal's link that isn't below the journal's.
 pub record IsCrashSafe (journal : Journal) (told : Option Slots) (images : Slots → Type 0) :
     Type 0 where
   pub kept : IsKept journal told images

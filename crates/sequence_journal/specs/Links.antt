@@ -8,10 +8,11 @@ is_link link = (nat_eq link.label 1 || nat_eq link.label 2)
     && ((nat_eq link.dir 0 || nat_eq link.dir 1)
     && (nat_eq link.profile 18 || nat_eq link.profile 24))
 
--- there is such a link
+-- Holds if there is such a link.
 abbrev pub IsLink : LinkId → Type 0
 IsLink link = is_link link ≡ true
 
--- what a slot says of its link: the link, and the version of the slot, which is 2
+-- the bytes of a slot between its number and the complement: the link, and the version of the slot,
+-- which is 2
 abbrev pub link_bytes : LinkId → List ℕ
 link_bytes link = link.label ∷ link.dir ∷ link.profile ∷ 2 ∷ []

@@ -10,12 +10,12 @@ use Rattle.sequence_journal.specs.declared.numbers.TheConstants.{LIMIT}
 use Rattle.sequence_journal.specs.declared.link.LinkId.{LinkId}
 use Rattle.sequence_journal.specs.Links.{is_link, link_bytes}
 
--- some bytes, and then the complement of each
+-- these bytes, and then the complement of each
 abbrev pub with_complement : List ℕ → List ℕ
 with_complement half = half ++ map (λ b. 255 - b) half
 
 -- the slot that holds a number for a link: the eight bytes of the number, the highest first, the
--- four of the link, and then the complement of these
+-- four of the link and the version, and then the complement of these twelve
 unfoldable pub slot_bytes : ℕ → LinkId → List ℕ
 slot_bytes n link = with_complement (big_bytes 8 n ++ link_bytes link)
 
@@ -23,8 +23,8 @@ slot_bytes n link = with_complement (big_bytes 8 n ++ link_bytes link)
 unfoldable pub old_slot_bytes : ℕ → List ℕ
 old_slot_bytes n = with_complement (big_bytes 8 n)
 
--- The number that bytes hold, by what is made of a number: none where they aren't what is made of
--- their first eight, or where these are above the limit.
+-- The number that these bytes hold, if `made` gives the bytes of each number. It is the number n of
+-- their first eight bytes, or `None` if they aren't `made n`, or if n is above the limit.
 abbrev pub held_by : (ℕ → List ℕ) → List ℕ → Option ℕ
 held_by made bytes =
     let n = big_number 8 bytes in
@@ -46,7 +46,7 @@ link_named slot = record {
   profile = get_or slot 10 0;
 }
 
--- the number that a slot holds, and the link that it holds it for
+-- the number that a slot holds, and the link for which it holds it
 unfoldable pub link_held : List ℕ → Option (ℕ × LinkId)
 link_held slot =
     let link = link_named slot in
@@ -56,24 +56,25 @@ link_held slot =
 abbrev pub any_number_held : List ℕ → Option ℕ
 any_number_held slot = option_map (λ (held : ℕ × LinkId). held.0) (link_held slot)
 
--- the greater of two numbers, where there is any
+-- the greater of two numbers, each of which may be missing
 abbrev pub greater : Option ℕ → Option ℕ → Option ℕ
 greater None b = b
 greater (Some a) None = Some a
 greater (Some a) (Some b) = Some (max a b)
 
--- the place of the greater one, where there is any; at a tie slot A
+-- the slot with the greater of the numbers in slots A and B, each of which may be missing; slot A
+-- if they are equal
 abbrev pub place_of_greater : Option ℕ → Option ℕ → Option Slot
 place_of_greater None None = None
 place_of_greater None (Some b) = Some B
 place_of_greater (Some a) None = Some A
 place_of_greater (Some a) (Some b) = Some (if nat_lt a b then B else A)
 
--- the greatest number that the slots hold for a link
+-- the greatest number that slots A and B hold for a link
 abbrev pub own_floor : LinkId → Slots → Option ℕ
 own_floor link slots = greater (number_held link slots.a) (number_held link slots.b)
 
--- the greatest number that they hold for any link
+-- the greatest number that slots A and B hold for any link
 abbrev pub any_floor : Slots → Option ℕ
 any_floor slots = greater (any_number_held slots.a) (any_number_held slots.b)
 
@@ -81,18 +82,19 @@ any_floor slots = greater (any_number_held slots.a) (any_number_held slots.b)
 abbrev pub old_floor : Slots → Option ℕ
 old_floor slots = greater (old_number_held slots.old.a) (old_number_held slots.old.b)
 
--- the greatest number of all slots
+-- the greatest number of all slots, old ones included, for whatever link
 abbrev pub greatest : Slots → Option ℕ
 greatest slots = greater (any_floor slots) (old_floor slots)
 
--- the floor by a link's own numbers, those of any link, and the old ones
+-- the floor for a link, by the greatest number of slots A and B for this link, their greatest for
+-- any link, and the greatest of the old slots
 abbrev pub floor_by : Option ℕ → Option ℕ → Option ℕ → Option ℕ
 floor_by (Some own) any old = greater (Some own) old
 floor_by None (Some any) old = None
 floor_by None None old = old
 
--- The floor of a disk for a link. Old slots name no link: they count where a slot holds a number
--- for this link, and where none holds one for any.
+-- The floor of a disk for a link. Old slots name no link. They count if slot A or B holds a number
+-- for this link, and also if neither holds one for any link.
 abbrev pub floor_of : LinkId → Slots → Option ℕ
 floor_of link slots = floor_by (own_floor link slots) (any_floor slots) (old_floor slots)
 
@@ -100,12 +102,12 @@ floor_of link slots = floor_by (own_floor link slots) (any_floor slots) (old_flo
 abbrev pub floor_slot : LinkId → Slots → Option Slot
 floor_slot link slots = place_of_greater (number_held link slots.a) (number_held link slots.b)
 
--- where there is no number of the own link, the place of another's
+-- this slot if there is no number for the link, and `None` if there is one
 abbrev pub wrong_by : Option ℕ → Option Slot → Option Slot
 wrong_by (Some own) place = None
 wrong_by None place = place
 
--- where the slots hold numbers for other links alone, the slot of the greatest
+-- the slot with the greatest number, if slots A and B hold numbers for other links only
 abbrev pub wrong_slot : LinkId → Slots → Option Slot
 wrong_slot link slots = wrong_by (own_floor link slots)
     (place_of_greater (any_number_held slots.a) (any_number_held slots.b))

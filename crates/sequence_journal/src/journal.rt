@@ -1,4 +1,5 @@
-//! The journal: how it is made, loaded and committed, at any moment of a crash.
+//! The journal: how it is made, loaded and committed to, and what a crash at any moment leaves of
+//! it.
 ghost use Rattle.std.specs.Prelude.{◌≤◌};
 ghost use Rattle.sequence_journal.specs.declared.numbers.TheConstants.{LIMIT};
 ghost use Rattle.sequence_journal.specs.Links.{IsLink};
@@ -9,8 +10,8 @@ use crate::slots::{Standing, read_slots, write_and_sync};
 use thiserror::Error;
 use yasir_io::{Failed, Slot, SlotBytes, SlotDisk};
 
-/// A commit failed: the disk's count of faults rose. The journal is broken: the next uptime loads
-/// it anew.
+/// A commit failed: the disk's count of faults rose. The journal is broken, and the next uptime
+/// loads it anew.
 #[derive(Clone, Copy, Debug, PartialEq, Eq, Error)]
 #[error("the journal's disk failed in a commit")]
 pub struct JournalFault;
@@ -21,10 +22,10 @@ pub enum LoadError {
     /// A call of the disk failed.
     #[error("the journal's disk failed")]
     Fault,
-    /// No slot holds a number, and no old one does.
+    /// No slot holds a number, and neither does an old slot.
     #[error("no slot holds a number: {a:?} {b:?}")]
     Bad { a: SlotBytes, b: SlotBytes },
-    /// The slots hold numbers for other links alone; this is the slot of the greatest.
+    /// The slots hold numbers for other links only. `slot` is the one with the greatest.
     #[error("the journal is another link's: {slot:?}")]
     WrongLink { slot: SlotBytes },
 }
@@ -35,7 +36,8 @@ pub enum InitError {
     /// A call of the disk failed.
     #[error("the journal's disk failed")]
     Fault,
-    /// A slot holds a number already, for whatever link; this is the greatest.
+    /// A slot already holds a number, for whatever link, or an old slot does. `floor` is the
+    /// greatest.
     #[error("a journal stands at {floor}")]
     Stands { floor: u64 },
 }
@@ -67,7 +69,8 @@ impl Journal {
     ghost use Rattle.sequence_journal.specs.Commits.{HasCommitted, HasFailed};
     ghost use Rattle.sequence_journal.specs.Uptimes.{IsStepOf, numbers_answered};
 
-    /// Makes a new journal of a link at floor 0, in slot A, where no slot holds a number.
+    /// Makes a new journal of a link, at floor 0 and in slot A, if no slot holds a number and no
+    /// old slot does.
     pub fn init<D: SlotDisk>(disk: &mut D, link: &LinkId) -> Result<Journal, InitError>
         requires link { IsLink link.now }
 
@@ -87,7 +90,7 @@ impl Journal {
             → NoMore (D.may_leave disk.old) (D.may_leave disk.new)
             × NoMore (D.may_leave disk.new) (D.may_leave disk.old) }
 
-        // At any moment all slots but A are as they were.
+        // A crash at any moment leaves all slots but A as they were.
         ensures any_moment { LeavesOnly D.moment D.left_since disk.old disk.new
             (IsBut A (D.may_leave disk.old)) }
 
@@ -106,7 +109,7 @@ impl Journal {
         Ok(journal)
     }
 
-    // Begins a journal of a link at `n`, in slot A.
+    // Begins a journal of a link, at floor `n` and in slot A.
     fn begin<D: SlotDisk>(disk: &mut D, link: &LinkId, n: u64) -> Result<Journal, Failed>
         requires link { IsLink link.now }
         requires within { n ≤ LIMIT }
@@ -133,8 +136,8 @@ impl Journal {
         })
     }
 
-    /// Loads the journal of a link that the disk holds. Where old slots alone hold a number it is
-    /// taken over: their greatest number is written into slot A and synced. Else nothing is
+    /// Loads the journal of a link from the disk. If only old slots hold a number, the journal is
+    /// taken over: their greatest number is written into slot A and synced. Otherwise nothing is
     /// written.
     pub fn load<D: SlotDisk>(disk: &mut D, link: &LinkId) -> Result<Journal, LoadError>
         requires link { IsLink link.now }
@@ -146,8 +149,9 @@ impl Journal {
             OneImage (D.told disk.old) (D.may_leave disk.old)
             → IsCrashSafe journal (D.told disk.new) (D.may_leave disk.new)) }
 
-        // A journal that has a number of its own is loaded at any moment of a load, and one that is
-        // taken over is loaded or seen as another link's.
+        // After a crash at any moment of a load, a journal that held a number for its link is
+        // loaded at no lower floor. So is one that was being taken over, unless it is seen as
+        // another link's.
         ensures any_moment { LeavesOnly D.moment D.left_since disk.old disk.new
             (MayLeaveLoading (D.told disk.old) (D.may_leave disk.old)) }
         ensures crash { (slots : Slots) (floor : ℕ) → D.told disk.old ≡ Some slots
@@ -187,7 +191,7 @@ impl Journal {
         }
     }
 
-    /// The last number that was committed.
+    /// Returns the floor: the last number that was committed.
     pub fn floor(&self) -> u64
         ensures value { result ≡ journal_floor self.now }
         ensures within { result ≤ LIMIT }
@@ -215,19 +219,19 @@ impl Journal {
         ensures image { OnOk result ((c : Slots) → D.may_leave disk.new c
             → floor_of (journal_link self.old) c ≡ Some n) }
 
-        // After a fault the journal isn't to be used again.
+        // After a fault the journal must not be used again.
         ensures failed { OnErr result
             (HasFailed self.old self.new (D.told disk.old) (D.told disk.new) n) }
 
-        // A crash at any moment leaves a floor that isn't below the one before, where a crash
-        // before the call did so.
+        // A crash at any moment of the call leaves no floor below the one before the call, if a
+        // crash before the call left none.
         ensures kept { IsKept self.old (D.told disk.old) (D.may_leave disk.old)
             → IsKept self.new (D.told disk.new) (D.may_leave disk.new) }
         ensures any_moment { IsKept self.old (D.told disk.old) (D.may_leave disk.old)
             → LeavesOnly D.moment D.left_since disk.old disk.new (HasFloorFrom self.old) }
         ensures crash_safe { IsCrashSafe self.old (D.told disk.old) (D.may_leave disk.old)
             → IsCrashSafe self.new (D.told disk.new) (D.may_leave disk.new) }
-        // The call is a step of an uptime, in which it returns `n`, or nothing where it fails.
+        // The call is a step of an uptime, with the number `n`, or with none if it fails.
         ensures is_step { IsKept self.old (D.told disk.old) (D.may_leave disk.old)
             → IsStepOf D.SlotDisk self.old disk.old (record {
               numbers = numbers_answered (λ done. n ∷ []) result;

@@ -1,4 +1,4 @@
-//! Laws of the journal over any number of uptimes: numbers rise, and none comes twice.
+//! Laws of the journal over any number of uptimes: the numbers rise, so none comes twice.
 ghost use Rattle.std.specs.Prelude.{◌≡◌, ℕ, [], List, Option, Some, length};
 ghost use Rattle.yasir_io.specs.declared.disk.Slot.{Slot};
 ghost use Rattle.yasir_io.specs.declared.disk.TheConstants.{SLOT_LEN};
@@ -17,16 +17,17 @@ ghost use Rattle.sequence_journal.specs.Uptimes.{Step, answered, IsStep, EndsIns
 
 use yasir_io::SlotDisk;
 
-/// Over uptimes on one disk and for one link, whatever moments they ended at, also while they were
-/// being loaded, the numbers that they returned rise: none comes twice.
+/// Over uptimes on one disk and for one link, the numbers that they return rise, so none comes
+/// twice. The uptimes may have ended at any moment, even while their journals were being loaded.
 pub fn numbers_rise()
     ensures { (link : LinkId) (begins : Slots) (floor : ℕ) (uptimes : List Uptime)
         → HasNoFloorBelow link floor begins
         → AreUptimes link begins uptimes → RiseFrom floor (all_numbers uptimes) }
 {}
 
-/// An uptime may end at any moment: inside a step, a commit included, for the numbers returned by
-/// then, also while nothing goes on, as a step that returns none, and while its journal is loaded.
+/// An uptime may end at any moment. If it ends inside a step, such as a commit, its numbers are
+/// those returned by then. A time in which nothing happens is a step that returns no number. An
+/// uptime that ends while its journal is being loaded is an idle one.
 pub fn uptime_ends_at_any_moment<D: SlotDisk>()
     ensures inside { (link : LinkId) (begins : Slots) (floor : ℕ) (loaded : D)
         (done : List (Step D)) (image : Slots)
@@ -40,7 +41,8 @@ pub fn uptime_ends_at_any_moment<D: SlotDisk>()
         → IsIdle link begins [] image }
 {}
 
-/// Idle uptimes, one after the other, are together an idle one, and so is none of them.
+/// Idle uptimes, one after the other, count as one idle uptime, and no uptime at all counts as one
+/// too.
 pub fn idle_uptimes_are_one()
     ensures none { (link : LinkId) (slots : Slots) → IsIdle link slots [] slots }
     ensures joined { (link : LinkId) (begins between image : Slots)
@@ -48,17 +50,17 @@ pub fn idle_uptimes_are_one()
         → IsIdle link begins [] image }
 {}
 
-/// Slots that have a floor for a link are refused to it for a fault alone: no load gives `Bad` or
-/// `WrongLink` over them. So, once a journal was loaded, none does over what is left of it.
+/// If slots have a floor for a link, only a fault can keep it from being loaded: no load over them
+/// gives `Bad` or `WrongLink`. So after a journal was loaded, no load over what is left of it does.
 pub fn floor_is_refused_for_a_fault_alone()
     ensures { (link : LinkId) (slots : Slots) (n : ℕ) (after : Option Slots) (before now : ℕ)
         (error : LoadError) → IsLink link → HasFloorAtLeast link n slots
         → RefusesLoad link (Some slots) after before now error → Rose before now }
 {}
 
-/// Calls of a disk that fail take no image away. So what a crash at a moment of a run may leave,
-/// the end of a run may leave whose disk fails from that moment on: what is proved of the images at
-/// the end of each run, with any disk, holds of a crash at any moment inside.
+/// Failed calls of a disk take no image away. So whatever a crash at some moment of a run may leave
+/// may also be left by the end of a run whose disk fails from that moment on. What is proved of the
+/// images at the end of each run, with any disk, therefore holds of a crash at any moment inside.
 pub fn failed_calls_keep_images<D: SlotDisk>()
     ensures write { (before after : D) (slot : Slot) (image : Slots)
         → Reaches (Torn slot) (D.may_leave before) (D.may_leave after)

@@ -1,5 +1,5 @@
-//! Numbers that outlive a crash: a box keeps the last number that it used in two slots of a disk,
-//! which name its link.
+//! Numbers that outlive a crash: a box keeps the last number that it used in one of the two slots
+//! of a disk, and each slot names the box's link.
 //!
 //! A new journal of a link, and the first number that is used on it:
 //!

@@ -14,7 +14,7 @@ pub struct LinkId {
 }
 
 impl LinkId {
-    /// A link, for a journal that no file keeps.
+    /// Returns a link for a journal that no file keeps.
     pub fn of_no_file() -> LinkId
         ensures { IsLink result }
     {

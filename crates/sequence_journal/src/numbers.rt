@@ -1,4 +1,4 @@
-//! The bytes of a slot, and the number that a word on the link stands for.
+//! The bytes of a slot, and the full number of a word on the link.
 ghost use Rattle.std.specs.Prelude.{◌≡◌, ◌≤◌, ◌<◌, ◌-◌, ◌^◌, ◌++◌, ℕ, map, Some, IfSome};
 ghost use Rattle.std.specs.Prelude.{IfNone};
 ghost use Rattle.sequence_journal.specs.Numbers.{IsLeastWith, full_of};
@@ -11,10 +11,11 @@ use crate::link::LinkId;
 use byteorder::{BigEndian, ByteOrder};
 use yasir_io::{OLD_SLOT_LEN, OldSlotBytes, SLOT_LEN, SlotBytes};
 
-/// How many bytes of a slot hold its number and its link; their complement fills the rest.
+/// How many bytes of a slot hold its number, its link and its version. Their complement is the
+/// other half.
 const HALF: usize = SLOT_LEN / 2;
 
-/// How many bytes of an old slot hold its number; their complement fills the rest.
+/// How many bytes of an old slot hold its number. Their complement is the other half.
 const OLD_HALF: usize = OLD_SLOT_LEN / 2;
 
 /// The version of a slot that names its link.
@@ -23,9 +24,9 @@ const VERSION: u8 = 2;
 /// The greatest number, 2^48 - 1.
 pub const LIMIT: u64 = 281_474_976_710_655;
 
-/// The slot that holds a number for a link: the eight bytes of the number, the highest first, the
-/// label, the direction and the profile of the link, the version 2, and then the complement of
-/// these twelve.
+/// Returns the slot that holds a number for a link: the eight bytes of the number, the highest
+/// first, the label, the direction and the profile of the link, the version 2, and then the
+/// complement of these twelve bytes.
 #[tactic(auto, unfolding(crate::specs::Slots::slot_bytes))]
 pub fn slot_of(n: u64, link: &LinkId) -> SlotBytes
     requires within { n ≤ LIMIT }
@@ -60,7 +61,7 @@ fn completed(half: [u8; HALF]) -> SlotBytes
     slot
 }
 
-/// The number that a slot holds for a link. There is none where the slot isn't that of a number up
+/// Returns the number that a slot holds for a link, or `None` if it isn't the slot of a number up
 /// to the limit for this link.
 #[tactic(auto, unfolding(crate::specs::Slots::number_held))]
 pub fn number_in(slot: &SlotBytes, link: &LinkId) -> Option<u64>
@@ -78,8 +79,8 @@ pub fn number_in(slot: &SlotBytes, link: &LinkId) -> Option<u64>
     }
 }
 
-/// The number that a slot holds, and the link that it holds it for. There is none where the slot
-/// isn't that of a number up to the limit for any link.
+/// Returns the number that a slot holds, and the link for which it holds it, or `None` if it isn't
+/// the slot of a number up to the limit for some link.
 #[tactic(auto, unfolding(crate::specs::Slots::link_held))]
 pub fn link_in(slot: &SlotBytes) -> Option<(u64, LinkId)>
     ensures value { result ≡ link_held slot.now }
@@ -120,8 +121,9 @@ fn old_completed(half: [u8; OLD_HALF]) -> OldSlotBytes
     slot
 }
 
-/// The number that an old slot holds: its eight bytes, the highest first, and then their
-/// complement. There is none where the slot isn't that of a number up to the limit.
+/// Returns the number that an old slot holds, or `None` if it isn't the old slot of a number up to
+/// the limit. An old slot has the eight bytes of its number, the highest first, and then their
+/// complement.
 #[tactic(auto, unfolding(crate::specs::Slots::old_number_held))]
 pub fn number_in_old(slot: &OldSlotBytes) -> Option<u64>
     ensures value { result ≡ old_number_held slot.now }
@@ -137,8 +139,8 @@ pub fn number_in_old(slot: &OldSlotBytes) -> Option<u64>
     }
 }
 
-/// The number that a word on the link stands for: the least above the floor that equals it modulo
-/// 65,536. There is none where that is above the limit.
+/// Returns the full number of a word on the link: the least number above the floor that equals the
+/// word modulo 65,536. Returns `None` if that is above the limit.
 pub fn full_number(floor: u64, word: u16) -> Option<u64>
     requires { floor ≤ LIMIT }
     ensures value { result ≡ full_of LIMIT 65536 floor word }
@@ -149,8 +151,8 @@ pub fn full_number(floor: u64, word: u16) -> Option<u64>
     full_with(LIMIT, 65_536, floor, u64::from(word))
 }
 
-/// The number that a word of four bytes stands for: the least above the floor that equals it modulo
-/// 4,294,967,296. There is none where that is above the limit.
+/// Returns the full number of a word of four bytes: the least number above the floor that equals
+/// the word modulo 4,294,967,296. Returns `None` if that is above the limit.
 pub fn full_number_wide(floor: u64, word: u32) -> Option<u64>
     requires { floor ≤ LIMIT }
     ensures value { result ≡ full_of LIMIT 4294967296 floor word }
@@ -161,8 +163,8 @@ pub fn full_number_wide(floor: u64, word: u32) -> Option<u64>
     full_with(LIMIT, 4_294_967_296, floor, u64::from(word))
 }
 
-/// The number that a word below `words` stands for: the least above the floor that equals it modulo
-/// `words`. There is none where that is above `limit`.
+/// Returns the full number of a word below `words`: the least number above the floor that equals
+/// the word modulo `words`. Returns `None` if that is above `limit`.
 pub fn full_with(limit: u64, words: u64, floor: u64, word: u64) -> Option<u64>
     requires limit { limit ≤ LIMIT }
     requires words { words ≤ 2 ^ 32 }

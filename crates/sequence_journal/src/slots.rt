@@ -1,4 +1,4 @@
-//! All slots of a disk: what they say for a link, and how one is written.
+//! All slots of a disk: what they hold for a link, and how one is written.
 ghost use Rattle.std.specs.Prelude.{◌≡◌, ◌≤◌, IfSome, OnOk, OnErr, IfOk};
 ghost use Rattle.yasir_io.specs.Causes.{HasCause};
 ghost use Rattle.yasir_io.specs.Disks.{Slots, NoMore, OneImage, LeavesOnly};
@@ -20,15 +20,17 @@ pub(crate) struct AllSlots {
     pub(crate) old_b: OldSlotBytes,
 }
 
-/// What slots are for a link.
+/// What the slots of a disk hold for a link.
 pub(crate) enum Standing {
-    /// A slot holds a number for this link: the floor, and the slot of the greatest such number.
+    /// A slot holds a number for this link: the link's floor, and the slot with the greatest such
+    /// number.
     Kept { floor: u64, kept: Slot },
-    /// None does, and one holds a number for another link: the slot of the greatest such number.
+    /// No slot holds a number for this link, but one does for another link: the slot with the
+    /// greatest such number.
     OfAnother(Slot),
-    /// No slot holds a number, but an old one does: the greatest.
+    /// No slot holds a number, but an old slot does: the greatest such number.
     Old(u64),
-    /// No slot holds a number.
+    /// No slot holds a number, and no old slot does.
     Blank,
 }
 
@@ -49,7 +51,7 @@ impl AllSlots {
         }
     }
 
-    // The greatest number for a link, and the slot that holds it.
+    // Returns the greatest number for a link, and the slot that holds it.
     fn own(&self, link: &LinkId) -> Option<(u64, Slot)>
         requires { IsLink link.now }
         ensures { IsGreaterOf (number_held link.now self.now.a) (number_held link.now self.now.b)
@@ -58,14 +60,14 @@ impl AllSlots {
         greater_of(number_in(&self.a, link), number_in(&self.b, link))
     }
 
-    // The greatest number for any link.
+    // Returns the greatest number for any link, and the slot that holds it.
     fn any(&self) -> Option<(u64, Slot)>
         ensures { IsGreaterOf (any_number_held self.now.a) (any_number_held self.now.b) result }
     {
         greater_of(any_number_in(&self.a), any_number_in(&self.b))
     }
 
-    // The greatest number of the old slots.
+    // Returns the greatest number of the old slots, and the place of the slot that holds it.
     fn old(&self) -> Option<(u64, Slot)>
         ensures { IsGreaterOf (old_number_held self.now.old_a) (old_number_held self.now.old_b)
             result }
@@ -94,7 +96,7 @@ impl AllSlots {
         }
     }
 
-    /// The greatest number that any slot holds, for whatever link.
+    /// Returns the greatest number that any slot holds, for whatever link, or any old slot.
     pub(crate) fn greatest(&self) -> Option<u64>
         ensures { result ≡ greatest (slots_read self.now) }
     {
@@ -106,7 +108,7 @@ impl AllSlots {
     }
 }
 
-/// All slots, as a read gives them.
+/// Reads all slots.
 pub(crate) fn read_slots<D: SlotDisk>(disk: &mut D) -> Result<AllSlots, Failed>
     ensures slots { IfOk result (λ read. AreRead (D.told disk.old) (slots_read read)) }
     ensures told { D.told disk.new ≡ D.told disk.old }
@@ -122,8 +124,8 @@ pub(crate) fn read_slots<D: SlotDisk>(disk: &mut D) -> Result<AllSlots, Failed>
     Ok(AllSlots { a, b, old_a, old_b })
 }
 
-/// Writes a slot and then syncs. At any moment, and whether it fails or not, all other slots are as
-/// they were.
+/// Writes a slot, and then syncs. A crash at any moment leaves all other slots as they were, and so
+/// does a failure.
 pub(crate) fn write_and_sync<D: SlotDisk>(
     disk: &mut D,
     slot: Slot,
@@ -149,7 +151,7 @@ fn any_number_in(slot: &SlotBytes) -> Option<u64>
     Some(n)
 }
 
-// The greater of the numbers in slots A and B, and its slot: at a tie slot A.
+// Returns the greater of the numbers in slots A and B, and its slot, which is A if they are equal.
 fn greater_of(a: Option<u64>, b: Option<u64>) -> Option<(u64, Slot)>
     requires a { IfSome a (λ n. n ≤ LIMIT) }
     requires b { IfSome b (λ n. n ≤ LIMIT) }
