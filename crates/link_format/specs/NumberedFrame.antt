@@ -11,11 +11,11 @@ pub record NumberedFrame : Type 0 where
 abbrev pub numbers_of : List NumberedFrame → List ℕ
 numbers_of frames = map (λ f. f.number) frames
 
--- the number of the last of these frames, or the floor where there is none
+-- the number of the last of these frames, or the floor if there are none
 abbrev pub last_number : ℕ → List NumberedFrame → ℕ
 last_number floor [] = floor
 last_number floor (f ∷ frames) = last_number f.number frames
 
--- The frames have the numbers after this floor, one after the other.
+-- Holds if the frames have the numbers right after this floor, in order and without a gap.
 pub record AreNumberedFrom (floor : ℕ) (frames : List NumberedFrame) : Type 0 where
   pub numbers : numbers_of frames ≡ range_with_len (floor + 1) (length frames)

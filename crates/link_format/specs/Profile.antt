@@ -1,6 +1,6 @@
--- A profile: what follows a frame on the link. A pause of three silent ticks, and then the trailer:
--- the word, which is the low bytes of the frame's number, and its tag. This layout is the project's
--- own.
+-- A profile says what follows a frame on the link: a pause of three silent ticks, and then the
+-- trailer. The trailer is first the word, which is the low bytes of the frame's number, and then
+-- the tag. This layout is the project's own.
 use Rattle.std.specs.Prelude.{◌≡◌, ℕ, ◌+◌, ◌^◌, ◌≤◌, Bool, true, false, List, ◌++◌, length}
 use Rattle.std.specs.Prelude.{replicate}
 use Rattle.std.specs.Int.{bytes_high_first}
@@ -19,8 +19,8 @@ pub record Profile : Type 0 where
   -- the greatest number
   pub limit : ℕ
 
--- the profile of a protocol and a MAC with words of this many bytes and numbers up to a limit, as a
--- box is set up
+-- the profile of a protocol and a MAC, with words of this many bytes and numbers up to a limit, for
+-- a box with this setup
 abbrev pub profile_of : {R M : Type 0} → LineRules R → Mac M → ℕ → ℕ → Setup → Profile
 profile_of proto macs word_len limit setup = record {
   word_len = word_len;
@@ -29,19 +29,19 @@ profile_of proto macs word_len limit setup = record {
   limit = limit;
 }
 
--- a word has at least one byte, and at most four
+-- Holds if a word may have n bytes: at least one, and at most four.
 abbrev pub IsWordLen : ℕ → Type 0
 IsWordLen n = (1 ≤ n) × (n ≤ 4)
 
--- a tag has its length
+-- Holds if each tag has as many bytes as the profile says.
 pub record HasTags (profile : Profile) : Type 0 where
   pub sized : (number : ℕ) (frame : List ℕ) → length (profile.tag number frame) ≡ profile.tag_len
 
--- how many words there are: two numbers that are as far apart have the same word
+-- how many words there are: two numbers that are this far apart have the same word
 abbrev pub words : Profile → ℕ
 words profile = 256 ^ profile.word_len
 
--- the word that a trailer of these bytes has
+-- the word of a trailer of these bytes
 abbrev pub word_of : Profile → List ℕ → ℕ
 word_of profile bytes = big_number profile.word_len bytes
 
@@ -52,15 +52,15 @@ trailer profile number frame = bytes_high_first profile.word_len number ++ profi
 abbrev pub trailer_len : Profile → ℕ
 trailer_len profile = profile.word_len + profile.tag_len
 
--- So many silent ticks are between a frame and its trailer.
+-- how many silent ticks are between a frame and its trailer
 abbrev pub pause_len : ℕ
 pause_len = 3
 
--- what follows a frame: silence where false, a byte where true
+-- what follows a frame, tick by tick: `false` is silence, and `true` is a byte
 abbrev pub trailer_shape : Profile → List Bool
 trailer_shape profile = replicate pause_len false ++ replicate (trailer_len profile) true
 
--- how many ticks the receiver holds a byte back: the pause and the whole trailer have then come,
+-- how many ticks the receiver holds a byte back: by then the pause and the whole trailer have come,
 -- and the verdict is known
 abbrev pub delay : Profile → ℕ
 delay profile = pause_len + trailer_len profile + 1

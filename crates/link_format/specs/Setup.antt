@@ -3,7 +3,7 @@ use Rattle.std.specs.Prelude.{ℕ, List}
 use Rattle.hmac_tag.specs.declared.dir.Dir.{Dir}
 use Rattle.hmac_tag.specs.Tag.{direction_number}
 
--- its key, the number of its direction, and the floor of its journal at the start
+-- the key of a box, the number of its direction, and the floor of its journal at the start
 pub record Setup : Type 0 where
   pub key : List ℕ
   pub direction : ℕ

@@ -5,7 +5,7 @@ use Rattle.hmac_tag.specs.Tag.{hmac_sha1_96, tag}
 use Rattle.link_format.specs.Profile.{Profile}
 use Rattle.link_format.specs.Setup.{Setup}
 
--- y18 for the number of a protocol, with numbers up to a limit, as a box is set up
+-- y18 for a protocol with this label, with numbers up to a limit, for a box with this setup
 abbrev pub y18 : ℕ → ℕ → Setup → Profile
 y18 label limit setup = record {
   word_len = 2;

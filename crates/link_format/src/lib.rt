@@ -1,4 +1,4 @@
-//! What is on a link behind a frame: profiles, words, trailers, and what a box is set up with.
+//! What follows a frame on a link (profiles, words and trailers), and what a box is set up with.
 //!
 //! A trailer leaves byte by byte, the word first:
 //!

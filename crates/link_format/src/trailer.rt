@@ -1,4 +1,4 @@
-//! The trailer of a sealed frame, and what of it is still to be sent.
+//! The trailer of a sealed frame, and which bytes of it are still to be sent.
 ghost use Rattle.link_format.specs.Profile.{IsWordLen};
 
 use arrayvec::ArrayVec;
@@ -12,7 +12,7 @@ const ROOM: usize = 20;
 const NUMBER_LEN: usize = 8;
 
 /// The trailer of the last sealed frame: its word of `B` bytes, high byte first, and its tag. The
-/// bytes that were sent come before those that are left.
+/// first `sent` bytes were sent, and the others are still to be sent.
 #[derive(Drop)]
 pub struct Trailer<const B: usize> {
     bytes: ArrayVec<u8, ROOM>,
@@ -26,7 +26,7 @@ impl<const B: usize> Trailer<B> {
     ghost use Rattle.std.specs.Int.{bytes_high_first};
     ghost use Rattle.link_format.specs.Trailers.{bytes_unsent, first_of};
 
-    /// No trailer: nothing is left to be sent.
+    /// Returns a value without a trailer: nothing is still to be sent.
     pub fn none() -> Trailer<B>
         requires word { IsWordLen B }
         ensures { bytes_unsent result ≡ [] }
@@ -37,7 +37,7 @@ impl<const B: usize> Trailer<B> {
         }
     }
 
-    /// Makes it the trailer of a number and its tag, all of which is left to be sent.
+    /// Makes the value the trailer of this number and this tag, all of which is still to be sent.
     pub fn load(&mut self, number: u64, tag: &TagBytes)
         ensures { bytes_unsent self.new ≡ bytes_high_first B number ++ tag.now.items }
     {
@@ -48,7 +48,7 @@ impl<const B: usize> Trailer<B> {
         let _ = self.bytes.try_extend_from_slice(tag.as_slice());
     }
 
-    // The next byte to be sent; none where all are.
+    // Sends the next byte and returns it, or returns `None` if all are sent.
     #[inline]
     fn next(&mut self) -> Option<u8>
         ensures some { IfSome result (λ b. bytes_unsent self.old ≡ b ∷ bytes_unsent self.new) }
@@ -62,7 +62,7 @@ impl<const B: usize> Trailer<B> {
         next
     }
 
-    /// The bytes that are still to be sent.
+    /// Returns the bytes that are still to be sent.
     #[inline]
     pub fn unsent(&self) -> &[u8]
         ensures unsent { result.now ≡ bytes_unsent self.now }
@@ -72,7 +72,7 @@ impl<const B: usize> Trailer<B> {
         &bytes[self.sent.min(bytes.len())..]
     }
 
-    /// Sends the next `count` bytes, one a tick. That many are left.
+    /// Sends the next `count` bytes, one a tick. There must be at least that many still to be sent.
     #[inline]
     pub fn send_some(&mut self, count: usize) -> LineBytes
         requires { count ≤ length (bytes_unsent self.old) }
@@ -87,7 +87,7 @@ impl<const B: usize> Trailer<B> {
         sent
     }
 
-    /// The tick of the next byte to be sent; silence where all are.
+    /// Sends the next byte and returns its tick, or returns silence if all are sent.
     #[inline]
     pub fn next_tick(&mut self) -> Tick
         ensures tick { result ≡ first_of (bytes_unsent self.old) }
