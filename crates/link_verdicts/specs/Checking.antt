@@ -1,4 +1,4 @@
--- What the receiver makes of a link: its notes, the frames that pass, and the line of the device.
+-- What the receiver makes of a link: its notes, the frames that pass, and the device's line.
 use Rattle.std.specs.Prelude.{ℕ, ◌+◌, ◌-◌, List, length, min, Option, Some, None}
 use Rattle.std.specs.List.{filter_map}
 use Rattle.yasir_ticks.specs.Bursts.{Burst}
@@ -22,15 +22,15 @@ use Rattle.link_verdicts.specs.declared.note.CheckNote.TheVariants.{Passed, Refu
 
 -- ---- when a burst is noted
 
--- the tick in which its header isn't good: that of the last byte of a bad one, or that of the
--- second silent tick in a row after one that is too short
+-- the tick in which it shows that the header of a burst isn't good: the tick of the last byte of a
+-- bad header, or the second silent tick in a row after a header that is too short
 abbrev pub head_tick : Rules → Burst → Head → ℕ
 head_tick rules d Bad = d.start + (length (up_to_byte rules.header_len d.body) - 1)
 head_tick rules d Short = d.start + length (before_pause d.body) + (T1_5_TICKS - 1)
 head_tick rules d Good = d.start
 
--- the first tick after its live bytes that a pause and a trailer don't have so, and where there is
--- none that of the trailer's last byte
+-- the first tick after a burst's live bytes that differs from a pause and a trailer, or, if none
+-- does, the tick of the trailer's last byte
 abbrev pub trailer_tick : Profile → Rules → Burst → ℕ
 trailer_tick profile rules d =
     live_end rules d + min (kept_after profile rules d) (pause_len + trailer_len profile - 1)
@@ -43,11 +43,11 @@ note_tick profile rules d (dropped NoHead) = head_tick rules d (head_of rules (l
 
 -- ---- what is known after a burst
 
--- the tick after that in which its last live byte leaves
+-- the tick after the one in which a burst's last live byte leaves
 abbrev pub start_after : Profile → Rules → Burst → ℕ
 start_after profile rules d = live_end rules d + delay profile
 
--- The next burst may start once all bytes of this one have left.
+-- The next burst may start when all bytes of this one have left.
 abbrev pub state_by : Profile → Rules → CheckState → Burst → Verdict → CheckState
 state_by profile rules s d (passed_with number) =
     record { floor = number; earliest_start = start_after profile rules d }
@@ -55,7 +55,7 @@ state_by profile rules s d (refused why) =
     record { floor = s.floor; earliest_start = start_after profile rules d + owed rules d }
 state_by profile rules s d (dropped why) = s
 
--- ---- what is noted of a burst; of a passed one the frame itself
+-- ---- what is noted about a burst; for a passed one, the frame itself
 
 pub data FullNote : Type 0 where
   passed_note : (number start : ℕ) (frame : List ℕ) → FullNote
@@ -67,7 +67,7 @@ note_by rules d (passed_with number) = passed_note number d.start (live_bytes ru
 note_by rules d (refused why) = refused_note d.start why
 note_by rules d (dropped why) = dropped_note d.start why
 
--- A note as it is answered: of a passed frame it has the length alone.
+-- A note as a step returns it: for a passed frame it has only the length.
 abbrev pub brief_note : FullNote → CheckNote
 brief_note (passed_note number start frame) = Passed number start (length frame)
 brief_note (refused_note start why) = Refused start why
@@ -83,7 +83,7 @@ checker profile rules = record {
   emission = λ s d. emission_by profile rules d (checked profile rules s d);
 }
 
--- a receiver at rest whose journal has this floor
+-- what a receiver whose journal has this floor knows before the first burst
 abbrev pub at_floor : ℕ → CheckState
 at_floor floor = record { floor = floor; earliest_start = 0 }
 
@@ -91,7 +91,7 @@ at_floor floor = record { floor = floor; earliest_start = 0 }
 abbrev pub check_notes : Profile → Rules → ℕ → List Tick → List (Noted FullNote)
 check_notes profile rules floor link = notes_of (checker profile rules) (at_floor floor) link
 
--- what the device is sent, tick by tick with the link
+-- the line that the receiver sends to the device, tick by tick with the link
 abbrev pub received_line : Profile → Rules → ℕ → List Tick → List Tick
 received_line profile rules floor link = line_of (checker profile rules) (at_floor floor) link
 

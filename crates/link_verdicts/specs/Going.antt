@@ -1,4 +1,4 @@
--- What one more tick does.
+-- What one more tick of a link changes for a receiver.
 use Rattle.std.specs.Prelude.{ℕ, Bool, List, [], ◌∷◌, ◌++◌, length, Option}
 use Rattle.yasir_ticks.specs.Bursts.{Burst, bursts}
 use Rattle.yasir_ticks.specs.declared.tick.Tick.{Tick}
@@ -11,12 +11,13 @@ use Rattle.link_verdicts.specs.declared.note.CheckNote.{CheckNote}
 use Rattle.link_verdicts.specs.Holding.{HasWalked}
 
 module _ (profile : Profile) (rules : Rules) (floor : ℕ) (line : List Tick) (t : Tick) where
-  -- one more tick of the link is answered so
+  -- Holds if the step of one more tick of the link returns this tick and this note.
   abbrev pub Answers : Tick → Option CheckNote → Type 0
   Answers answer told =
       AnswersTick (checker profile rules) brief_note (at_floor floor) line t answer told
 
-  -- After these ticks of a link comes one more: the walk over them then stands so, and answers so.
+  -- Holds if one more tick after these ticks of a link brings the walk over them this far, and the
+  -- step of that tick returns this tick and this note.
   pub record Goes (s : CheckState) (passes : Bool) (left : List ℕ) (live : List Tick) (owed : ℕ)
       (waiting : Option Burst) (answer : Tick) (told : Option CheckNote) : Type 0 where
     pub walked : HasWalked profile rules floor (length (line ++ t ∷ []))

@@ -14,18 +14,18 @@ use Rattle.link_verdicts.specs.Verdicts.{CheckState, after_live, kept_after}
 use Rattle.link_verdicts.specs.Checking.{checker, at_floor}
 use Rattle.link_verdicts.specs.Leaving.{leaves}
 
--- the bytes that have come of the trailer of a burst
+-- the bytes of a burst's trailer that have come so far
 abbrev pub trailer_so_far : Rules → Burst → List ℕ
 trailer_so_far rules d = bytes_in (drop pause_len (after_live rules d))
 
--- what leaves of a burst where nothing is spoiled, from its start on
+-- what leaves for a burst if nothing is spoiled, tick by tick from the burst's start on
 abbrev pub as_it_came : Profile → Rules → Burst → List Tick
 as_it_came profile rules d = silent (delay profile) ++ live_ticks rules d
 
--- Before tick m the verdict on this burst is open. It isn't dropped as yet: it didn't start too
--- soon, its header isn't bad, and nor is it short where two ticks have come after its live bytes;
--- and all those ticks are as a pause and a trailer are. Of its bytes these have left, and these
--- ticks are still to leave.
+-- Holds if, before tick m, the verdict on this burst is open. So far it isn't dropped: it didn't
+-- start too soon, its header isn't bad, and, if two ticks have come after its live bytes, its
+-- header isn't short. All ticks after its live bytes keep the shape of a pause and a trailer. Of
+-- the burst the bytes `left` have left, and the ticks `live` haven't left yet.
 pub record Opens (profile : Profile) (rules : Rules) (m earliest : ℕ) (d : Burst) (left : List ℕ)
     (live : List Tick) : Type 0 where
   pub from : d.start < m
@@ -39,7 +39,8 @@ pub record Opens (profile : Profile) (rules : Rules) (m earliest : ℕ) (d : Bur
   pub live_is : live ≡ drop (m - d.start) (as_it_came profile rules d)
   pub left_is : left ≡ bytes_in (take (m - d.start) (as_it_came profile rules d))
 
--- Before tick m no verdict is open, and of all that bursts emit this is still to leave.
+-- Holds if, before tick m and with no verdict open, `leaves` gives what hasn't left yet of all that
+-- bursts emit. When the next burst may start, all of it has left.
 pub record Rests (rules : Rules) (passes : Bool) (m earliest : ℕ) (left : List ℕ)
     (live : List Tick) (owed : ℕ) (emissions : List Burst) : Type 0 where
   pub shows : (i : ℕ) → m ≤ i
@@ -47,8 +48,9 @@ pub record Rests (rules : Rules) (passes : Bool) (m earliest : ℕ) (left : List
   pub ends : 0 < length (leaves rules passes left live owed)
       → m + length (leaves rules passes left live owed) ≤ earliest
 
--- Before tick m, the walk over these bursts has come so far, and of what they emit these bytes have
--- left, and these live ticks and a fill of this many bytes are still to leave.
+-- Holds if, before tick m, the walk over these bursts has come to the state `s`, with the burst
+-- `waiting` not noted yet, if there is one. Of what the bursts emit the bytes `left` have left, and
+-- the ticks `live` and a fill of `owed` bytes haven't left yet.
 pub record HasWalked (profile : Profile) (rules : Rules) (floor m : ℕ) (ds : List Burst)
     (s : CheckState) (passes : Bool) (left : List ℕ) (live : List Tick) (owed : ℕ)
     (waiting : Option Burst) : Type 0 where

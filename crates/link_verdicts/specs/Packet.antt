@@ -8,9 +8,9 @@ use Rattle.frame_ending.specs.LiveBytes.{live_bytes}
 use Rattle.link_format.specs.Profile.{Profile, pause_len, trailer_len, trailer, words}
 use Rattle.link_verdicts.specs.Verdicts.{CheckState, after_live}
 
--- The live bytes of this burst are a frame, which a pause and the trailer of this number follow; it
--- finds the receiver free; and the number is among those after the floor whose words tell them
--- apart, and within the limit.
+-- Holds if the burst is a packet that finds the receiver free. Its live bytes are a frame, and a
+-- pause and the trailer of this number follow them. The number is within the limit, and is one of
+-- those right after the floor, which can be told apart by their words.
 pub record IsPacket (profile : Profile) (rules : Rules) (s : CheckState) (d : Burst) (number : ℕ) :
     Type 0 where
   pub framed : rules.is_frame (live_bytes rules d) ≡ true

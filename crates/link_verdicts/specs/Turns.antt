@@ -1,4 +1,4 @@
--- What the outlet makes of the tick that is to leave.
+-- What the outlet makes of the next tick to leave.
 use Rattle.std.specs.Prelude.{◌≡◌, ℕ, ◌-◌, Bool, true, false, List, ◌∷◌, [], ◌++◌, Option, Some}
 use Rattle.std.specs.Prelude.{None}
 use Rattle.yasir_ticks.specs.declared.tick.Tick.{Tick}
@@ -8,13 +8,14 @@ use Rattle.spoiler.specs.declared.outlet.Outlet.{Outlet}
 use Rattle.spoiler.specs.Outlet.{StandsFor as OutletStandsFor, Refuses, owed_by, refused_by}
 use Rattle.spoiler.specs.Outlet.{emitted, owed_after, filled, filled_bytes}
 
--- the tick of a byte, or silence where there is none
+-- the tick of a byte, or silence if there is none
 abbrev pub tick_or_silence : Option ℕ → Tick
 tick_or_silence None = Silent
 tick_or_silence (Some b) = Byte b
 
--- After these bytes a byte goes through the outlet, the last one or not, and silence lets a fill
--- out. All bytes of a burst that isn't passed are known to the outlet before the last one leaves.
+-- Holds if the outlet makes `answer` of a tick that leaves after these bytes. A byte goes through
+-- the outlet, as the last one or not, and silence lets out the next byte of a fill. The outlet must
+-- know all bytes of a burst that doesn't pass before the last of them leaves.
 abbrev pub HasTurned : {R : Type 0} → LineRules R → Outlet R → Outlet R → Bool → Bool → List ℕ
     → Tick → Tick → Type 0
 HasTurned proto old new last passes x answer Silent =

@@ -19,12 +19,12 @@ use Rattle.link_verdicts.specs.declared.note.DroppedWhy.TheVariants.{Busy, Head 
 
 -- what the receiver knows between bursts
 pub record CheckState : Type 0 where
-  -- the number of the last passed burst; at first the floor of the journal
+  -- the number of the last passed burst, or the floor of the journal if none has passed yet
   pub floor : ℕ
   -- a burst that starts before this tick meets a busy receiver
   pub earliest_start : ℕ
 
--- what becomes of a burst: it passes with a number, or it is refused or dropped for a reason
+-- what happens to a burst: it passes with a number, or it is refused or dropped for a reason
 pub data Verdict : Type 0 where
   passed_with : (number : ℕ) → Verdict
   refused : RefusedWhy → Verdict
@@ -36,18 +36,19 @@ pub data Verdict : Type 0 where
 abbrev pub after_live : Rules → Burst → List Tick
 after_live rules d = drop (length (live_ticks rules d)) d.body
 
--- how many of them keep the shape of a pause and a trailer
+-- how many of the first ticks after the live bytes keep the shape of a pause and a trailer
 abbrev pub kept_after : Profile → Rules → Burst → ℕ
 kept_after profile rules d = kept (trailer_shape profile) (after_live rules d)
 
--- the bytes of the trailer, where the shape is kept
+-- the bytes of the trailer, if the shape is kept
 abbrev pub trailer_of : Profile → Rules → Burst → List ℕ
 trailer_of profile rules d =
     bytes_in (take (trailer_len profile) (drop pause_len (after_live rules d)))
 
 -- ---- the verdict
 
--- the number of a trailer: the least one above the floor with its word, up to the limit
+-- the number of a trailer: the least one above the floor with its word, or `None` if that is above
+-- the limit
 abbrev pub number_of : Profile → ℕ → List ℕ → Option ℕ
 number_of profile floor bytes = full_of profile.limit (words profile) floor (word_of profile bytes)
 
@@ -55,33 +56,34 @@ number_of profile floor bytes = full_of profile.limit (words profile) floor (wor
 abbrev pub tag_in : Profile → List ℕ → List ℕ
 tag_in profile bytes = drop profile.word_len bytes
 
--- by the number of a trailer: a frame passes where the trailer has their tag
+-- the verdict by the number of a trailer: a frame passes if the trailer has the tag of that number
+-- and the frame
 abbrev pub verdict_by_number : Profile → List ℕ → List ℕ → Option ℕ → Verdict
 verdict_by_number profile frame bytes None = refused Number
 verdict_by_number profile frame bytes (Some number) =
     if bytes_eq (tag_in profile bytes) (profile.tag number frame) then passed_with number
     else refused Tag
 
--- of live bytes that a whole trailer follows
+-- the verdict on live bytes that a whole trailer follows
 abbrev pub whole_verdict : Profile → Rules → ℕ → List ℕ → List ℕ → Verdict
 whole_verdict profile rules floor frame bytes =
     if rules.is_frame frame
     then verdict_by_number profile frame bytes (number_of profile floor bytes)
     else refused Form
 
--- of a burst that isn't dropped, by the first of these that holds
+-- the verdict on a burst that isn't dropped, by the first of these conditions that holds
 unfoldable pub verdict_of : Profile → Rules → ℕ → Burst → Verdict
 verdict_of profile rules floor d =
     if nat_lt (kept_after profile rules d) (pause_len + trailer_len profile) then refused Trailer
     else whole_verdict profile rules floor (live_bytes rules d) (trailer_of profile rules d)
 
--- a burst whose header isn't good is dropped
+-- the verdict by the header: a burst whose header isn't good is dropped
 abbrev pub verdict_by_head : Head → Verdict → Verdict
 verdict_by_head Good verdict = verdict
 verdict_by_head Short verdict = dropped NoHead
 verdict_by_head Bad verdict = dropped NoHead
 
--- How a burst is checked: the first of all these that holds.
+-- The verdict on a burst, by the first of all these conditions that holds.
 unfoldable pub checked : Profile → Rules → CheckState → Burst → Verdict
 checked profile rules s d =
     if nat_lt d.start s.earliest_start then dropped Busy

@@ -1,36 +1,36 @@
-//! The notes of a receiver: what became of a burst of the link, and why.
+//! The notes of a receiver: what happened to a burst of the link, and why.
 
-/// Why a burst of the link is refused: its bytes leave, and its ending is spoiled.
+/// Why a burst of the link is refused: its bytes leave, with a spoiled ending.
 #[derive(Clone, Copy, Debug, PartialEq, Eq)]
 pub enum RefusedWhy {
-    /// A pause and a trailer don't follow its live bytes, tick by tick.
+    /// Its live bytes aren't followed, tick by tick, by a pause and a trailer.
     Trailer,
-    /// Its live bytes are no frame.
+    /// Its live bytes aren't a frame.
     Form,
-    /// No number up to the greatest one has the word of its trailer.
+    /// No number above the floor, up to the greatest one, has the word of its trailer.
     Number,
-    /// Its trailer hasn't the tag of the number and the frame.
+    /// Its trailer doesn't have the tag of the number and the frame.
     Tag,
 }
 
 /// Why a burst of the link is dropped: nothing of it leaves.
 #[derive(Clone, Copy, Debug, PartialEq, Eq)]
 pub enum DroppedWhy {
-    /// It starts while the bytes of an earlier burst still leave.
+    /// It starts while bytes of an earlier burst are still leaving.
     Busy,
-    /// It begins with no good header.
+    /// It doesn't begin with a good header.
     Head,
 }
 
-/// What is noted of a burst of the link, in the step in which its verdict falls. Ticks are counted
-/// from 0, as the receiver takes them.
+/// What is noted about a burst of the link, in the step in which its verdict falls. Ticks are
+/// counted from 0, as the receiver takes them.
 #[derive(Clone, Copy, Debug, PartialEq, Eq)]
 pub enum CheckNote {
-    /// It is a frame of `len` bytes with the tag of this number, and passes; its first byte came at
+    /// It is a frame of `len` bytes with the tag of `number`, and passes. Its first byte came at
     /// tick `start`.
     Passed { number: u64, start: u64, len: u16 },
-    /// It leaves spoiled; its first byte came at tick `start`.
+    /// It leaves spoiled. Its first byte came at tick `start`.
     Refused { start: u64, why: RefusedWhy },
-    /// It doesn't leave; its first byte came at tick `start`.
+    /// It doesn't leave. Its first byte came at tick `start`.
     Dropped { start: u64, why: DroppedWhy },
 }
