@@ -7,9 +7,10 @@ use Rattle.hmac_tag.specs.declared.tag.Mac.{Ghosts as Mac}
 use Rattle.sequence_journal.specs.Links.{IsLink}
 use Rattle.sequence_journal.specs.declared.link.LinkId.{LinkId}
 
--- The link of a box by the rules of a protocol and a MAC, with words of this many bytes, and of the
--- direction with this number: as its journals name it, by the protocol's label, the direction, and
--- the receiver's delay in ticks. That is four ticks longer than the trailer, the word and the tag.
+-- The link of a box, as its journals name it, for the rules of a protocol, a MAC, words of this
+-- many bytes and the direction with this number. It has the protocol's label, the direction, and
+-- the receiver's delay in ticks, which is four ticks longer than the trailer (the word and the
+-- tag).
 abbrev pub link_by : {R M : Type 0} → LineRules R → Mac M → ℕ → ℕ → LinkId
 link_by proto macs word_len direction = record {
   label = proto.rules.label;
@@ -17,7 +18,7 @@ link_by proto macs word_len direction = record {
   profile = 4 + word_len + macs.TAG;
 }
 
--- Journals can be made for the links of both directions.
+-- Holds if journals can be made for the links of both directions.
 pub record AreLinks (link_in : Dir → LinkId) : Type 0 where
   pub ab : IsLink (link_in Ab)
   pub ba : IsLink (link_in Ba)

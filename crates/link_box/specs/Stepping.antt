@@ -1,4 +1,4 @@
--- What a step of a box answers, and what it does to the box's journal.
+-- What a step of a box returns, and what it does to the box's journal.
 use Rattle.std.specs.Prelude.{◌≡◌, ℕ, ◌<◌, ◌≤◌, List, [], ◌∷◌, ◌++◌, length, Option, Some}
 use Rattle.std.specs.Prelude.{Result, OnOk}
 use Rattle.yasir_ticks.specs.declared.TheConstants.{MAX_TICKS}
@@ -17,24 +17,25 @@ use Rattle.sequence_journal.specs.Journal.{journal_link, journal_floor, Fits, Is
 use Rattle.sequence_journal.specs.Journal.{HasFloorFrom}
 use Rattle.link_box.specs.Walking.{Walking, full_notes, number_after}
 
--- The journal serves this link, and the disk is the journal's.
+-- Holds if the journal serves this link, and the disk is the journal's.
 pub record ServesLink (link : LinkId) (journal : Journal) (told : Option Slots) : Type 0 where
   pub of_link : journal_link journal ≡ link
   pub fits : Fits journal told
 
--- A box of this link that has taken this many ticks may take one more: the journal is its own
--- link's, and the disk is the journal's.
+-- Holds if a box of this link that has taken this many ticks may take one more: they are fewer than
+-- `MAX_TICKS`, the journal serves the box's own link, and the disk is the journal's.
 pub record MayStep (link : LinkId) (taken : ℕ) (journal : Journal) (told : Option Slots) :
     Type 0 where
   pub room : taken < MAX_TICKS
   pub of_link : journal_link journal ≡ link
   pub fits : Fits journal told
 
--- The walk of a box; and what it is that, set up so, the box has taken a line, and that the last
--- number that it used is this one.
+-- `walking` is the walk of a box. `standing` holds of a box, the last number that it used, its
+-- setup, and the line that it has taken.
 module _ {X A : Type 0} (walking : Walking A) (standing : X → ℕ → Setup → List Tick → Type 0) where
-  -- After this line the box has taken one tick more: the last number that it used is that of the
-  -- last frame, and it answers the tick of the other line and the note that the walk adds.
+  -- Holds if the box has taken one more tick after this line. The last number that it used is that
+  -- of the last frame, and it has returned the tick of the other line and the note that the walk
+  -- adds.
   pub record HasStepped (value : X) (last : ℕ) (setup : Setup) (line : List Tick) (t tick : Tick)
       (note : Option A) : Type 0 where
     pub stands : standing value last setup (line ++ t ∷ [])
@@ -42,12 +43,13 @@ module _ {X A : Type 0} (walking : Walking A) (standing : X → ℕ → Setup �
     pub answers : AnswersTick (walking.walker setup) walking.brief (walking.begun setup) line t
         tick note
 
-  -- It does so whatever line it had taken.
+  -- Holds if the box has taken this tick as `HasStepped` says, whatever line it had taken.
   abbrev pub Steps : X → ℕ → X → ℕ → Tick → Tick → Option A → Type 0
   Steps old before new after t tick note = (setup : Setup) (line : List Tick)
       → standing old before setup line → HasStepped new after setup line t tick note
 
-  -- By the walk a frame with this number is noted in the step of this tick, after this line.
+  -- Holds if, by the walk, a frame with this number is noted in the step of this tick, after this
+  -- line.
   pub record NotesFrame (setup : Setup) (line : List Tick) (t : Tick) (number : ℕ) : Type 0 where
     pub full : walking.Full
     pub frame : NumberedFrame
@@ -56,8 +58,8 @@ module _ {X A : Type 0} (walking : Walking A) (standing : X → ℕ → Setup �
     pub framed : walking.frame_in full ≡ Some frame
     pub numbered : frame.number ≡ number
 
-  -- A step failed: a number isn't committed, which is that of the frame that is noted in this step,
-  -- whatever line the box had taken.
+  -- Holds if a step failed because a number isn't committed. It is the number of the frame that is
+  -- noted in this step, whatever line the box had taken.
   pub record FailsStep (value : X) (old new : Journal) (t : Tick) (told_old told_new : Option Slots)
       : Type 0 where
     pub number : ℕ
@@ -71,8 +73,8 @@ pub record KeepsJournal {D A : Type 0} (d : SlotDisk D) (old new : Journal) (dis
   pub link : journal_link new ≡ journal_link old
   pub rises : journal_floor old ≤ journal_floor new
   pub fits : OnOk result (Fits new (d.told disk_new))
-  -- Where a crash before the step left no floor below the journal's, one after it leaves none below
-  -- what is then the journal's, and one at any moment inside it leaves none below what was.
+  -- If a crash before the step left no floor below the journal's, a crash after it leaves none
+  -- below the journal's new floor, and one at any moment inside it leaves none below the old one.
   pub crash_safe : IsCrashSafe old (d.told disk_old) (d.may_leave disk_old)
       → IsCrashSafe new (d.told disk_new) (d.may_leave disk_new)
   pub any_moment : IsCrashSafe old (d.told disk_old) (d.may_leave disk_old)

@@ -1,4 +1,4 @@
--- A box between two lines as a walk over the bursts of the one line.
+-- A box between two lines as a walk over the bursts of one of them.
 use Rattle.std.specs.Prelude.{ℕ, List, Option}
 use Rattle.std.specs.List.{filter_map}
 use Rattle.yasir_ticks.specs.declared.tick.Tick.{Tick}
@@ -6,8 +6,9 @@ use Rattle.burst_walk.specs.Walk.{Walker, Noted, notes_of, line_of}
 use Rattle.link_format.specs.NumberedFrame.{NumberedFrame, last_number}
 use Rattle.link_format.specs.Setup.{Setup}
 
--- The walk of a box that is set up so, and the state that it begins in; of each note what the box
--- tells of it, and the numbered frame that it seals or passes, if there is one.
+-- For each setup of a box, its walk and the state in which it begins. For each note of the walk,
+-- what the box returns for it, and the numbered frame that the box seals or passes, if there is
+-- one.
 pub record Walking (A : Type 0) : Type 1 where
   pub State : Type 0
   pub Full : Type 0
@@ -25,10 +26,10 @@ module _ {A : Type 0} (walking : Walking A) where
   abbrev pub other_line : Setup → List Tick → List Tick
   other_line setup line = line_of (walking.walker setup) (walking.begun setup) line
 
-  -- the frames that a box seals or passes of a line
+  -- the frames of a line that a box seals or passes
   abbrev pub frames_of : Setup → List Tick → List NumberedFrame
   frames_of setup line = filter_map (λ n. walking.frame_in n.note) (full_notes setup line)
 
-  -- the last number that it uses for them, or its floor where there is none
+  -- the last number that a box uses for the frames of a line, or its floor if there are none
   abbrev pub number_after : Setup → List Tick → ℕ
   number_after setup line = last_number setup.floor (frames_of setup line)

@@ -1,4 +1,4 @@
-//! A run of ticks by both of a box's calls for runs.
+//! How a box takes a run of ticks by either of its calls for runs.
 ghost use Rattle.std.specs.Prelude.{◌≡◌, ◌+◌, ◌≤◌, [], ◌∷◌, length, take};
 ghost use Rattle.yasir_ticks.specs.TickRun.{run_ticks};
 ghost use Rattle.burst_walk.specs.Answered.{answered};
@@ -8,7 +8,7 @@ use crate::LinkBox;
 use burst_walk::RunBytes;
 use yasir_ticks::{MAX_TICKS, Tick, TickRun};
 
-/// How many bytes are forwarded at once at most: as many as `RunBytes` has room for.
+/// The most bytes that are forwarded at once: as many as `RunBytes` has room for.
 const MAX_RUN: usize = 64;
 
 /// Puts these bytes, 64 at most, into `sent` in place of what is there.
@@ -21,8 +21,8 @@ pub fn put_bytes(sent: &mut RunBytes, bytes: &[u8])
     let _ = sent.try_extend_from_slice(bytes);
 }
 
-/// Puts the answer to a single tick into `sent`, in place of what is there: its byte, or nothing
-/// where it is silent.
+/// Puts the tick that a box returns for a single tick into `sent`, in place of what is there: its
+/// byte, or nothing if it is silent.
 #[inline]
 pub fn put_tick(sent: &mut RunBytes, tick: Tick)
     ensures { answered 1 sent.new.items ≡ tick ∷ [] }
@@ -33,8 +33,8 @@ pub fn put_tick(sent: &mut RunBytes, tick: Tick)
     }
 }
 
-// Takes what the box forwards of the first of these ticks, and puts the bytes among them into
-// `sent`.
+// Takes as many of the first of these ticks as the box forwards, and returns how many. Puts the
+// bytes among them into `sent`.
 #[inline]
 fn forward_alike<X: LinkBox>(line_box: &mut X, run: TickRun<'_>, sent: &mut RunBytes) -> usize
     requires { X.taken line_box.old + length (run_ticks run) ≤ MAX_TICKS }
@@ -59,11 +59,11 @@ fn forward_alike<X: LinkBox>(line_box: &mut X, run: TickRun<'_>, sent: &mut RunB
     }
 }
 
-/// Takes the first of these ticks, as far as the box answers all of them with silence or all of
-/// them with bytes, without a note and without a number, and returns how many: what it forwards
-/// comes first, then what it doesn't. Puts the bytes of the answer into `sent`, one for each tick,
-/// or none for silence. With 0 the caller goes on by `step`. At most `MAX_TICKS` ticks are taken
-/// then.
+/// Takes the first of these ticks, as long as the box returns silence for all of them or bytes for
+/// all of them, without a note and without using a number, and returns how many. It tries `forward`
+/// first, and `pass` if that takes none. Puts the bytes that the box returns into `sent`, one for
+/// each tick, or none for silence. If none is taken, the caller goes on by `step`. There must be
+/// room for all of these ticks: the box takes at most `MAX_TICKS`.
 #[inline]
 pub fn take_alike<X: LinkBox>(line_box: &mut X, run: TickRun<'_>, sent: &mut RunBytes) -> usize
     requires { X.taken line_box.old + length (run_ticks run) ≤ MAX_TICKS }

@@ -1,4 +1,5 @@
-//! The trait that transmitter and receiver implement: a key, a direction, a journal, and steps.
+//! The trait that the transmitter and the receiver implement: a key, a direction, a journal, and
+//! steps.
 ghost use Rattle.std.specs.Prelude.{◌≡◌, ℕ, ◌+◌, ◌≤◌, List, [], length, take, OnOk, OnErr, IfOk};
 ghost use Rattle.yasir_ticks.specs.TickRun.{run_ticks};
 ghost use Rattle.yasir_ticks.specs.declared.tick.Tick.{Tick};
@@ -17,49 +18,49 @@ use sequence_journal::{Journal, JournalFault, LinkId};
 use yasir_io::SlotDisk;
 use yasir_ticks::{MAX_TICKS, Tick, TickRun};
 
-/// A box between two lines, set up with a key and a direction: it takes one line tick by tick and
-/// returns the other one. The numbers that it uses come from a journal, which is that of the steps
-/// before and serves the link of the box.
+/// A box between two lines, set up with a key and a direction. It takes one line tick by tick and
+/// returns the other one. The numbers that it uses come from a journal, which serves the box's link
+/// and is the same one in each step.
 pub trait LinkBox: Drop {
-    /// What it notes in a step.
+    /// What the box notes in a step.
     type Note: Copy;
 
-    /// Begun with this setup, the box has taken these ticks, and the last number that it used is
-    /// this one.
+    /// Holds if the box began with this setup and has taken these ticks, and the last number that
+    /// it used is this one.
     ghost stands: { Self → ℕ → Setup → List Tick → Type 0 };
 
-    /// How many ticks it has taken.
+    /// How many ticks the box has taken.
     ghost taken: { Self → ℕ };
 
-    /// What it makes of a line.
+    /// What the box makes of a line.
     ghost walking: { Walking Self.Note };
 
-    /// What must hold of the widths that it is made with.
+    /// What must hold of the widths with which a box is made.
     ghost widths_fit: { Type 0 };
 
     /// The link of a box. It never changes.
     ghost link_of: { Self → LinkId };
 
-    /// The link of a box of each direction.
+    /// The link of a box, by its direction.
     ghost link_in: { Dir → LinkId };
 
-    /// The link of a box of this direction, which its journal serves.
+    /// Returns the link of a box of this direction, which its journal serves.
     fn link(dir: Dir) -> LinkId
         requires { widths_fit }
         ensures { result ≡ link_in dir };
 
-    /// A box that has taken no tick, for a key of any length and a direction.
+    /// Returns a box that has taken no tick, for a key of any length and a direction.
     fn new(key: &[u8], dir: Dir) -> Self
         requires { widths_fit }
         ensures taken { taken result ≡ 0 }
         ensures link { link_of result ≡ link_in dir }
         ensures stands { (floor : ℕ) → stands result floor (setup_of key.now dir floor) [] };
 
-    /// Takes the next tick, and returns that of the other line at the same place, with the note
-    /// that falls into this step. The journal is that of the steps before and serves the box's own
-    /// link, and the disk is the journal's. Fewer than `MAX_TICKS` ticks were taken before.
+    /// Takes the next tick, and returns the tick of the other line at the same place, with the note
+    /// that falls into this step. The journal is the one of the steps before and serves the box's
+    /// own link, and the disk is the journal's. Fewer than `MAX_TICKS` ticks were taken before.
     ///
-    /// It fails where the number of a frame isn't committed. No step follows.
+    /// It fails if the number of a frame isn't committed. No step follows then.
     fn step<D: SlotDisk>(
         &mut self,
         t: Tick,
@@ -77,9 +78,9 @@ pub trait LinkBox: Drop {
         ensures journal { KeepsJournal D.SlotDisk journal.old journal.new disk.old disk.new
             result };
 
-    /// Takes the first of these ticks, as far as the box answers each with itself, without a note
-    /// and without a number, and returns how many. With 0 the caller goes on by another call. At
-    /// most `MAX_TICKS` ticks are taken then.
+    /// Takes the first of these ticks, as long as the box returns each as it is, without a note and
+    /// without using a number, and returns how many. If none is taken, the caller goes on by
+    /// another call. There must be room for all of these ticks: the box takes at most `MAX_TICKS`.
     fn forward(&mut self, _run: TickRun<'_>) -> usize
         requires { taken self.old + length (run_ticks _run) ≤ MAX_TICKS }
         ensures within { result ≤ length (run_ticks _run.entry) }
@@ -91,10 +92,11 @@ pub trait LinkBox: Drop {
         0
     }
 
-    /// Takes the first of these ticks, as far as the box answers all of them with silence or all of
-    /// them with bytes, without a note and without a number, and returns how many. Puts the bytes
-    /// of the answer into `sent`, one for each tick, or none for silence. With 0 the caller goes on
-    /// by another call. At most `MAX_TICKS` ticks are taken then.
+    /// Takes the first of these ticks, as long as the box returns silence for all of them or bytes
+    /// for all of them, without a note and without using a number, and returns how many. Puts the
+    /// bytes that the box returns into `sent`, one for each tick, or none for silence. If none is
+    /// taken, the caller goes on by another call. There must be room for all of these ticks: the
+    /// box takes at most `MAX_TICKS`.
     fn pass(&mut self, _run: TickRun<'_>, sent: &mut RunBytes) -> usize
         requires { taken self.old + length (run_ticks _run) ≤ MAX_TICKS }
         ensures within { result ≤ length (run_ticks _run.entry) }

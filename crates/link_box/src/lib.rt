@@ -1,7 +1,8 @@
-//! What transmitter and receiver are alike in: a box between two lines, which takes the one tick by
-//! tick or in runs, returns the other one, and uses the numbers of a journal.
+//! What the transmitter and the receiver have in common: each is a box between two lines, which
+//! takes one line tick by tick or in runs, returns the other one, and uses the numbers of a
+//! journal.
 //!
-//! Code that is generic over boxes takes what it can as a run, and the others tick by tick:
+//! Code that is generic over boxes takes what it can as a run, and the other ticks one by one:
 //!
 //!     let taken = take_alike(&mut line_box, run, &mut sent);
 //!     if taken == 0 {

@@ -12,8 +12,8 @@ use crate::LinkBox;
 use burst_walk::RunBytes;
 use yasir_ticks::{MAX_TICKS, Tick, TickRun};
 
-/// A box that says of a tick, before it takes it, whether it is sure that no note falls into its
-/// step. A number is used in no other step than one with a note, so such a tick needs no journal.
+/// A box that says, before it takes a tick, whether it is sure that no note falls into the step of
+/// that tick. A number is only used in a step with a note, so such a tick needs no journal.
 pub trait NotelessBox: LinkBox {
     /// Whether the box is sure, after this line, that no note falls into the step of this tick.
     ghost noteless: { Self → List Tick → Tick → Bool };
@@ -23,8 +23,9 @@ pub trait NotelessBox: LinkBox {
         ensures { (last : ℕ) (setup : Setup) (line : List Tick)
             → Self.stands self.now last setup line → result ≡ noteless self.now line t };
 
-    /// Takes the next tick, of which the box is sure, and returns that of the other line. No note
-    /// falls into the step, and no number is used. Fewer than `MAX_TICKS` ticks were taken before.
+    /// Takes the next tick, of which the box is sure that no note falls into its step, and returns
+    /// the tick of the other line. No number is used. Fewer than `MAX_TICKS` ticks were taken
+    /// before.
     fn take_noteless(&mut self, t: Tick) -> Tick
         requires noteless { IsNoteless Self.stands noteless self.old t }
         requires room { Self.taken self.old < MAX_TICKS }
@@ -34,24 +35,25 @@ pub trait NotelessBox: LinkBox {
             (result ∷ []) };
 }
 
-/// A box that says of a run of ticks how many of them it surely takes at once, so that it can go
-/// along with another box which stops where it will.
+/// A box that says how many ticks of a run it surely takes at once, before it takes them. So it can
+/// take the same ticks as another box, wherever that one stops.
 pub trait ForetellingBox: NotelessBox {
-    /// The box takes these ticks at once, all of them.
+    /// Holds if the box takes all of these ticks at once.
     ghost foretold: { Self → List Tick → Type 0 };
 
-    /// How many of the first of these ticks the box surely takes at once, and any fewer of them
-    /// too: it answers all of them with silence or all of them with bytes, without a note. It is
-    /// one at least where the box is sure of the first tick.
+    /// Returns how many of the first of these ticks the box surely takes at once. It would also
+    /// take any fewer of them. It returns silence for all of them or bytes for all of them, without
+    /// a note. The result is at least 1 if the box is sure that no note falls into the step of the
+    /// first tick.
     fn foretell(&self, run: TickRun<'_>) -> usize
         ensures within { result ≤ length (run_ticks run.entry) }
         ensures each { (n : ℕ) → n ≤ result → foretold self.now (take n (run_ticks run.entry)) }
         ensures stops { result ≡ 0
             → MayNoteAt Self.stands Self.noteless self.now (run_ticks run.entry) };
 
-    /// Takes these ticks, all of them, which the box has foretold. No note falls into them, and no
-    /// number is used. Puts the bytes of the answer into `sent`, one for each tick, or none for
-    /// silence. At most `MAX_TICKS` ticks are taken then.
+    /// Takes all of these ticks, which the box has foretold. No note falls into them, and no number
+    /// is used. Puts the bytes that the box returns into `sent`, one for each tick, or none for
+    /// silence. There must be room for all of these ticks: the box takes at most `MAX_TICKS`.
     fn follow(&mut self, run: TickRun<'_>, sent: &mut RunBytes)
         requires foretold { foretold self.old (run_ticks run) }
         requires room { Self.taken self.old + length (run_ticks run) ≤ MAX_TICKS }

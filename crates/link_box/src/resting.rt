@@ -20,9 +20,9 @@ pub trait RestingBox: LinkBox {
         ensures { (last : ℕ) (setup : Setup) (line : List Tick)
             → Self.stands self.now last setup line → result ≡ resting self.now line };
 
-    /// Takes this many silent ticks, all of them, while the box is at rest. The other line is
-    /// silent too, no note falls into them, and no number is used. At most `MAX_TICKS` ticks are
-    /// taken then.
+    /// Takes `ticks` silent ticks, all of them, while the box is at rest. The other line is silent
+    /// too, no note falls into them, and no number is used. There must be room for all of these
+    /// ticks: the box takes at most `MAX_TICKS`.
     fn rest_through(&mut self, ticks: u32)
         requires rests { Rests Self.stands resting self.old }
         requires room { Self.taken self.old + ticks ≤ MAX_TICKS }
