@@ -10,8 +10,8 @@ abbrev pub opposite_of : Dir → Dir
 opposite_of Ab = Ba
 opposite_of Ba = Ab
 
--- The journals are those of one line, by its protocol and profile: the one of its outgoing
--- direction, and the other of its incoming one. So they aren't exchanged.
+-- Holds if the journals are those of one line, with the same protocol and profile: `sent` that of
+-- its outgoing direction, and `got` that of its incoming one. So the two aren't swapped.
 pub record AreOfLine (outgoing : Dir) (sent got : Journal) : Type 0 where
   pub outgoing_is : (journal_link sent).dir ≡ direction_number outgoing
   pub incoming_is : journal_link got

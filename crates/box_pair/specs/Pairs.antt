@@ -15,7 +15,7 @@ use Rattle.box_pair.specs.declared.pair.PairStep.{PairStep}
 use Rattle.box_pair.specs.declared.pair.DuplexFault.{DuplexFault}
 use Rattle.box_pair.specs.declared.pair.DuplexFault.TheVariants.{Outgoing, Incoming}
 
--- the direction of the line that a pair sends on, its box of that direction, and that of the other
+-- the outgoing direction of a pair, its box of that direction, and its box of the incoming one
 abbrev pub outgoing_direction : {S C : Type 0} → BoxPair S C → Dir
 outgoing_direction pair = pair.outgoing
 
@@ -31,12 +31,12 @@ pub record OneWay (S X : Type 0) : Type 0 where
   pub journal : Journal
   pub disk : X
 
--- Both directions.
+-- Both directions of a line.
 pub record BothWays (S C X Y : Type 0) : Type 0 where
   pub outgoing : OneWay S X
   pub incoming : OneWay C Y
 
--- those of a pair, with the journals and disks that it is handed
+-- both directions of a pair, with the journals and disks that it is handed
 abbrev pub ways_of : {S C X Y : Type 0} → BoxPair S C → Journal → X → Journal → Y
     → BothWays S C X Y
 ways_of pair sent sent_disk got got_disk = record {
@@ -44,8 +44,8 @@ ways_of pair sent sent_disk got got_disk = record {
   incoming = record { line_box = incoming_box pair; journal = got; disk = got_disk };
 }
 
--- In one direction the box has taken this run, as this many steps without a note take it, and these
--- ticks are what it answered. No number is used, so its journal and disk have no part in it.
+-- Holds if, in one direction, the box has taken this run as that many steps without a note take it,
+-- and has returned these ticks. No number is used, so its journal and disk have no part in it.
 pub record HasPassed {S A : Type 0} (boxed : LinkBox S A) (old new : S) (run answer : List Tick) :
     Type 0 where
   pub counted : boxed.taken new ≡ boxed.taken old + length run
@@ -53,8 +53,8 @@ pub record HasPassed {S A : Type 0} (boxed : LinkBox S A) (old new : S) (run ans
   pub takes : TakesRun boxed.walking boxed.stands old new run answer
 
 module _ {S A X : Type 0} (boxed : LinkBox S A) (d : SlotDisk X) where
-  -- In one direction the box has taken this tick and answered so, and its journal and disk are as
-  -- its step leaves them.
+  -- Holds if, in one direction, the box has taken this tick and returned this tick of the other
+  -- line and this note, and its journal and disk are as its step leaves them.
   pub record HasTaken (old new : OneWay S X) (t tick : Tick) (note : Option A) : Type 0 where
     pub counted : boxed.taken new.line_box ≡ boxed.taken old.line_box + 1
     pub link : boxed.link_of new.line_box ≡ boxed.link_of old.line_box
@@ -63,8 +63,8 @@ module _ {S A X : Type 0} (boxed : LinkBox S A) (d : SlotDisk X) where
     pub journal : KeepsJournal {A = BoxStep A} d old.journal new.journal old.disk new.disk
         (Ok (record { tick = tick; note = note }))
 
-  -- In one direction the number of the frame that is noted in the step of this tick isn't
-  -- committed, and journal and disk are as the failed step leaves them.
+  -- Holds if, in one direction, the number of the frame that is noted in the step of this tick
+  -- isn't committed, and the journal and its disk are as the failed step leaves them.
   pub record HasFailed (old new : OneWay S X) (t : Tick) : Type 0 where
     pub fault : JournalFault
     pub fails : FailsStep boxed.walking boxed.stands old.line_box old.journal new.journal t
@@ -72,7 +72,7 @@ module _ {S A X : Type 0} (boxed : LinkBox S A) (d : SlotDisk X) where
     pub journal : KeepsJournal {A = BoxStep A} d old.journal new.journal old.disk new.disk
         (Err fault)
 
-  -- It has taken this tick, whatever it answered.
+  -- Holds if, in one direction, the box has taken this tick, whatever it returned.
   pub record HasGoneOn (old new : OneWay S X) (t : Tick) : Type 0 where
     pub tick : Tick
     pub note : Option A
@@ -80,23 +80,23 @@ module _ {S A X : Type 0} (boxed : LinkBox S A) (d : SlotDisk X) where
 
 module _ {S C A B X Y : Type 0} (sends : LinkBox S A) (gets : LinkBox C B) (d : SlotDisk X)
     (e : SlotDisk Y) (from_device from_link : Tick) (old new : BothWays S C X Y) where
-  -- What stands after a step that answers: each direction has taken its tick.
+  -- What holds after a step that doesn't fail: each direction has taken its tick.
   pub record GoesOn (step : PairStep A B) : Type 0 where
     pub outgoing : HasTaken sends d old.outgoing new.outgoing from_device step.link step.sealed
     pub incoming : HasTaken gets e old.incoming new.incoming from_link step.device step.checked
 
-  -- After a fault of the outgoing direction the incoming one hasn't begun its step: box, journal
-  -- and disk are as they were.
+  -- What holds after a fault of the outgoing direction: the incoming one hasn't begun its step, and
+  -- its box, journal and disk are as they were.
   pub record FailsOutgoing : Type 0 where
     pub outgoing : HasFailed sends d old.outgoing new.outgoing from_device
     pub incoming : new.incoming ≡ old.incoming
 
-  -- After a fault of the incoming direction the step of the outgoing one stands.
+  -- What holds after a fault of the incoming direction: the outgoing one has taken its tick.
   pub record FailsIncoming : Type 0 where
     pub outgoing : HasGoneOn sends d old.outgoing new.outgoing from_device
     pub incoming : HasFailed gets e old.incoming new.incoming from_link
 
-  -- What stands after each answer of a step.
+  -- What holds after a step, by what it returns.
   abbrev pub StepsBoth : Result (PairStep A B) DuplexFault → Type 0
   StepsBoth (Ok step) = GoesOn step
   StepsBoth (Err Outgoing) = FailsOutgoing

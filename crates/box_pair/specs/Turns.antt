@@ -11,8 +11,8 @@ use Rattle.link_box.specs.Walking.{full_notes, other_line}
 use Rattle.box_pair.specs.Pairs.{OneWay, BothWays, GoesOn, HasPassed}
 use Rattle.box_pair.specs.declared.pair.PairStep.{PairStep}
 
--- What a step was given, and what it answered; or what a run was given, and what was sent on the
--- link and to the device meanwhile.
+-- A step, with what it was given and what it returned, or a run, with what it was given and what
+-- was sent on the link and to the device meanwhile.
 pub data Turn (A B : Type 0) : Type 0 where
   stepped : (from_device from_link : Tick) (step : PairStep A B) → Turn A B
   passed : (from_device from_link to_link to_device : List Tick) → Turn A B
@@ -27,7 +27,7 @@ module _ {A B : Type 0} where
   ticks_from_link (stepped from_device from_link step) = from_link ∷ []
   ticks_from_link (passed from_device from_link to_link to_device) = from_link
 
-  -- the ticks that it answered
+  -- the ticks that a turn returned
   abbrev pub ticks_to_link : Turn A B → List Tick
   ticks_to_link (stepped from_device from_link step) = step.link ∷ []
   ticks_to_link (passed from_device from_link to_link to_device) = to_link
@@ -36,7 +36,7 @@ module _ {A B : Type 0} where
   ticks_to_device (stepped from_device from_link step) = step.device ∷ []
   ticks_to_device (passed from_device from_link to_link to_device) = to_device
 
-  -- the notes of its ticks, of which a run has none
+  -- the notes of the ticks of a turn; a run has none
   abbrev pub notes_sealed : Turn A B → List (Option A)
   notes_sealed (stepped from_device from_link step) = step.sealed ∷ []
   notes_sealed (passed from_device from_link to_link to_device) = replicate (length from_device) None
@@ -45,7 +45,8 @@ module _ {A B : Type 0} where
   notes_checked (stepped from_device from_link step) = step.checked ∷ []
   notes_checked (passed from_device from_link to_link to_device) = replicate (length from_link) None
 
--- In one direction the box has taken this run, and its journal and disk are as they were.
+-- Holds if, in one direction, the box has taken this run, and its journal and disk are as they
+-- were.
 pub record HasPassedAlone {S A X : Type 0} (boxed : LinkBox S A) (old new : OneWay S X)
     (run answer : List Tick) : Type 0 where
   pub passed_is : HasPassed boxed old.line_box new.line_box run answer
@@ -53,7 +54,7 @@ pub record HasPassedAlone {S A X : Type 0} (boxed : LinkBox S A) (old new : OneW
 
 module _ {S C A B X Y : Type 0} (sends : LinkBox S A) (gets : LinkBox C B) (d : SlotDisk X)
     (e : SlotDisk Y) where
-  -- This turn leads from the one to the other: a step that answered, or a run.
+  -- Holds if this turn, a step that didn't fail or a run, leads from `old` to `new`.
   abbrev pub TakesTurn : BothWays S C X Y → Turn A B → BothWays S C X Y → Type 0
   TakesTurn old (stepped from_device from_link step) new =
       GoesOn sends gets d e from_device from_link old new step
@@ -61,20 +62,20 @@ module _ {S C A B X Y : Type 0} (sends : LinkBox S A) (gets : LinkBox C B) (d : 
       HasPassedAlone sends old.outgoing new.outgoing from_device to_link
       × HasPassedAlone gets old.incoming new.incoming from_link to_device
 
-  -- These turns, one after the other, lead from the one to the other.
+  -- Holds if these turns, one after the other, lead from `old` to `new`.
   abbrev pub Turns : BothWays S C X Y → List (Turn A B) → BothWays S C X Y → Type 0
   Turns old [] new = old ≡ new
   Turns old (turn ∷ turns) new = (next : BothWays S C X Y)
       × TakesTurn old turn next × Turns next turns new
 
--- the notes of ticks, of which the first one is tick m
+-- the notes of these ticks, the first of which is tick m
 abbrev pub notes_from : {A : Type 0} → ℕ → List (Option A) → List (Noted A)
 notes_from m [] = []
 notes_from m (note ∷ notes) = note_in m note ++ notes_from (m + 1) notes
 
--- In one direction the box had taken a line, and has taken these ticks more: it has answered with
--- the other line and the notes of its definition, as if the other direction weren't there; and a
--- crash leaves no floor below the journal's, if none did before.
+-- Holds if, in one direction, the box had taken a line, and has then taken these ticks. It has
+-- returned the other line and the notes of its definition, as if the other direction weren't there.
+-- A crash leaves no floor below the journal's, if none did before.
 pub record MakesLine {S A X : Type 0} (boxed : LinkBox S A) (d : SlotDisk X) (old new : OneWay S X)
     (setup : Setup) (line ticks answers : List Tick) (notes : List (Option A)) : Type 0 where
   pub stands : boxed.stands new.line_box (journal_floor new.journal) setup (line ++ ticks)

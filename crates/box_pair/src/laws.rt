@@ -1,4 +1,4 @@
-//! The law that the two directions of a pair don't touch each other.
+//! The laws of a pair of boxes: its two directions don't affect each other.
 ghost use Rattle.std.specs.Prelude.{◌≡◌, List, ◌++◌, length, Option};
 ghost use Rattle.std.specs.List.{flat_map};
 ghost use Rattle.yasir_ticks.specs.declared.tick.Tick.{Tick};
@@ -13,8 +13,8 @@ use link_box::LinkBox;
 use yasir_io::SlotDisk;
 
 /// A law of the steps and runs of a pair, in any order, whatever ticks come from the device and
-/// from the link: in each direction they have answered with the other line and with the notes that
-/// the definition of its box makes of the ticks of this direction alone. A run has no notes.
+/// from the link. In each direction they return the other line and the notes that the definition of
+/// its box makes of the ticks of this direction only. A run has no notes.
 pub fn directions_are_apart<S: LinkBox, C: LinkBox, X: SlotDisk, Y: SlotDisk>()
     ensures outgoing { (old new : BothWays S C X Y) (turns : List (Turn S.Note C.Note))
         → Turns S.LinkBox C.LinkBox X.SlotDisk Y.SlotDisk old turns new
@@ -32,8 +32,9 @@ pub fn directions_are_apart<S: LinkBox, C: LinkBox, X: SlotDisk, Y: SlotDisk>()
         (flat_map notes_checked turns) }
 {}
 
-/// A law of one direction: ticks that follow others, with one note or none for each of those, make
-/// of the line what all of them make of it. So steps and runs may be put together as they come.
+/// A law of one direction. Some ticks, with one note or none for each of them, followed by more
+/// ticks, make of the line what all of them make of it together. So what steps and runs make may be
+/// put together as it comes.
 pub fn lines_go_on<S: LinkBox, X: SlotDisk>()
     ensures { (old mid new : OneWay S X) (setup : Setup) (line : List Tick)
         (ticks answers more answers_to_more : List Tick) (notes notes_of_more : List (Option S.Note))

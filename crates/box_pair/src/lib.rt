@@ -1,7 +1,7 @@
-//! A box of each direction of a line, stepped together: the outgoing one takes the ticks of a
-//! device, the incoming one those of the link. Neither knows of the other.
+//! Two boxes, one for each direction of a line, stepped together. The outgoing one takes the ticks
+//! of a device, and the incoming one those of the link. Neither knows of the other.
 //!
-//! One step of both directions. Each has a journal and a disk of its own:
+//! One step of both directions, each of which has a journal and a disk of its own:
 //!
 //!     let step = pair.step(
 //!         from_device, from_link, &mut sent, &mut sent_disk, &mut got, &mut got_disk,

@@ -13,9 +13,11 @@ mod runs;
 /// In which direction a number wasn't committed.
 #[derive(Clone, Copy, Debug, PartialEq, Eq)]
 pub enum DuplexFault {
-    /// That of the frame which is sealed in the step: the journal of the outgoing line failed.
+    /// The number of the frame that is sealed in the step: the journal of the outgoing direction
+    /// failed.
     Outgoing,
-    /// That of the frame which passes in the step: the journal of the incoming line failed.
+    /// The number of the frame that passes in the step: the journal of the incoming direction
+    /// failed.
     Incoming,
 }
 
@@ -24,11 +26,11 @@ pub enum DuplexFault {
 pub struct PairStep<A, B> {
     /// The tick that is sent on the link.
     pub link: Tick,
-    /// The tick that the device is sent.
+    /// The tick that is sent to the device.
     pub device: Tick,
     /// The note of the outgoing direction that falls into this step.
     pub sealed: Option<A>,
-    /// The note of the incoming one.
+    /// The note of the incoming direction that falls into this step.
     pub checked: Option<B>,
 }
 
@@ -40,7 +42,7 @@ pub struct BoxPair<S, C> {
     receiver: C,
 }
 
-/// The other direction of a line.
+/// Returns the other direction of a line.
 pub fn opposite(dir: Dir) -> Dir
     ensures { result ≡ opposite_of dir }
 {
@@ -58,8 +60,8 @@ impl<S: LinkBox, C: LinkBox> BoxPair<S, C> {
     ghost use Rattle.box_pair.specs.Pairs.{outgoing_direction, outgoing_box, incoming_box};
     ghost use Rattle.box_pair.specs.Pairs.{ways_of, StepsBoth};
 
-    /// Two boxes that have taken no tick, for a key of any length: the one of the line's direction
-    /// `outgoing`, and one of its other direction.
+    /// Returns two boxes that have taken no tick, for a key of any length: one for the line's
+    /// direction `outgoing`, and one for its other direction.
     pub fn new(key: &[u8], outgoing: Dir) -> BoxPair<S, C>
         requires outgoing_fits { S.widths_fit }
         requires incoming_fits { C.widths_fit }
@@ -82,7 +84,7 @@ impl<S: LinkBox, C: LinkBox> BoxPair<S, C> {
         }
     }
 
-    /// The box of the outgoing direction.
+    /// Returns the box of the outgoing direction.
     #[inline]
     pub fn sender(&self) -> &S
         ensures { result.now ≡ outgoing_box self.now }
@@ -90,7 +92,7 @@ impl<S: LinkBox, C: LinkBox> BoxPair<S, C> {
         &self.sender
     }
 
-    /// The box of the incoming direction.
+    /// Returns the box of the incoming direction.
     #[inline]
     pub fn receiver(&self) -> &C
         ensures { result.now ≡ incoming_box self.now }
@@ -98,13 +100,14 @@ impl<S: LinkBox, C: LinkBox> BoxPair<S, C> {
         &self.receiver
     }
 
-    /// Takes the next tick of the device and the next one of the link, the outgoing direction
-    /// first, and returns what leaves in both directions with the notes that fall into this step.
-    /// `sent` and `sent_disk` are the journal of the outgoing direction and its disk, `got` and
-    /// `got_disk` those of the incoming one, each as the steps before left it: each journal serves
-    /// the link of its box. Fewer than `MAX_TICKS` ticks were taken before in each direction.
+    /// Takes the next tick of the device and the next tick of the link, the outgoing direction
+    /// first, and returns the ticks that leave in both directions, with the notes that fall into
+    /// this step. `sent` and `sent_disk` are the journal of the outgoing direction and its disk,
+    /// and `got` and `got_disk` those of the incoming one, each as the steps before left it. Each
+    /// journal serves the link of its box. Fewer than `MAX_TICKS` ticks were taken before in each
+    /// direction.
     ///
-    /// It fails where the number of a frame isn't committed. No step follows.
+    /// It fails if the number of a frame isn't committed. No step follows then.
     #[inline(always)]
     pub fn step<X: SlotDisk, Y: SlotDisk>(
         &mut self,

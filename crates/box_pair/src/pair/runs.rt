@@ -24,9 +24,10 @@ fn is_silence(run: TickRun<'_>) -> bool
     }
 }
 
-// Takes the first of these ticks, as far as the box takes them at once, or else the first one
-// alone, if the box is sure that it has no note. Returns how many, and puts the bytes of the answer
-// into `sent`. With 0 there is no tick, or the box isn't sure of the first one.
+// Takes the first of these ticks, as many as the box takes at once. If that is none, takes only the
+// first tick, if the box is sure that no note falls into its step. Returns how many were taken, and
+// puts the bytes that the box returns into `sent`. If none was taken, there is no tick, or the box
+// isn't sure of the first one.
 #[inline]
 fn pass_some<A: NotelessBox>(line_box: &mut A, run: TickRun<'_>, sent: &mut RunBytes) -> usize
     requires { A.taken line_box.old + length (run_ticks run) ≤ MAX_TICKS }
@@ -51,9 +52,9 @@ fn pass_some<A: NotelessBox>(line_box: &mut A, run: TickRun<'_>, sent: &mut RunB
     1
 }
 
-// Takes the first of these ticks with the one box, as far as it takes them without a note, and as
-// many silent ticks with the other one, which is at rest. Returns how many. Puts what the one sends
-// into `sent`, and nothing into `silence`.
+// Takes the first of these ticks with one box, as long as it takes them without a note, and as many
+// silent ticks with the other box, which is at rest. Returns how many. Puts what the first box
+// sends into `sent`, and leaves `silence` empty.
 #[inline]
 fn pass_beside<A: NotelessBox, B: RestingBox>(
     line_box: &mut A,
@@ -88,9 +89,9 @@ impl<S: RestingBox + ForetellingBox, C: RestingBox + NotelessBox> BoxPair<S, C> 
     ghost use Rattle.box_pair.specs.Pairs.{HasPassed};
     ghost use Rattle.box_pair.specs.Pairs.{outgoing_direction, outgoing_box, incoming_box};
 
-    // Takes the first of these ticks, as many of both lines, with boxes that may both be busy: the
-    // receiver takes of as many as the sender foretells what it takes at once, and the sender
-    // follows.
+    // Takes the first of these ticks, as many of one line as of the other, with boxes neither of
+    // which needs to be at rest. The sender foretells a number of ticks, the receiver takes as many
+    // of that number as it takes at once, and the sender follows. Returns how many.
     #[inline]
     fn pass_together(
         &mut self,
@@ -127,14 +128,14 @@ impl<S: RestingBox + ForetellingBox, C: RestingBox + NotelessBox> BoxPair<S, C> 
         count
     }
 
-    /// Takes the first ticks of the device and as many of the link at once, and returns how many:
-    /// as far as each box sends all silence or all bytes, without a note and without a number in
-    /// either direction. Puts the bytes of the link into `to_link` and those for the device into
-    /// `to_device`, one for each tick, or none for silence. At most `MAX_TICKS` ticks are taken
-    /// then in each direction.
+    /// Takes the first ticks of the device and as many of the link at once, as long as each box
+    /// sends only silence or only bytes, without a note and without using a number in either
+    /// direction. Returns how many. Puts the bytes for the link into `to_link` and those for the
+    /// device into `to_device`, one for each tick, or none for silence. There must be room for all
+    /// of these ticks: each box takes at most `MAX_TICKS`.
     ///
-    /// With 0 nothing is taken: there is no tick, or one of the boxes isn't sure that no note falls
-    /// into its next step. The caller goes on by `step`.
+    /// If it returns 0, nothing is taken: there is no tick, or one of the boxes isn't sure that no
+    /// note falls into its next step. The caller goes on by `step`.
     #[inline]
     pub fn pass_both(
         &mut self,
