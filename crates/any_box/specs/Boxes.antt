@@ -41,7 +41,7 @@ kind_of (DnpChecker18 value) = record { part = Checker; proto = Of.Dnp3; profile
 kind_of (RtuChecker24 value) = record { part = Checker; proto = Of.Rtu; profile = Y24 }
 kind_of (DnpChecker24 value) = record { part = Checker; proto = Of.Dnp3; profile = Y24 }
 
--- how many ticks it has taken
+-- how many ticks a box has taken
 abbrev pub ticks_in : AnyBox → ℕ
 ticks_in (RtuSealer18 value) = seal_ticks value
 ticks_in (DnpSealer18 value) = seal_ticks value
@@ -80,7 +80,8 @@ module _ (rtu : LineRules Rtu) (dnp : LineRules Dnp) (short : Mac HmacSha1)
   abbrev pub definition_of : Kind → Definition
   definition_of kind = definition_by kind.part kind.proto kind.profile
 
-  -- Set up so, a box has taken these ticks, and the last number that it used is this one.
+  -- Holds if a box with this setup has taken these ticks, and the last number that it used is this
+  -- one.
   abbrev pub StandsAt : AnyBox → ℕ → Setup → List Tick → Type 0
   StandsAt (RtuSealer18 value) = SealsAt rtu short value
   StandsAt (DnpSealer18 value) = SealsAt dnp short value
@@ -91,8 +92,8 @@ module _ (rtu : LineRules Rtu) (dnp : LineRules Dnp) (short : Mac HmacSha1)
   StandsAt (RtuChecker24 value) = ChecksAt rtu long value
   StandsAt (DnpChecker24 value) = ChecksAt dnp long value
 
-  -- Whatever line it had taken, a box has taken this tick more, and it is the same one of the
-  -- eight.
+  -- Holds if a box has taken this tick after whatever line it had taken, and is still the same one
+  -- of the eight.
   pub record Steps (old : AnyBox) (before : ℕ) (new : AnyBox) (after : ℕ) (t tick : Tick)
       (note : Option AnyNote) : Type 0 where
     pub kind_is : kind_of new ≡ kind_of old
@@ -101,7 +102,8 @@ module _ (rtu : LineRules Rtu) (dnp : LineRules Dnp) (short : Mac HmacSha1)
     pub steps : StepsOn (definition_of (kind_of new)) (StandsAt old) (StandsAt new) before after t
         tick note
 
-  -- Whatever line it had taken, a box has taken this run more, and it is the same one of the eight.
+  -- Holds if a box has taken this run after whatever line it had taken, and is still the same one
+  -- of the eight.
   pub record TakesRun (old new : AnyBox) (run answer : List Tick) : Type 0 where
     pub kind_is : kind_of new ≡ kind_of old
     pub link_is : own_link new ≡ own_link old

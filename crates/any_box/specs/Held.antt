@@ -28,27 +28,28 @@ slots_given a b = record { a = a; b = b; old = blank_old }
 abbrev pub slots_held : HeldBox → Slots
 slots_held held = steady_slots held.disk
 
--- the last number that it used
+-- the last number that the box used
 abbrev pub floor_held : HeldBox → ℕ
 floor_held held = journal_floor held.journal
 
--- how many ticks it has taken
+-- how many ticks the box has taken
 abbrev pub ticks_held : HeldBox → ℕ
 ticks_held held = held.ticks
 
--- the link that its journal serves
+-- the link that the journal of the box serves
 abbrev pub link_held : HeldBox → LinkId
 link_held held = journal_link held.journal
 
 -- The rules of the two protocols, and the MACs of the two profiles.
 module _ (rtu : LineRules Rtu) (dnp : LineRules Dnp) (short : Mac HmacSha1)
     (long : Mac HmacSha256) where
-  -- Set up so, a box has taken this line.
+  -- Holds if a box with this setup has taken this line.
   abbrev pub Holds : HeldBox → Setup → List Tick → Type 0
   Holds held setup line = StandsAt rtu dnp short long held.line_box (floor_held held) setup line
 
-  -- A box begins: it is this one of the eight, its journal is that of its link and has the floor of
-  -- the slots, which are as they were given, and it has taken no tick.
+  -- Holds if this is how a box begins. It is this one of the eight, and has taken no tick. Its
+  -- journal serves the link of the box and has the floor of the slots, which are as they were
+  -- given.
   pub record Begins (kind : Kind) (dir : Dir) (key a b : List ℕ) (held : HeldBox) : Type 0 where
     pub kind_is : kind_of held.line_box ≡ kind
     pub link_is : link_held held ≡ link_for kind dir
@@ -57,8 +58,8 @@ module _ (rtu : LineRules Rtu) (dnp : LineRules Dnp) (short : Mac HmacSha1)
     pub none_taken : ticks_held held ≡ 0
     pub holds : Holds held (setup_of key dir (floor_held held)) []
 
-  -- A step answers what the definition of the box adds, whatever line it had taken, and what its
-  -- caller has to write.
+  -- Holds if a step returns what the definition of the box adds, whatever line the box had taken,
+  -- and what its caller must write.
   pub record StepsHeld (old new : HeldBox) (t : Tick) (step : HeldStep) : Type 0 where
     pub counted : ticks_held new ≡ ticks_held old + 1
     pub steps : Steps rtu dnp short long old.line_box (floor_held old) new.line_box
@@ -66,7 +67,8 @@ module _ (rtu : LineRules Rtu) (dnp : LineRules Dnp) (short : Mac HmacSha1)
     pub link : link_held new ≡ link_held old
     pub owes : OwesDisk old.journal new.journal old.disk new.disk step.commit
 
-  -- A run is taken with these ticks of the other line, without a note and with nothing to write.
+  -- Holds if a run is taken, and these ticks of the other line are returned, without a note and
+  -- with nothing to write.
   pub record TakesHeld (old new : HeldBox) (run answer : List Tick) : Type 0 where
     pub counted : ticks_held new ≡ ticks_held old + length run
     pub takes : TakesRun rtu dnp short long old.line_box new.line_box run answer

@@ -1,4 +1,4 @@
--- Slots by numbers.
+-- Slots as numbers.
 use Rattle.std.specs.Prelude.{ℕ}
 use Rattle.yasir_io.specs.declared.disk.Slot.{Slot}
 use Rattle.yasir_io.specs.declared.disk.Slot.TheVariants.{A, B}

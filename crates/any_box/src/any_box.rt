@@ -1,4 +1,4 @@
-//! The eight boxes behind one type.
+//! The eight boxes as one type.
 ghost use Rattle.std.specs.Prelude.{◌≡◌, ◌+◌, ◌≤◌, ◌<◌, ℕ, [], length, take, Some};
 ghost use Rattle.yasir_io.specs.Steady.{steady_slots};
 ghost use Rattle.yasir_ticks.specs.TickRun.{run_ticks};
@@ -57,7 +57,7 @@ impl AnyBox {
     ghost use Rattle.any_box.specs.Boxes.{kind_of, ticks_in, own_link, StandsAt, Steps, TakesRun};
     ghost use Rattle.any_box.specs.Kinds.{link_for};
 
-    /// A box that has taken no tick, for a key of any length and a direction.
+    /// Returns a box that has taken no tick, for a key of any length and a direction.
     pub(crate) fn new(kind: Kind, key: &[u8], dir: Dir) -> AnyBox
         ensures kind { kind_of result ≡ kind }
         ensures link { own_link result ≡ link_for kind dir }
@@ -108,10 +108,11 @@ impl AnyBox {
         with_box!(self, line_box => step_any(line_box, t, journal, disk))
     }
 
-    /// Takes the first of these ticks, as far as the box answers all of them with silence or all of
-    /// them with bytes, without a note and without a number, and answers how many. Puts the bytes
-    /// of the answer into `sent`, one for each tick, or none for silence. With 0 the caller goes on
-    /// by `step`. At most `MAX_TICKS` ticks are taken then.
+    /// Takes the first of these ticks, as long as the box returns silence for all of them or bytes
+    /// for all of them, without a note and without using a number, and returns how many. Puts the
+    /// bytes that the box returns into `sent`, one for each tick, or none for silence. If none is
+    /// taken, the caller goes on by `step`. There must be room for all of these ticks: the box
+    /// takes at most `MAX_TICKS`.
     pub(crate) fn take_alike(&mut self, run: TickRun<'_>, sent: &mut RunBytes) -> usize
         requires room { ticks_in self.old + length (run_ticks run) ≤ MAX_TICKS }
         ensures within { result ≤ length (run_ticks run.entry) }

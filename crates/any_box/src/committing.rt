@@ -1,4 +1,4 @@
-//! Boxes over a journal in memory, which tell what each step commits.
+//! Boxes over a journal in memory, and what each of their steps commits.
 ghost use Rattle.std.specs.Prelude.{◌≡◌, ◌+◌, ◌≤◌, length, take, Some, option_map};
 ghost use Rattle.yasir_io.specs.Steady.{steady_slots};
 ghost use Rattle.yasir_ticks.specs.TickRun.{run_ticks};
@@ -23,15 +23,15 @@ use yasir_ticks::{MAX_TICKS, Tick, TickRun};
 
 /// A box whose steps commit to slots in memory.
 pub(crate) trait CommittingBox: LinkBox {
-    /// A note of it as one of any box.
+    /// A note of the box, as a note of any box.
     ghost noted: { Self.Note → AnyNote };
 
-    /// A note of it as one of any box.
+    /// Returns a note of the box as a note of any box.
     fn wrap(note: Self::Note) -> AnyNote
         ensures { result ≡ noted note };
 
-    /// Takes the next tick. It never fails, since no call of the disk does. The journal is left as
-    /// it was, or one number above its last one is committed to the slot that didn't keep that.
+    /// Takes the next tick. This never fails, since no call of the disk does. The journal stays as
+    /// it was, or one number above its floor is committed to the slot that didn't keep the floor.
     fn step_in_memory(
         &mut self,
         t: Tick,
@@ -84,7 +84,7 @@ impl<R: LineRules, M: Mac, const B: usize, const D: usize> CommittingBox for Che
     }
 }
 
-// A note as one of any box, if there is one.
+// Returns the note, if there is one, as a note of any box.
 fn wrap_note<X: CommittingBox>(note: Option<X::Note>) -> Option<AnyNote>
     ensures { result ≡ option_map X.noted note }
 {
@@ -94,7 +94,7 @@ fn wrap_note<X: CommittingBox>(note: Option<X::Note>) -> Option<AnyNote>
     }
 }
 
-/// Takes the next tick by such a box, and answers its note as one of any box.
+/// Takes the next tick with this box, and returns its step, with the note as a note of any box.
 pub(crate) fn step_any<X: CommittingBox>(
     line_box: &mut X,
     t: Tick,
@@ -120,8 +120,8 @@ pub(crate) fn step_any<X: CommittingBox>(
     }
 }
 
-/// Takes the first of these ticks by such a box, as far as it answers them alike and without a note,
-/// and answers how many.
+/// Takes the first of these ticks with this box, as long as it returns silence for all of them or
+/// bytes for all of them, without a note, and returns how many.
 #[inline]
 pub(crate) fn take_any<X: CommittingBox>(
     line_box: &mut X,

@@ -21,14 +21,14 @@ use sequence_journal::{Journal, LoadError};
 use yasir_io::{Slot, SlotBytes, SteadySlots};
 use yasir_ticks::{MAX_TICKS, Tick, TickRun};
 
-/// What a step answers.
+/// What a step returns.
 #[derive(Clone, Copy, Debug, PartialEq, Eq)]
 pub struct HeldStep {
     /// The tick of the other line, at the same place.
     pub tick: Tick,
     /// The note that falls into this step.
     pub note: Option<AnyNote>,
-    /// What the caller has to write and sync before the tick leaves.
+    /// What the caller must write and sync before the tick leaves.
     pub commit: Option<Commit>,
 }
 
@@ -64,8 +64,8 @@ impl HeldBox {
     ghost use Rattle.any_box.specs.Held.{slots_given, floor_held, ticks_held, Begins};
     ghost use Rattle.any_box.specs.Held.{StepsHeld, TakesHeld};
 
-    /// A box that has taken no tick, for a key of any length and a direction. Its journal is the
-    /// one that the caller's slots `a` and `b` hold for its link.
+    /// Returns a box that has taken no tick, for a key of any length and a direction. Its journal
+    /// is the one that the caller's slots `a` and `b` hold for its link.
     #[tactic(auto, using(crate::proofs::Places::fits_kept, crate::proofs::Loaded::loaded_link, crate::proofs::Loaded::loaded_floor, crate::proofs::Loaded::loaded_slots, crate::proofs::Loaded::refused_again, crate::proofs::Places::label_same, crate::proofs::Places::dir_same, crate::proofs::Places::profile_same))]
     pub fn new(
         kind: Kind,
@@ -93,10 +93,10 @@ impl HeldBox {
         })
     }
 
-    /// Takes the next tick, and answers that of the other line, the note that falls into this step,
-    /// and what the caller has to write to its disk and sync before the tick leaves.
+    /// Takes the next tick, and returns the tick of the other line, the note that falls into this
+    /// step, and what the caller must write to its disk and sync before the tick leaves.
     ///
-    /// It fails where the box has taken `MAX_TICKS` ticks, and is then as it was.
+    /// It fails if the box has taken `MAX_TICKS` ticks, and then changes nothing.
     #[tactic(auto, using(crate::proofs::Places::fits_back, crate::proofs::Places::fits_kept, crate::proofs::Places::own_back, crate::proofs::Places::label_kept, crate::proofs::Places::dir_kept, crate::proofs::Places::profile_kept))]
     pub fn step(&mut self, t: Tick) -> Result<HeldStep, Full>
         ensures steps { IfOk result (StepsHeld ⟦<Rtu as LineRules>⟧ ⟦<Dnp as LineRules>⟧
@@ -118,10 +118,10 @@ impl HeldBox {
         })
     }
 
-    /// Takes the first of these ticks, as far as the box answers all of them with silence or all of
-    /// them with bytes, without a note and with nothing to write, and answers how many. Puts the
-    /// bytes of the answer into `sent`, one for each tick, or none for silence. With 0 the caller
-    /// goes on by `step`.
+    /// Takes the first of these ticks, as long as the box returns silence for all of them or bytes
+    /// for all of them, without a note and with nothing to write, and returns how many. Puts the
+    /// bytes that the box returns into `sent`, one for each tick, or none for silence. If none is
+    /// taken, the caller goes on by `step`.
     #[tactic(auto, using(crate::proofs::Places::label_kept, crate::proofs::Places::dir_kept, crate::proofs::Places::profile_kept, crate::proofs::Taking::within_whole, crate::proofs::Taking::takes_front, crate::proofs::Taking::taken_counted, crate::proofs::Taking::counted_taken))]
     pub fn take_alike(&mut self, run: TickRun<'_>, sent: &mut RunBytes) -> usize
         ensures within { result ≤ length (run_ticks run.entry) }
@@ -136,14 +136,14 @@ impl HeldBox {
         count
     }
 
-    /// The last number that the box used.
+    /// Returns the last number that the box used.
     pub fn floor(&self) -> u64
         ensures { result ≡ floor_held self.now }
     {
         self.journal.floor()
     }
 
-    /// How many ticks it has taken.
+    /// Returns how many ticks the box has taken.
     pub fn ticks(&self) -> u64
         ensures { result ≡ ticks_held self.now }
     {

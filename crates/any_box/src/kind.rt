@@ -1,4 +1,4 @@
-//! Which of the eight boxes one is.
+//! Which of the eight boxes a box is.
 ghost use Rattle.std.specs.Prelude.{◌≡◌};
 
 use hmac_tag::Dir;
@@ -10,11 +10,11 @@ use sequence_journal::LinkId;
 pub enum Part {
     /// The transmitter, which seals frames.
     Sealer,
-    /// The receiver, which checks them.
+    /// The receiver, which checks frames.
     Checker,
 }
 
-/// Which of the eight boxes one is.
+/// Which of the eight boxes a box is.
 #[derive(Clone, Copy, Debug, PartialEq, Eq)]
 pub struct Kind {
     pub part: Part,
@@ -26,7 +26,7 @@ impl Kind {
     ghost use Rattle.sequence_journal.specs.Links.{IsLink};
     ghost use Rattle.any_box.specs.Kinds.{link_for};
 
-    /// The link of such a box in a direction, as its journal names it.
+    /// Returns the link of a box of this kind in a direction, as its journal names it.
     pub fn link(self, dir: Dir) -> LinkId
         ensures link { result ≡ link_for self dir }
         ensures known { IsLink result }

@@ -1,4 +1,4 @@
-//! Laws of what a caller writes for a box.
+//! The law about what a caller writes for a box.
 ghost use Rattle.std.specs.Prelude.{◌≡◌, List, ℕ, Some};
 ghost use Rattle.yasir_ticks.specs.declared.tick.Tick.{Tick};
 ghost use Rattle.yasir_io.specs.Disks.{with_slot};
@@ -14,9 +14,10 @@ use hmac_tag::{HmacSha1, HmacSha256, Mac};
 use line_rules::LineRules;
 use rtu_frame::Rtu;
 
-/// Over slots that are those of a box, a caller writes what a step says. *written*: then they are
-/// again those of the box, and their floor is the last number that it used. *torn*: whatever a
-/// crash leaves in the slot that is written, the floor isn't below the last number before the step.
+/// A caller has the slots of a box on its disk, and writes what a step says. *written*: after that
+/// they are again the slots of the box, and their floor is the last number that it used. *torn*:
+/// whatever a crash leaves in the slot that is written, the floor isn't below the last number
+/// before the step.
 pub fn writes_keep_the_floor()
     ensures written { (old new : HeldBox) (t : Tick) (step : HeldStep) (commit : Commit)
         → StepsHeld ⟦<Rtu as LineRules>⟧ ⟦<Dnp as LineRules>⟧

@@ -1,9 +1,8 @@
-//! The eight boxes of a link as one type: transmitter or receiver, of Modbus RTU or DNP3, with
-//! either profile. Each has its journal in memory, and a step says what the caller has to write to
-//! the disk that it keeps.
+//! The eight boxes of a link as one type: transmitter or receiver, for Modbus RTU or DNP3, with
+//! either profile. Each has its journal in memory, and a step says what the caller must write to
+//! its own disk.
 //!
-//! The slots come from that disk, and what a step says is written and synced before its tick
-//! leaves:
+//! The slots come from that disk. What a step says is written and synced before its tick leaves:
 //!
 //!     let mut held = HeldBox::new(kind, dir, key, slot_a, slot_b)?;
 //!     let step = held.step(tick)?;

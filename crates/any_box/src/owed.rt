@@ -1,4 +1,4 @@
-//! What the caller of a box has to write to the disk that it keeps.
+//! What the caller of a box must write to its own disk.
 ghost use Rattle.std.specs.Prelude.{◌≡◌, Some};
 ghost use Rattle.yasir_io.specs.Steady.{steady_slots};
 ghost use Rattle.sequence_journal.specs.Journal.{Fits};
@@ -7,8 +7,8 @@ ghost use Rattle.sequence_journal.specs.declared.journal.Journal.{Journal};
 use sequence_journal::Journal;
 use yasir_io::{Slot, SlotBytes, SteadySlots};
 
-/// What has to be written and synced before the tick leaves with which it comes: these bytes, into
-/// this slot.
+/// What must be written and synced before the tick of the same step leaves: these bytes, into this
+/// slot.
 #[derive(Clone, Copy, Debug, PartialEq, Eq)]
 pub struct Commit {
     pub slot: Slot,
@@ -18,7 +18,8 @@ pub struct Commit {
 impl Commit {
     ghost use Rattle.any_box.specs.Commits.{CommitsOneOrNone, OwesDisk};
 
-    /// What a step has committed to these slots, which were `a` and `b` before it.
+    /// Returns what a step has committed to these slots, which were `a` and `b` before it, or
+    /// `None` if it has committed nothing.
     pub(crate) fn between(a: &SlotBytes, b: &SlotBytes, disk: &SteadySlots) -> Option<Commit>
         ensures { (old new : Journal) (disk_old : SteadySlots)
             → a.now ≡ disk_old.a → b.now ≡ disk_old.b
