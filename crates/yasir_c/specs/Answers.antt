@@ -34,7 +34,7 @@ abbrev pub dropped_number : DroppedWhy → ℕ
 dropped_number Drop.Busy = 1
 dropped_number Drop.Head = 2
 
--- a note of a frame that has a number, and one of a burst that has none
+-- a note about a frame that has a number, and a note about a burst that has none
 abbrev pub of_frame : ℕ → ℕ → ℕ → ℕ → NoteNumbers
 of_frame note number start len =
     record { note = note; why = 0; len = len; number = number; start = start }
@@ -42,7 +42,7 @@ of_frame note number start len =
 abbrev pub of_burst : ℕ → ℕ → ℕ → NoteNumbers
 of_burst note start why = record { note = note; why = why; len = 0; number = 0; start = start }
 
--- the note of a step by numbers
+-- the note of a step, as numbers
 abbrev pub numbers_in : Option AnyNote → NoteNumbers
 numbers_in None = of_burst 0 0 0
 numbers_in (Some (OfSealer (Sealed number start len))) = of_frame 1 number start len
@@ -51,7 +51,7 @@ numbers_in (Some (OfChecker (Passed number start len))) = of_frame 3 number star
 numbers_in (Some (OfChecker (Refused start why))) = of_burst 4 start (refused_number why)
 numbers_in (Some (OfChecker (Dropped start why))) = of_burst 5 start (dropped_number why)
 
--- the slot to be written: none, A or B
+-- the number of the slot that must be written, or 0 if none must
 abbrev pub slot_number : Slot → ℕ
 slot_number A = 1
 slot_number B = 2
@@ -60,7 +60,7 @@ abbrev pub commit_number : Option Commit → ℕ
 commit_number None = 0
 commit_number (Some commit) = slot_number commit.slot
 
--- the bytes to be written there, or zeros
+-- the bytes that must be written into that slot, or zeros if none must
 abbrev pub commit_bytes : Option Commit → List ℕ
 commit_bytes None = replicate 24 0
 commit_bytes (Some commit) = commit.bytes
@@ -83,6 +83,6 @@ answer_of step = record {
   unused = 0;
 }
 
--- a tick by its number: a byte below 256, and 256 for silence
+-- the tick with this number: a byte if it is below 256, silence if it is 256, and otherwise none
 abbrev pub tick_in : ℕ → Option Tick
 tick_in n = if nat_lt n 256 then Some (Byte n) else (if nat_eq n 256 then Some Silent else None)

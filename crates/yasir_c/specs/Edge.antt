@@ -1,4 +1,4 @@
--- What the functions do that C calls: the clauses of a box, at the values that its handle holds.
+-- What the functions that C calls do: the clauses of a box, for the values that its handle holds.
 use Rattle.std.specs.Prelude.{◌≡◌, ◌≢◌, ℕ, ◌*◌, ◌≤◌, ◌⊎◌, List, length, take, drop, Option, Some, None}
 use Rattle.yasir_ticks.specs.declared.TheConstants.{MAX_TICKS}
 use Rattle.yasir_ticks.specs.declared.tick.Tick.{Tick}
@@ -28,44 +28,44 @@ use Rattle.yasir_c.specs.declared.kind.KindNumbers.{KindNumbers}
 use Rattle.yasir_c.specs.declared.status.Status.{Status}
 use Rattle.yasir_c.specs.declared.status.Status.TheVariants as Is
 
--- a handle holds a box or a spacer
+-- Holds if a handle holds a box or a spacer.
 abbrev pub HoldsOne : Option Held → Type 0
 HoldsOne value = (held : Held) × (value ≡ Some held)
 
--- a handle holds a box
+-- Holds if a handle holds a box.
 abbrev pub HoldsBox : Option Held → Type 0
 HoldsBox value = (held : HeldBox) × (value ≡ Some (LineBox held))
 
--- a handle holds a box that has taken as many ticks as one can take
+-- Holds if a handle holds a box that has taken as many ticks as a box can take.
 abbrev pub HoldsFull : Option Held → Type 0
 HoldsFull value =
     (held : HeldBox) × (value ≡ Some (LineBox held)) × (ticks_held held ≡ MAX_TICKS)
 
--- nothing has changed: the box in a handle, and what was to be filled
+-- Holds if nothing has changed: the box in a handle, the answer and the slot are as they were.
 pub record IsAsItWas (old new : Option Held) (answer_old answer_new : Answer)
     (slot_old slot_new : List ℕ) : Type 0 where
   pub box_is : new ≡ old
   pub answer_is : answer_new ≡ answer_old
   pub slot_is : slot_new ≡ slot_old
 
--- a box tells the last number that it used, and is as it was
+-- Holds if the result is the last number that the box in a handle used, and the box is as it was.
 abbrev pub TellsFloor : Option Held → Option Held → ℕ → Type 0
 TellsFloor old new result = (held : HeldBox) × (old ≡ Some (LineBox held)) × (new ≡ old)
     × (result ≡ floor_held held)
 
--- the two slots of a journal that C hands over, the one behind the other
+-- the two slots of a journal that C hands over, one after the other
 abbrev pub first_slot : List ℕ → List ℕ
 first_slot slots = take SLOT_LEN slots
 
 abbrev pub second_slot : List ℕ → List ℕ
 second_slot slots = take SLOT_LEN (drop SLOT_LEN slots)
 
--- no slot holds a number
+-- Holds if no slot holds a number.
 abbrev pub FindsNoJournal : List ℕ → Type 0
 FindsNoJournal slots = any_floor (slots_given (first_slot slots) (second_slot slots)) ≡ None
 
--- The slots hold numbers for other links than that of the box alone, and this is the slot of the
--- greatest.
+-- Holds if the slots hold numbers only for other links than that of the box. `place` is the slot
+-- with the greatest.
 pub record FindsOtherLink (numbers : KindNumbers) (slots : List ℕ) : Type 0 where
   pub kind : Kind
   pub dir : Dir
@@ -74,20 +74,21 @@ pub record FindsOtherLink (numbers : KindNumbers) (slots : List ℕ) : Type 0 wh
   pub wrong : wrong_slot (link_for kind dir)
       (slots_given (first_slot slots) (second_slot slots)) ≡ Some place
 
--- why no box is made of slots; no call of slots in memory fails
+-- why no box is made from slots; `Fault` doesn't occur, since no call of slots in memory fails
 abbrev pub why_refused : LoadError → Status
 why_refused (Load.Bad a b) = Is.NoJournal
 why_refused (Load.WrongLink slot) = Is.OtherLink
 why_refused Load.Fault = Is.NoJournal
 
--- slot A of a new journal: that of number 0 for the link of a box
+-- Holds if this is slot A of a new journal, with number 0 for the link of a box.
 pub record BeginsSlot (numbers : KindNumbers) (slot : List ℕ) : Type 0 where
   pub kind : Kind
   pub dir : Dir
   pub kind_is : IsKind numbers kind dir
   pub slot_is : slot ≡ slot_bytes 0 (link_for kind dir)
 
--- or there is no such box, or no room of its size, and nothing is written
+-- What has happened, by the status: slot A of a new journal is written, or there is no such box, or
+-- no room of a slot's size, and nothing is written.
 abbrev pub InitsBy : KindNumbers → List ℕ → List ℕ → Status → Type 0
 InitsBy numbers old new Is.Done = BeginsSlot numbers new
 InitsBy numbers old new Is.BadArgument =
@@ -100,7 +101,7 @@ InitsBy numbers old new Is.Full = ⊥
 -- The rules of the two protocols, and the MACs of the two profiles.
 module _ (rtu : LineRules Rtu) (dnp : LineRules Dnp) (short : Mac HmacSha1)
     (long : Mac HmacSha256) where
-  -- A box begins from both slots of its journal, and the handle holds it.
+  -- Holds if a box begins from both slots of its journal, and the handle holds it.
   pub record Makes (numbers : KindNumbers) (key slots : List ℕ) (new : Option Held) : Type 0 where
     pub held : HeldBox
     pub kind : Kind
@@ -109,7 +110,8 @@ module _ (rtu : LineRules Rtu) (dnp : LineRules Dnp) (short : Mac HmacSha1)
     pub kind_is : IsKind numbers kind dir
     pub begins : Begins rtu dnp short long kind dir key (first_slot slots) (second_slot slots) held
 
-  -- or there is a cause, and the handle holds none
+  -- What has happened, by the status: the handle holds a box that begins, or there is a cause for
+  -- none, and the handle holds nothing.
   abbrev pub MakesBy : KindNumbers → List ℕ → List ℕ → Option Held → Status → Type 0
   MakesBy numbers key slots new Is.Done = Makes numbers key slots new
   MakesBy numbers key slots new Is.BadArgument =
@@ -119,7 +121,7 @@ module _ (rtu : LineRules Rtu) (dnp : LineRules Dnp) (short : Mac HmacSha1)
   MakesBy numbers key slots new Is.NoMemory = new ≡ None
   MakesBy numbers key slots new Is.Full = ⊥
 
-  -- The box in a handle has taken a tick, and what C reads is what its step answers.
+  -- Holds if the box in a handle has taken a tick, and what C reads is what its step returns.
   pub record StepsOnce (old new : Option Held) (number : ℕ) (answer : Answer) (slot : List ℕ)
       : Type 0 where
     pub before : HeldBox
@@ -133,7 +135,8 @@ module _ (rtu : LineRules Rtu) (dnp : LineRules Dnp) (short : Mac HmacSha1)
     pub answer_is : answer ≡ answer_of step
     pub slot_is : slot ≡ commit_bytes step.commit
 
-  -- or there is a cause, and nothing has changed
+  -- What has happened, by the status: the box has taken a tick, or there is a cause not to, and
+  -- nothing has changed.
   abbrev pub StepsBy : Option Held → Option Held → ℕ → Answer → Answer → List ℕ → List ℕ
       → Status → Type 0
   StepsBy old new number answer_old answer_new slot_old slot_new Is.Done =
@@ -147,7 +150,8 @@ module _ (rtu : LineRules Rtu) (dnp : LineRules Dnp) (short : Mac HmacSha1)
   StepsBy old new number answer_old answer_new slot_old slot_new Is.Full =
       IsAsItWas old new answer_old answer_new slot_old slot_new × HoldsFull old
 
-  -- The box in a handle has taken the first ticks of a run, and `sent` begins with what leaves.
+  -- Holds if the box in a handle has taken the first ticks of a run, and `sent` begins with what
+  -- leaves.
   pub record TakesAt (old new : Option Held) (run : List Tick) (sent : List ℕ)
       (sent_count result : ℕ) : Type 0 where
     pub before : HeldBox

@@ -1,4 +1,4 @@
--- What a handle holds: a box of a link, or a spacer; and what their calls do.
+-- What a handle holds, a box of a link or a spacer, and what their calls do.
 use Rattle.std.specs.Prelude.{◌≡◌, ℕ, List, Option, Some, None}
 use Rattle.yasir_ticks.specs.declared.TheConstants.{MAX_TICKS}
 use Rattle.yasir_ticks.specs.declared.tick.Tick.{Tick}
@@ -25,21 +25,21 @@ IsBox held = (value : HeldBox) × (held ≡ LineBox value)
 abbrev pub IsSpacer : Held → Type 0
 IsSpacer held = (value : HeldSpacer) × (held ≡ Spacer value)
 
--- a box that has taken as many ticks as one can take, and such a spacer
+-- Holds if it is a box, or a spacer, that has taken as many ticks as it can take.
 abbrev pub IsFullBox : Held → Type 0
 IsFullBox held = (value : HeldBox) × (held ≡ LineBox value) × (ticks_held value ≡ MAX_TICKS)
 
 abbrev pub IsFullSpacer : Held → Type 0
 IsFullSpacer held = (value : HeldSpacer) × (held ≡ Spacer value) × (spacer_ticks value ≡ MAX_TICKS)
 
--- the last number that a box used
+-- Holds if it is a box, and this is the last number that it used.
 abbrev pub HasFloor : Held → ℕ → Type 0
 HasFloor held floor = (value : HeldBox) × (held ≡ LineBox value) × (floor ≡ floor_held value)
 
 -- The rules of the two protocols, and the MACs of the two profiles.
 module _ (rtu : LineRules Rtu) (dnp : LineRules Dnp) (short : Mac HmacSha1)
     (long : Mac HmacSha256) where
-  -- a box has taken a tick
+  -- Holds if a box has taken a tick.
   pub record StepsBox (old new : Held) (t : Tick) (step : HeldStep) : Type 0 where
     pub before : HeldBox
     pub after : HeldBox
@@ -47,7 +47,7 @@ module _ (rtu : LineRules Rtu) (dnp : LineRules Dnp) (short : Mac HmacSha1)
     pub new_is : new ≡ LineBox after
     pub steps : StepsHeld rtu dnp short long before after t step
 
-  -- a box has taken a run
+  -- Holds if a box has taken a run.
   pub record TakesByBox (old new : Held) (run answer : List Tick) : Type 0 where
     pub before : HeldBox
     pub after : HeldBox
@@ -55,9 +55,9 @@ module _ (rtu : LineRules Rtu) (dnp : LineRules Dnp) (short : Mac HmacSha1)
     pub new_is : new ≡ LineBox after
     pub takes : TakesHeld rtu dnp short long before after run answer
 
--- The devices as which a spacer hears.
+-- The devices as which a spacer hears a line.
 module _ (rtu : Device RtuDevice) (dnp : Device (ForgetfulDevice Dnp)) where
-  -- a spacer has taken a tick
+  -- Holds if a spacer has taken a tick.
   pub record StepsBySpacer (old new : Held) (t : Tick) (step : SpaceStep) : Type 0 where
     pub before : HeldSpacer
     pub after : HeldSpacer
@@ -65,7 +65,8 @@ module _ (rtu : Device RtuDevice) (dnp : Device (ForgetfulDevice Dnp)) where
     pub new_is : new ≡ Spacer after
     pub steps : StepsSpacer rtu dnp before after t step
 
-  -- or it has taken as many ticks as one can take, and is as it was
+  -- Holds if a spacer has taken a tick, or if it has taken as many as it can take, and is as it
+  -- was.
   abbrev pub SpacesOrFull : Held → Held → Tick → Option SpaceStep → Type 0
   SpacesOrFull old new t (Some step) = StepsBySpacer old new t step
   SpacesOrFull old new t None = IsFullSpacer old × (new ≡ old)

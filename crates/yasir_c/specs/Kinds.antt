@@ -27,24 +27,25 @@ abbrev pub dir_number : Dir → ℕ
 dir_number Ab = 0
 dir_number Ba = 1
 
--- what has a number, or none where nothing has it
+-- Holds if the value has this number, or if there is no value, and none has this number.
 module _ {A : Type 0} (number_of : A → ℕ) where
   abbrev pub HasNumber : ℕ → Option A → Type 0
   HasNumber number None = (a : A) → number ≢ number_of a
   HasNumber number (Some a) = number ≡ number_of a
 
--- these are the numbers of a box and a direction
+-- Holds if these are the numbers of this box and this direction.
 pub record IsKind (numbers : KindNumbers) (kind : Kind) (dir : Dir) : Type 0 where
   pub part : numbers.part ≡ part_number kind.part
   pub protocol : numbers.protocol ≡ proto_number kind.proto
   pub profile : numbers.profile ≡ profile_number kind.profile
   pub direction : numbers.direction ≡ dir_number dir
 
--- they are those of no box
+-- Holds if these are the numbers of no box.
 abbrev pub IsNoKind : KindNumbers → Type 0
 IsNoKind numbers = (kind : Kind) (dir : Dir) → ¬ IsKind numbers kind dir
 
--- the box and direction with these numbers, or none where there is none
+-- Holds if these are the numbers of this box and this direction, or if there is none, and they are
+-- those of no box.
 abbrev pub IsKnownAs : KindNumbers → Option (Kind × Dir) → Type 0
 IsKnownAs numbers None = IsNoKind numbers
 IsKnownAs numbers (Some known) = IsKind numbers known.0 known.1

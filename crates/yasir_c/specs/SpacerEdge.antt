@@ -1,4 +1,4 @@
--- What the functions do that C calls of a spacer.
+-- What the functions that C calls for a spacer do.
 use Rattle.std.specs.Prelude.{◌≡◌, ◌≢◌, ℕ, Option, Some, None}
 use Rattle.yasir_ticks.specs.declared.TheConstants.{MAX_TICKS}
 use Rattle.yasir_ticks.specs.declared.tick.Tick.{Tick}
@@ -18,11 +18,11 @@ use Rattle.yasir_c.specs.declared.spaced.Spaced.{Spaced}
 use Rattle.yasir_c.specs.declared.status.Status.{Status}
 use Rattle.yasir_c.specs.declared.status.Status.TheVariants as Is
 
--- a handle holds a spacer
+-- Holds if a handle holds a spacer.
 abbrev pub HoldsSpacer : Option Held → Type 0
 HoldsSpacer value = (held : HeldSpacer) × (value ≡ Some (Spacer held))
 
--- a handle holds a spacer that has taken as many ticks as one can take
+-- Holds if a handle holds a spacer that has taken as many ticks as a spacer can take.
 abbrev pub HoldsFullSpacer : Option Held → Type 0
 HoldsFullSpacer value =
     (held : HeldSpacer) × (value ≡ Some (Spacer held)) × (spacer_ticks held ≡ MAX_TICKS)
@@ -34,11 +34,11 @@ spacer_numbers RtuWide = (1, 24)
 spacer_numbers Dnp3 = (2, 18)
 spacer_numbers Dnp3Wide = (2, 24)
 
--- these numbers name no spacer
+-- Holds if these numbers name no spacer.
 abbrev pub NamesNoSpacer : ℕ → ℕ → Type 0
 NamesNoSpacer protocol profile = (kind : SpacerKind) → (protocol, profile) ≢ spacer_numbers kind
 
--- the spacer that these numbers name, or none
+-- Holds if this is the spacer that these numbers name, or if there is none, and they name none.
 abbrev pub NamesSpacer : ℕ → ℕ → Option SpacerKind → Type 0
 NamesSpacer protocol profile None = NamesNoSpacer protocol profile
 NamesSpacer protocol profile (Some kind) = (protocol, profile) ≡ spacer_numbers kind
@@ -58,9 +58,9 @@ spaced_of step = record {
   unused = 0;
 }
 
--- The devices as which a spacer hears.
+-- The devices as which a spacer hears a line.
 module _ (rtu : Device RtuDevice) (dnp : Device (ForgetfulDevice Dnp)) where
-  -- A spacer begins, and the handle holds it.
+  -- Holds if a spacer begins, and the handle holds it.
   pub record MakesSpacer (protocol profile room : ℕ) (new : Option Held) : Type 0 where
     pub held : HeldSpacer
     pub kind : SpacerKind
@@ -68,7 +68,8 @@ module _ (rtu : Device RtuDevice) (dnp : Device (ForgetfulDevice Dnp)) where
     pub kind_is : (protocol, profile) ≡ spacer_numbers kind
     pub begins : BeginsSpacer rtu dnp kind room held
 
-  -- or there is a cause, and the handle holds none
+  -- What has happened, by the status: the handle holds a spacer that begins, or there is a cause
+  -- for none, and the handle holds nothing.
   abbrev pub MakesSpacerBy : ℕ → ℕ → ℕ → Option Held → Status → Type 0
   MakesSpacerBy protocol profile room new Is.Done = MakesSpacer protocol profile room new
   MakesSpacerBy protocol profile room new Is.BadArgument =
@@ -76,7 +77,7 @@ module _ (rtu : Device RtuDevice) (dnp : Device (ForgetfulDevice Dnp)) where
   MakesSpacerBy protocol profile room new Is.NoMemory = new ≡ None
   MakesSpacerBy protocol profile room new status = ⊥
 
-  -- The spacer in a handle has taken a tick, and what C reads is what its step returns.
+  -- Holds if the spacer in a handle has taken a tick, and what C reads is what its step returns.
   pub record SpacesOnce (old new : Option Held) (number : ℕ) (answer : Spaced) : Type 0 where
     pub before : HeldSpacer
     pub after : HeldSpacer
@@ -88,7 +89,8 @@ module _ (rtu : Device RtuDevice) (dnp : Device (ForgetfulDevice Dnp)) where
     pub steps : StepsSpacer rtu dnp before after t step
     pub answer_is : answer ≡ spaced_of step
 
-  -- or there is a cause, and nothing has changed
+  -- What has happened, by the status: the spacer has taken a tick, or there is a cause not to, and
+  -- nothing has changed.
   abbrev pub SpacesBy : Option Held → Option Held → ℕ → Spaced → Spaced → Status → Type 0
   SpacesBy old new number answer_old answer_new Is.Done = SpacesOnce old new number answer_new
   SpacesBy old new number answer_old answer_new Is.BadArgument =

@@ -11,6 +11,6 @@ status_number Is.OtherLink = 3
 status_number Is.NoMemory = 4
 status_number Is.Full = 5
 
--- a call returns the number of a status, of which this holds
+-- Holds if a call returns the number of a status, and `holds` is true of that status.
 abbrev pub Returns : (Status → Type 0) → ℕ → Type 0
 Returns holds result = (status : Status) × holds status × (result ≡ status_number status)

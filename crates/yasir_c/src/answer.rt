@@ -1,4 +1,4 @@
-//! What a step answers, as C reads it.
+//! What a step returns, as C reads it.
 ghost use Rattle.std.specs.Prelude.{◌≡◌};
 ghost use Rattle.yasir_c.specs.Answers.{answer_of, numbers_in, unsealed_number, refused_number};
 ghost use Rattle.yasir_c.specs.Answers.{dropped_number, commit_number, tick_bytes};
@@ -9,7 +9,7 @@ use seal_transmitter::{SealNote, UnsealedWhy};
 use yasir_io::Slot;
 use yasir_ticks::Tick;
 
-/// What a step answers. Its fields are those of `yasir_answer` in `yasir.h`, in that order.
+/// What a step returns. Its fields are those of `yasir_answer` in `yasir.h`, in that order.
 #[repr(C)]
 #[derive(Clone, Copy, Debug, PartialEq, Eq)]
 pub struct Answer {
@@ -24,7 +24,7 @@ pub struct Answer {
     pub unused: u8,
 }
 
-/// A note by numbers.
+/// A note as numbers.
 #[derive(Clone, Copy)]
 pub(crate) struct NoteNumbers {
     note: u8,
@@ -34,7 +34,7 @@ pub(crate) struct NoteNumbers {
     start: u64,
 }
 
-// A note of a frame that has a number.
+// Returns a note about a frame that has a number.
 fn of_frame(note: u8, number: u64, start: u64, len: u16) -> NoteNumbers
     ensures { result ≡ record { note = note; why = 0; len = len; number = number; start = start } }
 {
@@ -47,7 +47,7 @@ fn of_frame(note: u8, number: u64, start: u64, len: u16) -> NoteNumbers
     }
 }
 
-// A note of a burst that has none.
+// Returns a note about a burst that has no number.
 fn of_burst(note: u8, start: u64, why: u8) -> NoteNumbers
     ensures { result ≡ record { note = note; why = why; len = 0; number = 0; start = start } }
 {
@@ -125,7 +125,7 @@ fn commit_number(commit: &Option<Commit>) -> u8
     }
 }
 
-// Whether a tick carries a byte, and that byte.
+// Returns whether a tick carries a byte, and that byte.
 pub(crate) fn tick_bytes(tick: Tick) -> (u8, u8)
     ensures { result ≡ tick_bytes tick }
 {
@@ -136,7 +136,7 @@ pub(crate) fn tick_bytes(tick: Tick) -> (u8, u8)
 }
 
 impl Answer {
-    /// What C reads of a step.
+    /// Returns what C reads of a step.
     pub(crate) fn of(step: &HeldStep) -> Answer
         ensures { result ≡ answer_of step.now }
     {

@@ -1,4 +1,4 @@
-//! The functions that C calls of a box.
+//! The functions that C calls for a box.
 ghost use Rattle.std.specs.Prelude.{◌≡◌, ◌+◌, ◌≤◌, length, take, drop, Some, None, map};
 ghost use Rattle.yasir_ticks.specs.Ticks.{silent};
 ghost use Rattle.yasir_ticks.specs.TickRun.{run_ticks};
@@ -25,10 +25,10 @@ use std::alloc::Global;
 use yasir_io::{SLOT_LEN, SlotBytes};
 use yasir_ticks::{Tick, TickRun};
 
-/// The tick that carries silence; those below it carry a byte.
+/// The number of a silent tick. The numbers below it are those of bytes.
 const SILENT: u16 = 256;
 
-/// How many bytes a run leaves at most.
+/// The most bytes that leave in one run.
 const MAX_SENT: usize = 64;
 
 fn slot_in(slots: &[u8], first: usize) -> SlotBytes
@@ -51,7 +51,7 @@ fn why_not(error: &LoadError) -> Status
     }
 }
 
-// Makes a box, and puts it into a handle that holds none.
+// Makes a box, and puts it into a handle that holds nothing.
 pub(crate) fn make(
     alloc: Global,
     handle: &mut Handle,
@@ -98,7 +98,7 @@ pub extern "C" fn yasir_new(
     make(alloc, handle, kind, key, slots).number()
 }
 
-// A tick by its number.
+// Returns the tick with this number, or `None` if there is none.
 pub(crate) fn tick_in(number: u16) -> Option<Tick>
     ensures { result ≡ tick_in number }
 {
@@ -120,7 +120,7 @@ fn bytes_owed(commit: &Option<Commit>) -> SlotBytes
     }
 }
 
-// Takes the next tick by the box in a handle.
+// Takes the next tick with the box in a handle.
 pub(crate) fn step(
     alloc: Global,
     handle: &mut Handle,
@@ -172,7 +172,7 @@ pub extern "C" fn yasir_step(
     step(alloc, handle, tick, answer, slot).number()
 }
 
-// Puts what a run leaves to the front of `sent`, and says how many bytes that are.
+// Puts the bytes that leave in a run into the front of `sent`, and returns how many they are.
 fn put_sent(sent: &mut [u8], bytes: &RunBytes) -> usize
     requires { 64 ≤ length sent.old }
     ensures front { take result sent.new ≡ bytes.now.items }
@@ -184,7 +184,8 @@ fn put_sent(sent: &mut [u8], bytes: &RunBytes) -> usize
     count
 }
 
-// Takes the first ticks of a run, as far as the box answers them alike.
+// Takes the first ticks of a run, as long as the box returns silence for all of them or bytes for
+// all of them, and returns how many.
 fn take_run(
     alloc: Global,
     handle: &mut Handle,
@@ -210,8 +211,8 @@ fn take_run(
     taken
 }
 
-/// Takes the first of these bytes, one a tick, as far as the box answers them alike, without a note
-/// and with nothing to write.
+/// Takes the first of these bytes, one a tick, as long as the box returns silence for all of them
+/// or bytes for all of them, without a note and with nothing to write. Returns how many.
 #[unsafe(no_mangle)]
 pub extern "C" fn yasir_take_bytes(
     alloc: Global,
@@ -229,8 +230,8 @@ pub extern "C" fn yasir_take_bytes(
     take_run(alloc, handle, TickRun::Bytes(bytes), sent, sent_count)
 }
 
-/// Takes the first of this many silent ticks, as far as the box answers them alike, without a note
-/// and with nothing to write.
+/// Takes the first of `ticks` silent ticks, as long as the box returns silence for all of them or
+/// bytes for all of them, without a note and with nothing to write. Returns how many.
 #[unsafe(no_mangle)]
 pub extern "C" fn yasir_take_silence(
     alloc: Global,
@@ -248,7 +249,7 @@ pub extern "C" fn yasir_take_silence(
     take_run(alloc, handle, TickRun::Silence(ticks), sent, sent_count)
 }
 
-/// The last number that the box used.
+/// Returns the last number that the box used.
 #[unsafe(no_mangle)]
 pub extern "C" fn yasir_floor(alloc: Global, handle: &mut Handle) -> u64
     requires { HoldsBox handle.old.value }
@@ -261,7 +262,7 @@ pub extern "C" fn yasir_floor(alloc: Global, handle: &mut Handle) -> u64
     floor
 }
 
-/// Lets the box go, or the spacer.
+/// Frees the box or the spacer.
 #[unsafe(no_mangle)]
 pub extern "C" fn yasir_free(alloc: Global, handle: &mut Handle)
     requires { HoldsOne handle.old.value }
@@ -284,7 +285,7 @@ pub(crate) fn begin(kind: &KindNumbers, slot: &mut [u8]) -> Status
     Status::Done
 }
 
-/// The bytes of slot A of a new journal.
+/// Puts the bytes of slot A of a new journal into `slot`.
 #[unsafe(no_mangle)]
 pub extern "C" fn yasir_init(kind: &KindNumbers, slot: &mut [u8]) -> u8
     ensures { Returns (InitsBy kind.now slot.old slot.new) result }

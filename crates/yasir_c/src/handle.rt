@@ -10,7 +10,7 @@ use std::alloc::Global;
 use std::marker::Model;
 use std::{mem, ptr};
 
-/// A pointer to a box or a spacer, or to none. C sees no more than the pointer.
+/// A pointer to a box or a spacer, or to nothing. C sees only the pointer.
 #[repr(C)]
 #[derive(Drop)]
 pub struct Handle {
@@ -23,7 +23,7 @@ impl Model for Handle {
 }
 
 impl Handle {
-    /// A handle that holds nothing, whose pointer is null.
+    /// Returns a handle that holds nothing. Its pointer is null.
     pub(crate) fn empty() -> Handle
         ensures { result.value ≡ None }
     {
@@ -32,7 +32,7 @@ impl Handle {
         }
     }
 
-    /// A handle that holds this.
+    /// Returns a handle that holds this value.
     pub(crate) fn of(loose: Loose<Held, Global>) -> Handle
         ensures { result.value ≡ Some loose.value }
     {
@@ -40,7 +40,7 @@ impl Handle {
         Handle { at: at as *mut u8 }
     }
 
-    /// What a handle holds.
+    /// Returns what the handle holds.
     pub(crate) fn into_loose(self, alloc: Global) -> Loose<Held, Global>
         requires { (held : Held) × (self.value ≡ Some held) }
         ensures { self.value ≡ Some result.value }
@@ -53,7 +53,7 @@ impl Handle {
     }
 }
 
-// Takes what a handle holds, so that it holds none.
+// Takes out what a handle holds, into a new handle. The old one then holds nothing.
 fn handed_out(handle: &mut Handle) -> Handle
     ensures out { result.value ≡ handle.old.value }
     ensures none { handle.new.value ≡ None }
@@ -61,7 +61,7 @@ fn handed_out(handle: &mut Handle) -> Handle
     mem::replace(handle, Handle::empty())
 }
 
-// What a handle holds.
+// Returns what a handle holds.
 fn opened(alloc: Global, handle: Handle) -> Box<Held, Global>
     requires { HoldsOne handle.value }
     ensures { handle.value ≡ Some result.value }
@@ -69,7 +69,7 @@ fn opened(alloc: Global, handle: Handle) -> Box<Held, Global>
     handle.into_loose(alloc).into_box()
 }
 
-/// Takes out what a handle holds, which then holds nothing.
+/// Takes out what a handle holds. The handle then holds nothing.
 pub(crate) fn taken_out(alloc: Global, handle: &mut Handle) -> Box<Held, Global>
     requires { HoldsOne handle.old.value }
     ensures out { handle.old.value ≡ Some result.value }

@@ -19,7 +19,7 @@ use line_spacer::SpaceStep;
 use rtu_frame::Rtu;
 use yasir_ticks::{Tick, TickRun};
 
-/// What is behind a handle.
+/// What a handle holds.
 #[derive(Drop)]
 pub enum Held {
     /// A box of a link.
@@ -29,7 +29,7 @@ pub enum Held {
 }
 
 impl Held {
-    /// Takes the next tick by the box that is held.
+    /// Takes the next tick with the box that is held.
     pub(crate) fn step(&mut self, t: Tick) -> Result<HeldStep, Full>
         requires { IsBox self.old }
         ensures steps { IfOk result (StepsBox ⟦<Rtu as LineRules>⟧ ⟦<Dnp as LineRules>⟧
@@ -43,7 +43,8 @@ impl Held {
         }
     }
 
-    /// Takes the first of these ticks by the box that is held, as far as it answers them alike.
+    /// Takes the first of these ticks with the box that is held, as long as it returns silence for
+    /// all of them or bytes for all of them, and returns how many.
     pub(crate) fn take_alike(&mut self, run: TickRun<'_>, sent: &mut RunBytes) -> usize
         requires { IsBox self.old }
         ensures within { result ≤ length (run_ticks run.entry) }
@@ -58,7 +59,7 @@ impl Held {
         }
     }
 
-    /// The last number that the box used that is held.
+    /// Returns the last number that the box that is held has used.
     pub(crate) fn floor(&self) -> u64
         requires { IsBox self.now }
         ensures { HasFloor self.now result }
@@ -70,7 +71,7 @@ impl Held {
         }
     }
 
-    /// Takes the next tick by the spacer that is held.
+    /// Takes the next tick with the spacer that is held.
     pub(crate) fn space(&mut self, t: Tick) -> Option<SpaceStep>
         requires { IsSpacer self.old }
         ensures { SpacesOrFull ⟦<RtuDevice as Device>⟧ ⟦<ForgetfulDnp as Device>⟧ self.old self.new t

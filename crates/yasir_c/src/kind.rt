@@ -5,7 +5,7 @@ ghost use Rattle.yasir_c.specs.Kinds.{HasNumber};
 use any_box::{Kind, Part, Profile, Proto};
 use hmac_tag::Dir;
 
-/// Which box it is, by numbers.
+/// Which box C asks for, as numbers.
 #[repr(C)]
 #[derive(Clone, Copy)]
 pub struct KindNumbers {
@@ -62,7 +62,7 @@ fn dir_in(number: u8) -> Option<Dir>
 impl KindNumbers {
     ghost use Rattle.yasir_c.specs.Kinds.{IsKnownAs};
 
-    /// The box and its direction, if there is such a box.
+    /// Returns the kind of the box and its direction, or `None` if there is no such box.
     pub(crate) fn known(&self) -> Option<(Kind, Dir)>
         ensures { IsKnownAs self.now result }
     {

@@ -1,7 +1,7 @@
 //! The boxes of a link and the spacer for C: one handle for all of them, with the disk on C's side.
-//! `bridge/yasir.h` says in C's words what is owed on both sides.
+//! `bridge/yasir.h` says in C's words what each side owes the other.
 //!
-//! A step in C, once `yasir_new` has made the box:
+//! A step in C, after `yasir_new` has made the box:
 //!
 //!     yasir_step(&box, tick, &answer, slot, sizeof slot);
 //!     if (answer.commit != YASIR_NO_COMMIT) write_and_sync(answer.commit, slot);

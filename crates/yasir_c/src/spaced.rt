@@ -18,7 +18,7 @@ pub struct Spaced {
     pub unused: u8,
 }
 
-// Whether a frame is lost, and the tick of its first byte.
+// Returns whether a frame is lost, and the tick of its first byte.
 fn lost_numbers(lost: Option<u64>) -> (u8, u64)
     ensures { result ≡ lost_numbers lost }
 {
@@ -29,7 +29,7 @@ fn lost_numbers(lost: Option<u64>) -> (u8, u64)
 }
 
 impl Spaced {
-    /// What C reads of a step.
+    /// Returns what C reads of a step.
     pub(crate) fn of(step: &SpaceStep) -> Spaced
         ensures { result ≡ spaced_of step.now }
     {

@@ -1,4 +1,4 @@
-//! The functions that C calls of a spacer.
+//! The functions that C calls for a spacer.
 ghost use Rattle.std.specs.Prelude.{◌≡◌, None};
 ghost use Rattle.yasir_c.specs.SpacerEdge.{HoldsSpacer, NamesSpacer, MakesSpacerBy, SpacesBy};
 ghost use Rattle.yasir_c.specs.Statuses.{Returns};
@@ -12,7 +12,7 @@ use any_spacer::{ForgetfulDnp, HeldSpacer, SpacerKind};
 use device_model::{Device, RtuDevice};
 use std::alloc::Global;
 
-// The spacer of a protocol and a profile, by their numbers.
+// Returns the spacer of a protocol and a profile, by their numbers, or `None` if there is none.
 fn kind_in(protocol: u8, profile: u8) -> Option<SpacerKind>
     ensures { NamesSpacer protocol profile result }
 {
@@ -66,7 +66,7 @@ pub extern "C" fn yasir_spacer_new(
     make_spacer(alloc, handle, protocol, profile, room).number()
 }
 
-// Takes the next tick by the spacer in a handle.
+// Takes the next tick with the spacer in a handle.
 pub(crate) fn space(alloc: Global, handle: &mut Handle, tick: u16, answer: &mut Spaced) -> Status
     requires { HoldsSpacer handle.old.value }
     ensures holds { HoldsSpacer handle.new.value }
@@ -86,7 +86,7 @@ pub(crate) fn space(alloc: Global, handle: &mut Handle, tick: u16, answer: &mut 
     Status::Done
 }
 
-/// Takes the next tick by a spacer.
+/// Takes the next tick with a spacer.
 #[unsafe(no_mangle)]
 pub extern "C" fn yasir_spacer_step(
     alloc: Global,

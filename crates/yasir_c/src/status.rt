@@ -1,26 +1,26 @@
-//! What the calls of C return.
+//! What the functions that C calls return.
 ghost use Rattle.std.specs.Prelude.{◌≡◌};
 ghost use Rattle.yasir_c.specs.Statuses.{status_number};
 
-/// What a call returns to C, by its number.
+/// What a call returns to C, as a number.
 #[derive(Clone, Copy)]
 pub(crate) enum Status {
-    /// It did what it is for.
+    /// The call did what it is for.
     Done,
-    /// There is no such box or tick, or a length is wrong.
+    /// There is no such box, spacer or tick, or a length is wrong.
     BadArgument,
     /// No slot holds a number.
     NoJournal,
-    /// The slots hold numbers for other links alone.
+    /// The slots hold numbers for other links only.
     OtherLink,
-    /// There is no memory for the box.
+    /// There is no memory for the box or the spacer.
     NoMemory,
-    /// The box has taken `MAX_TICKS` ticks.
+    /// The box or the spacer has taken `MAX_TICKS` ticks.
     Full,
 }
 
 impl Status {
-    /// Its number, as `yasir.h` has it.
+    /// Returns the number of the status, as `yasir.h` has it.
     pub(crate) fn number(self) -> u8
         ensures { result ≡ status_number self }
     {

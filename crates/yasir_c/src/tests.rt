@@ -30,14 +30,14 @@ const NO_KIND: KindNumbers = KindNumbers {
     ..SEALER
 };
 
-/// A request, and what is sent behind it with number 1. The tag is by openssl:
+/// A request, and what is sent after it with number 1. The tag was made by openssl:
 ///   printf 010001030000000ac5cd0000000000000001 | xxd -r -p
 ///     | openssl dgst -sha1 -mac HMAC -macopt hexkey:000102030405060708090a0b0c0d0e0f | cut -c1-24
 const REQUEST: &[u8] = b"\x01\x03\x00\x00\x00\x0a\xc5\xcd";
 
 const TRAILER: &[u8] = b"\x00\x01\x01\x4c\x5b\x8d\x33\xc6\xd2\x9a\x34\x70\x13\xb0";
 
-/// Slot B with number 1 for Modbus RTU by y18 in direction `ab`: the number, the link and the
+/// Slot B with number 1 for Modbus RTU with y18 in direction `ab`: the number, the link and the
 /// version, and the complement of these.
 const SLOT_OF_1: SlotBytes =
     *b"\x00\x00\x00\x00\x00\x00\x00\x01\x01\x00\x12\x02\xff\xff\xff\xff\xff\xff\xff\xfe\xfe\xff\xed\xfd";
@@ -54,7 +54,7 @@ const UNTOUCHED: Answer = Answer {
     unused: 9,
 };
 
-// A box over a new journal.
+// Returns a box over a new journal.
 fn made(alloc: Global, kind: &KindNumbers) -> Result<Handle, Fail>
     ensures { IfOk result (λ handle. HoldsBox handle.value) }
 {
@@ -69,7 +69,7 @@ fn made(alloc: Global, kind: &KindNumbers) -> Result<Handle, Fail>
     }
 }
 
-// Gives a box these ticks, and answers the last step.
+// Gives a box these ticks, and returns the last step.
 fn step_all(alloc: Global, handle: &mut Handle, ticks: &[u16]) -> Result<(Answer, SlotBytes), Fail>
     requires { HoldsBox handle.old.value }
     ensures { OnOk result (HoldsBox handle.new.value) }
@@ -130,7 +130,7 @@ fn a_receiver_holds_a_frame_back(rt: HostRuntime) -> Result<(), Fail> {
     Ok(())
 }
 
-// The status of making a box of these slots.
+// Returns the status of making a box from these slots.
 fn refused(alloc: Global, kind: &KindNumbers, slots: &[u8]) -> u8 {
     let mut handle = Handle::empty();
     yasir_new(alloc, &mut handle, kind, &KEY.to_be_bytes(), slots)
