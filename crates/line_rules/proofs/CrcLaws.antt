@@ -8,7 +8,7 @@ use Rattle.std.proofs.lemmas.Bool.{cond_both, cond-true, cond-false, eqb-true, e
 use Rattle.std.proofs.lemmas.{Bool.ne_eqb, List.take-append-drop, Nat.and_mask}
 use Rattle.std.specs.{Int.Bits.and_zero_r, Int.Bits.xor_zero_r, Prelude.bit_xor}
 
--- A bit step without a branch: the mask is all ones where the lowest bit is 1, and else 0.
+-- A bit step without a branch: the mask is all ones if the lowest bit is 1, and 0 otherwise.
 pub bit_step-masked : (p r mask : ℕ) → p < 2 ^ 16 → mask < 2 ^ 16
     → (mask + bit_and r 1) % 2 ^ 16 ≡ 0
     → bit_xor (r / 2) (bit_and p mask) ≡ bit_step p r
@@ -47,13 +47,14 @@ pub crc-cons : (p r b : ℕ) (x : List ℕ) → crc p r (b ∷ x) ≡ crc p (byt
 unfolding crc
 crc-cons p r b x = refl
 
--- the byte at place i, taken
+-- the register takes the byte at place i
 pub crc-drop : (p r : ℕ) (x : List ℕ) (i : ℕ) → i < length x
     → crc p r (drop i x) ≡ crc p (byte_step p r (get_or x i 0)) (drop (i + 1) x)
 crc-drop p r x i within =
     rw add-one (rw (drop-cons x i 0) (crc-cons p r (get_or x i 0) (drop (suc i) x)))
 
--- the register that all bytes leave, where that of the bytes from place i on is the same
+-- If the bytes from place i on lead to the register `all`, then so do those from place i + 1 on,
+-- when the register has taken the byte at place i.
 pub crc-more : (p r next all i : ℕ) (x : List ℕ) → i < length x
     → next ≡ byte_step p r (get_or x i 0) → crc p r (drop i x) ≡ all
     → crc p next (drop (i + 1) x) ≡ all
@@ -79,7 +80,7 @@ bit_steps-done p k n r done =
     let none : k - n ≡ 0 = omega arith in
     ap (λ i. bit_steps p i r) none ∙ bit_steps-zero p r
 
--- ---- a step by its lowest bit, and steps that shift alone
+-- ---- a step by its lowest bit, and steps that only shift
 
 pub bit_step-even : (p r : ℕ) → r % 2 ≡ 0 → bit_step p r ≡ r / 2
 unfolding bit_step
@@ -102,7 +103,7 @@ bit_steps-shift p (suc n) v =
     ∙ (ap (λ x. bit_steps p n x) (bit_step-even p (2 * (2 ^ n * v)) even ∙ half)
     ∙ bit_steps-shift p n v)
 
--- some steps, and then others
+-- m steps, and then n steps
 pub bit_steps-add : (p m n r : ℕ) → bit_steps p (m + n) r ≡ bit_steps p n (bit_steps p m r)
 unfolding bit_steps
 bit_steps-add p zero n r = let e : zero + n ≡ n = omega arith in rw e refl
@@ -120,7 +121,8 @@ unfolding crc
 crc-parts p r [] y = refl
 crc-parts p r (b ∷ x) y = crc-parts p (byte_step p r b) x y
 
--- the register that all bytes leave, where that of those from some place on is the same
+-- If all bytes lead to the register `all`, then so do those after the first n, when the register
+-- has taken the first n.
 pub crc-later : (p r next all n : ℕ) (x front rest : List ℕ) → front ≡ take n x → rest ≡ drop n x
     → next ≡ crc p r front → crc p r x ≡ all → crc p next rest ≡ all
 crc-later p r next all n x front rest front_is rest_is taken so_far =

@@ -77,7 +77,7 @@ module _ (p : ℕ) where
   bit_steps-xor (suc n) x y = ap (bit_steps p n) (bit_step-xor x y)
       ∙ bit_steps-xor n (bit_step p x) (bit_step p y)
 
-  -- two bytes that are turned turn the register by what they leave of 0
+  -- The step of two xored registers by two xored bytes is the xor of their steps.
   pub byte_step-xor : (r s a b : ℕ) → byte_step p (bit_xor r s) (bit_xor a b)
       ≡ bit_xor (byte_step p r a) (byte_step p s b)
   byte_step-xor r s a b =
@@ -87,6 +87,7 @@ module _ (p : ℕ) where
       ∙ sym (ap (λ z. bit_xor z (byte_step p s b)) (byte_step_lem p r a)
       ∙ ap (bit_xor (bit_steps p 8 (bit_xor r a))) (byte_step_lem p s b))))
 
+  -- If two bytes are xored with others, the register after them is xored with what these make of 0.
   pub byte_steps-turned : (r a b u v : ℕ)
       → byte_step p (byte_step p r (bit_xor a u)) (bit_xor b v)
       ≡ bit_xor (byte_step p (byte_step p r a) b) (byte_step p (byte_step p 0 u) v)

@@ -1,5 +1,4 @@
--- Bytes taken at once: what each of them makes, on its own, of the register that the bytes behind
--- it leave.
+-- Bytes taken at once: the register after them is the xor of what each of them makes on its own.
 use Rattle.line_rules.proofs.CrcLaws.{byte_step_lem, crc-nil, crc-cons, bit_steps-zero}
 use Rattle.line_rules.proofs.CrcLaws.{bit_steps-add}
 use Rattle.line_rules.proofs.CrcLinear.{bit_steps-xor, byte_step-xor, byte_step-split}
@@ -17,8 +16,8 @@ swap h l b t =
     ∙ (xor_assoc l h (bit_xor b t) ∙ ap (bit_xor l) (sym (xor_assoc h b t))))
 
 module _ (p : ℕ) where
-  -- a register that is turned by a number turns the one that the bytes leave by what their shifts
-  -- make of the number
+  -- If a number is xored into the register before some bytes, then what their shifts make of it is
+  -- xored into the register after them.
   pub crc-turned : (a r : ℕ) (x : List ℕ)
       → crc p (bit_xor a r) x ≡ bit_xor (bit_steps p (8 * length x) a) (crc p r x)
   crc-turned a r [] =
@@ -39,7 +38,7 @@ module _ (p : ℕ) where
       (sym (bit_steps-add p 8 (8 * length x) a) ∙ ap (λ n. bit_steps p n a) (sym all))
       ∙ ap (bit_xor (bit_steps p (8 * length (b ∷ x)) a)) (sym (crc-cons p r b x)))))))
 
-  -- a byte on its own, and the bytes behind it
+  -- a byte on its own, xored with what the bytes after it make
   crc-apart : (b : ℕ) (x : List ℕ)
       → crc p 0 (b ∷ x) ≡ bit_xor (bit_steps p (8 * suc (length x)) b) (crc p 0 x)
   crc-apart b x =
@@ -52,7 +51,7 @@ module _ (p : ℕ) where
       ∙ ap (λ z. bit_xor z (crc p 0 x))
       (sym (bit_steps-add p 8 (8 * length x) b) ∙ ap (λ n. bit_steps p n b) (sym all))))
 
-  -- the first two bytes, with the two bytes of the register
+  -- the first two bytes, each xored with a byte of the register, and the bytes after them
   crc-first : (r b c : ℕ) (x : List ℕ) → r < 2 ^ 16 → b < 256
       → crc p r (b ∷ c ∷ x)
       ≡ bit_xor (bit_steps p (8 * suc (suc (length x))) (bit_xor (r % 256) b))
@@ -77,7 +76,7 @@ module _ (p : ℕ) where
       (bit_xor z (crc p 0 x)))
       (sym (bit_steps-xor p (8 * suc (length x)) (r / 256) c))))))
 
-  -- one byte more, on its own, by its table
+  -- one more byte, on its own, by its table
   pub crc-slice : (x : List ℕ) (i behind shifted all : ℕ) → i < length x
       → shifted ≡ bit_steps p (8 * suc (length x - 1 - i)) (get_or x i 0)
       → bit_xor behind (crc p 0 (drop i x)) ≡ all
@@ -92,7 +91,7 @@ module _ (p : ℕ) where
       rw add-one (xor_assoc behind shifted (crc p 0 (drop (suc i) x))
       ∙ (ap (bit_xor behind) (sym apart) ∙ so_far))
 
-  -- at first, and where no byte is left
+  -- before the first byte, and when no byte is left
   pub crc-slices-none : (x : List ℕ) → bit_xor 0 (crc p 0 x) ≡ crc p 0 x
   crc-slices-none x = xor_zero_l (crc p 0 x)
 
@@ -108,7 +107,7 @@ module _ (p : ℕ) where
       xor_comm b (bit_xor s f)
       ∙ (ap (λ z. bit_xor z b) (xor_comm s f) ∙ xor_assoc f s b)
 
-  -- all bytes, each by its table, of which the first two meet the register
+  -- all bytes, each by its table, the first two of them xored with the register
   pub crc-at_once : (r : ℕ) (x : List ℕ) (behind second first : ℕ) → r < 2 ^ 16
       → 2 ≤ length x → get_or x 0 0 < 256
       → behind ≡ crc p 0 (drop 2 x)

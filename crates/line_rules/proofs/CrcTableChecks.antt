@@ -1,23 +1,24 @@
--- Tables that are the right ones, by computing each entry from that of the table before.
+-- Checks of the tables, which compute each entry from that of the table before.
 use Rattle.line_rules.proofs.CrcLaws.{bit_steps-add}
 use Rattle.line_rules.specs.{Crc.bit_steps, CrcTables.AreCrcTables}
 use Rattle.std.proofs.Common.{◌≡◌, ℕ, zero, suc, ◌+◌, ◌*◌, ◌<◌, ◌&&◌, ◌==◌, Bool, true, false, List}
 use Rattle.std.proofs.Common.{[], ◌∷◌, length, get_or, arith, sym, ◌∙◌, ap}
 use Rattle.std.proofs.lemmas.Bool.{and_parts, eqb-true}
 
--- this many numbers from the first one on
+-- this many numbers, from `first` on
 abbrev pub numbers_from : ℕ → ℕ → List ℕ
 numbers_from first zero = []
 numbers_from first (suc n) = first ∷ numbers_from (suc first) n
 
--- each entry of the second list is what eight shifts make of that of the first
+-- whether each entry of the second list is what eight bit steps make of the same entry of the first
 abbrev pub follows : ℕ → List ℕ → List ℕ → Bool
 follows p [] [] = true
 follows p [] (b ∷ y) = false
 follows p (a ∷ x) [] = false
 follows p (a ∷ x) (b ∷ y) = b == bit_steps p 8 a && follows p x y
 
--- each table is what eight shifts make of the one before, and the first one of this list
+-- whether each table is what eight bit steps make of the one before it, and the first table is what
+-- they make of this list
 abbrev pub all_follow : ℕ → List ℕ → List (List ℕ) → Bool
 all_follow p x [] = true
 all_follow p x (y ∷ tables) = follows p x y && all_follow p y tables

@@ -1,5 +1,5 @@
--- Bytes that end in their own check, low byte first: the register is then 0, and only then. The
--- polynomial's highest bit is 1.
+-- The register is 0 after bytes that end in their own check, low byte first, and after no others.
+-- The polynomial's highest bit is 1.
 use Rattle.line_rules.proofs.CrcLaws.{byte_step_lem, crc-nil, crc-cons, bit_step-even, bit_step-odd}
 use Rattle.line_rules.{proofs.CrcLaws.bit_steps-shift, specs.Bytes.AreBytes, specs.Bytes.low_first}
 use Rattle.line_rules.specs.Crc.{bit_step, bit_steps, byte_step, crc}
@@ -11,7 +11,7 @@ use Rattle.std.proofs.lemmas.Nat.{xor_shr, xor_mod, xor_lt, and_le_l, and_le_r}
 use Rattle.std.specs.Int.Bits.{xor_zero_l, xor_zero_r, xor_self, xor_add_and}
 use Rattle.std.specs.Prelude.{bit_xor}
 
--- two numbers that differ in no bit
+-- If the xor of two numbers is 0, they are equal.
 xor-zero : (a b : ℕ) → bit_xor a b ≡ 0 → a ≡ b
 xor-zero a b none =
     let all = xor_add_and a b in
@@ -31,7 +31,7 @@ module _ (p : ℕ) (high : 2 ^ 15 ≤ p) (fits : p < 2 ^ 16) where
       (λ even. let e = bit_step-even p r (parity r even) in omega arith)
       (cases_eq (r % 2) 1)
 
-  -- a bit that is shifted out sets the highest one
+  -- If the bit that is shifted out is 1, the step sets the highest bit.
   odd-high : (r : ℕ) → r < 2 ^ 16 → r % 2 ≡ 1 → 2 ^ 15 ≤ bit_step p r
   odd-high r small odd =
       let none : r / 2 / 2 ^ 15 ≡ 0 = omega arith in
@@ -63,7 +63,7 @@ module _ (p : ℕ) (high : 2 ^ 15 ≤ p) (fits : p < 2 ^ 16) where
       bit_steps-above n k (bit_step p r) less (bit_step-fits r small)
       (bit_step-above (n + k) r less small (subst P e above))
 
-  -- No bit set was shifted out where the register ends below 256.
+  -- If the register ends below 256, no bit 1 was shifted out.
   bit_steps-low : (n r : ℕ) → n ≤ 8 → r < 2 ^ 16 → bit_steps p n r < 2 ^ 8
       → r ≡ 2 ^ n * bit_steps p n r
   unfolding bit_steps
@@ -87,7 +87,7 @@ module _ (p : ℕ) (high : 2 ^ 15 ≤ p) (fits : p < 2 ^ 16) where
       ∙ ap (λ x. x * bit_steps p n (bit_step p r)) (sym (pow-succ' 2 n)))))
       (cases_eq (r % 2) 1)
 
-  -- The register's own low byte shifts it right by a byte,
+  -- A step by the register's own low byte shifts the register right by a byte.
   pub byte_step-own : (r : ℕ) → r < 2 ^ 16 → byte_step p r (r % 256) ≡ r / 256
   byte_step-own r small =
       let low : bit_xor r (r % 256) % 2 ^ 8 ≡ 0 =
@@ -100,7 +100,7 @@ module _ (p : ℕ) (high : 2 ^ 15 ≤ p) (fits : p < 2 ^ 16) where
       byte_step_lem p r (r % 256) ∙ (ap (λ x. bit_steps p 8 x) whole
       ∙ bit_steps-shift p 8 (r / 256))
 
-  -- and no other byte leaves it below 256.
+  -- If a step leaves the register below 256, the byte was the register's own low byte.
   pub byte_step-low : (r b : ℕ) → r < 2 ^ 16 → b < 256 → byte_step p r b < 256
       → (b ≡ r % 256) × (byte_step p r b ≡ r / 256)
   byte_step-low r b small byte low =
@@ -116,7 +116,7 @@ module _ (p : ℕ) (high : 2 ^ 15 ≤ p) (fits : p < 2 ^ 16) where
       let same = xor-zero (r % 2 ^ 8) (b % 2 ^ 8) apart in
       (omega arith, omega arith)
 
-  -- A register becomes 0 by the byte that it is, and by no other.
+  -- If a step leaves the register 0, the byte was equal to the register.
   pub byte_step-zero : (r b : ℕ) → r < 2 ^ 16 → b < 256 → byte_step p r b ≡ 0 → r ≡ b
   byte_step-zero r b small byte none =
       let low : byte_step p r b < 256 = omega arith in
@@ -159,7 +159,7 @@ module _ (p : ℕ) (high : 2 ^ 15 ≤ p) (fits : p < 2 ^ 16) where
   crc-two r [] low high' = refl
   crc-two r (a ∷ x) low high' = crc-two (byte_step p r a) x low high'
 
-  -- Where the register is 0, the last two bytes are the check of those before,
+  -- If the register is 0 after these bytes, the last two are the check of those before them.
   pub crc-zero : (r : ℕ) (x : List ℕ) (low high' : ℕ) → r < 2 ^ 16 → AreBytes x → low < 256
       → high' < 256
       → crc p r (x ++ (low ∷ high' ∷ [])) ≡ 0 → low ∷ high' ∷ [] ≡ low_first (crc p r x)
@@ -171,7 +171,7 @@ module _ (p : ℕ) (high : 2 ^ 15 ≤ p) (fits : p < 2 ^ 16) where
       let both = byte_step-low (crc p r x) low here first (omega arith) in
       ap (λ b. b ∷ high' ∷ []) both.0 ∙ ap (λ b. crc p r x % 256 ∷ b ∷ []) (sym last ∙ both.1)
 
-  -- and where they are, it is 0.
+  -- If bytes are followed by their own check, the register is 0.
   pub crc-own : (r : ℕ) (x : List ℕ) → r < 2 ^ 16 → AreBytes x
       → crc p r (x ++ low_first (crc p r x)) ≡ 0
   crc-own r x small bytes =

@@ -7,7 +7,7 @@ use Rattle.std.proofs.Math.Seq.{drop-cons, drop-length, take-append_seam, drop-a
 use Rattle.std.proofs.lemmas.Bool.{and_parts, and_from, eqb-true, eq-eqb, leb-true, le-leb}
 use Rattle.std.proofs.lemmas.List.{take-append-drop}
 
--- a list of two elements or more ends in its last two
+-- the last two elements of a list of two or more
 pub last_two : (x : List ℕ) → 2 ≤ length x
     → drop (length x - 2) x ≡ get_or x (length x - 2) 0 ∷ get_or x (length x - 1) 0 ∷ []
 last_two x long =
@@ -21,7 +21,7 @@ last_two x long =
     ∙ (ap (λ i. get_or x i 0 ∷ drop (suc i) x) at
     ∙ ap (λ y. get_or x (length x - 1) 0 ∷ y) (ap (λ i. drop i x) end ∙ drop-length x)))
 
--- the last two apart
+-- a list of two or more as its front and its last two elements
 pub apart : (x : List ℕ) → 2 ≤ length x
     → x ≡ body_of x ++ (get_or x (length x - 2) 0 ∷ get_or x (length x - 1) 0 ∷ [])
 apart x long = sym (take-append-drop (length x - 2) x) ∙ ap (λ y. body_of x ++ y) (last_two x long)
@@ -41,7 +41,7 @@ ending x body low high e =
     sym (last_two x long) ∙ back in
     (front, cc, cc)
 
--- the last two bytes are the check of those before
+-- Holds if the last two bytes are the check of those before.
 pub record HasCheck (check : List ℕ → ℕ) (x : List ℕ) : Type 0 where
   pub low : get_or x (length x - 2) 0 ≡ check (body_of x) % 256
   pub high : get_or x (length x - 1) 0 ≡ check (body_of x) / 256

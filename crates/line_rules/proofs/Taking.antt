@@ -6,7 +6,7 @@ use Rattle.std.proofs.Math.Seq.{take-add}
 use Rattle.std.proofs.lemmas.{Bool.cases_eq, Bool.cases_lt, List.take_more}
 
 module _ {V : Type 0} (rules : Rules) (stands : V → List ℕ → Type 0) (old : V) (part : List ℕ) where
-  -- the value has the first n bytes of the part, and there was room for each
+  -- Holds if the value has taken the first n bytes of the part, and there was room for each.
   pub record HasTaken (value : V) (n : ℕ) : Type 0 where
     pub stands_for : (x : List ℕ) → stands old x → stands value (x ++ take n part)
     pub had_room : (x : List ℕ) (k : ℕ) → stands old x → k < n
@@ -36,7 +36,7 @@ module _ {V : Type 0} (rules : Rules) (stands : V → List ℕ → Type 0) (old 
         (cases_eq k n);
   }
 
-  -- some more of the part, which are the first k of what is left of it
+  -- the first k bytes of what is left of the part are taken too
   pub taken-more : (value next : V) (n k : ℕ) (rest : List ℕ) → rest ≡ drop n part
       → HasTaken value n
       → ((x : List ℕ) → stands value x → stands next (x ++ take k rest))

@@ -9,6 +9,7 @@ unfoldable pub bit_step : ℕ → ℕ → ℕ
 bit_step polynomial register =
     if register % 2 == 1 then bit_xor (register / 2) polynomial else register / 2
 
+-- the register after this many bit steps
 unfoldable pub bit_steps : ℕ → ℕ → ℕ → ℕ
 bit_steps polynomial zero register = register
 bit_steps polynomial (suc n) register = bit_steps polynomial n (bit_step polynomial register)

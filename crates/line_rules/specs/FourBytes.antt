@@ -20,9 +20,11 @@ last_byte x = get_or x (length x - 1) 1
 abbrev pub ends_in_zero : List ℕ → Bool
 ends_in_zero x = last_byte x == 0
 
+-- whether there are four bytes, of which the last is 0
 abbrev pub are_four_bytes : List ℕ → Bool
 are_four_bytes x = length x == 4 && ends_in_zero x
 
+-- rules without a header, by which a frame is four bytes that end in 0
 abbrev pub four_bytes : Rules
 four_bytes = headerless 1 256 are_four_bytes ends_in_zero
 
@@ -64,6 +66,7 @@ pub record FourBytesStandFor (value : FourBytes) (x : List ℕ) : Type 0 where
   pub short : length x ≤ 256
   pub bytes : AreBytes x
 
+-- whether there is no room for another byte
 abbrev pub is_full_four_bytes : FourBytes → Bool
 is_full_four_bytes value = nat_le 256 value.len
 

@@ -22,6 +22,7 @@ pub record Rules : Type 0 where
   -- what is sent after these bytes in place of this last byte, if the whole must not be a frame
   pub spoil : List ℕ → ℕ → ℕ
 
+-- Three parts of a protocol's rules, as functions of the rules.
 abbrev pub is_frame_of : Rules → List ℕ → Bool
 is_frame_of rules x = rules.is_frame x
 
