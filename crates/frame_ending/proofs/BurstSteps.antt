@@ -1,4 +1,4 @@
--- What is said of a burst that goes on by one byte.
+-- What changes about a burst when it goes on by one byte, and what stays.
 use Rattle.frame_ending.proofs.{LastBurst.IsWithin, Pauses.ended}
 use Rattle.frame_ending.proofs.Pauses.{contiguous-ends, has_pause-append, before_pause-paused}
 use Rattle.frame_ending.proofs.Pauses.{before_pause-goes_on, before_pause-whole, has_pause-silent}
@@ -20,7 +20,7 @@ use Rattle.yasir_ticks.proofs.SilenceLaws.{bytes_in-append, bytes_in-silent}
 use Rattle.yasir_ticks.specs.{Bursts.Burst, Bursts.end_of, Ticks.bytes_in, Ticks.silent}
 use Rattle.yasir_ticks.specs.declared.tick.Tick.{Tick, TheVariants.Silent, TheVariants.Byte}
 
--- this many silent ticks and a byte
+-- this many silent ticks, and then a byte
 abbrev gap_byte : ℕ → ℕ → List Tick
 gap_byte gap b = silent gap ++ Byte b ∷ []
 
@@ -46,7 +46,7 @@ spelled-open w a gap b none =
     before_pause-goes_on w a (gap_byte gap b) parts.0
     ∙ ap (λ y. ended w a ++ y) (before_pause-silent_few gap b (leb-false 2 gap parts.1))
 
--- no more bytes are live than there are
+-- a burst has no more live bytes than bytes
 pub live-le : (rules : Rules) → IsLawful rules → (d : Burst)
     → length (live_bytes rules d) ≤ length (bytes_in d.body)
 live-le rules lawful d =
@@ -63,7 +63,7 @@ module _ (m b : ℕ) (d : Burst) (within : IsWithin m d) where
   abbrev longer : Burst
   longer = with_last d m b
 
-  -- two silent ticks stood together in it, or after it
+  -- whether there are two silent ticks in a row in the burst, or after it
   abbrev pub paused : Bool
   paused = has_pause d.body || nat_le 2 (m - end_of d)
 
@@ -125,7 +125,7 @@ module _ (m b : ℕ) (d : Burst) (within : IsWithin m d) where
       omega arith
 
   module _ (rules : Rules) (lawful : IsLawful rules) where
-    -- No further byte is live after a pause, or where the room is full.
+    -- After a pause, or if the room is full, no more bytes are live.
     pub live-over : (paused || fills_room rules (live_bytes rules d)) ≡ true
         → live_bytes rules longer ≡ live_bytes rules d
     live-over over =
@@ -153,14 +153,14 @@ module _ (m b : ℕ) (d : Burst) (within : IsWithin m d) where
         let le = live-le rules lawful d in
         lt-ltb (length (live_bytes rules longer)) (length (bytes_in longer.body)) (omega arith)
 
-    -- the last live byte is in the burst
+    -- the last live byte comes before tick m
     pub live_end-le : live_end rules d ≤ m
     live_end-le =
         let part = up_to_byte-le (length (live_bytes rules d)) d.body in
         let end = within.within in
         omega arith
 
-    -- Any other byte is live.
+    -- Without a pause, and if the room isn't full, the byte is live.
     pub live-more : paused ≡ false → fills_room rules (live_bytes rules d) ≡ false
         → live_bytes rules longer ≡ live_bytes rules d ++ b ∷ []
     live-more none room =

@@ -1,4 +1,4 @@
--- The steps of a value that cuts a line, over the values that it has before and after.
+-- The steps of a value that cuts a line: what it is before a step, and what it is after it.
 use Rattle.frame_ending.proofs.BurstSteps.{paused, longer-end, longer-has_pause, later, live-over}
 use Rattle.frame_ending.proofs.BurstSteps.{end-over, extra-over, live_end-le, live-more, end-more}
 use Rattle.frame_ending.proofs.BurstSteps.{extra-more, alone-has_pause, alone-live, alone-live_end}
@@ -33,7 +33,7 @@ grown-alone m b (Some d) quiet =
     let far : end_of d + 4 ≤ m = omega arith in
     cond-false _ _ _ (le-ltb m (end_of d + 4) far)
 
--- any other one joins the last burst
+-- a byte joins the last burst if that isn't closed
 grown-joins : (m b : ℕ) (d : Burst) → quiet_in m (Some d) < 4 → IsWithin m d
     → grown m b (Some d) ≡ with_last d m b
 grown-joins m b d quiet within =
@@ -178,7 +178,7 @@ module _ {R : Type 0} (proto : LineRules R) where
         sym (ap (λ o. byte_cut rules (length line) b o) (begun b quiet)
         ∙ cond-true _ _ _ (eq-eqb (length line) (length line) refl))
 
-    -- ---- a further byte
+    -- ---- another byte of a burst
 
     is_running : v.quiet < 4 → Running line
     is_running quiet = let is = old.quiet_is in running line (omega arith)
@@ -195,7 +195,7 @@ module _ {R : Type 0} (proto : LineRules R) where
     was_paused : (run : Running line) → v.paused ≡ paused (length line) 0 run.last run.within
     was_paused run = old.paused_is ∙ ap (λ o. has_paused_in (length line) o) run.is_last
 
-    -- whether the room is full, as the rules say of the last burst
+    -- whether the room is full, by the live bytes of the last burst
     full_as : {full : Bool} (run : Running line)
         → full ≡ fills_room rules (live_bytes_so_far rules line)
         → full ≡ fills_room rules (live_bytes rules run.last)
@@ -209,7 +209,7 @@ module _ {R : Type 0} (proto : LineRules R) where
         ap (λ x. x || fills_room rules (live_bytes rules run.last)) (sym (was_paused run))
         ∙ (ap (λ x. v.paused || x) (sym (full_as run is)) ∙ over)
 
-    -- a byte makes no pause
+    -- a byte doesn't change whether there was a pause
     paused_as_before : (b : ℕ) (run : Running line)
         → last_burst (line ++ Byte b ∷ []) ≡ Some (with_last run.last (length line) b)
         → length (line ++ Byte b ∷ []) - end_of (with_last run.last (length line) b) < 2
@@ -400,7 +400,7 @@ module _ {R : Type 0} (proto : LineRules R) where
           bytes = subst P (sym last) (subst P run.is_last old.bytes);
         }
 
-    -- whether two silent ticks stood together is told by the silent ticks since the last byte too
+    -- if there are two silent ticks since the last byte, the value knows of a pause already
     pub paused-by : v.quiet < 4 → v.paused ≡ (v.paused || nat_le 2 v.quiet)
     paused-by quiet =
         let run = is_running quiet in

@@ -45,7 +45,7 @@ module _ (line : List Tick) (closed : List Burst) where
       ∙ (ap (λ ds. extended 4 (length line) b ds) divided.is
       ∙ extended-joins 4 (length line) b closed d divided.is_running)
 
-  -- the running burst then ends with the byte
+  -- after a byte, the running burst ends with it
   pub byte-ends : (b : ℕ) (running : Option Burst) → IsDivided line closed running
       → end_of (with_byte_at (length line) b running) ≡ length line + 1
   byte-ends b None divided = refl
@@ -65,7 +65,7 @@ module _ (line : List Tick) (closed : List Burst) where
       let few : length line - end_of d < 4 = omega arith in
       contiguous-more 4 d.body (length line - end_of d) b within.contiguous few
 
-  -- its last tick is the byte
+  -- after a byte, the last tick of the running burst is that byte
   pub byte-last : (b : ℕ) (running : Option Burst) → IsDivided line closed running
       → get_or (with_byte_at (length line) b running).body
       (length line - (with_byte_at (length line) b running).start) Silent ≡ Byte b
@@ -109,7 +109,7 @@ module _ (line : List Tick) (closed : List Burst) where
 
   -- ---- silence
 
-  -- It doesn't close the running burst, if there is one,
+  -- A silent tick before the fourth in a row doesn't close the running burst, if there is one.
   pub divided-waits : (running : Option Burst) → IsDivided line closed running
       → IfSome running (λ d. length line + 1 < end_of d + 4)
       → IsDivided (line ++ Silent ∷ []) closed running
@@ -128,7 +128,7 @@ module _ (line : List Tick) (closed : List Burst) where
         is_running = open';
       }
 
-  -- or it closes it.
+  -- The fourth silent tick in a row closes the running burst.
   pub divided-closes : (d : Burst) → IsDivided line closed (Some d) → length line + 1 ≡ end_of d + 4
       → IsDivided (line ++ Silent ∷ []) (closed ++ d ∷ []) None
   divided-closes d divided last =

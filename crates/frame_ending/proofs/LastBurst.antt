@@ -51,7 +51,7 @@ pub last_burst-nil : last_burst [] ≡ None
 unfolding bursts_from last_of
 last_burst-nil = refl
 
--- A burst begins and ends with a byte, and ends within the line.
+-- Holds if a burst begins and ends with a byte, and ends within m ticks of the line.
 pub record IsWithin (m : ℕ) (d : Burst) : Type 0 where
   pub contiguous : IsContiguous 4 d.body
   pub within : end_of d ≤ m

@@ -45,7 +45,7 @@ module _ (rules : Rules) (lawful : IsLawful rules) where
       let first = contiguous-begins 4 d.body contiguous in
       some-live d.body first.0 first.1 first.2
 
-  -- so its last live byte doesn't come before its first byte
+  -- the last live byte of a burst doesn't come before its first byte
   pub live_end-later : (d : Burst) → IsContiguous 4 d.body → d.start < live_end rules d
   live_end-later d contiguous =
       let first = contiguous-begins 4 d.body contiguous in

@@ -16,7 +16,7 @@ use Rattle.yasir_ticks.specs.BurstsOf.{IsContiguous, one, more}
 use Rattle.yasir_ticks.specs.Ticks.{bytes_in, silent}
 use Rattle.yasir_ticks.specs.declared.tick.Tick.{Tick, TheVariants.Silent, TheVariants.Byte}
 
--- where all bytes are live, the live ticks are all ticks
+-- if all bytes are live, the live ticks are all ticks
 pub live_ticks-all : (rules : Rules) (d : Burst) → IsContiguous 4 d.body
     → length (live_bytes rules d) ≡ length (bytes_in d.body) → live_ticks rules d ≡ d.body
 live_ticks-all rules d contiguous all =
@@ -33,7 +33,7 @@ live_ticks-all rules d contiguous all =
         ap (λ k. up_to_byte k (ended w a)) bytes ∙ up_to_byte-all w a
 
 module _ (rules : Rules) (lawful : IsLawful rules) where
-  -- so it is where none is extra
+  -- if no byte is extra, the live ticks are all ticks
   pub live_ticks-whole : (d : Burst) → IsContiguous 4 d.body → has_extra rules d ≡ false
       → live_ticks rules d ≡ d.body
   live_ticks-whole d contiguous none =
@@ -42,8 +42,7 @@ module _ (rules : Rules) (lawful : IsLawful rules) where
       ltb-false (length (live_bytes rules d)) (length (bytes_in d.body)) none in
       live_ticks-all rules d contiguous (omega arith)
 
-  -- A burst that goes on at tick m has the live ticks before tick m that it had; silence follows
-  -- them.
+  -- A burst that goes on at tick m keeps its live ticks before tick m, and silence follows them.
   module _ (m b : ℕ) (d : Burst) (within : IsWithin m d) where
     abbrev paused : Bool
     paused = has_pause d.body || nat_le 2 (m - end_of d)
@@ -87,19 +86,19 @@ module _ (rules : Rules) (lawful : IsLawful rules) where
 
 -- ---- where the live ticks end
 
--- no later than the burst
+-- the live ticks end no later than the burst
 pub live_end-within : (rules : Rules) (d : Burst) → live_end rules d ≤ end_of d
 live_end-within rules d =
     let few = up_to_byte-le (length (live_bytes rules d)) d.body in
     omega arith
 
--- and with it where no byte is extra
+-- if no byte is extra, the live ticks end with the burst
 pub live_end-whole : (rules : Rules) → IsLawful rules → (d : Burst) → IsContiguous 4 d.body
     → has_extra rules d ≡ false → live_end rules d ≡ end_of d
 live_end-whole rules lawful d contiguous none =
     ap (λ x. d.start + length x) (live_ticks-whole rules lawful d contiguous none)
 
--- where the ticks up to a byte are as many as all of them, they are all of them
+-- if the ticks up to a byte are as many as all ticks, they are all ticks
 pub up_to_byte-full : (k : ℕ) (x : List Tick) → length (up_to_byte k x) ≡ length x
     → up_to_byte k x ≡ x
 unfolding up_to_byte
@@ -122,7 +121,7 @@ bytes_up_to (suc k) [] = refl
 bytes_up_to (suc k) (Silent ∷ x) = bytes_up_to (suc k) x
 bytes_up_to (suc k) (Byte b ∷ x) = ap (λ z. b ∷ z) (bytes_up_to k x)
 
--- the bytes before a pause are the first ones
+-- the bytes before a pause are the first bytes of all
 bytes_before-first : (x : List Tick)
     → take (length (bytes_in (before_pause x))) (bytes_in x) ≡ bytes_in (before_pause x)
 unfolding before_pause
@@ -150,7 +149,7 @@ live_ticks-bytes rules d =
     bytes_up_to (length (live_bytes rules d)) d.body
     ∙ subst P first (first-of-first (rules.room (spelled d)) n x)
 
--- Ticks up to a byte before a pause are contiguous, and no two silent ones are together in them.
+-- Ticks up to a byte before a pause are contiguous, without two silent ones in a row.
 before_pause-gap : (gap : ℕ) (y : List Tick) → 2 ≤ gap → before_pause (silent gap ++ y) ≡ []
 unfolding before_pause
 before_pause-gap zero y many = absurd (omega arith)
@@ -223,7 +222,7 @@ up_to_byte-contiguous (suc k) x (more b gap rest near contiguous) within =
     (λ many. absurd (pause-none k b gap rest many within))
     (cases_lt gap 2))
 
--- so it is with the live ticks
+-- the live ticks of a burst are contiguous, without two silent ones in a row
 pub live_ticks-contiguous : (rules : Rules) → IsLawful rules → (d : Burst) → IsContiguous 4 d.body
     → IsContiguous 2 (live_ticks rules d)
 live_ticks-contiguous rules lawful d contiguous =

@@ -19,7 +19,8 @@ module _ {R : Type 0} (proto : LineRules R) where
   abbrev pub passed_over : BurstCut R → ℕ → BurstCut R
   passed_over v t = record v { taken = t; quiet = 0; extra = true }
 
-  -- These bytes aren't live, and the value has taken t ticks after them.
+  -- Holds if none of these bytes is live, and the value that has taken them, t ticks in all,
+  -- represents the line with them.
   pub record PassesOver (v : BurstCut R) (line : List Tick) (x : List ℕ) : Type 0 where
     pub stands : (t : ℕ) → t ≡ v.taken + length x → 0 < length x
         → StandsFor proto (passed_over v t) (line ++ map Byte x)
@@ -60,7 +61,7 @@ module _ {R : Type 0} (proto : LineRules R) where
           subst Q (append_assoc line (Byte b ∷ []) (map Byte (d ∷ x)))
           (rest t (omega arith) (omega arith))
 
-  -- ---- a byte that would be one of them
+  -- ---- when a byte isn't one of them
 
   module _ (v : BurstCut R) (line : List Tick) (old : StandsFor proto v line) (b : ℕ)
       (is_extra : cut_of rules line (Byte b) ≡ Extra b) where
@@ -75,7 +76,7 @@ module _ {R : Type 0} (proto : LineRules R) where
         let live = cut-go_on proto v line old full b quiet full_is open' room in
         let other : Live b ≡ Extra b = live ∙ is_extra in cc
 
-  -- ---- silence behind a byte, and on behind the burst
+  -- ---- silence after a byte, up to the end of the burst and beyond it
 
   abbrev pub waited_on : BurstCut R → ℕ → ℕ → BurstCut R
   waited_on v t quiet = record v { taken = t; quiet = quiet; paused = v.paused || nat_le 2 quiet }

@@ -33,7 +33,7 @@ has_pause-append (Silent ∷ []) a y = refl
 has_pause-append (Silent ∷ Silent ∷ w) a y = refl
 has_pause-append (Silent ∷ Byte c ∷ w) a y = has_pause-append w a y
 
--- what stands after a pause changes nothing
+-- what comes after a pause doesn't change the ticks before it
 pub before_pause-paused : (w : List Tick) (a : ℕ) (y : List Tick) → has_pause (ended w a) ≡ true
     → before_pause (ended w a ++ y) ≡ before_pause (ended w a)
 unfolding has_pause before_pause
@@ -45,7 +45,7 @@ before_pause-paused (Silent ∷ Silent ∷ w) a y paused = refl
 before_pause-paused (Silent ∷ Byte c ∷ w) a y paused =
     ap (λ x. Silent ∷ Byte c ∷ x) (before_pause-paused w a y paused)
 
--- with no pause up to a byte, what comes next decides
+-- with no pause up to a byte, the ticks before a pause go on after that byte
 pub before_pause-goes_on : (w : List Tick) (a : ℕ) (y : List Tick) → has_pause (ended w a) ≡ false
     → before_pause (ended w a ++ y) ≡ ended w a ++ before_pause y
 unfolding has_pause before_pause
@@ -63,7 +63,7 @@ before_pause-whole w a none =
     ap before_pause (sym (append-nil (ended w a)))
     ∙ (before_pause-goes_on w a [] none ∙ append-nil (ended w a))
 
--- silent ticks and a byte
+-- silent ticks before a byte are a pause if they are two or more
 pub has_pause-silent : (gap b : ℕ) → has_pause (silent gap ++ Byte b ∷ []) ≡ nat_le 2 gap
 unfolding has_pause
 has_pause-silent zero b = refl
@@ -91,7 +91,7 @@ bytes_before-le (Silent ∷ []) = omega arith
 bytes_before-le (Silent ∷ Silent ∷ x) = omega arith
 bytes_before-le (Silent ∷ Byte b ∷ x) = let rest = bytes_before-le x in omega arith
 
--- further ticks change nothing of the ticks up to a byte
+-- more ticks don't change the ticks up to a byte
 pub up_to_byte-append : (k : ℕ) (x y : List Tick) → k ≤ length (bytes_in x)
     → up_to_byte k (x ++ y) ≡ up_to_byte k x
 unfolding up_to_byte
@@ -102,7 +102,7 @@ up_to_byte-append (suc k) (Silent ∷ x) y within =
 up_to_byte-append (suc k) (Byte b ∷ x) y within =
     ap (λ z. Byte b ∷ z) (up_to_byte-append k x y (omega arith))
 
--- all ticks up to the last byte
+-- the ticks up to the last byte are all ticks, if they end with it
 pub up_to_byte-all : (x : List Tick) (b : ℕ)
     → up_to_byte (suc (length (bytes_in x))) (ended x b) ≡ ended x b
 unfolding up_to_byte

@@ -6,15 +6,15 @@ use Rattle.std.proofs.Common.{refl, arith, sym, ◌∙◌, ap, subst, inl, inr, 
 use Rattle.std.proofs.{Common.length-append, Math.Seq.take-append_seam, lemmas.Bool.cases_eq}
 use Rattle.std.proofs.lemmas.{Bool.eqb-true, Bool.eqb-false, List.append-nil, List.take_all}
 
--- These are the first of the bytes: all of them, and there is room for them, or as many as there is
--- room for.
+-- Holds if these are the first of the bytes: all of them, and there is room for them, or as many as
+-- there is room for.
 pub record FitFirst (rules : Rules) (live x : List ℕ) : Type 0 where
   pub rest : List ℕ
   pub whole : x ≡ live ++ rest
   pub room : ((rest ≡ []) × (length live ≤ rules.room live)) ⊎ (rules.room live ≡ length live)
 
 module _ (rules : Rules) (lawful : IsLawful rules) where
-  -- a full room stays as it is
+  -- a full room stays as it is when more bytes come
   room-full : (rest x : List ℕ) → rules.room x ≤ length x → rules.room (x ++ rest) ≡ rules.room x
   room-full [] x full = ap rules.room (append-nil x)
   room-full (b ∷ rest) x full =
@@ -34,7 +34,7 @@ module _ (rules : Rules) (lawful : IsLawful rules) where
       ∙ take-append_seam live fit.rest)
       fit.room
 
-  -- one more byte
+  -- one more byte, for which there is room
   FitFirst-fits : (live : List ℕ) (b : ℕ) → length live < rules.room live
       → FitFirst rules (live ++ b ∷ []) (live ++ b ∷ [])
   FitFirst-fits live b room =
@@ -90,7 +90,7 @@ module _ (rules : Rules) (lawful : IsLawful rules) where
       let P : List ℕ → Type 0 = λ live. FitFirst rules live x in
       subst P (sym (FitFirst-live some.0 x some.1)) some.1
 
-  -- Where the room isn't full, these are all the bytes,
+  -- If the room isn't full, the bytes that there is room for are all the bytes.
   pub within_room-open : (x : List ℕ) → fills_room rules (within_room rules x) ≡ false
       → within_room rules x ≡ x
   within_room-open x room =
@@ -101,7 +101,7 @@ module _ (rules : Rules) (lawful : IsLawful rules) where
       (λ full. absurd (eqb-false _ _ room (sym full)))
       fit.room
 
-  -- and one more byte is another one.
+  -- If the room isn't full, there is room for one more byte.
   pub within_room-more : (x : List ℕ) (b : ℕ) → fills_room rules (within_room rules x) ≡ false
       → within_room rules (x ++ b ∷ []) ≡ within_room rules x ++ b ∷ []
   within_room-more x b room =
@@ -115,7 +115,7 @@ module _ (rules : Rules) (lawful : IsLawful rules) where
       let some : length live < rules.room live = omega arith in
       FitFirst-live (live ++ b ∷ []) (x ++ b ∷ []) (subst P same (FitFirst-fits live b some))
 
-  -- Where it is full, one more byte changes nothing.
+  -- If the room is full, one more byte changes nothing.
   pub within_room-full : (x : List ℕ) (b : ℕ) → fills_room rules (within_room rules x) ≡ true
       → within_room rules (x ++ b ∷ []) ≡ within_room rules x
   within_room-full x b full =

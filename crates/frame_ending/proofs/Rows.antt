@@ -11,7 +11,7 @@ use Rattle.std.proofs.Common.{◌≡◌, ℕ, true, false, List, [], ◌∷◌, 
 use Rattle.yasir_ticks.specs.{Bursts.with_byte, Bursts.bursts_from, Ticks.silent}
 use Rattle.yasir_ticks.specs.declared.tick.Tick.{Tick, TheVariants.Silent, TheVariants.Byte}
 
--- room for this many bytes, and no frames
+-- rules with room for this many bytes, and no frames
 abbrev with_room : ℕ → Rules
 with_room n = headerless 1 n (λ x. false) (λ x. false)
 
@@ -40,7 +40,7 @@ pub no_room : cuts_after (with_room 2) [] (Byte 1 ∷ Byte 2 ∷ Byte 3 ∷ [])
 unfolding with_byte bursts_from before_pause has_pause up_to_byte last_of
 no_room = refl
 
--- a burst that two silent ticks part, at its end and before them
+-- a burst with two silent ticks inside
 abbrev parted_line : List Tick
 parted_line = silent 3 ++ Byte 1 ∷ Byte 3 ∷ Silent ∷ Silent ∷ Byte 64 ∷ []
 

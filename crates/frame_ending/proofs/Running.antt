@@ -1,4 +1,4 @@
--- What a tick is, by the burst that runs.
+-- What a tick is, given the running burst.
 use Rattle.frame_ending.proofs.BurstSteps.{later, live-over, end-over, live_end-le, live-more}
 use Rattle.frame_ending.proofs.BurstSteps.{end-more, alone-live, alone-live_end}
 use Rattle.frame_ending.proofs.LastBurst.{grown, last_burst-byte, last_burst-within}
@@ -30,7 +30,7 @@ last_of-end [] d = refl
 last_of-end (e ∷ []) d = refl
 last_of-end (e ∷ f ∷ ds) d = last_of-end (f ∷ ds) d
 
--- four silent ticks follow this burst before tick m
+-- Holds if four silent ticks follow this burst before tick m, or if there is no burst.
 abbrev IsPast : ℕ → Option Burst → Type 0
 IsPast m o = IfSome o (λ d. end_of d + 4 ≤ m)
 
@@ -40,12 +40,13 @@ last_of-closed m [] closed = tt
 last_of-closed m (d ∷ []) closed = closed.0
 last_of-closed m (d ∷ e ∷ ds) closed = last_of-closed m (e ∷ ds) closed.1
 
--- The running burst is the last one, and where none runs, the last one is past.
+-- Holds if the running burst is the last one or, if none runs, four silent ticks follow the last
+-- one.
 abbrev pub IsRunning : List Tick → Option Burst → Type 0
 IsRunning line None = IsPast (length line) (last_burst line)
 IsRunning line (Some d) = (last_burst line ≡ Some d) × (length line < end_of d + 4)
 
--- so it is with the running burst of a line that is divided
+-- `IsRunning` holds for the running burst of a line that is divided.
 pub divided-running : (line : List Tick) (closed : List Burst) (running : Option Burst)
     → IsDivided line closed running → IsRunning line running
 divided-running line closed None divided =
@@ -73,7 +74,7 @@ module _ (rules : Rules) (line : List Tick) where
       → cut_of rules line Silent ≡ silence_cut (suc (length line) - end_of d)
   silent-some d last = ap (λ o. silent_cut (length line) o) last
 
-  -- a tick that doesn't close the running burst
+  -- a silent tick that doesn't close the running burst
   pub silent-open : (running : Option Burst) → IsRunning line running
       → (cut_of rules line Silent ≡ Closed → ⊥)
       → IfSome running (λ d. length line + 1 < end_of d + 4)
@@ -88,7 +89,7 @@ module _ (rules : Rules) (line : List Tick) where
       absurd (unclosed (silent-some d is.0 ∙ ap silence_cut at)))
       (cases_lt (m + 1) (end_of d + 4))
 
-  -- one that does
+  -- Holds if a silent tick closes the running burst.
   pub record Closes (running : Option Burst) : Type 0 where
     pub burst : Burst
     pub is : running ≡ Some burst
@@ -125,7 +126,7 @@ module _ (rules : Rules) (lawful : IsLawful rules) (line : List Tick) (b : ℕ) 
   past-grown None past = refl
   past-grown (Some d) past = cond-false _ _ _ (le-ltb (length line) (end_of d + 4) past)
 
-  -- the last burst after it
+  -- the last burst after a byte
   pub last-next : (running : Option Burst) → IsRunning line running
       → last_burst (line ++ Byte b ∷ []) ≡ Some (next running)
   last-next None past = last_burst-byte line b ∙ ap Some (past-grown (last_burst line) past)
@@ -148,11 +149,11 @@ module _ (rules : Rules) (lawful : IsLawful rules) (line : List Tick) (b : ℕ) 
       let before = later (length line) b d (last_burst-within line d is.0) in
       byte-next (Some d) is ∙ cond-false _ _ _ (ne_eqb d.start (length line) (λ same. omega arith))
 
-  -- two silent ticks stood together in it or after it
+  -- whether there are two silent ticks in a row in a burst or after it
   abbrev pauses : Burst → Bool
   pauses d = has_pause d.body || nat_le 2 (length line - end_of d)
 
-  -- no further byte of the burst is live
+  -- whether no more bytes of a burst are live
   abbrev over : Burst → Bool
   over d = pauses d || fills_room rules (live_bytes rules d)
 
@@ -180,7 +181,7 @@ module _ (rules : Rules) (lawful : IsLawful rules) (line : List Tick) (b : ℕ) 
       some-next d is ∙ cond-false _ _ _ (ne_eqb (live_end rules (with_last d (length line) b))
       (suc (length line)) (λ same. omega arith))
 
-  -- the first byte of a burst
+  -- if a byte is the first of a burst, no burst was running
   pub byte-starts : (running : Option Burst) → IsRunning line running
       → cut_of rules line (Byte b) ≡ Start b → running ≡ None
   byte-starts None is starts = refl
@@ -196,7 +197,7 @@ module _ (rules : Rules) (lawful : IsLawful rules) (line : List Tick) (b : ℕ) 
   pub start-end : live_end rules (alone (length line) b) ≡ length line + 1
   start-end = alone-live_end (length line) b rules lawful
 
-  -- a further live one
+  -- Holds if a byte is another live one of the running burst.
   pub record GoesOnLive (running : Option Burst) : Type 0 where
     pub burst : Burst
     pub is : running ≡ Some burst
@@ -221,7 +222,7 @@ module _ (rules : Rules) (lawful : IsLawful rules) (line : List Tick) (b : ℕ) 
       })
       (cases_Bool (over d))
 
-  -- one that isn't live
+  -- Holds if a byte of the running burst isn't live.
   pub record GoesOnOver (running : Option Burst) : Type 0 where
     pub burst : Burst
     pub is : running ≡ Some burst
@@ -258,7 +259,7 @@ module _ (rules : Rules) (line : List Tick) where
       (cases_Bool (k == 4)))
       (cases_Bool (nat_lt k 4))
 
-  -- what isn't silence, and isn't taken for it
+  -- a silent tick is a pause, closes a burst, or is quiet
   silent-not : (o : Option Burst) (cut : Cut) → silent_cut (length line) o ≡ cut
       → ((n : ℕ) → cut ≡ Pause n → ⊥) → (cut ≡ Closed → ⊥) → (cut ≡ Quiet → ⊥) → ⊥
   silent-not None cut is no_pause open' loud = loud (sym is)
@@ -307,7 +308,7 @@ module _ (rules : Rules) (line : List Tick) where
       absurd (⊎_elim (λ s. absurd cc) (λ others. ⊎_elim (λ l. absurd cc) (λ x. absurd cc) others)
       (is-of b))
 
-  -- what passes closes nothing, and a byte of it isn't live
+  -- a tick that passes closes no burst, and if it is a byte, it isn't live
   pub passing-open : (cut : Cut) → IsPassing cut → cut ≡ Closed → ⊥
   passing-open (Start b) passing closed = absurd passing
   passing-open (Live b) passing closed = absurd passing
@@ -326,7 +327,7 @@ module _ (rules : Rules) (line : List Tick) where
       (λ others. ⊎_elim (λ l. absurd (subst P l now)) (λ x. x) others)
       (is-of b)
 
--- these pass
+-- a byte that isn't live, a pause and a quiet tick pass
 pub passing-is : (cut : Cut) → ((n : ℕ) × (cut ≡ Extra n))
     ⊎ (((n : ℕ) × (cut ≡ Pause n)) ⊎ (cut ≡ Quiet)) → IsPassing cut
 passing-is cut which =

@@ -1,4 +1,4 @@
--- Runs of ticks of a value that cuts a line: live bytes, and silence where no burst runs.
+-- Runs of ticks that a value takes as it cuts a line: live bytes, and silence while no burst runs.
 use Rattle.frame_ending.proofs.Cutting.{cut-begin, cut-pass, stands-go_on, cut-go_on, stands-rest}
 use Rattle.frame_ending.proofs.{Cutting.cut-rest, LastBurst.grown, LastBurst.last_burst-byte}
 use Rattle.frame_ending.specs.Cuts.{cut_of, byte_cut, cuts_after}
@@ -47,7 +47,7 @@ module _ {R : Type 0} (proto : LineRules R) where
   abbrev rules : Rules
   rules = proto.rules
 
-  -- a list stands for itself
+  -- Holds if a list represents itself.
   pub record IsItself (value x : List ℕ) : Type 0 where
     pub same : value ≡ x
     pub bytes : AreBytes x
@@ -119,7 +119,8 @@ module _ {R : Type 0} (proto : LineRules R) where
   abbrev after_bytes : BurstCut (List ℕ) → List ℕ → ℕ → ℕ → BurstCut (List ℕ)
   after_bytes v x t l = record v { taken = t; quiet = 0; last_live = l; rules = v.rules ++ x }
 
-  -- These bytes are live, and the value has taken t ticks after them, the last of them at tick l.
+  -- Holds if these bytes are live, and the value that has taken them, t ticks in all with the last
+  -- one at tick l, represents the line with them.
   record GoesOn (v : BurstCut (List ℕ)) (line : List Tick) (x : List ℕ) : Type 0 where
     stands : (t l : ℕ) → t ≡ v.taken + length x → l + 1 ≡ t → 0 < length x
         → StandsFor listed (after_bytes v x t l) (line ++ map Byte x)
@@ -199,7 +200,7 @@ module _ {R : Type 0} (proto : LineRules R) where
           (subst P (append_assoc v.rules (b ∷ []) (d ∷ x))
           (rest t l (omega arith) last (omega arith)))
 
-  -- The value after a run of live bytes, whose rules have taken them.
+  -- The value after a run of live bytes, which its rules have taken.
   abbrev went_on : BurstCut R → R → ℕ → ℕ → BurstCut R
   went_on v r t l = record v { taken = t; quiet = 0; last_live = l; rules = r }
 
@@ -236,7 +237,7 @@ module _ {R : Type 0} (proto : LineRules R) where
     pub cuts-bytes : cuts_after rules line (map Byte some) ≡ map Live some
     cuts-bytes = live-run.live
 
-  -- ---- no further live byte
+  -- ---- when a byte isn't live
 
   module _ (v : BurstCut R) (line : List Tick) (old : StandsFor proto v line) (b : ℕ)
       (is_live : cut_of rules line (Byte b) ≡ Live b) where

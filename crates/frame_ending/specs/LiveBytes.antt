@@ -39,6 +39,7 @@ within_room rules x = take (rules.room x) x
 abbrev pub spelled : Burst → List ℕ
 spelled d = bytes_in (before_pause d.body)
 
+-- the live bytes of a burst: those before its first pause, as many as there is room for
 abbrev pub live_bytes : Rules → Burst → List ℕ
 live_bytes rules d = within_room rules (spelled d)
 

@@ -55,6 +55,7 @@ is_over_in rules m (Some d) = has_paused_in m (Some d) || fills_room rules (live
 abbrev pub start_so_far : List Tick → ℕ
 start_so_far line = start_in (last_burst line)
 
+-- the live bytes of the last burst
 abbrev pub live_bytes_so_far : Rules → List Tick → List ℕ
 live_bytes_so_far rules line = live_bytes_in rules (last_burst line)
 
@@ -62,14 +63,18 @@ live_bytes_so_far rules line = live_bytes_in rules (last_burst line)
 abbrev pub last_live_so_far : Rules → List Tick → ℕ
 last_live_so_far rules line = last_live_in rules (last_burst line)
 
+-- whether some byte of the last burst isn't live
 abbrev pub has_extra_so_far : Rules → List Tick → Bool
 has_extra_so_far rules line = has_extra_in rules (last_burst line)
 
+-- whether there are two silent ticks in a row in the last burst or after it
 abbrev pub has_paused_so_far : List Tick → Bool
 has_paused_so_far line = has_paused_in (length line) (last_burst line)
 
+-- how many silent ticks follow the last burst, counted up to the fourth, which closes it
 abbrev pub quiet_so_far : List Tick → ℕ
 quiet_so_far line = quiet_in (length line) (last_burst line)
 
+-- whether no more bytes of the last burst can be live
 abbrev pub is_over_so_far : Rules → List Tick → Bool
 is_over_so_far rules line = is_over_in rules (length line) (last_burst line)
