@@ -1,4 +1,4 @@
--- The value that a block more leaves, and its digest.
+-- The hash value after one more block, and its digest.
 use Rattle.std.proofs.Common.{◌≡◌, ℕ, zero, suc, ◌*◌, ◌/◌, ◌%◌, List, [], ◌++◌, length, take, drop}
 use Rattle.std.proofs.Common.{refl, sym, ap, ◌∙◌, arith, slice_index}
 use Rattle.std.proofs.lemmas.List.{drop_all}
@@ -34,7 +34,7 @@ sha256_more h n blocks x whole hash size next =
     A256.IsAbsorbed_fill S256.initial_hash_256 h [] [] blocks x x absorbed (omega arith) laid in
     next ∙ more.0
 
--- the two crates write words out alike
+-- both hash crates write out words in the same way
 pub same_bytes : (h : List ℕ) (k : ℕ) → S256.digest_bytes h k ≡ S1.digest_bytes h k
 unfolding S1.digest_bytes S256.digest_bytes
 same_bytes h zero = refl

@@ -1,4 +1,4 @@
--- How a hasher follows a message as it grows, and how it ends it.
+-- How a hasher takes a message as it grows, and how it ends the message.
 use Rattle.std.proofs.Common.{◌≡◌, ℕ, ◌+◌, ◌-◌, ◌*◌, ◌%◌, ◌^◌, ◌<◌, ◌≤◌, List, [], ◌∷◌, ◌++◌}
 use Rattle.std.proofs.Common.{length, take, drop, replicate, refl, sym, ap, ap₂, ◌∙◌, arith, set}
 use Rattle.std.proofs.Common.{length-append, length-drop}
@@ -13,12 +13,12 @@ use Rattle.hmac_tag.specs.declared.block_hasher.{BlockHasher.BlockHasher}
 use Rattle.sha2.specs.Sha256.{padded_message}
 
 module _ {V : Type 0} (IsAfter : V → List ℕ → Type 0) where
-  -- the same block behind the same blocks
+  -- an equal block after the same blocks
   pub after_block : (value : V) (blocks x y : List ℕ) → x ≡ y → IsAfter value (blocks ++ x)
       → IsAfter value (blocks ++ y)
   after_block value blocks x y e held = rw (← e) held
 
-  -- bytes for which there is room
+  -- more bytes are taken, for which there is room
   pub taken_more : (s n : BlockHasher V) (m d ys : List ℕ) (k j : ℕ) → HasTaken IsAfter s m
       → length s.room ≡ 128 → k ≡ s.waiting → k + length d ≤ 128 → j ≡ length d → ys ≡ d
       → n.waiting ≡ k + length d → n.start ≡ s.start → n.room ≡ put_mid k j s.room ys
@@ -57,7 +57,7 @@ module _ {V : Type 0} (IsAfter : V → List ℕ → Type 0) where
         waits = rw waiting (sym (append-nil m));
       }
 
-  -- nothing waits behind whole blocks
+  -- if nothing waits, whole blocks that are hashed are all that is taken
   pub taken_begun : (s : BlockHasher V) (m : List ℕ) → HasBegun IsAfter s.start m → s.waiting ≡ 0
       → HasTaken IsAfter s m
   taken_begun s m begun waiting = record {
@@ -67,7 +67,7 @@ module _ {V : Type 0} (IsAfter : V → List ℕ → Type 0) where
     waits = rw waiting (sym (append-nil m));
   }
 
-  -- a block more, where nothing waits
+  -- one more block, if nothing waits
   pub taken_block : (s n : BlockHasher V) (m x : List ℕ) → HasTaken IsAfter s m → s.waiting ≡ 0
       → ((blocks : List ℕ) → HasBegun IsAfter s.start blocks
       → HasBegun IsAfter n.start (blocks ++ x))
@@ -76,7 +76,7 @@ module _ {V : Type 0} (IsAfter : V → List ℕ → Type 0) where
       let before : m ≡ held.front = (rw none at held.waits) ∙ append-nil held.front in
       taken_begun n (m ++ x) (rw (← before) at (more held.front held.begun)) waiting
 
--- the last bytes, and the byte behind them
+-- the last bytes of a message, and the byte 0x80 after them
 laid : (t : List ℕ) (k : ℕ) → k ≡ length t → k < 64
     → set (t ++ drop k (replicate 64 0)) k 0x80 ≡ t ++ (0x80 ∷ replicate (63 - k) 0)
 laid t k size short =
@@ -86,7 +86,7 @@ laid t k size short =
     ∙ sym (replicate-append-replicate 1 (63 - k) 0) in
     ap (λ z. set (t ++ z) k 0x80) zeros ∙ set_at t 0 (replicate (63 - k) 0) 0x80 k (sym size)
 
--- whole blocks, and the one that these bytes are laid out in
+-- whole blocks, and one more in which these bytes are laid out
 pub laid_whole : (m t ys : List ℕ) → length m % 64 ≡ 0 → ys ≡ t → length t < 64
     → length (m ++ set (ys ++ drop (length t) (replicate 64 0)) (length t) 0x80) % 64 ≡ 0
 laid_whole m t ys whole same short =
@@ -107,7 +107,7 @@ abbrev ended_with : List ℕ → List ℕ → List ℕ
 ended_with message bits =
     message ++ (0x80 ∷ (replicate ((119 - length message % 64) % 64) 0 ++ bits))
 
--- the bytes of the length, of a message of whole blocks and some bytes behind them
+-- the bytes of the length, for a message of whole blocks and some bytes after them
 with_length : (m t bits : List ℕ) (hashed : ℕ) → hashed ≡ length m % 2 ^ 64
     → bits ≡ to_be_bytes w64 ((hashed + length t) % 2 ^ 64 * 8 % 2 ^ 64)
     → ended_with (m ++ t) bits ≡ padded_message (m ++ t)
@@ -116,7 +116,7 @@ with_length m t bits hashed count e =
     omega (arith, length-append m t) in
     ap (ended_with (m ++ t)) (e ∙ ap (to_be_bytes w64) size)
 
--- a message whose length still fits its last block
+-- a message whose length fits into its last block
 ended_short : (m t bits : List ℕ) (k : ℕ) → length m % 64 ≡ 0 → k ≡ length t → k < 56
     → m ++ (take 56 (set (t ++ drop k (replicate 64 0)) k 0x80) ++ bits) ≡ ended_with (m ++ t) bits
 ended_short m t bits k whole at short =
@@ -141,7 +141,7 @@ ended_short m t bits k whole at short =
     ∙ append_assoc m t (0x80 ∷ (replicate (55 - k) 0 ++ bits)) in
     ap (λ z. m ++ z) block ∙ sym joined
 
--- a message whose length takes a block more
+-- a message whose length needs one more block
 ended_long : (m t bits : List ℕ) (k : ℕ) → length m % 64 ≡ 0 → k ≡ length t → 56 ≤ k → k < 64
     → (m ++ set (t ++ drop k (replicate 64 0)) k 0x80) ++ (take 56 (replicate 64 0) ++ bits)
     ≡ ended_with (m ++ t) bits
@@ -183,7 +183,7 @@ ended_block_long m t bits ys hashed whole count same long within bytes =
     rw same (ended_long m t bits (length t) whole refl long within
     ∙ with_length m t bits hashed count bytes)
 
--- the last block
+-- the last block, which ends with the bytes of the length
 pub last_block : (block bits ys : List ℕ) (j : ℕ) → length block ≡ 64 → j ≡ 8 → ys ≡ bits
     → put_mid 56 j block ys ≡ take 56 block ++ bits
 last_block block bits ys j len size same =
@@ -191,7 +191,7 @@ last_block block bits ys j len size same =
     drop_all j (drop 56 block) (omega (arith, length-drop 56 block)) in
     rw (none, append-nil, same) refl
 
--- a piece more of what comes
+-- the next piece of a part of the message, from `start` to `end`
 pub piece_on : (m part : List ℕ) (start end : ℕ) → start ≤ end → end ≤ length part
     → (m ++ take start part) ++ take (end - start) (drop start part) ≡ m ++ take end part
 piece_on m part start end le within =

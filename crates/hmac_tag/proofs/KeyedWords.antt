@@ -33,12 +33,12 @@ pub same_four : (a b c d p q r s : ℕ) → a ≡ p → b ≡ q → c ≡ r → 
     → a ∷ b ∷ c ∷ d ∷ [] ≡ p ∷ q ∷ r ∷ s ∷ []
 same_four a b c d p q r s ea eb ec ed = rw (ea, eb, ec, ed) refl
 
--- the same words, at a place that is spelled another way
+-- the same words, at an equal place
 pub IsFour_at : (words : List ℕ) (n k : ℕ) (four : List ℕ) → n ≡ k → IsFour words n four
     → IsFour words k four
 IsFour_at words n k four e held = rw (← e) held
 
--- four words in front of what is left of a list
+-- four words at the front of what is left of a list
 pub IsFour_from : (words : List ℕ) (t : ℕ) → t + 4 ≤ length words
     → IsFour words t (take 4 (take (length words - t) (drop t words)))
 IsFour_from words t within =
@@ -112,7 +112,7 @@ module _ (constant : ℕ → ℕ) where
   pub keyed_none : (words keyed : List ℕ) → AreKeyedBy constant words keyed 0
   keyed_none words keyed = record { is = λ t lt. absurd (omega arith) }
 
-  -- the same count, spelled another way
+  -- an equal count
   pub AreKeyed_at : (words keyed : List ℕ) (n k : ℕ) → n ≡ k → AreKeyedBy constant words keyed n
       → AreKeyedBy constant words keyed k
   AreKeyed_at words keyed n k e held = rw (← e) held

@@ -26,7 +26,7 @@ shifts_rotate by low high =
     ≡ map (λ w. rotate_left w32 w by) x)
     (λ a b c d. rw (left, right) refl)
 
--- ---- a rotation by one goes through xor
+-- ---- the rotation by one of an xor is the xor of the rotations
 
 abbrev turned : ℕ → ℕ
 turned x = rotate_left w32 x 1
@@ -84,7 +84,7 @@ turned_xor_four a b c d fa fb fc fd =
     ∙ ap (λ y. bit_xor y (turned d)) (turned_xor _ c ab fc
     ∙ ap (λ y. bit_xor y (turned c)) (turned_xor a b fa fb)))
 
--- each word that stands twice falls out
+-- each word that occurs twice cancels out
 twelve_fall_out : (p q r s u v w x y z : ℕ)
     → xor_four (xor_four p q r s) (xor_four q u v w) (xor_four r v x y) (xor_four s w y z)
     ≡ xor_four p u x z
@@ -103,7 +103,7 @@ module _ (block : List ℕ) where
   abbrev W : ℕ → ℕ
   W t = slice_index (schedule block 64) t
 
-  -- a word from 16 on, by the four words that it comes from
+  -- a word from word 16 on, by the four words from which it is made
   word_after : (n i j k l : ℕ) → l + 16 ≡ n → l + 13 ≡ i → l + 8 ≡ j → l + 2 ≡ k → n < 80
       → W n ≡ turned (xor_four (W i) (W j) (W k) (W l))
   word_after n i j k l en ei ej ek lt =
@@ -138,7 +138,7 @@ module _ (block : List ℕ) where
   word_lt : AreBytes block → (t : ℕ) → t < 80 → W t < 2 ^ 32
   word_lt bytes t lt = words_lt bytes 80 t lt (omega arith)
 
-  -- a word from 32 on, by words that are six back at least
+  -- a word from word 32 on, by words that are at least six before it
   word_far : AreBytes block → (n i j k l : ℕ) → l + 32 ≡ n → l + 26 ≡ i → l + 16 ≡ j → l + 4 ≡ k
       → n < 80 → W n ≡ rotate_left w32 (xor_four (W i) (W j) (W k) (W l)) 2
   word_far bytes n i j k l en ei ej ek lt =
@@ -266,7 +266,7 @@ pub same_constants : (k i : ℕ) → ((j : ℕ) → j < 4 → k ≡ round_consta
 same_constants k i held j lt =
     below_four (λ j. slice_index (k ∷ k ∷ k ∷ k ∷ []) j ≡ k) refl refl refl refl j lt ∙ held j lt
 
--- the words of a block are the schedule's first ones
+-- the words of a block are the first ones of the schedule
 pub IsFour_first : (block : List ℕ) (t : ℕ) (four : List ℕ) → t + 4 ≤ 16
     → four ≡ four_loaded block t → IsFour (schedule block 64) t four
 IsFour_first block t four within loaded =
@@ -277,7 +277,7 @@ IsFour_first block t four within loaded =
           (word (t + 2) (omega arith)) (word (t + 3) (omega arith));
     }
 
--- 32 words of the schedule, from word t on, by fours
+-- Holds if these are 32 words of the schedule, from word t on, in fours.
 pub record AreEight (words : List ℕ) (t : ℕ) (a b c d e f g h : List ℕ) : Type 0 where
   pub is_a : IsFour words t a
   pub is_b : IsFour words (t + 4) b
@@ -318,7 +318,7 @@ five_words (a ∷ b ∷ c ∷ []) h = absurd (omega arith)
 five_words (a ∷ b ∷ c ∷ d ∷ []) h = absurd (omega arith)
 five_words (a ∷ b ∷ c ∷ d ∷ e ∷ g ∷ v) h = absurd (omega arith)
 
--- what a round gave, written out
+-- the result of a round, written out
 pub five_rounds : (h words v : List ℕ) (t : ℕ) → v ≡ rounds h words (t + 1)
     → slice_index v 0 ∷ slice_index v 1 ∷ slice_index v 2 ∷ slice_index v 3 ∷ slice_index v 4 ∷ []
     ≡ rounds h words (t + 1)

@@ -39,12 +39,12 @@ sigma_lanes i j k = four_lanes (λ (x : List ℕ).
 
 -- ---- the words of a block
 
--- the terms of a word, added in the order of the lanes, the last of which is none
+-- the terms of a word, added in the order of the lanes, with 0 as the last
 last_none : (a b c d : ℕ)
     → add32 (add32 (add32 (add32 a b) c) d) 0 ≡ add32 (add32 (add32 d c) b) a
 last_none a b c d = omega arith
 
--- the same, where the last but one is none
+-- the terms of a word, added in the order of the lanes, with 0 as the last but one
 before_none : (a b c d : ℕ)
     → add32 (add32 (add32 (add32 a b) c) 0) d ≡ add32 (add32 (add32 d c) b) a
 before_none a b c d = omega arith
@@ -57,7 +57,7 @@ module _ (block : List ℕ) where
   abbrev W : ℕ → ℕ
   W t = slice_index (schedule block 48) t
 
-  -- a word from 16 on, by the four words that it comes from
+  -- a word from word 16 on, by the four words from which it is made
   word_after : (n i j k l : ℕ) → l + 16 ≡ n → l + 14 ≡ i → l + 9 ≡ j → l + 1 ≡ k → n < 64
       → add32 (add32 (add32 (small_sigma1 (W i)) (W j)) (small_sigma0 (W k))) (W l) ≡ W n
   word_after n i j k l en ei ej ek lt =
@@ -67,7 +67,7 @@ module _ (block : List ℕ) where
       let d : n - 16 ≡ l = omega arith in
       sym (slice_index-schedule_next block 48 n (omega arith) (omega arith) ∙ rw (a, b, c, d) refl)
 
-  -- the words of the block are the schedule's first ones
+  -- the words of the block are the first ones of the schedule
   pub IsFour_first : (t : ℕ) (four : List ℕ) → t + 4 ≤ 16 → four ≡ four_loaded block t
       → IsFour (schedule block 48) t four
   IsFour_first t four within loaded =
@@ -90,7 +90,7 @@ module _ (block : List ℕ) where
   abbrev sigma1s : List ℕ → List ℕ
   sigma1s x = map (λ w. small_sigma1 w) x
 
-  -- four sums, the first two of which are words
+  -- four sums, the first two of which are whole words of the schedule already
   abbrev half_done : ℕ → List ℕ
   half_done t = sums
       (sums (sums (four t) (sigma0s (pick_l 0 (four t ++ four (t + 4)) (1 ∷ 2 ∷ 3 ∷ 4 ∷ []))))
@@ -125,7 +125,7 @@ module _ (block : List ℕ) where
       (small_sigma1 x)) u1
       ∙ before_none (W (t + 3)) (s0 (t + 4)) (W (t + 12)) (s1 (t + 16 + 1)) ∙ w3)
 
--- sixteen words of the schedule, from word t on, by fours
+-- Holds if these are sixteen words of the schedule, from word t on, in fours.
 pub record AreSixteen (words : List ℕ) (t : ℕ) (a b c d : List ℕ) : Type 0 where
   pub is_a : IsFour words t a
   pub is_b : IsFour words (t + 4) b

@@ -1,5 +1,5 @@
--- Test cases of RFC 2202 and RFC 4231, computed: a wrong pad, filling or order in the definition
--- does not check. The tags of a frame are Python's.
+-- Test cases of RFC 2202 and RFC 4231, computed. A definition with a wrong pad, filling or order
+-- would not check. The tags of a frame were computed by Python.
 use Rattle.sha1.specs.Sha1.{first_words, schedule, rounds, compress, hash_after, digest_bytes, sha1}
 use Rattle.std.proofs.Common.{◌≡◌, [], ◌∷◌, codes, refl, replicate}
 use Rattle.sha2.specs.Sha256 as S256
@@ -36,7 +36,7 @@ pub hmac_under_a_long_key : hmac_sha1 (replicate 80 0xAA)
 unfolding first_words schedule rounds compress hash_after digest_bytes sha1 key_block hmac
 hmac_under_a_long_key = refl
 
--- a frame of RTU, by the direction 0 and with number 1
+-- a frame of Modbus RTU, in direction 0 and with number 1
 pub tag_text_of_a_frame : tag_text 1 0 (0x01 ∷ 0x03 ∷ 0x00 ∷ 0x00 ∷ 0x00 ∷ 0x0A ∷ 0xC5 ∷ 0xCD ∷ [])
     1
     ≡ 0x01 ∷ 0x00 ∷ 0x01 ∷ 0x03 ∷ 0x00 ∷ 0x00 ∷ 0x00 ∷ 0x0A ∷ 0xC5 ∷ 0xCD ∷ 0x00 ∷ 0x00 ∷ 0x00

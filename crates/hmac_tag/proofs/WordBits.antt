@@ -1,5 +1,5 @@
--- Words bit by bit: rotations inside one another are those beside one another, and Ch and Maj take
--- fewer operations than the standard writes.
+-- Words bit by bit: nested rotations equal the same ones side by side, and Ch and Maj take fewer
+-- operations than the standard writes.
 use Rattle.std.proofs.Common.{◌≡◌, ℕ, ◌+◌, ◌-◌, ◌*◌, ◌/◌, ◌%◌, ◌^◌, ◌<◌, bit_and, bit_or, bit_xor}
 use Rattle.std.proofs.Common.{refl, sym, ap, ap₂, ◌∙◌, arith, inl, inr, mod-lt, pow_pos, shr-shr}
 use Rattle.std.proofs.Common.{max, min}
@@ -31,7 +31,7 @@ rotated_lt n k fits low high =
     (or_lt 32 (n / 2 ^ k) (n * 2 ^ (32 - k) % 2 ^ 32) (omega (arith, shr_le n k))
     (mod-lt _ (pow_pos 32)))
 
--- a bit comes from further up, or from the bottom
+-- a bit of a rotated word comes from further up in the word, or from its bottom
 bit_at_rotated : (n k i : ℕ) → n < 2 ^ 32 → 0 < k → k < 32 → i < 32
     → bit_at (rotate_right w32 n k) i ≡ bit_at n ((i + k) % 32)
 bit_at_rotated n k i fits low high lt =

@@ -6,7 +6,7 @@ use Rattle.std.proofs.lemmas.List.{drop-drop, get_or-drop, take_all}
 use Rattle.std.specs.Prelude.{bit_xor}
 use Rattle.hmac_tag.specs.Hmac.{xored}
 
--- the first i bytes are xored, the others are as they were
+-- Holds if the first i bytes are xored with the pad, and the others are as they were.
 pub record IsXoredUpTo (pad : ℕ) (old : List ℕ) (i : ℕ) (now : List ℕ) : Type 0 where
   pub len : length now ≡ length old
   pub front : take i now ≡ xored pad (take i old)

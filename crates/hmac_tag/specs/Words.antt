@@ -3,6 +3,7 @@
 use Rattle.std.specs.Prelude.{◌≡◌, ℕ, ◌+◌, ◌*◌, ◌<◌, List, [], ◌∷◌, slice_index}
 use Rattle.sha2.specs.Sha256.{add32, word_at}
 
+-- Holds if each value of a block is below 256.
 abbrev pub AreBytes : List ℕ → Type 0
 AreBytes block = (i : ℕ) → slice_index block i < 256
 
