@@ -5,7 +5,7 @@ use Rattle.yasir_io.specs.Disks.{Slots, slot_in, with_slot, Torn, Reaches}
 use Rattle.yasir_io.specs.declared.disk.Slot.{Slot, TheVariants.A, TheVariants.B}
 use Rattle.yasir_io.specs.declared.disk.{SlotDisk.Ghosts as SlotDisk, TheConstants.SLOT_LEN}
 
--- a slot set to what it holds is the slot as it was
+-- setting a slot to what it holds leaves the slots as they were
 set-as-is : (slots : Slots) (slot : Slot) → slots ≡ with_slot slots slot (slot_in slots slot)
 set-as-is slots A = refl
 set-as-is slots B = refl

@@ -11,7 +11,7 @@ use Rattle.std.specs.Prelude.{unwrap_or, if◌then◌else◌}
 use Rattle.yasir_io.specs.Disks.{Slots, slot_in, other_slot, with_slot, OneImage}
 use Rattle.yasir_io.specs.declared.disk.Slot.{Slot, TheVariants.A, TheVariants.B}
 
--- the one of two that is in a slot
+-- the one of two numbers that is in this slot
 abbrev pub chosen : Option ℕ → Option ℕ → Slot → Option ℕ
 chosen a b A = a
 chosen a b B = b
@@ -19,7 +19,7 @@ chosen a b B = b
 slot_found : (place slot : Slot) → Some place ≡ Some slot → place ≡ slot
 slot_found place slot is = ap (λ o. unwrap_or o place) is
 
--- where the greater of two is in a slot, it is the one of this slot
+-- if the greater of two numbers is in a slot, it is the number of that slot
 pub greater_is_there : (a b : Option ℕ) (slot : Slot) → place_of_greater a b ≡ Some slot
     → (m : ℕ) × (greater a b ≡ Some m) × (chosen a b slot ≡ Some m)
 greater_is_there None None slot is = absurd cc
@@ -58,7 +58,7 @@ number_of_chosen link slots B = refl
 number_is : (m n : ℕ) → Some m ≡ Some n → m ≡ n
 number_is m n is = ap (λ o. unwrap_or o m) is
 
--- a floor beside a number of the link itself
+-- the floor of slots that hold a number for the link itself
 pub floor_beside : (link : LinkId) (slots : Slots) (m : ℕ) → own_floor link slots ≡ Some m
     → floor_of link slots ≡ greater (Some m) (old_floor slots)
 floor_beside link slots m own =
@@ -85,21 +85,21 @@ right_of_greater : (a : Option ℕ) (n : ℕ) → (m : ℕ) × (greater a (Some 
 right_of_greater None n = (n, refl, omega arith)
 right_of_greater (Some a) n = (max a n, refl, omega arith)
 
--- what a slot holds for a link, the greatest number of the link isn't below
+-- the greatest number of a link isn't below what a slot holds for it
 pub own_from : (link : LinkId) (slot : Slot) (slots : Slots) (n : ℕ)
     → number_held link (slot_in slots slot) ≡ Some n
     → (m : ℕ) × (own_floor link slots ≡ Some m) × (n ≤ m)
 own_from link A slots n is = rw is (left_of_greater (number_held link slots.b) n)
 own_from link B slots n is = rw is (right_of_greater (number_held link slots.a) n)
 
--- a greater number of the link makes no lesser floor
+-- a greater number of the link doesn't lower the floor
 greater_from : (m k n : ℕ) (old : Option ℕ) → m ≤ k → greater (Some m) old ≡ Some n
     → IsSomeAnd (greater (Some k) old) (λ floor. n ≤ floor)
 greater_from m k n None le is = let same : m ≡ n = number_is m n is in omega arith
 greater_from m k n (Some o) le is =
     let same : max m o ≡ n = number_is (max m o) n is in omega arith
 
--- what a slot and the old ones hold, the floor isn't below
+-- the floor isn't below what a slot and the old slots hold
 pub floor_from : (link : LinkId) (slot : Slot) (slots : Slots) (m n : ℕ) (old : Option ℕ)
     → number_held link (slot_in slots slot) ≡ Some m → old_floor slots ≡ old
     → greater (Some m) old ≡ Some n → HasFloorAtLeast link n slots
@@ -110,7 +110,7 @@ floor_from link slot slots m n old is old_is floor =
     ∙ ap (λ o. greater (Some own.0) o) old_is))
     (greater_from m own.0 n old own.2 floor)
 
--- where the one image is the slots as read, it is so but for any slot
+-- slots that haven't changed are as they were, whichever slot is left out
 pub same_as_is : (slot : Slot) (slots : Slots) → AreSameBut slot slots slots
 same_as_is A slots = refl
 same_as_is B slots = refl
@@ -144,14 +144,15 @@ kept_floor journal (Some slots) c fits same =
     ∙ ap (number_held link) (kept_of_but kept slots (slot_in c other)) ∙ found.1)
     (ap old_floor same ∙ old_of_but other slots (slot_in c other)) found.2
 
--- then no image has a floor below the journal's
+-- If every image is the slots as read, except in the slot that doesn't keep the floor, then no
+-- image has a floor below the journal's.
 pub floor_of_images : (journal : Journal) (told : Option Slots) (images : Slots → Type 0)
     → Fits journal told → IsKept journal told images → (c : Slots) → images c
     → HasFloorFrom journal c
 floor_of_images journal told images fits kept c image =
     kept_floor journal told c fits (kept c image)
 
--- where the one image is the slots as read, a crash does no harm
+-- If the only image is the slots as read, the journal is crash-safe.
 pub safe_where_synced : (journal : Journal) (told : Option Slots) (images : Slots → Type 0)
     → Fits journal told → OneImage told images → IsCrashSafe journal told images
 safe_where_synced journal told images fits synced =

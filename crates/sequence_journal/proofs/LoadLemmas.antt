@@ -1,4 +1,4 @@
--- Lemmas on loading a journal, and on what a crash leaves while one is taken over.
+-- Lemmas on loading a journal, and on what a crash leaves while a journal is taken over.
 use Rattle.sequence_journal.specs.{Journal.journal_floor, Journal.HasFloorAtLeast, Links.IsLink}
 use Rattle.sequence_journal.specs.Loading.{AreRead, IsOld, MayBegin, MayLeaveLoading, KeepsLoadable}
 use Rattle.sequence_journal.specs.Loading.{LeavesLoaded, IsLoaded, MayTakeOver, RefusesLoad}
@@ -25,7 +25,7 @@ pub blank_holds_none : greatest (record {
 unfolding link_held old_number_held old_slot_bytes
 blank_holds_none = refl
 
--- where no slot holds a number, a journal may begin at 0
+-- if no slot holds a number, a journal may begin at 0
 pub may_begin_anew : (link : LinkId) (told : Option Slots) (read : Slots) → IsLink link
     → AreRead told read → greatest read ≡ None → IfSome told (MayBegin link 0)
 may_begin_anew link told read right are none =
@@ -49,7 +49,8 @@ by_what_it_holds link n slots c None None is_old floor wrong =
     let le : n ≤ n = omega arith in
     inl (subst (λ o. IsSomeAnd o (λ floor. n ≤ floor)) (sym floor) le)
 
--- what an old journal's slots are, with slot A torn: by what it holds for the link, and for any
+-- the slots of an old journal with slot A torn, by the number that slot A then holds for the link,
+-- and for any link
 torn_old : (link : LinkId) (n : ℕ) (slots : Slots) (bytes : List ℕ) (own any : Option ℕ)
     → IsLink link → IsOld n slots → number_held link bytes ≡ own → any_number_held bytes ≡ any
     → KeepsLoadable link slots n (with_slot slots A bytes)
@@ -83,7 +84,7 @@ old_number link slots floor n right is_old floor_is =
     ∙ ap (λ o. floor_by None o (old_floor slots)) is_old.none ∙ is_old.number in
     ap (λ o. unwrap_or o n) (sym stands ∙ floor_is)
 
--- what a crash while a journal is loaded leaves of it
+-- what a crash leaves of a journal while it is being loaded
 pub while_loading : (link : LinkId) (slots : Slots) (floor : ℕ) (told : Option Slots)
     (images : Slots → Type 0) → IsLink link → told ≡ Some slots → OneImage told images
     → floor_of link slots ≡ Some floor → (c : Slots) → MayLeaveLoading told images c
@@ -133,7 +134,7 @@ found_loaded link told_old told_new images_old images_new journal load =
       | Some own ↦ λ is leaves. inl leaves.0
     ] refl load.leaves
 
--- where slots have numbers for other links alone, they have no floor for this one
+-- if slots have numbers for other links only, they have no floor for this one
 none_of_others : (own any old : Option ℕ) (a b : Option ℕ) (place : Slot)
     → wrong_by own (place_of_greater a b) ≡ Some place
     → any ≡ greater a b → floor_by own any old ≡ None
@@ -149,14 +150,14 @@ no_floor_of_others link slots place wrong =
     none_of_others (own_floor link slots) (any_floor slots) (old_floor slots)
     (any_number_held slots.a) (any_number_held slots.b) place wrong refl
 
--- where no slot holds a number, there is no floor
+-- if no slot holds a number, there is no floor
 no_floor_of_none : (link : LinkId) (slots : Slots) → IsLink link → any_floor slots ≡ None
     → old_floor slots ≡ None → floor_of link slots ≡ None
 no_floor_of_none link slots right none none_old =
     ap (λ o. floor_by o (any_floor slots) (old_floor slots)) (no_own_floor link slots right none)
     ∙ ap (λ o. floor_by None o (old_floor slots)) none ∙ none_old
 
--- slots that have a floor are refused for a fault alone
+-- if slots have a floor, only a fault refuses to load it
 pub refused_for_a_fault : (link : LinkId) (slots : Slots) (n : ℕ) (new : Option Slots)
     (before now : ℕ) (error : LoadError) → IsLink link → HasFloorAtLeast link n slots
     → RefusesLoad link (Some slots) new before now error → Rose before now

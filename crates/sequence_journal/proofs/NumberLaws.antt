@@ -5,7 +5,7 @@ use Rattle.std.proofs.Common.{inr, ◌⊎◌, add-one}
 use Rattle.std.proofs.Math.Nat.{mod-add-div', mul-le-mul_right, suc-mul}
 use Rattle.std.proofs.lemmas.{Bool.cases_lt, Nat.mod-mul-add}
 
--- how far the next number of this rest is
+-- how far the next number with this word is from a number that is r modulo m
 pub rest-is : (m word r : ℕ) → word < m → r < m
     → ((r ≤ word) × ((word + m - r) % m ≡ word - r))
     ⊎ ((word < r) × ((word + m - r) % m ≡ word + m - r))
@@ -14,13 +14,14 @@ rest-is m word r fits small = elim (cases_lt word r) [
   | inr ge ↦ inl (ge, ap (λ x. x % m) (omega arith) ∙ mod-mul-add 1 m (word - r) (omega arith))
 ]
 
--- whole words grow with their count
+-- multiples of m are at least m apart
 pub whole-more : (m p q : ℕ) → p < q → p * m + m ≤ q * m
 whole-more m p q lt =
     let more : suc p * m ≤ q * m = mul-le-mul_right m (omega (arith, add-one p)) in
     omega (arith, more, suc-mul p m)
 
--- a number with the word, q whole words below it
+-- A number with the word is the least one above the floor if no smaller one with the word is above
+-- it.
 least-at : (m floor word q n : ℕ) → word < m → n ≡ q * m + word → floor < n
     → ((p : ℕ) → p < q → p * m + word ≤ floor) → IsLeastWith m floor word n
 least-at m floor word q n fits is above below = record {

@@ -124,7 +124,7 @@ other_twice : (slot : Slot) → other_slot (other_slot slot) ≡ slot
 other_twice A = refl
 other_twice B = refl
 
--- a slot is set to a number above that of the other one
+-- a slot that is set to a number above that of the other slot holds the greatest number of the link
 floor_after : (link : LinkId) (slot : Slot) (slots : Slots) (m n : ℕ)
     → number_held link (slot_in slots (other_slot slot)) ≡ Some m → m < n → n ≤ LIMIT
     → (own_floor link (with_slot slots slot (slot_bytes n link)) ≡ Some n)
@@ -140,7 +140,7 @@ floor_after link B slots m n is above within =
       rw (held n link within, is) (rw (lt-ltb m n above) refl),
     )
 
--- a fact for what is there
+-- what holds of a value, if there is one, holds of this value
 pub at_some : {A : Type 0} (P : A → Type 0) (o : Option A) (x : A) → o ≡ Some x → IfSome o P → P x
 at_some P o x is holds = rw is at holds
 
@@ -149,7 +149,7 @@ pub if_some_weaker : {A : Type 0} (P Q : A → Type 0) (o : Option A) → ((x : 
 if_some_weaker P Q None weaker holds = tt
 if_some_weaker P Q (Some x) weaker holds = weaker x holds
 
--- a number above a floor is above its parts
+-- the floor isn't below the number of the link, and a number above the floor becomes the floor
 below_floor : (m floor : ℕ) (old : Option ℕ) → greater (Some m) old ≡ Some floor → m ≤ floor
 below_floor m floor None is = let same : m ≡ floor = ap (λ o. unwrap_or o m) is in omega arith
 below_floor m floor (Some o) is =
@@ -168,8 +168,8 @@ old_of_set : (slot : Slot) (slots : Slots) (bytes : List ℕ)
 old_of_set A slots bytes = refl
 old_of_set B slots bytes = refl
 
--- A commit sets the slot that doesn't keep the floor to a number above it. Then this is the floor,
--- and kept there.
+-- A commit sets the slot that doesn't keep the floor to a number above the floor. Then that number
+-- is the floor, and that slot keeps it.
 pub floor_is_set : (link : LinkId) (kept slot : Slot) (told new : Option Slots) (floor n : ℕ)
     (bytes : List ℕ)
     → slot ≡ other_slot kept → bytes ≡ slot_bytes n link → new ≡ told_with told slot bytes
@@ -192,7 +192,7 @@ floor_is_set link kept slot (Some slots) new floor n bytes other number set is k
     ∙ goes_above found.0 floor n (old_floor slots) found.2 above in
     rw (set, number) (is_floor, own.1)
 
--- after a fault the floor is what it was, or the number
+-- after a fault the floor is what it was, or the number of the commit
 pub floor_may_be_set : (link : LinkId) (kept slot : Slot) (told new : Option Slots) (floor n : ℕ)
     (bytes : List ℕ)
     → slot ≡ other_slot kept → bytes ≡ slot_bytes n link → MaySet told slot bytes new
@@ -207,7 +207,7 @@ floor_may_be_set link kept slot told new floor n bytes other number (inr set) is
     if_some_weaker _ _ new (λ slots floor_is. inr floor_is)
     (floor_is_set link kept slot told new floor n bytes other number set is keeps above within).0
 
--- Where a journal may begin at n, it stands at n once slot A is set to it.
+-- If a journal may begin at n, its floor is n after slot A is set to n, and slot A keeps it.
 pub floor_begins : (link : LinkId) (n : ℕ) (told new : Option Slots) (bytes : List ℕ) → n ≤ LIMIT
     → bytes ≡ slot_bytes n link → new ≡ told_with told A bytes → IfSome told (MayBegin link n)
     → IfSome new (λ slots. floor_of link slots ≡ Some n)

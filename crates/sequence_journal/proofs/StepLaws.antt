@@ -1,4 +1,4 @@
--- What a box commits by its answers makes its steps those of an uptime.
+-- The steps of a box that commits the numbers that it returns are steps of an uptime.
 use Rattle.sequence_journal.specs.{Commits.HasFailed, Journal.journal_floor, Journal.HasFloorFrom}
 use Rattle.sequence_journal.specs.Uptimes.{RiseFrom, last_from, IsStepOf, CommitsAnswered}
 use Rattle.sequence_journal.specs.{Uptimes.numbers_answered, declared.journal.Journal.Journal}
@@ -30,7 +30,8 @@ module _ {D : Type 0} (disk : SlotDisk D) (old new : Journal) (before after : D)
     }
     is-step (Err fault) commits leaves = record { rise = tt; any_moment = leaves }
 
-    -- a commit that failed keeps the floor
+    -- the journal's floor is the last number that the step has returned, or the old floor if there
+    -- is none
     pub goes-on : (result : Result A E)
         → IfOk result (λ answer. CommitsAnswered disk old new before after (numbers_of answer))
         → OnErr result ((n : ℕ) × HasFailed old new (disk.told before) (disk.told after) n)

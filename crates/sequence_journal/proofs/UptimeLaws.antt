@@ -1,4 +1,4 @@
--- The numbers of uptimes over one disk rise, whatever moments they end at.
+-- The numbers of uptimes over one disk rise, at whatever moments the uptimes end.
 use Rattle.sequence_journal.proofs.LoadLemmas.{no_floor_of_others}
 use Rattle.sequence_journal.specs.{Journal.HasFloorAtLeast, Loading.KeepsLoadable, Slots.floor_of}
 use Rattle.sequence_journal.specs.Uptimes.{RiseFrom, last_from, IsUptime, IsIdle, HasNoFloorBelow}
@@ -10,7 +10,7 @@ use Rattle.std.proofs.Common.{IfSome, inl, inr, refl, sym, subst, arith}
 use Rattle.yasir_io.specs.Disks.{Slots}
 use Rattle.yasir_io.specs.declared.disk.{Slot.TheVariants.A, SlotDisk.Ghosts as SlotDisk}
 
--- from a lower floor numbers rise too
+-- numbers that rise from a floor rise from a lower one too
 pub rise-lower : (low high : ℕ) (numbers : List ℕ) → low ≤ high → RiseFrom high numbers
     → RiseFrom low numbers
 rise-lower low high [] le rise = tt
@@ -63,7 +63,7 @@ uptimes-rise link begins floor (uptime ∷ uptimes) from (inr idle, are) =
     subst (λ numbers. RiseFrom floor (numbers ++ all_numbers uptimes)) (sym idle.answers_none)
     (uptimes-rise link uptime.image floor uptimes (idle.leaves floor from) are)
 
--- an uptime that ends while its journal is loaded
+-- an uptime that ends while its journal is being loaded is idle
 pub ends-loading : (link : LinkId) (begins : Slots) (floor : ℕ) (image : Slots)
     → floor_of link begins ≡ Some floor → KeepsLoadable link begins floor image
     → IsIdle link begins [] image
@@ -83,7 +83,7 @@ ends-loading link begins floor image is (inr others) = record {
       );
 }
 
--- an uptime that leaves the slots as they were
+-- an uptime that leaves the slots as they were and returns no number is idle
 pub idle-same : (link : LinkId) (slots : Slots) → IsIdle link slots [] slots
 idle-same link slots = record { answers_none = refl; leaves = λ n below. below }
 

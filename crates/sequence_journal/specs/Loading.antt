@@ -79,8 +79,8 @@ abbrev pub MayTakeOver : LinkId → Option Slots → Option Slots → Type 0
 MayTakeOver link old new = (new ≡ old)
     ⊎ ((n : ℕ) × IfSome old (IsOld n) × (new ≡ told_with old A (slot_bytes n link)))
 
--- Holds if the slots as they were read hold no number, neither do the old slots, and these are
--- slots A and B.
+-- Holds if these are slots A and B as they were read, and neither they nor the old slots hold a
+-- number.
 pub record FindsNone (told : Option Slots) (a b : List ℕ) : Type 0 where
   pub read : Slots
   pub are_read : AreRead told read
@@ -121,9 +121,9 @@ abbrev pub MayLeaveLoading : Option Slots → (Slots → Type 0) → Slots → T
 MayLeaveLoading told images c =
     images c ⊎ (IfSome told (λ slots. (n : ℕ) × IsOld n slots) × IsBut A images c)
 
--- What a crash while a journal is being loaded leaves of slots with this floor. The next load gives
--- no floor below it or, if an old journal was being taken over, finds that slot A, which was being
--- written, is another link's.
+-- What a crash leaves while slots with this floor are being loaded. The image has a floor that
+-- isn't below this one or, if an old journal was being taken over, its slot A, which was being
+-- written, holds a number for another link.
 abbrev pub KeepsLoadable : LinkId → Slots → ℕ → Slots → Type 0
 KeepsLoadable link slots floor c = HasFloorAtLeast link floor c
     ⊎ (IsOld floor slots × (wrong_slot link c ≡ Some A))
