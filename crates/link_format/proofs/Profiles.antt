@@ -20,7 +20,7 @@ length-trailer profile tags number frame =
     length-append (bytes_high_first profile.word_len number) (profile.tag number frame)
     ∙ omega arith
 
--- the word of a trailer is the number, but for what words don't tell
+-- the word of a trailer is its number modulo the count of words
 pub word_of-trailer : (profile : Profile) (number : ℕ) (frame : List ℕ)
     → word_of profile (trailer profile number frame) ≡ number % words profile
 word_of-trailer profile number frame =

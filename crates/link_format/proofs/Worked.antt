@@ -1,4 +1,4 @@
--- What small worked lines are made of: frames of Modbus RTU, and a tag that is in for HMAC.
+-- The parts of small worked lines: frames of Modbus RTU, and a tag that takes the place of HMAC.
 use Rattle.line_rules.specs.{Crc.crc, Headerless.headerless, Rules.Rules}
 use Rattle.{link_format.specs.Profile.Profile, std.proofs.Common.ℕ, std.proofs.Common.◌==◌}
 use Rattle.std.proofs.Common.{◌&&◌, ◌%◌, nat_le, List, [], ◌∷◌, ◌++◌, length, map, take, replicate}
@@ -9,12 +9,12 @@ abbrev pub rtu : Rules
 rtu = headerless 1 256 (λ x. nat_le 4 (length x) && crc 0xA001 0xFFFF x == 0)
     (λ x. nat_le 2 (length x) && crc 0xA001 0xFFFF x == 0)
 
--- this many bytes of the number and the frame. The number goes in modulo a prime, so that numbers
--- with the same word have different tags.
+-- a tag of this many bytes, made of the number and the frame. The number is taken modulo a prime,
+-- so that numbers with the same word have different tags.
 abbrev pub stand_in : ℕ → ℕ → List ℕ → List ℕ
 stand_in size number frame = take size (number % 251 ∷ frame ++ replicate size 0xEE)
 
--- words and tags of this many bytes
+-- a profile with words and tags of this many bytes
 abbrev pub profile_with : ℕ → ℕ → Profile
 profile_with word_len tag_len = record {
   word_len = word_len;

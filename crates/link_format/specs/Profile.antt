@@ -49,6 +49,7 @@ word_of profile bytes = big_number profile.word_len bytes
 abbrev pub trailer : Profile → ℕ → List ℕ → List ℕ
 trailer profile number frame = bytes_high_first profile.word_len number ++ profile.tag number frame
 
+-- how many bytes a trailer has
 abbrev pub trailer_len : Profile → ℕ
 trailer_len profile = profile.word_len + profile.tag_len
 
