@@ -1,4 +1,5 @@
--- What leaves of one burst and what leaves of the next stand as far apart as the receiver is late.
+-- Between what leaves of one burst and what leaves of the next there are at least as many silent
+-- ticks as the receiver's delay.
 use Rattle.burst_walk.{proofs.Spread.AreSpread, specs.Walk.emitted}
 use Rattle.frame_ending.{proofs.LiveTicks.live_ticks-contiguous, specs.LiveBytes.live_ticks}
 use Rattle.line_rules.specs.{Rules.Rules, RulesLaws.IsLawful}
@@ -15,7 +16,7 @@ use Rattle.yasir_ticks.specs.{Bursts.Burst, Bursts.end_of, BurstsOf.IsContiguous
 
 module _ (profile : Profile) (rules : Rules) (lawful : IsLawful rules) where
   module _ (cut : ℕ) (some : 2 ≤ cut) (few : cut ≤ delay profile) where
-    -- one emission before others that begin late enough after it
+    -- an emission, and others that begin late enough after it
     spread-by : (s : CheckState) (d : Burst) (v : Verdict) (m : ℕ) (es : List Burst)
         → IsContiguous 4 d.body → (IsJudged v → s.earliest_start ≤ d.start)
         → m ≤ s.earliest_start + delay profile

@@ -1,4 +1,4 @@
--- A burst begins where no verdict is open.
+-- A burst begins while no verdict is open.
 use Rattle.frame_ending.specs.LiveBytes.{up_to_byte, live_bytes, live_ticks, live_end}
 use Rattle.line_rules.specs.{Rules.Rules, RulesLaws.IsLawful}
 use Rattle.link_format.specs.Profile.{Profile, delay}
@@ -10,7 +10,7 @@ use Rattle.yasir_ticks.{proofs.BurstLaws.alone, specs.Bursts.Burst}
 use Rattle.yasir_ticks.specs.Ticks.{silent, bytes_in}
 use Rattle.yasir_ticks.specs.declared.tick.Tick.{Tick, TheVariants.Silent, TheVariants.Byte}
 
--- where a burst may start, nothing is to leave
+-- when a burst may start, everything has left
 pub rests-none : (rules : Rules) (p : Bool) (m earliest : ℕ) (left : List ℕ) (live : List Tick)
     (owed : ℕ) (emissions : List Burst)
     → Rests rules p m earliest left live owed emissions → earliest ≤ m
@@ -64,7 +64,7 @@ module _ (profile : Profile) (rules : Rules) (lawful : IsLawful rules) (m b : �
       ap (λ x. drop 1 x) (sym begun-whole)
       ∙ ap (λ k. drop k (as_it_came profile rules e)) (sym begun-one)
 
-  -- its verdict is open
+  -- after the first byte of a burst, the verdict on it is open
   pub opens-begun : (earliest : ℕ) → earliest ≤ m
       → (rules.header_len ≤ length (live_bytes rules e)
       → rules.is_good_header (take rules.header_len (live_bytes rules e)) ≡ true)
@@ -84,7 +84,7 @@ module _ (profile : Profile) (rules : Rules) (lawful : IsLawful rules) (m b : �
         left_is = begun-left;
       }
 
-  -- and nothing of it is seen in its first step
+  -- nothing of a burst is seen in its first step
   pub begun-seen : get_or (as_it_came profile rules e) (m - e.start) Silent ≡ Silent
   begun-seen =
       let none : m - e.start ≡ 0 = omega arith in

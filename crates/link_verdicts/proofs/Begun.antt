@@ -1,4 +1,4 @@
--- Before the first tick.
+-- The receiver before the first tick.
 use Rattle.burst_walk.proofs.{Coming.come-begun, Emissions.tick_at-none}
 use Rattle.{burst_walk.specs.HasCome.HasCome, line_rules.specs.Rules.Rules}
 use Rattle.link_format.specs.Profile.{Profile}

@@ -28,7 +28,7 @@ use Rattle.yasir_ticks.specs.declared.tick.Tick.{Tick, TheVariants.Silent, TheVa
 
 -- ---- spoiled ticks
 
--- but for the last one they are the ticks themselves
+-- except for the last one, spoiled ticks are the ticks themselves
 pub spoiled-front : (rules : Rules) (h : List ℕ) (x : List Tick) (k : ℕ) → k + 1 < length x
     → get_or (spoiled rules h x) k Silent ≡ get_or x k Silent
 unfolding spoiled
@@ -45,7 +45,7 @@ spoiled-front rules h (Byte b ∷ t ∷ x) (suc k) within =
 -- ---- emissions
 
 module _ (profile : Profile) (rules : Rules) where
-  -- it is dark until the first byte leaves
+  -- an emission is silent until its first byte leaves
   pub emission-dark : (d : Burst) (i : ℕ) (v : Verdict) → i < delay profile + d.start
       → tick_at (emission_by profile rules d v) i ≡ Silent
   emission-dark d i (passed_with number) before =
@@ -54,7 +54,7 @@ module _ (profile : Profile) (rules : Rules) where
       tick_at-before (delayed profile d (spoiled rules [] (filled_ticks rules d))) i before
   emission-dark d i (dropped why) before = tick_at-none i
 
-  -- until the last live byte leaves, a burst that isn't dropped leaves as it came
+  -- until its last live byte leaves, a burst that isn't dropped leaves as it came
   pub emission-shown : (d : Burst) (i : ℕ) (v : Verdict) → IsJudged v
       → delay profile + d.start ≤ i → i + 1 < delay profile + live_end rules d
       → tick_at (emission_by profile rules d v) i
@@ -120,7 +120,7 @@ module _ (profile : Profile) (rules : Rules) where
 
 module _ (profile : Profile) (rules : Rules) (lawful : IsLawful rules) (headed : IsHeaded rules)
     (timely : IsTimely profile rules) where
-  -- A note comes in the burst's own ticks, or as long as no other burst may start.
+  -- A note doesn't come before its burst starts, and comes before another burst may start.
   not-before : (s : CheckState) (d : Burst) → d.start ≤ (checker profile rules).tick s d
   not-before s d =
       ⊎_elim
@@ -182,14 +182,14 @@ module _ (profile : Profile) (rules : Rules) (lawful : IsLawful rules) (headed :
           ∙ same-emission profile rules d m b (checked profile rules s d) now-settled.bytes
           now-settled.ticks
 
-    -- ---- what is seen before tick m of a burst that isn't noted by then
+    -- ---- what is seen before tick m of a burst that isn't noted before tick m
 
     module _ (late : m ≤ (checker profile rules).tick s d)
         (begun : delay profile + d.start < m) where
       late-free : s.earliest_start ≤ d.start
       late-free = waits-late profile rules s d m (omega arith) may.after late
 
-      -- its header is whole, and good, once a byte may have left
+      -- when a byte of the burst may have left, its header is whole and good
       late-whole : rules.header_len ≤ length (live_bytes rules d)
       late-whole =
           let head = timely.in_time in
@@ -256,7 +256,8 @@ module _ (profile : Profile) (rules : Rules) (lawful : IsLawful rules) (headed :
         (cases_lt i (delay profile + d.start)))
         (cases_lt ((checker profile rules).tick s d) m)
 
-  -- The receiver's walk is causal: so notes and line of a longer link begin with those of the link.
+  -- The receiver's walk is causal, so the notes and the line of a longer link begin with those of
+  -- the link.
   pub checker-causal : IsCausal (checker profile rules)
   checker-causal = record {
     not_before = λ s d contiguous. not-before s d;

@@ -1,4 +1,4 @@
--- One turn: what leaves, and what then is still to leave.
+-- One turn: what leaves in it, and what hasn't left after it.
 use Rattle.line_rules.specs.{Rules.Rules, declared.line_rules.LineRules.Ghosts as LineRules}
 use Rattle.link_verdicts.proofs.Leavings.{leaves-none, leaves-silent, leaves-byte, fill_out-zero}
 use Rattle.link_verdicts.{proofs.Leavings.fill_out-suc, specs.Leaving.is_none, specs.Leaving.leaves}
@@ -13,8 +13,9 @@ use Rattle.{std.proofs.lemmas.List.append-nil, yasir_ticks.specs.Ticks.bytes_in}
 use Rattle.yasir_ticks.specs.declared.tick.Tick.{Tick, TheVariants.Silent, TheVariants.Byte}
 
 module _ {R : Type 0} (proto : LineRules R) (passes : Bool) where
-  -- What has left, where a turn has answered so: what is still to leave is all but the first tick.
-  -- While live ticks are to leave, the outlet keeps what it knows of the burst.
+  -- Holds if a turn has returned `answer`: that is the first tick that was still to leave, and all
+  -- ticks after it haven't left yet. While live ticks are still to leave, the outlet keeps what it
+  -- knows of the burst.
   pub record Flows (left : List ℕ) (live : List Tick) (owed : ℕ) (old new : Outlet R)
       (answer : Tick) : Type 0 where
     pub after : List ℕ
@@ -84,7 +85,7 @@ module _ {R : Type 0} (proto : LineRules R) (passes : Bool) where
         keeps = λ some. absurd (omega arith);
       }
 
-  -- One turn.
+  -- One turn of the outlet.
   pub flows : (left : List ℕ) (live : List Tick) (old new : Outlet R) (last : Bool) (answer : Tick)
       → (0 < length live → owed_by old ≡ 0)
       → (0 < length live → last ≡ is_none (drop 1 live))

@@ -64,7 +64,7 @@ module _ {profile : Profile} {rules : Rules} (headed : IsHeaded rules)
   next-live = live-fewer whole live (m - d.start) opens.live_is
       ∙ ap (λ k. drop k whole) (sym place)
 
-  -- how many live ticks are still to leave
+  -- how many live ticks haven't left yet
   pub live-long : length live + m ≡ live_end rules d + delay profile
   live-long =
       let size = length-silent (delay profile) (live_ticks rules d) in
@@ -77,7 +77,7 @@ module _ {profile : Profile} {rules : Rules} (headed : IsHeaded rules)
   after-few : length (after_live rules d) ≤ m - live_end rules d
   after-few = let long = after-long rules d in omega arith
 
-  -- through the pause, the verdict stays open
+  -- a silent tick in the pause leaves the verdict open
   pub opens-silent : m < live_end rules d + 3
       → (live_end rules d + 1 ≤ m → rules.header_len ≤ length (live_bytes rules d))
       → Opens profile rules (m + 1) earliest d (left ++ bytes_in (take 1 live)) (drop 1 live)
@@ -100,7 +100,7 @@ module _ {profile : Profile} {rules : Rules} (headed : IsHeaded rules)
     left_is = next-left;
   }
 
-  -- and behind it silence refuses the burst
+  -- a silent tick after the pause breaks the shape
   pub silent-kept : live_end rules d + 3 ≤ m → kept_after profile rules d ≡ m - live_end rules d
   silent-kept behind =
       let keeps = opens.keeps in
@@ -109,7 +109,7 @@ module _ {profile : Profile} {rules : Rules} (headed : IsHeaded rules)
       (omega arith) after in
       omega arith
 
--- a burst whose shape breaks at tick m is refused then
+-- a burst whose shape breaks at tick m is refused at tick m
 pub breaks : (profile : Profile) (rules : Rules) (m : ℕ) (s : CheckState) (d : Burst)
     → s.earliest_start ≤ d.start → rules.header_len ≤ length (live_bytes rules d)
     → rules.is_good_header (take rules.header_len (live_bytes rules d)) ≡ true
@@ -141,7 +141,7 @@ module _ {profile : Profile} {rules : Rules} (lawful : IsLawful rules) (headed :
   ends : end_of d ≤ m
   ends = may.after
 
-  -- ---- one that isn't live
+  -- ---- a byte that isn't live
 
   module _ (is : over ≡ true) where
     pub over-bytes : live_bytes rules e ≡ live_bytes rules d
@@ -163,7 +163,7 @@ module _ {profile : Profile} {rules : Rules} (lawful : IsLawful rules) (headed :
     over-long : length (after_live rules d) + gap ≡ m - live_end rules d
     over-long = let long = after-long rules d in let after = ends in omega arith
 
-    -- the header is whole
+    -- when a byte isn't live, the header is whole
     pub over-header : rules.header_len ≤ length (live_bytes rules d)
     over-header =
         ⊎_elim
@@ -193,7 +193,7 @@ module _ {profile : Profile} {rules : Rules} (lawful : IsLawful rules) (headed :
         few-gap : gap < 2 → nat_le 2 gap ≡ false
         few-gap few = grind arith
 
-    -- inside the pause it breaks the shape
+    -- a byte in the pause breaks the shape
     pub over-breaks : m < live_end rules d + 3
         → kept_after profile rules e ≡ m - live_end rules e
     over-breaks few =
@@ -206,7 +206,7 @@ module _ {profile : Profile} {rules : Rules} (lawful : IsLawful rules) (headed :
         (omega arith)
         ∙ (let h : length (after_live rules d) + gap ≡ m - live_end rules e = omega arith in h))
 
-    -- and behind it keeps it
+    -- a byte after the pause keeps the shape
     pub over-keeps : live_end rules d + 3 ≤ m
         → m + 1 - live_end rules e ≤ kept_after profile rules e
     over-keeps behind =
@@ -238,7 +238,7 @@ module _ {profile : Profile} {rules : Rules} (lawful : IsLawful rules) (headed :
     pub over-long-header : rules.header_len ≤ length (live_bytes rules e)
     over-long-header = let same = ap length over-bytes in let long = over-header in omega arith
 
-    -- so the verdict stays open
+    -- a byte of the trailer, but not its last one, leaves the verdict open
     pub opens-over : live_end rules d + 3 ≤ m → m + 2 < live_end rules d + delay profile
         → Opens profile rules (m + 1) earliest e (left ++ bytes_in (take 1 live)) (drop 1 live)
     opens-over behind before = record {
@@ -253,7 +253,7 @@ module _ {profile : Profile} {rules : Rules} (lawful : IsLawful rules) (headed :
       left_is = over-left;
     }
 
-  -- ---- a further live one
+  -- ---- another live byte
 
   module _ (is : over ≡ false) where
     pub open-whole : as_it_came profile rules e
@@ -292,7 +292,7 @@ module _ {profile : Profile} {rules : Rules} (lawful : IsLawful rules) (headed :
         (silent gap ++ Byte b ∷ []) (omega arith)))
         ∙ ap (λ x. bytes_in (take (m + 1 - d.start) x)) (sym open-whole))
 
-    -- what is then to leave: the byte enters behind the silent ticks before it
+    -- what hasn't left after the step: the byte enters after the silent ticks before it
     pub open-live : drop 1 live ++ (silent gap ++ Byte b ∷ [])
         ≡ drop (m + 1 - e.start) (as_it_came profile rules e)
     open-live =

@@ -1,4 +1,4 @@
--- Where a header ends: with at most one silent tick between its bytes.
+-- Where a header ends, with at most one silent tick between its bytes.
 use Rattle.frame_ending.specs.LiveBytes.{before_pause, spelled, live_bytes}
 use Rattle.line_rules.specs.{Rules.Rules, RulesLaws.IsLawful, RulesLaws.IsHeaded}
 use Rattle.std.proofs.Common.{ℕ, ◌+◌, ◌-◌, ◌*◌, ◌<◌, ◌≤◌, List, [], ◌∷◌, ◌++◌, length, arith}
@@ -33,7 +33,7 @@ before_pause-few cut x (more b gap rest few contiguous) =
 
 module _ (rules : Rules) (lawful : IsLawful rules) (headed : IsHeaded rules) (d : Burst)
     (contiguous : IsContiguous 4 d.body) where
-  -- a burst whose header is too short: its bytes before the pause are all live
+  -- if a burst's header is too short, all its bytes before the pause are live, and so they are few
   pub short-pause : length (live_bytes rules d) < rules.header_len
       → length (before_pause d.body) + 3 ≤ 2 * rules.header_len
   short-pause short =

@@ -15,7 +15,7 @@ use Rattle.std.proofs.Common.{List, length, take, refl, ap, Option, Some, None, 
 use Rattle.std.proofs.lemmas.Bool.{cond-true, cond-false, lt-ltb, le-ltb}
 use Rattle.yasir_ticks.specs.Bursts.{Burst}
 
--- passed or refused: the burst leaves
+-- Holds if the verdict is that the burst passes or is refused, so that it leaves.
 abbrev pub IsJudged : Verdict → Type 0
 IsJudged (passed_with number) = Unit {0}
 IsJudged (refused why) = Unit {0}
@@ -91,7 +91,7 @@ module _ (profile : Profile) (rules : Rules) (floor : ℕ) (d : Burst) where
       ≡ whole_verdict profile rules floor (live_bytes rules d) (trailer_of profile rules d)
   verdict-whole whole = verdict-is ∙ cond-false _ _ _ (le-ltb _ _ whole)
 
--- such a verdict is one on a burst that leaves
+-- a choice between two verdicts by which a burst leaves is such a verdict
 judged-choice : (b : Bool) (v w : Verdict) → IsJudged v → IsJudged w → IsJudged (cond b v w)
 judged-choice true v w first second = first
 judged-choice false v w first second = second

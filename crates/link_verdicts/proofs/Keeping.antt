@@ -1,4 +1,4 @@
--- How many ticks keep a shape, as ticks go on with silence and more.
+-- How many ticks keep a shape when silence and other ticks follow them.
 use Rattle.link_format.specs.Profile.{Profile, pause_len, trailer_len, trailer_shape}
 use Rattle.link_verdicts.specs.Shapes.{kept}
 use Rattle.std.proofs.Common.{◌≡◌, ℕ, zero, suc, ◌+◌, ◌-◌, ◌<◌, ◌≤◌, Bool, true, false, List, []}
@@ -17,7 +17,8 @@ kept-le (false ∷ shape) [] = let rest = kept-le shape [] in omega arith
 kept-le (false ∷ shape) (Silent ∷ x) = let rest = kept-le shape x in omega arith
 kept-le (false ∷ shape) (Byte b ∷ x) = omega arith
 
--- Where the shape breaks before the ticks go on, they break it there in any case,
+-- If the shape breaks in these ticks or in the silence after them, what follows doesn't change
+-- where.
 pub kept-broken : (shape : List Bool) (x : List Tick) (n : ℕ) (y : List Tick)
     → kept shape x < length x + n → kept shape (x ++ (silent n ++ y)) ≡ kept shape x
 unfolding kept
@@ -35,7 +36,7 @@ kept-broken (false ∷ shape) (Silent ∷ x) n y broken =
     ap suc (kept-broken shape x n y (omega arith))
 kept-broken (false ∷ shape) (Byte b ∷ x) n y broken = refl
 
--- and where the shape is over by then, what comes doesn't count.
+-- If the shape is over after these ticks and the silence, what follows doesn't count.
 pub kept-over : (shape : List Bool) (x : List Tick) (n : ℕ) (y : List Tick)
     → length shape ≤ length x + n → kept shape (x ++ (silent n ++ y)) ≡ kept shape x
 unfolding kept
@@ -51,7 +52,7 @@ kept-over (false ∷ shape) [] (suc n) y over =
 kept-over (false ∷ shape) (Silent ∷ x) n y over = ap suc (kept-over shape x n y (omega arith))
 kept-over (false ∷ shape) (Byte b ∷ x) n y over = refl
 
--- Ticks that keep the shape so far keep it as far, whatever comes.
+-- If these ticks and the silence keep the shape, they keep it whatever follows.
 pub kept-so_far : (shape : List Bool) (x : List Tick) (n : ℕ) (y : List Tick)
     → length x + n ≤ kept shape x → length x + n ≤ kept shape (x ++ (silent n ++ y))
 unfolding kept
@@ -71,7 +72,7 @@ kept-so_far (false ∷ shape) (Byte b ∷ x) n y keeps = absurd (omega arith)
 
 -- ---- the shape of a pause and a trailer
 
--- silence keeps it through the pause, and no longer
+-- silence keeps the shape of a pause and a trailer through the pause, and no longer
 kept-no_byte : (n : ℕ) → kept (replicate n true) [] ≡ 0
 unfolding kept
 kept-no_byte zero = refl
@@ -94,7 +95,7 @@ kept-bytes (suc n) [] = omega arith
 kept-bytes (suc n) (Silent ∷ x) = omega arith
 kept-bytes (suc n) (Byte b ∷ x) = let rest = kept-bytes n x in omega arith
 
--- no more ticks keep it than there are, but for the silence behind them
+-- no more ticks keep the shape than have come, apart from the silent ones of the pause
 pub kept-within : (j n : ℕ) (x : List Tick)
     → kept (replicate j false ++ replicate n true) x ≤ length x + j
 unfolding kept
@@ -103,7 +104,7 @@ kept-within (suc j) n [] = let rest = kept-within j n [] in omega arith
 kept-within (suc j) n (Silent ∷ x) = let rest = kept-within j n x in omega arith
 kept-within (suc j) n (Byte b ∷ x) = omega arith
 
--- The ticks of a whole trailer stay, whatever comes behind it.
+-- The ticks of a whole trailer stay the same, whatever follows them.
 pub whole-stays : (n : ℕ) (x y : List Tick)
     → kept (replicate pause_len false ++ replicate n true) x ≡ pause_len + n
     → take n (drop pause_len (x ++ y)) ≡ take n (drop pause_len x)

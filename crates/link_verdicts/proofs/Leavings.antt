@@ -37,7 +37,7 @@ module _ (rules : Rules) where
   unfolding fill_out
   fill_out-suc left k = refl
 
-  -- a fill is spoiled 00s
+  -- a fill is bytes 0, of which the last is spoiled
   fill-spoiled : (left : List ℕ) (k : ℕ)
       → fill_out rules left k ≡ spoiled rules left (replicate k (Byte 0))
   unfolding fill_out spoiled
@@ -84,7 +84,7 @@ module _ (rules : Rules) where
       (((t ∷ w) ++ Byte b ∷ []) ++ replicate (lacking_of rules x) (Byte 0)))
       (append_assoc left (c ∷ []) (bytes_in ((t ∷ w) ++ Byte b ∷ []))))
 
-  -- what is still to leave after k ticks, the last one not among them
+  -- what hasn't left after k ticks, if the last one isn't among these
   pub leaves-drop : (p : Bool) (left : List ℕ) (live : List Tick) (k : ℕ) → k < length live
       → leaves rules p (left ++ bytes_in (take k live)) (drop k live) 0
       ≡ drop k (leaves rules p left live 0)
@@ -102,7 +102,7 @@ module _ (rules : Rules) where
       ∙ (leaves-drop p (left ++ b ∷ []) (t ∷ live) k rest
       ∙ ap (λ l. drop (suc k) l) (sym (leaves-byte p left b (t ∷ live) 0)))
 
-  -- silence in front leaves first
+  -- silence before the live ticks leaves first
   pub leaves-behind : (p : Bool) (n : ℕ) (live : List Tick)
       → leaves rules p [] (silent n ++ live) 0 ≡ silent n ++ leaves rules p [] live 0
   leaves-behind p zero live = refl

@@ -1,5 +1,6 @@
--- A burst whose verdict is open: what is known of it, and what one more tick of the link does. More
--- than one live tick is still to leave then, and the first of them leaves as it came.
+-- A burst whose verdict is open: what is known of it, and what one more tick of the link does.
+-- While the verdict is open, more than one live tick is still to leave, and the first of them
+-- leaves as it came.
 use Rattle.burst_walk.proofs.Coming.{come-joined, come-silent, waiting-may}
 use Rattle.burst_walk.specs.Causal.{IsCausal, MayGoOn, going_on}
 use Rattle.burst_walk.specs.{HasCome.HasCome, Walk.Walker}
@@ -61,7 +62,7 @@ last_of-more [] d = refl
 last_of-more (e ∷ []) d = refl
 last_of-more (e ∷ f ∷ ds) d = last_of-more (f ∷ ds) d
 
--- What one more tick does, with other names for what is the same.
+-- What one more tick does, with equal values in place of some.
 pub goes-as : {profile : Profile} {rules : Rules} {floor : ℕ} {line : List Tick} {t : Tick}
     {number earliest : ℕ} {p : Bool} {left : List ℕ} {live : List Tick} {owing : ℕ}
     {waiting : Option Burst} {answer : Tick} {told : Option CheckNote} (u a : Tick) (q : Bool)
@@ -81,7 +82,7 @@ goes-as {profile} {rules} {floor} {line} {t} {number} {earliest} {p} {left} {liv
     (subst (λ x. G t answer p x n) (sym owing_is)
     (subst (λ x. G t answer p owing x) (sym start_is) goes))))
 
--- The verdict on this burst is open after these ticks.
+-- Holds if the verdict on this burst is open after these ticks.
 pub record IsOpen {R : Type 0} (proto : LineRules R) (profile : Profile) (floor : ℕ)
     (s : CheckState)
     (line : List Tick) (passes : Bool) (left : List ℕ) (live : List Tick) (owing : ℕ) (d : Burst) :
@@ -115,7 +116,7 @@ module _ {R : Type 0} {proto : LineRules R} {profile : Profile} {floor : ℕ} {s
   pub last-of : last_of (bursts line) ≡ Some d
   last-of = ap (λ x. last_of x) it.walked.come.is ∙ last_of-more it.walked.come.settled d
 
-  -- how many live ticks are still to leave
+  -- how many live ticks haven't left yet
   pub long-of : length live + m ≡ live_end rules d + delay profile
   long-of = live-long proto.headed it.some may-of.after opens-of
 
@@ -125,14 +126,14 @@ module _ {R : Type 0} {proto : LineRules R} {profile : Profile} {floor : ℕ} {s
   pub unowed-of : owing ≡ 0
   unowed-of = let many = more-of in it.walked.unowed (omega arith)
 
-  -- its live bytes are those that have left and those that are still to leave
+  -- the burst's live bytes are those that have left and those that haven't left yet
   pub bytes-of : left ++ bytes_in live ≡ live_bytes rules d
   bytes-of =
       ap (λ x. left ++ bytes_in x) opens-of.live_is
       ∙ (ap (λ x. x ++ bytes_in (drop (m - d.start) (as_it_came profile rules d))) opens-of.left_is
       ∙ whole-bytes profile rules d (m - d.start))
 
-  -- the same, told of the walk alone
+  -- how far the walk has come: the burst doesn't pass yet, and no fill is owed
   pub bare-of : HasWalked profile rules floor m (bursts line) s false left live 0 (Some d)
   bare-of =
       let P : Bool → Type 0 = λ p. HasWalked profile rules floor m (bursts line) s p left live owing
@@ -141,7 +142,7 @@ module _ {R : Type 0} {proto : LineRules R} {profile : Profile} {floor : ℕ} {s
       (Some d) in
       subst N unowed-of (subst P it.walked.opens.1 it.walked)
 
-  -- ---- one more tick: what then has left, and what is still to leave
+  -- ---- one more tick: what has left after it, and what hasn't
 
   abbrev after : List ℕ
   after = left ++ bytes_in (take 1 live)
@@ -169,7 +170,7 @@ module _ {R : Type 0} {proto : LineRules R} {profile : Profile} {floor : ℕ} {s
       (Some d)
   silently = come-silent w why (at_floor floor) line s it.walked.emissions (Some d) it.walked.come
 
-  -- in the pause,
+  -- a silent tick in the pause leaves the verdict open
   pub silent-goes : m < live_end rules d + 3
       → (live_end rules d + 1 ≤ m → rules.header_len ≤ length (live_bytes rules d))
       → Goes profile rules floor line Silent s false after (drop 1 live) 0 (Some d) first None
@@ -180,7 +181,7 @@ module _ {R : Type 0} {proto : LineRules R} {profile : Profile} {floor : ℕ} {s
       (opens-silent proto.headed it.some may-of.after opens-of few header)
       0 refl
 
-  -- and behind it
+  -- a silent tick after the pause refuses the burst
   pub silent-breaks : live_end rules d + 3 ≤ m
       → Goes profile rules floor line Silent
       (record {
@@ -200,7 +201,7 @@ module _ {R : Type 0} {proto : LineRules R} {profile : Profile} {floor : ℕ} {s
       (next-left proto.headed it.some may-of.after opens-of)
       Trailer broken.0 broken.1
 
-  -- as many bytes of the trailer have come as ticks behind the pause
+  -- as many bytes of the trailer have come as ticks after the pause
   pub trailer-long : length (trailer_so_far rules d) ≡ m - (live_end rules d + pause_len)
   trailer-long =
       let x : List Tick = after_live rules d in
@@ -239,7 +240,7 @@ module _ {R : Type 0} {proto : LineRules R} {profile : Profile} {floor : ℕ} {s
         let few : m - end_of d < 4 = omega arith in
         contiguous-more 4 d.body (m - end_of d) b may-of.contiguous few
 
-    -- ---- a live one
+    -- ---- a live byte
 
     module _ (is : cut_of rules line (Byte b) ≡ Live b) where
       pub still : is_over profile rules proto.lawful proto.headed d m b may-of ≡ false
@@ -262,7 +263,7 @@ module _ {R : Type 0} {proto : LineRules R} {profile : Profile} {floor : ℕ} {s
       pub live-adds : live_bytes rules e ≡ live_bytes rules d ++ b ∷ []
       live-adds = open-bytes profile rules proto.lawful proto.headed d m b may-of still
 
-      -- this many silent ticks came before it
+      -- the silent ticks before a live byte are those after the last live byte
       pub live-gap : m - end_of d ≡ m - live_end rules d
       live-gap =
           let size = ap length
@@ -276,7 +277,7 @@ module _ {R : Type 0} {proto : LineRules R} {profile : Profile} {floor : ℕ} {s
           let from = opens-of.end_from in
           omega arith
 
-      -- no byte of a trailer has come, nor comes by it
+      -- before a live byte no byte of a trailer has come, and it isn't one either
       pub live-before : trailer_so_far rules d ≡ []
       live-before =
           let gap = live-gap in
@@ -310,7 +311,7 @@ module _ {R : Type 0} {proto : LineRules R} {profile : Profile} {floor : ℕ} {s
           (seen ∙ sym (open-seen proto.lawful proto.headed it.some b may-of opens-of still))
           after entered next 0 refl
 
-    -- ---- one that isn't live
+    -- ---- a byte that isn't live
 
     module _ (is : cut_of rules line (Byte b) ≡ Extra b) where
       over : is_over profile rules proto.lawful proto.headed d m b may-of ≡ true
@@ -357,7 +358,7 @@ module _ {R : Type 0} {proto : LineRules R} {profile : Profile} {floor : ℕ} {s
       good : rules.is_good_header (take rules.header_len (live_bytes rules e)) ≡ true
       good = over-good proto.lawful proto.headed it.some b may-of opens-of over
 
-      -- of the trailer, not its last one
+      -- a byte of the trailer, but not its last one, leaves the verdict open
       pub extra-goes : live_end rules d + 3 ≤ m → m + 2 < live_end rules d + delay profile
           → Goes profile rules floor line (Byte b) s false after (drop 1 live) 0 (Some e) first None
       extra-goes behind before =
@@ -381,7 +382,7 @@ module _ {R : Type 0} {proto : LineRules R} {profile : Profile} {floor : ℕ} {s
           (over-left proto.lawful proto.headed it.some b may-of opens-of over)
           why' is' now
 
-      -- inside the pause
+      -- a byte in the pause refuses the burst
       pub extra-breaks : m < live_end rules d + 3
           → Goes profile rules floor line (Byte b)
           (record {

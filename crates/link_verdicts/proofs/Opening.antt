@@ -1,4 +1,4 @@
--- One more tick where a verdict is open before it or after it.
+-- One more tick, before or after which a verdict is open.
 use Rattle.burst_walk.proofs.Emissions.{tick_at-none, tick_at-before, tick_at-from}
 use Rattle.burst_walk.specs.{HasCome.HasCome, Laid.tick_at}
 use Rattle.frame_ending.proofs.LiveTicks.{live_ticks-bytes, live_ticks-contiguous}
@@ -65,7 +65,7 @@ leaves-front rules p left (Byte b ∷ t ∷ live) (suc k) within =
     ap (λ l. get_or l (suc k) Silent) (leaves-byte rules p left b (t ∷ live) 0)
     ∙ leaves-front rules p (left ++ b ∷ []) (t ∷ live) k rest
 
--- the ticks up to the last byte before a pause are no more than those before it
+-- the ticks up to the last byte before a pause are no more than all ticks before the pause
 up_to-before : (x : List Tick)
     → length (up_to_byte (length (bytes_in (before_pause x))) x) ≤ length (before_pause x)
 unfolding before_pause up_to_byte
@@ -75,7 +75,7 @@ up_to-before (Silent ∷ []) = omega arith
 up_to-before (Silent ∷ Silent ∷ x) = omega arith
 up_to-before (Silent ∷ Byte b ∷ x) = let rest = up_to-before x in omega arith
 
--- where a header is too short, the burst's live ticks are those before its pause
+-- if a header is too short, the burst's live ticks are no more than those before its pause
 pub short-ticks : (rules : Rules) → IsHeaded rules → (d : Burst)
     → length (live_bytes rules d) < rules.header_len
     → length (live_ticks rules d) ≤ length (before_pause d.body)
@@ -106,7 +106,7 @@ short-same rules headed d short =
     ap (λ k. length (up_to_byte k d.body)) all ∙ up_to-same d.body
 
 module _ (profile : Profile) (rules : Rules) where
-  -- a later burst, from its own start on
+  -- a burst that is later by the delay, seen from the burst's own start on
   delayed-shows : (d : Burst) (x : List Tick) (i : ℕ) → d.start ≤ i
       → tick_at (delayed profile d x ∷ []) i
       ≡ get_or (silent (delay profile) ++ x) (i - d.start) Silent
@@ -119,7 +119,7 @@ module _ (profile : Profile) (rules : Rules) where
       (omega arith)))
       (cases_lt i (delay profile + d.start))
 
-  -- until the last live byte leaves a burst leaves as it came
+  -- until its last live byte leaves, a burst leaves as it came
   pub shown : (d : Burst) (v : Verdict) (m : ℕ) → d.start ≤ m
       → m + 1 < delay profile + live_end rules d
       → (delay profile + d.start ≤ m → IsJudged v)
@@ -137,7 +137,7 @@ module _ (profile : Profile) (rules : Rules) where
   module _ (floor m : ℕ) (ds : List Burst) (s : CheckState) (emissions : List Burst)
       (waiting : Option Burst)
       (come : HasCome (checker profile rules) (at_floor floor) m ds s emissions waiting) where
-    -- from then on what was emitted hides nothing
+    -- from the tick on at which the next burst may start, what was emitted hides nothing
     pub come-past : (i : ℕ) → s.earliest_start ≤ i → (more : List Burst)
         → tick_at (emissions ++ more) i ≡ tick_at more i
     come-past i gone more =
@@ -150,7 +150,7 @@ module _ (profile : Profile) (rules : Rules) where
         ap (λ x. tick_at x i) (sym (append-nil emissions))
         ∙ (come-past i gone [] ∙ tick_at-none i)
 
-    -- so nothing is to leave
+    -- when the next burst may start, everything has left
     pub come-rests : (p : Bool) (left : List ℕ) → s.earliest_start ≤ m
         → Rests rules p m s.earliest_start left [] 0 emissions
     come-rests p left gone =
@@ -161,7 +161,7 @@ module _ (profile : Profile) (rules : Rules) where
           ends = λ some. let size = ap length none in absurd (omega arith);
         }
 
--- a burst whose verdict is open has its note later
+-- a burst whose verdict is open isn't noted yet
 pub opens-waits : (profile : Profile) (rules : Rules) → IsHeaded rules → (m : ℕ) (s : CheckState)
     (d : Burst) (left : List ℕ) (live : List Tick)
     → Opens profile rules m s.earliest_start d left live → m ≤ (checker profile rules).tick s d
@@ -207,7 +207,7 @@ module _ {R : Type 0} (proto : LineRules R) (profile : Profile)
       ∙ (ap (λ x. tick_at x m) (append-nil (emission_by profile rules e v))
       ∙ (shown profile rules e v m from (omega arith) judged ∙ sym answer_is))
 
-  -- ---- the verdict is open then too
+  -- ---- the verdict is open after the tick too
 
   module _ (left : List ℕ) (live : List Tick)
       (opens : Opens profile rules (m + 1) s.earliest_start e left live) where
@@ -250,7 +250,7 @@ module _ {R : Type 0} (proto : LineRules R) (profile : Profile)
     abbrev whole : List Tick
     whole = as_it_came profile rules e
 
-    -- what leaves of the burst leaves from now on
+    -- what leaves of the burst after its verdict
     judged-rests : (p : Bool) (x : List Tick) → s.earliest_start ≤ e.start
         → leaves rules p [] whole 0 ≡ silent (delay profile) ++ x
         → Rests rules p (m + 1) (e.start + (delay profile + length x)) left live 0

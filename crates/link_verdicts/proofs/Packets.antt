@@ -37,7 +37,7 @@ bytes_in-map (b ∷ bytes) = ap (λ y. b ∷ y) (bytes_in-map bytes)
 
 -- ---- numbers by their words
 
--- a number soon enough after the floor is the least one there with its word
+-- a number near enough above the floor is the least one above it with its word
 least-near : (m floor number : ℕ) → 0 < m → floor < number → number ≤ floor + m
     → least_with m floor (number % m) ≡ number
 least-near m floor number some above near =

@@ -15,8 +15,9 @@ use Rattle.std.proofs.Common.{take, refl, sym, ap, arith, ⊎_elim, Option, Some
 use Rattle.std.proofs.lemmas.Bool.{cases_lt, cases_Bool, cond-true, leb-true}
 use Rattle.{std.proofs.lemmas.Slice.Eq.bytes_eq-Decides, yasir_ticks.specs.Bursts.Burst}
 
--- A burst passes with a number: it starts late enough, with a good header; its live bytes are a
--- frame; a whole trailer follows, whose word stands for the number, and whose tag is theirs.
+-- Holds if a burst passes with a number. It starts late enough, with a good header, and its live
+-- bytes are a frame. A whole trailer follows them, whose word represents the number, and whose tag
+-- is the one of the number and the frame.
 pub record IsPassing (profile : Profile) (rules : Rules) (s : CheckState) (d : Burst) (number : ℕ) :
     Type 0 where
   pub late : s.earliest_start ≤ d.start
@@ -28,7 +29,7 @@ pub record IsPassing (profile : Profile) (rules : Rules) (s : CheckState) (d : B
   pub tagged : tag_in profile (trailer_of profile rules d)
       ≡ profile.tag number (live_bytes rules d)
 
--- the number of a trailer lies above the floor and within the limit
+-- the number of a trailer is above the floor and within the limit
 chosen : (b : Bool) (a number : ℕ) → cond b (Some a) None ≡ Some number
     → (b ≡ true) × (a ≡ number)
 chosen true a number is = (refl, cc)

@@ -1,4 +1,4 @@
--- What bursts emit that are noted has left before another one may leave.
+-- What noted bursts emit has left before another burst may leave.
 use Rattle.burst_walk.specs.{Laid.tick_at, Walk.emitted, Walk.state_after}
 use Rattle.{frame_ending.specs.LiveBytes.live_ticks, line_rules.specs.Rules.Rules}
 use Rattle.link_format.specs.Profile.{Profile}
@@ -45,7 +45,7 @@ module _ (profile : Profile) (rules : Rules) where
       skip (delayed profile d (spoiled rules [] (filled_ticks rules d))) more i (omega arith)
   past-verdict s d (dropped why) i past more = refl
 
-  -- who isn't dropped didn't start too soon
+  -- a burst that isn't dropped didn't start too soon
   pub judged-late : (s : CheckState) (d : Burst) → IsJudged (checked profile rules s d)
       → s.earliest_start ≤ d.start
   judged-late s d judged =
@@ -69,7 +69,7 @@ module _ (profile : Profile) (rules : Rules) where
       let rest = later-state (state_by profile rules s d (checked profile rules s d)) ds in
       omega arith
 
-  -- from the first tick on at which a burst isn't too soon, what was emitted hides nothing
+  -- from the first tick on at which a burst may start, what was emitted hides nothing
   pub past : (s : CheckState) (ds : List Burst) (i : ℕ)
       → (state_after (checker profile rules) s ds).earliest_start ≤ i → (more : List Burst)
       → tick_at (emitted (checker profile rules) s ds ++ more) i ≡ tick_at more i

@@ -1,4 +1,4 @@
--- One more tick where no verdict is open after it, or none falls.
+-- One more tick after which no verdict is open, or in which none falls.
 use Rattle.burst_walk.proofs.Coming.{come-waits, come-noted, note-now, note-later, answers-step}
 use Rattle.burst_walk.specs.{Answers.told_notes, Answers.note_in, Causal.IsCausal, HasCome.HasCome}
 use Rattle.burst_walk.specs.{HasCome.waiting_part, Laid.tick_at, Walk.Walker, Walk.walked}
@@ -29,7 +29,7 @@ module _ {R : Type 0} (proto : LineRules R) (m earliest : ℕ) (emissions : List
   abbrev to_leave : List Tick
   to_leave = leaves rules passes left live owed
 
-  -- all that is to leave is one tick nearer
+  -- all ticks that haven't left yet are one tick nearer
   pub rests-more : Rests rules passes m earliest left live owed emissions
       → Rests rules passes (m + 1) earliest flow.after (drop 1 live) (owed_by new) emissions
   rests-more before = record {
@@ -54,7 +54,7 @@ module _ {R : Type 0} (proto : LineRules R) (m earliest : ℕ) (emissions : List
       before.shows m (omega arith)
       ∙ (ap (λ k. get_or to_leave k Silent) none ∙ sym flow.answer_is)
 
-  -- what the outlet knows of a refused burst it keeps
+  -- the outlet keeps what it knows of a refused burst
   pub knows-more : (passes ≡ false → 0 < length live → Refuses proto old (left ++ bytes_in live))
       → passes ≡ false → 0 < length (drop 1 live)
       → Refuses proto new (flow.after ++ bytes_in (drop 1 live))
@@ -86,7 +86,7 @@ module _ {R : Type 0} (proto : LineRules R) (profile : Profile)
   pub causal : IsCausal w
   causal = checker-causal profile proto.rules proto.lawful proto.headed timely
 
-  -- one tick later
+  -- what the walk says before tick m + 1, said of the link with one more tick
   pub goes-at : (s : CheckState) (passes : Bool) (left : List ℕ) (live : List Tick) (owed : ℕ)
       (waiting : Option Burst) (answer : Tick) (told : Option CheckNote)
       → HasWalked profile proto.rules floor (m + 1) ds s passes left live owed waiting
@@ -126,7 +126,7 @@ module _ {R : Type 0} (proto : LineRules R) (profile : Profile)
           (ap (λ x. told_notes brief_note x) (note-now w s m d at-tick)
           ∙ ap (λ x. note_in m (Some (brief_note (note_by proto.rules d x)))) is)
 
-    -- ---- what comes without one
+    -- ---- a tick without a verdict
 
     module _ (waiting : Option Burst) (come : HasCome w begun m ds s emissions waiting)
         (later : IfSome waiting (λ d. m + 1 ≤ w.tick s d)) where
@@ -140,7 +140,7 @@ module _ {R : Type 0} (proto : LineRules R) (profile : Profile)
           answers-step w causal begun line s emissions t waiting come brief_note answer None shown
           (ap (λ x. told_notes brief_note x) (note-later w s m waiting later))
 
-    -- ---- where none is open, and all that bursts emit goes on to leave
+    -- ---- no verdict is open, and what bursts have emitted goes on to leave
 
     module _ (passes : Bool) (left : List ℕ) (live : List Tick) (owed : ℕ) (old new : Outlet R)
         (answer : Tick) (flow : Flows proto passes left live owed old new answer)

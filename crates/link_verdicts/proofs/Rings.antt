@@ -1,4 +1,4 @@
--- The ring holds what is still to leave, and silence behind it.
+-- The ring holds what is still to leave, and silence after it.
 use Rattle.std.proofs.Common.{◌≡◌, ◌∙◌, ℕ, zero, suc, ◌-◌, ◌<◌, ◌≤◌, List, [], ◌∷◌, ◌++◌, length}
 use Rattle.std.proofs.Common.{drop, get_or, refl, sym, ap, arith, append_assoc}
 use Rattle.yasir_ticks.specs.Ticks.{silent}
@@ -22,7 +22,7 @@ ring-none : (n : ℕ) → 1 ≤ n → drop 1 (silent n) ++ Silent ∷ [] ≡ sil
 ring-none zero some = absurd (omega arith)
 ring-none (suc n) some = silent-more n
 
--- silence enters
+-- silence enters the ring
 pub ring-silent : (live : List Tick) (n : ℕ) → 1 ≤ n → length live ≤ n
     → drop 1 (live ++ silent (n - length live)) ++ Silent ∷ []
     ≡ drop 1 live ++ silent (n - length (drop 1 live))
@@ -36,13 +36,13 @@ ring-silent (t ∷ live) n some few =
     ∙ (ap (λ x. live ++ x) (silent-more (n - length (t ∷ live)))
     ∙ ap (λ k. live ++ silent k) (sym one))
 
--- a byte enters behind the silence
+-- a byte enters the ring after the silence
 pub ring-byte : (live : List Tick) (n b : ℕ) → 0 < length live
     → drop 1 (live ++ silent n) ++ Byte b ∷ [] ≡ drop 1 live ++ (silent n ++ Byte b ∷ [])
 ring-byte [] n b some = absurd (omega arith)
 ring-byte (t ∷ live) n b some = append_assoc live (silent n) (Byte b ∷ [])
 
--- or behind silence alone
+-- a byte enters a ring that holds only silence
 pub ring-begun : (n b : ℕ) → 1 ≤ n
     → drop 1 (silent n) ++ Byte b ∷ [] ≡ drop 1 (silent n ++ Byte b ∷ [])
 ring-begun zero b some = absurd (omega arith)

@@ -26,8 +26,8 @@ use Rattle.std.proofs.lemmas.List.{drop-append-le, take-append-le, length-drop}
 use Rattle.yasir_ticks.specs.{Bursts.Burst, Bursts.end_of, Ticks.bytes_in, Ticks.silent}
 use Rattle.yasir_ticks.specs.declared.tick.Tick.{Tick, TheVariants.Byte}
 
--- two bursts that begin so have the same verdict at the same tick, and where they leave the same
--- live ticks
+-- Holds if two bursts have the same verdict at the same tick and, if it isn't that they are
+-- dropped, the same live ticks.
 pub record IsSettled (profile : Profile) (rules : Rules) (s : CheckState) (d e : Burst) :
     Type 0 where
   pub verdict : checked profile rules s e ≡ checked profile rules s d
@@ -40,7 +40,7 @@ pub record IsSettled (profile : Profile) (rules : Rules) (s : CheckState) (d e :
 module _ (profile : Profile) (rules : Rules) (s : CheckState) (d : Burst) (m : ℕ)
     (begun : d.start < m) (within : end_of d ≤ m)
     (waits : m ≤ (checker profile rules).tick s d) where
-  -- its start isn't too early,
+  -- the burst didn't start too soon
   pub waits-late : s.earliest_start ≤ d.start
   waits-late =
       ⊎_elim
@@ -48,7 +48,7 @@ module _ (profile : Profile) (rules : Rules) (s : CheckState) (d : Burst) (m : �
       (λ free. free)
       (cases_lt d.start s.earliest_start)
 
-  -- and its header isn't bad
+  -- the header of the burst isn't bad
   pub waits-header : rules.header_len ≤ length (live_bytes rules d)
       → rules.is_good_header (take rules.header_len (live_bytes rules d)) ≡ true
   waits-header long =
@@ -62,7 +62,7 @@ module _ (profile : Profile) (rules : Rules) (s : CheckState) (d : Burst) (m : �
 
 -- ---- where its trailer ends
 
--- the ticks after the live ones are all others of the burst
+-- the ticks after the live ones are all other ticks of the burst
 pub after-long : (rules : Rules) (d : Burst)
     → length (live_ticks rules d) + length (after_live rules d) ≡ length d.body
 after-long rules d =
@@ -88,15 +88,15 @@ module _ (profile : Profile) (rules : Rules) (lawful : IsLawful rules) (headed :
   abbrev pub longer : Burst
   longer = going_on d m b
 
-  -- the silent ticks before the byte
+  -- how many silent ticks come before the byte
   abbrev gap : ℕ
   gap = m - end_of d
 
-  -- no further byte is live
+  -- whether no more bytes are live
   abbrev pub is_over : Bool
   is_over = (has_pause d.body || nat_le 2 gap) || fills_room rules (live_bytes rules d)
 
-  -- ---- where all bytes so far are live, and one more is
+  -- ---- all bytes so far are live, and so is one more
 
   open-parts : is_over ≡ false → ((has_pause d.body || nat_le 2 gap) ≡ false)
       × (fills_room rules (live_bytes rules d) ≡ false)
@@ -141,7 +141,7 @@ module _ (profile : Profile) (rules : Rules) (lawful : IsLawful rules) (headed :
       → before_pause (x ++ (silent gap ++ Byte b ∷ [])) ≡ x ++ (silent gap ++ Byte b ∷ []) in
       subst P (sym last.2) (λ is. spelled-open last.0 last.1 gap b is) parts.0
 
-  -- its trailer's tick isn't before tick m
+  -- if one more byte is live, the tick of the trailer isn't before tick m
   open-waits : is_over ≡ false → m ≤ trailer_tick profile rules d
   open-waits open' =
       let near = open-near open' in
@@ -153,7 +153,7 @@ module _ (profile : Profile) (rules : Rules) (lawful : IsLawful rules) (headed :
       let long : length (live_ticks rules d) ≡ length d.body = ap length all in
       omega arith
 
-  -- ---- where none is
+  -- ---- no more bytes are live
 
   pub over-after : is_over ≡ true
       → after_live rules longer ≡ after_live rules d ++ (silent gap ++ Byte b ∷ [])
@@ -230,7 +230,7 @@ module _ (profile : Profile) (rules : Rules) (lawful : IsLawful rules) (headed :
 
   -- ---- headers
 
-  -- a whole header stays
+  -- a whole header stays whole
   pub long-bytes : rules.header_len ≤ length (live_bytes rules d)
       → rules.header_len ≤ length (live_bytes rules longer)
   long-bytes long =
@@ -249,14 +249,14 @@ module _ (profile : Profile) (rules : Rules) (lawful : IsLawful rules) (headed :
       ∙ take-append-le rules.header_len (live_bytes rules d) (b ∷ []) long)
       (cases_Bool is_over)
 
-  -- and its ticks do
+  -- the ticks of a whole header stay the same
   long-ticks : rules.header_len ≤ length (live_bytes rules d)
       → up_to_byte rules.header_len longer.body ≡ up_to_byte rules.header_len d.body
   long-ticks long =
       let live = live-le rules lawful d in
       up_to_byte-append rules.header_len d.body (silent gap ++ Byte b ∷ []) (omega arith)
 
-  -- one that is too short and has come to its end stays too short
+  -- a header that is too short, and has come to its end, stays too short
   short-over : length (live_bytes rules d) < rules.header_len
       → d.start + length (before_pause d.body) + 1 < m → (has_pause d.body || nat_le 2 gap) ≡ true
   short-over short early =
@@ -357,7 +357,7 @@ module _ (profile : Profile) (rules : Rules) (lawful : IsLawful rules) (headed :
         (λ open'. let waits = open-waits open' in absurd (omega arith))
         (cases_Bool is_over)
 
-    -- a burst that is noted before tick m
+    -- the verdict on a burst that is noted before tick m stays
     pub settled : early_by → IsSettled profile rules s d longer
     settled early =
         ⊎_elim
@@ -382,7 +382,7 @@ module _ (profile : Profile) (rules : Rules) (lawful : IsLawful rules) (headed :
     late-header late long = waits-header profile rules s d m (later m b d within) may.after late
         long
 
-    -- A header that is too short isn't at its end yet, or is and stays so.
+    -- A header that is too short hasn't come to its end yet, or it has, and stays too short.
     waits-open : s.earliest_start ≤ d.start → length (live_bytes rules d) < rules.header_len
         → is_over ≡ false → m ≤ (checker profile rules).tick s longer
     waits-open free short open' =

@@ -10,7 +10,7 @@ use Rattle.yasir_ticks.specs.declared.tick.Tick.{Tick, TheVariants.Silent, TheVa
 abbrev pub shape : ℕ → ℕ → List Bool
 shape j n = replicate j false ++ replicate n true
 
--- Silence goes on to keep the pause,
+-- Silence keeps the shape through the pause.
 pub pause-goes_on : (j n : ℕ) (x : List Tick) → length x ≤ j → length x ≤ kept (shape j n) x
     → j ≤ kept (shape j n) x
 unfolding kept
@@ -21,7 +21,7 @@ pause-goes_on (suc j) n (Silent ∷ x) few keeps =
     let rest = pause-goes_on j n x (omega arith) (omega arith) in omega arith
 pause-goes_on (suc j) n (Byte b ∷ x) few keeps = absurd (omega arith)
 
--- and no more than it and the ticks that have come.
+-- Apart from the silent ticks of the pause, no more ticks keep the shape than have come.
 bytes-most : (n : ℕ) (x : List Tick) → kept (replicate n true) x ≤ length x
 unfolding kept
 bytes-most zero x = omega arith
@@ -40,7 +40,7 @@ kept-most (suc j) n (Silent ∷ x) (suc k) few long =
     let rest = kept-most j n x k (omega arith) (omega arith) in omega arith
 kept-most (suc j) n (Byte b ∷ x) (suc k) few long = omega arith
 
--- A byte keeps the shape behind the pause,
+-- A byte after the pause keeps the shape.
 bytes-keep : (n : ℕ) (x : List Tick) (g b : ℕ) → length x + g ≤ kept (replicate n true) x
     → length x + g < n
     → length x + g + 1 ≤ kept (replicate n true) (x ++ (silent g ++ Byte b ∷ []))
@@ -67,7 +67,7 @@ byte-keeps (suc j) n (Silent ∷ x) g b keeps behind few =
     let rest = byte-keeps j n x g b (omega arith) (omega arith) (omega arith) in omega arith
 byte-keeps (suc j) n (Byte c ∷ x) g b keeps behind few = absurd (omega arith)
 
--- and breaks it inside.
+-- A byte in the pause breaks the shape.
 pub byte-breaks : (j n : ℕ) (x : List Tick) (g b : ℕ) → length x + g ≤ kept (shape j n) x
     → length x + g < j → kept (shape j n) (x ++ (silent g ++ Byte b ∷ [])) ≡ length x + g
 unfolding kept
@@ -81,7 +81,7 @@ byte-breaks (suc j) n (Silent ∷ x) g b keeps few =
     let rest = byte-breaks j n x g b (omega arith) (omega arith) in omega arith
 byte-breaks (suc j) n (Byte c ∷ x) g b keeps few = absurd (omega arith)
 
--- a pause in ticks is longer than what comes before it
+-- ticks with a pause are at least two more than those before the pause
 pub pause-longer : (x : List Tick) → has_pause x ≡ true → length (before_pause x) + 2 ≤ length x
 unfolding has_pause before_pause
 pause-longer [] is = absurd cc

@@ -1,5 +1,5 @@
--- Ticks that are filled up or spoiled stay contiguous; spoiled ones are no frame, and differ in the
--- last byte alone.
+-- Ticks that are filled or spoiled stay contiguous. Spoiled ticks are no frame, and differ only in
+-- their last byte.
 use Rattle.frame_ending.proofs.{LiveTicks.live_ticks-contiguous, Pauses.ended}
 use Rattle.frame_ending.{proofs.Pauses.contiguous-ends, specs.LiveBytes.live_ticks}
 use Rattle.line_rules.specs.{Rules.Rules, RulesLaws.IsLawful, Spoiling.IsSpoiling}
@@ -24,7 +24,7 @@ pub contiguous-some : (c : ℕ) (x : List Tick) → IsContiguous c x → 0 < len
 contiguous-some c x (one b) = omega arith
 contiguous-some c x (more b gap rest few contiguous) = omega arith
 
--- bytes that follow at once
+-- bytes that follow without silence
 pub contiguous-filled : (c n b : ℕ) (x : List Tick) → 0 < c → IsContiguous c x
     → IsContiguous c (x ++ replicate n (Byte b))
 contiguous-filled c zero b x some contiguous =
@@ -51,14 +51,14 @@ module _ (rules : Rules) where
   unfolding spoiled
   spoiled-silence h = refl
 
-  -- a tick that others follow stays
+  -- a tick that other ticks follow stays the same
   pub spoiled-next : (h : List ℕ) (t u : Tick) (x : List Tick)
       → spoiled rules h (t ∷ u ∷ x) ≡ t ∷ spoiled rules (h ++ bytes_in (t ∷ [])) (u ∷ x)
   unfolding spoiled
   spoiled-next h Silent u x = ap (λ y. Silent ∷ spoiled rules y (u ∷ x)) (sym (append-nil h))
   spoiled-next h (Byte b) u x = refl
 
-  -- The last byte alone differs.
+  -- Only the last byte differs.
   pub spoiled-ended : (h : List ℕ) (w : List Tick) (a : ℕ)
       → spoiled rules h (ended w a) ≡ ended w (rules.spoil (h ++ bytes_in w) a)
   spoiled-ended h [] a = spoiled-last h a
@@ -72,7 +72,7 @@ module _ (rules : Rules) where
       (append_assoc h (bytes_in (t ∷ [])) (bytes_in (u ∷ w))
       ∙ ap (λ y. h ++ y) (sym (bytes_in-append (t ∷ []) (u ∷ w)))))
 
-  -- A burst stays one.
+  -- Contiguous ticks stay contiguous when they are spoiled.
   spoiled-byte : (h : List ℕ) (b : ℕ) (x : List Tick) → 0 < length x
       → spoiled rules h (Byte b ∷ x) ≡ Byte b ∷ spoiled rules (h ++ b ∷ []) x
   spoiled-byte h b [] some = absurd (omega arith)
@@ -110,7 +110,7 @@ module _ (rules : Rules) where
       ap length (spoiled-next h t u x)
       ∙ ap suc (spoiled-length (h ++ bytes_in (t ∷ [])) (u ∷ x))
 
-  -- its bytes, after others, are no frame
+  -- the bytes of spoiled ticks, after other bytes, are no frame
   pub spoiled-no_frame : (c : ℕ) (h : List ℕ) (x : List Tick) → IsSpoiling rules
       → IsContiguous c x → rules.is_frame (h ++ bytes_in (spoiled rules h x)) ≡ false
   spoiled-no_frame c h x spoiling contiguous =
@@ -123,7 +123,7 @@ module _ (rules : Rules) where
       ∙ (ap rules.is_frame (sym (append_assoc h (bytes_in w) (b ∷ [])))
       ∙ spoiling.no_frame (h ++ bytes_in w) last.1))
 
--- ---- what a burst leaves as
+-- ---- what leaves of a burst
 
 module _ (rules : Rules) (lawful : IsLawful rules) (d : Burst) (whole : IsContiguous 4 d.body) where
   pub filled-contiguous : IsContiguous 2 (filled_ticks rules d)

@@ -1,4 +1,4 @@
--- The bytes of a trailer among the ticks behind the live ones.
+-- The bytes of a trailer among the ticks after the live ones.
 use Rattle.link_verdicts.{proofs.Shaping.shape, specs.Shapes.kept}
 use Rattle.std.proofs.Common.{◌≡◌, ◌∙◌, ℕ, zero, suc, ◌+◌, ◌-◌, ◌≤◌, true, List, [], ◌∷◌, ◌++◌}
 use Rattle.std.proofs.Common.{length, drop, replicate, refl, ap, arith}
@@ -16,8 +16,7 @@ bytes-all (suc n) [] keeps = refl
 bytes-all (suc n) (Silent ∷ x) keeps = absurd (omega arith)
 bytes-all (suc n) (Byte b ∷ x) keeps = ap suc (bytes-all n x (omega arith))
 
--- Where all ticks keep the shape of j silent ticks and bytes, those behind the silent ones are
--- bytes.
+-- If all ticks keep the shape of j silent ticks and n bytes, those after the silent ones are bytes.
 pub trailer-bytes : (j n : ℕ) (x : List Tick) → length x ≤ kept (shape j n) x
     → length (bytes_in (drop j x)) ≡ length x - j
 unfolding kept
@@ -27,7 +26,7 @@ trailer-bytes (suc j) n (Silent ∷ x) keeps =
     let rest = trailer-bytes j n x (omega arith) in omega arith
 trailer-bytes (suc j) n (Byte b ∷ x) keeps = absurd (omega arith)
 
--- one more byte, behind silent ticks
+-- one more byte, after silent ticks
 pub bytes-more : (j : ℕ) (x : List Tick) (gap b : ℕ) → j ≤ length x + gap
     → bytes_in (drop j (x ++ (silent gap ++ Byte b ∷ []))) ≡ bytes_in (drop j x) ++ b ∷ []
 bytes-more zero x gap b behind =

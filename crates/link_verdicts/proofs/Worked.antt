@@ -1,5 +1,5 @@
--- The definitions of the receiver on small links of Modbus RTU frames, with a tag that is in
--- for HMAC.
+-- The definitions of the receiver on small links of Modbus RTU frames, with a tag that takes the
+-- place of HMAC.
 use Rattle.burst_walk.proofs.Rows.{Row, row, noted_at, AreNotes, AreOthers}
 use Rattle.burst_walk.specs.Laid.{tick_at}
 use Rattle.frame_ending.specs.LiveBytes.{before_pause, up_to_byte}
@@ -25,7 +25,7 @@ packet_ending bytes =
     on_line READ_TEN_REGISTERS ++ silent 3
     ++ on_line (0x00 ∷ 0x01 ∷ 0x01 ∷ 0x01 ∷ 0x03 ∷ 0x00 ∷ 0x00 ∷ 0x00 ∷ 0x0A ∷ 0xC5 ∷ 0xCD ∷ bytes)
 
--- as it was sealed with number 1
+-- the packet as it was sealed with number 1
 abbrev PACKET : List Tick
 PACKET = packet_ending (0xEE ∷ 0xEE ∷ 0xEE ∷ [])
 
@@ -34,17 +34,17 @@ abbrev one_packet : Row FullNote
 one_packet = row 0 (PACKET ++ silent 24) (noted_at 24 (passed_note 1 0 READ_TEN_REGISTERS) ∷ [])
     (silent 18 ++ on_line READ_TEN_REGISTERS ++ silent 23)
 
--- the last bit of its tag turned: the last byte of the frame leaves spoiled
+-- a tag whose last bit is turned: the last byte of the frame leaves spoiled
 abbrev wrong_tag : Row FullNote
 wrong_tag = row 0 (packet_ending (0xEE ∷ 0xEE ∷ 0xEF ∷ []) ++ silent 24)
     (noted_at 24 (refused_note 0 Tag) ∷ []) (silent 18 ++ on_line SPOILED_REQUEST ++ silent 23)
 
--- the last byte of its trailer is silent
+-- a trailer with silence in place of its last byte
 abbrev cut_trailer : Row FullNote
 cut_trailer = row 0 (packet_ending (0xEE ∷ 0xEE ∷ []) ++ silent 24)
     (noted_at 24 (refused_note 0 Trailer) ∷ []) (silent 18 ++ on_line SPOILED_REQUEST ++ silent 22)
 
--- its trailer is cut in the middle
+-- a trailer that is cut in the middle
 abbrev cut_early : Row FullNote
 cut_early = row 0
     (on_line READ_TEN_REGISTERS ++ silent 3 ++ on_line (0x00 ∷ 0x01 ∷ []) ++ silent 24)
@@ -55,7 +55,7 @@ abbrev byte_in_pause : Row FullNote
 byte_in_pause = row 0 (on_line READ_TEN_REGISTERS ++ silent 2 ++ on_line (0x00 ∷ []) ++ silent 24)
     (noted_at 10 (refused_note 0 Trailer) ∷ []) (silent 18 ++ on_line SPOILED_REQUEST ++ silent 9)
 
--- no trailer, behind bytes without a right ending: the last one stays
+-- no trailer after bytes without a right ending: the last byte leaves as it came
 abbrev no_frame : Row FullNote
 no_frame = row 0 (on_line SPOILED_REQUEST ++ silent 24) (noted_at 11 (refused_note 0 Trailer) ∷ [])
     (silent 18 ++ on_line SPOILED_REQUEST ++ silent 6)
@@ -66,7 +66,7 @@ too_few = row 0 (on_line (0x01 ∷ 0x7E ∷ 0x80 ∷ []) ++ silent 24)
     (noted_at 6 (refused_note 0 Trailer) ∷ [])
     (silent 18 ++ on_line (0x01 ∷ 0x7E ∷ 0x81 ∷ []) ++ silent 6)
 
--- a whole trailer behind bytes that are no frame
+-- a whole trailer after bytes that are no frame
 abbrev wrong_form : Row FullNote
 wrong_form = row 0
     (on_line SPOILED_REQUEST ++ silent 3 ++ on_line (trailer profile 1 SPOILED_REQUEST)
@@ -95,13 +95,13 @@ last_number = row 281474976710654
     (noted_at 24 (passed_note 281474976710655 0 READ_TEN_REGISTERS) ∷ [])
     (silent 18 ++ on_line READ_TEN_REGISTERS ++ silent 23)
 
--- the packet repeated: its word is now that of 65537
+-- the packet twice: its word represents 65537 the second time
 abbrev repeated : Row FullNote
 repeated = row 0 (PACKET ++ silent 4 ++ PACKET ++ silent 24)
     (noted_at 24 (passed_note 1 0 READ_TEN_REGISTERS) ∷ noted_at 53 (refused_note 29 Tag) ∷ [])
     (silent 18 ++ on_line READ_TEN_REGISTERS ++ silent 21 ++ on_line SPOILED_REQUEST ++ silent 23)
 
--- a byte directly behind the trailer
+-- a byte directly after the trailer
 abbrev byte_behind : Row FullNote
 byte_behind = row 0 (PACKET ++ on_line (0x00 ∷ []) ++ silent 24)
     (noted_at 24 (passed_note 1 0 READ_TEN_REGISTERS) ∷ [])
@@ -113,7 +113,7 @@ too_early = row 0 (on_line READ_ONE_REGISTER ++ silent 17 ++ PACKET ++ silent 24
     (noted_at 11 (refused_note 0 Trailer) ∷ noted_at 25 (dropped_note 25 Busy) ∷ [])
     (silent 18 ++ on_line (0x01 ∷ 0x03 ∷ 0x00 ∷ 0x00 ∷ 0x00 ∷ 0x01 ∷ 0x84 ∷ 0x0B ∷ []) ++ silent 48)
 
--- and one tick later
+-- a packet that starts in the first tick after the refused burst has left, and passes
 abbrev soon_enough : Row FullNote
 soon_enough = row 0 (on_line READ_ONE_REGISTER ++ silent 18 ++ PACKET ++ silent 24)
     (noted_at 11 (refused_note 0 Trailer) ∷ noted_at 50 (passed_note 1 26 READ_TEN_REGISTERS) ∷ [])
@@ -141,7 +141,7 @@ unfolding bursts_from with_byte before_pause up_to_byte tick_at kept spoiled ver
     byte_step bit_steps bit_step
 others-are = refl
 
--- of three of them, the frame that passes
+-- the frame that passes on each of three of these links
 abbrev first_frame : List NumberedFrame
 first_frame = record { number = 1; start = 0; frame = READ_TEN_REGISTERS } ∷ []
 

@@ -36,7 +36,7 @@ rules = record {
   spoil = spoil_by ends_right;
 }
 
--- words of one byte and tags of two
+-- a profile with words of one byte and tags of two
 abbrev profile : Profile
 profile = record {
   word_len = 1;
@@ -63,14 +63,14 @@ wrong_tag = row 0 (on_line FRAME ++ silent 3 ++ on_line (0x01 ∷ 0x40 ∷ 0x00 
     (noted_at 9 (refused_note 0 Tag) ∷ [])
     (silent 7 ++ on_line (0x05 ∷ 0x04 ∷ 0x09 ∷ 0x01 ∷ []) ++ silent 7)
 
--- as many bytes as the header says that are no frame
+-- as many bytes as the header says, which are no frame
 abbrev wrong_form : Row FullNote
 wrong_form = row 0
     (on_line (0x05 ∷ 0x04 ∷ 0x09 ∷ 0x02 ∷ []) ++ silent 3 ++ on_line (0x01 ∷ 0x40 ∷ 0x01 ∷ [])
     ++ silent 8) (noted_at 9 (refused_note 0 Form) ∷ [])
     (silent 7 ++ on_line (0x05 ∷ 0x04 ∷ 0x09 ∷ 0x02 ∷ []) ++ silent 7)
 
--- a byte more than the header says stands where the pause must be
+-- a byte more than the header says, in the place of the pause
 abbrev one_more : Row FullNote
 one_more = row 0 (on_line (0x05 ∷ 0x04 ∷ 0x09 ∷ 0x00 ∷ 0x00 ∷ []) ++ silent 8)
     (noted_at 4 (refused_note 0 Trailer) ∷ [])
@@ -82,7 +82,7 @@ cut_frame = row 0 (on_line (0x05 ∷ 0x04 ∷ []) ++ silent 12)
     (noted_at 5 (refused_note 0 Trailer) ∷ [])
     (silent 7 ++ on_line (0x05 ∷ 0x04 ∷ 0x00 ∷ 0x01 ∷ []) ++ silent 3)
 
--- with silence between its bytes
+-- a header and one more byte, with silence between the bytes
 abbrev slow_cut_frame : Row FullNote
 slow_cut_frame = row 0
     (on_line (0x05 ∷ []) ++ silent 1 ++ on_line (0x04 ∷ []) ++ silent 1 ++ on_line (0x07 ∷ [])
@@ -90,13 +90,13 @@ slow_cut_frame = row 0
     (silent 7 ++ on_line (0x05 ∷ []) ++ silent 1 ++ on_line (0x04 ∷ []) ++ silent 1 ++ on_line (0x07
     ∷ 0x01 ∷ []) ++ silent 4)
 
--- the receiver is busy until the fill has left
+-- a packet that starts while the fill leaves, and is dropped
 abbrev busy_with_fill : Row FullNote
 busy_with_fill = row 0 (on_line (0x05 ∷ 0x04 ∷ []) ++ silent 8 ++ PACKET ++ silent 8)
     (noted_at 5 (refused_note 0 Trailer) ∷ noted_at 10 (dropped_note 10 Busy) ∷ [])
     (silent 7 ++ on_line (0x05 ∷ 0x04 ∷ 0x00 ∷ 0x01 ∷ []) ++ silent 17)
 
--- and one tick later
+-- a packet that starts in the first tick after the fill has left, and passes
 abbrev free_again : Row FullNote
 free_again = row 0 (on_line (0x05 ∷ 0x04 ∷ []) ++ silent 9 ++ PACKET ++ silent 8)
     (noted_at 5 (refused_note 0 Trailer) ∷ noted_at 20 (passed_note 1 11 FRAME) ∷ [])
@@ -107,12 +107,13 @@ abbrev short_header : Row FullNote
 short_header = row 0 (on_line (0x05 ∷ []) ++ silent 12) (noted_at 2 (dropped_note 0 Head) ∷ [])
     (silent 13)
 
--- or is cut by two silent ticks
+-- a header that is cut by two silent ticks
 abbrev parted_header : Row FullNote
 parted_header = row 0 (on_line (0x05 ∷ []) ++ silent 2 ++ on_line (0x04 ∷ []) ++ silent 12)
     (noted_at 2 (dropped_note 0 Head) ∷ []) (silent 16)
 
--- a bad header, and a packet that starts soon after it: a dropped burst keeps nobody busy
+-- a bad header, and a packet that starts soon after it, and passes: a dropped burst doesn't keep
+-- the receiver busy
 abbrev bad_header : Row FullNote
 bad_header = row 0 (on_line (0x06 ∷ 0x04 ∷ 0x00 ∷ []) ++ silent 4 ++ PACKET ++ silent 8)
     (noted_at 1 (dropped_note 0 Head) ∷ noted_at 16 (passed_note 1 7 FRAME) ∷ [])

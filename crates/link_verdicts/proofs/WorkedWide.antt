@@ -1,5 +1,5 @@
 -- The definitions of the receiver with words of four bytes and tags of sixteen, on small links of
--- Modbus RTU frames, with a tag that is in for HMAC.
+-- Modbus RTU frames, with a tag that takes the place of HMAC.
 use Rattle.burst_walk.proofs.Rows.{Row, row, noted_at, AreNotes, AreOthers}
 use Rattle.burst_walk.specs.Laid.{tick_at}
 use Rattle.frame_ending.specs.LiveBytes.{before_pause, up_to_byte}
@@ -26,11 +26,11 @@ packet_ending last =
     ++ on_line (0x00 ∷ 0x00 ∷ 0x00 ∷ 0x01 ∷ 0x01 ∷ 0x01 ∷ 0x03 ∷ 0x00 ∷ 0x00 ∷ 0x00 ∷ 0x0A ∷ 0xC5
     ∷ 0xCD ∷ 0xEE ∷ 0xEE ∷ 0xEE ∷ 0xEE ∷ 0xEE ∷ 0xEE ∷ last ∷ [])
 
--- as it was sealed with number 1
+-- the packet as it was sealed with number 1
 abbrev PACKET : List Tick
 PACKET = packet_ending 0xEE
 
--- with another number
+-- the packet with another number
 abbrev packet_of : ℕ → List Tick
 packet_of number = on_line READ_TEN_REGISTERS ++ silent 3
     ++ on_line (trailer profile number READ_TEN_REGISTERS) ++ silent 30
@@ -40,7 +40,7 @@ abbrev one_packet : Row FullNote
 one_packet = row 0 (PACKET ++ silent 30) (noted_at 30 (passed_note 1 0 READ_TEN_REGISTERS) ∷ [])
     (silent 24 ++ on_line READ_TEN_REGISTERS ++ silent 29)
 
--- the last bit of its tag turned: the last byte of the frame leaves spoiled
+-- a tag whose last bit is turned: the last byte of the frame leaves spoiled
 abbrev wrong_tag : Row FullNote
 wrong_tag = row 0 (packet_ending 0xEF ++ silent 30) (noted_at 30 (refused_note 0 Tag) ∷ [])
     (silent 24 ++ on_line SPOILED_REQUEST ++ silent 29)
@@ -52,13 +52,13 @@ short_trailer = row 0
     ∷ 0x00 ∷ 0x00 ∷ 0x0A ∷ 0xC5 ∷ 0xCD ∷ 0xEE ∷ 0xEE ∷ 0xEE ∷ []) ++ silent 30)
     (noted_at 25 (refused_note 0 Trailer) ∷ []) (silent 24 ++ on_line SPOILED_REQUEST ++ silent 23)
 
--- the packet twice: its word stands for 2^32 + 1 the second time
+-- the packet twice: its word represents 2^32 + 1 the second time
 abbrev repeated : Row FullNote
 repeated = row 0 (PACKET ++ silent 4 ++ PACKET ++ silent 30)
     (noted_at 30 (passed_note 1 0 READ_TEN_REGISTERS) ∷ noted_at 65 (refused_note 35 Tag) ∷ [])
     (silent 24 ++ on_line READ_TEN_REGISTERS ++ silent 27 ++ on_line SPOILED_REQUEST ++ silent 29)
 
--- more packets were lost than two bytes can tell, and as many as four bytes tell
+-- more packets were lost than a word of two bytes can tell, and as many as one of four bytes can
 abbrev far_number : Row FullNote
 far_number = row 0 (packet_of 65538) (noted_at 30 (passed_note 65538 0 READ_TEN_REGISTERS) ∷ [])
     (silent 24 ++ on_line READ_TEN_REGISTERS ++ silent 29)
@@ -74,7 +74,7 @@ too_early = row 0 (on_line READ_ONE_REGISTER ++ silent 23 ++ PACKET ++ silent 30
     (noted_at 11 (refused_note 0 Trailer) ∷ noted_at 31 (dropped_note 31 Busy) ∷ [])
     (silent 24 ++ on_line (0x01 ∷ 0x03 ∷ 0x00 ∷ 0x00 ∷ 0x00 ∷ 0x01 ∷ 0x84 ∷ 0x0B ∷ []) ++ silent 60)
 
--- and one tick later
+-- a packet that starts in the first tick after the refused burst has left, and passes
 abbrev soon_enough : Row FullNote
 soon_enough = row 0 (on_line READ_ONE_REGISTER ++ silent 24 ++ PACKET ++ silent 30)
     (noted_at 11 (refused_note 0 Trailer) ∷ noted_at 62 (passed_note 1 32 READ_TEN_REGISTERS) ∷ [])

@@ -22,8 +22,8 @@ use Rattle.link_verdicts.specs.declared.note.CheckNote.TheVariants.{Passed, Refu
 
 -- ---- when a burst is noted
 
--- the tick in which it shows that the header of a burst isn't good: the tick of the last byte of a
--- bad header, or the second silent tick in a row after a header that is too short
+-- the tick at which the receiver sees that a burst's header isn't good: that of the last byte of a
+-- bad header, or of the second silent tick in a row after a header that is too short
 abbrev pub head_tick : Rules → Burst → Head → ℕ
 head_tick rules d Bad = d.start + (length (up_to_byte rules.header_len d.body) - 1)
 head_tick rules d Short = d.start + length (before_pause d.body) + (T1_5_TICKS - 1)
@@ -35,6 +35,7 @@ abbrev pub trailer_tick : Profile → Rules → Burst → ℕ
 trailer_tick profile rules d =
     live_end rules d + min (kept_after profile rules d) (pause_len + trailer_len profile - 1)
 
+-- the tick at which a burst with this verdict is noted
 abbrev pub note_tick : Profile → Rules → Burst → Verdict → ℕ
 note_tick profile rules d (passed_with number) = trailer_tick profile rules d
 note_tick profile rules d (refused why) = trailer_tick profile rules d
@@ -62,6 +63,7 @@ pub data FullNote : Type 0 where
   refused_note : (start : ℕ) → RefusedWhy → FullNote
   dropped_note : (start : ℕ) → DroppedWhy → FullNote
 
+-- the note about a burst with this verdict
 abbrev pub note_by : Rules → Burst → Verdict → FullNote
 note_by rules d (passed_with number) = passed_note number d.start (live_bytes rules d)
 note_by rules d (refused why) = refused_note d.start why
@@ -95,6 +97,7 @@ check_notes profile rules floor link = notes_of (checker profile rules) (at_floo
 abbrev pub received_line : Profile → Rules → ℕ → List Tick → List Tick
 received_line profile rules floor link = line_of (checker profile rules) (at_floor floor) link
 
+-- the frame of a note about a passed burst, and `None` for any other note
 abbrev pub passed_in : FullNote → Option NumberedFrame
 passed_in (passed_note number start frame) =
     Some (record { number = number; start = start; frame = frame })

@@ -16,8 +16,8 @@ module _ (profile : Profile) (rules : Rules) (floor : ℕ) (line : List Tick) (t
   Answers answer told =
       AnswersTick (checker profile rules) brief_note (at_floor floor) line t answer told
 
-  -- Holds if one more tick after these ticks of a link brings the walk over them this far, and the
-  -- step of that tick returns this tick and this note.
+  -- Holds if, after these ticks of a link and one more, the walk over them has come as far as
+  -- `HasWalked` says, and the step of the last tick returns this tick and this note.
   pub record Goes (s : CheckState) (passes : Bool) (left : List ℕ) (live : List Tick) (owed : ℕ)
       (waiting : Option Burst) (answer : Tick) (told : Option CheckNote) : Type 0 where
     pub walked : HasWalked profile rules floor (length (line ++ t ∷ []))

@@ -5,6 +5,7 @@ use Rattle.yasir_ticks.specs.declared.tick.Tick.TheVariants.{Silent, Byte}
 use Rattle.line_rules.specs.Rules.{Rules, spoil_of}
 use Rattle.spoiler.specs.Outlet.{emitted, owed_after}
 
+-- whether there are no ticks
 abbrev pub is_none : List Tick → Bool
 is_none [] = true
 is_none (t ∷ ticks) = false

@@ -9,8 +9,8 @@ use Rattle.link_format.specs.Profile.{Profile, pause_len, trailer_len, trailer, 
 use Rattle.link_verdicts.specs.Verdicts.{CheckState, after_live}
 
 -- Holds if the burst is a packet that finds the receiver free. Its live bytes are a frame, and a
--- pause and the trailer of this number follow them. The number is within the limit, and is one of
--- those right after the floor, which can be told apart by their words.
+-- pause and the trailer of this number follow them. The number is within the limit, and above the
+-- floor by at most the count of words, so that it is the full number of its word.
 pub record IsPacket (profile : Profile) (rules : Rules) (s : CheckState) (d : Burst) (number : ℕ) :
     Type 0 where
   pub framed : rules.is_frame (live_bytes rules d) ≡ true

@@ -13,9 +13,10 @@ abbrev pub tick_or_silence : Option ℕ → Tick
 tick_or_silence None = Silent
 tick_or_silence (Some b) = Byte b
 
--- Holds if the outlet makes `answer` of a tick that leaves after these bytes. A byte goes through
--- the outlet, as the last one or not, and silence lets out the next byte of a fill. The outlet must
--- know all bytes of a burst that doesn't pass before the last of them leaves.
+-- Holds if the outlet, in the turn from `old` to `new`, makes `answer` of the next tick to leave,
+-- after the bytes `x`. A byte goes through the outlet, as the last one or not. Silence lets out the
+-- next byte of a fill. About the last byte of a burst that doesn't pass, this says something only
+-- if the outlet knows all bytes of the burst.
 abbrev pub HasTurned : {R : Type 0} → LineRules R → Outlet R → Outlet R → Bool → Bool → List ℕ
     → Tick → Tick → Type 0
 HasTurned proto old new last passes x answer Silent =

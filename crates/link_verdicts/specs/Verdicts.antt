@@ -71,7 +71,8 @@ whole_verdict profile rules floor frame bytes =
     then verdict_by_number profile frame bytes (number_of profile floor bytes)
     else refused Form
 
--- the verdict on a burst that isn't dropped, by the first of these conditions that holds
+-- the verdict on a burst that isn't dropped: it is refused if no whole trailer follows its live
+-- bytes, and otherwise its frame, its number and its tag decide, in this order
 unfoldable pub verdict_of : Profile → Rules → ℕ → Burst → Verdict
 verdict_of profile rules floor d =
     if nat_lt (kept_after profile rules d) (pause_len + trailer_len profile) then refused Trailer
@@ -83,7 +84,8 @@ verdict_by_head Good verdict = verdict
 verdict_by_head Short verdict = dropped NoHead
 verdict_by_head Bad verdict = dropped NoHead
 
--- The verdict on a burst, by the first of all these conditions that holds.
+-- The verdict on a burst. It is dropped if it starts while the receiver is busy, or if its header
+-- isn't good, and otherwise it has the verdict of `verdict_of`.
 unfoldable pub checked : Profile → Rules → CheckState → Burst → Verdict
 checked profile rules s d =
     if nat_lt d.start s.earliest_start then dropped Busy
