@@ -1,4 +1,4 @@
--- Runs of the other line as they are lent.
+-- Runs of the other line, as a box lends their bytes.
 use Rattle.{burst_walk.specs.Answered.answered, std.proofs.Common.◌≡◌}
 use Rattle.std.proofs.Common.{◌∙◌, ℕ, ◌≤◌, List, [], ◌∷◌, length, map, take, refl, sym, ap, arith}
 use Rattle.std.proofs.lemmas.List.{length-take, length-take-le, take-map, take-replicate, take-take}
@@ -6,7 +6,7 @@ use Rattle.yasir_ticks.specs.{TickRun.run_ticks, Ticks.silent}
 use Rattle.yasir_ticks.specs.declared.tick.Tick.TheVariants.{Silent, Byte}
 use Rattle.yasir_ticks.specs.declared.tick_run.TickRun.{TickRun}
 
--- as many bytes as there are ticks are answered as they are
+-- if there are as many bytes as ticks, the ticks are these bytes
 answered-bytes : (x : List ℕ) → answered (length x) x ≡ map Byte x
 answered-bytes [] = refl
 answered-bytes (b ∷ x) = refl
@@ -17,23 +17,23 @@ answered-all n x lent count items =
     sym (ap (λ k. answered k lent) count ∙ (ap (λ l. answered (length x) l) items
     ∙ answered-bytes x))
 
--- none are answered as silence
+-- if no bytes are lent, the ticks are silent
 pub answered-none : (n : ℕ) (lent : List ℕ) → lent ≡ [] → silent n ≡ answered n lent
 answered-none n lent none = sym (ap (λ l. answered n l) none)
 
--- the first of these bytes, as they are lent
+-- the first n of these bytes, as they are lent
 pub lent-bytes : (n : ℕ) (x lent : List ℕ) → n ≤ length x → lent ≡ take n x
     → take n (map Byte x) ≡ answered n lent
 lent-bytes n x lent within is = take-map Byte n x
     ∙ answered-all n (take n x) lent (sym (length-take-le n x within)) is
 
--- the first of this many silent ticks, where nothing is lent
+-- the first n of these silent ticks, if nothing is lent
 pub lent-silence : (n ticks : ℕ) (lent : List ℕ) → n ≤ ticks → lent ≡ []
     → take n (silent ticks) ≡ answered n lent
 lent-silence n ticks lent within none = take-replicate n ticks Silent within
     ∙ answered-none n lent none
 
--- the first ones of those at the front
+-- the first n bytes of a front are the first n of all bytes
 pub front-bytes : (n k : ℕ) (x : List ℕ) → n ≤ length (take k x)
     → take n (map Byte (take k x)) ≡ take n (map Byte x)
 front-bytes n k x within =

@@ -6,7 +6,7 @@ use Rattle.yasir_ticks.specs.declared.tick.Tick.{Tick}
 
 module _ {X A : Type 0} (walking : Walking A) (standing : X → ℕ → Setup → List Tick → Type 0)
     (old new : X) where
-  -- the same run by other names
+  -- an equal run that is answered with equal ticks
   pub takes-as : (run answer front told : List Tick) → run ≡ front → answer ≡ told
       → TakesRun walking standing old new run answer
       → TakesRun walking standing old new front told
@@ -15,7 +15,7 @@ module _ {X A : Type 0} (walking : Walking A) (standing : X → ℕ → Setup �
       (subst (λ a. HasTakenRun walking standing new last setup line run a) answer_is
       (takes last setup line before))
 
-  -- a run behind one of no tick
+  -- a run after one of no tick
   pub takes-behind : (mid : X) (none nothing run answer : List Tick) → none ≡ []
       → TakesRun walking standing old mid none nothing
       → TakesRun walking standing mid new run answer
