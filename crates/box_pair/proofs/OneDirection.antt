@@ -1,4 +1,4 @@
--- What the steps and runs of both directions are in one of them.
+-- What the steps and runs of a pair are in one of its directions.
 use Rattle.box_pair.specs.Pairs.{OneWay, BothWays, HasTaken}
 use Rattle.box_pair.specs.Turns.{Turn, Turns, TakesTurn, HasPassedAlone, notes_from, MakesLine}
 use Rattle.box_pair.specs.Turns.{ticks_from_device, ticks_from_link, ticks_to_link, ticks_to_device}
@@ -36,7 +36,8 @@ module _ {S A X : Type 0} (boxed : LinkBox S A) (d : SlotDisk X) where
   abbrev told : Setup → List Tick → List (Noted A)
   told setup line = told_notes boxed.walking.brief (full_notes boxed.walking setup line)
 
-  -- it makes this of the ticks behind whatever line
+  -- Holds if, after whatever line the box had taken, it makes these ticks and these notes of the
+  -- ticks that follow.
   abbrev pub Makes : OneWay S X → OneWay S X → List Tick → List Tick → List (Option A) → Type 0
   Makes old new ticks answers notes = (setup : Setup) (line : List Tick)
       → boxed.stands old.line_box (journal_floor old.journal) setup line
@@ -126,7 +127,7 @@ module _ {S A X : Type 0} (boxed : LinkBox S A) (d : SlotDisk X) where
 
 module _ {S A X T : Type 0} (boxed : LinkBox S A) (d : SlotDisk X) (ticks_of : T → List Tick)
     (answers_of : T → List Tick) (notes_of : T → List (Option A)) where
-  -- such turns lead from the one to the other
+  -- Holds if these turns lead, one after the other, from `old` to `new`.
   abbrev pub Along : OneWay S X → List T → OneWay S X → Type 0
   Along old [] new = old ≡ new
   Along old (x ∷ xs) new = (next : OneWay S X)
@@ -177,7 +178,7 @@ module _ {S C A B X Y : Type 0} (sends : LinkBox S A) (gets : LinkBox C B) (d : 
   turn-incoming (passed from_device from_link to_link to_device) old new goes =
       makes-run gets e old.incoming new.incoming from_link to_device goes.1
 
-  -- ---- all of them
+  -- ---- all turns
 
   pub along-outgoing : (turns : List (Turn A B)) (old new : BothWays S C X Y)
       → Turns sends gets d e old turns new

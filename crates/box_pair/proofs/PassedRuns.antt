@@ -7,14 +7,14 @@ use Rattle.{std.proofs.lemmas.List.take-take, yasir_ticks.specs.Ticks.silent}
 use Rattle.yasir_ticks.specs.declared.tick.Tick.{Tick, TheVariants.Silent}
 
 module _ {S A : Type 0} (boxed : LinkBox S A) (old new : S) where
-  -- the same run by other names
+  -- an equal run that is answered with equal ticks
   pub passed-as : (run answer front told : List Tick) → run ≡ front → answer ≡ told
       → HasPassed boxed old new run answer → HasPassed boxed old new front told
   passed-as run answer front told run_is answer_is passed =
       subst (λ r. HasPassed boxed old new r told) run_is
       (subst (λ a. HasPassed boxed old new run a) answer_is passed)
 
-  -- the first ones of some ticks
+  -- the first n of some ticks
   pub passed-front : (n : ℕ) (ticks answer : List Tick) → n ≤ length ticks
       → boxed.taken new ≡ boxed.taken old + n → boxed.link_of new ≡ boxed.link_of old
       → TakesRun boxed.walking boxed.stands old new (take n ticks) answer
@@ -25,7 +25,7 @@ module _ {S A : Type 0} (boxed : LinkBox S A) (old new : S) where
     takes = takes;
   }
 
-  -- this many silent ticks
+  -- n silent ticks
   pub passed-silence : (n : ℕ) (lent : List ℕ) → lent ≡ []
       → boxed.taken new ≡ boxed.taken old + n → boxed.link_of new ≡ boxed.link_of old
       → TakesRun boxed.walking boxed.stands old new (silent n) (silent n)
@@ -37,7 +37,7 @@ module _ {S A : Type 0} (boxed : LinkBox S A) (old new : S) where
         takes = takes;
       })
 
--- ---- the fronts of both lines, as long as each other
+-- ---- the fronts of both lines, which have the same length
 
 module _ (n most : ℕ) (front whole : List Tick) (is : front ≡ take most whole)
     (within : n ≤ length front) where
@@ -52,7 +52,7 @@ module _ (n most : ℕ) (front whole : List Tick) (is : front ≡ take most whol
       sym (take-replicate n (length front) Silent within)
       ∙ (ap (λ l. take n l) (sym silence) ∙ first-front)
 
--- how long they are
+-- how long a front is
 pub front-long : (most : ℕ) (front whole : List Tick) → front ≡ take most whole
     → most ≤ length whole → length front ≡ most
 front-long most front whole is within = ap (λ l. length l) is ∙ length-take-le most whole within
