@@ -1,4 +1,4 @@
--- In an arm of a match on a box it is the one of the arm.
+-- In an arm of a match on a box, the box is the one of that arm.
 use Rattle.any_box.specs.Boxes.{kind_of, ticks_in, own_link, definition_of, StandsAt, Steps, TakesRun}
 use Rattle.any_box.specs.{Noting.StepsOn, Noting.TakesOn, declared.any_box.AnyBox.AnyBox}
 use Rattle.any_box.specs.declared.any_note.AnyNote.{AnyNote}

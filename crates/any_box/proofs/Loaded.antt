@@ -1,4 +1,5 @@
--- What a journal is that was loaded from slots that a caller gives: the old ones hold no number.
+-- What a journal is that was loaded from slots A and B as a caller gives them. The old slots hold
+-- no number then.
 use Rattle.sequence_journal.specs.declared.journal.{Journal.Journal, LoadError.LoadError}
 use Rattle.std.proofs.Common.{◌≡◌, ◌∙◌, ℕ, ◌+◌, refl, sym, ap, arith}
 use Rattle.std.proofs.lemmas.Option.{same_Some}
@@ -23,7 +24,7 @@ none-by : (any : Option ℕ) → floor_by None any None ≡ None
 none-by None = refl
 none-by (Some n) = refl
 
--- with a floor there is a number of the own link
+-- without a number for the own link there is no floor
 no-floor : (link : LinkId) (a b : List ℕ) (floor : ℕ) → own_floor link (slots_given a b) ≡ None
     → floor_of link (slots_given a b) ≡ Some floor → ⊥
 no-floor link a b floor own is =
@@ -59,7 +60,7 @@ module _ (link : LinkId) (a b : List ℕ) (new : Slots) (old_images new_images :
   loaded_slots = leaves-same link a b (journal_floor journal) new old_images new_images
       (own_floor link loaded.read) (ap (own_floor link) loaded.are_read) loaded_floor loaded.leaves
 
--- a refusal says nothing of slots that would have changed
+-- a refusal in which no fault is counted says that the slots haven't changed
 pub refused_again : (link : LinkId) (old new : Option Slots) (error : LoadError)
     → RefusesLoad link old new 0 0 error → RefusesLoad link old old 0 0 error
 refused_again link old new Load.Fault refused =

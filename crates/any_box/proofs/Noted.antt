@@ -1,4 +1,4 @@
--- Notes of a box as those of any box.
+-- The notes of one of the boxes as notes of any box.
 use Rattle.any_box.specs.Noting.{defined_by, StepsOn, TakesOn}
 use Rattle.any_box.specs.declared.any_note.AnyNote.{AnyNote}
 use Rattle.burst_walk.specs.{Answers.told_notes, Answers.note_in, Walk.Noted}
@@ -10,7 +10,7 @@ use Rattle.std.specs.Prelude.{Option, Some, None, option_map}
 use Rattle.yasir_ticks.specs.declared.tick.Tick.{Tick}
 
 module _ {F A : Type 0} (brief : F → A) (noted : A → AnyNote) where
-  -- a note, told as one of any box
+  -- a note as one of any box
   abbrev lifted : Noted A → Noted AnyNote
   lifted n = record { tick = n.tick; note = noted n.note }
 

@@ -41,7 +41,7 @@ pub own_back : (l m : LinkId) → l.label ≡ m.label → l.dir ≡ m.dir → l.
 own_back l m label dir profile =
     λ i. record { label = label i; dir = dir i; profile = profile i }
 
--- links stay alike
+-- two links that each stay the same stay alike
 module _ (l l' m m' : LinkId) (l-is : l' ≡ l) (m-is : m' ≡ m) where
   pub label_kept : l.label ≡ m.label → l'.label ≡ m'.label
   label_kept is = ap (λ k. k.label) l-is ∙ is ∙ ap (λ k. k.label) (sym m-is)
@@ -52,7 +52,7 @@ module _ (l l' m m' : LinkId) (l-is : l' ≡ l) (m-is : m' ≡ m) where
   pub profile_kept : l.profile ≡ m.profile → l'.profile ≡ m'.profile
   profile_kept is = ap (λ k. k.profile) l-is ∙ is ∙ ap (λ k. k.profile) (sym m-is)
 
--- two links are one
+-- two links that equal a third one are alike
 module _ (l m n : LinkId) (l-is : l ≡ n) (m-is : m ≡ n) where
   pub label_same : l.label ≡ m.label
   label_same = ap (λ k. k.label) (l-is ∙ sym m-is)

@@ -28,7 +28,7 @@ module _ (n m : ℕ) (xs ys : List Tick) (front : ys ≡ take m xs) (within : n 
   takes_front rtu dnp short long old new answer takes =
       subst (λ run. TakesRun rtu dnp short long old new run answer) same-front takes
 
--- this many ticks are counted
+-- n ticks are taken, and so n are counted
 pub taken_counted : (a b n : ℕ) (xs : List Tick) → a ≡ b + length (take n xs) → n ≤ length xs
     → a ≡ b + n
 taken_counted a b n xs is within = is ∙ ap (λ k. b + k) (length-take-le n xs within)

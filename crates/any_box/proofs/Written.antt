@@ -1,4 +1,4 @@
--- What a caller writes: slots that are again those of the box, and no floor that is lost.
+-- What a caller writes: it makes the slots the box's again, and loses no floor.
 use Rattle.any_box.{proofs.Places.fits_back, specs.Commits.OwesDisk, specs.Commits.IsOwed}
 use Rattle.any_box.specs.Held.{slots_held, link_held, floor_held, StepsHeld}
 use Rattle.any_box.specs.declared.held_box.{HeldBox.HeldBox, HeldStep.HeldStep}

@@ -27,13 +27,21 @@ use yasir_ticks::{MAX_TICKS, Tick, TickRun};
 /// One of the eight boxes.
 #[derive(Drop)]
 pub enum AnyBox {
+    /// A transmitter for Modbus RTU, with profile y18.
     RtuSealer18(Sealer<Rtu, HmacSha1, 2>),
+    /// A transmitter for DNP3, with profile y18.
     DnpSealer18(Sealer<Dnp, HmacSha1, 2>),
+    /// A transmitter for Modbus RTU, with profile y24.
     RtuSealer24(Sealer<Rtu, HmacSha256, 4>),
+    /// A transmitter for DNP3, with profile y24.
     DnpSealer24(Sealer<Dnp, HmacSha256, 4>),
+    /// A receiver for Modbus RTU, with profile y18.
     RtuChecker18(Checker<Rtu, HmacSha1, 2, 18>),
+    /// A receiver for DNP3, with profile y18.
     DnpChecker18(Checker<Dnp, HmacSha1, 2, 18>),
+    /// A receiver for Modbus RTU, with profile y24.
     RtuChecker24(Checker<Rtu, HmacSha256, 4, 24>),
+    /// A receiver for DNP3, with profile y24.
     DnpChecker24(Checker<Dnp, HmacSha256, 4, 24>),
 }
 

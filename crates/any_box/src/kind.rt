@@ -17,8 +17,11 @@ pub enum Part {
 /// Which of the eight boxes a box is.
 #[derive(Clone, Copy, Debug, PartialEq, Eq)]
 pub struct Kind {
+    /// Whether the box is the transmitter or the receiver.
     pub part: Part,
+    /// The protocol of the frames.
     pub proto: Proto,
+    /// The profile of the link.
     pub profile: Profile,
 }
 

@@ -11,7 +11,9 @@ use yasir_io::{Slot, SlotBytes, SteadySlots};
 /// slot.
 #[derive(Clone, Copy, Debug, PartialEq, Eq)]
 pub struct Commit {
+    /// The slot that must be written.
     pub slot: Slot,
+    /// All bytes of that slot.
     pub bytes: SlotBytes,
 }
 
