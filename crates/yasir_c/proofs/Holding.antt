@@ -16,7 +16,7 @@ pub taken-is : {X : Type 0} (make : X → Held) (o : Option Held) (held same : H
 taken-is make o held same out is has =
     (has.0, is ∙ same_Some held (make has.0) (sym out ∙ has.1))
 
--- the handle held it
+-- the handle held what was taken out
 pub held-is : {X : Type 0} (make : X → Held) (o : Option Held) (held same : Held) (x : X)
     → o ≡ Some held → same ≡ held → same ≡ make x → o ≡ Some (make x)
 held-is make o held same x out is has = out ∙ ap (λ h. Some h) (sym is ∙ has)

@@ -19,6 +19,7 @@ use Rattle.any_box.specs.declared.owed.Commit.{Commit}
 use Rattle.yasir_c.specs.declared.answer.Answer.{Answer}
 use Rattle.yasir_c.specs.declared.answer.NoteNumbers.{NoteNumbers}
 
+-- The numbers of the reasons why a burst is unsealed, refused or dropped.
 abbrev pub unsealed_number : UnsealedWhy → ℕ
 unsealed_number Seal.Early = 1
 unsealed_number Seal.Form = 2
@@ -51,11 +52,12 @@ numbers_in (Some (OfChecker (Passed number start len))) = of_frame 3 number star
 numbers_in (Some (OfChecker (Refused start why))) = of_burst 4 start (refused_number why)
 numbers_in (Some (OfChecker (Dropped start why))) = of_burst 5 start (dropped_number why)
 
--- the number of the slot that must be written, or 0 if none must
+-- the number of a slot
 abbrev pub slot_number : Slot → ℕ
 slot_number A = 1
 slot_number B = 2
 
+-- the number of the slot that must be written, or 0 if none must
 abbrev pub commit_number : Option Commit → ℕ
 commit_number None = 0
 commit_number (Some commit) = slot_number commit.slot
@@ -70,6 +72,7 @@ abbrev pub tick_bytes : Tick → ℕ × ℕ
 tick_bytes Silent = (0, 0)
 tick_bytes (Byte b) = (1, b)
 
+-- what C reads of a step
 abbrev pub answer_of : HeldStep → Answer
 answer_of step = record {
   number = (numbers_in step.note).number;

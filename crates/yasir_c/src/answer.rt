@@ -13,14 +13,23 @@ use yasir_ticks::Tick;
 #[repr(C)]
 #[derive(Clone, Copy, Debug, PartialEq, Eq)]
 pub struct Answer {
+    /// The number of the sealed or passed frame that is noted, or 0 if none is.
     pub number: u64,
+    /// The tick of the first byte of the burst that is noted, counted from 0, or 0 without a note.
     pub start: u64,
+    /// How many bytes the sealed or passed frame has that is noted, or 0 if none is.
     pub len: u16,
+    /// 1 if the tick of the other line carries a byte, and 0 if it is silent.
     pub is_byte: u8,
+    /// The byte of the tick of the other line, or 0 if it is silent.
     pub byte: u8,
+    /// The slot that the caller must write: 1 is slot A, 2 is slot B, and 0 is none.
     pub commit: u8,
+    /// The note: 0 none, 1 sealed, 2 unsealed, 3 passed, 4 refused, 5 dropped.
     pub note: u8,
+    /// Why a burst is unsealed, refused or dropped, counted from 1 for each, or 0 otherwise.
     pub why: u8,
+    /// Always 0.
     pub unused: u8,
 }
 

@@ -15,6 +15,7 @@ use std::{mem, ptr};
 #[derive(Drop)]
 pub struct Handle {
     at: *mut u8,
+    /// What the handle holds, if it holds anything.
     pub ghost value: { Option Held },
 }
 

@@ -11,10 +11,15 @@ use line_spacer::SpaceStep;
 #[repr(C)]
 #[derive(Clone, Copy, Debug, PartialEq, Eq)]
 pub struct Spaced {
+    /// The tick of the first byte of the frame that is lost, counted from 0, or 0 if none is.
     pub lost_start: u64,
+    /// 1 if the tick of the other line carries a byte, and 0 if it is silent.
     pub is_byte: u8,
+    /// The byte of the tick of the other line, or 0 if it is silent.
     pub byte: u8,
+    /// 1 if a frame is lost in this step, and 0 if none is.
     pub is_lost: u8,
+    /// Always 0.
     pub unused: u8,
 }
 
