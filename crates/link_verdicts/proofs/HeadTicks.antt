@@ -33,7 +33,8 @@ before_pause-few cut x (more b gap rest few contiguous) =
 
 module _ (rules : Rules) (lawful : IsLawful rules) (headed : IsHeaded rules) (d : Burst)
     (contiguous : IsContiguous 4 d.body) where
-  -- if a burst's header is too short, all its bytes before the pause are live, and so they are few
+  -- if a burst's header is too short, all its bytes before the pause are live, and the ticks before
+  -- the pause are at most twice as many as a header has bytes, less three
   pub short-pause : length (live_bytes rules d) < rules.header_len
       → length (before_pause d.body) + 3 ≤ 2 * rules.header_len
   short-pause short =

@@ -26,8 +26,8 @@ use Rattle.std.proofs.lemmas.List.{drop-append-le, take-append-le, length-drop}
 use Rattle.yasir_ticks.specs.{Bursts.Burst, Bursts.end_of, Ticks.bytes_in, Ticks.silent}
 use Rattle.yasir_ticks.specs.declared.tick.Tick.{Tick, TheVariants.Byte}
 
--- Holds if two bursts have the same verdict at the same tick and, if it isn't that they are
--- dropped, the same live ticks.
+-- Holds if two bursts have the same verdict at the same tick and, if they aren't dropped, the same
+-- live bytes and live ticks.
 pub record IsSettled (profile : Profile) (rules : Rules) (s : CheckState) (d e : Burst) :
     Type 0 where
   pub verdict : checked profile rules s e ≡ checked profile rules s d

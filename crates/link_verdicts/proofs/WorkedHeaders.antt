@@ -76,7 +76,7 @@ one_more = row 0 (on_line (0x05 ∷ 0x04 ∷ 0x09 ∷ 0x00 ∷ 0x00 ∷ []) ++ s
     (noted_at 4 (refused_note 0 Trailer) ∷ [])
     (silent 7 ++ on_line (0x05 ∷ 0x04 ∷ 0x09 ∷ 0x01 ∷ []) ++ silent 2)
 
--- a header alone: it is filled, and the last byte of the fill is spoiled
+-- only a header: it is filled, and the last byte of the fill is spoiled
 abbrev cut_frame : Row FullNote
 cut_frame = row 0 (on_line (0x05 ∷ 0x04 ∷ []) ++ silent 12)
     (noted_at 5 (refused_note 0 Trailer) ∷ [])
