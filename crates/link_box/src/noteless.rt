@@ -23,9 +23,9 @@ pub trait NotelessBox: LinkBox {
         ensures { (last : ℕ) (setup : Setup) (line : List Tick)
             → Self.stands self.now last setup line → result ≡ noteless self.now line t };
 
-    /// Takes the next tick, of which the box is sure that no note falls into its step, and returns
-    /// the tick of the other line. No number is used. Fewer than `MAX_TICKS` ticks were taken
-    /// before.
+    /// Takes the next tick, and returns the tick of the other line. The box must be sure that no
+    /// note falls into the step of this tick. No number is used. Fewer than `MAX_TICKS` ticks were
+    /// taken before.
     fn take_noteless(&mut self, t: Tick) -> Tick
         requires noteless { IsNoteless Self.stands noteless self.old t }
         requires room { Self.taken self.old < MAX_TICKS }
