@@ -13,7 +13,7 @@ use yasir_io::{Slot, SlotBytes, SteadySlots};
 pub struct Commit {
     /// The slot that must be written.
     pub slot: Slot,
-    /// All bytes of that slot.
+    /// All bytes of that slot, as they must be written.
     pub bytes: SlotBytes,
 }
 
