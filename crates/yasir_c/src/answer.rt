@@ -17,7 +17,7 @@ pub struct Answer {
     pub number: u64,
     /// The tick of the first byte of the burst that is noted, counted from 0, or 0 without a note.
     pub start: u64,
-    /// How many bytes the sealed or passed frame has that is noted, or 0 if none is.
+    /// The length in bytes of the sealed or passed frame that is noted, or 0 if none is.
     pub len: u16,
     /// 1 if the tick of the other line carries a byte, and 0 if it is silent.
     pub is_byte: u8,
@@ -27,7 +27,8 @@ pub struct Answer {
     pub commit: u8,
     /// The note: 0 none, 1 sealed, 2 unsealed, 3 passed, 4 refused, 5 dropped.
     pub note: u8,
-    /// Why a burst is unsealed, refused or dropped, counted from 1 for each, or 0 otherwise.
+    /// Why the burst is unsealed (1 early, 2 form, 3 spent), refused (1 trailer, 2 form, 3 number,
+    /// 4 tag) or dropped (1 busy, 2 head), or 0 if none of these is noted.
     pub why: u8,
     /// Always 0.
     pub unused: u8,
