@@ -10,6 +10,7 @@ pub record Rules : Type 0 where
   pub longest : ℕ
   -- how many bytes of a burst can belong to a frame, if the burst begins with these bytes
   pub room : List ℕ → ℕ
+  -- whether the bytes are a frame
   pub is_frame : List ℕ → Bool
   -- how many bytes a header has (0 in a protocol without headers), and whether that many bytes are
   -- a good one
