@@ -1,11 +1,12 @@
-/* A box of both directions between two serial ports or ptys: what the device sends is sealed onto
- * the link, and what the link brings is checked on its way to the device. Tested, not proved: what
- * is proved are the boxes (yasir.h).
+/* A daemon with a box for each direction between two serial ports or pseudo-terminals: it seals what
+ * the device sends onto the link, and checks what the link brings before the device gets it. The
+ * boxes are proved (yasir.h); the daemon is only tested.
  *
- * One thread moves bytes: it stamps what comes with its time, and writes what leaves when its time
- * has come. The other takes ticks, in each direction at `hold` behind the clock, commits numbers,
- * and hands on what leaves for `playout` later. So a sync of the disk stops no byte that was handed
- * on before it. See docs/LIVE.md for how hold and playout are chosen. */
+ * One thread moves bytes: it stamps each byte that comes with its time, and writes each byte that
+ * leaves when its time has come. The other thread takes the ticks of both directions, each tick
+ * `hold` later than the clock. It commits numbers, and queues what leaves to be written `playout`
+ * later, so a sync of the disk delays no byte that was queued before it. docs/C_LIBRARY.md says how
+ * to choose hold and playout. */
 #define _GNU_SOURCE
 #include "journal.h"
 #include <errno.h>
@@ -25,16 +26,17 @@
 typedef int64_t nanos;
 enum { MS = 1000000, ROOM = 1 << 14 };
 
-/* how many frames may wait in the guard */
+/* How many frames may wait in the guard. */
 enum { WAITING = 4 };
 
-/* Bytes on their way, each with a time: when it came, or when it is to leave. */
+/* Bytes on their way, each with the time at which it came or must leave. `lost` counts the bytes for
+ * which there was no room. */
 typedef struct { uint8_t byte[ROOM]; nanos at[ROOM]; size_t first, count; uint64_t lost; } queue;
 
 /* A recording of ticks, as tick text. */
 typedef struct { FILE *file; uint64_t silent; int bytes; } tape;
 
-/* One direction: a port that is read, a box, a port that is written. */
+/* One direction: the port that is read, the box, and the port that is written. */
 typedef struct {
     const char *name;
     yasir_handle box;
@@ -42,12 +44,12 @@ typedef struct {
     queue in, out;
     int from, to;
     uint64_t ticks;
-    int silents;      /* silent ticks behind the last byte taken, 0 where none is */
-    nanos last_came;  /* when that byte came */
-    int snaps;        /* a gap of about three ticks is taken as three: a trailer follows */
-    int snapped;      /* one of this burst was: a packet has no other, so a further one is jitter */
-    yasir_handle guard; /* a spacer, or none */
-    tape took, gave;  /* the line that is taken, and what the box answers */
+    int silents;      /* silent ticks taken since the last byte, or 0 */
+    nanos last_came;  /* when the last byte taken came */
+    int snaps;        /* 1 on the link: a gap of two to six ticks counts as three, those before a trailer */
+    int snapped;      /* 1 after such a gap in this burst: a packet has one, so any other is jitter */
+    yasir_handle guard; /* holds a spacer, or nothing with -G and in the outgoing direction */
+    tape took, gave;  /* recordings of the line that the box takes, and of the one that it returns */
 } way;
 
 static struct {
@@ -101,8 +103,9 @@ static void read_some(way *w)
     pthread_mutex_unlock(&lock);
 }
 
-/* Writes what is due; of bytes in a row also those of the next two ticks, so that a port with a rate
- * of its own isn't left idle between them. Returns when the next one is due. */
+/* Writes the bytes that are due. If bytes follow them without a gap, writes those of the next two
+ * ticks too, so that a port that keeps its own rate isn't idle between them. Returns the time at which
+ * the next byte is due, or INT64_MAX if there is none. */
 static nanos write_due(way *w)
 {
     uint8_t bytes[256];
@@ -182,8 +185,10 @@ static void open_tape(tape *t, const char *name)
     if (!t->file) { perror(path); exit(3); }
 }
 
-/* The tick of this direction whose time is `at`. A byte is taken behind the one before it if it came
- * right behind it; else at its own time. */
+/* Returns the tick of this direction whose time is `at`: a byte that has come, or silence. A byte that
+ * came up to 1.75 ticks after the one before it is taken in the tick after that one, or in the next; a
+ * later byte is taken at its own time. On the link the first gap of a burst that is longer, but no
+ * longer than 6.5 ticks, is taken as three silent ticks, and a further one as none. */
 static uint16_t next_tick(way *w, nanos at)
 {
     uint16_t tick = YASIR_SILENT;
@@ -208,7 +213,7 @@ static uint16_t next_tick(way *w, nanos at)
     return tick;
 }
 
-/* The line of a note, as link_replay prints it. */
+/* Prints the line of a note, if there is one, as link_replay does. */
 static void note_line(const yasir_answer *a)
 {
     static const char *const unsealed[] = {"", "early", "form", "spent"},
@@ -328,10 +333,10 @@ static void usage(FILE *to)
           "  -b BAUD   1200 to 230400 (9600)\n"
           "  -P none|even|odd  parity (even)\n"
           "  -S 1|2    stop bits (1)\n"
-          "  -H MS     hold: how long the first byte of a burst waits for those behind it (20)\n"
+          "  -H MS     hold: how long the first byte of a burst waits for those after it (20)\n"
           "  -D MS     playout: how long what leaves waits for a sync of the disk (25)\n"
           "  -G        no guard: what the receiver lets leave goes to the device as it is\n"
-          "  -q        no line for each note\n"
+          "  -q        print no line for each note\n"
           "  -w NAME   record the ticks of both lines into NAME.device.ticks, NAME.sent.ticks,\n"
           "            NAME.came.ticks and NAME.received.ticks\n"
           "  -h, --help\n"
@@ -397,8 +402,9 @@ static void make_box(way *w, uint8_t part, uint8_t direction, const char *path, 
     }
 }
 
-/* What a sync of this disk takes, by ten of them over a slot that stays as it is. It is one beside
- * which the other slot holds the last number, so that a crash here costs none. */
+/* Measures how long a sync of this disk takes, with ten syncs that write a slot again as it is, and
+ * warns if the slowest is longer than half of the playout. The other slot holds the last number, so a
+ * crash here loses no number. If neither slot holds the last number, nothing is measured. */
 static void try_disk(way *w, const yasir_kind *kind)
 {
     uint8_t *a = w->kept.slots, *b = a + YASIR_SLOT_LEN;

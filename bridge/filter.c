@@ -1,5 +1,6 @@
-/* A box as a filter: tick text in, the other line as canonical tick text out, a line for each note
- * on standard error. It writes what `link_replay seal` or `check` writes over the same input.
+/* A box as a filter: it reads tick text, writes the other line as canonical tick text, and writes a
+ * line for each note to standard error. For the same input it writes the same as `link_replay seal`
+ * or `link_replay check`.
  *
  *     filter seal|check rtu|dnp3|rtu24|dnp24 ab|ba KEY JOURNAL */
 #include "journal.h"
@@ -68,7 +69,8 @@ static void step(int is_byte, uint8_t byte)
     put_tick(answer.is_byte, answer.byte);
 }
 
-/* Takes a run: by the call for runs as far as that answers, and else tick by tick. */
+/* Takes a run of `count` bytes, or of `count` silent ticks if `bytes` is NULL: with the calls for runs
+ * as far as they take it, and otherwise by single steps. */
 static void run(const uint8_t *bytes, uint64_t count)
 {
     while (count > 0) {

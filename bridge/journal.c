@@ -1,4 +1,4 @@
-/* The journals and the key of a box, on a file system. */
+/* The journal and the key of a box as files. */
 #include "journal.h"
 #include <errno.h>
 #include <fcntl.h>
@@ -20,7 +20,7 @@ static int write_at(int file, const uint8_t *bytes, size_t len, off_t at)
     return 0;
 }
 
-/* Syncs the folder of a file, so that a crash doesn't lose its name. */
+/* Syncs the folder that has this file, so that a crash doesn't lose the file's name. */
 static int sync_folder(const char *path)
 {
     char folder[4096];

@@ -1,23 +1,28 @@
-/* A journal's file, as link_replay keeps one: two old slots of 16 bytes, which must be blank here,
- * and then slots A and B of 24 bytes. Files made by `link_replay init` serve, and the other way. */
+/* The file of a journal, in the form of link_replay: two old slots of 16 bytes, which must be zeros
+ * here, and then slots A and B of 24 bytes. This code can use files that `link_replay init` made, and
+ * link_replay can use files that this code made. */
 #ifndef YASIR_JOURNAL_H
 #define YASIR_JOURNAL_H
 
 #include "yasir.h"
 
+/* An open journal: its file, and slot A and then slot B as they were when it was opened. */
 typedef struct { int file; uint8_t slots[2 * YASIR_SLOT_LEN]; } journal;
 
-/* Opens and locks a journal and reads its slots. Where `make` is 1 and the file is missing or empty,
- * a new journal of the link is made first. Returns 0, or -1 with a line on standard error. */
+/* Opens and locks the journal at `path` and reads its slots. If `make` is 1 and the file is missing or
+ * empty, makes a new journal for the link of this box first. Returns 0, or -1 after a line on standard
+ * error. */
 int journal_open(journal *kept, const char *path, int make, const yasir_kind *kind);
 
-/* Writes one slot and syncs. Returns 0, or -1 where either failed. */
+/* Writes 24 bytes into the slot that `commit` names (YASIR_SLOT_A or YASIR_SLOT_B), and syncs. Returns
+ * 0, or -1 if the write or the sync failed. */
 int journal_commit(journal *kept, uint8_t commit, const uint8_t *slot);
 
-/* Whether these are the 24 bytes of a slot that holds this number for the link of a box. */
+/* Returns 1 if the 24 bytes at `slot` hold this number for the link of this box, and 0 if not. */
 int journal_holds(const uint8_t *slot, uint64_t number, const yasir_kind *kind);
 
-/* Reads a key of 32 to 128 hex digits. Returns its length in bytes, or 0. */
+/* Reads a key of 32 to 128 hex digits from the file at `path`. Returns its length in bytes (16 to 64),
+ * or 0 if the file can't be read or has no such key. */
 size_t key_read(const char *path, uint8_t key[64]);
 
 #endif

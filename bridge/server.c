@@ -1,5 +1,5 @@
-/* A Modbus RTU server by libmodbus with ten registers, for `make live`. Says each write that it
- * carries out, and at the end what its registers hold. */
+/* A Modbus RTU server with ten registers, built on libmodbus, for `make live`. It prints each write
+ * that it carries out, and at the end what its registers hold. */
 #include <errno.h>
 #include <modbus/modbus.h>
 #include <signal.h>

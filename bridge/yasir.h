@@ -1,25 +1,28 @@
-/* The boxes of a link for C: transmitter or receiver, of Modbus RTU or DNP3, with either profile,
- * behind one handle; and the spacer that stands behind a receiver as a guard. The code behind these
- * functions is written in Rattle and proved (crates yasir_c, any_box and any_spacer); what C owes it
- * is said here and checked by nothing.
+/* The boxes of a link for C: a transmitter or a receiver, of Modbus RTU or DNP3, with either profile,
+ * each in a handle; and the spacer that follows a receiver as a guard, in a handle too. The code
+ * behind these functions is written in Rattle and proved (crates yasir_c, any_box and any_spacer).
+ * Nothing checks that C keeps to what is said below under "What the caller owes".
  *
- * A tick is one byte time of a line: it carries silence or a byte. A box takes one line tick by
- * tick and answers the other one, tick by tick.
+ * A tick is one byte time of a line: it carries a byte, or it is silent. A box takes one line tick by
+ * tick, and for each tick it returns the tick of the other line at the same place. Ticks are counted
+ * from 0, as the box takes them.
  *
  * What the caller owes
  *  - A handle is {0} before yasir_new or yasir_spacer_new and after yasir_free; between them it
- *    holds a box, or a spacer. These two take a handle that holds nothing, yasir_spacer_step one that
- *    holds a spacer, yasir_free one that holds either, every other function one that holds a box.
- *  - A handle is never copied while it holds something, and is given to one call at a time.
- *  - Each pointer points to as many bytes as the length beside it says, which nothing else uses
- *    during the call.
- *  - malloc and free are the C library's. No call is made from a signal handler, or in the forked
- *    child of a process with threads.
+ *    holds a box or a spacer. yasir_new and yasir_spacer_new must be given a handle that holds
+ *    nothing, yasir_spacer_step one that holds a spacer, yasir_free one that holds a box or a spacer,
+ *    and every other function that takes a handle one that holds a box.
+ *  - A handle is never copied while it holds something, and no two calls use it at the same time.
+ *  - Each pointer with a length beside it points to that many bytes. Nothing else uses what a
+ *    pointer points to during the call.
+ *  - malloc and free are those of the C library. No call is made from a signal handler, or in the
+ *    forked child of a process that has threads.
  *
- * What is owed on the disk. A box keeps its last number in a journal of two slots of 24 bytes,
- * which the caller stores. Where an answer says `commit`, the caller writes the 24 bytes of `slot`
- * into that slot and syncs before the tick of the answer leaves. Where the write or the sync fails
- * the tick must not leave, and the box must not be used again: the next start loads the journal. */
+ * What the caller owes the disk. A box keeps the last number that it used in a journal of two slots
+ * of 24 bytes, which the caller stores. If `commit` of an answer names a slot, the caller must write
+ * the 24 bytes of `slot` into it and sync before the tick of this answer leaves. If the write or the
+ * sync fails, the tick must not leave, and the box must not be used any more: the next start loads
+ * the journal again. */
 #ifndef YASIR_H
 #define YASIR_H
 
@@ -30,107 +33,147 @@
 extern "C" {
 #endif
 
-/* A box, a spacer, or neither. */
+/* A handle: it holds a box, a spacer, or nothing. It is {0} if it holds nothing. */
 typedef struct { void *box; } yasir_handle;
 
+/* The bytes of one slot, and the room in bytes that `sent` of the calls for runs must have. */
 enum { YASIR_SLOT_LEN = 24, YASIR_RUN_LEN = 64 };
 
-/* which box: a part, a protocol, a profile, a direction */
+/* Which box: its part, protocol, profile and direction, each by one of the numbers below. */
 typedef struct { uint8_t part, protocol, profile, direction; } yasir_kind;
 
-enum { YASIR_SEALER = 0, YASIR_CHECKER = 1 };
-enum { YASIR_RTU = 1, YASIR_DNP3 = 2 };
-enum { YASIR_Y18 = 18, YASIR_Y24 = 24 };
-enum { YASIR_AB = 0, YASIR_BA = 1 };
+enum { YASIR_SEALER = 0, YASIR_CHECKER = 1 };   /* part: transmitter, receiver */
+enum { YASIR_RTU = 1, YASIR_DNP3 = 2 };         /* protocol: Modbus RTU, DNP3 */
+enum { YASIR_Y18 = 18, YASIR_Y24 = 24 };        /* profile: y18, y24 */
+enum { YASIR_AB = 0, YASIR_BA = 1 };            /* direction: ab, ba */
 
-/* a tick: 0 to 255 is that byte, and this is silence */
+/* A tick that is given to a step: 0 to 255 is that byte, and YASIR_SILENT is silence. */
 enum { YASIR_SILENT = 256 };
 
-/* what yasir_new and yasir_step return */
+/* The status that yasir_new, yasir_step, yasir_init, yasir_spacer_new and yasir_spacer_step return.
+ * Each of them says below which of these it can return. */
 enum {
     YASIR_OK = 0,
-    YASIR_BAD_ARGUMENT = 1, /* there is no such box or tick, or a length is wrong */
-    YASIR_NO_JOURNAL = 2,   /* no slot holds a number */
-    YASIR_OTHER_LINK = 3,   /* the slots hold numbers for other links alone */
-    YASIR_NO_MEMORY = 4,
-    YASIR_FULL = 5,         /* the box has taken 2^62 ticks */
+    YASIR_BAD_ARGUMENT = 1, /* there is no such box, spacer or tick, or a length is wrong */
+    YASIR_NO_JOURNAL = 2,   /* neither slot holds a number */
+    YASIR_OTHER_LINK = 3,   /* the slots hold numbers, but only for other links */
+    YASIR_NO_MEMORY = 4,    /* malloc gave no memory */
+    YASIR_FULL = 5,         /* the box or the spacer has taken 2^62 ticks, and takes no more */
 };
 
-/* notes */
+/* What `note` of an answer says about a burst, and which other fields it sets. A transmitter returns
+ * the notes sealed and unsealed, a receiver the notes passed, refused and dropped. */
 enum {
-    YASIR_NO_NOTE = 0,
-    YASIR_SEALED = 1,   /* number, start, len */
-    YASIR_UNSEALED = 2, /* start, why: 1 early, 2 no frame, 3 the greatest number is used */
-    YASIR_PASSED = 3,   /* number, start, len */
-    YASIR_REFUSED = 4,  /* start, why: 1 trailer, 2 no frame, 3 number, 4 tag */
-    YASIR_DROPPED = 5,  /* start, why: 1 busy, 2 header */
+    YASIR_NO_NOTE = 0,  /* no note falls into this step */
+    YASIR_SEALED = 1,   /* number, start, len: the frame is sealed with this number */
+    YASIR_UNSEALED = 2, /* start, why: 1 it starts too soon after a sealed burst, 2 it isn't a frame,
+                         * 3 the greatest number has been used */
+    YASIR_PASSED = 3,   /* number, start, len: the frame has the tag of this number, and leaves */
+    YASIR_REFUSED = 4,  /* start, why: 1 no trailer follows as it must, 2 it isn't a frame, 3 no number
+                         * above the floor, up to the greatest, has its word, 4 the tag is wrong; it
+                         * leaves spoiled */
+    YASIR_DROPPED = 5,  /* start, why: 1 bytes of an earlier burst are still leaving, 2 it doesn't
+                         * begin with a good header; nothing of it leaves */
 };
 
-/* where to write */
+/* What `commit` of an answer says: the slot that the caller must write, if any. */
 enum { YASIR_NO_COMMIT = 0, YASIR_SLOT_A = 1, YASIR_SLOT_B = 2 };
 
-/* What a step answers. Ticks are counted from 0, as the box takes them. */
+/* What yasir_step returns for one tick: the tick of the other line, the slot that the caller must
+ * write, and the note, if there is one. */
 typedef struct {
-    uint64_t number; /* of the note, else 0 */
-    uint64_t start;  /* the tick of the first byte of the burst that the note is about, else 0 */
-    uint16_t len;    /* how many bytes the frame has, else 0 */
-    uint8_t is_byte; /* 1: the tick carries a byte; 0: silence */
-    uint8_t byte;    /* that byte, else 0 */
-    uint8_t commit;  /* YASIR_NO_COMMIT, or the slot to write */
-    uint8_t note;
-    uint8_t why;     /* of the note, else 0 */
-    uint8_t unused;  /* 0 */
+    uint64_t number; /* of the frame, if the note is sealed or passed; otherwise 0 */
+    uint64_t start;  /* the tick of the first byte of the noted burst; 0 without a note */
+    uint16_t len;    /* bytes of the frame, if the note is sealed or passed; otherwise 0 */
+    uint8_t is_byte; /* 1 if the tick of the other line carries a byte, 0 if it is silent */
+    uint8_t byte;    /* that byte; 0 if the tick is silent */
+    uint8_t commit;  /* YASIR_NO_COMMIT, or the slot to write and sync before this tick leaves */
+    uint8_t note;    /* YASIR_NO_NOTE, or what is noted */
+    uint8_t why;     /* the reason, if the note is unsealed, refused or dropped; otherwise 0 */
+    uint8_t unused;  /* always 0 */
 } yasir_answer;
 
-/* Makes a box that has taken no tick. `slots` has both slots of its journal, A and then B: 48 bytes.
- * The handle must hold no box. Unless YASIR_OK is returned it still holds none. */
+/* Makes a box of this kind, which has taken no tick, and puts it into a handle that holds nothing.
+ * `key` is the secret that both boxes of the link have; any length is taken (link_replay takes 16 to
+ * 64 bytes). `slots` is both slots of the box's journal, slot A and then slot B: slots_len must be 48.
+ *
+ * Returns YASIR_OK, YASIR_BAD_ARGUMENT (no such kind, or slots_len isn't 48), YASIR_NO_JOURNAL,
+ * YASIR_OTHER_LINK or YASIR_NO_MEMORY. Unless it returns YASIR_OK the handle still holds nothing. */
 uint8_t yasir_new(yasir_handle *handle, const yasir_kind *kind, const uint8_t *key, size_t key_len,
                   const uint8_t *slots, size_t slots_len);
 
-/* Takes the next tick. `slot` has room for 24 bytes and gets those to be written where the answer
- * says `commit`, and zeros else. With any result but YASIR_OK nothing has changed. */
+/* Takes the next tick with the box: `tick` is a byte (0 to 255) or YASIR_SILENT. Writes what the step
+ * returns to `answer`. Writes 24 bytes to `slot`, for which slot_len must be 24: those that the caller
+ * must write into the slot that `commit` of the answer names, or zeros with YASIR_NO_COMMIT.
+ *
+ * Returns YASIR_OK, YASIR_BAD_ARGUMENT (`tick` is above 256, or slot_len isn't 24) or YASIR_FULL.
+ * Unless it returns YASIR_OK the tick isn't taken, and box, answer and slot are unchanged. */
 uint8_t yasir_step(yasir_handle *handle, uint16_t tick, yasir_answer *answer, uint8_t *slot,
                    size_t slot_len);
 
-/* Takes the first of these bytes, one a tick, as far as the box answers all of them with silence or
- * all of them with bytes, without a note and with nothing to write. Returns how many. `sent` has
- * room for 64 bytes and gets those of the answer, one for each tick; *sent_count says how many, 0
- * where the answer is silence. With 0 ticks taken go on by yasir_step. */
+/* Takes ticks that carry the first of the `len` bytes at `bytes`, one byte a tick, as long as the box
+ * returns silence for all of these ticks or a byte for each of them, with no note and no slot to
+ * write. `sent` must have room for YASIR_RUN_LEN bytes (sent_len, at least 64): it gets the bytes that
+ * the box returns, one for each tick taken, and *sent_count is how many they are. If *sent_count is
+ * 0, all ticks that the box returned are silent.
+ *
+ * Returns how many ticks were taken, 0 to `len`. If it returns 0, nothing was taken, and the caller
+ * goes on with yasir_step; with sent_len below 64 it always returns 0. */
 size_t yasir_take_bytes(yasir_handle *handle, const uint8_t *bytes, size_t len, uint8_t *sent,
                         size_t sent_len, size_t *sent_count);
 
-/* The same of so many silent ticks. */
+/* Takes the first of `ticks` silent ticks, as long as the box returns silence for all of them or a
+ * byte for each of them, with no note and no slot to write. `sent` must have room for YASIR_RUN_LEN
+ * bytes (sent_len, at least 64): it gets the bytes that the box returns, one for each tick taken, and
+ * *sent_count is how many they are. If *sent_count is 0, all ticks that the box returned are silent.
+ *
+ * Returns how many ticks were taken, 0 to `ticks`. If it returns 0, nothing was taken, and the caller
+ * goes on with yasir_step; with sent_len below 64 it always returns 0. */
 size_t yasir_take_silence(yasir_handle *handle, uint32_t ticks, uint8_t *sent, size_t sent_len,
                           size_t *sent_count);
 
-/* The last number that the box used. */
+/* Returns the floor of the box: the last number that it used, or 0 if no number was used since its
+ * journal was made by yasir_init. The box is unchanged. */
 uint64_t yasir_floor(yasir_handle *handle);
 
-/* Lets the box go, or the spacer. The handle then holds nothing. */
+/* Frees the box or the spacer that the handle holds. The handle then holds nothing. */
 void yasir_free(yasir_handle *handle);
 
-/* The bytes of slot A of a new journal of this box, which stands at 0: 24 bytes into `slot`. Write
- * and sync them before the first yasir_new, and only where neither slot holds a number. */
+/* Writes slot A of a new journal for a box of this kind, with the number 0, to `slot`: 24 bytes, for
+ * which slot_len must be 24. The caller must store and sync them as slot A before the first
+ * yasir_new. Use it only if neither slot of the journal holds a number: a journal that is made anew
+ * lets the box use its numbers again.
+ *
+ * Returns YASIR_OK, or YASIR_BAD_ARGUMENT (no such kind, or slot_len isn't 24); then `slot` is
+ * unchanged. */
 uint8_t yasir_init(const yasir_kind *kind, uint8_t *slot, size_t slot_len);
 
-/* What a step of a spacer answers. */
+/* What yasir_spacer_step returns for one tick: the tick of the other line, and the frame that is lost
+ * in this step, if one is. */
 typedef struct {
-    uint64_t lost_start; /* the tick of the first byte of the frame that is lost in this step, else 0 */
-    uint8_t is_byte;     /* 1: the tick carries a byte; 0: silence */
-    uint8_t byte;        /* that byte, else 0 */
-    uint8_t is_lost;     /* 1: a frame was read, too many wait, and it is lost */
-    uint8_t unused;      /* 0 */
+    uint64_t lost_start; /* the tick of the first byte of the lost frame; otherwise 0 */
+    uint8_t is_byte;     /* 1 if the tick of the other line carries a byte, 0 if it is silent */
+    uint8_t byte;        /* that byte; 0 if the tick is silent */
+    uint8_t is_lost;     /* 1 if a frame was read while too many waited, and is lost; otherwise 0 */
+    uint8_t unused;      /* always 0 */
 } yasir_spaced;
 
-/* Makes a spacer that has taken no tick, with room for `room` frames to wait. It reads a line as a
- * device of the protocol does, and sends each frame again, whole and at least 21 silent ticks behind
- * the one before (27 with YASIR_Y24). In DNP3 it is a device to which 18 silent ticks together end a
- * frame that was begun. It takes all its memory here, 300 bytes for each frame that may wait. The
- * handle must hold nothing. Unless YASIR_OK is returned it still holds nothing. */
+/* Makes a spacer that has taken no tick, and puts it into a handle that holds nothing. `protocol` is
+ * YASIR_RTU or YASIR_DNP3, `profile` is YASIR_Y18 or YASIR_Y24, and `room` is how many frames may
+ * wait. The spacer reads a line as a device of the protocol does, and sends each frame again, whole,
+ * with at least 21 silent ticks (27 with YASIR_Y24) between one frame and the next. For DNP3 this
+ * device forgets a frame that was begun when 18 silent ticks in a row come. All memory is taken here:
+ * 300 bytes for each frame that may wait, and that of the spacer itself.
+ *
+ * Returns YASIR_OK, YASIR_BAD_ARGUMENT (no such protocol or profile) or YASIR_NO_MEMORY. Unless it
+ * returns YASIR_OK the handle still holds nothing. */
 uint8_t yasir_spacer_new(yasir_handle *handle, uint8_t protocol, uint8_t profile, uint32_t room);
 
-/* Takes the next tick of the line, and answers that of the other line. With any result but YASIR_OK
- * nothing has changed. */
+/* Takes the next tick with the spacer: `tick` is a byte (0 to 255) or YASIR_SILENT. Writes what the
+ * step returns to `answer`.
+ *
+ * Returns YASIR_OK, YASIR_BAD_ARGUMENT (`tick` is above 256) or YASIR_FULL. Unless it returns YASIR_OK
+ * the tick isn't taken, and spacer and answer are unchanged. */
 uint8_t yasir_spacer_step(yasir_handle *handle, uint16_t tick, yasir_spaced *answer);
 
 #ifdef __cplusplus
