@@ -1,10 +1,10 @@
--- A dissector for Wireshark: the packets of a link (docs/LINK.md) in a capture of link type 250.
+-- A dissector for Wireshark: it shows the packets of a link (docs/LINK.md) in a capture of link type 250.
 --
 --     tshark -X lua_script:tools/wireshark/yasir.lua -d rtacser.data,yasir -r CAPTURE
 --
--- Shown are the frame, by the dissector of its protocol, and the word and the tag behind it. A
--- record may have both, or one of them alone: some taps end a record at the three silent ticks
--- between the two. It has no key, so it doesn't say whether a tag is right.
+-- It shows the frame, with the dissector of the frame's protocol, and the word and the tag of the
+-- trailer. A record may have a frame and its trailer, or only one of them: some taps end a record at
+-- the three silent ticks between the two. It has no key, so it doesn't say whether a tag is right.
 local yasir = Proto("yasir", "YASIR link")
 yasir.prefs.protocol = Pref.enum("Protocol", 1, "What the frames of the link are",
     { { 1, "Modbus RTU", 1 }, { 2, "DNP3", 2 } }, false)
@@ -17,7 +17,7 @@ local tag = ProtoField.bytes("yasir.tag", "Tag")
 local other = ProtoField.bytes("yasir.other", "Neither frame nor trailer")
 yasir.fields = { frame, word, tag, other }
 
--- Whether bytes end in the CRC of Modbus RTU.
+-- Whether the bytes end with their CRC of Modbus RTU.
 local function has_modbus_crc(bytes)
     local crc = 0xffff
     for place = 0, bytes:len() - 3 do
@@ -29,7 +29,8 @@ local function has_modbus_crc(bytes)
     return crc == bytes(bytes:len() - 2, 2):le_uint()
 end
 
--- How many bytes of a record are its frame: by the CRC in Modbus RTU, by the header in DNP3.
+-- How many bytes at the start of a record are its frame, by the CRC in Modbus RTU and by the header
+-- in DNP3, or 0 if it begins with no frame.
 local function frame_length(bytes, trailer)
     local count = bytes:len()
     if yasir.prefs.protocol == 1 then
@@ -58,7 +59,7 @@ function yasir.dissector(buffer, pinfo, tree)
     elseif rest > 0 then
         shown:add(other, bytes(length, rest))
     end
-    -- The frame comes last: its dissector ends this function where the frame isn't what it says.
+    -- The frame comes last, because its dissector ends this function if the frame isn't well-formed.
     if length > 0 then
         shown:add(frame, bytes(0, length))
         local inner = Dissector.get(yasir.prefs.protocol == 1 and "mbrtu" or "dnp3.udp")
