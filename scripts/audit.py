@@ -3,11 +3,11 @@
 
     python3 scripts/audit.py [SESSIONS] [PROGRAM] [SEED]
 
-A session is drawn from SEED (1): a device's line of some frames, its link, and the line of an honest receiver, with either
-protocol, profile and direction, a key of its own, and floors up to the greatest number. One of the deeds in DEEDS is done to it,
-by turns. The program's line must be the one that model.py makes of the same recordings, and the model's verdict must be one that
-the deed allows: a tag that an insider forged is always named, and an honest receiver never differs. Then the same is done over
-programs that are made wrong, each in one way (WRONG).
+Each session is drawn from SEED (1): the line of a device with some frames, its link, and the line of an honest receiver, with
+either protocol, profile and direction, a key of its own, and floors up to the greatest number. The deeds in DEEDS take turns, and
+one of them is done to each session. The program must write the line that model.py makes of the same recordings, and the model's
+verdict must be one that the deed allows: a tag that an insider forged is always named, and an honest receiver never differs. Then
+the same is done with programs that are made wrong, each in one way (WRONG).
 
 It ends with 0 only if all agree, every verdict was seen, and each wrong program was told from the right one. It is no part of the
 gate.
@@ -47,19 +47,19 @@ def some_session(chance):
 
 
 def heard(session, link=None):
-    """The session with this link, and the line that its honest receiver makes of it."""
+    """The session with this link, or its own without one, and the line that an honest receiver makes of it."""
     link = session.link if link is None else link
     received = model.check(session.proto, session.key, session.direction, session.floors[1], link, session.profile)[0]
     return session._replace(link=link, received=received)
 
 
 def packets(session):
-    """First tick and the one behind the last tick of each packet."""
+    """For each packet its first tick, and the tick after its last one."""
     return [(start, start + len(frame) + session.profile.delay - 1) for _, start, frame in session.sent]
 
 
 def put(ticks, place, piece):
-    """The ticks with a piece in place of as many that stood there."""
+    """The ticks with a piece in place of as many ticks from `place` on."""
     return ticks[:place] + piece + ticks[place + len(piece):]
 
 
@@ -71,7 +71,7 @@ def other_byte(ticks, place, chance):
     return put(ticks, place, [(ticks[place] or 0) ^ chance.randrange(1, 256)])
 
 
-# ---- what an attacker on the link does, behind which an honest receiver stands
+# ---- what an attacker does to a link that an honest receiver takes
 
 def on_link(change):
     return lambda session, chance: heard(session, change(session, chance))
@@ -110,7 +110,7 @@ def cut(session, chance):
 
 
 def send_back(session, chance):
-    """The link as it came, which the same key sealed in the other direction."""
+    """A link that the same key sealed for the other direction, sent back as it came."""
     return model.seal(session.proto, session.key, 1 - session.direction, session.floors[1], session.device, session.profile)[0]
 
 
@@ -121,19 +121,19 @@ def delay_all(session, chance):
 # ---- what somebody with the key does
 
 def forge(session, chance):
-    """A frame of an insider with the next number, behind all others."""
+    """A frame that an insider seals with the next number, after all others."""
     number = session.sent[-1][0] + 1
     return session.link + [None] * 40 + packet_of(session, number, some_frame(session.proto, chance)) + [None] * 4
 
 
 def forge_ahead(session, chance):
-    """The same, with a number so far ahead that it may be too far."""
+    """A frame that an insider seals with a number so far ahead that it may be too far."""
     number = min(LIMIT, session.sent[-1][0] + chance.choice([2, 1000, 65535, 65536, 65537, 1 << 33]))
     return session.link + [None] * 40 + packet_of(session, number, some_frame(session.proto, chance)) + [None] * 4
 
 
 def forge_a_sealed_number(session, chance):
-    """Another frame in the place of one that was sealed, under its number and with the right tag."""
+    """Another frame in place of one that was sealed, with the same number and the right tag."""
     number, start, frame = chance.choice(session.sent)
     other = some_frame(session.proto, chance)
     while other == frame:
@@ -143,7 +143,7 @@ def forge_a_sealed_number(session, chance):
 
 
 def bring_an_old_one(session, chance):
-    """A packet of before the session, to a receiver whose journal was put back."""
+    """A packet from before the session, sent to a receiver whose journal was put back."""
     while session.floors[0] == 0:
         session = some_session(chance)
     floor = session.floors[0]
@@ -158,7 +158,7 @@ def on_received(change):
 
 
 def leaves(session, chance):
-    """Where a frame leaves the receiver, and how long it is."""
+    """The tick at which a frame begins to leave the receiver, and its length."""
     _, start, frame = chance.choice(session.sent)
     return start + session.profile.delay, len(frame)
 
@@ -204,12 +204,12 @@ def stop_at_the_verdict(session, chance):
 
 
 def one_tick_longer(session, chance):
-    """The same, but for a third recording that is one tick longer."""
+    """All three recordings end in the tick of the last verdict, but the third one is a tick longer."""
     short = stop_at_the_verdict(session, chance)
     return short._replace(received=session.received[:len(short.link) + 1])
 
 
-# ---- what is wrong with the floors or the first list, and lists of nothing
+# ---- wrong floors, wrong first lists, and lists in which no frame is
 
 def sender_floor(session, chance):
     floor = session.floors[0]
@@ -233,7 +233,7 @@ def miss_a_frame(session, chance):
 
 
 def begin_late(session, chance):
-    """The device's recording begins behind its first frame."""
+    """The device's recording begins after its first frame."""
     _, start, frame = session.sent[0]
     return session._replace(device=session.device[start + len(frame):])
 
@@ -251,7 +251,7 @@ def noise(session, chance):
 
 
 def noise_between(session, chance):
-    """Noise on the link behind the packets, to an honest receiver."""
+    """Noise on the link after the packets, taken by an honest receiver."""
     return heard(session, session.link + [None] * 40 + some_noise(chance))
 
 
@@ -267,7 +267,7 @@ def exchange(session, chance):
     return session._replace(link=session.received, received=session.link)
 
 
-# What is done, and the verdicts that may come of it.
+# What is done, and the verdicts that may result from it.
 DEEDS = {
     "nothing": (lambda session, chance: session, CLEAN),
     "link: a frame changed": (on_link(change_a_frame), CLEAN),
@@ -321,7 +321,7 @@ class Program:
         self.path, self.key_file = path, os.path.join(folder, "key")
 
     def run(self, session):
-        """What it writes; another status, or a line in the log, is a part of it."""
+        """What it writes. Another status than is due, or a line in the log, is added to this text."""
         with open(self.key_file, "w") as file:
             file.write(session.key.hex())
         text = "%\n".join(map(model.canonical, self.lists(lists_of(session))))
@@ -343,12 +343,12 @@ def wrong(**changes):
 
 
 def one_more(pattern):
-    """A line with the number behind this word raised by one."""
+    """A line in which the number after this word is one greater."""
     return lambda line: re.sub(pattern, lambda found: found[1] + str(int(found[2]) + 1), line)
 
 
 def counts_for_numbers(line):
-    """The line of a program that compares how many there are, where a frame that passed wasn't read."""
+    """The line of a program that only compares counts, and so doesn't see that a frame that passed wasn't read."""
     return "audit clean sealed 2 passed 2 read 2\n" if line.startswith("audit differs") else line
 
 
@@ -367,7 +367,7 @@ def counted(session):
 
 
 class ByNumberAlone(Program):
-    """A program that takes a passed frame for sealed where some frame was sealed with its number."""
+    """A program that takes a passed frame for sealed if any frame was sealed with its number."""
 
     def run(self, session):
         line = super().run(session)
@@ -376,7 +376,7 @@ class ByNumberAlone(Program):
 
 
 class ByFrameAlone(Program):
-    """A program that takes a passed frame for sealed where its bytes were, with whatever number."""
+    """A program that takes a passed frame for sealed if its bytes were sealed with any number."""
 
     def run(self, session):
         line, frames = super().run(session), [frame for _, _, frame in sealed_in(session)]
@@ -386,7 +386,7 @@ class ByFrameAlone(Program):
 
 
 class LongerIsClean(Program):
-    """A program that doesn't see frames behind the last one that passed."""
+    """A program that doesn't see frames after the last one that passed."""
 
     def run(self, session):
         line = super().run(session)
@@ -415,7 +415,7 @@ WRONG = {
 
 
 def disagreements(program, sessions, seed, first_only=False):
-    """Where program, model and deed disagree, in words; and how often each deed came to each verdict."""
+    """The places where program, model and deed disagree, in words, and how often each deed led to each verdict."""
     chance, seen, found = random.Random(seed), collections.Counter(), []
     deeds = list(DEEDS)
     for turn in range(sessions):

@@ -1,10 +1,10 @@
 #!/usr/bin/env python3
-"""Builds what stands in bridge/ over the proved library crates/yasir_c, into bridge/out/.
+"""Builds the programs of bridge/, which use the proved library crates/yasir_c, into bridge/out/.
 
     python3 scripts/bridge_build.py
 
-It needs a C compiler (CC, or else cc), and for bridge/out/server libmodbus. The library is proved first, and isn't built where
-a proof fails. The exit status is 0 where all was built; 2 where something isn't installed or can't be built, which is named.
+It needs a C compiler (CC, or cc if CC isn't set), and libmodbus for bridge/out/server. The library is proved first, and isn't
+built if a proof fails. The exit status is 0 if all was built, and 2 if something isn't installed or can't be built, which is named.
 """
 import os, shutil, subprocess, sys
 
@@ -21,7 +21,7 @@ PROGRAMS = {
 
 
 class Missing(Exception):
-    """What isn't installed, or couldn't be built."""
+    """Something isn't installed, or can't be built."""
 
 
 def ran(words, **more):
@@ -46,7 +46,7 @@ def kit():
 
 
 def library():
-    """Proves and builds the library, or what of it has changed, and its crates below."""
+    """Proves and builds the library and the crates that it uses, as far as they have changed."""
     allocator = os.path.join(kit(), "c", "liblibc_c.a")
     if not library.built:
         print("bridge_build: proves and builds crates/yasir_c and what it stands on: many minutes the first time", file=sys.stderr)
@@ -59,7 +59,7 @@ library.built = False
 
 
 def build(name):
-    """The path of a program of bridge/, built."""
+    """Builds a program of bridge/, and returns its path."""
     os.makedirs(OUT, exist_ok=True)
     sources, more = PROGRAMS[name]
     path = os.path.join(OUT, name)
@@ -68,7 +68,7 @@ def build(name):
 
 
 def server():
-    """The path of the server by libmodbus, built."""
+    """Builds the server, which uses libmodbus, and returns its path."""
     os.makedirs(OUT, exist_ok=True)
     path, words = os.path.join(OUT, "server"), [compiler(), *FLAGS]
     try:

@@ -1,4 +1,4 @@
-"""A headless Chromium, driven by its DevTools protocol over a pipe. It installs nothing; where no Chromium is, `find` says so."""
+"""A headless Chromium, driven by its DevTools protocol over a pipe. It installs nothing. Without a Chromium, `find` returns None."""
 import base64, json, os, select, shutil, subprocess, tempfile, time
 
 NAMES = ("chromium", "chromium-browser", "google-chrome", "google-chrome-stable", "chrome")
@@ -8,7 +8,7 @@ FLAGS = ["--headless=new", "--remote-debugging-pipe", "--disable-gpu", "--hide-s
          "--disable-background-networking", "--disable-component-update", "--disable-sync", "--mute-audio",
          "--force-color-profile=srgb"]
 
-# Mouse and keys as the protocol names them.
+# Keys by the names that the protocol has for them.
 KEYS = {"Enter": ("\r", 13), "Escape": ("", 27), "Home": ("", 36), "End": ("", 35), "ArrowLeft": ("", 37), "ArrowRight": ("", 39)}
 
 
@@ -22,7 +22,7 @@ def find():
 
 
 class Browser:
-    """One page of a Chromium, 1400 by 800 where nothing else is said."""
+    """One page of a Chromium, 1400 by 800 pixels unless other sizes are given."""
 
     def __init__(self, program, width=1400, height=800):
         self.profile = tempfile.mkdtemp(prefix="timeline.")
@@ -30,7 +30,7 @@ class Browser:
         self.ours_in, their_out = os.pipe()
 
         def put_pipes():
-            # The browser reads its commands from place 3, and writes its answers to place 4.
+            # The browser reads commands from file descriptor 3, and writes its answers to file descriptor 4.
             theirs = os.dup(their_in), os.dup(their_out)
             os.dup2(theirs[0], 3)
             os.dup2(theirs[1], 4)
@@ -52,7 +52,7 @@ class Browser:
         self.ask("Emulation.setDeviceMetricsOverride", width=width, height=height, deviceScaleFactor=1, mobile=False)
 
     def ask(self, method, **words):
-        """Sends a command, and answers its result."""
+        """Sends a command, and returns its result."""
         self.count += 1
         command = {"id": self.count, "method": method, "params": words}
         if self.session:
@@ -80,7 +80,7 @@ class Browser:
         return json.loads(answer)
 
     def hear(self, event):
-        """Keeps what a page should never do: throw, write faults, or ask a network."""
+        """Records what a page must never do: throw, write faults to its console, or ask a network."""
         words = event.get("params", {})
         if event.get("method") == "Runtime.exceptionThrown":
             details = words["exceptionDetails"]
@@ -99,7 +99,7 @@ class Browser:
         return answer["result"].get("value")
 
     def open(self, path, most=60):
-        """Opens a file, and answers the seconds until it has been loaded and painted."""
+        """Opens a file, and returns the seconds until it has been loaded and painted."""
         began = time.monotonic()
         self.ask("Page.navigate", url="file://" + os.path.abspath(path))
         while self.see("document.readyState") != "complete" and time.monotonic() - began < most:

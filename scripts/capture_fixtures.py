@@ -1,14 +1,14 @@
 #!/usr/bin/env python3
-"""Makes the captures of examples/captures/ anew, by Wireshark's tools and sigrok's.
+"""Makes the captures of examples/captures/ anew, with the tools of Wireshark and sigrok.
 
     python3 scripts/capture_fixtures.py OUT
 
-OUT is a folder. What stands there is made of the files that were written by hand (*.records) and
-recorded (gateway.socat) in examples/captures/. text2pcap and editcap write the pcap and pcapng
-files, tshark the text, and sigrok-cli's UART decoder its export, of a VCD file that is made here.
-Two things no tool makes: files in the other byte order (swap_capture.py), and the table of Logic 2,
-which is written here as Saleae describes it. A file whose tool isn't installed is skipped, and said
-so. The exit status is 0 where all files were made.
+OUT is the folder into which they are written. They are made from the files of examples/captures/
+that were written by hand (*.records) and recorded (gateway.socat). text2pcap and editcap write the
+pcap and pcapng files, tshark writes the text, and sigrok-cli's UART decoder writes its export of a
+VCD file that is made here. No tool makes files in the other byte order (swap_capture.py does), or
+the table of Logic 2, which is written here as Saleae describes it. If a file's tool isn't
+installed, the file is skipped, and a line says so. The exit status is 0 if all files were made.
 """
 import os, re, shutil, subprocess, sys, tempfile
 
@@ -20,20 +20,20 @@ from swap_capture import swapped_file
 ROOT = os.path.dirname(os.path.dirname(os.path.abspath(__file__)))
 CAPTURES = os.path.join(ROOT, "examples", "captures")
 
-# A line of a .records file without its blanks, as text2pcap is to read it.
+# A line of a .records file without its blanks, by which text2pcap reads it.
 PACKET = r"^(?<time>\d+\.\d+) (?<data>[0-9a-f]+)$"
 
-# What stands in front of the changes of a VCD file of two wires that are quiet.
+# The beginning of a VCD file of two wires that are quiet, before their changes.
 VCD_HEAD = ("$timescale 1 ns $end\n$scope module line $end\n$var wire 1 ! a $end\n"
             "$var wire 1 \" b $end\n$upscope $end\n$enddefinitions $end\n#0\n1!\n1\"\n")
 
-# What sigrok-cli is to show of a wire for each way: bytes, and what is wrong with them.
+# What sigrok-cli must show of the wire of each way: bytes, and what is wrong with them.
 BOTH_WIRES = "uart:rx=a:tx=b:baudrate=%d:parity=%s"
 ALL_CLASSES = "uart=rx-data:tx-data:rx-parity-err:tx-parity-err:rx-warnings:tx-warnings"
 
 
 class Missing(Exception):
-    """A tool that isn't installed."""
+    """A tool isn't installed."""
 
 
 def tool(words, stdin=None):
@@ -48,14 +48,14 @@ def tool(words, stdin=None):
 
 
 def records_text(name):
-    """The packets of a .records file: each with its time and its bytes in hex, without blanks."""
+    """The packets of a .records file, each with its time and its bytes in hex, without blanks."""
     with open(os.path.join(CAPTURES, name + ".records")) as file:
         lines = [line.split() for line in file if not line.startswith("#")]
     return "".join("%s %s\n" % (line[0], "".join(line[1:])) for line in lines)
 
 
 def packets_to(kind, text, path, link=RTAC_SERIAL):
-    """A capture of these packets, by text2pcap."""
+    """Writes a capture of these packets, by text2pcap."""
     with tempfile.NamedTemporaryFile("w", suffix=".txt") as file:
         file.write(text)
         file.flush()
@@ -77,7 +77,7 @@ def sigrok(vcd, decoders, shown, how="jsontrace"):
 
 
 def socat_records(path):
-    """The records of `socat -x`: it writes microseconds behind three zeros."""
+    """The records of `socat -x`, which writes three zeros before the microseconds."""
     with open(path) as file:
         lines = file.read().splitlines()
     for head, data in zip(lines[::2], lines[1::2]):
@@ -89,7 +89,7 @@ def socat_records(path):
 
 
 def logic2_table(records, character):
-    """A table as Logic 2 exports it of two Async Serial analyzers."""
+    """A table of two Async Serial analyzers, as Logic 2 exports it."""
     rows = ["name,type,start_time,duration,data,error"]
     for record in records:
         for count, byte in enumerate(record.data):
@@ -100,7 +100,7 @@ def logic2_table(records, character):
 
 
 def wire_changes(mark, bit, start, levels):
-    """The changes of a wire in a VCD file: levels of one bit each, the first at this bit."""
+    """The changes of a wire in a VCD file: these levels for one bit each, the first at this bit."""
     return [(nearest((start + place) * bit), "%d%s" % (level, mark))
             for place, level in enumerate(levels + [1])]
 
@@ -112,15 +112,15 @@ def vcd_of(changes, end):
 
 
 def broken_wires(character):
-    """A wire with the bytes 01 and 03, of which the second has no stop bit, and a wire with the
-    byte 5A, which comes between the second one and its error."""
+    """A wire with the bytes 01 and 03, the second without a stop bit, and a wire with the byte 5A,
+    which comes between this second byte and its error."""
     bit, broken = character / 11, bits_of(3, 11)[:-1] + [0]
     changes = wire_changes("!", bit, 11, bits_of(1, 11)) + wire_changes("!", bit, 22, broken)
     return vcd_of(changes + wire_changes('"', bit, 23, bits_of(0x5A, 11)), nearest(60 * bit))
 
 
 def spurious_wires(character):
-    """A wire with the bytes 01 and 03, and long behind them a pulse too short for a start bit."""
+    """A wire with the bytes 01 and 03, and a pulse long after them, too short for a start bit."""
     bit = character / 11
     changes = wire_changes("!", bit, 11, bits_of(1, 11)) + wire_changes("!", bit, 22, bits_of(3, 11))
     pulse = [(nearest(100 * bit), "0!"), (nearest(100 * bit + bit / 4), "1!")]
@@ -139,7 +139,7 @@ class Maker:
             file.write(content)
 
     def make(self, names, how):
-        """Makes files, or says why they are skipped."""
+        """Makes files, or prints why they are skipped."""
         try:
             how()
         except Missing as why:

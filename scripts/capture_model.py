@@ -5,19 +5,19 @@
     python3 scripts/capture_model.py give FORM RATE < TICKS > CAPTURE
 
 It shares nothing with the program, so that the two can be compared (captures.py). A line is a list
-of ticks: a byte, or None for silence. Times are whole nanoseconds, and fractions of one where a
-character has no whole number of them. It keeps the whole capture in memory.
+of ticks: a byte, or None for silence. Times are whole nanoseconds, or fractions if a character
+doesn't take a whole number of them. It keeps the whole capture in memory.
 """
 import collections, csv, io, json, re, struct, sys
 from fractions import Fraction
 
 from model import canonical
 
-# The most bytes of a record that is given.
+# The most bytes in a record that `give` writes.
 MOST_BYTES = 65536
 
-# Drift is taken up in silences of more ticks than these alone; a record that is taken for a frame
-# has so many silent ticks before it.
+# Drift is taken up only in silences of more ticks than this, and a record that is taken for a frame
+# has this many silent ticks before it.
 DRIFT_SILENCE, FRAME_SILENCE = 320, 4
 
 SECOND = 10 ** 9
@@ -30,11 +30,11 @@ RTAC_SERIAL, RTAC_HEADER, WAYS = 250, 12, {1: "a", 2: "b"}
 
 
 class Refused(Exception):
-    """Why a capture or a text is refused: status 4."""
+    """A capture or a text is refused, for this reason: status 4."""
 
 
 class ErrorBehind(Refused):
-    """An error of a byte, in a form in which errors come behind their bytes."""
+    """An error of a byte, in a form in which an error comes after its byte."""
 
     def __init__(self, way, start):
         super().__init__("a byte with an error")
@@ -54,20 +54,21 @@ def character_of(rate):
 
 
 def nearest(value):
-    """The nearest whole number, a half up."""
+    """The nearest whole number. A half is rounded up."""
     return int((value + Fraction(1, 2)) // 1)
 
 
 def ticks_apart(gap, character):
-    """Ticks from start to start: the nearest number, but a silence of 1.5 characters down."""
+    """Ticks from the start of a byte to that of the next: rounded to the nearest, but down if the
+    silence between them is 1.5 characters."""
     if gap == Fraction(5, 2) * character:
         return 2
     return max(nearest(gap / character), 1)
 
 
 def place(records, character, frames, origin):
-    """The line of the records of one way, from the origin on up to the first byte that overlaps the
-    one before it, and how many do."""
+    """The line of the records of one way, from the origin up to the first byte that overlaps the
+    one before it, and how many bytes do."""
     line, time, overlaps, kept = [], None, 0, None
     for record in records:
         for count, byte in enumerate(record.data):
@@ -89,13 +90,13 @@ def place(records, character, frames, origin):
 
 
 def steps_apart(gap, character, begins_frame):
-    """Ticks from start to start, if there is no drift."""
+    """Ticks from the start of a byte to that of the next, if there is no drift."""
     steps = ticks_apart(gap, character)
     return max(steps, FRAME_SILENCE + 1) if begins_frame else steps
 
 
 def rtac_record(start, data):
-    """The record of a packet, or None where it is an event without data."""
+    """The record of a packet, or None for an event without data."""
     if len(data) < RTAC_HEADER:
         raise Refused("a packet without its header")
     if data[8] in (7, 8):
@@ -137,7 +138,7 @@ def options_of(order, data):
 
 
 def unit_of(options):
-    """The unit of an interface's time stamps, in seconds: microseconds where it doesn't say."""
+    """The unit of an interface's time stamps, in seconds: microseconds if it doesn't say."""
     exponent = options.get(9, b"\x06")[0]
     return Fraction(1, 2 ** (exponent & 127)) if exponent & 128 else Fraction(1, 10 ** exponent)
 
@@ -169,8 +170,8 @@ def pcapng_records(data):
 
 
 def nanoseconds(text):
-    """Decimal seconds as whole nanoseconds; digits past the ninth behind the point count
-    nothing."""
+    """Decimal seconds as whole nanoseconds. Digits after the ninth one after the point are
+    ignored."""
     if not re.fullmatch(r"[0-9]+(\.[0-9]+)?", text):
         raise Refused("the time %s" % text)
     whole, _, fraction = text.partition(".")
@@ -188,7 +189,7 @@ def text_records(data):
 
 
 def logic2_records(data):
-    """The rows of Logic 2's table of an Async Serial analyzer; its analyzers are the ways."""
+    """The records of Logic 2's table of Async Serial analyzers; its analyzers are the ways."""
     names = []
     for row in csv.DictReader(io.StringIO(data.decode())):
         if row.get("error"):
@@ -200,8 +201,8 @@ def logic2_records(data):
 
 
 def sigrok_records(data):
-    """The trace that sigrok-cli writes of its UART decoder; its rows are the ways. An error comes
-    behind its byte."""
+    """The records of a trace that sigrok-cli writes of its UART decoder; its rows are the ways. An
+    error comes after its byte."""
     names = []
     for event in json.loads(data, parse_float=Fraction)["traceEvents"]:
         name = event["pid"], event["tid"].split()[0]
@@ -232,7 +233,7 @@ def read_until_refused(form, data):
 
 
 def without_wrong(records, error, character):
-    """The records without the byte that an error tells of: the last one of its way, if it began
+    """The records without the byte that an error is about: the last one of its way, if it began
     less than a character before the error."""
     last = max((at for at, record in enumerate(records) if record.way == error.way), default=None)
     if last is not None and error.start - records[last].start < character:
@@ -257,7 +258,7 @@ def take(form, rate, way, frames, data):
 
 
 def lines_of(text):
-    """The lines of a tick text, parted by marks."""
+    """The lines of a tick text, separated by marks."""
     lines = [[]]
     for each in text.split("\n"):
         if each.startswith("+"):
@@ -272,7 +273,7 @@ def lines_of(text):
 
 
 def runs_of(line):
-    """The runs of bytes of a line, each with its first tick, cut where they are long."""
+    """The runs of bytes of a line, each with its first tick. Long ones are cut."""
     found = []
     for tick, byte in enumerate(line):
         if byte is not None and (tick == 0 or line[tick - 1] is None
@@ -311,13 +312,13 @@ def give_text(lines, rate):
 
 
 def bits_of(byte, bits):
-    """The levels of a character: a start bit, eight of data, even parity where there are eleven."""
+    """The levels of a character: a start bit, eight of data, and even parity if it has eleven."""
     levels = [0] + [byte >> place & 1 for place in range(8)]
     return levels + [sum(levels) & 1] * (bits == 11) + [1]
 
 
 def give_vcd(lines, rate):
-    """The wires of the ways, quiet for a character before tick 0 and behind the last one."""
+    """The wires of the ways, quiet for a character before tick 0 and after the last tick."""
     character, bits = character_of(rate), int(rate.split("x")[1])
     events = []
     for mark, line in zip("!\"", lines):

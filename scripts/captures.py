@@ -3,23 +3,22 @@
 
     python3 scripts/captures.py [PROGRAM] [read=PROGRAM] [PART..] [seed=N] [first]
 
-PROGRAM is crates/line_capture/out/line_capture where it isn't given; one that ends in .py is run by
-Python, as scripts/capture_model.py, the model itself. `read=` names a `link_replay`, whose devices
-then read the lines too. PART is one of
+PROGRAM is crates/line_capture/out/line_capture unless another is given. One whose name ends in .py
+is run by Python, such as scripts/capture_model.py, the model itself. `read=` names a `link_replay`,
+whose devices then read the lines too. PART is one of
 
     fixtures   the captures of examples/captures/, against ticks that were written by hand
     refusals   captures that are cut off, broken or of another kind, and wrong words
-    edges      captures of single bytes with silences about 1.5, 3.5 and 320 characters
+    edges      captures of single bytes with silences of about 1.5, 3.5 and 320 characters
     given      what `give` writes, taken again
     tshark     what `give pcap` writes, through tshark, editcap and back
     sigrok     what `give vcd` writes, through sigrok's UART and Modbus decoders and back
-    wrong      the other parts, over the model with one thing wrong at a time: each must be found
+    wrong      the other parts, on models with one thing wrong each: each of these must be found
 
-Without one all but the last are run. With `first` it ends at the first thing that differs. What a
-tool must do that isn't installed is skipped, and so is a form that the program doesn't have; both
-are said. The exit status is 0 where nothing
-differs, 1 where something does, and 2 where nothing does but a tool isn't installed. It is no part
-of the gate.
+Without a PART all but the last are run. With `first` it ends at the first thing that differs. What
+needs a tool that isn't installed, or a form that the program doesn't have, is skipped, and a line
+says so. The exit status is 0 if nothing differs, 1 if something does, and 2 if nothing differs but
+a tool isn't installed. It is no part of the gate.
 """
 import os, random, re, shutil, subprocess, sys, tempfile
 
@@ -34,7 +33,7 @@ from swap_capture import swapped_file
 SCRIPTS = os.path.dirname(os.path.abspath(__file__))
 PROGRAM = os.path.join(os.path.dirname(SCRIPTS), "crates", "line_capture", "out", "line_capture")
 
-# A capture of examples/captures/, its form and rate, the word behind the way, and its ticks.
+# A capture of examples/captures/, its form and rate, the word after the way, and its ticks' file.
 FIXTURES = [(name, "pcap", "9600x11", [], "modbus.ticks") for name in (
     "modbus.pcap", "modbus.pcapng", "modbus_nanoseconds.pcap", "modbus_nanoseconds.pcapng",
     "swapped_modbus.pcap", "swapped_modbus.pcapng", "swapped_modbus_nanoseconds.pcap",
@@ -46,21 +45,21 @@ FIXTURES = [(name, "pcap", "9600x11", [], "modbus.ticks") for name in (
     ("events.pcap", "pcap", "9600x11", [], "events.ticks"),
     ("gateway.pcap", "pcap", "9600x11", ["frames"], "gateway.ticks")]
 
-# Captures that are refused, each with its form and the ways that are taken of it.
+# Captures that are refused, each with its form and the ways that are asked for.
 REFUSED = [("errors.pcap", "pcap", "a"), ("ethernet.pcap", "pcap", "a"),
            ("gateway.pcap", "pcap", "b"), ("gateway_replies.text", "text", "a"),
            ("errors.sigrok.json", "sigrok", "a"), ("modbus.vcd", "pcap", "a"),
            ("modbus.pcap", "text", "a"), ("modbus.pcap", "logic2", "a")]
 
-# Traces that are refused for an error of a byte, the ways that are taken, and the ticks before it.
-# In the second one the error is of a pulse too short for a start bit, and of no byte.
+# Traces that are refused for an error of a byte, the ways that are asked for, and the ticks before
+# it. In the second trace the error is of a pulse too short for a start bit, and of no byte.
 TRACES_WITH_ERRORS = [("framing.sigrok.json", "both", b"+01\n%\n-1\n+5a\n"),
                       ("framing.sigrok.json", "a", b"+01\n"),
                       ("framing.sigrok.json", "b", b"+5a\n"),
                       ("spurious.sigrok.json", "a", b"+0103\n"),
                       ("errors.sigrok.json", "a", b"")]
 
-# Tick texts that aren't given: a line without its sign, and a mark too many.
+# Tick texts that `give` refuses: a line without its sign, and a mark too many.
 REFUSED_TICKS = [("pcap", b"+01\n01\n"), ("pcap", b"+01\n%\n+02\n%\n"), ("text", b"+01\n%\n+02\n")]
 
 # Words that are no command.
@@ -75,11 +74,11 @@ EDGE_RATES = ("300x11", "9600x11", "62500x10", "115200x11")
 TOOL_RATES = ((Rtu, "9600x11"), (Rtu, "115200x11"), (Rtu, "19200x10"), (Dnp3, "9600x10"),
               (Dnp3, "115200x10"))
 
-# Of each protocol what tshark takes it for, and its fields that say that checksums are right.
+# For each protocol its dissector in tshark, and its fields that say whether checksums are right.
 DISSECTORS = {Rtu: ("mbrtu", ("mbrtu.crc16.status",)),
               Dnp3: ("dnp3", ("dnp.hdr.CRC.status", "dnp.data_chunk.CRC.status"))}
 
-# One thing wrong at a time in the model: a text of it, and what stands in its place.
+# One wrong thing each: a text in the model, and what replaces it.
 WRONG_MODELS = [
     ("value + Fraction(1, 2)", "value"),
     ("* character:\n        return 2", "* character:\n        return 3"),
@@ -122,7 +121,7 @@ class Lacking(Exception):
 
 
 class Trial:
-    """A program, and what was found of it."""
+    """A program, and what was found about it."""
 
     def __init__(self, program, options, folder):
         self.program = [sys.executable, program] if program.endswith(".py") else [program]
@@ -135,11 +134,11 @@ class Trial:
         return os.path.join(self.folder, name)
 
     def chance(self, word):
-        """Random numbers for what this word names, alike in each run with this seed."""
+        """Random numbers for what this word names, the same in each run with this seed."""
         return random.Random("%s %s" % (self.seed, word))
 
     def lines(self, proto, rate, count, longest):
-        """Two lines of so many requests and replies, alike in each run with this seed."""
+        """Two lines of `count` requests and replies, the same in each run with this seed."""
         return exchange_lines(proto, self.chance(rate), count, longest)
 
     def run(self, words, data):
@@ -148,8 +147,7 @@ class Trial:
         return ran.returncode, ran.stdout
 
     def has(self, *form):
-        """Whether the program has a form. Where it hasn't, what needs it is skipped, and said so
-        once."""
+        """Whether the program has a form. If not, what needs it is skipped, and one line says so."""
         if form not in self.lacks:
             self.lacks[form] = self.is_refused(*form)
             if self.lacks[form]:
@@ -167,7 +165,7 @@ class Trial:
             raise Lacking(" ".join(form))
 
     def same(self, what, found, expected):
-        """Counts a check, and says where it fails."""
+        """Counts a check, and prints what differs."""
         self.checked += 1
         if found == expected:
             return
@@ -178,13 +176,13 @@ class Trial:
             raise Differs
 
     def take(self, what, words, data, expected):
-        """Takes a capture, which must give this text; returns the text."""
+        """Takes a capture, which must result in this text, and returns the text."""
         status, out = self.run(["take"] + words, data)
         self.same("%s: take %s" % (what, " ".join(words)), (status, out), (0, expected))
         return out
 
     def give(self, what, words, lines):
-        """Gives these lines as a capture, which is returned."""
+        """Gives these lines as a capture, and returns it."""
         status, out = self.run(["give"] + words, text_of(lines))
         self.same("%s: give %s" % (what, " ".join(words)), status, 0)
         return out
@@ -218,7 +216,7 @@ def time_of(text):
 
 
 def read_as_tshark(trial, what, proto, text, path):
-    """The frames that devices read of taken ticks must be those whose CRCs tshark calls right."""
+    """Checks that devices read from taken ticks the frames whose CRCs tshark calls right."""
     records, good = seen_by_tshark(trial, proto, path)
     for way, part in zip("ab", text.decode().split("%\n")):
         frames = [record.data for record, is_good in zip(records, good)
@@ -257,7 +255,7 @@ def fixtures(trial):
 
 
 def is_front(text, whole):
-    """Whether ticks begin other ones, whatever the silence at their end."""
+    """Whether other ticks begin with these, apart from the silence at their end."""
     line, other = lines_of(text.decode())[0], lines_of(whole.decode())[0]
     while line and line[-1] is None:
         line.pop()
@@ -265,7 +263,7 @@ def is_front(text, whole):
 
 
 def refused(trial, what, words, data):
-    """A capture is refused, and what the model takes of it was taken before."""
+    """Checks that a capture is refused, and that what the model takes of it was taken before."""
     status, out = trial.run(["take"] + words, data)
     expected, _ = capture_model.take(words[0], words[1], words[2], len(words) > 3, data)
     trial.same("%s: take %s: status" % (what, " ".join(words)), status, 4)
@@ -294,7 +292,7 @@ def refusals(trial):
 
 
 def cut_off(trial, name):
-    """Beginnings of a capture: those that end with a packet are right, and all others refused."""
+    """Checks beginnings of a capture: those that end with a packet are right, others refused."""
     data, words = content_of(name), ["pcap", "9600x11", "a"]
     for length in list(range(1, 60)) + list(range(60, len(data), 7)):
         front = data[:length]
@@ -307,7 +305,7 @@ def cut_off(trial, name):
 
 
 def edge_records(rate, chance):
-    """Records of single bytes with silences about those at which rules change."""
+    """Records of single bytes, with silences close to those at which the rules change."""
     character, records, time = character_of(rate), [], 1000 * SECOND
     gaps = [nearest(character * half / 2) + off for half in range(1, 13) for off in (-1, 0, 1)]
     gaps = [gap for gap in gaps if 2 * gap >= character]
@@ -349,7 +347,7 @@ def edges_by_pcap(trial, rate, kind, records):
 
 
 def exchange_lines(proto, chance, count, longest):
-    """Two lines of requests and replies, which begin and end with bytes."""
+    """Two lines of requests and replies. Each begins and ends with a byte."""
     lines, at = ([], []), 0
     for _ in range(count):
         for line, frame in zip(lines, EXCHANGES[proto](chance)):
@@ -359,7 +357,7 @@ def exchange_lines(proto, chance, count, longest):
 
 
 def times_are_those_of_ticks(trial, what, lines, rate, records, unit):
-    """Each run of bytes is a record, and its time that of its first tick; the epoch is free."""
+    """Checks that each run of bytes is a record with the time of its first tick, from any epoch."""
     runs = [(way, tick, data) for way, line in zip("ab", lines) for tick, data in runs_of(line)]
     found = sorted((record.way, record.start, record.data) for record in records)
     trial.same(what + ": records", [(way, data) for way, _, data in found],
@@ -440,7 +438,7 @@ def through_sigrok(trial, proto, rate):
         trial.same("%s: bytes that sigrok sees on %s" % (what, row), seen[row], sent)
     trial.take(what, ["sigrok", rate, "both"], trace, text_of(lines))
     if proto is Rtu:
-        # Its Modbus decoder takes the device's side to be RX.
+        # The Modbus decoder of sigrok takes RX for the device's side.
         turned = decoder.replace("rx=", "?").replace("tx=", "rx=").replace("?", "tx=")
         said = sigrok(path, [turned + ",modbus"], "modbus", "samplenum").decode()
         calls = said.count("CRC correct"), said.count("should")
@@ -456,12 +454,12 @@ def by_sigrok(trial):
 PARTS = {"fixtures": fixtures, "refusals": refusals, "edges": edges, "given": given,
          "tshark": tshark, "sigrok": by_sigrok}
 
-# The parts in the order in which wrong models are found soonest.
+# The parts, in an order in which wrong models are found soon.
 QUICK_FIRST = ["edges", "given", "fixtures", "refusals", "tshark", "sigrok"]
 
 
 def run_parts(trial, names):
-    """Runs these parts of the test, and says of each what came of it."""
+    """Runs these parts of the test, and prints the result of each."""
     for name in names:
         checked, wrong = trial.checked, trial.wrong
         try:
@@ -483,7 +481,7 @@ def run_parts(trial, names):
 
 
 def wrong_models(folder):
-    """Runs all parts over the model with one thing wrong at a time; whether each was found."""
+    """Runs all parts on models with one thing wrong each. Returns whether each was found."""
     shutil.copy(os.path.join(SCRIPTS, "model.py"), folder)
     with open(os.path.join(SCRIPTS, "capture_model.py")) as file:
         right = file.read()

@@ -1,17 +1,17 @@
 #!/usr/bin/env python3
-"""Runs the scripts that try the built program from outside, as many as a level asks for, and says what was skipped and why.
+"""Runs the scripts that try the built program from outside, those of one level, and says which were skipped and why.
 
     python3 scripts/check.py [LEVEL] [PROGRAM] [--before BEFORE]
 
-    quick      what takes seconds: after each change
-    change     that, and what takes minutes: before a change to the program goes in. It is the level where none is given
-    release    all of them, with more runs
+    quick      the scripts that take seconds: for each change
+    change     these and the scripts that take minutes: before a change to the program goes in. It is the level if none is given
+    release    all scripts, with more runs
 
-BEFORE is the last version, a program or a checkout in which `make demo` has built one: the level `release` counts the
-instructions of each command beside it. PROGRAM is crates/link_replay/out/link_replay where none is given, which `make demo` proves and builds. docs/TESTING.md says
-what each script sees. What a script prints goes into out/check/NAME.log. The exit status is 0 only where all that ran passed
-and there was a program to try, 1 where one failed, and 2 where there was no program or the words are wrong. None of it is
-part of the gate, and none of it proves anything.
+BEFORE is the last version, a program or a checkout in which `make demo` has built one: the level `release` compares the
+instructions that each command takes with those of BEFORE. PROGRAM is crates/link_replay/out/link_replay if none is given, which
+`make demo` proves and builds. docs/TESTING.md says what each script sees. What a script prints goes into out/check/NAME.log. The
+exit status is 0 only if all scripts that ran passed and there was a program to try, 1 if a script failed, and 2 if there was no
+program or the words are wrong. No script is part of the gate, and none proves anything.
 """
 import collections, os, shutil, subprocess, sys, time
 
@@ -25,8 +25,8 @@ CAPTURE = os.path.join(ROOT, "crates", "line_capture", "out", "line_capture")
 LIBRARY = os.path.join(ROOT, "crates", "yasir_c", "out", "libyasir_c.a")
 LIVE = os.path.join(ROOT, "crates", "link_live", "out", "link_live")
 
-# A script, what it needs, and its words at each level; None where the level doesn't run it. PROGRAM, BEFORE and MEMORY stand for
-# paths.
+# A script, what it needs, and its words at each level, or None if the level doesn't run it. PROGRAM, LIVE, BEFORE and MEMORY are
+# replaced by paths.
 Check = collections.namedtuple("Check", "name needs quick change release")
 
 
@@ -65,7 +65,7 @@ CHECKS = [
 
 
 def lacking(need, program, before=None):
-    """Why what a script needs isn't there; None where it is."""
+    """Why something that a script needs is missing, or None if it is there."""
     if need == "before" and before is None:
         return "no program of the last version is named, by --before"
     if need == "program" and not os.access(program, os.X_OK):
@@ -88,7 +88,7 @@ def lacking(need, program, before=None):
 
 
 def older(program):
-    """A source of the program that is newer than it is; None where there is none."""
+    """A source file that is newer than the program, or None if there is none."""
     built = os.path.getmtime(program)
     for folder, folders, files in os.walk(os.path.join(ROOT, "crates")):
         folders[:] = [name for name in folders if name not in ("out", "must-fail", "proofs", "specs")]
@@ -100,7 +100,7 @@ def older(program):
 
 
 def run(check, words, program, before):
-    """Runs one script. Returns whether it passed, its seconds, and the end of what it said."""
+    """Runs one script. Returns whether it passed, how many seconds it took, and the end of what it printed."""
     paths = {"PROGRAM": program, "BEFORE": before, "MEMORY": MEMORY, "LIVE": LIVE}
     line = [sys.executable, os.path.join("scripts", check.name + ".py")] + [paths.get(word, word) for word in words]
     log, began = os.path.join(LOGS, check.name + ".log"), time.monotonic()

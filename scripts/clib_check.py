@@ -1,12 +1,12 @@
 #!/usr/bin/env python3
-"""Compares a filter in C over the library yasir_c with the program, over attacked frames.
+"""Compares a filter in C that uses the library yasir_c with the program, over attacked links.
 
     python3 scripts/clib_check.py PROGRAM [FRAMES] [SEED]
 
-PROGRAM is a built link_replay. So many FRAMES (100,000) are drawn from SEED (1), a quarter of them for each of rtu, dnp3, rtu24
-and dnp24. PROGRAM seals each quarter, the link is attacked in ten ways, and PROGRAM checks it. bridge/out/filter does both again
-over journals of its own. The exit status is 0 only if lines, notes and journals are the same byte for byte; 2 where something
-isn't installed. It is no part of the gate.
+PROGRAM is a built link_replay. FRAMES frames (100,000 if not given) are drawn from SEED (1), a quarter of them for each of rtu,
+dnp3, rtu24 and dnp24. PROGRAM seals each quarter, the link is attacked in ten ways, and PROGRAM checks it. bridge/out/filter then
+seals and checks the same, with journals of its own. The exit status is 0 only if lines, notes and journals are the same byte for
+byte, and 2 if something isn't installed. It is no part of the gate.
 """
 import collections, os, random, subprocess, sys, tempfile
 
@@ -52,7 +52,7 @@ def dnp_frame(draw):
 
 
 def bytes_text(content):
-    """Bytes as lines of tick text, at most 32 in a line."""
+    """The bytes as lines of tick text, at most 32 in a line."""
     return "".join("+%s\n" % content[first:first + 32].hex() for first in range(0, len(content), 32))
 
 
@@ -90,7 +90,7 @@ def text_of(runs):
 
 
 def attacked(text, draw):
-    """A link with a third of its bursts attacked in ten ways, and how often each was."""
+    """The link with a third of its bursts attacked, in ten ways, and how often each way was used."""
     runs, result, counts = runs_of(text), [], collections.Counter()
     old = []
     for run in runs:

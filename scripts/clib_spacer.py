@@ -3,11 +3,11 @@
 
     python3 scripts/clib_spacer.py [LINES] [SEED]
 
-For each of so many LINES (2,000), drawn from SEED (1), of both protocols by turns, the spacer takes the line tick by tick. It must give
-the ticks that the model's spacer gives, and tell the frames that it loses, with room for four waiting frames and the gap of either
-profile. The lines are those of random_lines.py. Its DNP3 device forgets a frame that was begun where 18 silent ticks come, and so does
-the model's here. The exit status is 0 only if nothing differs and frames were given and lost; 2 where there is no C compiler. It is no
-part of the gate.
+LINES lines (2,000 if not given) are drawn from SEED (1), of both protocols in turn, as random_lines.py makes them. The spacer takes
+each of them tick by tick, with room for four waiting frames and the gap of either profile. It must return the ticks that the model's
+spacer returns, and say which frames it loses. Its DNP3 device forgets a frame that was begun when 18 silent ticks in a row come, and so
+does that of the model here. The exit status is 0 only if nothing differs and some frames were sent and some lost, and 2 if there is no C
+compiler. It is no part of the gate.
 """
 import os, random, subprocess, sys, tempfile
 
@@ -43,7 +43,7 @@ int main(int count, char **words) {
 
 
 class CutDnp3(Dnp3):
-    """A DNP3 device that forgets what it has taken of a frame where many silent ticks come together."""
+    """A DNP3 device that forgets what it has taken of a frame when many silent ticks in a row come."""
 
     @classmethod
     def arrivals(cls, line):
@@ -65,7 +65,7 @@ def built(folder):
 
 
 def given(program, proto, profile, line):
-    """The ticks that the spacer gives for these, and the first tick of each frame that it loses."""
+    """The ticks that the spacer returns for these, and the first tick of each frame that it loses."""
     content = b"".join((SILENT if byte is None else byte).to_bytes(2, "little") for byte in line)
     words = [program, "2" if proto is Dnp3 else "1", str(profile.delay), str(WAITING)]
     ran = subprocess.run(words, input=content, capture_output=True, check=True)

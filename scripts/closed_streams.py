@@ -1,14 +1,14 @@
 #!/usr/bin/env python3
-"""Runs `link_replay` with each choice of standard input, output and error closed, and looks at what the run leaves.
+"""Runs `link_replay` with any of standard input, output and error closed, and checks what the run leaves.
 
     python3 scripts/closed_streams.py [PROGRAM]
 
-A file that a program opens gets the least place that is free, so with a stream closed a file of the run could take its
-place: a note would be written into the journal, or the key be read as the input. Each command must end with status 5
-where it needs its input and that is closed, and with 6 where it writes and can't; a box's key must stay as it was, its
-journal as it was or as a right run leaves it, and what stands in an open stream must be the front of what a right run
-writes, or a fault line behind it. It ends with 1 where a run leaves anything else. It is no part of the gate: which place
-a file gets is the system's choice.
+A file that a program opens gets the lowest file descriptor that is free. So if a stream is closed, a file of the run could
+take its place: a note would be written into the journal, or the key would be read as the input. Each command must end with
+status 5 if it needs its input and this is closed, and with status 6 if it must write and can't. The key must stay as it was,
+and the journal as it was or as a right run leaves it. What is in an open stream must be the front of what a right run writes,
+perhaps followed by a fault line. It ends with 1 if a run leaves anything else. It is no part of the gate: which descriptor a
+file gets is the system's choice.
 """
 import itertools, os, subprocess, sys, tempfile
 
@@ -19,7 +19,7 @@ NEW = bytes(32) + slot_of(0) + bytes(24)
 REQUEST = b"+01030000000ac5cd\n-40\n"
 FAULTS = {5: b"fault: read\n", 11: b"fault: journal stands at 0\n"}
 
-# words, the journal before (none: it is missing), and the streams that the command needs
+# The words, the journal before the run (None if it is missing), and the streams that the command needs.
 COMMANDS = [
     ("seal rtu ab KEY JOURNAL", NEW, (0, 1, 2)),
     ("check rtu ab KEY JOURNAL", NEW, (0, 1, 2)),
@@ -53,7 +53,7 @@ class Runs:
             os.remove(self.places[name])
 
     def run(self, words, text, journal, closed):
-        """The status, and what stands in the output, the log, the key and the journal behind it."""
+        """The status of a run, and what the output, the log, the key and the journal have after it."""
         for name, content in (("KEY", KEY), ("JOURNAL", journal), ("in", text), ("out", b""), ("log", b"")):
             self.put(name, content)
         with open(self.places["in"]) as source, open(self.places["out"], "w") as out, open(self.places["log"], "w") as log:
@@ -64,7 +64,7 @@ class Runs:
 
 
 def wanted(right, needed, closed):
-    """The status that a run must end with: its input comes before its outputs."""
+    """The status with which a run must end. A closed input counts before closed outputs."""
     missing = [place for place in needed if place in closed]
     return right if not missing else 5 if 0 in missing else 6
 

@@ -3,9 +3,8 @@
 
     python3 scripts/demo.py [JOBS]
 
-JOBS is how many crates are proved side by side at most. Where it isn't given they are as many as there are processors, and as
-memory allows (prove.py).
-What the prover says goes into out/demo.log. The exit status is 0 where everything is proved and nothing differs.
+JOBS is the most crates that are proved side by side. Without it, as many are as processors and memory allow (prove.py). What the
+prover prints goes into out/demo.log. The exit status is 0 if everything is proved and nothing differs.
 """
 import difflib, os, subprocess, sys, tempfile, threading, time
 
@@ -22,7 +21,7 @@ log_lock = threading.Lock()
 
 
 def prove(lanes, crate, jobs):
-    """Proves one crate, over those below it. The program is proved in this checkout, and is built and run there too."""
+    """Proves one crate, whose libraries are proved. The program is proved in this checkout, and is built and run there too."""
     if crate == "link_replay":
         words = ["rt", "run", "--jobs", str(jobs), "--", "vectors"]
         ran = run_in(ROOT, crate, words)
@@ -40,7 +39,7 @@ def say_proved(crate, seconds, left):
 
 
 def prove_program(most):
-    """Proves the program and all that it stands on, and builds it."""
+    """Proves the program and all crates that it uses, and builds it."""
     below, room, began = crates_below("link_replay"), room_here(), time.monotonic()
     print("== Proving the program: %d crates, over %d processors and %.0f GB of free memory" % (len(below), room.processors, room.memory))
     print("The first time this takes 12 minutes on four processors with nothing else to do. Later only what changed is proved. What the prover says: %s\n" % os.path.relpath(LOG, ROOT), flush=True)
@@ -51,7 +50,7 @@ def prove_program(most):
 
 
 def run(words, stdin=None, status=0):
-    """Runs the program, which is to end with this status; returns its standard output and standard error."""
+    """Runs the program, which must end with this status. Returns its standard output and standard error."""
     with open(stdin or os.devnull) as given:
         ran = subprocess.run([PROGRAM] + words, stdin=given, capture_output=True, text=True, timeout=120)
     if ran.returncode != status:
@@ -60,7 +59,7 @@ def run(words, stdin=None, status=0):
 
 
 def show(heading, text, expected=None):
-    """Prints a text under a heading. Answers whether it is the expected one, and prints where it differs."""
+    """Prints a text under a heading. Returns whether it is the expected one, and prints where it differs."""
     print("-- %s\n%s" % (heading, text), end="" if text.endswith("\n") or not text else "\n")
     if expected is None:
         print()
@@ -88,7 +87,7 @@ def show_journal(journal):
 
 
 def show_received(name, protocol, direction, reader, link, folder):
-    """Shows the receiver, with a new journal, over a link: the line that it sends on, its notes, what is read, and the journal."""
+    """Shows the receiver, with a new journal, over a link: the line that it sends on, its notes, what a device reads, and the journal."""
     journal = os.path.join(folder, name + ".received.journal")
     run(["init", protocol, direction, journal])
     line, notes = run(["check", protocol, direction, os.path.join(EXAMPLES, "key.txt"), journal], link)
@@ -104,7 +103,7 @@ def show_received(name, protocol, direction, reader, link, folder):
 
 
 def show_side(side, protocol, direction, what, reader, folder):
-    """Shows one direction of the exchange, from the line to what is read behind the receiver."""
+    """Shows one direction of the exchange, from the line of the device that sends to what is read behind the receiver."""
     line = os.path.join(EXAMPLES, side + ".ticks")
     journal = os.path.join(folder, side + ".journal")
     print("== %s (examples/%s.ticks)\n" % (what, side))
@@ -131,7 +130,8 @@ def show_altered(name, protocol, what, reader, folder):
 
 
 def show_guarded(name, folder):
-    """Shows a spacer behind the receiver, over a link with a right frame and one byte more, and says what a device that counts bytes makes of both lines."""
+    """Shows a spacer behind the receiver, over a link with a right frame and one more byte, and says what a device that counts
+    bytes reads of the receiver's line and of the spacer's."""
     same = show_altered(name, "rtu", "A link with a frame and one byte directly behind it", "device", folder)
     print("A device that waits for silence reads these two frames. One that counts bytes takes eight bytes from tick 68 on, finds their")
     print("CRC right, and acts on 01050000ff008c3a too, though that burst was refused. The receiver alone doesn't protect it.\n")
@@ -179,7 +179,7 @@ def show_taken_over(folder):
 
 
 def show_sessions(folder):
-    """Shows the headline: sealed, passed, read and forged frames of a line and of a link that an attacker has altered, side by side."""
+    """Shows what the headline speaks of: the sealed, passed, read and forged frames of a line and of a link that an attacker altered."""
     requests, altered, outstation, outstation_altered = [
         os.path.join(EXAMPLES, name + ".ticks") for name in ("requests", "altered", "outstation", "outstation_altered")]
     same = show_session("session", "rtu", requests, altered,
@@ -202,7 +202,8 @@ def example(name):
 
 
 def show_box_of_an_end(name, direction, what, link, folder):
-    """Shows the box of one end, which seals its device's line and checks the link to it. Returns whether all is as expected, and the link that it sends."""
+    """Shows the box of one end, which seals its device's line and checks the link that comes to it. Returns whether all is as
+    expected, and the link that it sends."""
     print("== %s\n" % what)
     both = joined(folder, name + ".both.ticks", example(name + ".ticks"), link)
     lines, notes = run(["duplex", "rtu", direction, os.path.join(EXAMPLES, "key.txt")], both)
@@ -244,7 +245,8 @@ def show_incident(folder):
 
 
 def session_of(protocol, title, side, altered):
-    """The words by which timeline.py shows a line and its link as an attacker left it, of texts that the program has just written."""
+    """The words for timeline.py by which it shows a line and its link as an attacker left it, from texts that the program has
+    just written."""
     expected = lambda name: os.path.join(EXAMPLES, "expected", name)
     return [protocol, "title=" + title,
             "device=" + os.path.join(EXAMPLES, side + ".ticks"), "sent=" + expected(side + ".link.ticks"),

@@ -1,14 +1,14 @@
 #!/usr/bin/env python3
-"""Looks at links that the program seals through the dissector of tools/wireshark/, by tshark.
+"""Runs tshark, with the dissector of tools/wireshark/, over links that the program seals.
 
     python3 scripts/dissector_check.py [PROGRAM]
 
-A line of frames of each protocol is sealed by each profile, and put into two captures by text2pcap:
-one whose records are whole packets, and one in which a frame and its trailer have a record each. At
-the end of both is a packet with a bit turned in its first byte. The frames, words and tags that
-tshark shows must be those of the frames that were sent and of the notes of `seal`; the tags are by
-hashlib. Where tshark or text2pcap isn't installed nothing is tested, and the status is 2. It is 0
-only where all is as it must be. It is no part of the gate.
+A line of frames of each protocol is sealed with each profile, and put into two captures by
+text2pcap: one whose records are whole packets, and one in which a frame and its trailer have a record
+each. Both end with a packet in whose first byte a bit is flipped. The frames, words and tags that
+tshark shows must be those of the frames that were sent and of the notes of `seal`. The tags are
+computed here, with hashlib. If tshark or text2pcap isn't installed, nothing is tested and the status
+is 2. It is 0 only if all is as it must be. It is no part of the gate.
 """
 import os, random, shutil, subprocess, sys, tempfile
 
@@ -23,7 +23,7 @@ ROOT = os.path.dirname(os.path.dirname(os.path.abspath(__file__)))
 PROGRAM = os.path.join(ROOT, "crates", "link_replay", "out", "link_replay")
 DISSECTOR = os.path.join(ROOT, "tools", "wireshark", "yasir.lua")
 
-# The number from which the journals go on: all four bytes of a word of y24 are used, and wrap.
+# The floor of the journals: the words of y24 above it use all four bytes, and wrap.
 FLOOR = 0x1FFFFFFF5
 
 FIELDS = ("yasir.frame", "yasir.word", "yasir.tag", "yasir.other", "mbrtu.crc16.status",
@@ -31,7 +31,7 @@ FIELDS = ("yasir.frame", "yasir.word", "yasir.tag", "yasir.other", "mbrtu.crc16.
 
 
 def sealed_by(program, proto, profile, line):
-    """The link of a line, and the numbers of its frames, as the program writes both."""
+    """The link that the program makes of a line, and the numbers in its notes."""
     link = (proto.word.rstrip("3") + profile.name if profile is Y24 else proto.word, "ab")
     with tempfile.TemporaryDirectory() as folder:
         key, journal = os.path.join(folder, "key"), os.path.join(folder, "journal")
@@ -64,7 +64,7 @@ def capture(folder, parts):
 
 
 def rows_due(proto, profile, frames, numbers):
-    """What must be shown of each frame, and of the trailer behind it."""
+    """What must be shown of each frame, and of the trailer after it."""
     state = ("1", "") if proto is Rtu else ("", "1")
     for frame, number in zip(frames, numbers):
         word = number % (1 << 8 * profile.word)
@@ -73,7 +73,7 @@ def rows_due(proto, profile, frames, numbers):
 
 
 def compare(program, proto, profile, chance, folder):
-    """Whether tshark shows the packets of one line as they are."""
+    """Returns whether tshark shows the packets of one line as they are."""
     frames = [frame for _ in range(10) for frame in EXCHANGES[proto](chance)]
     line = [tick for frame in frames for tick in list(frame) + [None] * 40]
     link, numbers = sealed_by(program, proto, profile, line)

@@ -1,24 +1,25 @@
 #!/usr/bin/env python3
-"""Looks at the documents: what they name must be there, and no paragraph may be too long.
+"""Checks the documents: what they name must be there, and no paragraph may be too long.
 
     python3 scripts/docs_check.py
 
 - Each link, and each file of this repository that is named in backquotes, must be there.
-- A page that another page names is a link, outside headings and code.
+- A page that another page names must be a link there, outside headings and code.
 - Each page of docs/ must be named by another page.
-- Each name of the code that is in backquotes must be somewhere in the code, if it has an underscore or a capital inside.
+- Each name in backquotes that has an underscore or a capital inside must be somewhere in the code.
 - A row of a table of docs/PROOF.md whose last column is a file of crates/ names functions and definitions in backquotes and
   clauses in italics: each must be in one of the row's files, a clause as a clause or a field.
-- No paragraph may have more than 120 words; a row of a table is a paragraph.
-- The page of `help` has the words of each command of docs/USAGE.md, and `version` prints the newest version of CHANGELOG.md.
+- No paragraph may have more than 120 words. A row of a table is a paragraph.
+- The page of `help` must have the words of each command of docs/USAGE.md, and `version` must print the newest version of
+  CHANGELOG.md.
 
-It ends with 1 where something is wrong. That a sentence says no more than its clause it can't see.
+It ends with 1 if something is wrong. It can't see whether a sentence says more than its clause.
 """
 import glob, os, re, sys
 
 ROOT = os.path.dirname(os.path.dirname(os.path.abspath(__file__)))
 LONGEST = 120
-# Pages of what was, which may name what is gone.
+# Pages about the past, which may name what is gone.
 OF_THE_PAST = ("CHANGELOG.md",)
 # Names of the toolchain.
 OF_OTHERS = ("black_box",)
@@ -35,7 +36,7 @@ def pages():
 
 
 def paragraphs(text):
-    """The paragraphs of a page, each item and each row of a table for itself; code is left out."""
+    """The paragraphs of a page. Each item and each row of a table is one. Code is left out."""
     text = re.sub(r"^```.*?^```", "", text, flags=re.S | re.M)
     for part in re.split(r"\n\s*\n", text):
         lines = [line for line in part.split("\n") if not line.startswith("    ")]
@@ -94,7 +95,7 @@ def words_of_the_code():
 
 
 def unknown_names(text, words):
-    """Names of more than one word, or in capitals and small letters, that a page has in backquotes and no file has."""
+    """Names that a page has in backquotes and no file has, of more than one word, or of capital and small letters."""
     for name in sorted(set(re.findall(r"`(\w+(?:::\w+)*)`", text))):
         parts = [part for part in name.split("::") if re.search(r"[a-z]_[a-z]|[a-z][A-Z]", part)]
         if any(part not in words and part not in OF_OTHERS for part in parts):
@@ -102,7 +103,7 @@ def unknown_names(text, words):
 
 
 def printed(name):
-    """The text of a constant of the program's texts."""
+    """The value of a constant among the program's texts."""
     return re.search(r'pub const %s: .*?=\s*\*b"(.*?)";' % name, read("crates/link_replay/src/commands/about.rt"), re.S)[1]
 
 

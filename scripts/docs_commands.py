@@ -1,12 +1,12 @@
 #!/usr/bin/env python3
-"""Runs each command that a page shows behind a `$`, and compares what it writes with what the page shows below it.
+"""Runs each command that a page shows after a `$`, and compares what it writes with what the page shows below it.
 
     python3 scripts/docs_commands.py [PROGRAM]
 
-The commands of a page run in its order in one new folder, which has a copy of examples/ and the programs at their usual places,
-so that a file which one of them leaves is there for the next. A page whose commands call `line_capture` is skipped, and said so,
-where that program isn't built. What stands on standard error may come before or behind standard
-output. It ends with 1 where a page shows something else, and where a page shows no command. It is no part of the gate.
+The commands of a page run in the order of the page, in one new folder with a copy of examples/ and the programs at their usual
+places, so a file that one command leaves is there for the next. If `line_capture` isn't built, a page whose commands call it is
+skipped, and a line says so. A page may show what goes to standard error before or after what goes to standard output. It ends with
+1 if a page shows something else than a command writes, or shows no command. It is no part of the gate.
 """
 import os, re, shutil, subprocess, sys, tempfile
 
@@ -14,7 +14,7 @@ from killed import slot_of
 
 ROOT = os.path.dirname(os.path.dirname(os.path.abspath(__file__)))
 
-# The pages, and the files that their commands find: a journal that stands at 41.
+# The pages, and the files that their commands find: a journal with the number 41.
 PAGES = {"docs/USAGE.md": {}, "docs/SECURITY.md": {"journal": bytes(32) + slot_of(41)}, "docs/LINE_CAPTURE.md": {}}
 
 # The other program, which some pages call.
@@ -22,7 +22,7 @@ CAPTURE = os.path.join(ROOT, "crates", "line_capture", "out", "line_capture")
 
 
 def shown(text):
-    """The commands of a page, and the lines that are shown below each of them. A line that ends in | goes on."""
+    """The commands of a page, and the lines that are shown below each of them. A command that ends with | goes on below."""
     found = []
     for line in text.splitlines():
         code = re.match(r" {4,}(.*)", line)
@@ -38,7 +38,7 @@ def shown(text):
 
 
 def blocks(text):
-    """The parts of a page that are indented as code, each with the text of its own alone."""
+    """The parts of a page that are indented as code."""
     return re.findall(r"(?:^ {4,}\S.*\n)+", text, re.M)
 
 

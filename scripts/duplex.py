@@ -1,16 +1,17 @@
 #!/usr/bin/env python3
-"""Compares what `duplex` writes with `seal` and `check` run apart, and with the model, over random lines of both directions.
+"""Compares what `duplex` writes with what `seal` and `check` write when they run apart, and with the model, over random lines of
+both directions.
 
     python3 scripts/duplex.py [LINES] [PROGRAM] [SEED]
 
-The device's line and the link are drawn from SEED (1), of either protocol, profile and direction, each of them at times empty
-or much shorter than the other one. Both are filled with silence to the longer one's length. Over these lists `seal` and `check`
-run with new journals, and `duplex` must write the very ticks that they write, the link's first and a line % between them. Its
-notes must be theirs, in the order of the steps in which the model says that they are made, the transmitter's first. Then the
-same is done over programs that are made wrong, each in one way (WRONG).
+The device's line and the link are drawn from SEED (1), of either protocol, profile and direction. Sometimes one of them is empty
+or much shorter than the other. Both are filled with silence to the longer one's length. `seal` and `check` take these lists with
+new journals, and `duplex` must write the same ticks as they do: those of the link, a line %, and those of the receiver's line. Its
+notes must be theirs, in the order of the steps in which the model says that they are made, and the transmitter's first within a
+step. Then the same is done with programs that are made wrong, each in one way (WRONG).
 
-It ends with 0 only if all agree; each kind of note was seen, a step with a note of either direction, and lists of unlike lengths;
-and each wrong program was told from the right one. It is no part of the gate.
+It ends with 0 only if all agree, if each kind of note, a step with a note of each direction, and lists of different lengths were
+seen, and if each wrong program was told from the right one. It is no part of the gate.
 """
 import collections, os, random, re, subprocess, sys, tempfile
 
@@ -22,13 +23,13 @@ from random_lines import some_frame, some_line
 WAYS = ("ab", "ba")
 Both = collections.namedtuple("Both", "proto profile direction line link")
 
-# What must have been seen: notes of both boxes, and what is told of lists and steps.
+# What must have been seen: notes of both boxes, and special steps and lists.
 NOTES = ["sealed", "unsealed form", "unsealed early", "passed", "refused trailer", "refused form", "refused tag", "dropped busy", "dropped head"]
 TOLD = ["a step with two notes", "a longer line", "a longer link", "no line", "no link"]
 
 
 def met(proto, key, profile, direction, chance):
-    """A line and a link that are such that a verdict falls into the step in which a frame is sealed."""
+    """A line and a link for which a verdict falls into the step in which a frame is sealed."""
     frame, reply = some_frame(proto, chance), some_frame(proto, chance)
     packet = reply + [None] * model.PAUSE + model.trailer(proto, key, 1 - direction, reply, 1, profile)
     line, link = frame + [None] * 3, packet[:-1]
@@ -41,7 +42,7 @@ def some_both(key, chance):
     if chance.random() < 0.1:
         return Both(proto, profile, direction, *met(proto, key, profile, direction, chance))
     line = some_line(proto, key, direction, 0, False, chance, profile)
-    # At times the packets are of the box's own direction, and none passes.
+    # Sometimes the packets are of the box's own direction, and none passes.
     way = direction if chance.random() < 0.1 else 1 - direction
     link = some_line(proto, key, way, 0, True, chance, profile)
     if chance.random() < 0.1:
@@ -109,7 +110,7 @@ def is_sealers(note):
 
 
 def sealers_last(status, out, notes):
-    """The notes with the transmitter's behind the receiver's."""
+    """A run with all notes of the transmitter after those of the receiver."""
     return status, out, sorted(notes, key=is_sealers)
 
 

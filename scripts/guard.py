@@ -1,23 +1,24 @@
 #!/usr/bin/env python3
-"""Runs a server by libmodbus behind the receiver alone, and behind a spacer too, over links that are attacked.
+"""Runs a libmodbus server over attacked links, once directly behind the receiver and once with a spacer between them.
 
     python3 scripts/guard.py [PROGRAM] [ATTACKS] [SEED]
 
-Such a server counts bytes, and doesn't wait for the silence behind a frame. For each of so many ATTACKS (300), of the ten
-kinds in KINDS by turns, a line of four requests is sealed, and somebody without the key adds a frame that writes registers or
-coils to the link. What `check` writes of this link, and what `check | space` does, goes to a server over a pseudo-terminal, a
-byte a tick of 9,600 baud, with the pauses as they stand there. The attacks are drawn from SEED (1), which is printed.
+Such a server counts bytes, and doesn't wait for the silence after a frame. ATTACKS attacks are made (300 if not given), of the
+ten kinds in KINDS in turn. For each of them a line of four requests is sealed, and somebody without the key adds a frame to the
+link that writes registers or coils. What `check` writes for this link goes to one server over a pseudo-terminal, and what
+`check | space` writes goes to another, one byte in each tick of 9,600 baud, with silence where the line is silent. The attacks are
+drawn from SEED (1), which is printed.
 
-It ends with 0 only if behind the spacer the server carried out just the frames that passed, in order, so that no attack changed
-a register or a coil, and if some attack did so without the spacer: else there was nothing to guard against. With 2 it says why
-it can't run. It is no part of the gate, and what it shows is of this server and these links alone.
+It ends with 0 only if the server behind the spacer carried out exactly the frames that passed, in order, so that no attack changed
+a register or a coil, and if some attack changed one without the spacer: otherwise there was nothing to guard against. It ends with
+2 if it can't run, and says why. It is no part of the gate, and what it shows is about this server and these links only.
 """
 import collections, concurrent.futures, os, pty, random, re, subprocess, sys, tempfile, time, tty
 
 import model
 from model import Y18, Y24, Rtu
 
-# Seconds of a tick, eleven bits at 9,600 baud; and those that a server gets for what it has still to do, once and at most.
+# The seconds of a tick (eleven bits at 9,600 baud), and those that a server gets to finish: at first, and at most.
 TICK, SETTLE, PATIENCE = 11 / 9600, 0.2, 10
 SIDE_BY_SIDE = 12
 
@@ -77,7 +78,7 @@ def some_bytes(chance, most):
 
 
 def wrong_request(chance):
-    """Eight bytes that a server takes for a request with a wrong CRC, or for one to another device."""
+    """Eight bytes that a server takes for a request with a wrong CRC, or for a request to another device."""
     request = poll(chance)
     return chance.choice([request[:-1] + [request[-1] ^ 1]] * 3 + [framed([chance.randrange(2, 200)], request[1:6])])
 
@@ -94,7 +95,7 @@ def deep_inside(chance):
 
 
 def with_a_byte(packet, size, chance):
-    """The packet with one byte directly behind its frame, in place of a silent tick."""
+    """The packet with one byte directly after its frame, in place of a silent tick."""
     return packet[:size] + some_bytes(chance, 1) + packet[size + 1:]
 
 
@@ -102,7 +103,8 @@ def changed(chance, packet):
     return with_a_byte(write(0, chance.randrange(1, 65536)) + packet[8:], 8, chance)
 
 
-# What is done: the ticks that are added to the link, by those of a packet that has passed, whose frame writes a register.
+# The attacks: from the ticks of a packet that has passed, and whose frame writes a register, each makes the ticks that are added
+# to the link.
 KINDS = {
     "a frame alone": lambda chance, packet: some_write(chance),
     "one byte behind a frame": lambda chance, packet: some_write(chance) + chance.choice([[0], some_bytes(chance, 1)]),
@@ -118,7 +120,7 @@ KINDS = {
 
 
 def lacking():
-    """Why the server can't be compiled; None where it can."""
+    """Why the server can't be compiled, or None if it can."""
     with tempfile.TemporaryDirectory(prefix="guard.") as folder:
         try:
             return None if compiled(folder) else "`cc -lmodbus` compiles no server: libmodbus isn't installed (on Debian libmodbus-dev)"
@@ -127,7 +129,7 @@ def lacking():
 
 
 def compiled(folder):
-    """The path of the server; None where libmodbus isn't there."""
+    """Compiles the server, and returns its path, or None if libmodbus isn't installed."""
     source, server = os.path.join(folder, "server.c"), os.path.join(folder, "server")
     with open(source, "w") as file:
         file.write(SERVER)
@@ -156,13 +158,13 @@ class Trials:
         return ran.stdout, ran.stderr
 
     def run_box(self, command, word, text):
-        """The same of a box with a new journal."""
+        """What a box with a new journal writes to standard output and standard error."""
         journal = os.path.join(tempfile.mkdtemp(dir=self.folder), "journal")
         self.run(["init", word, "ab", journal])
         return self.run([command, word, "ab", self.key, journal], text)
 
     def session(self, kind):
-        """A sealed line of four requests with an attack on its link, and the two lines that come of it."""
+        """A sealed line of four requests with an attack on its link, and the lines that the receiver and the spacer make of it."""
         chance, word, profile = self.chance, *self.chance.choice([("rtu", Y18), ("rtu24", Y24)])
         requests = [poll(chance), write(0, chance.randrange(1, 65536)), write(0, chance.randrange(1, 65536)), poll(chance)]
         line = [tick for request in requests for tick in request + [None] * 40]
@@ -179,7 +181,7 @@ class Trials:
 
 
 def held_after(requests):
-    """What a server holds that has carried these requests out, of which those that write do so by function 6."""
+    """What a server holds after it has carried out these requests. Those that write do so by function 6."""
     coils, registers = [0] * 16, [0] * 16
     for request in requests:
         if request[1] == 6:
@@ -188,7 +190,7 @@ def held_after(requests):
 
 
 def served(server, line, wanted):
-    """Sends a line to a new server, a byte a tick. Returns its name, the requests that it carried out, and what it holds then."""
+    """Sends a line to a new server, one byte in each tick. Returns its name, the requests that it carried out, and what it then holds."""
     near, far = pty.openpty()
     tty.setraw(far)
     with tempfile.NamedTemporaryFile("r") as said:
@@ -224,7 +226,7 @@ def wait_for(holds):
 
 
 def tried(server, session, received, spaced):
-    """The server's name, whether the attack changed what it holds behind the receiver, and what is wrong behind the spacer."""
+    """The server's name, whether the attack changed what the server behind the receiver holds, and what is wrong behind the spacer."""
     name, _, held = served(server, received, None)
     _, requests, guarded = served(server, spaced, len(session.passed))
     wanted, wrong = held_after(session.passed), None

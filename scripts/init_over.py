@@ -1,11 +1,10 @@
 #!/usr/bin/env python3
-"""Runs `link_replay init` over files of each kind, and looks at the status and at what the file holds behind it.
+"""Runs `link_replay init` over files of each kind, and checks the status and what the file holds after the run.
 
     python3 scripts/init_over.py [PROGRAM]
 
-Over a key, over a journal that was damaged, and over any other file whose first 80 bytes aren't 00, nothing may be written:
-from a new floor of 0 the numbers of an old key would come twice. It ends with 1 where a run leaves anything else. It is no
-part of the gate.
+Nothing may be written over a key, a damaged journal, or any other file whose first 80 bytes aren't all 00: from a new floor of
+0 on, the numbers of an old key would come twice. It ends with 1 if a run leaves anything else. It is no part of the gate.
 """
 import os, subprocess, sys, tempfile
 
@@ -16,7 +15,7 @@ ZERO, SEVEN, OTHER = slot_of(0), slot_of(7), slot_of(9, ("dnp24", "ba"))
 OLD_SEVEN, OLD_TORN, TORN = old_slot_of(7), b"\x11" * 16, b"\x11" * 24
 STANDS = "fault: journal stands at %d\n"
 
-# what the file is, its bytes (none: it is missing), the status, the log, and its bytes behind the run (none: as before)
+# What the file is, its bytes (None if it is missing), the status, the log, and its bytes after the run (None if as before).
 CASES = [
     ("missing", None, 0, "", OLD + ZERO),
     ("empty", b"", 0, "", OLD + ZERO),

@@ -1,4 +1,5 @@
-"""What the killed runs of a box have in common: the numbers of a journal's file, and a run that is killed at a random moment."""
+"""What the scripts that kill runs of a box have in common: the numbers in a journal's file, and a run that is killed at a random
+moment."""
 import os, random, re, signal, subprocess, tempfile, time
 
 KEY = "000102030405060708090a0b0c0d0e0f\n"
@@ -16,19 +17,19 @@ def old_slot_of(number):
 
 
 def slot_of(number, link=("rtu", "ab")):
-    """The slot of a number for a link, which is given by its words."""
+    """The slot with this number for a link, which is given by its words."""
     label, profile = PROTOCOLS[link[0]]
     return completed(number.to_bytes(8, "big") + bytes([label, ("ab", "ba").index(link[1]), profile, 2]))
 
 
 def held(slots, made):
-    """The numbers of the slots that are made so."""
+    """The numbers of those slots that `made` makes from their number."""
     numbers = [(int.from_bytes(slot[:8], "big"), slot) for slot in slots]
     return [number for number, slot in numbers if number <= LIMIT and slot == made(number)]
 
 
 def floor_of(path, link=("rtu", "ab")):
-    """The number that a run of this link loads from the file; none where it loads none."""
+    """The number that a run of this link loads from the file, or None if it loads none."""
     data = open(path, "rb").read().ljust(80, b"\0")
     new, old = (data[32:56], data[56:80]), held((data[:16], data[16:32]), old_slot_of)
     own = held(new, lambda number: slot_of(number, link))
@@ -38,7 +39,7 @@ def floor_of(path, link=("rtu", "ab")):
 
 
 class Killed:
-    """Runs of one command over the same input and journal, each killed after a random time of at most so many seconds."""
+    """Runs of one command over the same input and journal, each killed after a random time of at most `seconds` seconds."""
 
     def __init__(self, program, command, folder, seconds):
         self.program, self.command, self.seconds = os.path.abspath(program), command, seconds
@@ -66,7 +67,7 @@ class Killed:
         return floor
 
     def run(self):
-        """One run; returns the journal's floor before it."""
+        """Starts one run and kills it. Returns the journal's floor before the run."""
         before = self.floor()
         with open(self.path("line")) as line, open(self.path("out"), "w") as out, open(self.path("log"), "w") as log:
             run = subprocess.Popen(self.words(self.command, "journal"), stdin=line, stdout=out, stderr=log)
@@ -80,7 +81,8 @@ class Killed:
         return [(int(n), int(s)) for n, s in re.findall(r"^%s (\d+) at (\d+) len \d+\n" % word, self.text("log"), re.M)]
 
     def look_at(self, numbers):
-        """Numbers that a run used, in the order in which they were seen: each above all before it, and none above the journal's floor."""
+        """Checks the numbers that a run used, in the order in which they were seen: each must be above all before it, and none above the
+        journal's floor."""
         assert numbers == sorted(set(numbers)), "a number came twice in one run"
         assert not numbers or numbers[0] > self.last, "number %d came again" % numbers[0]
         assert not numbers or numbers[-1] <= self.floor(), "number %d is above the journal's floor" % numbers[-1]
@@ -90,7 +92,7 @@ class Killed:
         self.last = max([self.last] + numbers)
 
     def begin_anew(self):
-        """A new journal, and no number is used."""
+        """Makes a new journal, with which no number is used yet."""
         os.remove(self.path("journal"))
         self.init("journal")
         self.seen += len(self.used)

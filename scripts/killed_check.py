@@ -3,13 +3,13 @@
 
     python3 scripts/killed_check.py [RUNS] [PROGRAM] [FOLDER]
 
-The link has many packets, of numbers 1, 2, .. in order. Each run checks it from its beginning and is killed (SIGKILL)
-after a random time, so that it meets again all packets that the runs before have passed; once all have, a new journal
-begins. A number counts as passed where the last byte of its frame left unspoiled, or its note reached the log. It must be
-above every number that passed before, and the journal's floor after the kill must not be below it; and no frame may leave
-whole whose note isn't in the log.
-The files stand in a new folder inside FOLDER; on a tmpfs (/dev/shm) a sync is quick, and a run passes thousands of frames.
-It is no part of the gate: what a killed process leaves of a file is the system's.
+The link has many packets, of numbers 1, 2, .. in order. Each run checks it from its beginning and is killed (SIGKILL) after
+a random time, so it meets all packets that earlier runs have passed. When all packets have passed, a new journal begins. A
+number counts as passed if the last byte of its frame left unspoiled, or if its note reached the log. It must be above every
+number that passed before, and the journal's floor after the kill must not be below it. No frame may leave whole without its
+note in the log.
+The files are in a new folder inside FOLDER. On a tmpfs (/dev/shm) a sync is quick, and a run passes thousands of frames.
+It is no part of the gate: what a killed process leaves of a file depends on the system.
 """
 import shutil, subprocess, sys
 
@@ -17,7 +17,7 @@ from killed import Killed
 
 FRAME = "01030000000ac5cd"
 
-# From one packet's first tick to the next one's: the frame, and 40 silent ticks of the device's line.
+# The ticks from the first tick of a packet to that of the next: the frame, and 40 silent ticks of the device's line.
 PERIOD = 48
 
 # How many ticks later a frame leaves.

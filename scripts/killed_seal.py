@@ -3,10 +3,11 @@
 
     python3 scripts/killed_seal.py [RUNS] [PROGRAM] [FOLDER]
 
-Each run seals a recording of many frames and is killed (SIGKILL) after a random time. A number counts as used where a
-byte of its trailer reached the output, or its note the log. It must be above every number used before, and the journal's
-floor after the kill must not be below it; and no trailer may stand on the link whose note isn't in the log. The files stand in a new folder inside FOLDER; on a tmpfs (/dev/shm) a sync is quick, and a run seals thousands of frames.
-It is no part of the gate: what a killed process leaves of a file is the system's.
+Each run seals a recording of many frames and is killed (SIGKILL) after a random time. A number counts as used if a byte of its
+trailer reached the output, or if its note reached the log. It must be above every number that was used before, and the journal's
+floor after the kill must not be below it. No trailer may be on the link without its note in the log.
+The files are in a new folder inside FOLDER. On a tmpfs (/dev/shm) a sync is quick, and a run seals thousands of frames.
+It is no part of the gate: what a killed process leaves of a file depends on the system.
 """
 import re, shutil, sys
 
@@ -16,7 +17,7 @@ FRAME = "01030000000ac5cd"
 
 
 def trailers(text):
-    """The low words of the trailers that have begun in a link text: two bytes three silent ticks after a frame."""
+    """The words of the trailers that have begun in the text of a link: the two bytes that come three silent ticks after a frame."""
     for frame, word in re.findall(r"^\+([0-9a-f]+)\n-3\n\+([0-9a-f]{4})", text, re.M):
         if frame == FRAME:
             yield int(word, 16)

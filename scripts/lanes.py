@@ -1,9 +1,9 @@
-"""Copies of this checkout in which crates are proved side by side.
+"""Lanes: copies of this checkout in which crates are proved side by side.
 
-In one checkout `rt` proves one crate at a time of those that share a library: each run holds the libraries that it stands on.
-In copies of their own they don't wait for each other. What a copy has proved is linked into the checkout and all copies, so
-that nothing is proved twice. `rt` itself checks by the sums of all sources that a library is the one that it needs. Where a
-folder can't have such links to the checkout, as on another file system, there are no copies.
+Within one checkout `rt` proves crates that share a library one after another, since each run holds the libraries that it uses.
+In copies of their own they don't wait for each other. What is proved in a copy is linked into the checkout and all other copies,
+so that nothing is proved twice. `rt` itself checks, by the sums of all sources, that a library is the one that it needs. If a
+folder can't have such links to the checkout, as on another file system, no copies are made.
 """
 import os, queue, shutil, subprocess, tempfile
 
@@ -18,7 +18,7 @@ def out_of(lane, crate, part):
 
 
 def link_tree(source, target):
-    """Puts links to the files of one folder, where it is there, in place of another folder."""
+    """Replaces a folder by links to the files of another one, if that exists."""
     if not os.path.isdir(source):
         return
     shutil.rmtree(target, ignore_errors=True)
@@ -37,7 +37,7 @@ def can_link_to(folder):
 
 
 class Lanes:
-    """The checkout and up to `most` - 1 copies of it, of which each serves one crate at a time. The copies go at the end."""
+    """The checkout and up to `most` - 1 copies of it. Each serves one crate at a time. The copies are removed at the end."""
 
     def __init__(self, most):
         self.all, self.free, self.copies = [ROOT], queue.LifoQueue(), tempfile.mkdtemp(prefix="yasir-lanes-")
@@ -56,7 +56,7 @@ class Lanes:
         return lane
 
     def run(self, crate, words):
-        """Runs these words in the folder of a crate of a free copy, and returns what came of it."""
+        """Runs these words in the folder of a crate of a free copy, and returns the result."""
         lane = self.free.get()
         try:
             if lane != ROOT:
@@ -69,7 +69,7 @@ class Lanes:
             self.free.put(lane)
 
     def share(self, lane, crate):
-        """Links what was proved of a crate in one copy into the checkout and the other copies."""
+        """Links what one copy has proved of a crate into the checkout and the other copies."""
         for other in self.all:
             if other != lane:
                 link_tree(out_of(lane, crate, LIBRARY), out_of(other, crate, LIBRARY))

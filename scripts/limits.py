@@ -1,13 +1,13 @@
 #!/usr/bin/env python3
-"""Runs each command of `link_replay` on inputs at the limits and one tick or byte above them, and looks at how it ends.
+"""Runs each command of `link_replay` on inputs at the limits, and on inputs one tick or byte above them, and checks how it ends.
 
     python3 scripts/limits.py [PROGRAM] [WORD..]
 
-With WORDs only the commands of these names run. At 16,777,216 ticks, and at 268,435,456 bytes, a run ends well; with one
-more it is refused with the first sum that was too much. Of 70,000 frames, which are more than a word of two bytes counts,
-`replay` prints each that is sealed, passes and is read, and `audit` counts them. It prints status, CPU time and the log's
-last line of each run, and ends with 1 where one isn't as it should be. It is no part of the gate: all runs together read
-some 8 GB.
+With WORDs only the commands of these names run. With 16,777,216 ticks, and with 268,435,456 bytes, a run must end well. With one
+more, the input must be refused, and the fault line names the first sum that was too great. For 70,000 frames, which are more than
+a word of two bytes can count, `replay` must print each one that is sealed, passes and is read, and `audit` must count them. It
+prints the status, the CPU time and the last line of the log of each run, and ends with 1 if one isn't as it must be. It is no
+part of the gate: all runs together read some 8 GB.
 """
 import os, subprocess, sys, tempfile
 
@@ -23,7 +23,7 @@ FULL_LINE, COMMENT = b"+" + b"5a" * 32 + b"\n", b"#" + b"x" * 120 + b"\n"
 
 
 def inputs(proto, marks):
-    """Name, parts and fault line of each input: of one recording, or of two or three with so many marks between them."""
+    """The name, parts and fault line of each input: of one recording, or of two or three with marks between them."""
     frame = FRAMES["rtu" if proto.startswith("rtu") else "dnp3"]
     head = b"+" + frame + b"\n-40\n" + b"%\n" * marks
     many = [FULL_LINE] * (TICKS // 64)
@@ -40,7 +40,7 @@ def inputs(proto, marks):
 
 
 def many_frames(command, proto):
-    """The recordings of many frames, of which none is lost, and what the command prints of them."""
+    """The recordings of many frames, none of which is lost, and what the command must print for them."""
     frame, rules = FRAMES[proto], Rtu if proto == "rtu" else Dnp3
     key, bare = (bytes.fromhex(text.decode()) for text in (KEY, frame))
     device, link, sealed, passed, read = [], [], [], [], []

@@ -3,12 +3,12 @@
 
     python3 scripts/live.py [SECONDS]
 
-mbpoll - bridge - an attacker - bridge - server, over pseudo-terminals at 9,600 baud, even parity, both directions sealed and the
-guard on. mbpoll writes a register and reads all ten, while the attacker does ten sorts of things by turns, for about a minute
-(SECONDS, 40). What it tries to get into a register is never what mbpoll writes.
+The line is mbpoll - bridge - attacker - bridge - server, over pseudo-terminals at 9,600 baud with even parity, with both directions
+sealed and the guard on. mbpoll writes a register and reads all ten, while the attacker does ten sorts of things in turn, for at least
+SECONDS seconds (40 if not given). The value that the attacker tries to get into a register is never one that mbpoll writes.
 
-The exit status is 0 only if polls were answered, each sort of attack was done at least once, no attack changed a register, and
-the journals' numbers are those of what was sealed and passed; 2 where something isn't installed. It is no part of the gate.
+The exit status is 0 only if polls were answered, each sort of attack was done at least once, no attack changed a register, and the
+journals have the numbers that the notes say were sealed and passed, and 2 if something isn't installed. It is no part of the gate.
 """
 import os, re, shutil, subprocess, sys, tempfile, time
 
@@ -18,7 +18,7 @@ from model import Rtu
 
 ROOT = os.path.dirname(os.path.dirname(os.path.abspath(__file__)))
 PAGE = os.path.join(ROOT, "out", "live.html")
-# What mbpoll writes, in turn; the server's registers begin at 100. The attacker writes 666.
+# The values that mbpoll writes, in turn. At first the server's registers hold 100 and more. The attacker writes 666.
 WRITTEN, TARGET, EVIL = (1001, 1002, 1003), 5, 666
 
 
@@ -57,7 +57,7 @@ class Session(Bridges):
         return done.returncode == 0, [int(value) for value in re.findall(r"^\[\d+\]:\s+(\d+)", done.stdout, re.M)]
 
     def surely(self, *values):
-        """Polls until one is answered, at most twelve times: on a busy machine a byte can come so late that its frame is refused."""
+        """Polls until a poll is answered, at most twelve times: on a busy machine a byte can come so late that its frame is refused."""
         for tries in range(1, 13):
             right, read = self.poll(*values)
             if right:
@@ -72,7 +72,7 @@ class Session(Bridges):
 
 
 def built():
-    """The server and the bridge, built. What isn't installed is named before the library is proved, which takes long."""
+    """Builds the server and the bridge, and returns their paths. Names what isn't installed before the library is proved, which takes long."""
     missing, programs = [] if shutil.which("mbpoll") else ["mbpoll isn't installed: apt-get install mbpoll"], {}
     for needed in (bridge_build.kit, bridge_build.server):
         try:
@@ -129,7 +129,7 @@ def main():
         see(all(good) and last and values == expected, "mbpoll wrote before the attacks, and read behind them: %s" % values)
         print("      polls under attack: %d, answered %d; polls that were repeated without one: %d" % (polls, answered, session.tries))
         see(len(done) == len(SORTS), "attacks: %s" % ", ".join("%s %d" % (sort, done[sort]) for sort in SORTS))
-        # a write whose reply was lost is asked for again
+        # a write whose reply was lost is sent again
         runs = [write for number, write in enumerate(writes) if writes[:number][-1:] != [write]]
         see(runs == [(str(TARGET), str(value)) for value in WRITTEN[1:]], "the server carried out mbpoll's writes alone: %s" % writes)
         held = server.splitlines()[-1]

@@ -3,14 +3,15 @@
 
     python3 scripts/live_kinds.py [KIND..] [BAUD..]
 
-KIND is rtu, dnp3, rtu24 or dnp24, BAUD 9600 or 115200; all of them where none is given. Of each the line is as in live.py: a master, a
-bridge, an attacker, a bridge, a device, over pseudo-terminals, with the guard on. The device counts bytes: it takes as many as
-a request has, and acts on them at once. In a first session nobody attacks, and in a second one over the same journals ten sorts of
-things are done to the requests.
+KIND is rtu, dnp3, rtu24 or dnp24, and BAUD is 9600 or 115200. Without them all kinds and rates are run. As in live.py, the line of
+each is a master, a bridge, an attacker, a bridge and a device, over pseudo-terminals, with the guard on. The device counts bytes: it
+takes as many as a request has, and acts on them at once. In a first session nobody attacks. In a second one, with the same journals,
+ten sorts of things are done to the requests.
 
-The exit status is 0 only if each poll without an attack was answered (it may be tried 25 times: a byte that this machine hands on too
-late breaks its frame), each sort of attack was done, all bytes that the device got are requests of the master, whole, in order and each
-at most once, and the journals' numbers are those of what was sealed and passed; 2 where something isn't installed. It is no part of the gate.
+The exit status is 0 only if each poll without an attack was answered (in up to 25 tries: a byte that this machine hands on too late
+breaks its frame), each sort of attack was done, all bytes that the device got are requests of the master, whole, in order and each at
+most once, and the journals have the numbers that the notes say were sealed and passed. It is 2 if something isn't installed. It is no
+part of the gate.
 """
 import sys, tempfile, time
 
@@ -24,7 +25,7 @@ TARGET, EVIL = 5, 666
 
 
 def request_of(kind, number, value):
-    """A request, of its own number, to put a value into the device's register."""
+    """A request with its own number that asks the device to put a value into its register."""
     content = number.to_bytes(4, "big") + bytes((1, TARGET)) + value.to_bytes(2, "big")
     if kind.startswith("rtu"):
         body = bytes((1, 0x41)) + content
@@ -45,7 +46,7 @@ class Session(Bridges):
         self.run(self.serve)
 
     def serve(self):
-        """The device: it sends each request back. It counts bytes, and minds no silence."""
+        """Runs the device, which sends each request back. It counts bytes, and ignores silence."""
         taken = 0
         while not self.stopping.is_set():
             content = self.b_device.come(0.2)
@@ -57,7 +58,7 @@ class Session(Bridges):
                 taken += self.size
 
     def poll(self, value):
-        """Whether a request is answered."""
+        """Sends a request, and returns whether it is answered."""
         request = request_of(self.link.kind, self.first + len(self.asked), value)
         self.asked.append(request)
         self.a_device.write(request)
@@ -67,18 +68,18 @@ class Session(Bridges):
         return request in self.replies
 
     def surely(self, value):
-        """How many times the poll was tried until it was answered; None where it never was."""
+        """Polls until a poll is answered. Returns how many polls it took, or None if none was answered."""
         return next((tries for tries in range(1, TRIES + 1) if self.poll(value)), None)
 
     def device_got_requests_alone(self):
-        """Whether all that the device got are requests that the master sent, whole and in order, each at most once."""
+        """Whether all bytes that the device got are requests that the master sent, whole, in order and each at most once."""
         got = [self.given[place:place + self.size] for place in range(0, len(self.given), self.size)]
         places = [self.asked.index(request) if request in self.asked else -1 for request in got]
         return -1 not in places and all(one < other for one, other in zip(places, places[1:]))
 
 
 def tried(program, kind, baud):
-    """What was wrong with one kind at one rate; prints it, and what was seen."""
+    """Runs one kind at one rate. Returns what was wrong, and prints it and what was seen."""
     parity = "even" if kind.startswith("rtu") else "none"
     link, wrong = link_of(kind, baud, parity, request_of(kind, 0, EVIL)), []
 

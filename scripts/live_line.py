@@ -1,4 +1,4 @@
-"""A live line on one machine, of which live.py and live_kinds.py are made: pseudo-terminals, the two bridges, an attacker on the link
+"""The parts of a live line on one machine, for live.py and live_kinds.py: pseudo-terminals, the two bridges, an attacker on the link
 between them, and what the journals and notes say afterwards.
 """
 import collections, os, pty, re, select, signal, subprocess, sys, threading, time, tty
@@ -6,8 +6,8 @@ import collections, os, pty, re, select, signal, subprocess, sys, threading, tim
 PAUSE = 3
 SORTS = ("change", "repeat", "cut", "insert", "reorder", "reflect", "old session", "forge", "strip", "pause")
 
-# What stands on the link: the protocol and profile as the bridge's -p takes them, the baud, the seconds of a tick, how many bytes a
-# trailer has, the parity, and a frame that the attacker would have the device carry out.
+# A link: the protocol and profile as the bridge's -p takes them, the baud, the seconds of a tick, how many bytes a trailer has, the
+# parity, and a frame that the attacker wants the device to carry out.
 Link = collections.namedtuple("Link", "kind baud tick trailer parity evil")
 
 
@@ -16,7 +16,7 @@ def link_of(kind, baud, parity, evil):
 
 
 class Port:
-    """A pseudo-terminal: `path` for a program, and the other end here. It is written at the rate of the line."""
+    """A pseudo-terminal: a program opens `path`, and the other end is here. It is written at the rate of the line."""
 
     def __init__(self, tick):
         self.here, self.there = pty.openpty()
@@ -27,7 +27,7 @@ class Port:
         self.lock = threading.Lock()
 
     def write(self, content):
-        """Each byte in a tick of its own, as far as this machine keeps time; silence is None."""
+        """Writes each byte in its own tick, as well as this machine keeps time. None is a silent tick."""
         with self.lock:
             due = time.monotonic()
             for byte in content:
@@ -39,7 +39,7 @@ class Port:
                 due += self.tick
 
     def come(self, seconds):
-        """What comes within some seconds; no bytes where nothing does, and None where the port is closed."""
+        """The bytes that come within this many seconds, none if nothing comes, or None if the port is closed."""
         ready, _, _ = select.select([self.here], [], [], seconds)
         try:
             return os.read(self.here, 512) if ready else b""
@@ -47,7 +47,7 @@ class Port:
             return None
 
     def bursts(self, stopping, gap):
-        """What comes, cut where nothing comes for `gap` seconds."""
+        """The bytes that come, cut into bursts wherever nothing comes for `gap` seconds."""
         burst = b""
         while not stopping.is_set():
             content = self.come(gap if burst else 0.2)
@@ -65,8 +65,8 @@ def packet(frame, trailer):
 
 
 class Attacker:
-    """Sits on the link. Of a packet it knows the frame and the trailer, which is its last bytes. `old` is what it has recorded of an
-    earlier session. While it is `quiet` it hands each packet on as it came."""
+    """Sits on the link. It takes the last bytes of a packet for the trailer, and the others for the frame. `old` is what it has recorded
+    in an earlier session. While it is `quiet` it hands each packet on as it came."""
 
     def __init__(self, link, near, far, stopping, old):
         self.link, self.near, self.far, self.stopping, self.old = link, near, far, stopping, old
@@ -87,12 +87,12 @@ class Attacker:
                 self.attack(frame, trailer, target)
 
     def attack(self, frame, trailer, target):
-        """One request comes to the server: something is done to it, or beside it."""
+        """A request is on its way to the server: something is done to it, or something is added."""
         sort = SORTS[self.turn % len(SORTS)]
         evil = self.link.evil
         space = [None] * 60
         if self.held:
-            # the packet that was held back comes behind a later one
+            # the packet that was held back comes after a later one
             late, self.held = self.held, None
             target.write(packet(frame, trailer) + space + packet(*late))
             self.done["reorder"] += 1
@@ -174,8 +174,8 @@ class Bridges:
         return statuses
 
     def numbers(self):
-        """Of each of the four journals its name, its number, what was done with that, and the last number that the notes have; None
-        where they have none."""
+        """For each of the four journals its name, its number, the word of the notes that have such numbers (sealed or passed), and the
+        last number in these notes, or None if there is none."""
         found = []
         for end, word, kept in (("a", "sealed", "a.sent"), ("b", "passed", "b.got"), ("b", "sealed", "b.sent"), ("a", "passed", "a.got")):
             found.append((kept, number_in(os.path.join(self.folder, kept)), word, last_number(self.text(end), word)))
@@ -188,7 +188,7 @@ def make_key(folder):
 
 
 def number_in(path):
-    """The number of a journal: the greater one of its two slots."""
+    """The number of a journal: the greater number of its two slots."""
     with open(path, "rb") as file:
         content = file.read()
     slots = [content[first:first + 24] for first in (32, 56)]

@@ -1,21 +1,21 @@
 #!/usr/bin/env python3
-"""Runs both boxes of `link_live` behind one another on pipes, with a writer that waits for each answer before it goes on.
+"""Runs both boxes of `link_live` one after the other on pipes, with a writer that waits for the ticks of the other line before it goes on.
 
     python3 scripts/live_pipe.py [PROGRAM] [BEFORE]
 
-A frame goes into `link_live seal`, tick by tick as a line has them, and no further tick is sent before the other line of all
-ticks so far has come: so a box that held anything back for its next read would stand still, and the run ends with a failure
-after 20 seconds. What `seal` wrote goes into `link_live check` in the same way. At the end each text must stand for the same
-ticks as the canonical text of `link_replay` over the same line, with the same notes and the same journal. It does so for
-both protocols, both profiles and both directions. It ends with 1 where anything differs. PROGRAM is
-crates/link_live/out/link_live and BEFORE crates/link_replay/out/link_replay where none is given.
+A frame goes into `link_live seal` tick by tick. The next tick is sent only after the ticks of the other line at all places so far
+have come. So if a box held anything back until its next read, it would stand still, and the run would end with a failure after 20
+seconds. What `seal` wrote goes into `link_live check` in the same way. At the end each text must have the same ticks as the
+canonical text that `link_replay` writes for the same line, with the same notes and the same journal. This is done for both
+protocols, both profiles and both directions. It ends with 1 if anything differs. PROGRAM is crates/link_live/out/link_live and
+BEFORE, a link_replay, is crates/link_replay/out/link_replay unless they are given.
 """
 import os, select, subprocess, sys, tempfile, time
 
 ROOT = os.path.dirname(os.path.dirname(os.path.abspath(__file__)))
 KEY = b"000102030405060708090a0b0c0d0e0f\n"
 PATIENCE = 20
-# a request of Modbus RTU, and a frame of DNP3 of a header alone
+# A request of Modbus RTU, and a DNP3 frame that is only a header.
 FRAMES = {"rtu": "01030000000ac5cd", "dnp3": "056405c901000004a657"}
 LINKS = {"rtu": "rtu", "rtu24": "rtu", "dnp3": "dnp3", "dnp24": "dnp3"}
 
@@ -32,12 +32,12 @@ def ticks_of(text):
 
 
 def lines_of(ticks):
-    """The lines of some ticks, one for each."""
+    """The lines of a tick text for these ticks, one for each tick."""
     return [b"-1\n" if tick is None else b"+%02x\n" % tick for tick in ticks]
 
 
 class Box:
-    """A run of `link_live`: a line goes in, and all that it decides is waited for."""
+    """A run of `link_live`. A line goes in, and the caller waits for each tick of the other line that is due."""
 
     def __init__(self, program, words):
         self.run = subprocess.Popen([program] + words, stdin=subprocess.PIPE, stdout=subprocess.PIPE, stderr=subprocess.PIPE)
@@ -45,7 +45,7 @@ class Box:
         self.taken = 0
 
     def come(self, count):
-        """Waits until so many ticks more have come; False where they don't."""
+        """Waits until `count` more ticks have come. Returns False if they don't."""
         end = time.time() + PATIENCE
         self.taken += count
         while len(ticks_of(self.text)) < self.taken:
@@ -76,7 +76,7 @@ def recorded(program, words, text):
 
 
 def tried(live, replay, folder, word, direction, command, ticks):
-    """What differs between a live run and a recorded one; the ticks of the other line behind it."""
+    """What differs between a live run and a recorded one, and the ticks of the other line."""
     key = os.path.join(folder, "key")
     open(key, "wb").write(KEY)
     journals = [os.path.join(folder, "%s.%s.%s.%d" % (word, direction, command, n)) for n in (0, 1)]

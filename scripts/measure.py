@@ -1,22 +1,22 @@
 #!/usr/bin/env python3
-"""Measures `link_replay`: processor time and memory of each command over long recorded lines, which it makes itself; or how
-many instructions each command takes, beside another build.
+"""Measures how much processor time and memory each command of `link_replay` takes for long recorded lines, which this script makes, or
+how many instructions it takes. It can compare these with another build.
 
     python3 scripts/measure.py [PROGRAM] [--beside OTHER] [--rounds N] [--ticks N] [--only WORD] [--work FOLDER]
     python3 scripts/measure.py [PROGRAM] --instructions [--beside OTHER] [--most PERCENT] [--ticks N] [--only WORD] [--work FOLDER]
 
-With OTHER, another build or another program of the same commands that knows journals of this form (0.7.0 or later), the two
-run in turn over the same inputs; what they write is compared, and the ratio of their times is printed: the median of the
-rounds' own ratios, and the ratio of the least times.
+OTHER is another build, or another program with the same commands and journals of this form (0.7.0 or later). With OTHER the two
+run in turn over the same inputs, what they write is compared, and the ratio of their times is printed: the median of the ratios of
+the rounds, and the ratio of the least times.
 
-With --instructions valgrind counts in place of a clock, once each, over shorter lines. The count hangs on the build alone, and
-not on what else the machine does. With OTHER, the last version, it ends with 1 where PROGRAM takes more than 5 % above it for
-some command, or PERCENT. A command that OTHER doesn't know is passed over, and counted alone.
+With --instructions valgrind counts instructions, once for each command and over shorter lines, and no time is measured. The count
+depends only on the build, not on what else the machine does. With OTHER, the last version, it ends with 1 if PROGRAM takes over
+PERCENT % (5 % if not given) more than OTHER for some command. A command that OTHER doesn't know is counted without a comparison.
 
 PROGRAM and OTHER are programs, or checkouts of this repository in which `make demo` has built one.
-FOLDER should be in memory (/dev/shm), since each committed number is synced. The lines are the same at each run.
-It ends with 1 where a run doesn't end well, or where the two write different things, and with 2 where valgrind is asked for
-and isn't installed. It is no part of the gate.
+FOLDER should be in memory (/dev/shm), since each committed number is synced. The lines are the same in each run.
+It ends with 1 if a run doesn't end well or the two programs write different things, and with 2 if valgrind is needed and isn't
+installed. It is no part of the gate.
 """
 import argparse, filecmp, os, random, re, shutil, statistics, subprocess, sys, tempfile
 
@@ -27,9 +27,9 @@ from killed import slot_of
 from random_lines import some_frame
 
 PROGRAM = "crates/link_replay/out/link_replay"
-# How many ticks a line has, where time is measured and where instructions are counted.
+# How many ticks a line has when time is measured, and when instructions are counted.
 TICKS, FEW_TICKS = 4000000, 1600000
-# How many ticks of a line a frame of `trial` stands for, and the status of words that are no command.
+# The ticks of a line for which one frame of `trial` counts, and the status for words that are no command.
 TICKS_OF_A_FRAME, USAGE = 400, 2
 
 
@@ -49,14 +49,14 @@ def frames(proto, chance, count):
 
 
 def device_line(path, proto, ticks, chance):
-    """Frames, small and large, as far apart as the transmitter asks, or farther."""
+    """Writes a line of frames, small and large, as far apart as the transmitter needs, or farther."""
     text, pool = Text(path), frames(proto, chance, 500)
     while text.ticks < ticks:
         text.add(chance.choice(pool) + [None] * chance.choice([21, 27, 60, 300]))
 
 
 def dense_line(path, proto, ticks, chance):
-    """Large frames with no more than the silence that ends a burst, some of them damaged."""
+    """Writes a line of large frames with only the silence between them that ends a burst. Some are damaged."""
     text, pool = Text(path), sorted(frames(proto, chance, 500), key=len)[-60:]
     while text.ticks < ticks:
         frame = list(chance.choice(pool))
@@ -66,14 +66,14 @@ def dense_line(path, proto, ticks, chance):
 
 
 def thin_line(path, ticks, chance):
-    """Bytes with a silent tick behind each: one tick a line of text."""
+    """Writes a line of bytes, each followed by a silent tick, so that each line of the text is one tick."""
     text = Text(path)
     while text.ticks < ticks // 4:
         text.add([chance.randrange(256), None] * 40)
 
 
 def link_line(path, proto, profile, ticks, chance, attacked):
-    """Packets in order; where the link is attacked, one in ten is changed, lost, repeated or cut."""
+    """Writes a link of packets in order. If it is attacked, one packet in ten is changed, lost, repeated or cut."""
     text, pool, number, last = Text(path), frames(proto, chance, 500), 0, []
     key = bytes.fromhex(KEY.strip())
     while text.ticks < ticks:
@@ -98,7 +98,7 @@ def session(path, line, link):
 
 
 def make_inputs(folder, ticks):
-    """Writes the lines, and answers the cases: a name, the input, and the words."""
+    """Writes the lines, and returns the cases: a name, the input, and the words of the command."""
     at, cases, chance = lambda name: os.path.join(folder, name), [], random.Random(1)
     for proto, name, other in ((Rtu, "rtu", "rtu24"), (Dnp3, "dnp3", "dnp24")):
         device, dense = at("device." + name), at("dense." + name)
@@ -130,7 +130,7 @@ def words_of(words, key, journal):
 
 
 def most_memory(child):
-    """The most memory in MB that a running program has had, as the system tells it until it ends."""
+    """The most memory in MB that a running program has used, as the system reports it until the program ends."""
     most = 0
     while child.poll() is None:
         try:
@@ -143,13 +143,13 @@ def most_memory(child):
 
 
 def make_journal(journal, words):
-    """A journal at 0 for the link of these words."""
+    """Writes a journal with the number 0 for the link of these words."""
     with open(journal, "wb") as file:
         file.write(bytes(32) + slot_of(0, tuple(words[1:3]) if words[0] in ("seal", "check") else ("rtu", "ab")) + bytes(24))
 
 
 def run(program, words, source, written, journal, memory=False):
-    """Seconds of processor time and the status; where it is asked for, the most memory in place of the seconds."""
+    """The seconds of processor time of a run, or with `memory` the most memory that it used in MB, and its status."""
     make_journal(journal, words)
     with open(source) as given, open(written[0], "w") as out, open(written[1], "w") as log:
         child = subprocess.Popen([program] + words, stdin=given, stdout=out, stderr=log)

@@ -1,20 +1,20 @@
-"""A model of transmitter, receiver, spacer and devices, over whole lines: the rules of docs/LINK.md, written anew in Python.
+"""A model of transmitter, receiver, spacer and devices, for whole lines: the rules of docs/LINK.md, written anew in Python.
 
 It shares nothing with the program, so that the two can be compared (random_lines.py, audit.py, duplex.py). A line is a list of
-ticks: a byte, or None for silence. The tags are by hashlib.
+ticks: a byte, or None for silence. The tags are computed with hashlib.
 """
 import collections, hashlib, hmac, itertools
 
 LIMIT = (1 << 48) - 1
 
-# Silent ticks that end a burst, and that stand between a frame and its trailer; those that the program takes to follow a link,
-# alone or beside the line of a device.
+# The silent ticks that end a burst, those between a frame and its trailer, and those that the program takes to follow a link,
+# whether or not the line of a device comes with it.
 CUT, PAUSE, LINK_REST = 4, 3, 320
 
-# Frames that may wait in the spacer of the program, and the silent ticks that it takes to follow a line.
+# How many frames may wait in the spacer of the program, and the silent ticks that it takes to follow a line.
 WAITING, SPACER_REST = 64, 21000
 
-# Bytes of a word and of a tag, the hash, and the ticks by which the receiver is late.
+# The bytes of a word and of a tag, the hash function, and the ticks by which the receiver is late.
 Profile = collections.namedtuple("Profile", "name word tag hash delay")
 Y18 = Profile("", 2, 12, hashlib.sha1, 18)
 Y24 = Profile("24", 4, 16, hashlib.sha256, 24)
@@ -29,7 +29,7 @@ def crc(poly, register, data):
 
 
 class Rtu:
-    """Modbus RTU: frames of 4 to 256 bytes, the last two of which are the CRC. No header says a size."""
+    """Modbus RTU: frames of 4 to 256 bytes, of which the last two are the CRC. It has no header that says a size."""
 
     word, label, header = "rtu", 1, 0
 
@@ -59,7 +59,7 @@ class Rtu:
 
     @classmethod
     def arrivals(cls, line):
-        """Frames that a device reads of this line: the step in which each is read, the tick of its first byte, its bytes."""
+        """The frames that a device reads from this line: the step in which each is read, the tick of its first byte, and its bytes."""
         for start, end in bursts(line):
             body = line[start:end + 1]
             frame = [byte for byte in body if byte is not None]
@@ -111,7 +111,8 @@ class Dnp3:
 
     @classmethod
     def arrivals(cls, line):
-        """The same of a DNP3 device: it hunts for 05 64, and silence is nothing to it."""
+        """The frames that a device reads from this line, which hunts for 05 64 and ignores silence: the step in which each is read,
+        the tick of its first byte, and its bytes."""
         found = [(tick, byte) for tick, byte in enumerate(line) if byte is not None]
         data, place = [byte for _, byte in found], 0
         while place < len(data):
@@ -132,7 +133,7 @@ class Dnp3:
 
 
 def reads(proto, line):
-    """Frames that a device reads, with the tick of their first byte; four silent ticks follow the line."""
+    """The frames that a device reads from the line and four silent ticks after it, each with the tick of its first byte."""
     return [(start, frame) for _, start, frame in proto.arrivals(line + [None] * CUT)]
 
 
@@ -150,12 +151,12 @@ def bursts(line):
 
 
 def first_pause(body):
-    """Where two silent ticks stand together."""
+    """The first place at which two silent ticks in a row begin, or None."""
     return next((place for place in range(len(body) - 1) if body[place] is None and body[place + 1] is None), None)
 
 
 def live(proto, line, start, end):
-    """The live bytes of a burst with their ticks, and whether it has further bytes."""
+    """The live bytes of a burst with their ticks, and whether it has other bytes too."""
     body = line[start:end + 1]
     before = [(start + place, byte) for place, byte in enumerate(body[:first_pause(body)]) if byte is not None]
     kept = before[:proto.room([byte for _, byte in before])]
@@ -172,13 +173,14 @@ def trailer(proto, key, direction, frame, number, profile=Y18):
 
 
 def seal(proto, key, direction, floor, line, profile=Y18):
-    """The line of the link, the notes, the journal's floor after them, and the sealed frames with number and start."""
+    """What `seal` makes of a line: the link, the notes, the journal's floor after the run, and the sealed frames, each with its number
+    and start."""
     link, notes, floor, sealed = seal_steps(proto, key, direction, floor, line + [None] * (profile.delay + 6), profile)
     return link, [note for _, note in notes], floor, sealed
 
 
 def seal_steps(proto, key, direction, floor, line, profile=Y18):
-    """The same of a line with no silence added; each note comes with the tick in whose step it is made."""
+    """What a transmitter makes of exactly these ticks, as in `seal`. Each note comes with the tick in whose step it is made."""
     link, notes, free, sealed = [None] * len(line), [], 0, []
     for start, end in bursts(line):
         kept, has_extra = live(proto, line, start, end)
@@ -211,7 +213,7 @@ def spoil(proto, before, byte):
 
 
 def verdict(proto, key, direction, floor, frame, after, profile):
-    """What is found of live bytes and the ticks after them: a number or a reason, and how many ticks it took."""
+    """The verdict on live bytes and the ticks after them: a number or a reason, and how many of these ticks it took."""
     for place, byte in enumerate(after, 1):
         if (byte is not None) != (place > PAUSE):
             return None, "trailer", place
@@ -227,13 +229,14 @@ def verdict(proto, key, direction, floor, frame, after, profile):
 
 
 def check(proto, key, direction, floor, link, profile=Y18):
-    """The receiver's line, the notes, the journal's floor after them, and the passed frames with number and start."""
+    """What `check` makes of a link: the receiver's line, the notes, the journal's floor after the run, and the passed frames, each
+    with its number and start."""
     line, notes, floor, passed = check_steps(proto, key, direction, floor, link + [None] * LINK_REST, profile)
     return line, [note for _, note in notes], floor, passed
 
 
 def check_steps(proto, key, direction, floor, link, profile=Y18):
-    """The same of a link with no silence added; each note comes with the tick in whose step it is made."""
+    """What a receiver makes of exactly these ticks, as in `check`. Each note comes with the tick in whose step it is made."""
     delay = profile.delay
     behind = link + [None] * delay
     sent, notes, free, passed = {}, [], 0, []
@@ -267,14 +270,14 @@ def check_steps(proto, key, direction, floor, link, profile=Y18):
 
 
 def filled(line, link):
-    """Both lists with silence behind them, up to the longer one's length and so many ticks more as follow a link."""
+    """Both lists, filled with silence up to the longer one's length and LINK_REST more ticks."""
     ticks = max(len(line), len(link)) + LINK_REST
     return [ticks_before + [None] * (ticks - len(ticks_before)) for ticks_before in (line, link)]
 
 
 def duplex(proto, key, direction, line, link, profile=Y18):
-    """What a box for both directions makes of its device's line and of the link: the link's ticks and the device's, and the notes
-    in the order of steps, the transmitter's first."""
+    """What a duplex box makes of its device's line and of the link: the ticks that it sends to the link and to the device, and the
+    notes in the order of their steps, the transmitter's first within a step."""
     line, link = filled(line, link)
     sent, sealing, _, _ = seal_steps(proto, key, direction, 0, line, profile)
     received, checking, _, _ = check_steps(proto, key, 1 - direction, 0, link, profile)
@@ -282,8 +285,8 @@ def duplex(proto, key, direction, line, link, profile=Y18):
 
 
 def space(proto, line, profile=Y18, cap=WAITING, rest=SPACER_REST):
-    """The spaced line, the notes of the frames that are lost, and the accepted ones: the step in which each is read, where it
-    begins, and its bytes."""
+    """The spaced line, the notes of the frames that are lost, and the accepted frames: for each the step in which it is read, the tick
+    at which it begins on the spaced line, and its bytes."""
     line, gap = line + [None] * rest, profile.delay + PAUSE
     spaced, lost, accepted = [None] * len(line), [], []
     for step, start, frame in proto.arrivals(line):
@@ -313,8 +316,8 @@ def forged_of(sealed, passed):
 
 
 def audit(proto, key, direction, floors, line, link, received, profile=Y18):
-    """The verdict on three recordings, as `audit` writes it: what was sealed from the sender's floor on, what passed from the
-    receiver's, and what the device reads of the third."""
+    """The verdict on three recordings, as `audit` writes it. It compares what was sealed from the sender's floor on, what passed from
+    the receiver's floor on, and what the device reads from the third recording."""
     sealed = seal(proto, key, direction, floors[0], line, profile)[3]
     passed = check(proto, key, direction, floors[1], link, profile)[3]
     read, forged = reads(proto, received), forged_of(sealed, passed)

@@ -1,7 +1,8 @@
-"""Frames as they pass on real lines, for tools that look into them.
+"""Frames like those of real lines, for tools that look into frames.
 
-tshark and sigrok's decoders go by the function code of a Modbus RTU frame, and so call a frame of
-random bytes broken whose CRC is right. These have right function codes, counts and objects.
+tshark and sigrok's decoders read a Modbus RTU frame by its function code, so they call a frame of
+random bytes broken even if its CRC is right. These frames have right function codes, counts and
+objects.
 """
 import struct
 
@@ -9,7 +10,7 @@ from model import Dnp3, Rtu
 
 
 def ended(proto, data):
-    """The bytes, and the CRC that ends them."""
+    """The bytes, followed by their CRC."""
     return bytes(data) + bytes(proto.end(list(data)))
 
 
@@ -31,7 +32,7 @@ def dnp3_frame(control, to, of, user):
 
 
 def dnp3_exchange(chance):
-    """A request of a control centre and an outstation's reply: both with user data or both
+    """A request of a control centre and the reply of an outstation, both with user data or both
     without."""
     centre, outstation = 1024, chance.randrange(1, 100)
     if chance.random() < 0.2:

@@ -1,23 +1,23 @@
-"""Proves a crate and all that it stands on, as many crates side by side as processors and memory allow.
+"""Proves a crate and all crates that it depends on, as many side by side as processors and memory allow.
 
-crates.txt says which crate stands on which. Of the crates that are ready, those begin first that have the longest chain of
-crates above them, counted in lines: no run is shorter than its longest chain. Each crate has 4 GB of memory set aside for it,
-and a processor; a processor that no crate waits for goes to one that begins, with 2.5 GB more. prove_check.py tries this
-with crates that take no time to speak of.
+crates.txt says which crate depends on which. Of the crates that are ready, those with the longest chain of crates above them,
+counted in lines, begin first, because no run is shorter than its longest chain. 4 GB of memory and a processor are set aside
+for each crate. If no crate waits for a processor, it goes to a crate that begins, with another 2.5 GB. prove_check.py tests
+this with crates that take almost no time.
 """
 import collections, concurrent.futures, glob, os, re, time
 
 ROOT = os.path.dirname(os.path.dirname(os.path.abspath(__file__)))
 
-# Gigabytes that are set aside for a crate, and for each processor after its first one; and the most processors of a crate.
+# The gigabytes that are set aside for a crate, and for each processor after its first one, and the most processors that a crate gets.
 CRATE_MEMORY, JOB_MEMORY, MOST_JOBS = 4, 2.5, 4
 
-# What there is to prove with: processors, and gigabytes of memory.
+# What can be used for proving: processors, and gigabytes of memory.
 Room = collections.namedtuple("Room", "processors memory")
 
 
 def number_in(path, pattern):
-    """The first number that the pattern finds in a file; none where there is no such file or number."""
+    """The first number that the pattern finds in a file, or None if there is no such file or number."""
     try:
         with open(path) as file:
             found = re.search(pattern, file.read(), re.M)
@@ -27,7 +27,7 @@ def number_in(path, pattern):
 
 
 def room_here():
-    """The processors that this process may use, and the memory that is free, by the limits of its control group too."""
+    """The processors that this process may use, and the memory that is free, within the limits of its control group."""
     processors = len(os.sched_getaffinity(0)) if hasattr(os, "sched_getaffinity") else os.cpu_count() or 1
     quota, period = (number_in("/sys/fs/cgroup/cpu.max", pattern) for pattern in (r"^(\d+) ", r"^\d+ (\d+)"))
     if quota and period:
@@ -40,7 +40,7 @@ def room_here():
 
 
 def crates_below(name, listing=None):
-    """Each crate of this repository that `name` stands on, and itself, with those of this repository that it stands on."""
+    """The crate `name` and each crate of this repository that it depends on, each with its own dependencies in this repository."""
     lines = (line.split("#")[0] for line in listing or open(os.path.join(ROOT, "crates.txt")))
     named = dict(line.split(":") for line in lines if line.strip())
     below = {crate.split()[0]: others.split() for crate, others in named.items()}
@@ -54,14 +54,14 @@ def crates_below(name, listing=None):
 
 
 def lines_of(crate):
-    """How many lines of code, definitions and proofs a crate has: about as long as it takes."""
+    """How many lines of code, definitions and proofs a crate has: roughly a measure of the time to prove it."""
     files = glob.glob(os.path.join(ROOT, "crates", crate, "*", "**", "*.rt"), recursive=True)
     files += glob.glob(os.path.join(ROOT, "crates", crate, "*", "**", "*.antt"), recursive=True)
     return sum(open(file, "rb").read().count(b"\n") for file in files if "/out/" not in file)
 
 
 def longest_chains(below, work):
-    """For each crate the work of the longest chain of crates that begins with it and goes up, each standing on the one before."""
+    """For each crate the work of the longest chain of crates that begins with it, each crate depending on the one before it."""
     above = {crate: [other for other in below if crate in below[other]] for crate in below}
     chains = {}
 
@@ -76,7 +76,7 @@ def longest_chains(below, work):
 
 
 def jobs_for(ready, used, room, most):
-    """How many processors the first of so many ready crates gets. `used` has those of the crates that are running; 0 where it must wait."""
+    """How many processors the first of `ready` ready crates gets, or 0 if it must wait. `used` has the number for each running crate."""
     free = room.memory - sum(CRATE_MEMORY + JOB_MEMORY * (jobs - 1) for jobs in used)
     idle = room.processors - sum(used)
     if not used:
@@ -90,8 +90,8 @@ def jobs_for(ready, used, room, most):
 def prove_all(below, work, prove, said, room, most=None):
     """Calls `prove(crate, jobs)` for each crate once those below it are proved, and `said(crate, seconds, left)` as each one ends.
 
-    Where a call raises, no further one begins, and what it raised is raised once those that are running have ended. `most` is
-    how many crates are proved side by side at most.
+    If a call raises, no other one begins, and what it raised is raised after those that are running have ended. `most` is the
+    most crates that are proved side by side.
     """
     chains, waiting, running, done = longest_chains(below, work), dict(below), {}, set()
     most = most or room.processors

@@ -1,25 +1,25 @@
 #!/usr/bin/env python3
-"""Tries prove.py, which proves crates side by side, with a prover that only sleeps, and lanes.py with one that only writes.
+"""Tests prove.py, which proves crates side by side, with a prover that only sleeps, and lanes.py with one that only writes.
 
     python3 scripts/prove_check.py
 
-The crates are those of crates.txt, and some small ones. Each must be proved once, behind those that it stands on; no more
-may be proved at a time than the room says; the longest chain must come first; and behind a crate that isn't proved no other
-one may begin. What one copy of a checkout has proved must be in the checkout and all copies, and what isn't proved in none.
-It ends with 1 where it is otherwise. It proves nothing, and needs no toolchain.
+The crates are those of crates.txt, and some small ones. Each must be proved exactly once, after those that it depends on. No
+more may be proved at a time than processors and memory allow. The longest chain must come first, and after a crate fails to be
+proved no other one may begin. What one copy of a checkout has proved must be in the checkout and all copies, and what isn't
+proved in none. It ends with 1 if anything else happens. It proves nothing, and needs no toolchain.
 """
 import os, sys, tempfile, threading, time
 
 import lanes
 from prove import CRATE_MEMORY, JOB_MEMORY, Room, crates_below, jobs_for, lines_of, longest_chains, prove_all
 
-# A chain of three, and six crates that stand on nothing, below one that stands on all of them.
+# A chain of three crates and six crates without dependencies, below a crate that depends on all of them.
 SMALL = {"low": [], "middle": ["low"], "high": ["middle"], **{"leaf%d" % each: [] for each in range(6)}}
 SMALL["top"] = list(SMALL)
 
 
 class Sleeper:
-    """A prover that sleeps as long as a crate has work, and keeps what was asked of it."""
+    """A prover that sleeps as long as a crate has work, and records what was asked of it."""
 
     def __init__(self, below, work, broken=None):
         self.below, self.work, self.broken = below, work, broken
@@ -42,7 +42,7 @@ class Sleeper:
 
 
 def ran(below, work, room, most=None, broken=None):
-    """A run of all crates over a sleeper, and the seconds that it took."""
+    """Runs all crates with a sleeper. Returns the sleeper, and the seconds that the run took."""
     sleeper, began = Sleeper(below, work, broken), time.monotonic()
     try:
         prove_all(below, work, sleeper.prove, lambda crate, seconds, left: None, room, most)
@@ -54,7 +54,7 @@ def ran(below, work, room, most=None, broken=None):
 
 
 def check_order():
-    """The crates of the program, at a five hundred thousandth of a second a line."""
+    """Checks the crates of the program, each with two microseconds of work for each line, and two milliseconds more."""
     below = crates_below("link_replay")
     work = {crate: lines_of(crate) * 2e-6 + 0.002 for crate in below}
     chains = longest_chains(below, work)
@@ -97,7 +97,7 @@ def small_checkout(folder):
 
 
 def check_lanes():
-    """Three lanes over a checkout of two crates, with a prover that writes what `rt` leaves, and then ends with a status."""
+    """Checks three lanes of a checkout of two crates, with a prover that writes what `rt` leaves, and then ends with a status."""
     with tempfile.TemporaryDirectory() as folder:
         small_checkout(folder)
         lanes.ROOT = folder

@@ -3,12 +3,13 @@
 
     python3 scripts/random_lines.py [LINES] [PROGRAM] [SEED]
 
-A line has frames, packets (altered, cut, repeated or whole), noise and silence, with the lengths at which rules change.
-Compared are `read`, and `seal`, `check`, `space`, `replay`, `duplex` and `audit` with both profiles: standard output, the notes,
-and the floor of the journal after the run. A journal is one of the link, or an old one that is taken over. A link that `replay`
-or `audit` gets is that of its device's line, altered here and there, or one of its own; so is the line that a receiver made of it,
-for `audit`. A line that `space` gets is one of these, or has many close frames, some of them cut, so that more would have to wait
-than may. It is no part of the gate.
+A line has frames, packets (altered, cut, repeated or whole), noise and silence, with the lengths at which the rules change. The
+commands are `read`, and with both profiles `seal`, `check`, `space`, `replay`, `duplex` and `audit`. For each run the standard
+output, the notes and the floor of the journal after the run are compared. The journal is one of the link, or an old one that is
+taken over. The link for `replay` or `audit` is the one that the transmitter made of the device's line, or parts of it, some of
+them altered, or an unrelated one. `audit` also gets the line that a receiver makes of this link, in some runs with one tick altered.
+The line for `space` is one like the others, or has many close frames, some of them cut, so that more would have to wait than may.
+It is no part of the gate.
 """
 import os, random, subprocess, sys, tempfile
 
@@ -16,11 +17,11 @@ import model
 from killed import KEY, floor_of, old_slot_of, slot_of
 from model import LIMIT, PAUSE, Y18, Y24, Dnp3, Rtu
 
-# The words of notes and printed frames by which runs are counted.
+# The words in notes and printed lines by which runs are counted.
 WORDS = ("sealed", "unsealed", "passed", "refused", "dropped", "read", "forged", "early", "form", "spent", "trailer", "number", "tag",
          "busy", "head", "lost", "clean", "differs")
 
-# Commands that keep no journal; those of them that take two recordings, and those without a key.
+# The commands that keep no journal, those of them that take two recordings and a floor of 0, and those without a key.
 NO_JOURNAL, TWO_LINES, NO_KEY = ("read", "space", "replay", "duplex", "audit"), ("replay", "duplex"), ("read", "space")
 
 
@@ -38,7 +39,7 @@ def some_frame(proto, chance):
 
 
 def altered(ticks, chance):
-    """The ticks with one of them changed, taken out, or the last ones cut off."""
+    """The ticks with one of them changed or taken out, or with the last ones cut off."""
     place, deed = chance.randrange(len(ticks)), chance.randrange(4)
     if deed == 0:
         return ticks[:place] + ticks[place + 1:]
@@ -77,7 +78,7 @@ def some_line(proto, key, direction, floor, packets, chance, profile=Y18):
 
 
 def some_crowd(proto, chance):
-    """A line of many close frames, most of them short, with cut ones and noise between."""
+    """A line of many close frames, most of them short, with cut ones and noise between them."""
     line, gaps = [], chance.choice([[4], [4, 5, 9], [4, 20, 21, 22], [0, 3, 4]] + [[0], [0, 1, 2], [0, 40]] * (proto is Dnp3))
     frames = [some_frame(proto, chance) for _ in range(8)]
     short = min(frames, key=len)
@@ -94,7 +95,7 @@ def some_crowd(proto, chance):
 
 
 def some_link(proto, key, direction, line, floor, chance, profile):
-    """What stands on the link behind the transmitter of this line: parts of what it sent, some altered, or a link of its own."""
+    """A link for this line: what its transmitter sends, or parts of this, some of them altered, or an unrelated link."""
     link, parts = model.seal(proto, key, direction, floor, line, profile)[0], []
     if chance.random() < 0.2:
         return link
@@ -107,7 +108,7 @@ def some_link(proto, key, direction, line, floor, chance, profile):
 
 
 def run(program, words, text, journal, floor, old):
-    """What the program writes, and the journal's floor after it, from a journal at this floor on, which may be an old one."""
+    """What the program writes, and the journal's floor after the run, which begins with a journal at `floor`, an old one with `old`."""
     link = tuple(words[1:3]) if words[0] not in NO_KEY else ("rtu", "ab")
     with open(journal, "wb") as file:
         file.write(old_slot_of(floor) if old else bytes(32) + slot_of(floor, link))

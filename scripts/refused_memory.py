@@ -1,13 +1,13 @@
 #!/usr/bin/env python3
-"""Refuses each growth of memory of `link_replay` in turn, and looks at how the run ends.
+"""Refuses each call of `link_replay` for memory in turn, and checks how the run ends.
 
     python3 scripts/refused_memory.py [PROGRAM]
 
-A small library, compiled by `cc` and loaded before the C library's, counts the calls that take or grow memory: of a run, the
-N-th is refused alone, or it and each one behind it, for every N up to the last call that a whole run makes. `replay`, `space`,
-`audit` and `duplex` must end with NoMemory, nothing in their output and their fault line alone in the log, or as they do when
-nothing is refused; the other commands take no memory once their words are read. It ends with 1 where a run ends otherwise. It is
-no part of the gate.
+A small library, compiled by `cc` and loaded before the C library, counts the calls that take or grow memory. For every N up to
+the last call that a whole run makes, one run has only its N-th call refused, and another its N-th call and all after it. `replay`,
+`space`, `audit` and `duplex` must end with NoMemory, with nothing in their output and only their fault line in the log, or as they
+do when nothing is refused. The other commands take no memory after their words are read. It ends with 1 if a run ends in another
+way. It is no part of the gate.
 """
 import os, subprocess, sys, tempfile
 
@@ -86,7 +86,7 @@ int posix_memalign(void **to, size_t alignment, size_t size) {
 
 
 def recordings(*names):
-    """One text of these recordings, with a mark between each two of them."""
+    """A text of these recordings, with a mark between each one and the next."""
     return b"%\n".join(open(os.path.join(EXAMPLES, name), "rb").read() for name in names)
 
 
@@ -98,7 +98,7 @@ class Runs:
         subprocess.run(["cc", "-shared", "-fPIC", "-O1", "-fno-builtin", "-o", self.library, source, "-ldl"], check=True)
 
     def run(self, words, text, refused=None, behind=False):
-        """Status, output, log and the count of calls that take memory."""
+        """The status, output and log of a run, and the number of its calls that take memory."""
         count, journal = os.path.join(self.folder, "count"), os.path.join(self.folder, "journal")
         open(journal, "wb").write(JOURNAL)
         around = dict(os.environ, LD_PRELOAD=self.library, REFUSED_COUNT=count)

@@ -1,19 +1,19 @@
 #!/usr/bin/env python3
-"""Prints how large the definitions, the code with its contracts, the proofs and the tests are, crate by crate.
+"""Prints how many lines of definitions, code, contracts, proofs and tests each crate has.
 
     python3 scripts/sizes.py
 
-Counted are lines that are neither blank nor a comment alone:
+It counts the lines that are neither blank nor only a comment:
 
-    code          of src/, less the three below
+    code          of src/, without contracts and tests
     contracts     clauses (requires, ensures), ghost members and fields, and the imports that these need
     tests         modules under #[cfg(test)], and the crates of tests
     definitions   of specs/
     proofs        of proofs/
     edits         wrong bodies in must-fail/ (files)
 
-Last come the definitions of this repository that the headline may rest on: those of its file, and of all files of specs/ that
-are imported from there on. Their imports aren't counted there.
+The last line has the definitions of this repository on which the headline can depend: those of its own file, and of all files of
+specs/ that it imports, directly or through others. Lines that import aren't counted there.
 """
 import collections, glob, os, re, sys
 
@@ -34,7 +34,7 @@ def counts(line):
 
 
 def test_files(folder):
-    """The files of modules that stand under #[cfg(test)], and those below them."""
+    """The files of modules that are under #[cfg(test)], and of the modules inside them."""
     found = set()
     for path in glob.glob(os.path.join(folder, "**", "*.rt"), recursive=True):
         head = os.path.dirname(path) if os.path.basename(path) in ("lib.rt", "main.rt") else path[:-len(".rt")]
@@ -45,7 +45,7 @@ def test_files(folder):
 
 
 def end_of(lines, place, opened, closed):
-    """The place behind the item that begins here and ends with its last closing bracket, or at a line that ends with `closed`."""
+    """The place after the item that begins at `place`: the item ends with its last closing bracket, or at a line that ends with `;`."""
     depth = 0
     for at in range(place, len(lines)):
         depth += lines[at].count(opened) - lines[at].count(closed)
@@ -87,7 +87,7 @@ def sizes_of(crate):
 
 
 def rests_on(first):
-    """The files of specs/ that a file's definitions rest on, itself among them."""
+    """The files of specs/ on which the definitions of a file depend, and the file itself."""
     found, left = set(), [first]
     while left:
         path = left.pop()
@@ -100,7 +100,7 @@ def rests_on(first):
 
 
 def definitions_in(path):
-    """How many lines of a file of specs/ are no import."""
+    """How many lines of a file of specs/ are neither blank, nor only a comment, nor an import."""
     lines = [line for line in lines_of(os.path.join(ROOT, "crates", path)) if counts(line)]
     return sum(not re.match(r"(unfoldable )?(pub )?use ", line) for line in lines)
 

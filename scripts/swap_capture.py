@@ -3,15 +3,15 @@
 
     python3 scripts/swap_capture.py IN OUT
 
-None of Wireshark's tools does this: editcap writes the order of the machine that it runs on. What
-stands in packets isn't touched. It takes the blocks that editcap writes, and refuses all others.
+None of Wireshark's tools does this: editcap writes the order of the machine that it runs on. The
+content of packets isn't changed. It takes the blocks that editcap writes, and refuses all others.
 """
 import struct, sys
 
 PCAP_MAGICS = (0xA1B2C3D4, 0xA1B23C4D)
 SECTION, INTERFACE, PACKET = 0x0A0D0D0A, 1, 6
 
-# The fields in front of the options of a section and an interface.
+# The fields before the options of a section block and of an interface block.
 FIELDS = {SECTION: "IHHq", INTERFACE: "HHI"}
 
 
@@ -31,7 +31,7 @@ def swapped_pcap(data, order):
 
 
 def swapped_options(data, order):
-    """Options whose values are texts or single bytes, which is all that editcap writes."""
+    """The options in the other byte order. Their values must be texts or single bytes: editcap writes no others."""
     out, at = b"", 0
     while at < len(data):
         _, length = struct.unpack(order + "HH", data[at:at + 4])

@@ -1,22 +1,23 @@
 #!/usr/bin/env python3
-"""Counts the instructions that `check` takes for packets whose tag is wrong, by the byte that is wrong: they must be as many.
+"""Counts the instructions that `check` takes for packets with a wrong tag: their number must be the same whichever byte is wrong.
 
     python3 scripts/tag_instructions.py PROGRAM
 
-PROGRAM is the built link_replay. Each run of `check` has fifty packets of number 1 with the same wrong tag, over a new journal. The
-tags are made here, by Python's hmac. Needs valgrind, which counts. Ends with 0 only where the counts of all runs of a profile are the
-same, and with 2 where valgrind isn't installed. The counts are those of this build on this machine: no clause speaks of time.
+PROGRAM is a built link_replay. Each run of `check` has fifty packets of number 1 with the same wrong tag, and a new journal. The
+tags are made here, with Python's hmac. It needs valgrind, which counts. It ends with 0 only if all packets were refused for the tag
+and the counts of all runs of a profile are the same, and with 2 if valgrind isn't installed. The counts are those of this build on
+this machine: no clause says anything about time.
 """
 import hashlib, hmac, os, re, shutil, subprocess, sys, tempfile
 
 KEY = bytes(range(16))
 FRAME = bytes.fromhex("01030000000ac5cd")
-# By profile: how many bytes the word and the tag have, and the hash function.
+# For each profile how many bytes the word and the tag have, and the hash function.
 PROFILES = {"rtu": (2, 12, hashlib.sha1), "rtu24": (4, 16, hashlib.sha256)}
 
 
 def packet(profile, flips):
-    """A packet of number 1, and quiet behind it. `flips` has for each byte of the tag the bits that are changed."""
+    """A packet of number 1, and silence after it. `flips` has the bits that are changed in each byte of the tag."""
     word, size, digest = PROFILES[profile]
     tag = hmac.new(KEY, bytes([1, 0]) + FRAME + (1).to_bytes(8, "big"), digest).digest()[:size]
     wrong = bytes(byte ^ bits for byte, bits in zip(tag, flips))

@@ -1,13 +1,13 @@
 #!/usr/bin/env python3
-"""Runs `link_replay` over journals of every link, old ones, and torn ones, and cuts the taking over of an old one off at each call.
+"""Runs `link_replay` over journals of every link, old ones and torn ones, and cuts runs that take over an old journal off at each call.
 
     python3 scripts/taken_over.py [PROGRAM]
 
-Over a journal of each link only the box of this link may go on; each other one must end with status 12 and show the slot. An
-old journal must be taken over. Such a run is cut off at each call on its file, a write behind each of its bytes, and slots are
-torn and changed in each byte: the next run must go on above all numbers that were used, with the old slots as they were. Then
-the commands are tried that docs/JOURNAL.md gives for an old journal's slots. A small library, compiled by `cc` and loaded
-before the C library's, ends a run at a call. It ends with 1 where a run leaves anything else. It is no part of the gate.
+Only the box of a journal's link may go on from the journal. Each other box must end with status 12 and show the slot. An old
+journal must be taken over. A run that takes one over is cut off at each call on its file, and after each byte of a write, and
+slots are torn and changed in each byte: the next run must go on above all numbers that were used, with the old slots as they
+were. Then the commands that docs/JOURNAL.md gives for the slots of an old journal are tried. A small library, compiled by `cc`
+and loaded before the C library, ends a run at a call. It ends with 1 if a run leaves anything else. It is no part of the gate.
 """
 import os, random, re, subprocess, sys, tempfile
 
@@ -89,7 +89,7 @@ class Runs:
         return open(self.path, "rb").read().ljust(80, b"\0")
 
     def run(self, command="seal", link=LINK, text=FRAME, cut=None):
-        """Status and log; with `cut` the run ends at this call on its journal, which writes so many bytes before."""
+        """The status and log of a run. `cut` is the call on the journal at which the run ends, and how many bytes this call writes first."""
         around = dict(os.environ)
         if cut:
             around.update(LD_PRELOAD=self.library, CUT_CALL=str(cut[0]), CUT_BYTES=str(cut[1]))
@@ -104,7 +104,7 @@ class Runs:
             print("WRONG: %s: the journal holds %s" % (what, self.bytes().hex()))
 
     def goes_on(self, number, what):
-        """The next run seals with this number, and the old slots stay."""
+        """Checks that the next run seals with this number, and that the old slots stay."""
         before = self.bytes()
         end = self.run()
         self.see(end == (0, b"sealed %d at 0 len 8\n" % number), "%s: %r in place of number %d" % (what, end, number))
@@ -112,7 +112,7 @@ class Runs:
 
 
 def every_link(runs):
-    """Each box over the journal of each link."""
+    """Checks each box with the journal of each link."""
     for command in ("seal", "check"):
         for own in LINKS:
             for link in LINKS:
@@ -125,7 +125,7 @@ def every_link(runs):
 
 
 def other_slots(runs):
-    """Slots of every kind, and the number of the next frame."""
+    """Checks slots of every kind, and the number of the next frame."""
     rows = [
         ("an old journal", (OLD,), 6),
         ("an old journal, the greater number in slot B", (OLD, old_slot_of(9)), 10),
@@ -150,7 +150,7 @@ def other_slots(runs):
 
 
 def cut_off(runs):
-    """Two frames over an old journal, cut off at each call on it, and behind each byte of a write."""
+    """Seals two frames with an old journal, in runs that are cut off at each call on it, and after each byte of a write."""
     made, last = 0, 5
     for call in range(1, 40):
         for some in range(25):
@@ -174,7 +174,7 @@ def cut_off(runs):
 
 
 def torn(runs):
-    """Slot A torn over zeros while an old journal is taken over: of each byte the old or the new one stands there."""
+    """Checks slots A that were torn while they were written over zeros to take over an old journal: each byte is the old or the new one."""
     chance, new, count = random.Random(1), slot_of(5), 300
     for _ in range(count):
         share = chance.choice([0.1, 0.5, 0.9])
@@ -185,7 +185,7 @@ def torn(runs):
 
 
 def commands(runs):
-    """What docs/JOURNAL.md says of a journal that was taken over, and the commands that it gives."""
+    """Checks what docs/JOURNAL.md says about a journal that was taken over, and the commands that it gives."""
     zero = lambda command: subprocess.run((command % runs.path).split(), check=True, stderr=subprocess.DEVNULL)
     runs.put(OLD, BLANK_OLD)
     runs.goes_on(6, "taken over")

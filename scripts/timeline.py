@@ -3,19 +3,19 @@
 
     python3 scripts/timeline.py OUT [P LANE=FILE.. [title=TEXT] [rate=BAUDxBITS]]..
 
-OUT is the HTML file. P begins a session: rtu, rtu24, dnp3 or dnp24, as the program's commands have it, or `any`,
-which lets the page tell it by the bytes. LANE says what a text is:
+OUT is the HTML file. P begins a session: it is rtu, rtu24, dnp3 or dnp24, as in the program's commands, or `any`, and then
+the page finds protocol and profile by the bytes. LANE says what a text is:
 
     device     the device's line, which `seal` reads
     sent       the link as `seal` wrote it
     came       the link as it came, which `check` reads
     received   the line that `check` wrote
     both       a device's line, a line %, and a link, as `replay` reads them
-    notes      the notes of `seal` or `check`, or what `read` (of the received line) or `replay` printed; any number of these
+    notes      the notes of `seal` or `check`, or what `read` (for the received line) or `replay` printed; it may come several times
 
-Each may be missing, but for one line. The rate, 9600x11 in Modbus RTU and 9600x10 in DNP3 where it isn't given, can be
-chosen in the page too. Without a session the page is empty, and takes texts by drag and drop. The page needs no network,
-and no other file. docs/TIMELINE.md says what it shows.
+A session needs at least one line; all other texts may be missing. The rate is 9600x11 for Modbus RTU and 9600x10 for DNP3
+unless it is given, and can be changed in the page. Without a session the page is empty, and takes texts by drag and drop. The
+page needs no network, and no other file. docs/TIMELINE.md says what it shows.
 """
 import html, json, os, re, sys
 
@@ -23,19 +23,19 @@ PAGE = os.path.join(os.path.dirname(os.path.abspath(__file__)), "timeline_page")
 PROTOCOLS = ("rtu", "rtu24", "dnp3", "dnp24", "any")
 LINES = ("device", "sent", "came", "received", "both")
 
-# The page may run what stands in it, and load nothing.
+# The page may run what is in it, and load nothing.
 POLICY = "default-src 'none'; script-src 'unsafe-inline'; style-src 'unsafe-inline'; img-src data:"
 
-# A character that could end the element in which the texts stand.
+# Characters that could end the element that has the texts.
 ESCAPES = {ord(each): "\\u%04x" % ord(each) for each in "<>&"}
 
 
 class Wrong(Exception):
-    """What is wrong with the words or a file."""
+    """Something is wrong with the words or a file."""
 
 
 def text_of(lane, path):
-    """A file as the page takes it. Each byte is one character, so that the page counts bytes as the program does."""
+    """A text for the page, from a file. Each byte is one character, so that the page counts bytes as the program does."""
     try:
         with open(path, "rb") as file:
             content = file.read().decode("latin-1")
@@ -81,12 +81,12 @@ def sessions_of(words):
 
 
 def holder(session):
-    """The element in which a session stands in the page."""
+    """The element of the page that has a session."""
     return '<script type="application/json" class="session">%s</script>' % json.dumps(session).translate(ESCAPES)
 
 
 def page_of(sessions):
-    """The page: its style sheet, its scripts and the sessions in one text."""
+    """The page, with its style sheet, its scripts and the sessions in one text."""
     def part(name):
         with open(os.path.join(PAGE, name), encoding="utf-8") as file:
             return file.read()

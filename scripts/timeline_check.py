@@ -1,14 +1,14 @@
 #!/usr/bin/env python3
-"""Looks at the pages that timeline.py makes in a headless Chromium, with mouse, keys and files as a user has them.
+"""Checks the pages that timeline.py makes, in a headless Chromium, with mouse, keys and files as a user has them.
 
     python3 scripts/timeline_check.py [PART..] [picture=FILE]
 
-PART is one of example, outstation, words, altered, joined, replayed, malformed, escaped, dropped and load; without one all
-are run. What a page must say is taken from the texts themselves, from examples/, and from the model (model.py): never from the page's own code.
-`load` makes a session of 100,000 frames, which must be there within 3 s of the processor's time. `picture=FILE` writes the
-picture of docs/TIMELINE.md.
-It installs nothing: without a Chromium nothing is tested, and the status is 2. It is 0 only where all parts that were asked
-for are as they must be. It is no part of the gate.
+PART is one of example, outstation, words, altered, joined, replayed, malformed, escaped, dropped and load. Without one all
+are run. What a page must say is taken from the texts themselves, from examples/, and from the model (model.py), never from the
+page's own code. `load` makes a session of 100,000 frames, which must be shown within 3 s of processor time. `picture=FILE` writes
+the picture of docs/TIMELINE.md.
+It installs nothing: without a Chromium nothing is tested, and the status is 2. It is 0 only if all parts that were asked for
+are as they must be. It is no part of the gate.
 """
 import math, os, random, re, subprocess, sys, tempfile, time
 
@@ -69,7 +69,7 @@ class Page:
         self.checked, self.window, self.folder = checked, window, folder
 
     def make(self, *words):
-        """Makes a page of these words, and opens it. Answers the seconds until it is painted."""
+        """Makes a page from these words for timeline.py, and opens it. Returns the seconds until it is painted."""
         path = os.path.join(self.folder, "page.html")
         subprocess.run([sys.executable, os.path.join(SCRIPTS, "timeline.py"), path, *words], check=True)
         return self.window.open(path)
@@ -81,7 +81,7 @@ class Page:
         return self.see("document.getElementById(%r).textContent" % name)
 
     def chips(self):
-        """The counts above the lanes: a word and its number, with the reasons."""
+        """The counts above the lanes: each a word and how many there are, with the reasons."""
         return self.see("[...document.querySelectorAll('#counts button')].map((chip) => chip.textContent)")
 
     def messages(self):
@@ -91,14 +91,14 @@ class Page:
         self.see("{const list = document.getElementById(%r); list.value = %r; list.dispatchEvent(new Event('change'));}" % (name, value))
 
     def place(self, lane, tick):
-        """Where a tick of a lane is on the screen: the middle of its cell."""
+        """The place on the screen of the middle of a tick's cell in a lane."""
         left, start, scale = self.see("(() => {const c = document.getElementById('lanes');"
                                       "return [c.getBoundingClientRect().left, +c.dataset.from, +c.dataset.scale];})()")
         top = self.see("document.querySelector('[data-lane=%s]').getBoundingClientRect().top" % lane)
         return left + (tick + 0.5 - start) * scale, top + 44
 
     def bring(self, tick, scale):
-        """Zooms by the wheel until ticks are so wide, and drags until one stands at the left."""
+        """Zooms with the wheel until a tick is `scale` pixels wide, and drags until this tick is at the left."""
         x, y = self.place("came", tick)
         now = float(self.see("document.getElementById('lanes').dataset.scale"))
         left = self.see("document.getElementById('lanes').getBoundingClientRect().left")
@@ -110,12 +110,12 @@ class Page:
         self.checked.equal("a drag moves the ticks with the mouse", round(self.place("came", tick)[0]), round(left + 40))
 
     def hover(self, lane, tick):
-        """What the page says of a tick under the mouse."""
+        """What the page says about a tick under the mouse."""
         self.window.mouse("mouseMoved", *self.place(lane, tick))
         return self.see("document.getElementById('tip').hidden ? [] : [...document.getElementById('tip').children].map((row) => row.textContent)")
 
     def search(self, query, shift=False):
-        """Types into the search, and answers what it says was found."""
+        """Types into the search, and returns what the page says was found."""
         self.see("{const field = document.getElementById('search'); field.focus(); field.value = %r;}" % query)
         self.window.key("Enter", shift)
         self.see("document.activeElement.blur()")
@@ -125,14 +125,14 @@ class Page:
         return self.see("[...document.querySelectorAll('#details .said')].map((row) => row.textContent)")
 
     def colour(self, lane, tick, down=-12):
-        """The colour painted in the cell of a tick, so many pixels below its middle."""
+        """The colour painted in the cell of a tick, `down` pixels below its middle."""
         x, y = self.place(lane, tick)
         return self.see("(() => {const c = document.getElementById('lanes'), r = c.getBoundingClientRect();"
                         "return [...c.getContext('2d').getImageData(Math.round(%f - r.left), Math.round(%f - r.top), 1, 1).data].slice(0, 3);})()"
                         % (x - 4, y + down + 2))
 
     def has_frame(self, lane, tick):
-        """Whether the colour of what was altered stands above the middle of a cell that is else empty: its dashed frame."""
+        """Whether a cell has the dashed frame of what was altered, and is otherwise empty."""
         x, y = self.place(lane, tick)
         altered, panel = self.legend("altered"), self.see("(() => {const s = document.createElement('i'); s.style.color = 'var(--panel)';"
                                                           "document.body.append(s); const c = getComputedStyle(s).color; s.remove(); return c;})()")
@@ -150,7 +150,7 @@ class Page:
         return [int(part) for part in re.findall(r"\d+", found)[:3]]
 
     def hover_bytes(self, lane, ticks):
-        """Every byte of a line: the page names its lane, its tick and what it is."""
+        """Checks that for every byte of a line the page names its lane, its tick and its value."""
         for tick, byte in enumerate(ticks):
             if byte is not None:
                 said = self.hover(lane, tick)
@@ -159,14 +159,14 @@ class Page:
                 self.checked.true("the tick at %s %d: %r" % (lane, tick, said), any(row.startswith("tick %d · " % tick) for row in said))
 
     def hover_notes(self, lane, path, shift=0, without=()):
-        """Each note stands where its burst begins, in the note's own words."""
+        """Checks that the page shows each note where its burst begins, in the note's own words."""
         for note in lines_of(path):
             word, tick = note.split()[0], int(re.search(r" at (\d+)", note).group(1))
             if word not in without:
                 self.checked.true("%r on %s" % (note, TITLES[lane]), note in self.hover(lane, tick + shift))
 
     def troubles(self):
-        """The ticks of the places of trouble, from the first one on, as the key n goes through them."""
+        """The ticks of the places of trouble, from the first one on, in the order in which the key n goes through them."""
         found, last = [], None
         for _ in range(200):
             self.window.key("n")
@@ -186,7 +186,7 @@ class Page:
 
 
 def counts(*paths):
-    """How often each first word of notes stands in these texts."""
+    """How often each word is the first one of a note in these texts."""
     found = {}
     for path in paths:
         for line in lines_of(path):
@@ -213,7 +213,7 @@ def words_of(protocol, title, files, notes):
 
 
 def test_example(page):
-    """The Modbus RTU example: all bytes, notes, what was altered and spoiled, search, trouble and time."""
+    """Checks the Modbus RTU example: all bytes, notes, what was altered and spoiled, search, trouble and time."""
     checked, ticks = page.checked, {lane: ticks_of(path) for lane, path in RTU_FILES.items()}
     page.make(*words_of("rtu", "Requests", RTU_FILES, RTU_NOTES))
     checked.equal("messages", page.messages(), [])
@@ -224,7 +224,7 @@ def test_example(page):
     page.hover_notes("sent", RTU_NOTES[0], without=("unsealed",))
     page.hover_notes("came", RTU_NOTES[1])
     page.hover_notes("received", RTU_NOTES[1], 18, without=("dropped",))
-    # examples/altered.ticks, tick 150: function 03 changed to 06, and the CRC 40 21 made right again, 80 22.
+    # In examples/altered.ticks, tick 150, the function 03 was changed to 06, and the CRC from 40 21 to 80 22, so that it is right.
     for tick, left, came in ((151, "03", "06"), (153, "40", "80"), (154, "21", "22")):
         checked.true("%s was altered" % tick, "left as %s, came as %s" % (left, came) in page.hover("came", tick))
     for tick in (0, 7, 100, 150, 158, 171, 300):
@@ -236,18 +236,18 @@ def test_example(page):
         was, now = ticks["came"][tick - 18], ticks["received"][tick]
         checked.true("%d is spoiled" % tick, "spoiled: came as %02x, leaves as %02x" % (was, now) in page.hover("received", tick))
     look_for(page, ticks)
-    # By the comments of both texts: two bursts that aren't sealed and don't come, one that is early, and the attacker's.
+    # By the comments in both texts: two bursts that aren't sealed and don't come, one that is early, and what the attacker did.
     checked.equal("places of trouble", page.troubles(), "50 73 73 100 101 101 150 156 200 250 264".split())
     look_at_time(page)
 
 
 def spoiled_of(came, received, delay):
-    """The ticks of the received line whose byte isn't the one that came so many ticks before."""
+    """The ticks of the received line whose byte isn't the one that came `delay` ticks before."""
     return [tick for tick, byte in enumerate(received) if byte is not None and came[tick - delay] is not None and came[tick - delay] != byte]
 
 
 def occurrences(ticks, wanted):
-    """How often bytes stand one behind the other within a burst."""
+    """How often these bytes come one after the other within a burst."""
     found = 0
     for start, end in model.bursts(ticks):
         body = bytes(byte for byte in ticks[start:end + 1] if byte is not None)
@@ -257,7 +257,7 @@ def occurrences(ticks, wanted):
 
 def look_for(page, ticks):
     checked = page.checked
-    # Of cd 01 the first ends a burst, and the second begins the next one.
+    # cd ends a burst and 01 begins the next one, so cd01 isn't found there.
     for text in ("01050000ff008c3a", "01 03", "c5cd", "00027d8e", "8c3b", "cd01"):
         count = sum(occurrences(line, bytes.fromhex(text)) for line in ticks.values())
         checked.equal("search for %s" % text, page.search(text), "1 of %d" % count if count else "nothing found")
@@ -279,7 +279,7 @@ def look_for(page, ticks):
 
 
 def look_at_time(page):
-    """A tick is 11 bits at 9600 baud, and what is chosen."""
+    """Checks that a tick takes 11 bits at 9600 baud, or else what is chosen, and that zoom and move change the view."""
     page.window.key("0")
     checked = page.checked
     checked.equal("at 9600x11", page.hover("came", 131)[-1], "tick 131 · %.1f ms" % (131 * 11 / 9.6))
@@ -295,7 +295,7 @@ def look_at_time(page):
 
 
 def test_outstation(page):
-    """The DNP3 example: headers in words, a fill, and notes of headers."""
+    """Checks the DNP3 example: headers in words, a fill, and notes about headers."""
     checked, ticks = page.checked, {lane: ticks_of(path) for lane, path in DNP_FILES.items()}
     page.make(*words_of("any", "Outstation", DNP_FILES, DNP_NOTES))
     checked.equal("the protocol, by the bytes", page.see("document.getElementById('protocol').value"), "dnp3")
@@ -305,7 +305,7 @@ def test_outstation(page):
         tick = int(re.search(r" at (\d+)", note).group(1))
         page.search("@%d" % tick)
         checked.true(note, note in page.hover("device", tick) and note in page.hover("sent", tick))
-    # The header of ten bytes says 292, and 282 are lacking: they leave from tick 28 on.
+    # The header of ten bytes says that the frame has 292 bytes. The 282 that are lacking leave as a fill from tick 28 on.
     for tick, place in ((28, 1), (100, 73), (309, 282)):
         page.search("@%d" % tick)
         checked.true("the fill at %d" % tick, "00 · byte %d of 282 of the fill" % place in page.hover("received", tick))
@@ -330,7 +330,8 @@ def test_outstation(page):
 
 
 def altered_session(proto, profile, folder):
-    """A session by the model: of the second packet a byte 64 comes as 65, and the third is lost. Its texts, and the altered tick."""
+    """The texts of a session by the model, and the altered tick: a byte 64 of the second packet comes as 65, and the third packet is
+    lost."""
     if proto is Rtu:
         bodies = [[1, 3, 0, 0, 0, 10], [1, 6, 0, 0x64, 0, 7], [1, 5, 0, 2, 0xff, 0], [7, 16, 0, 1, 0, 1, 2, 0, 9]]
         frames = [body + list(Rtu.end(body)) for body in bodies]
@@ -353,8 +354,8 @@ def altered_session(proto, profile, folder):
     return paths, tick, third, verdicts
 
 
-# Frames without their CRCs, and what the standards call them: Modbus by function code, DNP3 by the control octet
-# (DIR 80, PRM 40) and the function of the application layer behind the transport and the application control octet.
+# Frames without their CRCs, and what the standards call them: Modbus by function code, DNP3 by the control octet (DIR 80, PRM 40)
+# and by the function of the application layer, which follows the transport octet and the application control octet.
 RTU_WORDS = (
     ("01030000000a", "device 1: read holding registers (03)", "from 0 on, 10 of them"), ("0701000a0003", "device 7: read coils (01)", "from 10 on, 3 of them"),
     ("0105000aff00", "device 1: write single coil (05)", "coil 10: on"), ("0105000a0000", "device 1: write single coil (05)", "coil 10: off"),
@@ -371,7 +372,7 @@ DNP_WORDS = (
 
 
 def test_words(page):
-    """Functions and headers in words."""
+    """Checks functions and headers in words."""
     frames = []
     for body, *words in RTU_WORDS:
         frame = list(bytes.fromhex(body))
@@ -402,7 +403,7 @@ def write(page, name, text):
 
 
 def test_joined(page):
-    """Two bursts that left and came as one, since the silence between them was filled; and one that came as two."""
+    """Checks two bursts that came as one, since the silence between them was filled, and one that came as two."""
     checked, page_words = page.checked, ["rtu"]
     page_words += ["sent=" + write(page, "sent", "+01020304\n-5\n+05060708\n-40\n+1112131415161718\n-9\n")]
     page_words += ["came=" + write(page, "came", "+010203040000000000050607ff\n-40\n+1112\n-4\n+1718\n-9\n")]
@@ -425,7 +426,7 @@ def test_joined(page):
 
 
 def test_replayed(page):
-    """What `replay` reads and prints: two lines with a mark between, and lists of frames."""
+    """Checks what `replay` reads and prints: two lines with a mark between them, and lists of frames."""
     checked = page.checked
     with open(RTU_FILES["device"]) as device, open(RTU_FILES["came"]) as came:
         both = write(page, "both", device.read() + "%\n" + came.read())
@@ -441,7 +442,7 @@ def test_replayed(page):
 
 
 def test_altered(page):
-    """A byte that was altered and a packet that was lost, in both protocols and profiles, which the page tells by the bytes."""
+    """Checks an altered byte and a lost packet in both protocols and profiles, which the page finds by the bytes."""
     checked = page.checked
     for proto, profile in ((Rtu, Y18), (Rtu, Y24), (Dnp3, Y18), (Dnp3, Y24)):
         word = {(Rtu, Y18): "rtu", (Rtu, Y24): "rtu24", (Dnp3, Y18): "dnp3", (Dnp3, Y24): "dnp24"}[proto, profile]
@@ -466,7 +467,7 @@ def test_altered(page):
         checked.equal("%s: places of trouble" % word, len(page.troubles()), 2)
 
 
-# Texts, and the line and cause by docs/TICK_TEXT.md, or None where the text is right.
+# Texts, each with the line and the cause by docs/TICK_TEXT.md, or None if the text is right.
 TICK_TEXTS = (
     ("+01030000000ac5cd\n-4\n+0103\n-07\n", "line 4 count"), ("x", "line 1 char"), ("+0g\n", "line 1 char"), ("+012\n", "line 1 odd"),
     ("+0", "line 1 odd"), ("+\n", "line 1 empty"), ("+01\n-\n", "line 2 empty"), ("-1000001\n", "line 1 count"), ("+" + "00" * 33, "line 1 long"),
@@ -477,7 +478,7 @@ TICK_TEXTS = (
 
 
 def test_malformed(page):
-    """Texts that are none get a message with line and cause, and what stands before is shown."""
+    """Checks that a wrong tick text gets a message with line and cause, and that what comes before this place is shown."""
     words = []
     for index, (text, _) in enumerate(TICK_TEXTS):
         path = os.path.join(page.folder, "text%d.ticks" % index)
@@ -499,7 +500,7 @@ HOSTILE = "</script><script>window.hit = 1</script><img src=x onerror='window.hi
 
 
 def test_escaped(page):
-    """Notes that are none, notes of other texts, and what a text or a name would do if it were taken as HTML."""
+    """Checks lines that aren't notes, notes of other texts, and texts and names that must not be taken as HTML."""
     checked = page.checked
     path = os.path.join(page.folder, "<b>notes&amp;.txt")
     with open(path, "w") as file:
@@ -519,7 +520,7 @@ def test_escaped(page):
 
 
 def test_dropped(page):
-    """An empty page takes the texts by drag and drop, and knows by name and content what each is."""
+    """Checks that an empty page takes texts by drag and drop, and knows by name and content what each text is."""
     checked = page.checked
     page.make()
     checked.true("it says what to do", "Drop the texts" in page.see("document.getElementById('empty').innerText"))
@@ -538,7 +539,7 @@ def test_dropped(page):
 
 
 def big_session(folder, count=100000):
-    """Texts of many frames, one in ten altered in a byte and one in ten lost. Tags are random: the page has no key."""
+    """Writes texts of many frames, one in ten with an altered byte and one in ten lost. The tags are random, since the page has no key."""
     chance = random.Random(1)
     pool = []
     for _ in range(500):
@@ -569,7 +570,7 @@ def big_session(folder, count=100000):
 
 
 def test_load(page):
-    """100,000 frames are there within 3 s of the time that the page's own thread has; trouble and search are quick in them."""
+    """Checks that 100,000 frames are shown within 3 s of processor time of the page's own thread, and that trouble and search are quick."""
     big_session(page.folder)
     file = lambda name: os.path.join(page.folder, "big." + name)
     page.window.ask("Performance.enable", timeDomain="threadTicks")
@@ -589,7 +590,7 @@ def test_load(page):
 
 
 def take_picture(page, path):
-    """The picture of the documents: an altered packet of the example, beside the one that left."""
+    """Writes the picture of docs/TIMELINE.md: an altered packet of the example, beside the one that left."""
     page.window.size(1280, 740)
     page.make(*words_of("rtu", "Requests, as an attacker left the link", RTU_FILES, RTU_NOTES))
     page.window.key("n")

@@ -3,8 +3,8 @@
     python3 scripts/trial_model.py P SEED COUNT
     python3 scripts/trial_model.py compare [PROGRAM]
 
-The second form compares what the program prints with it, for both protocols and profiles and some seeds. It ends with 1
-where a line differs.
+The first form prints it. The second form compares it with what the program prints, for both protocols and profiles and some
+seeds, and ends with 1 if a line differs.
 """
 import subprocess, sys
 

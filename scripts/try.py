@@ -4,8 +4,8 @@
     python3 scripts/try.py
 
 The session is the recorded line of a control centre (examples/requests.ticks) and its link as an attacker left it
-(examples/altered.ticks). What `replay` prints of them is compared with examples/expected/session.lists.txt. The build takes
-a minute or two, is made anew each time and isn't kept. The exit status is 0 where the program ends well and nothing differs.
+(examples/altered.ticks). What `replay` prints for them is compared with examples/expected/session.lists.txt. The build takes
+a minute or two, is made anew each time and isn't kept. The exit status is 0 if the program ends well and nothing differs.
 """
 import os, subprocess, sys
 

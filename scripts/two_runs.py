@@ -1,12 +1,13 @@
 #!/usr/bin/env python3
-"""Runs several `link_replay` at once over one journal, and looks for a number that comes twice.
+"""Runs several `link_replay` at the same time over one journal, and looks for a number that comes twice.
 
     python3 scripts/two_runs.py [PROGRAM] [SECONDS]
 
 While a `seal` waits for its input, a second `seal`, a `check` and an `init` over the same journal must end with status 7,
-with nothing read and nothing written; they must work again once the first has ended, or was killed. Then eight processes
-at a time race over one journal for so many SECONDS (10): each run must seal all its frames, or end with status 7, and no
-number may come twice. It ends with 1 where a run leaves anything else. It is no part of the gate: locks are the system's.
+with nothing read and nothing written. They must work again after the first has ended or was killed. Then eight processes
+at a time race over one journal for SECONDS seconds (10 if not given): each run must seal all its frames, or end with status
+7, and no number may come twice. It ends with 1 if a run leaves anything else. It is no part of the gate: locks are made by
+the system.
 """
 import os, re, subprocess, sys, tempfile, threading, time
 
@@ -20,7 +21,7 @@ REFUSED = (7, b"", b"fault: journal\n")
 
 
 def open_files(process):
-    """The paths of the files that a process has open; none where they can't be seen."""
+    """The paths of the files that a process has open, or no paths if they can't be seen."""
     try:
         places = "/proc/%d/fd" % process
         return [os.readlink(os.path.join(places, place)) for place in os.listdir(places)]
@@ -44,7 +45,7 @@ class Journal:
         return open(self.path, "rb").read()
 
     def start(self, command):
-        """A run that has its journal's file open, and waits for its input."""
+        """Starts a run, and returns it when it has its journal's file open and waits for its input."""
         run = subprocess.Popen(self.words(command), stdin=subprocess.PIPE, stdout=subprocess.PIPE, stderr=subprocess.PIPE)
         while run.poll() is None and self.path not in open_files(run.pid):
             time.sleep(0.001)
@@ -52,7 +53,7 @@ class Journal:
         return run
 
     def run(self, command, frames):
-        """Status, output and log of a run that ends, and how many bytes of its input it has read."""
+        """The status, output and log of a run that has ended, and how many bytes of its input it has read."""
         with tempfile.TemporaryFile(dir=self.folder) as source:
             source.write(FRAME * frames)
             source.seek(0)
