@@ -2,11 +2,11 @@
 use Rattle.dnp_link_frame.specs.{Rules.dnp_rules, RulesLaws.dnp_lawful, RulesLaws.dnp_framed}
 use Rattle.{line_spacer.specs.Spacing.accepted_of, line_texts.specs.Sending.SinkTexts}
 use Rattle.{line_texts.specs.Sending.sink_texts, link_replay.specs.ReadCommand.device_reads}
-use Rattle.link_replay.specs.SpaceCommand.{spaced_by, SpacesBy, Spaces}
+use Rattle.link_replay.specs.SpaceCommand.{spaced_by, SpacesBy, SpacesTexts, Spaces}
 use Rattle.link_words.specs.Links.{gap_of}
 use Rattle.link_words.specs.declared.words.Profile.{Profile, TheVariants.Y18, TheVariants.Y24}
 use Rattle.link_words.specs.declared.words.Proto.{Proto, TheVariants.Rtu, TheVariants.Dnp3}
-use Rattle.replay_status.specs.{Outside.outside, declared.status.Status.Status}
+use Rattle.replay_status.specs.{Outside.Outside, Outside.outside, declared.status.Status.Status}
 use Rattle.replay_status.specs.declared.status.Status.TheVariants.{Done, NoMemory}
 use Rattle.space_replay.specs.{SpacedTexts.most_waiting, SpacesLine.SpacesLine}
 use Rattle.{space_replay.specs.SpacesLine.space_rest, spacer_laws.proofs.Leaving.rtu-leave}
@@ -61,18 +61,21 @@ module _ (proto : Proto) (profile : Profile) (in_before in_now : Option (List �
   whole-spaces Done h = record { items = h.items; takes = h.takes; sent = h.sent }
   whole-spaces status h = h
 
--- What each status says of `space`, by what it says of the spacer's run over the line.
+-- If the input and the sinks are as they were, and nothing else was touched, so is the outside.
+pub same-outside : {K S O L D : Type 0} (key : K) (in0 in1 : S) (out0 out1 : O) (log0 log1 : L)
+    (disk : D) → in1 ≡ in0 → out1 ≡ out0 → log1 ≡ log0
+    → outside key in1 out1 log1 disk ≡ outside key in0 out0 log0 disk
+same-outside key in0 in1 out0 out1 log0 log1 disk input out log = rw (input, out, log) refl
+
+-- If a run of a spacer has written the texts that `space` makes, it has done what `space` does.
 module _ {K S O L D : Type 0} (s : Source S) (o : Sink O) (l : Sink L) (proto : Proto)
-    (profile : Profile) (key : K) (disk : D) (in0 in1 : S) (out0 out1 : O) (log0 log1 : L) where
+    (profile : Profile) (before after : Outside K S O L D) where
   pub spaces-of : (status : Status)
-      → SpacesLine (spaced_by proto profile) (s.left in0) (s.left in1)
-      (sink_texts (o.held out0) (l.held log0)) (sink_texts (o.held out1) (l.held log1)) status
-      → (status ≡ NoMemory → (in1 ≡ in0) × ((out1 ≡ out0) × (log1 ≡ log0)))
-      → Spaces s o l proto profile (outside key in0 out0 log0 disk) (outside key in1 out1 log1 disk)
-      status
-  spaces-of status line same = record {
-    line = spaces-by proto profile _ _ _ _ status line;
-    untouched = λ none. let is = same none in rw (is.0, is.1.0, is.1.1) refl;
-    key = refl;
-    disk = refl;
+      → SpacesTexts s o l (spaced_by proto profile) before after status
+      → Spaces s o l proto profile before after status
+  spaces-of status h = record {
+    line = spaces-by proto profile _ _ _ _ status h.line;
+    untouched = h.untouched;
+    key = h.key;
+    disk = h.disk;
   }

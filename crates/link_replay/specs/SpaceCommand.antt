@@ -39,6 +39,17 @@ module _ (proto : Proto) (profile : Profile) (in_before in_now : Option (List �
   SpacesBy status = SpacesLine (spaced_by proto profile) in_before in_now before now status
 
 module _ {K S O L D : Type 0} (s : Source S) (o : Sink O) (l : Sink L) where
+  -- What a run of a spacer does if `made` has the texts that the spacer makes of a line: neither
+  -- the key nor the disk is touched, and if there is no memory nothing else is either.
+  pub record SpacesTexts (made : LineAndNotes) (before after : Outside K S O L D)
+      (status : Status) : Type 0 where
+    pub line : SpacesLine made (s.left before.input) (s.left after.input)
+        (sink_texts (o.held before.out) (l.held before.log))
+        (sink_texts (o.held after.out) (l.held after.log)) status
+    pub untouched : status ≡ NoMemory → after ≡ before
+    pub key : after.key ≡ before.key
+    pub disk : after.disk ≡ before.disk
+
   -- What `space` does: neither the key nor the disk is touched, and if there is no memory nothing
   -- else is either.
   pub record Spaces (proto : Proto) (profile : Profile) (before after : Outside K S O L D)

@@ -3,22 +3,47 @@ ghost use Rattle.std.specs.Prelude.{Some};
 ghost use Rattle.replay_status.specs.Ends.{outside_before, outside_after};
 ghost use Rattle.link_replay.specs.declared.words.Command.TheVariants.{Space};
 ghost use Rattle.link_replay.specs.Commands.{HasCauses};
-ghost use Rattle.link_replay.specs.SpaceCommand.{Spaces};
+ghost use Rattle.link_replay.specs.SpaceCommand.{Spaces, SpacesTexts};
+ghost use Rattle.link_words.specs.declared.words.Profile.{Profile};
+ghost use Rattle.link_words.specs.declared.words.Proto.{Proto};
+ghost use Rattle.space_replay.specs.SpacedTexts.{spaced_texts};
 
 use line_spacer::Spacer;
 use link_words::{Profile, Proto, with_link};
 use replay_status::{Ends, Status};
-use space_replay::space_frames;
+use space_replay::{LineSpacer, space_frames};
 use std::alloc::Global;
 use yasir_io::{Sink, SlotDisk, Source};
+
+// Runs a spacer over the input. It is proved once, for any spacer: with the four spacers in place of
+// `B` the same proof takes several times as long.
+fn space_with<B: LineSpacer, K: Source, S: Source, O: Sink, L: Sink, D: SlotDisk>(
+    alloc: Global,
+    ends: Ends<K, S, O, L, D>,
+) -> Status
+    requires { B.gap_fits }
+    ensures spaces { SpacesTexts S.Source O.Sink L.Sink (spaced_texts B.reads B.gap)
+        (outside_before ends.entry) (outside_after ends.exit) result }
+    ensures causes { (proto : Proto) (profile : Profile)
+        → HasCauses K.Source S.Source O.Sink L.Sink D.SlotDisk (Some (Space proto profile))
+        (outside_before ends.entry) (outside_after ends.exit) result }
+{
+    let Ends {
+        input,
+        out,
+        log,
+        ..
+    } = ends;
+    space_frames::<B, S, O, L>(alloc, input, out, log)
+}
 
 // Runs a spacer of the protocol's device over the input.
 macro_rules! space_by {
     (
         [$rules:ty, $device:ty, $mac:ty, $word:literal, $delay:literal, $gap:literal],
-        $alloc:expr, $input:expr, $out:expr, $log:expr
+        $alloc:expr, $ends:expr
     ) => {
-        return space_frames::<Spacer<$device, $gap>, S, O, L>($alloc, $input, $out, $log)
+        space_with::<Spacer<$device, $gap>, K, S, O, L, D>($alloc, $ends)
     };
 }
 
@@ -35,11 +60,5 @@ pub fn space<K: Source, S: Source, O: Sink, L: Sink, D: SlotDisk>(
     ensures causes { HasCauses K.Source S.Source O.Sink L.Sink D.SlotDisk
         (Some (Space proto profile)) (outside_before ends.entry) (outside_after ends.exit) result }
 {
-    let Ends {
-        input,
-        out,
-        log,
-        ..
-    } = ends;
-    with_link!(proto, profile, space_by(alloc, input, out, log))
+    with_link!(proto, profile, space_by(alloc, ends))
 }
