@@ -16,14 +16,14 @@ use Rattle.{replay_lists.specs.FrameList.Holds, sequence_journal.specs.Journal.j
 use Rattle.std.proofs.Common.{◌≡◌, ◌∙◌, ℕ, ◌+◌, ◌-◌, ◌<◌, ◌≤◌, List, [], ◌∷◌, ◌++◌, length, map}
 use Rattle.std.proofs.Common.{take, Option, Some, None, Ok, Result, refl, ap, sym, subst, arith}
 use Rattle.std.proofs.Common.{append-nil, append_assoc, length-append}
-use Rattle.std.proofs.lemmas.List.{map-append, length-replicate, take-replicate, length-take}
-use Rattle.std.proofs.lemmas.List.{take-take, replicate-append-replicate}
+use Rattle.std.proofs.lemmas.List.{map-append, length-replicate, take-replicate}
+use Rattle.std.proofs.lemmas.List.{replicate-append-replicate}
 use Rattle.std.specs.Io.KnownBytes.{append_known}
 use Rattle.yasir_io.specs.{TextBuffer.waiting_bytes, declared.Failed.Failed}
 use Rattle.yasir_ticks.specs.{Bursts.bursts_from, Ticks.silent}
 use Rattle.yasir_ticks.specs.declared.tick.Tick.{Tick, TheVariants.Silent}
 
--- ---- lines, fronts and texts
+-- ---- lines and texts
 
 -- a walk over no line notes nothing
 no-note : {S N : Type 0} (w : Walker S N) (s : S) → notes_of w s [] ≡ []
@@ -33,16 +33,6 @@ no-note w s = refl
 no-tick : {S N : Type 0} (w : Walker S N) (s : S) → line_of w s [] ≡ []
 unfolding bursts_from
 no-tick w s = refl
-
--- the first `n` ticks of a front are the first `n` ticks of the whole
-pub first-front : (n most : ℕ) (all front : List Tick) → front ≡ take most all → n ≤ length front
-    → (n ≤ length all) × (take n front ≡ take n all)
-first-front n most all front is within =
-    let size : length front ≡ length (take most all) = ap length is in
-    let few : n ≤ most = omega (arith, within, size, length-take most all) in (
-      omega (arith, within, size, length-take most all),
-      ap (take n) is ∙ take-take n most all few,
-    )
 
 -- a text that was written to an empty memory
 pub text-of : (bytes text : List ℕ) → Some bytes ≡ append_known (Some []) text → bytes ≡ text

@@ -1,4 +1,4 @@
-use Rattle.box_command.proofs.Kept.{keeps-run, first-front}
+use Rattle.box_command.proofs.{Fronts.front_first, Kept.keeps-run}
 use Rattle.{burst_walk.specs.Answered.answered, line_texts.proofs.PushedRuns.pushed_as}
 use Rattle.link_box.specs.Runs.{TakesRun}
 use Rattle.std.proofs.Common.{◌≡◌, ◌∙◌, ◌+◌, length, take, ap, refl, subst, sym, arith}
@@ -8,7 +8,7 @@ use Rattle.box_command.proofs.kept_box.KeptBox.pass.Goals as goal
 pub returns : goal.returns
 returns g c =
     let n = c.pass-count.result in
-    let first = first-front n c.min-most.result (run_ticks c.args.run)
+    let first = front_first n c.min-most.result (run_ticks c.args.run)
     (run_ticks c.front-front.result) c.front-front.ensures c.pass-count.ensures.within in
     let size : length (take n (run_ticks c.args.run)) ≡ n =
     length-take-le n (run_ticks c.args.run) first.0 in
