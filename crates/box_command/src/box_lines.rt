@@ -11,7 +11,7 @@ ghost use Rattle.tick_drive.specs.Consumers.{MayTake, Gives, GivesFront, GivesSo
 ghost use Rattle.line_texts.specs.Sending.{SinkTexts};
 ghost use Rattle.box_command.specs.BoxLines.{driving, state_of, DrivesBox};
 
-use crate::line_box::LineBox;
+use crate::line_box::{LineBox, MAX_RUN};
 use crate::noted_steps::push_step;
 use burst_walk::RunBytes;
 use hmac_tag::Dir;
@@ -23,9 +23,6 @@ use yasir_ticks::{Tick, TickRun};
 
 #[cfg(test)]
 mod turn_tests;
-
-// The most ticks that one call of the box's `pass` is given.
-const MAX_RUN: usize = 4_294_967_295;
 
 /// A box over its journal, and the texts that are made of its line: the other line as canonical
 /// tick text, and a line for each note, which goes to the log.

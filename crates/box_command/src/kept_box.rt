@@ -18,7 +18,7 @@ ghost use Rattle.box_command.specs.TimedLines.{timed_lines};
 ghost use Rattle.box_command.specs.KeptBox.{timed_of, ticks_kept, AreTextsOf, KeepsLine, IsSteady};
 ghost use Rattle.box_command.specs.KeptBox.{KeepsOn, KeepsUpTo, KeepsSome};
 
-use crate::line_box::LineBox;
+use crate::line_box::{LineBox, MAX_RUN};
 use crate::memory_text::MemoryText;
 use burst_walk::RunBytes;
 use hmac_tag::Dir;
@@ -31,9 +31,6 @@ use yasir_ticks::{MAX_TICKS, Tick, TickRun};
 
 #[cfg(test)]
 mod turn_tests;
-
-// The most ticks that one call of the box's `pass` is given.
-const MAX_RUN: usize = 4_294_967_295;
 
 /// A box over a new journal on a disk that never fails, and what it has made of a line.
 #[derive(Drop)]
