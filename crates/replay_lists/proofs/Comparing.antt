@@ -15,7 +15,7 @@ use Rattle.replay_lists.specs.declared.comparison.Comparison.{Comparison}
 
 -- ---- places
 
-none-before : (o : Option ℕ) → option_map suc o ≡ None → o ≡ None
+pub none-before : (o : Option ℕ) → option_map suc o ≡ None → o ≡ None
 none-before None none = refl
 none-before (Some i) none = cc
 

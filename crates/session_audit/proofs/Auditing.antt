@@ -9,6 +9,7 @@ use Rattle.receiver_laws.proofs.Rising.{have_passed}
 use Rattle.receiver_laws.specs.Accounted.{forged, is_among, pairs_of, rightly_passed, IsSubsequence}
 use Rattle.receiver_laws.specs.{Accounted.IsAccountedFor, AllLeft.ReadsAllThatPassed}
 use Rattle.receiver_laws.specs.{Headline.bytes_read, Headline.bytes_sealed, Reading.delivered}
+use Rattle.replay_lists.proofs.Comparing.{none-before}
 use Rattle.replay_lists.specs.Comparison.{is_same_read, first_difference, read_later}
 use Rattle.rtu_frame.specs.Rules.{rtu_rules}
 use Rattle.sequence_journal.specs.{Uptimes.RiseFrom, declared.numbers.TheConstants.LIMIT}
@@ -40,10 +41,6 @@ read-itself : (f : FrameRead) → is_same_read f f ≡ true
 read-itself f = and_from (f.start == f.start) (bytes_eq f.frame f.frame)
     (eq-eqb f.start f.start refl) ((bytes_eq-Decides f.frame f.frame).1 refl)
 
-none-later : (o : Option ℕ) → option_map suc o ≡ None → o ≡ None
-none-later None none = refl
-none-later (Some i) none = cc
-
 -- Two lists without a difference are equal.
 pub no-difference : (x y : List FrameRead) → first_difference x y ≡ None → x ≡ y
 no-difference [] [] none = refl
@@ -54,7 +51,7 @@ no-difference (f ∷ x) (g ∷ y) none =
     (λ same.
     let rest : option_map suc (first_difference x y) ≡ None = sym (cond-true _ _ _ same) ∙ none in
     ap (λ a. a ∷ x) (same-read f g same)
-    ∙ ap (λ l. g ∷ l) (no-difference x y (none-later (first_difference x y) rest)))
+    ∙ ap (λ l. g ∷ l) (no-difference x y (none-before (first_difference x y) rest)))
     (λ other. let never : Some 0 ≡ None = sym (cond-false _ _ _ other) ∙ none in cc)
     (cases_Bool (is_same_read f g))
 
