@@ -2,8 +2,9 @@
 use Rattle.std.proofs.Common.{◌≡◌, ◌+◌, ◌-◌, ◌<◌, ◌≤◌, ℕ, List, [], ◌∷◌, ◌++◌, length, take, drop}
 use Rattle.std.proofs.Common.{get_or, Option, Some, None, ap, refl, ◌∙◌, sym, subst, append_assoc}
 use Rattle.std.proofs.Common.{arith}
-use Rattle.std.proofs.lemmas.List.{take_more, take-append-drop, take-take, length-take}
+use Rattle.std.proofs.lemmas.List.{take-append-drop, take-take, length-take}
 use Rattle.{std.specs.Io.KnownBytes.prepend_known, tick_drive.specs.Input.ComesFirst}
+use Rattle.yasir_ticks.proofs.ManyBytes.{text_more}
 
 -- If n of the kept bytes are met, what is known of the input stays the same.
 pub met_some : (before left : Option (List ℕ)) (text kept : List ℕ) (n : ℕ)
@@ -14,12 +15,6 @@ met_some before (Some xs) text kept n p =
     p ∙ ap Some (sym (append_assoc text (take n kept) (drop n kept ++ xs)
     ∙ ap (λ l. text ++ l) (sym (append_assoc (take n kept) (drop n kept) xs)
     ∙ ap (λ l. l ++ xs) (take-append-drop n kept))))
-
--- A text followed by n bytes, and by the next one, is followed by n + 1 bytes.
-pub text_more : (text bytes : List ℕ) (n : ℕ) → n < length bytes
-    → (text ++ take n bytes) ++ get_or bytes n 0 ∷ [] ≡ text ++ take (n + 1) bytes
-text_more text bytes n h = append_assoc text (take n bytes) (get_or bytes n 0 ∷ [])
-    ∙ ap (λ x. text ++ x) (sym (take_more bytes n 0 h))
 
 -- A text followed by n - 1 bytes, and by the next one, is followed by n bytes.
 pub text_last : (text bytes : List ℕ) (n : ℕ) → n ≤ length bytes → 0 < n
