@@ -81,5 +81,3 @@ module _ {R M : Type 0} (proto : LineRules R) (macs : Mac M) {B : ℕ} (old : Se
         let at = between Closed is setup line stands in
         let P : Tick → Type 0 = λ u. Between Closed setup line u → SealsThen u setup line in
         subst P (sym (closed-tick proto.rules line t at.is_cut)) (seals setup line) at
-
--- ---- a step that seals nothing leaves the journal and the disk as they were
