@@ -37,7 +37,7 @@ pub enum AnySpacer {
 }
 
 impl AnySpacer {
-    ghost use Rattle.std.specs.Prelude.{◌≡◌, ℕ, ◌+◌, ◌<◌, List, [], IfOk};
+    ghost use Rattle.std.specs.Prelude.{◌≡◌, ◌+◌, ◌<◌, [], IfOk};
 
     /// A spacer that has taken no tick, with room for `room` frames to wait. It takes its memory
     /// here, and none later.

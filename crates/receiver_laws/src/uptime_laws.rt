@@ -1,6 +1,5 @@
 //! Laws over any number of uptimes of both boxes, each box over its own journal.
 ghost use Rattle.std.specs.Prelude.{◌≡◌, ◌≤◌, ◌⊎◌, ℕ, List};
-ghost use Rattle.yasir_ticks.specs.declared.TheConstants.{T3_5_TICKS};
 ghost use Rattle.yasir_ticks.specs.declared.tick.Tick.{Tick};
 ghost use Rattle.yasir_io.specs.Disks.{Slots};
 ghost use Rattle.rtu_frame.specs.Rules.{rtu_rules};
