@@ -247,11 +247,11 @@ impl RtuFamily {
             → rtu_family_reads cut gap (line ++ map Byte (take n bytes.now))
             ≡ rtu_family_reads cut gap line }
     {
-        let Some((first, wait_some)) = bytes.split_first() else {
+        let Some((first, others)) = bytes.split_first() else {
             return;
         };
         self.hear_byte(*first);
-        self.go_on_some(wait_some);
+        self.go_on_some(others);
     }
 
     /// Takes the next ticks, which have these bytes. No frame is read in them. The ticks taken
