@@ -31,7 +31,7 @@ pub use comparison::Comparison;
 pub use frame_box::{FrameBox, FrameStep, Numbered};
 pub use frame_list::FrameList;
 pub use places::is_at_its_number;
-pub use recordings::list_recordings;
+pub use recordings::{LINK_REST, list_recordings};
 pub use replay_lists::ReplayLists;
 pub use session_lists::{Floors, SessionLists, Timing};
 pub use sessions::{list_lines, list_session};

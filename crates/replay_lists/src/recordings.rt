@@ -10,8 +10,9 @@ use device_model::Device;
 use tick_drive::{End, Stop, drive_to_rest};
 use yasir_io::{NoMemory, Sink, Source};
 
-/// How many silent ticks follow the recording after the mark, so that what passes is sent and read.
-const LINK_REST: u32 = 320;
+/// How many silent ticks follow the recording of a link, so that the last verdict falls in them, and
+/// what passes is sent and read.
+pub const LINK_REST: u32 = 320;
 
 /// Lists the frames of two recordings, which a mark separates in the input. The one before the mark
 /// is followed by `device_rest` silent ticks, so that its last burst is judged and its trailer is

@@ -10,10 +10,10 @@ ghost use Rattle.session_audit.specs.Through.{timing_of, setups_of, HasTaken, Ha
 ghost use Rattle.session_audit.specs.Through.{verdict_through};
 
 use crate::judging::judge;
-use crate::link_boxes::{DEVICE_REST, LINK_REST};
+use crate::link_boxes::DEVICE_REST;
 use crate::{Session, Verdict};
 use device_model::Device;
-use replay_lists::{Floors, FrameBox, SessionLists, Timing};
+use replay_lists::{Floors, FrameBox, LINK_REST, SessionLists, Timing};
 use std::alloc::Global;
 use yasir_ticks::T3_5_TICKS;
 

@@ -1,9 +1,6 @@
 //! The boxes of each protocol and profile, which show their frames, and how many silent ticks they
 //! take after a recording.
 
-/// How many silent ticks follow the link, so that the last verdict falls in them.
-pub(crate) const LINK_REST: u32 = 320;
-
 /// How many silent ticks, beyond the receiver's delay, follow the line of the device that sends, so
 /// that its last burst is closed and its trailer is sent.
 pub(crate) const DEVICE_REST: u32 = 6;
