@@ -1,54 +1,23 @@
 -- The program over a file system: which files are its key and its journal, and how it ends.
-use Rattle.std.specs.Prelude.{◌≡◌, ◌↔◌, ◌⊎◌, ℕ, List, Option, None, drop, map, option_map}
-use Rattle.std.specs.String.{string_bytes}
-use Rattle.std.specs.Vec.Iter.{into_iter_items}
-use Rattle.std.specs.declared.string.String.{String}
-use Rattle.std.specs.declared.alloc.Global.{Global}
+use Rattle.std.specs.Prelude.{◌≡◌, ◌↔◌, ◌⊎◌, ℕ, List, Option, None}
 use Rattle.std.specs.declared.io.Read.{Ghosts as Read}
 use Rattle.std.specs.declared.io.Write.{Ghosts as Write}
 use Rattle.std.specs.declared.io.Seek.{Ghosts as Seek}
-use Rattle.std.specs.declared.vec.IntoIter.{IntoIter}
 use Rattle.yasir_io.specs.declared.source.Source.{Ghosts as Source}
 use Rattle.yasir_io.specs.declared.disk.SlotDisk.{Ghosts as SlotDisk}
 use Rattle.yasir_io.specs.declared.files.FileSource.{FileSource}
 use Rattle.yasir_io.specs.declared.files.FileSlots.{FileSlots}
 use Rattle.yasir_io.specs.declared.files.SlotFile.TheVariants.{Standing}
-use Rattle.yasir_io.specs.Edge.{file_of, file_path, file_options, file_faults}
-use Rattle.yasir_io.specs.Edge.{slots_file, slots_path, slots_kind, slots_options, slots_faults}
-use Rattle.yasir_io.specs.SlotFiles.{for_reading, for_slots}
+use Rattle.replay_status.specs.Given.{IsKeyFile, IsJournalFile}
 use Rattle.replay_status.specs.Statuses.{exit_status_of}
+use Rattle.replay_status.specs.declared.given.TheConstants.{NOT_GIVEN}
 use Rattle.replay_status.specs.declared.status.Status.{Status}
 use Rattle.replay_status.specs.declared.status.Status.TheVariants.{Usage, NoMemory}
 use Rattle.live_port.specs.declared.port.Port.{Ghosts as Port}
 use Rattle.link_live.specs.declared.words.Command.{Command}
-use Rattle.link_live.specs.declared.over_files.TheConstants.{NOT_GIVEN}
 use Rattle.link_live.specs.LiveCommand.{around}
 use Rattle.link_live.specs.Programs.{Runs, KeepsDisk}
 use Rattle.link_live.specs.Words.{key_place, journal_place, word_in}
-
--- the words of the arguments that haven't been taken yet: all but the first, which is the program's
--- name
-abbrev pub words_after : IntoIter (String Global) Global → List (List ℕ)
-words_after args = map string_bytes (drop 1 (into_iter_items args))
-
--- Holds if the source is the file at this path, for reading only, and no call on it has been made.
-pub record IsKeyFile {R F D : Type 0} (bytes : Option (List ℕ)) (source : FileSource R F D)
-    : Type 0 where
-  pub path : option_map string_bytes (file_path source) ≡ bytes
-  pub closed : file_of source ≡ None
-  pub options : file_options source ≡ for_reading
-  pub faults : file_faults source ≡ 0
-
--- Holds if the disk is the file at this path, which must exist already, and no call on it has been
--- made.
-pub record IsJournalFile {R F D : Type 0} {read : Read F} {write : Write F} {seek : Seek F}
-    {in_dir : Read D} (bytes : Option (List ℕ)) (disk : FileSlots R F D read write seek in_dir) :
-    Type 0 where
-  pub path : option_map string_bytes (slots_path disk) ≡ bytes
-  pub closed : slots_file disk ≡ None
-  pub options : slots_options disk ≡ for_slots Standing
-  pub kind : slots_kind disk ≡ Standing
-  pub faults : slots_faults disk ≡ 0
 
 module _ {R F D P : Type 0} {read : Read F} {write : Write F} {seek : Seek F} {in_dir : Read D}
     (k : Source (FileSource R F D)) (p : Port P)
@@ -62,7 +31,7 @@ module _ {R F D P : Type 0} {read : Read F} {write : Write F} {seek : Seek F} {i
     pub disk_before : FileSlots R F D read write seek in_dir
     pub disk_after : FileSlots R F D read write seek in_dir
     pub key : IsKeyFile (word_in words asked key_place) key_before
-    pub journal : IsJournalFile (word_in words asked journal_place) disk_before
+    pub journal : IsJournalFile (word_in words asked journal_place) Standing disk_before
     pub usage : (status ≡ Usage) ↔ (asked ≡ None)
     pub runs : Runs k p d asked key_before key_after (around before disk_before)
         (around after disk_after) status

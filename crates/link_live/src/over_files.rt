@@ -1,41 +1,27 @@
 //! The program over a file system: the key and the journal are files whose paths are among its
 //! words.
-ghost use Rattle.std.specs.Prelude.{◌≡◌, ℕ, Option, IfOk, OnErr, IsErr, drop, map, option_map};
-ghost use Rattle.std.specs.Prelude.{slice_get};
+ghost use Rattle.std.specs.Prelude.{◌≡◌, ℕ, Option, IfOk, OnErr, IsErr, map, option_map, slice_get};
 ghost use Rattle.std.specs.String.{string_bytes};
-ghost use Rattle.std.specs.Vec.Iter.{into_iter_items};
+ghost use Rattle.replay_status.specs.Given.{words_after, IsKeyFile, IsJournalFile};
 ghost use Rattle.link_live.specs.declared.words.Command.{Command};
 ghost use Rattle.link_live.specs.Words.{Asks, word_in, key_place, journal_place};
-ghost use Rattle.link_live.specs.OverFiles.{words_after, IsKeyFile, IsJournalFile, RunsOverFiles};
-ghost use Rattle.link_live.specs.OverFiles.{EndsOverFiles};
+ghost use Rattle.link_live.specs.OverFiles.{RunsOverFiles, EndsOverFiles};
 
 use crate::program::run;
 use crate::words::read_words;
 use live_port::Port;
-use replay_status::Status;
-use std::alloc::{AllocError, Global};
+use replay_status::{NOT_GIVEN, Status, take_places, words_after_name};
+use std::alloc::AllocError;
 use std::env::Args;
-use std::fs::File;
 use std::io;
 use std::rt::Files;
 use yasir_io::{FileSlots, FileSource, Lock, SlotDisk, SlotFile, Source};
-
-/// The exit status if the runtime refuses something that a run needs: to open the folder `/`, which
-/// takes the places of standard streams that are closed, the words, or memory for the words.
-pub const NOT_GIVEN: u8 = 13;
 
 /// The place, counted from 0, of the word that is the path of the key's file.
 const KEY_PLACE: usize = 3;
 
 /// The place, counted from 0, of the word that is the path of the journal's file.
 const JOURNAL_PLACE: usize = 4;
-
-// Returns the words after the program's name.
-fn words_after_name(alloc: Global, args: Args) -> Result<Vec<String>, AllocError>
-    ensures { IfOk result (λ words. words.items ≡ drop 1 (into_iter_items args)) }
-{
-    args.skip(1).collect(alloc)
-}
 
 // Returns a copy of the word at a place, or `None` if there is no such word.
 fn word_at(words: &[String], place: usize) -> Result<Option<String>, AllocError>
@@ -50,7 +36,8 @@ fn word_at(words: &[String], place: usize) -> Result<Option<String>, AllocError>
 
 // Returns a copy of the word at a place, or `None` if the words ask for no command.
 fn path_at(words: &[String], place: usize) -> Result<Option<String>, AllocError>
-    ensures { IfOk result (λ path. (asked : Option Command) → Asks (map string_bytes words.now) asked
+    ensures { IfOk result (λ path. (asked : Option Command)
+        → Asks (map string_bytes words.now) asked
         → option_map string_bytes path ≡ word_in (map string_bytes words.now) asked place) }
 {
     match read_words(words) {
@@ -76,7 +63,8 @@ where
     R::File: Lock,
     ensures { IfOk result (λ disk. (asked : Option Command)
         → Asks (map string_bytes words.now) asked
-        → IsJournalFile (word_in (map string_bytes words.now) asked journal_place) disk) }
+        → IsJournalFile (word_in (map string_bytes words.now) asked journal_place)
+        SlotFile.Standing disk) }
 {
     let path = path_at(words, JOURNAL_PLACE)?;
     Ok(FileSlots::new(files, path, SlotFile::Standing))
@@ -101,16 +89,6 @@ where
     Ok(run(words, &mut key, port, &mut disk))
 }
 
-// The system opens each file at the lowest free place (file descriptor). These three files take the
-// places of standard streams that are closed, and stay open as long as the run lasts. Otherwise the
-// key's file could be read as the input, or a note be written into the journal. A folder can be
-// neither read nor written.
-fn take_places<R: Files>(files: &R) -> io::Result<(R::File, R::File, R::File)> {
-    let first = File::open(files, "/")?;
-    let second = File::open(files, "/")?;
-    Ok((first, second, File::open(files, "/")?))
-}
-
 /// Runs the program with the words after the first argument, which is its name. The key and the
 /// journal are files of this system. Returns the exit status.
 pub fn run_over_files<'a, R: Files + AllocGlobal, P: Port>(
@@ -129,6 +107,7 @@ where
         → EndsOverFiles ⟦<FileSource<'a, R> as Source>⟧ P.Port ⟦<FileSlots<'a, R> as SlotDisk>⟧
         (words_after given) asked port.old port.new result) }
 {
+    // The files stay open as long as the run lasts.
     let Ok(_places) = take_places(system) else {
         return NOT_GIVEN;
     };

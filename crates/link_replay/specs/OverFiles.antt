@@ -1,13 +1,8 @@
 -- The program over a file system: which files are its key and its journal, and how it ends.
-use Rattle.std.specs.Prelude.{◌≡◌, ◌↔◌, ◌⊎◌, ℕ, List, Option, Some, None, drop, map, option_map}
-use Rattle.std.specs.String.{string_bytes}
-use Rattle.std.specs.Vec.Iter.{into_iter_items}
-use Rattle.std.specs.declared.string.String.{String}
-use Rattle.std.specs.declared.alloc.Global.{Global}
+use Rattle.std.specs.Prelude.{◌≡◌, ◌↔◌, ◌⊎◌, ℕ, List, Option, Some, None}
 use Rattle.std.specs.declared.io.Read.{Ghosts as Read}
 use Rattle.std.specs.declared.io.Write.{Ghosts as Write}
 use Rattle.std.specs.declared.io.Seek.{Ghosts as Seek}
-use Rattle.std.specs.declared.vec.IntoIter.{IntoIter}
 use Rattle.yasir_io.specs.declared.source.Source.{Ghosts as Source}
 use Rattle.yasir_io.specs.declared.sink.Sink.{Ghosts as Sink}
 use Rattle.yasir_io.specs.declared.disk.SlotDisk.{Ghosts as SlotDisk}
@@ -15,23 +10,16 @@ use Rattle.yasir_io.specs.declared.files.FileSource.{FileSource}
 use Rattle.yasir_io.specs.declared.files.FileSlots.{FileSlots}
 use Rattle.yasir_io.specs.declared.files.SlotFile.{SlotFile}
 use Rattle.yasir_io.specs.declared.files.SlotFile.TheVariants.{Standing, New}
-use Rattle.yasir_io.specs.Edge.{file_of, file_path, file_options, file_faults}
-use Rattle.yasir_io.specs.Edge.{slots_file, slots_path, slots_kind, slots_options, slots_faults}
-use Rattle.yasir_io.specs.SlotFiles.{for_reading, for_slots}
 use Rattle.replay_status.specs.Outside.{Outside, outside}
+use Rattle.replay_status.specs.Given.{IsKeyFile, IsJournalFile}
 use Rattle.replay_status.specs.Statuses.{exit_status_of}
+use Rattle.replay_status.specs.declared.given.TheConstants.{NOT_GIVEN}
 use Rattle.replay_status.specs.declared.status.Status.{Status}
 use Rattle.replay_status.specs.declared.status.Status.TheVariants.{Usage, NoMemory}
 use Rattle.link_replay.specs.declared.words.Command.{Command}
 use Rattle.link_replay.specs.declared.words.Command.TheVariants.{Init}
-use Rattle.link_replay.specs.declared.over_files.TheConstants.{NOT_GIVEN}
 use Rattle.link_replay.specs.Words.{key_place, journal_place, word_in}
 use Rattle.link_replay.specs.Commands.{Runs, HasCauses, MayDo, IsCalm, EndsWell, KeepsDisk}
-
--- the words of the arguments that haven't been taken yet: all but the first, which is the program's
--- name
-abbrev pub words_after : IntoIter (String Global) Global → List (List ℕ)
-words_after args = map string_bytes (drop 1 (into_iter_items args))
 
 -- the path of a file whose path has this place among the words of a command, if the command has
 -- such a file
@@ -43,25 +31,6 @@ path_in place words (Some command) = word_in words (place command)
 abbrev pub journal_kind : Option Command → SlotFile
 journal_kind (Some (Init proto profile dir)) = New
 journal_kind asked = Standing
-
--- Holds if the source is the file at this path, for reading only, and no call on it has been made.
-pub record IsKeyFile {R F D : Type 0} (bytes : Option (List ℕ)) (source : FileSource R F D)
-    : Type 0 where
-  pub path : option_map string_bytes (file_path source) ≡ bytes
-  pub closed : file_of source ≡ None
-  pub options : file_options source ≡ for_reading
-  pub faults : file_faults source ≡ 0
-
--- Holds if the disk is the file at this path, this is what is expected of it, and no call on it has
--- been made.
-pub record IsJournalFile {R F D : Type 0} {read : Read F} {write : Write F} {seek : Seek F}
-    {in_dir : Read D} (bytes : Option (List ℕ)) (expected : SlotFile)
-    (disk : FileSlots R F D read write seek in_dir) : Type 0 where
-  pub path : option_map string_bytes (slots_path disk) ≡ bytes
-  pub closed : slots_file disk ≡ None
-  pub options : slots_options disk ≡ for_slots expected
-  pub kind : slots_kind disk ≡ expected
-  pub faults : slots_faults disk ≡ 0
 
 -- the input and the two sinks
 pub record Streams (S O L : Type 0) : Type 0 where
@@ -107,5 +76,6 @@ module _ {R F D S O L : Type 0} {read : Read F} {write : Write F} {seek : Seek F
   abbrev pub EndsOverFiles : List (List ℕ) → Option Command → Streams S O L → Streams S O L → ℕ
       → Type 0
   EndsOverFiles words asked before after exit_status =
-      ((status : Status) × (exit_status ≡ exit_status_of status) × RunsOverFiles words asked before after status)
+      ((status : Status) × (exit_status ≡ exit_status_of status)
+      × RunsOverFiles words asked before after status)
       ⊎ ((after ≡ before) × ((exit_status ≡ NOT_GIVEN) ⊎ (exit_status ≡ exit_status_of NoMemory)))

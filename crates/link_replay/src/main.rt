@@ -34,8 +34,9 @@ mod words;
 
 pub use hmac_tag::Dir;
 pub use link_words::{Profile, Proto, Usage};
-pub use over_files::{NOT_GIVEN, run_over_files};
+pub use over_files::run_over_files;
 pub use program::run;
+pub use replay_status::NOT_GIVEN;
 use std::process::ExitCode;
 pub use words::{Command, journal_word, key_word, makes_journal, read_words};
 use yasir_io::{StderrSink, StdinSource, StdoutSink};

@@ -1,33 +1,20 @@
 //! The program over a file system: the key and the journal are files whose paths are among its
 //! words.
-ghost use Rattle.std.specs.Prelude.{◌≡◌, Option, IfOk, OnErr, IsErr, drop, map, option_map};
+ghost use Rattle.std.specs.Prelude.{◌≡◌, Option, IfOk, OnErr, IsErr, map, option_map};
 ghost use Rattle.std.specs.String.{string_bytes};
-ghost use Rattle.std.specs.Vec.Iter.{into_iter_items};
+ghost use Rattle.replay_status.specs.Given.{words_after, IsKeyFile, IsJournalFile};
 ghost use Rattle.link_replay.specs.declared.words.Command.{Command};
 ghost use Rattle.link_replay.specs.Words.{Asks, word_in, key_place, journal_place};
-ghost use Rattle.link_replay.specs.OverFiles.{words_after, path_in, journal_kind};
-ghost use Rattle.link_replay.specs.OverFiles.{IsKeyFile, IsJournalFile, streams, RunsOverFiles};
+ghost use Rattle.link_replay.specs.OverFiles.{path_in, journal_kind, streams, RunsOverFiles};
 ghost use Rattle.link_replay.specs.OverFiles.{EndsOverFiles};
 
 use crate::{journal_word, key_word, makes_journal, run};
-use replay_status::Status;
-use std::alloc::{AllocError, Global};
+use replay_status::{NOT_GIVEN, Status, take_places, words_after_name};
+use std::alloc::AllocError;
 use std::env::Args;
-use std::fs::File;
 use std::io;
 use std::rt::Files;
 use yasir_io::{FileSlots, FileSource, Lock, Sink, SlotDisk, SlotFile, Source};
-
-/// The exit status if the runtime refuses something that a run needs: to open the folder `/`, which
-/// takes the places of standard streams that are closed, the words, or memory for the words.
-pub const NOT_GIVEN: u8 = 13;
-
-// Returns the words after the program's name.
-fn words_after_name(alloc: Global, args: Args) -> Result<Vec<String>, AllocError>
-    ensures { IfOk result (λ words. words.items ≡ drop 1 (into_iter_items args)) }
-{
-    args.skip(1).collect(alloc)
-}
 
 // Returns a copy of the word at this place, or `None` if there is no such word.
 fn path_at(words: &[String], place: Option<usize>) -> Result<Option<String>, AllocError>
@@ -103,16 +90,6 @@ where
     Ok(run(system.alloc(), words, &mut key, input, out, log, &mut disk))
 }
 
-// The system opens each file at the lowest free place (file descriptor). These three files take the
-// places of standard streams that are closed, and stay open as long as the run lasts. Otherwise the
-// key's file could be read as the input, or a note be written into the journal. A folder can be
-// neither read nor written.
-fn take_places<R: Files>(files: &R) -> io::Result<(R::File, R::File, R::File)> {
-    let first = File::open(files, "/")?;
-    let second = File::open(files, "/")?;
-    Ok((first, second, File::open(files, "/")?))
-}
-
 /// Runs the program with the words after the first argument, which is its name. The key and the
 /// journal are files of this system. Returns the exit status.
 pub fn run_over_files<'a, R: Files + AllocGlobal, S: Source, O: Sink, L: Sink>(
@@ -135,6 +112,7 @@ where
         ⟦<FileSlots<'a, R> as SlotDisk>⟧ (words_after given) asked
         (streams input.old out.old log.old) (streams input.new out.new log.new) result) }
 {
+    // The files stay open as long as the run lasts.
     let Ok(_places) = take_places(system) else {
         return NOT_GIVEN;
     };

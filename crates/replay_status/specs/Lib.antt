@@ -4,6 +4,7 @@ pub mod Endings
 pub mod Flushes
 pub mod Outside
 pub mod Ends
+pub mod Given
 pub mod StreamCauses
 pub mod Readable
 pub mod PrintsText

@@ -2,7 +2,7 @@ use Rattle.std.proofs.Common.{rules, ◌≡◌, ◌∙◌, ap, length}
 use Rattle.std.proofs.lemmas.Iterator.Adapters.{fact_from_collect, YieldsList-from_skip}
 use Rattle.std.{proofs.lemmas.Iterator.Adapters.YieldsList-from_vec, specs.Prelude.vec_len}
 use Rattle.std.specs.Vec.Iter.{into_iter_items, into_iter_len}
-use Rattle.link_live.proofs.over_files.words_after_name.Goals as goal
+use Rattle.replay_status.proofs.given.words_after_name.Goals as goal
 
 pub returns : goal.returns
 returns c =
