@@ -1,21 +1,21 @@
 """Proves a crate and all crates that it depends on, as many side by side as processors and memory allow.
 
 crates.txt says which crate depends on which. Of the crates that are ready, those with the longest chain of crates above them,
-counted in lines, begin first, because no run is shorter than its longest chain. 4 GB of memory and a processor are set aside
-for each crate. If no crate waits for a processor, it goes to a crate that begins, with another 2.5 GB. On four processors or
-more, a crate with the longest chain of all that haven't begun gets two processors as soon as one is idle: for a while five
-processes then share four processors, but the longest chain ends sooner. prove_check.py tests this with crates that take almost
-no time.
+counted in lines, begin first, because no run is shorter than its longest chain. At most as many crates run side by side as
+there are processors, and 4 GB of memory are set aside for each. If no crate waits for a processor, it goes to a crate that
+begins, as a second process with another 2.5 GB. On four processors or more, a crate with the longest chain of all that haven't
+begun gets two processes even if no processor is idle: some of them then share a processor, but the longest chain ends sooner,
+and nothing is idle while a process waits for another one. prove_check.py tests this with crates that take almost no time.
 """
 import collections, concurrent.futures, glob, os, re, time
 
 ROOT = os.path.dirname(os.path.dirname(os.path.abspath(__file__)))
 
-# The gigabytes that are set aside for a crate, and for each processor after its first one, and the most processors that a crate gets.
+# The gigabytes that are set aside for a crate, and for each process after its first one, and the most processes that a crate gets.
 CRATE_MEMORY, JOB_MEMORY, MOST_JOBS = 4, 2.5, 4
 
-# A crate of the longest chain gets two processors if there are at least this many, and may share one of them with other crates.
-SHARING_FROM, SHARED = 4, 1
+# A crate of the longest chain gets two processes if there are at least this many processors.
+SHARING_FROM = 4
 
 # What can be used for proving: processors, and gigabytes of memory.
 Room = collections.namedtuple("Room", "processors memory")
@@ -81,20 +81,19 @@ def longest_chains(below, work):
 
 
 def jobs_for(ready, used, room, most, is_longest=False):
-    """How many processors the first of `ready` ready crates gets, or 0 if it must wait. `used` has the number for each running crate.
+    """How many processes the first of `ready` ready crates gets, or 0 if it must wait. `used` has the number for each running crate.
 
     `is_longest` says that no crate that hasn't begun has a longer chain than this one.
     """
+    most = min(most, room.processors)
     free = room.memory - sum(CRATE_MEMORY + JOB_MEMORY * (jobs - 1) for jobs in used)
-    idle = room.processors - sum(used)
-    if not used:
-        idle = max(idle, 1)
-    elif len(used) >= most or idle < 1 or free < CRATE_MEMORY:
+    if used and (len(used) >= most or free < CRATE_MEMORY):
         return 0
     crates = max(1, min(ready, most - len(used), int(free / CRATE_MEMORY)))
+    idle = room.processors - sum(used)
     jobs = max(1, min(MOST_JOBS, idle // crates, 1 + int((free / crates - CRATE_MEMORY) / JOB_MEMORY)))
-    may_share = is_longest and room.processors >= SHARING_FROM and idle + SHARED >= 2 and free >= CRATE_MEMORY + JOB_MEMORY
-    return max(jobs, 2) if may_share else jobs
+    shares = is_longest and room.processors >= SHARING_FROM and free >= CRATE_MEMORY + JOB_MEMORY
+    return max(jobs, 2) if shares else jobs
 
 
 def prove_all(below, work, prove, said, room, most=None):

@@ -11,7 +11,7 @@ proved in none. It ends with 1 if anything else happens. It proves nothing, and 
 import os, sys, tempfile, threading, time
 
 import lanes
-from prove import CRATE_MEMORY, JOB_MEMORY, SHARED, SHARING_FROM, Room, crates_below, jobs_for, lines_of, longest_chains, prove_all
+from prove import CRATE_MEMORY, JOB_MEMORY, SHARING_FROM, Room, crates_below, jobs_for, lines_of, longest_chains, prove_all
 
 # A chain of three crates and six crates without dependencies, below a crate that depends on all of them.
 SMALL = {"low": [], "middle": ["low"], "high": ["middle"], **{"leaf%d" % each: [] for each in range(6)}}
@@ -23,7 +23,7 @@ class Sleeper:
 
     def __init__(self, below, work, broken=None):
         self.below, self.work, self.broken = below, work, broken
-        self.began, self.ended, self.running, self.most, self.held = [], [], {}, 0, 0
+        self.began, self.ended, self.running, self.crates, self.processes, self.held = [], [], {}, 0, 0, 0
         self.lock = threading.Lock()
 
     def prove(self, crate, jobs):
@@ -31,7 +31,8 @@ class Sleeper:
             assert all(other in self.ended for other in self.below[crate]), "%s began before those below it had ended" % crate
             self.began.append(crate)
             self.running[crate] = jobs
-            self.most = max(self.most, sum(self.running.values()))
+            self.crates = max(self.crates, len(self.running))
+            self.processes = max(self.processes, sum(self.running.values()))
             self.held = max(self.held, sum(CRATE_MEMORY + JOB_MEMORY * (each - 1) for each in self.running.values()))
         time.sleep(self.work[crate])
         with self.lock:
@@ -60,8 +61,9 @@ def check_order():
     chains = longest_chains(below, work)
     for room in (Room(4, 16.5), Room(2, 16), Room(8, 64), Room(4, 9), Room(1, 1)):
         sleeper, seconds = ran(below, work, room)
-        most = room.processors + (SHARED if room.processors >= SHARING_FROM else 0)
-        assert sleeper.most <= most, "%d processes on %d processors" % (sleeper.most, room.processors)
+        most = room.processors * (2 if room.processors >= SHARING_FROM else 1)
+        assert sleeper.crates <= room.processors, "%d crates on %d processors" % (sleeper.crates, room.processors)
+        assert sleeper.processes <= most, "%d processes on %d processors" % (sleeper.processes, room.processors)
         assert sleeper.held <= max(room.memory, CRATE_MEMORY), "%.1f GB in use of %.1f" % (sleeper.held, room.memory)
         first = max((crate for crate in below if not below[crate]), key=chains.get)
         assert sleeper.began[0] == first, "%s began, and not %s" % (sleeper.began[0], first)
@@ -84,15 +86,16 @@ def check_small():
 def check_jobs():
     for (ready, used, room, most), wanted in {
             (1, (), Room(4, 16), 4): 4, (1, (), Room(4, 5), 4): 1, (4, (), Room(4, 16), 4): 1, (2, (), Room(4, 16), 4): 2,
-            (1, (2,), Room(4, 10), 4): 0, (1, (2,), Room(4, 11), 4): 1, (1, (4,), Room(4, 64), 4): 0, (1, (), Room(4, 1), 4): 1,
+            (1, (2,), Room(4, 10), 4): 0, (1, (2,), Room(4, 11), 4): 1, (1, (4,), Room(4, 64), 4): 1, (1, (), Room(4, 1), 4): 1,
             (5, (1,), Room(8, 64), 1): 0, (5, (), Room(8, 64), 1): 4}.items():
         found = jobs_for(ready, used, room, most)
-        assert found == wanted, "%d processors of %s for one of %d, beside %s, and not %d" % (found, room, ready, used, wanted)
+        assert found == wanted, "%d processes in %s for one of %d, beside %s, and not %d" % (found, room, ready, used, wanted)
     for (ready, used, room, most), wanted in {
-            (4, (1, 1, 1), Room(4, 20), 4): 2, (4, (1, 1, 2), Room(4, 20), 4): 0, (4, (1, 1, 1), Room(4, 18), 4): 1,
-            (1, (), Room(4, 16), 4): 4, (4, (), Room(4, 16), 4): 2, (2, (1,), Room(2, 20), 2): 1, (2, (2, 1), Room(3, 20), 3): 0}.items():
+            (4, (1, 1, 1), Room(4, 20), 4): 2, (4, (1, 1, 2), Room(4, 22), 4): 2, (4, (1, 1, 2), Room(4, 20), 4): 1,
+            (4, (1, 1, 1, 1), Room(4, 64), 4): 0, (4, (1, 1, 1), Room(4, 18), 4): 1, (1, (), Room(4, 16), 4): 4,
+            (4, (), Room(4, 16), 4): 2, (2, (1,), Room(2, 20), 2): 1, (2, (2, 1), Room(3, 20), 3): 1}.items():
         found = jobs_for(ready, used, room, most, is_longest=True)
-        assert found == wanted, "%d processors of %s for the longest chain, beside %s, and not %d" % (found, room, used, wanted)
+        assert found == wanted, "%d processes in %s for the longest chain, beside %s, and not %d" % (found, room, used, wanted)
 
 
 def small_checkout(folder):
