@@ -14,7 +14,7 @@ gate.
 """
 import collections, os, random, re, subprocess, sys, tempfile
 
-import model
+import built, model
 from model import LIMIT, PAUSE, Y18, Y24, Dnp3, Rtu
 
 Session = collections.namedtuple("Session", "proto profile key direction floors device link received sent")
@@ -460,7 +460,7 @@ def try_wrong_ones(path, seed, folder):
 
 def main(words):
     sessions = int(words[0]) if words else 660
-    path = os.path.abspath(words[1] if len(words) > 1 else "crates/link_replay/out/link_replay")
+    path = built.program(words, 1)
     seed = int(words[2]) if len(words) > 2 else 1
     with tempfile.TemporaryDirectory(prefix="audit.") as folder:
         return compare(path, sessions, seed, folder) or try_wrong_ones(path, seed, folder)

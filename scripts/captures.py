@@ -22,7 +22,7 @@ a tool isn't installed. It is no part of the gate.
 """
 import os, random, re, shutil, subprocess, sys, tempfile
 
-import capture_model
+import built, capture_model
 from capture_fixtures import BOTH_WIRES, CAPTURES, Missing, packets_text, packets_to, sigrok, tool
 from capture_fixtures import logic2_table
 from capture_model import SECOND, Record, character_of, given_records, lines_of, nearest, runs_of
@@ -31,7 +31,6 @@ from plausible_frames import EXCHANGES
 from swap_capture import swapped_file
 
 SCRIPTS = os.path.dirname(os.path.abspath(__file__))
-PROGRAM = os.path.join(os.path.dirname(SCRIPTS), "crates", "line_capture", "out", "line_capture")
 
 # A capture of examples/captures/, its form and rate, the word after the way, and its ticks' file.
 FIXTURES = [(name, "pcap", "9600x11", [], "modbus.ticks") for name in (
@@ -500,16 +499,24 @@ def wrong_models(folder):
     return 1 if missed else 0
 
 
+def program_of(words):
+    """The program that these words name. One whose name ends in .py only has to be there."""
+    is_model = bool(words) and words[0].endswith(".py") and os.path.isfile(words[0])
+    return os.path.abspath(words[0]) if is_model else built.program(words, 0, "line_capture")
+
+
 def main(words):
     options = dict(word.partition("=")[::2] for word in words if "=" in word or word == "first")
     parts = [word for word in words if word in PARTS or word == "wrong"]
     programs = [word for word in words if word not in parts and word.split("=")[0] not in options]
     if len(programs) > 1 or set(options) - {"read", "seed", "first"}:
         sys.exit(__doc__.strip())
+    if "read" in options:
+        options["read"] = built.program([options["read"]], 0)
     with tempfile.TemporaryDirectory() as folder:
         if parts == ["wrong"]:
             return wrong_models(folder)
-        return run_parts(Trial((programs + [PROGRAM])[0], options, folder), parts or list(PARTS))
+        return run_parts(Trial(program_of(programs), options, folder), parts or list(PARTS))
 
 
 if __name__ == "__main__":

@@ -15,15 +15,13 @@ program or the words are wrong. No script is part of the gate, and none proves a
 """
 import collections, os, shutil, subprocess, sys, time
 
-import browser, guard
+import browser, built, guard
 
 ROOT = os.path.dirname(os.path.dirname(os.path.abspath(__file__)))
 LOGS = os.path.join(ROOT, "out", "check")
 LEVELS = ("quick", "change", "release")
 MEMORY = "/dev/shm"
-CAPTURE = os.path.join(ROOT, "crates", "line_capture", "out", "line_capture")
 LIBRARY = os.path.join(ROOT, "crates", "yasir_c", "out", "libyasir_c.a")
-LIVE = os.path.join(ROOT, "crates", "link_live", "out", "link_live")
 
 # A script, what it needs, and its words at each level, or None if the level doesn't run it. PROGRAM, LIVE, BEFORE and MEMORY are
 # replaced by paths.
@@ -44,7 +42,7 @@ CHECKS = [
     Check("duplex", ("program",), ["150", "PROGRAM"], ["1500", "PROGRAM", "2"], ["6000", "PROGRAM", "3"]),
     Check("closed_streams", ("program",), *same("PROGRAM")),
     Check("init_over", ("program",), *same("PROGRAM")),
-    Check("live_pipe", ("program", "live"), *same("LIVE", "PROGRAM")),
+    Check("live_pipe", ("program", "link_live"), *same("LIVE", "PROGRAM")),
     Check("two_runs", ("program",), None, ["PROGRAM", "10"], ["PROGRAM", "60"]),
     Check("taken_over", ("program", "cc"), None, ["PROGRAM"], ["PROGRAM"]),
     Check("killed_seal", ("program", "memory"), None, ["40", "PROGRAM", "MEMORY"], ["400", "PROGRAM", "MEMORY"]),
@@ -55,7 +53,7 @@ CHECKS = [
     Check("clib_spacer", ("library", "cc"), None, ["2000"], ["20000", "2"]),
     Check("live", ("library", "libmodbus", "mbpoll"), None, None, []),
     Check("live_kinds", ("library", "cc"), None, None, []),
-    Check("captures", ("capture", "tshark"), None, [], []),
+    Check("captures", ("line_capture", "tshark"), None, [], []),
     Check("dissector_check", ("program", "tshark"), None, ["PROGRAM"], ["PROGRAM"]),
     Check("timeline_check", ("chromium",), None, [], []),
     Check("tag_instructions", ("program", "valgrind"), None, None, ["PROGRAM"]),
@@ -68,20 +66,18 @@ def lacking(need, program, before=None):
     """Why something that a script needs is missing, or None if it is there."""
     if need == "before" and before is None:
         return "no program of the last version is named, by --before"
-    if need == "program" and not os.access(program, os.X_OK):
-        return "there is no program %s; `make demo` proves and builds it" % os.path.relpath(program)
+    if need == "program":
+        return built.lacking(program)
+    if need in ("link_live", "line_capture"):
+        return built.lacking(built.path_of(need), need)
     if need == "memory" and not os.path.isdir(MEMORY):
         return "there is no folder in memory, %s" % MEMORY
     if need == "chromium" and browser.find() is None:
         return "no Chromium is on the path"
     if need == "libmodbus":
         return guard.lacking()
-    if need == "capture" and not os.access(CAPTURE, os.X_OK):
-        return "there is no program %s; `rt run` in crates/line_capture proves and builds it" % os.path.relpath(CAPTURE)
     if need == "library" and not os.access(LIBRARY, os.R_OK):
         return "there is no library %s; `python3 scripts/bridge_build.py` proves and builds it" % os.path.relpath(LIBRARY)
-    if need == "live" and not os.access(LIVE, os.X_OK):
-        return "there is no program %s; `rt run` in crates/link_live proves and builds it" % os.path.relpath(LIVE)
     if need in ("cc", "valgrind", "tshark", "mbpoll") and shutil.which(need) is None:
         return "%s isn't on the path" % need
     return None
@@ -101,7 +97,7 @@ def older(program):
 
 def run(check, words, program, before):
     """Runs one script. Returns whether it passed, how many seconds it took, and the end of what it printed."""
-    paths = {"PROGRAM": program, "BEFORE": before, "MEMORY": MEMORY, "LIVE": LIVE}
+    paths = {"PROGRAM": program, "BEFORE": before, "MEMORY": MEMORY, "LIVE": built.path_of("link_live")}
     line = [sys.executable, os.path.join("scripts", check.name + ".py")] + [paths.get(word, word) for word in words]
     log, began = os.path.join(LOGS, check.name + ".log"), time.monotonic()
     with open(log, "w") as file:
@@ -121,7 +117,7 @@ def main(words):
     if level not in LEVELS or len(words) > 2:
         print(__doc__.strip())
         return 2
-    program = os.path.abspath(words[1] if len(words) > 1 else os.path.join(ROOT, "crates", "link_replay", "out", "link_replay"))
+    program = os.path.abspath(words[1]) if len(words) > 1 else built.path_of("link_replay")
     os.makedirs(LOGS, exist_ok=True)
     counts = collections.Counter()
     if os.path.exists(program) and older(program):

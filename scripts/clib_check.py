@@ -10,7 +10,7 @@ byte, and 2 if something isn't installed. It is no part of the gate.
 """
 import collections, os, random, subprocess, sys, tempfile
 
-import bridge_build
+import bridge_build, built
 
 KEY = "000102030405060708090a0b0c0d0e0f\n"
 KINDS = ("rtu", "dnp3", "rtu24", "dnp24")
@@ -137,7 +137,7 @@ def step_by(words, content, keep):
 def main():
     if len(sys.argv) < 2:
         sys.exit(__doc__)
-    program = os.path.abspath(sys.argv[1])
+    program = built.program(sys.argv, 1)
     frames = int(sys.argv[2]) if len(sys.argv) > 2 else 100000
     draw = random.Random(int(sys.argv[3]) if len(sys.argv) > 3 else 1)
     both = [program], [bridge_build.build("filter")]

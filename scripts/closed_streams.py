@@ -12,6 +12,7 @@ file gets is the system's choice.
 """
 import itertools, os, subprocess, sys, tempfile
 
+import built
 from killed import slot_of
 
 KEY = b"000102030405060708090a0b0c0d0e0f\n"
@@ -43,7 +44,7 @@ def bytes_of(path):
 
 class Runs:
     def __init__(self, program, folder):
-        self.program = os.path.abspath(program)
+        self.program = program
         self.places = {name: os.path.join(folder, name) for name in ("KEY", "JOURNAL", "in", "out", "log")}
 
     def put(self, name, content):
@@ -92,9 +93,10 @@ def look_at(words, before, closed, right, seen, status):
 
 
 def main():
+    program = built.program(sys.argv, 1)
     wrong = runs_made = 0
     with tempfile.TemporaryDirectory() as folder:
-        runs = Runs(sys.argv[1] if len(sys.argv) > 1 else "crates/link_replay/out/link_replay", folder)
+        runs = Runs(program, folder)
         link = runs.run("seal rtu ab KEY JOURNAL", REQUEST, NEW, ())[1]
         received = runs.run("check rtu ab KEY JOURNAL", link, NEW, ())[1]
         for words, before, needed in COMMANDS:

@@ -12,7 +12,7 @@ is 2. It is 0 only if all is as it must be. It is no part of the gate.
 """
 import os, random, shutil, subprocess, sys, tempfile
 
-import model
+import built, model
 from capture_fixtures import packets_text, packets_to, tool
 from capture_model import SECOND, Record, lines_of, runs_of
 from killed import KEY, slot_of
@@ -20,7 +20,6 @@ from model import Y18, Y24, Dnp3, Rtu
 from plausible_frames import EXCHANGES
 
 ROOT = os.path.dirname(os.path.dirname(os.path.abspath(__file__)))
-PROGRAM = os.path.join(ROOT, "crates", "link_replay", "out", "link_replay")
 DISSECTOR = os.path.join(ROOT, "tools", "wireshark", "yasir.lua")
 
 # The floor of the journals: the words of y24 above it use all four bytes, and wrap.
@@ -100,7 +99,7 @@ def compare(program, proto, profile, chance, folder):
 
 
 def main(words):
-    program = words[0] if words else PROGRAM
+    program = built.program(words, 0)
     for name in ("tshark", "text2pcap"):
         if shutil.which(name) is None:
             print("skipped: %s isn't installed" % name)

@@ -10,6 +10,7 @@ skipped, and a line says so. A page may show what goes to standard error before 
 """
 import os, re, shutil, subprocess, sys, tempfile
 
+import built
 from killed import slot_of
 
 ROOT = os.path.dirname(os.path.dirname(os.path.abspath(__file__)))
@@ -18,7 +19,7 @@ ROOT = os.path.dirname(os.path.dirname(os.path.abspath(__file__)))
 PAGES = {"docs/USAGE.md": {}, "docs/SECURITY.md": {"journal": bytes(32) + slot_of(41)}, "docs/LINE_CAPTURE.md": {}}
 
 # The other program, which some pages call.
-CAPTURE = os.path.join(ROOT, "crates", "line_capture", "out", "line_capture")
+CAPTURE = built.path_of("line_capture")
 
 
 def shown(text):
@@ -67,8 +68,7 @@ def differing(page, program):
 
 
 def main():
-    program = os.path.abspath(sys.argv[1] if len(sys.argv) > 1 else os.path.join(ROOT, "crates", "link_replay", "out", "link_replay"))
-    faults = 0
+    program, faults = built.program(sys.argv, 1), 0
     for page in PAGES:
         if page == "docs/LINE_CAPTURE.md" and not os.path.exists(CAPTURE):
             print("%s: skipped, since there is no %s" % (page, os.path.relpath(CAPTURE, ROOT)))

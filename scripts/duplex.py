@@ -15,7 +15,7 @@ seen, and if each wrong program was told from the right one. It is no part of th
 """
 import collections, os, random, re, subprocess, sys, tempfile
 
-import model
+import built, model
 from killed import KEY, slot_of
 from model import LINK_REST, Y18, Y24, Dnp3, Rtu
 from random_lines import some_frame, some_line
@@ -207,7 +207,7 @@ def try_wrong_ones(path, seed, folder):
 
 def main(words):
     lines = int(words[0]) if words else 500
-    path = os.path.abspath(words[1] if len(words) > 1 else "crates/link_replay/out/link_replay")
+    path = built.program(words, 1)
     seed = int(words[2]) if len(words) > 2 else 1
     with tempfile.TemporaryDirectory(prefix="duplex.") as folder:
         return compare(path, lines, seed, folder) or try_wrong_ones(path, seed, folder)

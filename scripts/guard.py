@@ -15,7 +15,7 @@ a register or a coil, and if some attack changed one without the spacer: otherwi
 """
 import collections, concurrent.futures, os, pty, random, re, subprocess, sys, tempfile, time, tty
 
-import model
+import built, model
 from model import Y18, Y24, Rtu
 
 # The seconds of a tick (eleven bits at 9,600 baud), and those that a server gets to finish: at first, and at most.
@@ -238,7 +238,7 @@ def tried(server, session, received, spaced):
 
 
 def main():
-    program = os.path.abspath(sys.argv[1] if len(sys.argv) > 1 else "crates/link_replay/out/link_replay")
+    program = built.program(sys.argv, 1)
     attacks = int(sys.argv[2]) if len(sys.argv) > 2 else 300
     seed = int(sys.argv[3]) if len(sys.argv) > 3 else 1
     why = lacking()

@@ -8,6 +8,7 @@ Nothing may be written over a key, a damaged journal, or any other file whose fi
 """
 import os, subprocess, sys, tempfile
 
+import built
 from killed import KEY, old_slot_of, slot_of
 
 OLD = bytes(32)
@@ -38,7 +39,7 @@ CASES = [
 
 
 def main():
-    program = os.path.abspath(sys.argv[1] if len(sys.argv) > 1 else "crates/link_replay/out/link_replay")
+    program = built.program(sys.argv, 1)
     wrong = 0
     with tempfile.TemporaryDirectory() as folder:
         path = os.path.join(folder, "file")

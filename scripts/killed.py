@@ -42,7 +42,7 @@ class Killed:
     """Runs of one command over the same input and journal, each killed after a random time of at most `seconds` seconds."""
 
     def __init__(self, program, command, folder, seconds):
-        self.program, self.command, self.seconds = os.path.abspath(program), command, seconds
+        self.program, self.command, self.seconds = program, command, seconds
         self.folder = tempfile.mkdtemp(prefix="killed_%s." % command, dir=folder)
         self.killed, self.seen, self.used, self.last = 0, 0, set(), 0
         open(self.path("key"), "w").write(KEY)

@@ -13,6 +13,7 @@ It is no part of the gate: what a killed process leaves of a file depends on the
 """
 import shutil, subprocess, sys
 
+import built
 from killed import Killed
 
 FRAME = "01030000000ac5cd"
@@ -50,7 +51,7 @@ def seal_link(box):
 
 def main():
     runs = int(sys.argv[1]) if len(sys.argv) > 1 else 200
-    box = Killed(sys.argv[2] if len(sys.argv) > 2 else "crates/link_replay/out/link_replay", "check", sys.argv[3] if len(sys.argv) > 3 else None, 0.2)
+    box = Killed(built.program(sys.argv, 2), "check", sys.argv[3] if len(sys.argv) > 3 else None, 0.2)
     seal_link(box)
     for _ in range(runs):
         box.run()

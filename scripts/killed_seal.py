@@ -11,6 +11,7 @@ It is no part of the gate: what a killed process leaves of a file depends on the
 """
 import re, shutil, sys
 
+import built
 from killed import Killed
 
 FRAME = "01030000000ac5cd"
@@ -29,7 +30,7 @@ def full(floor, word):
 
 def main():
     runs = int(sys.argv[1]) if len(sys.argv) > 1 else 200
-    box = Killed(sys.argv[2] if len(sys.argv) > 2 else "crates/link_replay/out/link_replay", "seal", sys.argv[3] if len(sys.argv) > 3 else None, 0.5)
+    box = Killed(built.program(sys.argv, 2), "seal", sys.argv[3] if len(sys.argv) > 3 else None, 0.5)
     open(box.path("line"), "w").write("+%s\n-40\n" % FRAME * 200000)
     for _ in range(runs):
         before = box.run()

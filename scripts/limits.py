@@ -11,6 +11,7 @@ part of the gate: all runs together read some 8 GB.
 """
 import os, subprocess, sys, tempfile
 
+import built
 from killed import slot_of
 from model import PAUSE, Dnp3, Rtu, Y18, trailer
 
@@ -80,7 +81,7 @@ def run(program, words, parts, folder):
 
 
 def main():
-    program = sys.argv[1] if len(sys.argv) > 1 else "crates/link_replay/out/link_replay"
+    program = built.program(sys.argv, 1)
     commands = ["init rtu ab NEW", "vectors", "help", "version", "trial rtu 7 10000", "trial dnp3 7 10000", "read rtu", "read dnp3", "space rtu", "space dnp3"]
     for box in ("seal %s ab KEY JOURNAL", "check %s ab KEY JOURNAL", "replay %s ab KEY", "audit %s ab KEY 0 0", "duplex %s ab KEY"):
         commands += [box % proto for proto in ("rtu", "dnp3")]

@@ -12,7 +12,8 @@ BEFORE, a link_replay, is crates/link_replay/out/link_replay unless they are giv
 """
 import os, select, subprocess, sys, tempfile, time
 
-ROOT = os.path.dirname(os.path.dirname(os.path.abspath(__file__)))
+import built
+
 KEY = b"000102030405060708090a0b0c0d0e0f\n"
 PATIENCE = 20
 # A request of Modbus RTU, and a DNP3 frame that is only a header.
@@ -100,8 +101,7 @@ def tried(live, replay, folder, word, direction, command, ticks):
 
 
 def main():
-    live = sys.argv[1] if len(sys.argv) > 1 else os.path.join(ROOT, "crates", "link_live", "out", "link_live")
-    replay = sys.argv[2] if len(sys.argv) > 2 else os.path.join(ROOT, "crates", "link_replay", "out", "link_replay")
+    live, replay = built.program(sys.argv, 1, "link_live"), built.program(sys.argv, 2)
     failed = 0
     with tempfile.TemporaryDirectory() as folder:
         for word, protocol in LINKS.items():

@@ -15,18 +15,17 @@ PERCENT % (5 % if not given) more than OTHER for some command. A command that OT
 
 PROGRAM and OTHER are programs, or checkouts of this repository in which `make demo` has built one.
 FOLDER should be in memory (/dev/shm), since each committed number is synced. The lines are the same in each run.
-It ends with 1 if a run doesn't end well or the two programs write different things, and with 2 if valgrind is needed and isn't
-installed. It is no part of the gate.
+It ends with 1 if a run doesn't end well or the two programs write different things, and with 2 if a program isn't there, or valgrind
+is needed and isn't installed. It is no part of the gate.
 """
 import argparse, filecmp, os, random, re, shutil, statistics, subprocess, sys, tempfile
 
-import model
+import built, model
 from killed import KEY
 from model import Y18, Y24, Dnp3, Rtu
 from killed import slot_of
 from random_lines import some_frame
 
-PROGRAM = "crates/link_replay/out/link_replay"
 # How many ticks a line has when time is measured, and when instructions are counted.
 TICKS, FEW_TICKS = 4000000, 1600000
 # The ticks of a line for which one frame of `trial` counts, and the status for words that are no command.
@@ -223,12 +222,12 @@ def measure(programs, case, rounds, folder):
 
 def program_at(path):
     """A program, or the one that a checkout has."""
-    return os.path.abspath(os.path.join(path, PROGRAM) if os.path.isdir(path) else path)
+    return built.program([built.path_of("link_replay", path) if os.path.isdir(path) else path], 0)
 
 
 def main():
     words = argparse.ArgumentParser(description=__doc__, formatter_class=argparse.RawDescriptionHelpFormatter)
-    words.add_argument("program", nargs="?", default=PROGRAM)
+    words.add_argument("program", nargs="?", default=built.path_of("link_replay"))
     words.add_argument("--beside")
     words.add_argument("--instructions", action="store_true")
     words.add_argument("--most", type=float, default=5)
@@ -238,9 +237,6 @@ def main():
     words.add_argument("--work", default="/dev/shm" if os.path.isdir("/dev/shm") else None)
     asked = words.parse_args()
     programs = [program_at(program) for program in [asked.program] + [asked.beside] * bool(asked.beside)]
-    for program in programs:
-        if not os.access(program, os.X_OK):
-            sys.exit("measure: there is no program %s" % program)
     if asked.instructions and shutil.which("valgrind") is None:
         print("measure: valgrind isn't on the path", file=sys.stderr)
         return 2

@@ -13,7 +13,7 @@ It is no part of the gate.
 """
 import os, random, subprocess, sys, tempfile
 
-import model
+import built, model
 from killed import KEY, floor_of, old_slot_of, slot_of
 from model import LIMIT, PAUSE, Y18, Y24, Dnp3, Rtu
 
@@ -160,7 +160,7 @@ def some_lines(proto, key, direction, command, floor, chance, profile):
 
 def main():
     lines = int(sys.argv[1]) if len(sys.argv) > 1 else 1000
-    program = os.path.abspath(sys.argv[2] if len(sys.argv) > 2 else "crates/link_replay/out/link_replay")
+    program = built.program(sys.argv, 2)
     chance, key, seen = random.Random(int(sys.argv[3]) if len(sys.argv) > 3 else 1), bytes.fromhex(KEY.strip()), {}
     with tempfile.TemporaryDirectory(prefix="random_lines.") as folder:
         key_file, journal = os.path.join(folder, "key"), os.path.join(folder, "journal")

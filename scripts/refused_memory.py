@@ -11,6 +11,7 @@ way. It is no part of the gate.
 """
 import os, subprocess, sys, tempfile
 
+import built
 from killed import slot_of
 
 ROOT = os.path.dirname(os.path.dirname(os.path.abspath(__file__)))
@@ -92,7 +93,7 @@ def recordings(*names):
 
 class Runs:
     def __init__(self, program, folder):
-        self.program, self.folder = os.path.abspath(program), folder
+        self.program, self.folder = program, folder
         source, self.library = os.path.join(folder, "refuse.c"), os.path.join(folder, "refuse.so")
         open(source, "w").write(LIBRARY)
         subprocess.run(["cc", "-shared", "-fPIC", "-O1", "-fno-builtin", "-o", self.library, source, "-ldl"], check=True)
@@ -112,7 +113,7 @@ class Runs:
 
 
 def main():
-    program = sys.argv[1] if len(sys.argv) > 1 else "crates/link_replay/out/link_replay"
+    program = built.program(sys.argv, 1)
     requests, device = recordings("requests.ticks", "altered.ticks"), recordings("outstation.ticks", "outstation_altered.ticks")
     session = recordings("requests.ticks", "altered.ticks", "expected/altered.received.ticks")
     long = b"%\n".join([b"+01030000000ac5cd\n-40\n" * 3000] * 2)

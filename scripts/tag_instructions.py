@@ -10,6 +10,8 @@ this machine: no clause says anything about time.
 """
 import hashlib, hmac, os, re, shutil, subprocess, sys, tempfile
 
+import built
+
 KEY = bytes(range(16))
 FRAME = bytes.fromhex("01030000000ac5cd")
 # For each profile how many bytes the word and the tag have, and the hash function.
@@ -62,4 +64,4 @@ if __name__ == "__main__":
     if shutil.which("valgrind") is None:
         print("skipped: valgrind isn't installed")
         sys.exit(2)
-    sys.exit(main(sys.argv[1]))
+    sys.exit(main(built.program(sys.argv, 1)))

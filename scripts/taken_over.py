@@ -11,6 +11,7 @@ and loaded before the C library, ends a run at a call. It ends with 1 if a run l
 """
 import os, random, re, subprocess, sys, tempfile
 
+import built
 from killed import KEY, LINKS, floor_of, old_slot_of, slot_of
 
 LINK, OTHER = ("rtu", "ab"), ("dnp24", "ba")
@@ -76,7 +77,7 @@ int fsync(int file) {
 
 class Runs:
     def __init__(self, program, folder):
-        self.program, self.wrong = os.path.abspath(program), 0
+        self.program, self.wrong = program, 0
         self.key, self.path, self.library = (os.path.join(folder, name) for name in ("key", "journal", "cut.so"))
         open(self.key, "w").write(KEY)
         open(os.path.join(folder, "cut.c"), "w").write(LIBRARY)
@@ -210,8 +211,9 @@ def commands(runs):
 
 
 def main():
+    program = built.program(sys.argv, 1)
     with tempfile.TemporaryDirectory(dir="/dev/shm" if os.path.isdir("/dev/shm") else None) as folder:
-        runs = Runs(sys.argv[1] if len(sys.argv) > 1 else "crates/link_replay/out/link_replay", folder)
+        runs = Runs(program, folder)
         for part in (every_link, other_slots, cut_off, torn, commands):
             part(runs)
     print("%d wrong" % runs.wrong)

@@ -8,6 +8,7 @@ seeds, and ends with 1 if a line differs.
 """
 import subprocess, sys
 
+import built
 from model import Dnp3, Rtu, Y18, Y24, check, reads, seal
 
 PERIOD, HALF, KEY = 640, 320, bytes(16)
@@ -82,6 +83,6 @@ def compare(program):
 
 if __name__ == "__main__":
     if sys.argv[1] == "compare":
-        compare(sys.argv[2] if len(sys.argv) > 2 else "crates/link_replay/out/link_replay")
+        compare(built.program(sys.argv, 2))
     else:
         print(line_of(sys.argv[1], int(sys.argv[2]), int(sys.argv[3])), end="")

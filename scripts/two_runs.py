@@ -11,9 +11,10 @@ the system.
 """
 import os, re, subprocess, sys, tempfile, threading, time
 
+import built
 from killed import KEY, floor_of
 
-PROGRAM = os.path.abspath(sys.argv[1] if len(sys.argv) > 1 else "crates/link_replay/out/link_replay")
+PROGRAM = built.program(sys.argv, 1)
 SECONDS = float(sys.argv[2]) if len(sys.argv) > 2 else 10
 RACERS, FRAMES = 8, 20
 FRAME = b"+01030000000ac5cd\n-40\n"
