@@ -21,6 +21,7 @@ ROOT = os.path.dirname(os.path.dirname(os.path.abspath(__file__)))
 LOGS = os.path.join(ROOT, "out", "check")
 LEVELS = ("quick", "change", "release")
 MEMORY = "/dev/shm"
+TOOLS = ("cc", "valgrind", "mbpoll", "tshark", "text2pcap", "editcap", "sigrok-cli")
 LIBRARY = os.path.join(ROOT, "crates", "yasir_c", "out", "libyasir_c.a")
 
 # A script, what it needs, and its words at each level, or None if the level doesn't run it. PROGRAM, LIVE, BEFORE and MEMORY are
@@ -53,8 +54,8 @@ CHECKS = [
     Check("clib_spacer", ("library", "cc"), None, ["2000"], ["20000", "2"]),
     Check("live", ("library", "libmodbus", "mbpoll"), None, None, []),
     Check("live_kinds", ("library", "cc"), None, None, []),
-    Check("captures", ("line_capture", "tshark"), None, [], []),
-    Check("dissector_check", ("program", "tshark"), None, ["PROGRAM"], ["PROGRAM"]),
+    Check("captures", ("line_capture", "tshark", "text2pcap", "editcap", "sigrok-cli"), None, [], []),
+    Check("dissector_check", ("program", "tshark", "text2pcap"), None, ["PROGRAM"], ["PROGRAM"]),
     Check("timeline_check", ("chromium",), None, [], []),
     Check("tag_instructions", ("program", "valgrind"), None, None, ["PROGRAM"]),
     Check("measure", ("program", "before", "valgrind"), None, None, ["PROGRAM", "--instructions", "--beside", "BEFORE"]),
@@ -78,7 +79,7 @@ def lacking(need, program, before=None):
         return guard.lacking()
     if need == "library" and not os.access(LIBRARY, os.R_OK):
         return "there is no library %s; `python3 scripts/bridge_build.py` proves and builds it" % os.path.relpath(LIBRARY)
-    if need in ("cc", "valgrind", "tshark", "mbpoll") and shutil.which(need) is None:
+    if need in TOOLS and shutil.which(need) is None:
         return "%s isn't on the path" % need
     return None
 
