@@ -1,6 +1,6 @@
 """What the scripts that kill runs of a box have in common: the numbers in a journal's file, and a run that is killed at a random
 moment."""
-import os, random, re, signal, subprocess, tempfile, time
+import os, random, re, signal, subprocess, time
 
 KEY = "000102030405060708090a0b0c0d0e0f\n"
 LIMIT = (1 << 48) - 1
@@ -39,11 +39,11 @@ def floor_of(path, link=("rtu", "ab")):
 
 
 class Killed:
-    """Runs of one command over the same input and journal, each killed after a random time of at most `seconds` seconds."""
+    """Runs of one command over the same input and journal, with their files in `folder`, each killed after a random time of at most
+    `seconds` seconds."""
 
     def __init__(self, program, command, folder, seconds):
-        self.program, self.command, self.seconds = program, command, seconds
-        self.folder = tempfile.mkdtemp(prefix="killed_%s." % command, dir=folder)
+        self.program, self.command, self.folder, self.seconds = program, command, folder, seconds
         self.killed, self.seen, self.used, self.last = 0, 0, set(), 0
         open(self.path("key"), "w").write(KEY)
         self.init("journal")
@@ -99,5 +99,8 @@ class Killed:
         self.used, self.last = set(), 0
 
     def summary(self, runs):
+        """What was seen in all runs. If none was killed, or no number was seen, they show nothing."""
+        assert self.killed, "none of %d runs was killed" % runs
+        assert self.seen + len(self.used), "no number was seen in %d runs, of which %d were killed" % (runs, self.killed)
         return "%d runs, %d killed, %d numbers seen, the last one %d, floor %d: none came twice" % (
             runs, self.killed, self.seen + len(self.used), self.last, self.floor())

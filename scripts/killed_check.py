@@ -7,11 +7,12 @@ The link has many packets, of numbers 1, 2, .. in order. Each run checks it from
 a random time, so it meets all packets that earlier runs have passed. When all packets have passed, a new journal begins. A
 number counts as passed if the last byte of its frame left unspoiled, or if its note reached the log. It must be above every
 number that passed before, and the journal's floor after the kill must not be below it. No frame may leave whole without its
-note in the log.
-The files are in a new folder inside FOLDER. On a tmpfs (/dev/shm) a sync is quick, and a run passes thousands of frames.
+note in the log. It also ends with 1 if no run was killed or no number was seen.
+The files are in a new folder inside FOLDER, which is removed at the end. On a tmpfs (/dev/shm) a sync is quick, and a run passes
+thousands of frames.
 It is no part of the gate: what a killed process leaves of a file depends on the system.
 """
-import shutil, subprocess, sys
+import subprocess, sys, tempfile
 
 import built
 from killed import Killed
@@ -49,9 +50,8 @@ def seal_link(box):
         subprocess.run(box.words("seal", "sealer"), check=True, input=frames, text=True, stdout=link, stderr=subprocess.DEVNULL)
 
 
-def main():
-    runs = int(sys.argv[1]) if len(sys.argv) > 1 else 200
-    box = Killed(built.program(sys.argv, 2), "check", sys.argv[3] if len(sys.argv) > 3 else None, 0.2)
+def kill_all(box, runs):
+    """Checks the link in that many runs, and looks at what each of them left."""
     seal_link(box)
     for _ in range(runs):
         box.run()
@@ -65,7 +65,12 @@ def main():
         if box.last == PACKETS:
             box.begin_anew()
     print(box.summary(runs))
-    shutil.rmtree(box.folder)
+
+
+def main():
+    runs, program = int(sys.argv[1]) if len(sys.argv) > 1 else 200, built.program(sys.argv, 2)
+    with tempfile.TemporaryDirectory(prefix="killed_check.", dir=sys.argv[3] if len(sys.argv) > 3 else None) as folder:
+        kill_all(Killed(program, "check", folder, 0.2), runs)
 
 
 main()

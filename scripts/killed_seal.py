@@ -5,11 +5,13 @@
 
 Each run seals a recording of many frames and is killed (SIGKILL) after a random time. A number counts as used if a byte of its
 trailer reached the output, or if its note reached the log. It must be above every number that was used before, and the journal's
-floor after the kill must not be below it. No trailer may be on the link without its note in the log.
-The files are in a new folder inside FOLDER. On a tmpfs (/dev/shm) a sync is quick, and a run seals thousands of frames.
+floor after the kill must not be below it. No trailer may be on the link without its note in the log. It also ends with 1 if no run
+was killed or no number was seen.
+The files are in a new folder inside FOLDER, which is removed at the end. On a tmpfs (/dev/shm) a sync is quick, and a run seals
+thousands of frames.
 It is no part of the gate: what a killed process leaves of a file depends on the system.
 """
-import re, shutil, sys
+import re, sys, tempfile
 
 import built
 from killed import Killed
@@ -28,9 +30,8 @@ def full(floor, word):
     return floor + 1 + (word - floor - 1) % 65536
 
 
-def main():
-    runs = int(sys.argv[1]) if len(sys.argv) > 1 else 200
-    box = Killed(built.program(sys.argv, 2), "seal", sys.argv[3] if len(sys.argv) > 3 else None, 0.5)
+def kill_all(box, runs):
+    """Seals the recording in that many runs, and looks at what each of them left."""
     open(box.path("line"), "w").write("+%s\n-40\n" % FRAME * 200000)
     for _ in range(runs):
         before = box.run()
@@ -43,7 +44,12 @@ def main():
         assert set(numbers) <= set(noted), "a trailer stands on the link without its note"
         box.keep(numbers + noted)
     print(box.summary(runs))
-    shutil.rmtree(box.folder)
+
+
+def main():
+    runs, program = int(sys.argv[1]) if len(sys.argv) > 1 else 200, built.program(sys.argv, 2)
+    with tempfile.TemporaryDirectory(prefix="killed_seal.", dir=sys.argv[3] if len(sys.argv) > 3 else None) as folder:
+        kill_all(Killed(program, "seal", folder, 0.5), runs)
 
 
 main()
