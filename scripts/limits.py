@@ -85,11 +85,14 @@ def main():
     commands = ["init rtu ab NEW", "vectors", "help", "version", "trial rtu 7 10000", "trial dnp3 7 10000", "read rtu", "read dnp3", "space rtu", "space dnp3"]
     for box in ("seal %s ab KEY JOURNAL", "check %s ab KEY JOURNAL", "replay %s ab KEY", "audit %s ab KEY 0 0", "duplex %s ab KEY"):
         commands += [box % proto for proto in ("rtu", "dnp3")]
-    wrong = 0
+    wrong, names = 0, sys.argv[2:]
+    unknown = set(names) - {words.split()[0] for words in commands}
+    if unknown:
+        sys.exit("limits: no command is called %s" % ", ".join(sorted(unknown)))
     with tempfile.TemporaryDirectory(dir="/dev/shm" if os.path.isdir("/dev/shm") else None) as folder:
         for words in commands:
             name, proto = (words.split() + [""])[:2]
-            if sys.argv[2:] and name not in sys.argv[2:]:
+            if names and name not in names:
                 continue
             kinds = [("nothing is read", [], "")] if name in ("init", "vectors", "help", "version", "trial") else inputs(proto, MARKS.get(name, 0))
             for kind, parts, fault in kinds:

@@ -96,30 +96,35 @@ def session(path, line, link):
         file.write(open(line).read() + "%\n" + open(link).read())
 
 
-def make_inputs(folder, ticks):
-    """Writes the lines, and returns the cases: a name, the input, and the words of the command."""
-    at, cases, chance = lambda name: os.path.join(folder, name), [], random.Random(1)
-    for proto, name, other in ((Rtu, "rtu", "rtu24"), (Dnp3, "dnp3", "dnp24")):
-        device, dense = at("device." + name), at("dense." + name)
-        device_line(device, proto, ticks, chance)
-        dense_line(dense, proto, ticks, chance)
+def cases_of(folder, ticks):
+    """The cases: a name, the input, and the words of the command."""
+    at, cases = lambda name: os.path.join(folder, name), []
+    for name, other in (("rtu", "rtu24"), ("dnp3", "dnp24")):
+        device, dense, both = at("device." + name), at("dense." + name), at("session." + name)
         cases += [("read " + name, device, ["read", name]), ("read %s, dense" % name, dense, ["read", name]),
                   ("space " + name, device, ["space", name]), ("space %s, dense" % name, dense, ["space", name]),
                   ("seal " + name, device, ["seal", name, "ab"]), ("seal %s, dense" % name, dense, ["seal", name, "ab"])]
-        for word, profile, attacked in ((name, Y18, False), (name, Y18, True), (other, Y24, False)):
-            link = at("link.%s.%d" % (word, attacked))
-            link_line(link, proto, profile, ticks, chance, attacked)
-            cases.append(("check %s%s" % (word, ", attacked" * attacked), link, ["check", word, "ab"]))
-        both = at("session." + name)
-        device_line(at("half"), proto, ticks // 2, chance)
-        link_line(at("link"), proto, Y18, ticks // 2, chance, True)
-        session(both, at("half"), at("link"))
+        for word, attacked in ((name, False), (name, True), (other, False)):
+            cases.append(("check %s%s" % (word, ", attacked" * attacked), at("link.%s.%d" % (word, attacked)), ["check", word, "ab"]))
         cases += [("check %s, unsealed" % name, dense, ["check", name, "ab"]), ("replay " + name, both, ["replay", name, "ab"]),
                   ("trial " + name, os.devnull, ["trial", name, "7", str(ticks // TICKS_OF_A_FRAME)])]
+    return cases + [("read rtu, thin", at("thin"), ["read", "rtu"]), ("read rtu, comments", at("comments"), ["read", "rtu"])]
+
+
+def make_inputs(folder, ticks):
+    """Writes the lines of all cases."""
+    at, chance = lambda name: os.path.join(folder, name), random.Random(1)
+    for proto, name, other in ((Rtu, "rtu", "rtu24"), (Dnp3, "dnp3", "dnp24")):
+        device_line(at("device." + name), proto, ticks, chance)
+        dense_line(at("dense." + name), proto, ticks, chance)
+        for word, profile, attacked in ((name, Y18, False), (name, Y18, True), (other, Y24, False)):
+            link_line(at("link.%s.%d" % (word, attacked)), proto, profile, ticks, chance, attacked)
+        device_line(at("half"), proto, ticks // 2, chance)
+        link_line(at("link"), proto, Y18, ticks // 2, chance, True)
+        session(at("session." + name), at("half"), at("link"))
     thin_line(at("thin"), ticks, chance)
     with open(at("comments"), "w") as file:
         file.write(("# " + "a comment " * 10 + "\n") * (ticks // 50))
-    return cases + [("read rtu, thin", at("thin"), ["read", "rtu"]), ("read rtu, comments", at("comments"), ["read", "rtu"])]
 
 
 def words_of(words, key, journal):
@@ -242,9 +247,12 @@ def main():
         return 2
     ticks = asked.ticks or (FEW_TICKS if asked.instructions else TICKS)
     with tempfile.TemporaryDirectory(prefix="measure.", dir=asked.work) as folder:
+        cases = [case for case in cases_of(folder, ticks) if asked.only in case[0]]
+        if not cases:
+            sys.exit("measure: no case has `%s` in its name" % asked.only)
+        make_inputs(folder, ticks)
         with open(os.path.join(folder, "key"), "w") as file:
             file.write(KEY)
-        cases = [case for case in make_inputs(folder, ticks) if asked.only in case[0]]
         if asked.instructions:
             return count_all(programs, cases, asked.most, folder)
         print("%-22s %9s %13s %9s" % ("case", "CPU time", "input read", "memory"), flush=True)
