@@ -96,8 +96,24 @@ def session(path, line, link):
         file.write(open(line).read() + "%\n" + open(link).read())
 
 
+def audited(path, proto, ticks, chance):
+    """Writes the recordings of a session that `audit` calls clean: a device's line, its link, on which one packet in ten is changed, and
+    what a receiver makes of this link."""
+    line, pool, key = [], frames(proto, chance, 500), bytes.fromhex(KEY.strip())
+    while len(line) < ticks // 3:
+        line += chance.choice(pool) + [None] * chance.choice([21, 27, 60, 300])
+    link, _, _, sealed = model.seal(proto, key, 0, 0, line)
+    for _, start, frame in sealed:
+        if chance.random() < 0.1:
+            link[start + chance.randrange(len(frame))] ^= 1
+    received, _, _, _ = model.check(proto, key, 0, 0, link)
+    with open(path, "w") as file:
+        file.write("%\n".join(map(model.canonical, (line, link, received))))
+
+
 def cases_of(folder, ticks):
-    """The cases: a name, the input, and the words of the command."""
+    """The cases: a name, the input, and the words of the command. The link of a session comes in the direction ab, so a box for both
+    directions seals in the direction ba."""
     at, cases = lambda name: os.path.join(folder, name), []
     for name, other in (("rtu", "rtu24"), ("dnp3", "dnp24")):
         device, dense, both = at("device." + name), at("dense." + name), at("session." + name)
@@ -107,6 +123,7 @@ def cases_of(folder, ticks):
         for word, attacked in ((name, False), (name, True), (other, False)):
             cases.append(("check %s%s" % (word, ", attacked" * attacked), at("link.%s.%d" % (word, attacked)), ["check", word, "ab"]))
         cases += [("check %s, unsealed" % name, dense, ["check", name, "ab"]), ("replay " + name, both, ["replay", name, "ab"]),
+                  ("duplex " + name, both, ["duplex", name, "ba"]), ("audit " + name, at("audit." + name), ["audit", name, "ab"]),
                   ("trial " + name, os.devnull, ["trial", name, "7", str(ticks // TICKS_OF_A_FRAME)])]
     return cases + [("read rtu, thin", at("thin"), ["read", "rtu"]), ("read rtu, comments", at("comments"), ["read", "rtu"])]
 
@@ -125,11 +142,13 @@ def make_inputs(folder, ticks):
     thin_line(at("thin"), ticks, chance)
     with open(at("comments"), "w") as file:
         file.write(("# " + "a comment " * 10 + "\n") * (ticks // 50))
+    for proto, name in ((Rtu, "rtu"), (Dnp3, "dnp3")):
+        audited(at("audit." + name), proto, ticks, chance)
 
 
 def words_of(words, key, journal):
     """The words of a case, with the key and the journal that its command takes."""
-    named = {"seal": [key, journal], "check": [key, journal], "replay": [key]}
+    named = {"seal": [key, journal], "check": [key, journal], "replay": [key], "duplex": [key], "audit": [key, "0", "0"]}
     return words + named.get(words[0], [])
 
 
