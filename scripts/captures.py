@@ -13,7 +13,8 @@ whose devices then read the lines too. PART is one of
     given      what `give` writes, taken again
     tshark     what `give pcap` writes, through tshark, editcap and back
     sigrok     what `give vcd` writes, through sigrok's UART and Modbus decoders and back
-    wrong      the other parts, on models with one thing wrong each: each of these must be found
+    wrong      the other parts, on models with one thing wrong each: each of these must be found. It is
+               given alone, without any other word
 
 Without a PART all but the last are run. With `first` it ends at the first thing that differs. What
 needs a tool that isn't installed, or a form that the program doesn't have, is skipped, and a line
@@ -509,8 +510,11 @@ def main(words):
     options = dict(word.partition("=")[::2] for word in words if "=" in word or word == "first")
     parts = [word for word in words if word in PARTS or word == "wrong"]
     programs = [word for word in words if word not in parts and word.split("=")[0] not in options]
-    if len(programs) > 1 or set(options) - {"read", "seed", "first"}:
+    is_mixed = "wrong" in parts and words != ["wrong"]
+    if len(programs) > 1 or is_mixed or set(options) - {"read", "seed", "first"}:
         sys.exit(__doc__.strip())
+    if programs and os.sep not in programs[0] and not os.path.isfile(programs[0]):
+        sys.exit("captures: `%s` is no PART, and no program either" % programs[0])
     if "read" in options:
         options["read"] = built.program([options["read"]], 0)
     with tempfile.TemporaryDirectory() as folder:
