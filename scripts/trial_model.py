@@ -81,8 +81,14 @@ def compare(program):
     print("%d sessions, and all is what the model prints" % (3 * len(LINKS)))
 
 
-if __name__ == "__main__":
-    if sys.argv[1] == "compare":
-        compare(built.program(sys.argv, 2))
+def main(words):
+    if words[:1] == ["compare"] and len(words) <= 2:
+        compare(built.program(words, 1))
+    elif len(words) == 3 and words[0] in LINKS and words[1].isdecimal() and words[2].isdecimal():
+        print(line_of(words[0], int(words[1]), int(words[2])), end="")
     else:
-        print(line_of(sys.argv[1], int(sys.argv[2]), int(sys.argv[3])), end="")
+        sys.exit(__doc__.strip())
+
+
+if __name__ == "__main__":
+    main(sys.argv[1:])
