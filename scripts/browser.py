@@ -8,12 +8,15 @@ FLAGS = ["--headless=new", "--remote-debugging-pipe", "--disable-gpu", "--hide-s
          "--disable-background-networking", "--disable-component-update", "--disable-sync", "--mute-audio",
          "--force-color-profile=srgb"]
 
+# The seconds in which the browser must answer a command, and those in which it must end.
+PATIENCE, ENDING = 60, 10
+
 # Keys by the names that the protocol has for them.
 KEYS = {"Enter": ("\r", 13), "Escape": ("", 27), "Home": ("", 36), "End": ("", 35), "ArrowLeft": ("", 37), "ArrowRight": ("", 39)}
 
 
 class Fault(Exception):
-    """The browser refused a command, or didn't answer in time."""
+    """The browser refused a command, ended, or didn't answer in time."""
 
 
 def find():
@@ -42,6 +45,14 @@ class Browser:
         os.close(their_in)
         os.close(their_out)
         self.waiting, self.count, self.session, self.faults = b"", 0, None, []
+        try:
+            self.attach(width, height)
+        except BaseException:
+            self.end()
+            raise
+
+    def attach(self, width, height):
+        """Opens the page, and turns on what is heard of it."""
         target = self.ask("Target.createTarget", url="about:blank")["targetId"]
         self.session = self.ask("Target.attachToTarget", targetId=target, flatten=True)["sessionId"]
         for domain in ("Page", "Runtime", "Network", "DOM", "Log"):
@@ -58,9 +69,12 @@ class Browser:
         if self.session:
             command["sessionId"] = self.session
         whole = json.dumps(command).encode() + b"\0"
-        while whole:
-            whole = whole[os.write(self.ours_out, whole):]
-        until = time.monotonic() + 60
+        try:
+            while whole:
+                whole = whole[os.write(self.ours_out, whole):]
+        except BrokenPipeError:
+            raise Fault("the browser ended before %s" % method)
+        until = time.monotonic() + PATIENCE
         while True:
             answer = self.next_answer(until, method)
             if answer.get("id") == self.count:
@@ -136,13 +150,19 @@ class Browser:
         self.ask("Emulation.setEmulatedMedia", features=[{"name": "prefers-color-scheme", "value": "dark" if is_dark else "light"}])
 
     def close(self):
+        """Asks the browser to end, and kills it if it doesn't."""
         try:
             self.session = None
             self.ask("Browser.close")
-            self.process.wait(10)
+            self.process.wait(ENDING)
         except (Fault, OSError, subprocess.TimeoutExpired):
-            self.process.kill()
-            self.process.wait()
+            pass
+        self.end()
+
+    def end(self):
+        """Kills the browser if it still runs, and removes its profile."""
+        self.process.kill()
+        self.process.wait()
         os.close(self.ours_in)
         os.close(self.ours_out)
         shutil.rmtree(self.profile, ignore_errors=True)
