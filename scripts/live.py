@@ -85,10 +85,79 @@ def built():
     return programs
 
 
+def first_session(folder, programs, see):
+    """A session without an attack. Returns the requests that the attacker recorded: those that write, if there are any."""
+    print("== A first session, which the attacker records: mbpoll writes %d into register %d, and reads" % (WRITTEN[0], TARGET), flush=True)
+    session = Session(folder, programs, [], True)
+    wrote, _ = session.surely(WRITTEN[0])
+    read, values = session.surely()
+    session.end()
+    see(wrote and read and values[TARGET:TARGET + 1] == [WRITTEN[0]], "mbpoll wrote and read through four boxes: %s" % values)
+    if not wrote:
+        print(session.text("a")[-800:], session.text("b")[-800:])
+    recorded = session.attacker.seen["ab"]
+    return [sent for sent in recorded if sent[0][1:2] == b"\x06"] or recorded
+
+
+def polled(session, seconds):
+    """Polls under attack for at least so long, and until each sort of attack was done. Returns how many polls there were, how many were
+    answered, and the values that they read."""
+    session.attacker.quiet = False
+    begun, polls, answered, read = time.monotonic(), 0, 0, set()
+    while time.monotonic() - begun < seconds or (len(session.attacker.done) < len(SORTS) and polls < 80):
+        polls += 1
+        right, values = session.poll()
+        answered += right
+        if right:
+            read.add(tuple(values))
+    session.attacker.quiet = True
+    return polls, answered, read
+
+
+def last_line(text):
+    return (text.splitlines() or ["nothing"])[-1]
+
+
+def second_session(folder, programs, old, seconds, see):
+    """A session over the same journals, in which the requests are attacked."""
+    print("== A second one over the same journals, with ten sorts of attack on the requests", flush=True)
+    session = Session(folder, programs, old, False)
+    good = [session.surely(value)[0] for value in WRITTEN[1:]]
+    polls, answered, read = polled(session, seconds)
+    last, values = session.surely()
+    done, statuses = session.attacker.done, session.end()
+    expected = [100 + i for i in range(10)]
+    expected[TARGET] = WRITTEN[-1]
+    server = session.text("server")
+    writes = re.findall(r"^write (\d+) (\d+)", server, re.M)
+    see(all(good) and last and values == expected, "mbpoll wrote before the attacks, and read after them: %s" % values)
+    print("      polls under attack: %d, answered %d; polls that were repeated without one: %d" % (polls, answered, session.tries))
+    see(len(done) == len(SORTS), "attacks: %s" % ", ".join("%s %d" % (sort, done[sort]) for sort in SORTS))
+    # a write whose reply was lost is sent again
+    runs = [write for number, write in enumerate(writes) if writes[:number][-1:] != [write]]
+    see(runs == [(str(TARGET), str(value)) for value in WRITTEN[1:]], "the server carried out mbpoll's writes alone: %s" % writes)
+    held = last_line(server)
+    see(read <= {tuple(expected)} and held == "registers " + " ".join(map(str, expected)), "no attack changed a register: the server has %s" % held)
+    see(statuses == [0, 0], "both bridges ended with status 0")
+    for kept, number, word, noted in session.numbers():
+        see(number is not None and number == noted, "journal %s has the number %s, the last one that was %s" % (kept, number, word))
+    for end in ("a", "b"):
+        print("      %s" % last_line(session.text(end)))
+
+
+def draw(folder, see):
+    """Writes the picture of the second session."""
+    os.makedirs(os.path.dirname(PAGE), exist_ok=True)
+    lanes = ["device=" + os.path.join(folder, "a.device.ticks"), "sent=" + os.path.join(folder, "a.sent.ticks"),
+             "came=" + os.path.join(folder, "b.came.ticks"), "received=" + os.path.join(folder, "b.received.ticks")]
+    page = subprocess.run([sys.executable, os.path.join(ROOT, "scripts", "timeline.py"), PAGE, "rtu", *lanes, "title=make live"],
+                          capture_output=True, text=True)
+    see(page.returncode == 0, "the picture of the session: %s%s" % (PAGE, page.stderr))
+
+
 def main():
     seconds = float(sys.argv[1]) if len(sys.argv) > 1 else 40
-    programs = built()
-    wrong = []
+    programs, wrong = built(), []
 
     def see(holds, what):
         print("%s %s" % ("  ok  " if holds else "WRONG ", what), flush=True)
@@ -97,59 +166,17 @@ def main():
 
     with tempfile.TemporaryDirectory() as folder:
         make_key(folder)
-        print("== A first session, which the attacker records: mbpoll writes %d into register %d, and reads" % (WRITTEN[0], TARGET), flush=True)
-        session = Session(folder, programs, [], True)
-        wrote, _ = session.surely(WRITTEN[0])
-        read, values = session.surely()
-        seen = session.attacker.seen["ab"]
-        old = [sent for sent in seen if sent[0][1] == 6] or list(seen)
-        session.end()
-        see(wrote and read and values[TARGET:TARGET + 1] == [WRITTEN[0]], "mbpoll wrote and read through four boxes: %s" % values)
-        if not wrote:
-            print(session.text("a")[-800:], session.text("b")[-800:])
-        print("== A second one over the same journals, with ten sorts of attack on the requests", flush=True)
-        session = Session(folder, programs, old, False)
-        good = [session.surely(value)[0] for value in WRITTEN[1:]]
-        session.attacker.quiet = False
-        begun, polls, answered, read = time.monotonic(), 0, 0, set()
-        while time.monotonic() - begun < seconds or (len(session.attacker.done) < len(SORTS) and polls < 80):
-            polls += 1
-            right, values = session.poll()
-            answered += right
-            if right:
-                read.add(tuple(values))
-        session.attacker.quiet = True
-        last, values = session.surely()
-        done = session.attacker.done
-        statuses = session.end()
-        expected = [100 + i for i in range(10)]
-        expected[TARGET] = WRITTEN[-1]
-        server = session.text("server")
-        writes = re.findall(r"^write (\d+) (\d+)", server, re.M)
-        see(all(good) and last and values == expected, "mbpoll wrote before the attacks, and read behind them: %s" % values)
-        print("      polls under attack: %d, answered %d; polls that were repeated without one: %d" % (polls, answered, session.tries))
-        see(len(done) == len(SORTS), "attacks: %s" % ", ".join("%s %d" % (sort, done[sort]) for sort in SORTS))
-        # a write whose reply was lost is sent again
-        runs = [write for number, write in enumerate(writes) if writes[:number][-1:] != [write]]
-        see(runs == [(str(TARGET), str(value)) for value in WRITTEN[1:]], "the server carried out mbpoll's writes alone: %s" % writes)
-        held = server.splitlines()[-1]
-        see(read <= {tuple(expected)} and held == "registers " + " ".join(map(str, expected)), "no attack changed a register: the server has %s" % held)
-        see(statuses == [0, 0], "both bridges ended with status 0")
-        for kept, number, word, noted in session.numbers():
-            see(number == noted, "journal %s stands at %s, the last number that was %s" % (kept, number, word))
-        for end in ("a", "b"):
-            print("      %s" % session.text(end).splitlines()[-1])
-        os.makedirs(os.path.dirname(PAGE), exist_ok=True)
-        lanes = ["device=" + os.path.join(folder, "a.device.ticks"), "sent=" + os.path.join(folder, "a.sent.ticks"),
-                 "came=" + os.path.join(folder, "b.came.ticks"), "received=" + os.path.join(folder, "b.received.ticks")]
-        page = subprocess.run([sys.executable, os.path.join(ROOT, "scripts", "timeline.py"), PAGE, "rtu", *lanes, "title=make live"],
-                              capture_output=True, text=True)
-        see(page.returncode == 0, "the picture of the session: %s%s" % (PAGE, page.stderr))
+        old = first_session(folder, programs, see)
+        if old:
+            second_session(folder, programs, old, seconds, see)
+            draw(folder, see)
+        else:
+            see(False, "a packet came to the attacker: none did, so there is nothing to repeat in a second session")
     if wrong:
         if os.getloadavg()[0] > os.cpu_count():
             print("This machine is busy, with a load of %.0f on %d processors: polls may have failed by that alone." % (os.getloadavg()[0], os.cpu_count()))
-        sys.exit("live: %d of these weren't so" % len(wrong))
-    print("All of that was so.")
+        sys.exit("live: %d of these checks failed" % len(wrong))
+    print("All of these checks passed.")
 
 
 try:

@@ -42,7 +42,6 @@ class Session(Bridges):
         self.given, self.asked, self.replies, self.first = b"", [], b"", first
         super().__init__(program, folder, link, old, make)
         self.size = len(link.evil)
-        self.link = link
         self.run(self.serve)
 
     def serve(self):
@@ -78,6 +77,18 @@ class Session(Bridges):
         return -1 not in places and all(one < other for one, other in zip(places, places[1:]))
 
 
+def under_attack(session):
+    """Polls until each sort of attack was done, with one poll before and one after that isn't attacked. Returns whether these two were
+    answered, and how many polls there were under attack and how many of them were answered."""
+    before = session.surely(2000)
+    session.attacker.quiet, polls, answered = False, 0, 0
+    while len(session.attacker.done) < len(SORTS) and polls < 80:
+        polls += 1
+        answered += session.poll(2000 + polls)
+    session.attacker.quiet = True
+    return None not in (before, session.surely(3000)), polls, answered
+
+
 def tried(program, kind, baud):
     """Runs one kind at one rate. Returns what was wrong, and prints it and what was seen."""
     parity = "even" if kind.startswith("rtu") else "none"
@@ -94,27 +105,22 @@ def tried(program, kind, baud):
         begun, tries = time.monotonic(), [session.surely(1000 + number) for number in range(POLLS)]
         seconds = time.monotonic() - begun
         old, statuses = list(session.attacker.seen["ab"]), session.end()
-        stood = {kept: number for kept, number, _, _ in session.numbers()}
+        numbers = {kept: number for kept, number, _, _ in session.numbers()}
         see(statuses == [0, 0], "a bridge ended with another status than 0")
         see(None not in tries, "of the polls without an attack some were never answered: %s" % tries)
         see(session.device_got_requests_alone(), "the device got other bytes than requests: %s" % session.given.hex())
         if not old:
             return wrong
         session = Session(program, folder, link, old, False, 1000)
-        before = session.surely(2000)
-        session.attacker.quiet, polls, answered = False, 0, 0
-        while len(session.attacker.done) < len(SORTS) and polls < 80:
-            polls += 1
-            answered += session.poll(2000 + polls)
-        session.attacker.quiet = True
-        behind, done = session.surely(3000), session.attacker.done
+        both, polls, answered = under_attack(session)
+        done = session.attacker.done
         see(session.end() == [0, 0], "a bridge ended with another status than 0")
-        see(before is not None and behind is not None, "no poll was answered before the attacks, or behind them")
+        see(both, "no poll was answered before the attacks, or none after them")
         see(len(done) == len(SORTS), "some attack wasn't done: %s" % dict(done))
         see(session.device_got_requests_alone(), "the device got other bytes than requests: %s" % session.given.hex())
         for kept, number, word, noted in session.numbers():
-            noted = stood[kept] if noted is None else noted
-            see(number == noted, "journal %s stands at %s, the last number that was %s is %s" % (kept, number, word, noted))
+            noted = numbers[kept] if noted is None else noted
+            see(number is not None and number == noted, "journal %s has the number %s, and the last one that was %s is %s" % (kept, number, word, noted))
         counted = sum(each or TRIES for each in tries)
         print("%-5s %6d baud: %d polls without an attack took %d tries and %.0f ms each; under attack %d of %d were answered%s"
               % (kind, baud, POLLS, counted, 1000 * seconds / counted, answered, polls, "; WRONG" if wrong else ""), flush=True)

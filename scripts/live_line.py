@@ -3,6 +3,8 @@ between them, and what the journals and notes say afterwards.
 """
 import collections, os, pty, re, select, signal, subprocess, sys, threading, time, tty
 
+from killed import floor_of
+
 PAUSE = 3
 SORTS = ("change", "repeat", "cut", "insert", "reorder", "reflect", "old session", "forge", "strip", "pause")
 
@@ -98,6 +100,10 @@ class Attacker:
             self.done["reorder"] += 1
             self.turn += 1
             return
+        if (sort == "reflect" and not self.seen["ba"]) or (sort == "old session" and not self.old):
+            # nothing has come yet that could be sent again
+            target.write(packet(frame, trailer))
+            return
         if sort == "change":
             target.write(packet(evil, trailer))
         elif sort == "repeat":
@@ -136,7 +142,7 @@ class Bridges:
     """One uptime of both bridges, with the attacker between them. `a_device` and `b_device` are the ports of the two devices."""
 
     def __init__(self, program, folder, link, old, make):
-        self.folder, self.stopping = folder, threading.Event()
+        self.folder, self.link, self.stopping = folder, link, threading.Event()
         self.a_device, self.a_link, self.b_link, self.b_device = (Port(link.tick) for _ in range(4))
         self.attacker = Attacker(link, self.a_link, self.b_link, self.stopping, old)
         self.threads = []
@@ -174,25 +180,18 @@ class Bridges:
         return statuses
 
     def numbers(self):
-        """For each of the four journals its name, its number, the word of the notes that have such numbers (sealed or passed), and the
-        last number in these notes, or None if there is none."""
+        """For each of the four journals its name, its number or None if it has none, the word of the notes that have such numbers (sealed
+        or passed), and the last number in these notes, or None if there is none."""
         found = []
-        for end, word, kept in (("a", "sealed", "a.sent"), ("b", "passed", "b.got"), ("b", "sealed", "b.sent"), ("a", "passed", "a.got")):
-            found.append((kept, number_in(os.path.join(self.folder, kept)), word, last_number(self.text(end), word)))
+        for kept, way, word in (("a.sent", "ab", "sealed"), ("b.got", "ab", "passed"), ("b.sent", "ba", "sealed"), ("a.got", "ba", "passed")):
+            number = floor_of(os.path.join(self.folder, kept), (self.link.kind, way))
+            found.append((kept, number, word, last_number(self.text(kept[0]), word)))
         return found
 
 
 def make_key(folder):
     with open(os.path.join(folder, "key.txt"), "w") as file:
         file.write("%s\n" % os.urandom(16).hex())
-
-
-def number_in(path):
-    """The number of a journal: the greater number of its two slots."""
-    with open(path, "rb") as file:
-        content = file.read()
-    slots = [content[first:first + 24] for first in (32, 56)]
-    return max(int.from_bytes(slot[:8], "big") for slot in slots if slot and slot[12:] == bytes(255 - b for b in slot[:12]))
 
 
 def last_number(notes, word):
