@@ -13,7 +13,7 @@ journals have the numbers that the notes say were sealed and passed, and 2 if so
 import os, re, shutil, subprocess, sys, tempfile, time
 
 import bridge_build
-from live_line import SORTS, Bridges, Port, ended, link_of, make_key, started
+from live_line import SORTS, Bridges, Port, link_of, make_key, started
 from model import Rtu
 
 ROOT = os.path.dirname(os.path.dirname(os.path.abspath(__file__)))
@@ -36,10 +36,11 @@ class Session(Bridges):
     def __init__(self, folder, programs, old, make):
         super().__init__(programs["bridge"], folder, LINK, old, make)
         self.master, self.slave = Port(LINK.tick), Port(LINK.tick)
+        self.ports += [self.master, self.slave]
         for one, other in ((self.master, self.a_device), (self.b_device, self.slave)):
             self.run(self.wire, one, other)
             self.run(self.wire, other, one)
-        self.server = started([programs["server"], self.slave.path], self.log("server"))
+        self.others.append(started([programs["server"], self.slave.path], self.log("server")))
         self.tries = 0
         time.sleep(0.5)
 
@@ -64,11 +65,6 @@ class Session(Bridges):
                 self.tries += tries - 1
                 return True, read
         return False, []
-
-    def end(self):
-        statuses = super().end()
-        ended(self.server)
-        return statuses
 
 
 def built():

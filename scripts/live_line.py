@@ -28,6 +28,10 @@ class Port:
         self.tick = tick
         self.lock = threading.Lock()
 
+    def close(self):
+        os.close(self.here)
+        os.close(self.there)
+
     def write(self, content):
         """Writes each byte in its own tick, as well as this machine keeps time. None is a silent tick."""
         with self.lock:
@@ -130,7 +134,8 @@ class Attacker:
 
 
 def started(words, log):
-    return subprocess.Popen(words, stdout=open(log, "w"), stderr=subprocess.STDOUT)
+    with open(log, "w") as file:
+        return subprocess.Popen(words, stdout=file, stderr=subprocess.STDOUT)
 
 
 def ended(process):
@@ -139,11 +144,13 @@ def ended(process):
 
 
 class Bridges:
-    """One uptime of both bridges, with the attacker between them. `a_device` and `b_device` are the ports of the two devices."""
+    """One uptime of both bridges, with the attacker between them. `a_device` and `b_device` are the ports of the two devices. All ports
+    are closed at the end, after the programs in `others` have ended."""
 
     def __init__(self, program, folder, link, old, make):
         self.folder, self.link, self.stopping = folder, link, threading.Event()
-        self.a_device, self.a_link, self.b_link, self.b_device = (Port(link.tick) for _ in range(4))
+        self.ports, self.others = [Port(link.tick) for _ in range(4)], []
+        self.a_device, self.a_link, self.b_link, self.b_device = self.ports
         self.attacker = Attacker(link, self.a_link, self.b_link, self.stopping, old)
         self.threads = []
         self.run(self.attacker.run, "ab", self.a_link, self.b_link)
@@ -152,6 +159,7 @@ class Bridges:
         self.bridges = [started(self.words(program, link, *end, make), self.log(end[0])) for end in ends]
         time.sleep(1.5)
         if any(bridge.poll() is not None for bridge in self.bridges):
+            self.end()
             sys.exit("a bridge ended at once: %s%s" % (self.text("a"), self.text("b")))
 
     def run(self, target, *words):
@@ -172,11 +180,17 @@ class Bridges:
             return file.read()
 
     def end(self):
-        """Ends both bridges, and returns their statuses."""
+        """Ends both bridges, the threads and the other programs, and returns the statuses of the bridges. If a thread doesn't end in time,
+        the ports stay open, since it may use them."""
         statuses = [ended(bridge) for bridge in self.bridges]
         self.stopping.set()
         for thread in self.threads:
             thread.join(timeout=2)
+        for other in self.others:
+            ended(other)
+        if not any(thread.is_alive() for thread in self.threads):
+            for port in self.ports:
+                port.close()
         return statuses
 
     def numbers(self):
