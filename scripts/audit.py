@@ -278,7 +278,7 @@ DEEDS = {
     "link: a packet cut": (on_link(cut), CLEAN),
     "link: sent back the way it came": (on_link(send_back), CLEAN),
     "link: all of it later": (on_link(delay_all), CLEAN),
-    "link: noise behind it": (noise_between, CLEAN),
+    "link: noise after it": (noise_between, CLEAN),
     "insider: a tag forged": (on_link(forge), FORGED),
     "insider: a number ahead": (on_link(forge_ahead), FORGED, CLEAN),
     "insider: a frame under a sealed number": (on_link(forge_a_sealed_number), FORGED),
@@ -289,7 +289,7 @@ DEEDS = {
     "got: a frame less": (on_received(take_a_frame), DIFFERS),
     "got: a frame a tick later": (on_received(let_one_come_later), DIFFERS),
     "got: cut inside a frame": (on_received(cut_short), DIFFERS),
-    "got: cut behind the last frame": (on_received(cut_after_all), CLEAN),
+    "got: cut after the last frame": (on_received(cut_after_all), CLEAN),
     "all: cut in the tick of a verdict": (stop_at_the_verdict, DIFFERS),
     "all: so cut, but the third longer": (one_tick_longer, CLEAN),
     "floors: the sender's wrong": (sender_floor, FORGED),
@@ -321,7 +321,7 @@ class Program:
         self.path, self.key_file = path, os.path.join(folder, "key")
 
     def run(self, session):
-        """What it writes. Another status than is due, or a line in the log, is added to this text."""
+        """What it writes. A status other than the one that is due, or a line in the log, is added to this text."""
         with open(self.key_file, "w") as file:
             file.write(session.key.hex())
         text = "%\n".join(map(model.canonical, self.lists(lists_of(session))))
@@ -402,7 +402,7 @@ WRONG = {
     "differences not seen": wrong(line=counts_for_numbers),
     "forged told by the number alone": ByNumberAlone,
     "forged told by the frame alone": ByFrameAlone,
-    "frames behind the last one not seen": LongerIsClean,
+    "frames after the last one not seen": LongerIsClean,
     "the tick of a forged frame a tick late": wrong(line=one_more(r"(forged \d+ at )(\d+)")),
     "one too many read": wrong(line=one_more(r"(read )(\d+)")),
     "sealed and passed exchanged": wrong(line=lambda line: re.sub(r"sealed (\d+) passed (\d+)", r"sealed \2 passed \1", line)),

@@ -149,17 +149,17 @@ def main():
         for kind in KINDS:
             content = device_line(kind, frames // 4, draw)
             for command in ("seal", "check"):
-                answers = []
+                wrote = []
                 for number, run in enumerate(both):
                     journal = os.path.join(folder, "%s.%s.%d" % (kind, command, number))
                     subprocess.run([program, "init", kind, "ab", journal], check=True)
-                    answers.append(step_by(run + [command, kind, "ab", key, journal], content, journal))
-                for what, one, other in zip(("the line", "the notes", "the journal"), *answers):
+                    wrote.append(step_by(run + [command, kind, "ab", key, journal], content, journal))
+                for what, one, other in zip(("the line", "the notes", "the journal"), *wrote):
                     if one != other:
                         sys.exit("clib_check: %s of `%s %s` differs" % (what, command, kind))
-                notes.update(line.split()[0] for line in answers[0][1].splitlines())
+                notes.update(line.split()[0] for line in wrote[0][1].splitlines())
                 if command == "seal":
-                    content, counts = attacked(answers[0][0], draw)
+                    content, counts = attacked(wrote[0][0], draw)
                     total.update(counts)
             print("%s: the same lines, notes and journals of both ends" % kind, flush=True)
     print("%d frames; attacks: %s" % (frames, ", ".join("%s %d" % each for each in sorted(total.items()))))

@@ -74,7 +74,7 @@ def look_at(words, before, closed, right, seen, status):
     """What is wrong with a run, in words."""
     faults = []
     if seen[0] != status:
-        faults.append("status %d in place of %d" % (seen[0], status))
+        faults.append("status %d instead of %d" % (seen[0], status))
     if seen[3] != KEY:
         faults.append("the key's file was written")
     if seen[4] not in (before, right[4]) or (0 in closed and status == 5 and seen[4] != before):

@@ -132,7 +132,7 @@ def show_altered(name, protocol, what, reader, folder):
 def show_guarded(name, folder):
     """Shows a spacer behind the receiver, over a link with a right frame and one more byte, and says what a device that counts
     bytes reads of the receiver's line and of the spacer's."""
-    same = show_altered(name, "rtu", "A link with a frame and one byte directly behind it", "device", folder)
+    same = show_altered(name, "rtu", "A link with a frame and one byte directly after it", "device", folder)
     print("A device that waits for silence reads these two frames. One that counts bytes takes eight bytes from tick 68 on, finds their")
     print("CRC right, and acts on 01050000ff008c3a too, though that burst was refused. The receiver alone doesn't protect it.\n")
     line, lost = run(["space", "rtu"], os.path.join(folder, name + ".received.ticks"))
@@ -167,7 +167,7 @@ def show_wrong_link(folder):
 
 def show_taken_over(folder):
     """Shows how the journal of an older program, whose slots name no link, is taken over."""
-    print("== The journal of an older program, which stands at number 5\n")
+    print("== The journal of an older program, which has the number 5\n")
     journal = os.path.join(folder, "old.journal")
     with open(journal, "wb") as file:
         file.write(old_slot_of(5) + bytes(16))
@@ -207,7 +207,7 @@ def show_box_of_an_end(name, direction, what, link, folder):
     print("== %s\n" % what)
     both = joined(folder, name + ".both.ticks", example(name + ".ticks"), link)
     lines, notes = run(["duplex", "rtu", direction, os.path.join(EXAMPLES, "key.txt")], both)
-    same = show("duplex rtu %s: the link's ticks, and behind the %% those that its device gets" % direction, lines, name + ".both.txt")
+    same = show("duplex rtu %s: the link's ticks, and after the %% those that its device gets" % direction, lines, name + ".both.txt")
     same &= show("its notes, on standard error", notes, name + ".both_notes.txt")
     return same, lines.split("%\n")[0]
 
@@ -217,7 +217,7 @@ def show_whole_line(folder):
     same, link = show_box_of_an_end("polls", "ab", "Both directions in one box: that of the control centre (examples/polls.ticks), "
                                     "and the link to it, on which a packet came back (examples/answers_link.ticks)",
                                     example("answers_link.ticks"), folder)
-    other, _ = show_box_of_an_end("answers", "ba", "The box of the device (examples/answers.ticks), behind this link", link, folder)
+    other, _ = show_box_of_an_end("answers", "ba", "The box of the device (examples/answers.ticks), at the other end of this link", link, folder)
     return same and other
 
 

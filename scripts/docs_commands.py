@@ -6,7 +6,7 @@
 The commands of a page run in the order of the page, in one new folder with a copy of examples/ and the programs at their usual
 places, so a file that one command leaves is there for the next. If `line_capture` isn't built, a page whose commands call it is
 skipped, and a line says so. A page may show what goes to standard error before or after what goes to standard output. It ends with
-1 if a page shows something else than a command writes, or shows no command. It is no part of the gate.
+1 if a command writes something other than what the page shows, or if a page shows no command. It is no part of the gate.
 """
 import os, re, shutil, subprocess, sys, tempfile
 

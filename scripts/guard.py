@@ -67,7 +67,7 @@ def write(register, value):
 
 
 def some_write(chance):
-    """A request that writes other registers than the first, or coils."""
+    """A request that writes registers other than the first, or coils."""
     place, value = chance.randrange(1, 14), chance.randrange(1, 65536)
     return chance.choice([write(place, value), framed([1, 5], two(place), [0xFF, 0]), framed([1, 15], two(place), two(2), [1, 3]),
                           framed([1, 16], two(place), two(2), [4], two(value), two(value))])
@@ -107,10 +107,10 @@ def changed(chance, packet):
 # to the link.
 KINDS = {
     "a frame alone": lambda chance, packet: some_write(chance),
-    "one byte behind a frame": lambda chance, packet: some_write(chance) + chance.choice([[0], some_bytes(chance, 1)]),
-    "bytes behind a frame": lambda chance, packet: some_write(chance) + some_bytes(chance, 40),
-    "bytes in front of a frame": lambda chance, packet: chance.choice([some_bytes(chance, 12), wrong_request(chance)]) + some_write(chance),
-    "bytes in front and behind": lambda chance, packet: wrong_request(chance) + some_write(chance) + some_bytes(chance, 12),
+    "one byte after a frame": lambda chance, packet: some_write(chance) + chance.choice([[0], some_bytes(chance, 1)]),
+    "bytes after a frame": lambda chance, packet: some_write(chance) + some_bytes(chance, 40),
+    "bytes before a frame": lambda chance, packet: chance.choice([some_bytes(chance, 12), wrong_request(chance)]) + some_write(chance),
+    "bytes before and after": lambda chance, packet: wrong_request(chance) + some_write(chance) + some_bytes(chance, 12),
     "two frames": lambda chance, packet: some_write(chance) + some_write(chance),
     "a frame in two parts": lambda chance, packet: in_halves(chance),
     "a frame deep in a burst": lambda chance, packet: deep_inside(chance),
@@ -256,8 +256,8 @@ def main():
         of_kind = [result for result in results if result[0] == kind]
         print("%-27s %7d  %3d %3d" % (kind, len(of_kind), sum(result[2] for result in of_kind), sum(result[3] for result in of_kind)))
     wrong, real = [result[4] for result in results if result[4]], sum(result[2] for result in results)
-    print("\n".join(wrong + ["behind the receiver alone %d attacks changed what the server holds; behind a spacer %d ended otherwise than the frames that passed say"
-                             % (real, len(wrong))]))
+    print("\n".join(wrong + ["behind the receiver alone %d attacks changed what the server holds; "
+                             "behind a spacer %d didn't end as the frames that passed say" % (real, len(wrong))]))
     return 0 if real and not wrong else 1
 
 

@@ -22,7 +22,7 @@ CASES = [
     ("empty", b"", 0, "", OLD + ZERO),
     ("zeros of both old slots", OLD, 0, "", OLD + ZERO),
     ("zeros of all slots", bytes(80), 0, "", OLD + ZERO + bytes(24)),
-    ("zeros, and more behind the slots", bytes(80) + b"more", 0, "", OLD + ZERO + bytes(24) + b"more"),
+    ("zeros, and more after the slots", bytes(80) + b"more", 0, "", OLD + ZERO + bytes(24) + b"more"),
     ("a new journal", OLD + ZERO + bytes(24), 11, STANDS % 0, None),
     ("a journal, one slot torn", OLD + TORN + SEVEN, 11, STANDS % 7, None),
     ("a journal, the other slot torn", OLD + SEVEN + TORN, 11, STANDS % 7, None),
@@ -43,14 +43,14 @@ def main():
     wrong = 0
     with tempfile.TemporaryDirectory() as folder:
         path = os.path.join(folder, "file")
-        for name, before, status, log, behind in CASES:
+        for name, before, status, log, left in CASES:
             if os.path.exists(path):
                 os.remove(path)
             if before is not None:
                 open(path, "wb").write(before)
             run = subprocess.run([program, "init", "rtu", "ab", path], stdin=subprocess.DEVNULL, stdout=subprocess.PIPE, stderr=subprocess.PIPE)
             after = open(path, "rb").read() if os.path.exists(path) else None
-            right = (run.returncode, run.stdout, run.stderr.decode(), after) == (status, b"", log, before if behind is None else behind)
+            right = (run.returncode, run.stdout, run.stderr.decode(), after) == (status, b"", log, before if left is None else left)
             wrong += not right
             print("init over %-44s status %2d, %s%s" % (name, run.returncode, "unchanged" if after == before else "written", "" if right else "  WRONG"))
     print("%d files, %d wrong" % (len(CASES), wrong))

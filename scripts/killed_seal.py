@@ -41,7 +41,7 @@ def kill_all(box, runs):
         noted = [number for number, _ in box.noted("sealed")]
         for seen in (numbers, noted):
             box.look_at(seen)
-        assert set(numbers) <= set(noted), "a trailer stands on the link without its note"
+        assert set(numbers) <= set(noted), "a trailer is on the link without its note"
         box.keep(numbers + noted)
     print(box.summary(runs))
 

@@ -106,21 +106,22 @@ def tried(program, kind, baud):
         seconds = time.monotonic() - begun
         old, statuses = list(session.attacker.seen["ab"]), session.end()
         numbers = {kept: number for kept, number, _, _ in session.numbers()}
-        see(statuses == [0, 0], "a bridge ended with another status than 0")
+        see(statuses == [0, 0], "a bridge ended with a status other than 0")
         see(None not in tries, "of the polls without an attack some were never answered: %s" % tries)
-        see(session.device_got_requests_alone(), "the device got other bytes than requests: %s" % session.given.hex())
+        see(session.device_got_requests_alone(), "the device got bytes that are no requests: %s" % session.given.hex())
         if not old:
             return wrong
         session = Session(program, folder, link, old, False, 1000)
         both, polls, answered = under_attack(session)
         done = session.attacker.done
-        see(session.end() == [0, 0], "a bridge ended with another status than 0")
+        see(session.end() == [0, 0], "a bridge ended with a status other than 0")
         see(both, "no poll was answered before the attacks, or none after them")
         see(len(done) == len(SORTS), "some attack wasn't done: %s" % dict(done))
-        see(session.device_got_requests_alone(), "the device got other bytes than requests: %s" % session.given.hex())
+        see(session.device_got_requests_alone(), "the device got bytes that are no requests: %s" % session.given.hex())
         for kept, number, word, noted in session.numbers():
             noted = numbers[kept] if noted is None else noted
-            see(number is not None and number == noted, "journal %s has the number %s, and the last one that was %s is %s" % (kept, number, word, noted))
+            see(number is not None and number == noted,
+                "journal %s has the number %s, and the last one that was %s is %s" % (kept, number, word, noted))
         counted = sum(each or TRIES for each in tries)
         print("%-5s %6d baud: %d polls without an attack took %d tries and %.0f ms each; under attack %d of %d were answered%s"
               % (kind, baud, POLLS, counted, 1000 * seconds / counted, answered, polls, "; WRONG" if wrong else ""), flush=True)

@@ -80,7 +80,7 @@ def check_small():
     sleeper, _ = ran(SMALL, work, Room(8, 64), most=1)
     assert sleeper.began == sleeper.ended, "two crates at a time, where one was asked for"
     sleeper, _ = ran(SMALL, work, Room(1, 8), broken="low")
-    assert sleeper.began == ["low"], "%s began behind a crate that isn't proved" % sleeper.began[1:]
+    assert sleeper.began == ["low"], "%s began after a crate that isn't proved" % sleeper.began[1:]
 
 
 def check_jobs():

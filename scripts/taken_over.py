@@ -108,8 +108,8 @@ class Runs:
         """Checks that the next run seals with this number, and that the old slots stay."""
         before = self.bytes()
         end = self.run()
-        self.see(end == (0, b"sealed %d at 0 len 8\n" % number), "%s: %r in place of number %d" % (what, end, number))
-        self.see(self.bytes()[:32] == before[:32] and floor_of(self.path) == number, "%s: behind the next run" % what)
+        self.see(end == (0, b"sealed %d at 0 len 8\n" % number), "%s: %r instead of number %d" % (what, end, number))
+        self.see(self.bytes()[:32] == before[:32] and floor_of(self.path) == number, "%s: after the next run" % what)
 
 
 def every_link(runs):
@@ -131,7 +131,7 @@ def other_slots(runs):
         ("an old journal", (OLD,), 6),
         ("an old journal, the greater number in slot B", (OLD, old_slot_of(9)), 10),
         ("an old journal, one slot torn", (b"\x11" * 16, OLD), 6),
-        ("an old journal, and other bytes behind it", (OLD, BLANK_OLD, TORN, TORN), 6),
+        ("an old journal, and other bytes after it", (OLD, BLANK_OLD, TORN, TORN), 6),
         ("a new journal", (BLANK_OLD, BLANK_OLD, slot_of(0)), 1),
         ("old numbers below the link's", (OLD, BLANK_OLD, slot_of(7), slot_of(8)), 9),
         ("old numbers above the link's", (OLD, old_slot_of(9), slot_of(7), slot_of(8)), 10),
@@ -158,13 +158,13 @@ def cut_off(runs):
             runs.put(OLD, BLANK_OLD)
             status, _ = runs.run(text=FRAME * 2, cut=(call, some))
             if status == 0:
-                runs.see(runs.numbers == [6, 7] and last == 7, "behind the last call: %s, floor %d" % (runs.numbers, last))
+                runs.see(runs.numbers == [6, 7] and last == 7, "after the last call: %s, floor %d" % (runs.numbers, last))
                 print("%d runs over an old journal, cut off at each of its %d calls and at each byte of a write" % (made, call - 1))
                 return
             made += 1
-            what, floor = "cut off at call %d behind %d bytes" % (call, some), floor_of(runs.path)
+            what, floor = "cut off at call %d after %d bytes" % (call, some), floor_of(runs.path)
             right = status in (CUT, CUT_IN_WRITE) and floor is not None and floor >= last
-            runs.see(right and runs.bytes()[:32] == OLD + BLANK_OLD, "%s: status %d, floor %s behind %d" % (what, status, floor, last))
+            runs.see(right and runs.bytes()[:32] == OLD + BLANK_OLD, "%s: status %d, floor %s after %d" % (what, status, floor, last))
             if not right:
                 return
             last = floor

@@ -91,8 +91,8 @@ def one_at_a_time(folder):
         journal.see_refused("a %s waits for its input" % command)
         out, log = first.communicate(FRAME)
         journal.see(first.returncode == 0 and (numbers(log) == [next_number - 1] or command == "check"),
-                    "the first %s, behind that: status %d, %r" % (command, first.returncode, log))
-        journal.see_seal("behind it", next_number)
+                    "the first %s, after that: status %d, %r" % (command, first.returncode, log))
+        journal.see_seal("after it", next_number)
     first = journal.start("seal")
     journal.see_refused("another seal waits")
     first.kill()
