@@ -136,13 +136,6 @@ def compiled(folder):
     return server if subprocess.run(["cc", "-o", server, source, "-lmodbus"], capture_output=True).returncode == 0 else None
 
 
-def ticks_of(text):
-    ticks = []
-    for line in text.splitlines():
-        ticks += list(bytes.fromhex(line[1:])) if line[0] == "+" else [None] * int(line[1:])
-    return ticks
-
-
 class Trials:
     def __init__(self, program, folder, chance):
         self.program, self.folder, self.chance = program, folder, chance
@@ -168,7 +161,7 @@ class Trials:
         chance, word, profile = self.chance, *self.chance.choice([("rtu", Y18), ("rtu24", Y24)])
         requests = [poll(chance), write(0, chance.randrange(1, 65536)), write(0, chance.randrange(1, 65536)), poll(chance)]
         line = [tick for request in requests for tick in request + [None] * 40]
-        sealed = ticks_of(self.run_box("seal", word, model.canonical(line))[0])
+        sealed = model.ticks_of(self.run_box("seal", word, model.canonical(line))[0])
         packets = [sealed[place:place + 8 + profile.delay - 1] for place in range(0, 4 * 48, 48)]
         parts = packets[:3] + [KINDS[kind](chance, packets[1])] + packets[3:]
         link = [tick for part in parts for tick in part + [None] * chance.randrange(profile.delay + 4, 60)]
@@ -177,7 +170,7 @@ class Trials:
         spaced, lost = self.run(["space", word], received)
         if lost:
             raise RuntimeError("a spacer with room for 64 frames loses one of four: %s" % lost.strip())
-        return Session(kind, word, link, requests, passed), ticks_of(received), ticks_of(spaced)
+        return Session(kind, word, link, requests, passed), model.ticks_of(received), model.ticks_of(spaced)
 
 
 def held_after(requests):

@@ -13,23 +13,13 @@ BEFORE, a link_replay, is crates/link_replay/out/link_replay unless they are giv
 import os, select, subprocess, sys, tempfile, time
 
 import built
+from model import ticks_of
 
 KEY = b"000102030405060708090a0b0c0d0e0f\n"
 PATIENCE = 20
 # A request of Modbus RTU, and a DNP3 frame that is only a header.
 FRAMES = {"rtu": "01030000000ac5cd", "dnp3": "056405c901000004a657"}
 LINKS = {"rtu": "rtu", "rtu24": "rtu", "dnp3": "dnp3", "dnp24": "dnp3"}
-
-
-def ticks_of(text):
-    """The ticks of a tick text: a byte, or None for a silent tick."""
-    ticks = []
-    for line in text.decode().split("\n"):
-        if line.startswith("+"):
-            ticks += list(bytes.fromhex(line[1:]))
-        elif line.startswith("-"):
-            ticks += [None] * int(line[1:])
-    return ticks
 
 
 def lines_of(ticks):
@@ -42,7 +32,7 @@ class Box:
 
     def __init__(self, program, words):
         self.run = subprocess.Popen([program] + words, stdin=subprocess.PIPE, stdout=subprocess.PIPE, stderr=subprocess.PIPE)
-        self.text = b""
+        self.text = ""
         self.taken = 0
 
     def come(self, count):
@@ -56,7 +46,7 @@ class Box:
             got = os.read(self.run.stdout.fileno(), 65536)
             if not got:
                 return False
-            self.text += got
+            self.text += got.decode()
         return True
 
     def pass_on(self, line, count):
@@ -68,12 +58,12 @@ class Box:
         self.run.stdin.close()
         rest = self.run.stdout.read()
         notes = self.run.stderr.read()
-        return self.run.wait(), self.text + rest, notes
+        return self.run.wait(), self.text + rest.decode(), notes
 
 
 def recorded(program, words, text):
     run = subprocess.run([program] + words, input=text, capture_output=True)
-    return run.returncode, run.stdout, run.stderr
+    return run.returncode, run.stdout.decode(), run.stderr
 
 
 def tried(live, replay, folder, word, direction, command, ticks):

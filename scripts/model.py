@@ -345,3 +345,16 @@ def canonical(line):
             text += "+%s\n" % bytes(line[place:end]).hex()
         place = end
     return text
+
+
+def ticks_of(text):
+    """The ticks of a tick text without marks."""
+    ticks = []
+    for line in text.splitlines():
+        if line.startswith("+"):
+            ticks += bytes.fromhex(line[1:])
+        elif line.startswith("-"):
+            ticks += [None] * int(line[1:])
+        elif line and not line.startswith("#"):
+            raise ValueError("%r is no line of ticks" % line)
+    return ticks

@@ -34,15 +34,10 @@ def lines_of(path):
         return file.read().splitlines()
 
 
-def ticks_of(path):
-    """The ticks of a tick text: a byte, or None for silence."""
-    ticks = []
-    for line in lines_of(path):
-        if line.startswith("+"):
-            ticks += bytes.fromhex(line[1:])
-        elif line.startswith("-"):
-            ticks += [None] * int(line[1:])
-    return ticks
+def ticks_in(path):
+    """The ticks of a file with tick text."""
+    with open(path) as file:
+        return model.ticks_of(file.read())
 
 
 class Checked:
@@ -214,7 +209,7 @@ def words_of(protocol, title, files, notes):
 
 def test_example(page):
     """Checks the Modbus RTU example: all bytes, notes, what was altered and spoiled, search, trouble and time."""
-    checked, ticks = page.checked, {lane: ticks_of(path) for lane, path in RTU_FILES.items()}
+    checked, ticks = page.checked, {lane: ticks_in(path) for lane, path in RTU_FILES.items()}
     page.make(*words_of("rtu", "Requests", RTU_FILES, RTU_NOTES))
     checked.equal("messages", page.messages(), [])
     look_at_counts(page, RTU_NOTES)
@@ -296,7 +291,7 @@ def look_at_time(page):
 
 def test_outstation(page):
     """Checks the DNP3 example: headers in words, a fill, and notes about headers."""
-    checked, ticks = page.checked, {lane: ticks_of(path) for lane, path in DNP_FILES.items()}
+    checked, ticks = page.checked, {lane: ticks_in(path) for lane, path in DNP_FILES.items()}
     page.make(*words_of("any", "Outstation", DNP_FILES, DNP_NOTES))
     checked.equal("the protocol, by the bytes", page.see("document.getElementById('protocol').value"), "dnp3")
     checked.equal("messages", page.messages(), [])
