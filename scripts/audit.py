@@ -306,8 +306,8 @@ DEEDS = {
 
 
 def words_of(session, key_file):
-    name = {"rtu": "rtu", "dnp3": "dnp"}[session.proto.word] + "24" if session.profile is Y24 else session.proto.word
-    return ["audit", name, ("ab", "ba")[session.direction], key_file] + [str(floor) for floor in session.floors]
+    link = [model.word_of(session.proto, session.profile), ("ab", "ba")[session.direction]]
+    return ["audit"] + link + [key_file] + [str(floor) for floor in session.floors]
 
 
 def lists_of(session):

@@ -31,7 +31,7 @@ FIELDS = ("yasir.frame", "yasir.word", "yasir.tag", "yasir.other", "mbrtu.crc16.
 
 def sealed_by(program, proto, profile, line):
     """The link that the program makes of a line, and the numbers in its notes."""
-    link = (proto.word.rstrip("3") + profile.name if profile is Y24 else proto.word, "ab")
+    link = (model.word_of(proto, profile), "ab")
     with tempfile.TemporaryDirectory() as folder:
         key, journal = os.path.join(folder, "key"), os.path.join(folder, "journal")
         with open(key, "w") as file:

@@ -53,7 +53,7 @@ def some_both(key, chance):
 
 
 def word_of(both):
-    return {"rtu": "rtu", "dnp3": "dnp"}[both.proto.word] + "24" if both.profile is Y24 else both.proto.word
+    return model.word_of(both.proto, both.profile)
 
 
 class Program:

@@ -20,6 +20,11 @@ Y18 = Profile("", 2, 12, hashlib.sha1, 18)
 Y24 = Profile("24", 4, 16, hashlib.sha256, 24)
 
 
+def word_of(proto, profile):
+    """The word of a protocol and a profile in the program's commands."""
+    return proto.word if profile is Y18 else {"rtu": "rtu24", "dnp3": "dnp24"}[proto.word]
+
+
 def crc(poly, register, data):
     for byte in data:
         register ^= byte

@@ -135,7 +135,7 @@ def expected(proto, profile, command, key, direction, lines, floor):
 
 
 def words_of(proto, profile, command, direction, key_file, journal, floor):
-    name = {"rtu": "rtu", "dnp3": "dnp"}[proto.word] + profile.name if profile.name and command != "read" else proto.word
+    name = proto.word if command == "read" else model.word_of(proto, profile)
     named = [["ab", "ba"][direction], key_file] + [journal] * (command not in NO_JOURNAL) + [str(floor)] * 2 * (command == "audit")
     return [command, name] + named * (command not in NO_KEY)
 

@@ -440,7 +440,7 @@ def test_altered(page):
     """Checks an altered byte and a lost packet in both protocols and profiles, which the page finds by the bytes."""
     checked = page.checked
     for proto, profile in ((Rtu, Y18), (Rtu, Y24), (Dnp3, Y18), (Dnp3, Y24)):
-        word = {(Rtu, Y18): "rtu", (Rtu, Y24): "rtu24", (Dnp3, Y18): "dnp3", (Dnp3, Y24): "dnp24"}[proto, profile]
+        word = model.word_of(proto, profile)
         paths, tick, third, verdicts = altered_session(proto, profile, page.folder)
         page.make("any", *["%s=%s" % (lane, paths[lane]) for lane in TITLES], "notes=" + paths["seal"], "notes=" + paths["check"])
         checked.equal("%s by the bytes" % word, page.see("document.getElementById('protocol').value"), word)
