@@ -11,8 +11,8 @@ byte, and 2 if something isn't installed. It is no part of the gate.
 import collections, os, random, subprocess, sys, tempfile
 
 import bridge_build, built
+from killed import KEY
 
-KEY = "000102030405060708090a0b0c0d0e0f\n"
 KINDS = ("rtu", "dnp3", "rtu24", "dnp24")
 
 

@@ -13,9 +13,8 @@ file gets is the system's choice.
 import itertools, os, subprocess, sys, tempfile
 
 import built
-from killed import slot_of
+from killed import KEY, slot_of
 
-KEY = b"000102030405060708090a0b0c0d0e0f\n"
 NEW = bytes(32) + slot_of(0) + bytes(24)
 REQUEST = b"+01030000000ac5cd\n-40\n"
 FAULTS = {5: b"fault: read\n", 11: b"fault: journal stands at 0\n"}
@@ -55,7 +54,7 @@ class Runs:
 
     def run(self, words, text, journal, closed):
         """The status of a run, and what the output, the log, the key and the journal have after it."""
-        for name, content in (("KEY", KEY), ("JOURNAL", journal), ("in", text), ("out", b""), ("log", b"")):
+        for name, content in (("KEY", KEY.encode()), ("JOURNAL", journal), ("in", text), ("out", b""), ("log", b"")):
             self.put(name, content)
         with open(self.places["in"]) as source, open(self.places["out"], "w") as out, open(self.places["log"], "w") as log:
             status = subprocess.call(
@@ -75,7 +74,7 @@ def look_at(words, before, closed, right, seen, status):
     faults = []
     if seen[0] != status:
         faults.append("status %d instead of %d" % (seen[0], status))
-    if seen[3] != KEY:
+    if seen[3] != KEY.encode():
         faults.append("the key's file was written")
     if seen[4] not in (before, right[4]) or (0 in closed and status == 5 and seen[4] != before):
         faults.append("the journal's file holds %r" % seen[4])

@@ -12,11 +12,10 @@ part of the gate: all runs together read some 8 GB.
 import os, subprocess, sys, tempfile
 
 import built
-from killed import slot_of
+from killed import KEY, slot_of
 from model import PAUSE, Dnp3, Rtu, Y18, trailer
 
 TICKS, BYTES = 16_777_216, 268_435_456
-KEY = b"000102030405060708090a0b0c0d0e0f"
 FRAMES = {"rtu": b"01030000000ac5cd", "dnp3": b"056405c001000004e921"}
 MANY, SILENCE = 70_000, 40
 MARKS = {"replay": 1, "duplex": 1, "audit": 2}
@@ -43,7 +42,7 @@ def inputs(proto, marks):
 def many_frames(command, proto):
     """The recordings of many frames, none of which is lost, and what the command must print for them."""
     frame, rules = FRAMES[proto], Rtu if proto == "rtu" else Dnp3
-    key, bare = (bytes.fromhex(text.decode()) for text in (KEY, frame))
+    key, bare = bytes.fromhex(KEY), bytes.fromhex(frame.decode())
     device, link, sealed, passed, read = [], [], [], [], []
     for number in range(1, MANY + 1):
         behind = bytes(trailer(rules, key, 0, bare, number))
@@ -63,7 +62,7 @@ def run(program, words, parts, folder):
     """The status, the CPU time in seconds and the last line of the log."""
     places = {name: os.path.join(folder, name) for name in ("KEY", "JOURNAL", "NEW", "out", "log")}
     link = (words.split()[1], "ab") if "JOURNAL" in words else ("rtu", "ab")
-    for name, content in (("KEY", KEY), ("JOURNAL", bytes(32) + slot_of(0, link) + bytes(24)), ("NEW", b"")):
+    for name, content in (("KEY", KEY.encode()), ("JOURNAL", bytes(32) + slot_of(0, link) + bytes(24)), ("NEW", b"")):
         with open(places[name], "wb") as file:
             file.write(content)
     with open(places["out"], "wb") as out, open(places["log"], "wb") as log:

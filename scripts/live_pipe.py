@@ -13,9 +13,9 @@ BEFORE, a link_replay, is crates/link_replay/out/link_replay unless they are giv
 import os, select, subprocess, sys, tempfile, time
 
 import built
+from killed import KEY
 from model import ticks_of
 
-KEY = b"000102030405060708090a0b0c0d0e0f\n"
 PATIENCE = 20
 # A request of Modbus RTU, and a DNP3 frame that is only a header.
 FRAMES = {"rtu": "01030000000ac5cd", "dnp3": "056405c901000004a657"}
@@ -69,7 +69,7 @@ def recorded(program, words, text):
 def tried(live, replay, folder, word, direction, command, ticks):
     """What differs between a live run and a recorded one, and the ticks of the other line."""
     key = os.path.join(folder, "key")
-    open(key, "wb").write(KEY)
+    open(key, "w").write(KEY)
     journals = [os.path.join(folder, "%s.%s.%s.%d" % (word, direction, command, n)) for n in (0, 1)]
     for journal in journals:
         subprocess.check_call([replay, "init", word, direction, journal])
