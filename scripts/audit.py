@@ -12,7 +12,7 @@ the same is done with programs that are made wrong, each in one way (WRONG).
 It ends with 0 only if all agree, every verdict was seen, and each wrong program was told from the right one. It is no part of the
 gate.
 """
-import collections, os, random, re, subprocess, sys, tempfile
+import collections, functools, os, random, re, subprocess, sys, tempfile
 
 import built, model
 from model import LIMIT, PAUSE, Y18, Y24, Dnp3, Rtu
@@ -338,8 +338,12 @@ class Program:
         return line
 
 
-def wrong(**changes):
-    return type("Wrong", (Program,), {name: staticmethod(change) for name, change in changes.items()})
+def made_wrong(program, **changes):
+    """A class of programs like this one, with the methods that are named changed."""
+    return type("Wrong", (program,), {name: staticmethod(change) for name, change in changes.items()})
+
+
+wrong = functools.partial(made_wrong, Program)
 
 
 def one_more(pattern):

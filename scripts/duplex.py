@@ -13,9 +13,10 @@ step. Then the same is done with programs that are made wrong, each in one way (
 It ends with 0 only if all agree, if each kind of note, a step with a note of each direction, and lists of different lengths were
 seen, and if each wrong program was told from the right one. It is no part of the gate.
 """
-import collections, os, random, re, subprocess, sys, tempfile
+import collections, functools, os, random, re, subprocess, sys, tempfile
 
 import built, model
+from audit import made_wrong
 from killed import KEY, slot_of
 from model import LINK_REST, Y18, Y24, Dnp3, Rtu
 from random_lines import some_frame, some_line
@@ -101,8 +102,7 @@ class Program:
         return status, out, notes
 
 
-def wrong(**changes):
-    return type("Wrong", (Program,), {name: staticmethod(change) for name, change in changes.items()})
+wrong = functools.partial(made_wrong, Program)
 
 
 def is_sealers(note):
