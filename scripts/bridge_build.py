@@ -49,7 +49,7 @@ def library():
     """Proves and builds the library and the crates that it uses, as far as they have changed."""
     allocator = os.path.join(kit(), "c", "liblibc_c.a")
     if not library.built:
-        print("bridge_build: proves and builds crates/yasir_c and the crates that it uses, which takes many minutes the first time", file=sys.stderr)
+        print("bridge_build: proves and builds crates/yasir_c and all that it uses: many minutes the first time", file=sys.stderr)
         ran(["rt", "lib"], cwd=CRATE)
         library.built = True
     return [LIBRARY, allocator]

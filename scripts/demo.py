@@ -217,7 +217,8 @@ def show_whole_line(folder):
     same, link = show_box_of_an_end("polls", "ab", "Both directions in one box: that of the control centre (examples/polls.ticks), "
                                     "and the link to it, on which a packet came back (examples/answers_link.ticks)",
                                     example("answers_link.ticks"), folder)
-    other, _ = show_box_of_an_end("answers", "ba", "The box of the device (examples/answers.ticks), at the other end of this link", link, folder)
+    other, _ = show_box_of_an_end("answers", "ba", "The box of the device (examples/answers.ticks), at the other end of this link",
+                                  link, folder)
     return same and other
 
 

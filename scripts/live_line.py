@@ -196,8 +196,9 @@ class Bridges:
     def numbers(self):
         """For each of the four journals its name, its number or None if it has none, the word of the notes that have such numbers (sealed
         or passed), and the last number in these notes, or None if there is none."""
+        journals = ("a.sent", "ab", "sealed"), ("b.got", "ab", "passed"), ("b.sent", "ba", "sealed"), ("a.got", "ba", "passed")
         found = []
-        for kept, way, word in (("a.sent", "ab", "sealed"), ("b.got", "ab", "passed"), ("b.sent", "ba", "sealed"), ("a.got", "ba", "passed")):
+        for kept, way, word in journals:
             number = floor_of(os.path.join(self.folder, kept), (self.link.kind, way))
             found.append((kept, number, word, last_number(self.text(kept[0]), word)))
         return found

@@ -139,7 +139,8 @@ def main():
                         right = right or end == (NO_MEMORY, b"", b"fault: memory\n")
                     ends[end[0]] = ends.get(end[0], 0) + 1
                     if not right:
-                        print("wrong:", " ".join(words), "call", n, "and all after it" if behind else "alone", end[0], end[1][:60], end[2][-60:])
+                        print("wrong:", " ".join(words), "call", n, "and all after it" if behind else "alone", end[0],
+                              end[1][:60], end[2][-60:])
                         wrong_here += 1
             print("%-28s %5d bytes  %3d calls, how the runs ended: %s" % (" ".join(words), len(text), calls, " ".join("%d: %d times" % it for it in sorted(ends.items()))))
             wrong += bool(wrong_here)
