@@ -25,6 +25,6 @@ def program(words, place, name="link_replay"):
     path = os.path.abspath(words[place]) if len(words) > place else path_of(name)
     why = lacking(path, name)
     if why:
-        print("%s: %s" % (os.path.basename(sys.argv[0]).removesuffix(".py"), why), file=sys.stderr)
+        print("%s: %s" % (os.path.splitext(os.path.basename(sys.argv[0]))[0], why), file=sys.stderr)
         sys.exit(2)
     return path
