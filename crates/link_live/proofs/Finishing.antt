@@ -7,6 +7,7 @@ use Rattle.link_live.specs.LiveLine.{Live, outside_of, read_further, LiveGoes, S
 use Rattle.link_live.specs.LiveLine.{HeardAt, TakenAt, LastAt, Given, HoldsBack, GiveAnswer}
 use Rattle.link_live.specs.LiveLine.{HearsAll, HearAnswer, HaltsAt, EndsAt, Finishes, Drives}
 use Rattle.link_live.specs.TextEnds.{EndsText}
+use Rattle.live_port.proofs.Reading.{read_begins}
 use Rattle.live_port.specs.Lines.{HasRead, FinishAnswer as TextAnswer, IsOfText}
 use Rattle.live_port.specs.declared.{lines.LineReader.LineReader, port.Port.Ghosts as Port}
 use Rattle.std.proofs.Common.{◌≡◌, ◌∙◌, ◌⊎◌, ℕ, ◌+◌, ◌<◌, ◌≤◌, List, [], ◌∷◌, ◌++◌, length, Option}
@@ -19,7 +20,7 @@ use Rattle.tick_drive.specs.declared.end.End.TheVariants.{Refused, TooLong, Read
 use Rattle.tick_drive.specs.declared.end.TooMuch.TheVariants.{Ticks, Bytes}
 use Rattle.yasir_io.specs.{Disks.Slots, declared.disk.SlotDisk.Ghosts as SlotDisk}
 use Rattle.yasir_ticks.{proofs.TickRuns.ticks_in-run, specs.TickRun.run_items}
-use Rattle.yasir_ticks.specs.TickText.{IsTickText, lines_of, ended_items}
+use Rattle.yasir_ticks.specs.TickText.{IsTickText, BeginsTickText, lines_of, ended_items}
 use Rattle.yasir_ticks.specs.Ticks.{Item, ticks_in, silent, items_of_run}
 use Rattle.yasir_ticks.specs.declared.{run.Run.Run, tick.Tick.Tick}
 use Rattle.yasir_ticks.specs.declared.tick_run.TickRun.TheVariants.{Silence}
@@ -191,9 +192,14 @@ module _ {B N P D : Type 0} (b : LinkBox B N) (line_of : N → List ℕ) (p : Po
         came = fails.heard.came;
         goes = fails.heard.goes;
         ends = λ origin zero none heard.
-            subst (λ read. HeardAt b line_of p d new (read_further origin fails.more)
-            (ticks_in (ended_items read))) (ap (λ l. l ++ fails.more) none)
-            (fails.heard.hears origin (at_start origin zero none heard)).heard;
+            let taken = fails.heard.hears origin (at_start origin zero none heard) in
+            let all : origin.read ++ fails.more ≡ fails.more = ap (λ l. l ++ fails.more) none in
+            record {
+              begins = subst (BeginsTickText 0) all
+                  (read_begins now (origin.read ++ fails.more) taken.has_read);
+              heard = subst (λ read. HeardAt b line_of p d new (read_further origin fails.more)
+                  (ticks_in (ended_items read))) all taken.heard;
+            };
       }
       drives_ended now new Whole ends = record {
         text = ends.more;

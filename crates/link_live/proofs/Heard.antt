@@ -5,6 +5,7 @@ use Rattle.link_live.specs.FilteringLaws.{images_none, images_then, outputs_none
 use Rattle.link_live.specs.LiveLine.{Live, outside_of, read_further, IsReady, LiveGoes, HeardAt}
 use Rattle.link_live.specs.LiveLine.{TakenAt, EndsAt, Given, HoldsBack, StopsHearing, TakesBytes}
 use Rattle.link_live.specs.LiveLine.{EndsInBytes, TakesFirst, GiveAnswer}
+use Rattle.live_port.proofs.Reading.{read_begins}
 use Rattle.live_port.specs.Lines.{HasRead, ReadsLine, FeedAnswer, IsOfText}
 use Rattle.live_port.specs.declared.{lines.LineReader.LineReader, port.Port.Ghosts as Port}
 use Rattle.std.proofs.Common.{inl, ◌≡◌, ◌∙◌, ℕ, suc, ◌+◌, ◌-◌, ◌<◌, ◌≤◌, List, [], ◌∷◌, ◌++◌}
@@ -19,7 +20,7 @@ use Rattle.tick_drive.specs.declared.{consumer.Stop.Stop, end.End.End, end.End.T
 use Rattle.tick_drive.specs.declared.end.End.TheVariants.{Refused, TooLong, ReadFault, Stopped}
 use Rattle.tick_drive.specs.declared.end.TooMuch.TheVariants.{Ticks, Bytes}
 use Rattle.yasir_io.specs.{Disks.Slots, declared.disk.SlotDisk.Ghosts as SlotDisk}
-use Rattle.yasir_ticks.specs.{TickText.ended_items, Ticks.Item, Ticks.ticks_in}
+use Rattle.yasir_ticks.specs.{TickText.BeginsTickText, TickText.ended_items, Ticks.Item, Ticks.ticks_in}
 use Rattle.yasir_ticks.specs.declared.tick.Tick.{Tick}
 
 -- ---- what calls do to the disk's images and to the counts of faults
@@ -180,6 +181,10 @@ module _ {B N P D : Type 0} (b : LinkBox B N) (line_of : N → List ℕ) (p : Po
       whole_is text = ap (λ l. text ++ l) (sym (take-append-drop taken bytes))
           ∙ sym (append_assoc text (take taken bytes) (drop taken bytes))
 
+      begins_line : (text : List ℕ) → HasRead old_lines text
+          → BeginsTickText 0 (text ++ take taken bytes)
+      begins_line text has = read_begins new_lines (text ++ take taken bytes) (reads text has).has_read
+
       -- If the ticks of the line are too many together with those before, the end says so.
       pub line_held : (count : ℕ) → HoldsBack b line_of p d old new run count
           → (origin : LiveOrigin) (text : List ℕ) → TakenAt b line_of p d old_lines old origin text
@@ -189,6 +194,7 @@ module _ {B N P D : Type 0} (b : LinkBox B N) (line_of : N → List ℕ) (p : Po
             front = text ++ take taken bytes;
             later = drop taken bytes;
             is = whole_is text;
+            begins = begins_line text has.has_read;
             ends = record {
               earlier = ended_items text;
               last = items;
@@ -215,6 +221,7 @@ module _ {B N P D : Type 0} (b : LinkBox B N) (line_of : N → List ℕ) (p : Po
         front = text ++ take taken bytes;
         later = drop taken bytes;
         is = whole_is text;
+        begins = begins_line text has.has_read;
         ends = subst (StopsHearing b line_of new.live_box.filter (p.history new.port)
             (d.told new.disk) stop origin) (sym (ended_by text has.has_read))
             (stops_hearing old new run stop stops origin (ticks_in (ended_items text)) has.heard);
@@ -233,6 +240,7 @@ module _ {B N P D : Type 0} (b : LinkBox B N) (line_of : N → List ℕ) (p : Po
           later = drop n bytes;
           is = ap (λ l. text ++ l) (sym (take-append-drop n bytes))
               ∙ sym (append_assoc text (take n bytes) (drop n bytes));
+          begins = refuses.refused.begins;
           ends = record {
             byte = get_or bytes n 0;
             rest = drop (suc n) bytes;
@@ -250,6 +258,7 @@ module _ {B N P D : Type 0} (b : LinkBox B N) (line_of : N → List ℕ) (p : Po
           front = text;
           later = bytes;
           is = refl;
+          begins = read_begins old_lines text has.has_read;
           ends = record { many = inl long; heard = has.heard };
         }
     feed_ends old_lines new_lines at bytes (TooLong Ticks count) answer origin text has =

@@ -8,7 +8,8 @@ use Rattle.link_live.specs.LiveLine.{Live, live_of, outside_of, read_further, Is
 use Rattle.link_live.specs.LiveLine.{TakenAt, EndsAt, TakesBytes, EndsInBytes, Hears, HearsAll}
 use Rattle.link_live.specs.LiveLine.{FailsToHear, EndsHearing, HearAnswer}
 use Rattle.link_live.specs.declared.live_box.TheConstants.{MAX_LIVE_BYTES}
-use Rattle.live_port.specs.{History.Event, Order.Handed, declared.lines.LineReader.LineReader}
+use Rattle.live_port.proofs.Reading.{read_begins}
+use Rattle.live_port.specs.{History.History, Order.Handed, declared.lines.LineReader.LineReader}
 use Rattle.live_port.specs.declared.port.{Output.Output, Port.Ghosts as Port}
 use Rattle.std.proofs.Common.{inr, ◌≡◌, ◌∙◌, ℕ, ◌+◌, ◌<◌, ◌≤◌, List, [], ◌∷◌, ◌++◌, length, Option}
 use Rattle.std.proofs.Common.{Some, None, Ok, Err, true, false, refl, sym, ap, subst, arith}
@@ -83,7 +84,7 @@ module _ {B N P D : Type 0} (b : LinkBox B N) (line_of : N → List ℕ) (p : Po
     -- After a read its bytes are among those that were read, and the box has heard the same lines
     -- as before.
     read_taken : (lines : LineReader) (at : Live B P D) (port : P) (bytes : List ℕ)
-        → ((made : LineAndNotes) (start : Option (List Event)) (read : List ℕ)
+        → ((made : LineAndNotes) (start : History) (read : List ℕ)
         → Handed made start (p.history at.port) read (ticks_in (ended_items read))
         → Handed made start (p.history port) (read ++ bytes) (ticks_in (ended_items read)))
         → (origin : LiveOrigin) → TakenAt b line_of p d lines at origin origin.read
@@ -149,6 +150,7 @@ module _ {B N P D : Type 0} (b : LinkBox B N) (line_of : N → List ℕ) (p : Po
           front = origin.read ++ so.more;
           later = [];
           is = sym (append-nil (origin.read ++ so.more));
+          begins = read_begins lines1 (origin.read ++ so.more) (so.heard.hears origin has).has_read;
           ends = record {
             many = inr (above, omega (arith, so.count, length-append origin.read so.more));
             heard = (so.heard.hears origin has).heard;
@@ -157,7 +159,7 @@ module _ {B N P D : Type 0} (b : LinkBox B N) (line_of : N → List ℕ) (p : Po
       }
 
       module _ (port : P) (piece : List ℕ)
-          (handed : (made : LineAndNotes) (start : Option (List Event)) (read : List ℕ)
+          (handed : (made : LineAndNotes) (start : History) (read : List ℕ)
           → Handed made start (p.history at.port) read (ticks_in (ended_items read))
           → Handed made start (p.history port) (read ++ piece) (ticks_in (ended_items read)))
           (came : p.left at.port ≡ prepend_known piece (p.left port)) where
@@ -228,7 +230,7 @@ module _ {B N P D : Type 0} (b : LinkBox B N) (line_of : N → List ℕ) (p : Po
 
       -- If a read failed, the reading ends with what was read before.
       pub hears_failed : (port : P)
-          → ((made : LineAndNotes) (start : Option (List Event)) (read : List ℕ)
+          → ((made : LineAndNotes) (start : History) (read : List ℕ)
           → Handed made start (p.history at.port) read (ticks_in (ended_items read))
           → Handed made start (p.history port) read (ticks_in (ended_items read)))
           → p.left port ≡ p.left at.port → LiveGoes p d at (behind_read at port) ReadFault

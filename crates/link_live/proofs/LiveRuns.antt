@@ -21,7 +21,7 @@ use Rattle.link_live.proofs.TextEndsLaws.{text_by}
 use Rattle.link_live.specs.{Filtering.LiveOrigin, Filtering.Filters, LiveCommand.Around}
 use Rattle.link_live.specs.LiveCommand.{around, Carries, HaltsBox, EndsLine, RunsLine, PortCauses}
 use Rattle.link_live.specs.LiveLine.{Live, LiveGoes, HeardAt, HaltsAt, Drives}
-use Rattle.live_port.specs.{History.Event, declared.port.Port.Ghosts as Port}
+use Rattle.live_port.specs.{History.History, declared.port.Port.Ghosts as Port}
 use Rattle.{replay_status.specs.Endings.status_of, tick_drive.proofs.ItemLaws.ticks_in-append}
 use Rattle.tick_drive.specs.declared.end.End.{End, TheVariants.Whole}
 use Rattle.tick_drive.specs.declared.end.End.TheVariants.{Refused, TooLong, ReadFault, Stopped}
@@ -95,7 +95,7 @@ module _ {B N P D : Type 0} (b : LinkBox B N) (line_of : N → List ℕ) (p : Po
     → IsCrashSafe journal (d.told old.disk) (d.may_leave old.disk))
     (fits : Fits journal (d.told old.disk))
     (same : old.live_box.filter.journal ≡ journal) (zero : old.live_box.ticks ≡ 0)
-    (begins : (history : Option (List Event)) (link : LinkId) (told : Option Slots)
+    (begins : (history : History) (link : LinkId) (told : Option Slots)
     → journal_link journal ≡ link → Fits journal told
     → Filters b line_of old.live_box.filter history told (record {
       start = history;

@@ -44,6 +44,7 @@ module _ (Heard Heard' : List Tick → Type 0) (Halts Halts' : Stop → List Tic
     front = ends.front;
     later = ends.later;
     is = ends.is;
+    begins = ends.begins;
     ends = behind_by end ends.front ends.later ends.ends;
   }
 
@@ -73,4 +74,5 @@ module _ (Heard Heard' : List Tick → Type 0) (Halts Halts' : Stop → List Tic
   text_by rest at_end (TooLong what count) text ends =
       either_by at_end rest (TooLong what count) text ends
   text_by rest at_end (Stopped stop) text ends = either_by at_end rest (Stopped stop) text ends
-  text_by rest at_end ReadFault text ends = hears _ ends
+  text_by rest at_end ReadFault text ends =
+      record { begins = ends.begins; heard = hears _ ends.heard }

@@ -23,7 +23,7 @@ use Rattle.box_command.specs.Boxes.{Boxed, FailsBox}
 use Rattle.box_command.specs.BoxLines.{ToldFloor}
 use Rattle.box_command.specs.LinkBoxed.{boxed_of}
 use Rattle.box_command.specs.Sending.{made_by}
-use Rattle.live_port.specs.History.{Event}
+use Rattle.live_port.specs.History.{History}
 use Rattle.live_port.specs.Order.{Handed, HandedFronts}
 use Rattle.live_port.specs.declared.port.Output.{Output}
 use Rattle.live_port.specs.declared.port.Port.{Ghosts as Port}
@@ -32,7 +32,7 @@ use Rattle.link_live.specs.declared.filter.Filter.{Filter}
 -- how the history began, what was read since, the link of the box's journal, and the setup of the
 -- box
 pub record LiveOrigin : Type 0 where
-  pub start : Option (List Event)
+  pub start : History
   pub read : List ℕ
   pub link : LinkId
   pub setup : Setup
@@ -59,7 +59,7 @@ module _ {B N : Type 0} (b : LinkBox B N) (line_of : N → List ℕ) where
 
   -- Holds if the box and its journal have taken the ticks of these items, and what the box makes of
   -- them is handed on.
-  pub record Filters (filter : Filter B) (history : Option (List Event)) (slots : Option Slots)
+  pub record Filters (filter : Filter B) (history : History) (slots : Option Slots)
       (origin : LiveOrigin) (items : List Item) : Type 0 where
     pub steps : b.stands filter.line_box (journal_floor filter.journal) origin.setup (ticks_in items)
     pub number_is : journal_floor filter.journal
@@ -70,7 +70,7 @@ module _ {B N : Type 0} (b : LinkBox B N) (line_of : N → List ℕ) where
 
   -- Holds if the step of the last of these items failed to commit its number. What the box makes of
   -- the items before it is handed on.
-  pub record StopsAtNumber (filter : Filter B) (history : Option (List Event))
+  pub record StopsAtNumber (filter : Filter B) (history : History)
       (slots : Option Slots) (origin : LiveOrigin) (items : List Item) : Type 0 where
     pub front : List Item
     pub last : Tick
@@ -81,7 +81,7 @@ module _ {B N : Type 0} (b : LinkBox B N) (line_of : N → List ℕ) where
     pub floor : journal_floor filter.journal ≡ (box_at origin).number (ticks_in front)
 
   -- Holds if a write failed after the step of the last of these items had returned.
-  pub record StopsAtWrite (filter : Filter B) (history : Option (List Event))
+  pub record StopsAtWrite (filter : Filter B) (history : History)
       (slots : Option Slots) (origin : LiveOrigin) (items : List Item) : Type 0 where
     pub fronts : HandedFronts (made_at origin) origin.start history origin.read (ticks_in items)
     pub link_is : journal_link filter.journal ≡ origin.link
@@ -89,7 +89,7 @@ module _ {B N : Type 0} (b : LinkBox B N) (line_of : N → List ℕ) where
     pub floor_told : ToldFloor origin.link (journal_floor filter.journal) slots
 
   -- why a box was stopped at the last of these items; never for lack of memory, since it takes none
-  abbrev pub StopsFilter : Filter B → Option (List Event) → Option Slots → Stop → LiveOrigin
+  abbrev pub StopsFilter : Filter B → History → Option Slots → Stop → LiveOrigin
       → List Item → Type 0
   StopsFilter filter history slots JournalFault origin items =
       StopsAtNumber filter history slots origin items

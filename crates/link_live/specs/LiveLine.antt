@@ -17,7 +17,7 @@ use Rattle.tick_drive.specs.declared.end.End.{End}
 use Rattle.tick_drive.specs.declared.end.End.TheVariants.{Whole, TooLong, ReadFault}
 use Rattle.tick_drive.specs.declared.end.End.TheVariants.{Stopped}
 use Rattle.tick_drive.specs.declared.end.TooMuch.TheVariants.{Ticks}
-use Rattle.live_port.specs.History.{Event}
+use Rattle.live_port.specs.History.{History}
 use Rattle.live_port.specs.Lines.{HasRead}
 use Rattle.live_port.specs.declared.lines.LineReader.{LineReader}
 use Rattle.live_port.specs.declared.port.Port.{Ghosts as Port}
@@ -49,14 +49,14 @@ read_further origin more = record origin { read = origin.read ++ more }
 -- What a box has heard of a line.
 module _ {B N : Type 0} (b : LinkBox B N) (line_of : N → List ℕ) where
   -- Holds if the box has taken these ticks, and what it makes of them is handed on.
-  pub record HasHeard (filter : Filter B) (history : Option (List Event)) (slots : Option Slots)
+  pub record HasHeard (filter : Filter B) (history : History) (slots : Option Slots)
       (origin : LiveOrigin) (line : List Tick) : Type 0 where
     pub items : List Item
     pub are : ticks_in items ≡ line
     pub filters : Filters b line_of filter history slots origin items
 
   -- Holds if the box was stopped at one of these ticks.
-  pub record StopsHearing (filter : Filter B) (history : Option (List Event)) (slots : Option Slots)
+  pub record StopsHearing (filter : Filter B) (history : History) (slots : Option Slots)
       (stop : Stop) (origin : LiveOrigin) (line : List Tick) : Type 0 where
     pub items : List Item
     pub more : List Tick
@@ -64,7 +64,7 @@ module _ {B N : Type 0} (b : LinkBox B N) (line_of : N → List ℕ) where
     pub stops : StopsFilter b line_of filter history slots stop origin items
 
   -- Holds if the reader has read this text, and the box has heard the lines that ended in it.
-  pub record HasTaken (lines : LineReader) (live_box : LiveBox B) (history : Option (List Event))
+  pub record HasTaken (lines : LineReader) (live_box : LiveBox B) (history : History)
       (slots : Option Slots) (origin : LiveOrigin) (text : List ℕ) : Type 0 where
     pub has_read : HasRead lines text
     pub heard : HasHeard live_box.filter history slots origin (ticks_in (ended_items text))

@@ -3,8 +3,8 @@
 -- one of them.
 use Rattle.std.specs.Prelude.{◌≡◌, ℕ, ◌<◌, ◌≤◌, ◌⊎◌, List, [], ◌∷◌, ◌++◌, length}
 use Rattle.yasir_ticks.specs.Ticks.{Item, ticks_in, silent}
-use Rattle.yasir_ticks.specs.TickText.{IsTickText, IsRefusedAfter, ended_items, line_after}
-use Rattle.yasir_ticks.specs.TickText.{fault_after}
+use Rattle.yasir_ticks.specs.TickText.{IsTickText, BeginsTickText, IsRefusedAfter, ended_items}
+use Rattle.yasir_ticks.specs.TickText.{line_after, fault_after}
 use Rattle.yasir_ticks.specs.declared.fault.BadTicks.{BadTicks}
 use Rattle.yasir_ticks.specs.declared.tick.Tick.{Tick}
 use Rattle.tick_drive.specs.declared.consumer.Stop.{Stop}
@@ -59,12 +59,19 @@ module _ (Heard : List Tick → Type 0) (Halts : Stop → List Tick → Type 0) 
   EndsBehind (Stopped stop) front later = Halts stop (ticks_in (ended_items front))
   EndsBehind end front later = ⊥
 
-  -- Holds if an end came inside a text.
+  -- Holds if an end came inside a text, after bytes with which a right text begins.
   pub record EndsWithin (end : End) (text : List ℕ) : Type 0 where
     pub front : List ℕ
     pub later : List ℕ
     pub is : text ≡ front ++ later
+    pub begins : BeginsTickText 0 front
     pub ends : EndsBehind end front later
+
+  -- Holds if a read failed after this text, with which a right text begins. The lines that ended in
+  -- it were taken.
+  pub record FailsAfter (text : List ℕ) : Type 0 where
+    pub begins : BeginsTickText 0 text
+    pub heard : Heard (ticks_in (ended_items text))
 
   -- Holds if the text isn't right. The lines that ended in it were taken.
   pub record RefusesWhole (bad : BadTicks) (text : List ℕ) : Type 0 where
@@ -83,5 +90,5 @@ module _ (Heard : List Tick → Type 0) (Halts : Stop → List Tick → Type 0) 
   -- What an end says of all that was read: a read failed after it, or the end came inside it, or
   -- the end came after it where the input ended.
   abbrev pub EndsText : ℕ → Type 0 → End → List ℕ → Type 0
-  EndsText rest at_end ReadFault text = Heard (ticks_in (ended_items text))
+  EndsText rest at_end ReadFault text = FailsAfter text
   EndsText rest at_end end text = EndsWithin end text ⊎ (at_end × EndsAtLast rest end text)

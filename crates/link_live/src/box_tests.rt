@@ -1,6 +1,7 @@
 //! The calls of a port, in their order, while a live line is driven through either box.
 ghost use Rattle.std.specs.Prelude.{None};
 ghost use Rattle.link_box.specs.Links.{AreLinks};
+ghost use Rattle.live_port.specs.History.{untold};
 
 use crate::live_box::LiveBox;
 use arrayvec::ArrayVec;
@@ -26,7 +27,7 @@ struct ToldPort<'a> {
 }
 
 impl<'a> Port for ToldPort<'a> {
-    ghost history = { λ _. None };
+    ghost history = { λ _. untold };
 
     ghost left = { λ _. None };
 

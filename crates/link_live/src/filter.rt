@@ -7,7 +7,7 @@ ghost use Rattle.link_format.specs.Setup.{setup_of};
 ghost use Rattle.sequence_journal.specs.declared.link.LinkId.{LinkId};
 ghost use Rattle.sequence_journal.specs.Journal.{journal_link, journal_floor, Fits};
 ghost use Rattle.tick_drive.specs.Consumers.{MayTake, Gives, GivesFront, GivesSome};
-ghost use Rattle.live_port.specs.History.{Event};
+ghost use Rattle.live_port.specs.History.{History};
 ghost use Rattle.live_port.specs.Sent.{Hands};
 ghost use Rattle.box_command.specs.Boxes.{line_of_note};
 ghost use Rattle.link_live.specs.Filtering.{filtering, outside, Filters};
@@ -55,7 +55,7 @@ impl<B: LineBox> Filter<B> {
         ensures taken { B.taken result.line_box ≡ 0 }
         ensures journal { result.journal ≡ journal }
         ensures link { B.link_of result.line_box ≡ B.link_in dir }
-        ensures filters { (history : Option (List Event)) (link : LinkId) (told : Option Slots)
+        ensures filters { (history : History) (link : LinkId) (told : Option Slots)
             → journal_link journal ≡ link → Fits journal told
             → Filters B.LinkBox B.line_of result history told (record {
               start = history;

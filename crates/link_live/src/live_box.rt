@@ -8,7 +8,7 @@ ghost use Rattle.yasir_ticks.specs.Ticks.{ticks_in, items_of_run};
 ghost use Rattle.sequence_journal.specs.declared.link.LinkId.{LinkId};
 ghost use Rattle.sequence_journal.specs.Journal.{journal_link, journal_floor, Fits};
 ghost use Rattle.link_format.specs.Setup.{setup_of};
-ghost use Rattle.live_port.specs.History.{Event};
+ghost use Rattle.live_port.specs.History.{History};
 ghost use Rattle.live_port.specs.Lines.{HasRead};
 ghost use Rattle.link_live.specs.Filtering.{outside, Filters};
 ghost use Rattle.link_live.specs.LiveLine.{IsReady, GiveAnswer, LineAnswer, PieceAnswer};
@@ -70,7 +70,7 @@ impl<B: LineBox> LiveBox<B> {
         ensures taken { B.taken result.filter.line_box ≡ 0 }
         ensures journal { result.filter.journal ≡ journal }
         ensures link { B.link_of result.filter.line_box ≡ B.link_in dir }
-        ensures filters { (history : Option (List Event)) (link : LinkId) (told : Option Slots)
+        ensures filters { (history : History) (link : LinkId) (told : Option Slots)
             → journal_link journal ≡ link → Fits journal told
             → Filters B.LinkBox B.line_of result.filter history told (record {
               start = history;

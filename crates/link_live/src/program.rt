@@ -61,7 +61,8 @@ pub fn run<K: Source, P: Port, D: SlotDisk>(
     // The status is Usage exactly if the words ask for no command.
     ensures usage { (result ≡ Status.Usage) ↔ Asks (map string_bytes words.now) None }
 
-    // What was read, written and kept, in one history of the port's calls, and then the fault line.
+    // What was read, written and kept, by what the port tells of its calls and of its outputs, and then
+    // the fault line.
     ensures runs { (asked : Option Command) → Asks (map string_bytes words.now) asked
         → Runs K.Source P.Port D.SlotDisk asked key.old key.new (around port.old disk.old)
         (around port.new disk.new) result }

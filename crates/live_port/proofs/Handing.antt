@@ -1,8 +1,9 @@
 -- What calls add to a history, and what they hand on.
 use Rattle.line_texts.specs.Sending.{LineAndNotes, AnswersNoted}
+use Rattle.live_port.proofs.Histories.{told_twice, told_none}
 use Rattle.live_port.proofs.Texts.{text_then, text_as, text_nil}
-use Rattle.live_port.specs.History.{Event, told_then, bytes_read, read_by, written, written_by}
-use Rattle.live_port.specs.History.{is_flushed, flushed_from, flushed_by}
+use Rattle.live_port.specs.History.{Event, History, told_then, bytes_read, read_by}
+use Rattle.live_port.specs.History.{written, written_by, is_flushed, flushed_from, flushed_by}
 use Rattle.live_port.specs.History.Event.{reads, writes, flushes}
 use Rattle.live_port.specs.{LiveText.IsTextOf, Order.MayCome, Order.EachMayCome}
 use Rattle.live_port.specs.Order.{IsInOrder, HasNoted, HasHandedOn, Handed, HandedFronts}
@@ -14,12 +15,7 @@ use Rattle.yasir_ticks.specs.{TickText.ended_items, Ticks.ticks_in, declared.tic
 
 -- ---- histories
 
-pub told_twice : (start : Option (List Event)) (a b : List Event)
-    → told_then (told_then start a) b ≡ told_then start (a ++ b)
-told_twice None a b = refl
-told_twice (Some events) a b = ap Some (append_assoc events a b)
-
-pub told_more : (start now next : Option (List Event)) (events more : List Event)
+pub told_more : (start now next : History) (events more : List Event)
     → now ≡ told_then start events → next ≡ told_then now more
     → next ≡ told_then start (events ++ more)
 told_more start now next events more is then =
@@ -113,11 +109,11 @@ quiet_of Log more (inr is) = subst IsQuiet (sym is)
 
 -- ---- what is returned for one run
 
-module _ (made : LineAndNotes) (start : Option (List Event)) (read : List ℕ) (line run answer : List Tick)
+module _ (made : LineAndNotes) (start : History) (read : List ℕ) (line run answer : List Tick)
     (note text : List ℕ) (answers : AnswersNoted made line run answer note)
     (text_is : IsTextOf text answer) where
   -- The note was written and flushed.
-  pub record Noted (now : Option (List Event)) : Type 0 where
+  pub record Noted (now : History) : Type 0 where
     pub events : List Event
     pub is : now ≡ told_then start events
     pub read_is : bytes_read events ≡ read
@@ -127,7 +123,7 @@ module _ (made : LineAndNotes) (start : Option (List Event)) (read : List ℕ) (
     pub log_flushed : is_flushed Log events ≡ true
     pub in_order : EachMayCome made (line ++ run) [] events
 
-  pub noted_none : (now : Option (List Event)) → note ≡ [] → Handed made start now read line
+  pub noted_none : (now : History) → note ≡ [] → Handed made start now read line
       → Noted now
   noted_none now none handed = record {
     events = handed.events;
@@ -141,7 +137,7 @@ module _ (made : LineAndNotes) (start : Option (List Event)) (read : List ℕ) (
     in_order = each_longer made line run [] handed.events handed.in_order;
   }
 
-  pub noted_sent : (now next : Option (List Event)) → Handed made start now read line
+  pub noted_sent : (now next : History) → Handed made start now read line
       → next ≡ told_then now (writes Log note ∷ flushes Log true ∷ []) → Noted next
   noted_sent now next handed then =
       let more : List Event = writes Log note ∷ flushes Log true ∷ [] in
@@ -169,7 +165,7 @@ module _ (made : LineAndNotes) (start : Option (List Event)) (read : List ℕ) (
       (sym answers.ticks_are) (text_then written_so text (made.other_line line) answer is text_is)
 
   -- Only a front of the note was written, or its flush failed.
-  pub noted_cut : (now next : Option (List Event)) (front rest : List ℕ) (more : List Event)
+  pub noted_cut : (now next : History) (front rest : List ℕ) (more : List Event)
       → note ≡ front ++ rest → (more ≡ []) ⊎ (more ≡ flushes Log false ∷ [])
       → Handed made start now read line → next ≡ told_then now (writes Log front ∷ more)
       → HandedFronts made start next read (line ++ run)
@@ -218,7 +214,7 @@ module _ (made : LineAndNotes) (start : Option (List Event)) (read : List ℕ) (
   }
 
   -- The note was handed on. Only a front of the text was written, or its flush failed.
-  pub text_cut : (now next : Option (List Event)) (front rest : List ℕ) (more : List Event)
+  pub text_cut : (now next : History) (front rest : List ℕ) (more : List Event)
       → text ≡ front ++ rest → (more ≡ []) ⊎ (more ≡ flushes Out false ∷ [])
       → Noted now → next ≡ told_then now (writes Out front ∷ more)
       → HandedFronts made start next read (line ++ run)
@@ -249,7 +245,7 @@ module _ (made : LineAndNotes) (start : Option (List Event)) (read : List ℕ) (
         );
       }
 
-  pub text_sent : (now next : Option (List Event)) → Noted now
+  pub text_sent : (now next : History) → Noted now
       → next ≡ told_then now (writes Out text ∷ flushes Out true ∷ [])
       → Handed made start next read (line ++ run)
   text_sent now next noted then =
@@ -276,11 +272,7 @@ module _ (made : LineAndNotes) (start : Option (List Event)) (read : List ℕ) (
 
 -- ---- nothing yet
 
-told_none : (start : Option (List Event)) → start ≡ told_then start []
-told_none None = refl
-told_none (Some events) = ap Some (sym (append-nil events))
-
-pub handed_none : (made : LineAndNotes) (start : Option (List Event)) → made.other_line [] ≡ []
+pub handed_none : (made : LineAndNotes) (start : History) → made.other_line [] ≡ []
     → made.note_lines [] ≡ [] → Handed made start start [] []
 handed_none made start no_tick no_note = record {
   events = [];
@@ -295,7 +287,7 @@ handed_none made start no_tick no_note = record {
 
 -- ---- a read
 
-module _ (made : LineAndNotes) (start now next : Option (List Event)) (read : List ℕ)
+module _ (made : LineAndNotes) (start now next : History) (read : List ℕ)
     (handed : Handed made start now read (ticks_in (ended_items read))) where
   all_handed : HasHandedOn made handed.events
   all_handed =
@@ -347,7 +339,7 @@ module _ (made : LineAndNotes) (start now next : Option (List Event)) (read : Li
   read_failed then = subst (λ l. Handed made start next l (ticks_in (ended_items read)))
       (append-nil read) (read_handed None [] refl then)
 
-pub handed_in_order : (made : LineAndNotes) (start now : Option (List Event)) (read : List ℕ)
+pub handed_in_order : (made : LineAndNotes) (start now : History) (read : List ℕ)
     (line : List Tick) → Handed made start now read line
     → (events : List Event) × (now ≡ told_then start events) × IsInOrder made line events
 handed_in_order made start now read line handed =

@@ -1,17 +1,18 @@
 -- What a reader of lines has read, as more bytes come.
 use Rattle.live_port.proofs.Behind.{items_in, whole_then, line_behind, capped_then, ended_behind}
 use Rattle.live_port.proofs.Behind.{refused_behind, fault_behind, text_behind, text_front}
-use Rattle.live_port.{proofs.Behind.end_behind, specs.Counted.capped}
+use Rattle.live_port.{proofs.Behind.end_behind, proofs.Behind.begins_behind, specs.Counted.capped}
 use Rattle.live_port.specs.Lines.{AreWholeLines, HasRead, ReadsLine, RefusesByte, RefusesText, lent}
 use Rattle.live_port.specs.{Lines.EndsNoLine, declared.lines.LineReader.LineReader}
 use Rattle.std.proofs.Common.{◌≡◌, ◌≢◌, ◌∙◌, ℕ, ◌+◌, ◌-◌, ◌<◌, ◌≤◌, List, [], ◌∷◌, ◌++◌, length}
 use Rattle.std.proofs.Common.{take, get_or, true, false, refl, ap, sym, subst, arith, append-nil}
 use Rattle.std.proofs.{Common.append_assoc, Common.length-append, lemmas.List.length-take-le}
-use Rattle.{tick_drive.proofs.Known.text_last, yasir_ticks.proofs.Lines.lines_of-lf}
+use Rattle.tick_drive.proofs.Known.{text_last}
+use Rattle.yasir_ticks.proofs.{Completions.begins_at, Lines.lines_of-lf}
 use Rattle.yasir_ticks.{proofs.Lines.lines_of-more, specs.Reader.StandsFor}
 use Rattle.yasir_ticks.specs.{Reader.items_of_content, Slices.TakesUpTo, Slices.StopsAt}
 use Rattle.yasir_ticks.specs.TickText.{Lines, lines_of, ended_items, line_after, IsTickText}
-use Rattle.yasir_ticks.specs.{TickText.fault_at_end, Ticks.Item, Ticks.marks_in, Ticks.items_of_run}
+use Rattle.yasir_ticks.specs.{TickText.BeginsTickText, TickText.fault_at_end, Ticks.Item, Ticks.marks_in, Ticks.items_of_run}
 use Rattle.yasir_ticks.specs.declared.fault.BadTicks.{BadTicks}
 use Rattle.yasir_ticks.specs.declared.place.Content.{Content, TheVariants.NoTick}
 use Rattle.yasir_ticks.specs.declared.place.Content.TheVariants.{KeptBytes, SilentTicks, OneMark}
@@ -170,6 +171,11 @@ module _ (old : LineReader) (text bytes : List ℕ) (has : HasRead old text) (ta
             ∙ rw whole_is refl));
       }
 
+-- A right text begins with what was read.
+pub read_begins : (lines : LineReader) (text : List ℕ) → HasRead lines text → BeginsTickText 0 text
+read_begins lines text has = subst (BeginsTickText 0) (sym has.is)
+    (begins_behind has.whole has.part has.front (begins_at has.stands.at))
+
 -- If the last line hasn't ended, what the reader was fed since its start ends no line.
 pub fed_unended : (lines : LineReader) (text : List ℕ) (count : ℕ) → HasRead lines text
     → lines.ended ≡ false → count ≡ lines.since → EndsNoLine text count
@@ -210,6 +216,7 @@ pub finished_refused : (old : LineReader) (text : List ℕ) (bad told : BadTicks
 finished_refused old text bad told has refused line why =
     let own = refused 0 has.part has.stands in
     record {
+      begins = read_begins old text has;
       refused = λ right. own.0 (text_front has.whole has.part right.0 has.front
           (subst (λ t. IsTickText 0 t right.0) has.is right.1));
       line = line ∙ (ap (λ n. capped (n + (bad.line - 1))) has.counted

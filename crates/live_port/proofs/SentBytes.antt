@@ -1,6 +1,6 @@
 -- What calls that write to a port do, one after another.
-use Rattle.live_port.proofs.Handing.{told_twice, noted_none, noted_sent, noted_cut, text_cut}
-use Rattle.live_port.{proofs.Handing.text_sent, specs.History.Event, specs.History.told_then}
+use Rattle.live_port.proofs.Handing.{noted_none, noted_sent, noted_cut, text_cut, text_sent}
+use Rattle.live_port.{proofs.Histories.told_twice, specs.History.Event, specs.History.told_then}
 use Rattle.live_port.specs.History.{WritesFront, KeepsFaults, Event.writes, Event.flushes}
 use Rattle.live_port.specs.{LiveText.IsTextOf, Sent.WritesCause, Sent.Sends, Sent.Hands}
 use Rattle.live_port.specs.declared.port.Output.{Output, TheVariants.Out, TheVariants.Log}

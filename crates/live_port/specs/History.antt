@@ -1,7 +1,7 @@
--- The history of an input and two outputs, and what was read, written and flushed according to it.
+-- What a port tells of its calls and outputs, and what was read, written and flushed by its calls.
 use Rattle.std.specs.Prelude.{◌≡◌, ◌≢◌, ℕ, List, [], ◌∷◌, ◌++◌, Bool, true, false, Option, Some}
 use Rattle.std.specs.Prelude.{None, Result, OnOk}
-use Rattle.std.specs.List.{flat_map}
+use Rattle.std.specs.{Io.KnownBytes.append_known, List.flat_map}
 use Rattle.live_port.specs.declared.port.Output.{Output}
 use Rattle.live_port.specs.declared.port.Output.TheVariants.{Out, Log}
 
@@ -11,11 +11,6 @@ pub data Event : Type 0 where
   reads : Option (List ℕ) → Event
   writes : Output → List ℕ → Event
   flushes : Output → Bool → Event
-
--- the history, followed by these calls, or `None` if the history isn't told
-abbrev pub told_then : Option (List Event) → List Event → Option (List Event)
-told_then None more = None
-told_then (Some events) more = Some (events ++ more)
 
 -- the bytes that a call read
 abbrev pub read_by : Event → List ℕ
@@ -41,6 +36,30 @@ written_by to (flushes other well) = []
 abbrev pub written : Output → List Event → List ℕ
 written to events = flat_map (written_by to) events
 
+-- What a port tells: its calls so far, in order, and what each output has got.
+pub record History : Type 0 where
+  pub calls : Option (List Event)
+  pub out : Option (List ℕ)
+  pub log : Option (List ℕ)
+
+-- the history of a port that tells nothing
+abbrev pub untold : History
+untold = record { calls = None; out = None; log = None }
+
+-- the calls, followed by these, or `None` if they aren't told
+abbrev pub calls_then : Option (List Event) → List Event → Option (List Event)
+calls_then None more = None
+calls_then (Some events) more = Some (events ++ more)
+
+-- the history after these calls: what is told of calls and outputs, with these calls and what they
+-- wrote
+abbrev pub told_then : History → List Event → History
+told_then told more = record {
+  calls = calls_then told.calls more;
+  out = append_known told.out (written Out more);
+  log = append_known told.log (written Log more);
+}
+
 -- whether an output is flushed after a call, given whether it was before
 abbrev pub flushed_by : Output → Bool → Event → Bool
 flushed_by to before (reads got) = before
@@ -63,7 +82,7 @@ abbrev pub is_flushed : Output → List Event → Bool
 is_flushed to events = flushed_from to true events
 
 -- The bytes of a piece were written, or a front of them if the write failed.
-pub record WritesFront {T E : Type 0} (before now : Option (List Event)) (to : Output)
+pub record WritesFront {T E : Type 0} (before now : History) (to : Output)
     (piece : List ℕ) (result : Result T E) : Type 0 where
   pub front : List ℕ
   pub rest : List ℕ

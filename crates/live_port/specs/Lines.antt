@@ -4,7 +4,7 @@ use Rattle.std.specs.Prelude.{Result, Ok, Err, slice_index}
 use Rattle.yasir_ticks.specs.Ticks.{Item, items_of_run, marks_in}
 use Rattle.yasir_ticks.specs.Reader.{StandsFor, items_of_content, lent_bytes}
 use Rattle.yasir_ticks.specs.TickText.{IsTickText, IsRefusedAfter, ended_items, all_items, lines_of}
-use Rattle.yasir_ticks.specs.TickText.{line_after, fault_after, fault_at_end}
+use Rattle.yasir_ticks.specs.TickText.{BeginsTickText, line_after, fault_after, fault_at_end}
 use Rattle.yasir_ticks.specs.declared.fault.BadTicks.{BadTicks}
 use Rattle.yasir_ticks.specs.declared.run.Run.{Run}
 use Rattle.tick_drive.specs.declared.end.End.{End}
@@ -78,8 +78,9 @@ FeedAnswer lines text bytes (Err (TooLong Bytes count)) =
     (2147483648 < count) × EndsNoLine text count
 FeedAnswer lines text bytes (Err end) = ⊥
 
--- The whole text isn't a right one.
+-- The whole text isn't a right one, and no byte of it is refused: a right text begins with it.
 pub record RefusesText (text : List ℕ) (bad : BadTicks) : Type 0 where
+  pub begins : BeginsTickText 0 text
   pub refused : ¬ ((items : List Item) × IsTickText 0 text items)
   pub line : bad.line ≡ capped (line_after text)
   pub why : bad.why ≡ fault_at_end text

@@ -1,10 +1,11 @@
 -- The order in which a live line reads, writes and flushes.
-use Rattle.std.specs.Prelude.{◌≡◌, ℕ, List, [], ◌∷◌, ◌++◌, true, Option}
+use Rattle.std.specs.Prelude.{◌≡◌, ℕ, List, [], ◌∷◌, ◌++◌, true}
 use Rattle.yasir_ticks.specs.Ticks.{ticks_in}
 use Rattle.yasir_ticks.specs.TickText.{ended_items}
 use Rattle.yasir_ticks.specs.declared.tick.Tick.{Tick}
 use Rattle.line_texts.specs.Sending.{LineAndNotes}
-use Rattle.live_port.specs.History.{Event, told_then, bytes_read, written, is_flushed}
+use Rattle.live_port.specs.History.{Event, History, told_then, bytes_read, written}
+use Rattle.live_port.specs.History.{is_flushed}
 use Rattle.live_port.specs.History.Event.{reads, writes, flushes}
 use Rattle.live_port.specs.LiveText.{IsTextOf}
 use Rattle.live_port.specs.declared.port.Output.TheVariants.{Out, Log}
@@ -52,7 +53,7 @@ module _ (made : LineAndNotes) where
       MayCome line before event × EachMayCome line (before ++ event ∷ []) events
 
   -- Since `start`, this was read, and what is made of this line was written and flushed, in order.
-  pub record Handed (start now : Option (List Event)) (read : List ℕ) (line : List Tick) :
+  pub record Handed (start now : History) (read : List ℕ) (line : List Tick) :
       Type 0 where
     pub events : List Event
     pub is : now ≡ told_then start events
@@ -65,7 +66,7 @@ module _ (made : LineAndNotes) where
 
   -- A write or a flush failed: since `start`, each output has got a front of what is made of this
   -- line.
-  pub record HandedFronts (start now : Option (List Event)) (read : List ℕ) (line : List Tick) :
+  pub record HandedFronts (start now : History) (read : List ℕ) (line : List Tick) :
       Type 0 where
     pub events : List Event
     pub is : now ≡ told_then start events

@@ -1,8 +1,8 @@
 -- What calls that write to a port do.
-use Rattle.std.specs.Prelude.{◌≡◌, ◌⊎◌, ℕ, List, [], ◌∷◌, ◌++◌, true, false, Option, Result, OnOk}
+use Rattle.std.specs.Prelude.{◌≡◌, ◌⊎◌, ℕ, List, [], ◌∷◌, ◌++◌, true, false, Result, OnOk}
 use Rattle.std.specs.Prelude.{OnErr}
 use Rattle.yasir_io.specs.Causes.{Rose}
-use Rattle.live_port.specs.History.{Event, told_then}
+use Rattle.live_port.specs.History.{Event, History, told_then}
 use Rattle.live_port.specs.History.Event.{writes, flushes}
 use Rattle.live_port.specs.declared.port.Output.{Output}
 use Rattle.live_port.specs.declared.port.Port.{Ghosts as Port}
@@ -41,11 +41,11 @@ module _ {P : Type 0} (p : Port P) where
   -- note. If a call failed, fronts of them were.
   pub record Hands {T E : Type 0} (old new : P) (answer : List Tick) (note : List ℕ)
       (result : Result T E) : Type 0 where
-    pub ok : OnOk result ((made : LineAndNotes) (start : Option (List Event)) (read : List ℕ)
+    pub ok : OnOk result ((made : LineAndNotes) (start : History) (read : List ℕ)
         (line run : List Tick) → AnswersNoted made line run answer note
         → Handed made start (p.history old) read line
         → Handed made start (p.history new) read (line ++ run))
-    pub err : OnErr result ((made : LineAndNotes) (start : Option (List Event)) (read : List ℕ)
+    pub err : OnErr result ((made : LineAndNotes) (start : History) (read : List ℕ)
         (line run : List Tick) → AnswersNoted made line run answer note
         → Handed made start (p.history old) read line
         → HandedFronts made start (p.history new) read (line ++ run))

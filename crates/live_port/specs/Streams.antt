@@ -1,5 +1,6 @@
--- The faults of a source and two sinks as one port.
-use Rattle.std.specs.Prelude.{ℕ}
+-- A source and two sinks as one port: their faults, and what they tell.
+use Rattle.std.specs.Prelude.{ℕ, None}
+use Rattle.live_port.specs.History.{History}
 use Rattle.yasir_io.specs.declared.sink.Sink.{Ghosts as Sink}
 use Rattle.live_port.specs.declared.port.Output.{Output}
 use Rattle.live_port.specs.declared.port.Output.TheVariants.{Out, Log}
@@ -9,3 +10,11 @@ use Rattle.live_port.specs.declared.streams.Streams.{Streams}
 abbrev pub stream_faults : {S O L : Type 0} → Sink O → Sink L → Streams S O L → Output → ℕ
 stream_faults o l streams Out = o.faults streams.out.now
 stream_faults o l streams Log = l.faults streams.log.now
+
+-- what each sink tells that it holds; no sink tells in which order calls came
+abbrev pub stream_history : {S O L : Type 0} → Sink O → Sink L → Streams S O L → History
+stream_history o l streams = record {
+  calls = None;
+  out = o.held streams.out.now;
+  log = l.held streams.log.now;
+}

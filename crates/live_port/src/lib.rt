@@ -1,4 +1,4 @@
-//! The outside of a live line: an input and two outputs with one history, what is handed on to the
+//! The outside of a live line: an input and two outputs as one object, what is handed on to the
 //! outputs, and a reader of the lines that come in.
 //!
 //! Each note is handed on before the ticks into which it falls:

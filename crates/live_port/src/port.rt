@@ -4,7 +4,7 @@ ghost use Rattle.std.specs.Prelude.{Some, None, true, false, IfOk, OnOk, OnErr};
 ghost use Rattle.std.specs.Io.KnownBytes.{prepend_known, IsAtEnd};
 ghost use Rattle.yasir_io.specs.Causes.{HasCause};
 ghost use Rattle.live_port.specs.declared.port.Output.{Output};
-ghost use Rattle.live_port.specs.History.{Event, told_then, KeepsFaults};
+ghost use Rattle.live_port.specs.History.{History, told_then, KeepsFaults};
 ghost use Rattle.live_port.specs.History.Event.{reads, writes, flushes};
 
 use yasir_io::Failed;
@@ -22,8 +22,8 @@ pub enum Output {
 pub trait Port {
     ghost use Rattle.live_port.specs.History.{WritesFront};
 
-    /// The calls so far, in order, if the port tells them.
-    ghost history: { Self → Option (List Event) };
+    /// The calls so far, in order, and what each output has got, as far as the port tells them.
+    ghost history: { Self → History };
 
     /// The bytes that the input has left, if the port tells them.
     ghost left: { Self → Option (List ℕ) };

@@ -1,13 +1,13 @@
 //! Reads of a live line: each comes only after all that is made of the lines read before is written
 //! and flushed.
-ghost use Rattle.std.specs.Prelude.{◌≡◌, ℕ, ◌≤◌, ◌<◌, ◌++◌, List, length, take, Option, IfOk, OnErr};
+ghost use Rattle.std.specs.Prelude.{◌≡◌, ℕ, ◌≤◌, ◌<◌, ◌++◌, List, length, take, IfOk, OnErr};
 ghost use Rattle.std.specs.Io.KnownBytes.{prepend_known, IsAtEnd};
 ghost use Rattle.yasir_io.specs.Causes.{HasCause};
 ghost use Rattle.yasir_ticks.specs.Ticks.{ticks_in};
 ghost use Rattle.yasir_ticks.specs.TickText.{ended_items};
 ghost use Rattle.yasir_ticks.specs.declared.tick.Tick.{Tick};
 ghost use Rattle.line_texts.specs.Sending.{LineAndNotes};
-ghost use Rattle.live_port.specs.History.{Event, told_then};
+ghost use Rattle.live_port.specs.History.{Event, History, told_then};
 ghost use Rattle.live_port.specs.Order.{Handed, IsInOrder};
 ghost use Rattle.live_port.specs.declared.port.Output.{Output};
 
@@ -19,11 +19,11 @@ use yasir_io::Failed;
 /// input, or if `buf` has no room.
 pub fn read_on<P: Port>(port: &mut P, buf: &mut [u8]) -> Result<usize, Failed>
     ensures within { IfOk result (λ n. n ≤ length buf.new) }
-    ensures bytes { IfOk result (λ n. (made : LineAndNotes) (start : Option (List Event))
+    ensures bytes { IfOk result (λ n. (made : LineAndNotes) (start : History)
         (read : List ℕ) → Handed made start (P.history port.old) read (ticks_in (ended_items read))
         → Handed made start (P.history port.new) (read ++ take n buf.new)
         (ticks_in (ended_items read))) }
-    ensures err { OnErr result ((made : LineAndNotes) (start : Option (List Event))
+    ensures err { OnErr result ((made : LineAndNotes) (start : History)
         (read : List ℕ) → Handed made start (P.history port.old) read (ticks_in (ended_items read))
         → Handed made start (P.history port.new) read (ticks_in (ended_items read))) }
     ensures left { IfOk result (λ n.
@@ -43,7 +43,7 @@ pub fn read_on<P: Port>(port: &mut P, buf: &mut [u8]) -> Result<usize, Failed>
 /// Before each read, all that is made of the lines read before was written and flushed. Before each
 /// write of the other line's text, the notes that fall into its ticks were.
 pub fn handed_lines_are_in_order()
-    ensures { (made : LineAndNotes) (start now : Option (List Event)) (read : List ℕ)
+    ensures { (made : LineAndNotes) (start now : History) (read : List ℕ)
         (line : List Tick) → Handed made start now read line
         → (events : List Event) × (now ≡ told_then start events) × IsInOrder made line events }
 {}

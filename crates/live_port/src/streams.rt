@@ -1,10 +1,10 @@
-//! A source and two sinks as one port. Streams of the system tell no history, so this port tells
-//! none.
+//! A source and two sinks as one port. It tells what each sink holds, if that sink tells it, and not
+//! in which order calls came.
 ghost use Rattle.std.specs.Prelude.{◌≡◌, ◌≤◌, ◌∷◌, [], take, length, Some, None, true, false};
 ghost use Rattle.std.specs.Prelude.{IfOk, OnOk, OnErr};
 ghost use Rattle.std.specs.Io.KnownBytes.{prepend_known, append_known, IsAtEnd};
 ghost use Rattle.yasir_io.specs.Causes.{HasCause};
-ghost use Rattle.live_port.specs.Streams.{stream_faults};
+ghost use Rattle.live_port.specs.Streams.{stream_faults, stream_history};
 
 use crate::{Output, Port};
 use yasir_io::{Failed, Sink, Source, write_all};
@@ -29,7 +29,7 @@ impl<'a, S, O, L> Streams<'a, S, O, L> {
 }
 
 impl<'a, S: Source, O: Sink, L: Sink> Port for Streams<'a, S, O, L> {
-    ghost history = { λ _. None };
+    ghost history = { λ streams. stream_history O.Sink L.Sink streams };
 
     ghost left = { λ streams. S.left streams.input.now };
 
