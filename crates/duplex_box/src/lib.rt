@@ -1,9 +1,9 @@
 //! A box for both directions of a line: the transmitter of the outgoing direction and the receiver
 //! of the incoming one, under one key.
 //!
-//! Both lines have the same ticks, so each call takes equally many ticks of both. `pass_both` takes
-//! runs without notes as far as it can, even while both boxes are busy. If it takes no tick, `step`
-//! takes one tick of each line:
+//! Both lines have the same ticks, so each call takes the same number of ticks from both.
+//! `pass_both` takes runs without notes as far as it can, even while both boxes are busy. If it
+//! takes no tick, `step` takes one tick of each line:
 //!
 //!     let mut duplex: Duplex<Rtu, HmacSha1, 2, 18> = Duplex::new(key, Dir::Ab);
 //!     let (mut to_link, mut to_device) = (RunBytes::new(), RunBytes::new());

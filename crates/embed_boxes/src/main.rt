@@ -1,5 +1,5 @@
 //! `embed_boxes`: an example of both boxes inside another program, which gives them one tick at a
-//! time and uses no file. This is what to copy into a gateway or a firmware:
+//! time and uses no file. This is what to copy into the firmware of a gateway:
 //!
 //!     let mut sealer: Sealer<Rtu, HmacSha1, 2> = Sealer::new(&key, Dir::Ab);
 //!     let step = sealer.step(tick, &mut journal, &mut disk)?;

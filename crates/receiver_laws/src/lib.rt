@@ -1,6 +1,6 @@
 //! Laws of the receiver's definitions, for each link, whatever is on it: what a device behind the
-//! receiver reads of its line, what passes, what an untouched link delivers, and how the notes, the
-//! passed frames and the line go on when the link does.
+//! receiver reads from its line, what passes, what an untouched link delivers, and how the notes,
+//! the passed frames and the line go on when the link does.
 //!
 //! Each law is the contract of a function that does nothing. `specs/` has the statements, over
 //! whole lines, and `proofs/` shows how they follow from the walk over the bursts of the link.

@@ -1,4 +1,4 @@
-//! Laws of the definitions: what devices read of the line of a capture.
+//! Laws about what devices read from the line of a capture.
 //!
 //! A function whose proof needs a law calls the law's function. The call does nothing when it runs,
 //! and the clause is a fact of the proof from then on:

@@ -1,6 +1,6 @@
-//! Several recordings in one input, which marks part, kept in memory as lists of ticks.
+//! Several recordings in one input, each followed by a mark, kept in memory as lists of ticks.
 //!
-//! Two recordings in one input, each followed by a mark:
+//! Two recordings in one input:
 //!
 //!     let mut input = SteadySource::new(b"+0102\n%\n-2\n+03\n%\n");
 //!     let lists = list_ticks(alloc, 2, &mut input)?;
