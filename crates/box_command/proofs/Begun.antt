@@ -2,7 +2,7 @@
 use Rattle.box_command.specs.BoxLines.{BoxOrigin, Outputs, DrivesBox}
 use Rattle.box_command.specs.declared.box_lines.BoxLines.{BoxLines}
 use Rattle.link_box.specs.declared.box_trait.LinkBox.{Ghosts as LinkBox}
-use Rattle.std.proofs.Common.{◌≡◌, ◌∙◌, ℕ, List, [], ◌∷◌, ◌++◌, refl, sym, ap, subst}
+use Rattle.std.proofs.Common.{◌≡◌, ℕ, List, [], ◌∷◌, ◌++◌}
 use Rattle.tick_drive.proofs.ItemLaws.{ticks_in-append, ticks_in-mark}
 use Rattle.yasir_ticks.specs.Ticks.{Item, ticks_in, Item.tick, Item.mark}
 use Rattle.yasir_ticks.specs.declared.tick.Tick.{Tick}

@@ -7,14 +7,14 @@ use Rattle.replay_lists.proofs.Marks.{has_mark-mark, before_mark-mark, behind_ma
 use Rattle.replay_lists.proofs.Marks.{before_mark-more, behind_mark-more}
 use Rattle.replay_lists.proofs.Runs.{no_mark-front, has_mark-run, before_mark-run, behind_mark-run}
 use Rattle.replay_lists.specs.Recordings.{has_mark, before_mark, behind_mark}
-use Rattle.std.proofs.Common.{◌≡◌, ◌∙◌, ℕ, ◌+◌, ◌<◌, ◌≤◌, true, false, List, [], ◌∷◌, ◌++◌, length}
+use Rattle.std.proofs.Common.{◌≡◌, ◌∙◌, ℕ, ◌<◌, true, false, List, [], ◌∷◌, ◌++◌, length}
 use Rattle.std.proofs.Common.{take, Option, Ok, Err, refl, ap, sym, subst, arith}
 use Rattle.tick_drive.proofs.ItemLaws.{ticks_in-front}
 use Rattle.tick_drive.specs.{Consumers.Gives, Consumers.GivesFirst, Drive.Drives, Drive.answer_of}
 use Rattle.tick_drive.specs.declared.consumer.Stop.{Stop, TheVariants.NoMemory}
 use Rattle.tick_drive.specs.declared.end.End.{End, TheVariants.Whole, TheVariants.Stopped}
 use Rattle.yasir_ticks.proofs.TickRuns.{length-run_items}
-use Rattle.yasir_ticks.specs.{TickRun.run_ticks, TickRun.run_items, Ticks.Item, Ticks.ticks_in}
+use Rattle.yasir_ticks.specs.{TickRun.run_ticks, TickRun.run_items, Ticks.Item}
 use Rattle.yasir_ticks.specs.{Ticks.Item.mark, declared.tick_run.TickRun.TickRun}
 
 module _ {S C A B : Type 0} (s : LinkBox S A) (sent_line : A → List ℕ) (c : LinkBox C B)

@@ -6,10 +6,10 @@ use Rattle.box_command.specs.declared.{kept_box.KeptTexts.KeptTexts, recording.R
 use Rattle.replay_lists.specs.FrameList.{Kept, Holds}
 use Rattle.replay_status.specs.declared.status.Status.{Status}
 use Rattle.replay_status.specs.declared.status.Status.TheVariants.{Done, WriteFault}
-use Rattle.std.proofs.Common.{◌≡◌, ◌∙◌, ◌⊎◌, inl, inr, ℕ, ◌+◌, ◌-◌, ◌≤◌, max, List, [], ◌++◌}
-use Rattle.std.proofs.Common.{length, Option, codes, refl, ap, sym, subst, arith, length-append}
+use Rattle.std.proofs.Common.{◌≡◌, ◌∙◌, ◌⊎◌, inl, inr, ℕ, ◌-◌, ◌≤◌, List, [], ◌++◌}
+use Rattle.std.proofs.Common.{length, Option, ap, sym, subst, arith, length-append}
 use Rattle.std.proofs.{Common.append_assoc, Common.append-nil, lemmas.List.length-replicate}
-use Rattle.{std.specs.Io.KnownBytes.append_known, yasir_io.proofs.OutputLemmas.append_known-nil}
+use Rattle.{std.specs.Io.KnownBytes.append_known}
 use Rattle.yasir_io.{proofs.OutputLemmas.append_known-twice, specs.Output.GotPrefix}
 use Rattle.yasir_ticks.specs.{CanonicalText.canonical_text, Ticks.silent}
 use Rattle.yasir_ticks.specs.declared.tick.Tick.{Tick, TheVariants.Silent}

@@ -4,17 +4,17 @@ use Rattle.box_command.specs.KeptBox.{timed_of, line_alone, KeepsLine, IsSteady,
 use Rattle.box_command.specs.KeptBox.{KeepsSome, KeepsWaiting, ticks_kept}
 use Rattle.box_command.specs.{MemoryText.text_bytes, TimedLines.timed_lines, TimedLines.AreInOrder}
 use Rattle.box_command.specs.declared.kept_box.KeptBox.{KeptBox}
-use Rattle.burst_walk.specs.Answers.{told_notes, note_in, AnswersTick}
-use Rattle.burst_walk.specs.{Runs.AnswersRun, Walk.Walker, Walk.Noted, Walk.notes_of, Walk.line_of}
+use Rattle.burst_walk.specs.Answers.{told_notes, note_in}
+use Rattle.burst_walk.specs.{Walk.Walker, Walk.Noted, Walk.notes_of, Walk.line_of}
 use Rattle.line_texts.proofs.Sending.{begins, sends_more}
 use Rattle.line_texts.specs.Sending.{LineAndNotes, SinkTexts, sink_texts, SendsTexts, PushesTicks}
 use Rattle.line_texts.specs.{Texts.waiting_in, Writer.HasWritten}
-use Rattle.link_box.specs.{Runs.TakesRun, Stepping.Steps, Walking.full_notes, Walking.other_line}
+use Rattle.link_box.specs.{Runs.TakesRun, Stepping.Steps, Walking.full_notes}
 use Rattle.link_box.specs.declared.box_trait.LinkBox.{Ghosts as LinkBox}
 use Rattle.{link_format.specs.Setup.Setup, replay_lists.specs.FrameList.Kept}
 use Rattle.{replay_lists.specs.FrameList.Holds, sequence_journal.specs.Journal.journal_floor}
-use Rattle.std.proofs.Common.{◌≡◌, ◌∙◌, ℕ, ◌+◌, ◌-◌, ◌<◌, ◌≤◌, List, [], ◌∷◌, ◌++◌, length, map}
-use Rattle.std.proofs.Common.{take, Option, Some, None, Ok, Result, refl, ap, sym, subst, arith}
+use Rattle.std.proofs.Common.{◌≡◌, ◌∙◌, ℕ, ◌+◌, ◌-◌, ◌≤◌, List, [], ◌∷◌, ◌++◌, length}
+use Rattle.std.proofs.Common.{take, Option, Some, None, Ok, refl, ap, sym, subst, arith}
 use Rattle.std.proofs.Common.{append-nil, append_assoc, length-append}
 use Rattle.std.proofs.lemmas.List.{map-append, length-replicate, take-replicate}
 use Rattle.std.proofs.lemmas.List.{replicate-append-replicate}

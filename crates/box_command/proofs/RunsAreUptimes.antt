@@ -4,7 +4,7 @@ use Rattle.box_command.specs.{BoxLines.ToldFloor, Boxes.Boxed}
 use Rattle.box_command.specs.ReplaysBox.{Around, around_of, boxed_with, LeavesUptime, EndsBox}
 use Rattle.box_command.specs.ReplaysBox.{LooksAtJournal, FailsAtLoad, RunsBox, RunsKeyed}
 use Rattle.box_command.specs.ReplaysBox.{ReplaysBox}
-use Rattle.box_command.specs.Uptimes.{WasUptime, WasTakenOver, IsUptimeOrNone}
+use Rattle.box_command.specs.Uptimes.{WasUptime, WasTakenOver, TookLine, IsUptimeOrNone}
 use Rattle.{hmac_tag.specs.declared.dir.Dir.Dir, link_format.specs.Setup.Setup}
 use Rattle.replay_status.specs.{Outside.Outside, declared.status.Status.Status}
 use Rattle.replay_status.specs.declared.status.Status.TheVariants.{Done, Usage, BadTicks, ReadFault}
@@ -16,7 +16,8 @@ use Rattle.sequence_journal.proofs.{SlotLemmas.no_own_floor, UptimeLaws.ends-loa
 use Rattle.sequence_journal.specs.{Journal.AreSameBut, Links.IsLink, Loading.IsOld}
 use Rattle.sequence_journal.specs.Slots.{any_floor, old_floor, floor_by, floor_of}
 use Rattle.sequence_journal.specs.declared.link.LinkId.{LinkId}
-use Rattle.std.proofs.Common.{◌≡◌, ◌∙◌, ◌⊎◌, ℕ, List, Option, Some, None, inl, inr, sym, ap, subst}
+use Rattle.std.proofs.Common.{◌≡◌, ◌∙◌, ◌⊎◌, ℕ, List, Option, Some, None, inl, inr, refl, sym, ap}
+use Rattle.std.proofs.Common.{subst}
 use Rattle.{std.proofs.Common.⊎_elim, tick_drive.specs.declared.end.End.End}
 use Rattle.yasir_io.specs.Disks.{Slots, OneImage}
 use Rattle.yasir_io.specs.declared.disk.{Slot.TheVariants.A, SlotDisk.Ghosts as SlotDisk}
@@ -87,15 +88,21 @@ module _ {S O L D : Type 0} (s : Source S) (o : Sink O) (l : Sink L) (d : SlotDi
             )
       ]
 
-  run-is : (status : Status) → RunsBox s o l d link box rest before after status
-      → WasUptime link box begins image ⊎ ((image ≡ begins) ⊎ WasTakenOver link begins image)
-  run-is Done h = inl (ended _ h)
-  run-is (BadTicks bad) h = inl (ended _ h)
-  run-is (TooLong what count) h = inl (ended _ h)
-  run-is ReadFault h = inl (ended _ h)
-  run-is JournalFault (inl h) = inl (was h.floor h.line h.floor_before h.replays.uptime)
+  -- The run was an uptime with the line that the box took.
+  abbrev Was : (status : Status) → RunsBox s o l d link box rest before after status → Type 0
+  Was status ran = (was : WasUptime link box begins image)
+      × TookLine s o l d link box rest before after status ran was.line
+
+  run-is : (status : Status) (ran : RunsBox s o l d link box rest before after status)
+      → Was status ran ⊎ ((image ≡ begins) ⊎ WasTakenOver link begins image)
+  unfolding ended was
+  run-is Done h = inl (ended _ h, refl)
+  run-is (BadTicks bad) h = inl (ended _ h, refl)
+  run-is (TooLong what count) h = inl (ended _ h, refl)
+  run-is ReadFault h = inl (ended _ h, refl)
+  run-is JournalFault (inl h) = inl (was h.floor h.line h.floor_before h.replays.uptime, refl)
   run-is JournalFault (inr h) = inr (failed-load h)
-  run-is WriteFault h = inl (was h.floor _ h.floor_before h.uptime)
+  run-is WriteFault h = inl (was h.floor _ h.floor_before h.uptime, refl)
   run-is (BadJournal a b) h = inr (inl (looked h.1))
   run-is (WrongLink slot) h = inr (inl (looked h.1))
   run-is Usage h = absurd h
@@ -122,7 +129,7 @@ module _ {K S O L D : Type 0} (k : Source K) (s : Source S) (o : Sink O) (l : Si
   keyed : (status : Status) → RunsKeyed k s o l d boxed link dir rest before after status
       → IsUptimeOrNone k s o l d boxed link dir rest before after status begins image
   keyed status ran = ⊎_elim
-      (λ was. inl (record { ran = ran; was = was }))
+      (λ was. inl (record { ran = ran; was = was.0; took = was.1 }))
       (λ same. inr same)
       (run-is s o l d link right (boxed_with boxed ran.key dir) rest (around_of before)
       (around_of after)

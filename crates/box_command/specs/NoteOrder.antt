@@ -1,6 +1,6 @@
 -- How far the lines of two lists are merged.
 use Rattle.std.specs.Prelude.{◌≡◌, ℕ, ◌+◌, ◌<◌, ◌≤◌, List, [], ◌∷◌, ◌++◌, drop, ⊤}
-use Rattle.replay_lists.specs.FrameList.{Kept, Holds, IsWhole, list_len}
+use Rattle.replay_lists.specs.FrameList.{Kept, Holds, list_len}
 use Rattle.replay_lists.specs.declared.frame_list.FrameList.{FrameList}
 use Rattle.box_command.specs.TimedLines.{lines_before, AreInOrder}
 use Rattle.box_command.specs.declared.note_order.Places.{Places}

@@ -1,8 +1,8 @@
 -- A frame at the place of its number, and as a list keeps it there.
 use Rattle.{link_format.specs.NumberedFrame.NumberedFrame, replay_lists.specs.FrameBox.kept_frames}
 use Rattle.replay_lists.specs.{FrameBox.kept_numbered, Places.place_of, Places.stands_at_its_number}
-use Rattle.std.proofs.Common.{◌≡◌, ◌∙◌, ℕ, ◌+◌, ◌-◌, ◌<◌, ◌≤◌, ◌&&◌, Bool, true, false, List}
-use Rattle.std.proofs.Common.{length, get_or, bytes_eq, nat_lt, refl, ap, sym, arith}
+use Rattle.std.proofs.Common.{◌≡◌, ◌∙◌, ℕ, ◌+◌, ◌<◌, ◌≤◌, ◌&&◌, Bool, false, List}
+use Rattle.std.proofs.Common.{length, get_or, bytes_eq, nat_lt, ap, arith}
 use Rattle.std.proofs.lemmas.{Bool.lt-ltb, Bool.le-ltb, List.get_or-map}
 
 pub kept-at : (frames : List NumberedFrame) (d : NumberedFrame) (i : ℕ) → i < length frames

@@ -6,8 +6,8 @@ use Rattle.replay_lists.specs.FrameList.{Kept, Holds}
 use Rattle.replay_lists.specs.ReplayLists.{KeepsFrames, StepsInto, Listens, kept_reads}
 use Rattle.replay_lists.specs.declared.frame_box.{FrameBox.Ghosts as FrameBox, FrameStep.FrameStep}
 use Rattle.replay_lists.specs.declared.{frame_box.Numbered.Numbered, frame_list.FrameList.FrameList}
-use Rattle.std.proofs.Common.{◌≡◌, ◌∙◌, ℕ, List, [], ◌∷◌, ◌++◌, Some, None, refl, ap, sym, subst}
-use Rattle.std.proofs.{Common.append-nil, lemmas.List.map-append}
+use Rattle.std.proofs.Common.{◌≡◌, ◌∙◌, ℕ, List, [], ◌∷◌, ◌++◌, Some, refl, ap, sym, subst}
+use Rattle.std.proofs.{lemmas.List.map-append}
 use Rattle.yasir_ticks.specs.declared.tick.Tick.{Tick}
 
 -- ---- a step of a box

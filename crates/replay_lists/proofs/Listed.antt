@@ -13,6 +13,8 @@ use Rattle.tick_drive.proofs.ItemLaws.{ticks_with, length-ticks_in-silence}
 use Rattle.tick_drive.specs.{Drive.Drives, Input.IsWhole, Input.max_ticks, Items.silent_items}
 use Rattle.tick_drive.specs.declared.end.End.{End, TheVariants.Whole}
 use Rattle.tick_drive.specs.declared.end.End.TheVariants.{Refused, TooLong, ReadFault, Stopped}
+use Rattle.tick_lists.proofs.Stopping.{stops-for-memory}
+use Rattle.tick_lists.specs.Listing.{StopsForMemory}
 use Rattle.yasir_ticks.specs.Ticks.{Item, ticks_in, silent}
 
 module _ {S C V : Type 0} (s : FrameBox S) (c : FrameBox C) (v : Device V)
@@ -57,14 +59,33 @@ module _ {S C V : Type 0} (s : FrameBox S) (c : FrameBox C) (v : Device V)
   room-whole driven =
       omega (arith, driven.gives.counted, may.none, few-whole driven.items driven.takes)
 
+  -- The lists stop a drive only if there is no memory.
+  for-memory : (end : End) → HasDriven end → StopsForMemory end
+  for-memory end driven = stops-for-memory (listing s c v) (λ lists stop setup items none. none)
+      1 320 before now old new may.setup
+      (record { listed = may.listed; marked = may.unmarked }) end driven
+
   -- If the input didn't end whole, `ListsRecordings` holds for the way in which it ended.
   pub ends-listing : (end : End) → (end ≡ Whole → ⊥) → HasDriven end
       → (device_rest : ℕ) → ListsRecordings s c v device_rest old new before now end
   ends-listing Whole other driven rest = absurd (other refl)
-  ends-listing (Refused bad) other driven rest = record
-      { items = driven.items; takes = driven.takes }
-  ends-listing (TooLong what count) other driven rest =
-      record { items = driven.items; takes = driven.takes }
-  ends-listing ReadFault other driven rest = record { items = driven.items; takes = driven.takes }
-  ends-listing (Stopped stop) other driven rest = record
-      { items = driven.items; takes = driven.takes }
+  ends-listing (Refused bad) other driven rest = record {
+    items = driven.items;
+    takes = driven.takes;
+    memory = for-memory (Refused bad) driven;
+  }
+  ends-listing (TooLong what count) other driven rest = record {
+    items = driven.items;
+    takes = driven.takes;
+    memory = for-memory (TooLong what count) driven;
+  }
+  ends-listing ReadFault other driven rest = record {
+    items = driven.items;
+    takes = driven.takes;
+    memory = for-memory ReadFault driven;
+  }
+  ends-listing (Stopped stop) other driven rest = record {
+    items = driven.items;
+    takes = driven.takes;
+    memory = for-memory (Stopped stop) driven;
+  }

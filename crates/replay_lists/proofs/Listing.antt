@@ -6,12 +6,11 @@ use Rattle.replay_lists.specs.ReplayLists.{KeepsFrames, Checks, HasListed, Lists
 use Rattle.replay_lists.specs.ReplayLists.{listing, GoesOnBy}
 use Rattle.replay_lists.specs.declared.frame_box.FrameBox.{Ghosts as FrameBox}
 use Rattle.replay_lists.specs.declared.replay_lists.ReplayLists.{ReplayLists}
-use Rattle.std.proofs.Common.{◌≡◌, ◌∙◌, ℕ, ◌+◌, ◌<◌, true, List, [], ◌∷◌, ◌++◌, length, Ok, Err}
-use Rattle.std.proofs.Common.{refl, ap, sym, append_assoc}
-use Rattle.std.proofs.lemmas.List.{replicate-append-replicate}
+use Rattle.std.proofs.Common.{◌≡◌, ◌<◌, true, List, [], ◌∷◌, ◌++◌, length, Ok, Err}
+use Rattle.std.proofs.Common.{refl, ap, sym}
 use Rattle.tick_drive.specs.{Consumers.Gives, declared.consumer.Stop.TheVariants.NoMemory}
-use Rattle.yasir_ticks.specs.Ticks.{Item, silent, Item.mark}
-use Rattle.yasir_ticks.specs.declared.tick.Tick.{Tick, TheVariants.Silent}
+use Rattle.yasir_ticks.specs.Ticks.{Item, Item.mark}
+use Rattle.yasir_ticks.specs.declared.tick.Tick.{Tick}
 
 module _ {S C V : Type 0} (s : FrameBox S) (c : FrameBox C) (v : Device V)
     (old new : ReplayLists S C V) where

@@ -8,6 +8,8 @@ use Rattle.tick_drive.specs.{Consumers.Gives, Consumers.GivesFirst, Drive.Drives
 use Rattle.tick_drive.specs.{Input.max_ticks, declared.consumer.Stop.TheVariants.NoMemory}
 use Rattle.tick_drive.specs.declared.end.End.{End, TheVariants.Whole}
 use Rattle.tick_drive.specs.declared.end.End.TheVariants.{Refused, TooLong, ReadFault, Stopped}
+use Rattle.tick_lists.proofs.Stopping.{stops-for-memory}
+use Rattle.tick_lists.specs.Listing.{StopsForMemory}
 use Rattle.tick_lists.specs.{Parts.part, Places.place_behind, Places.place_after}
 use Rattle.tick_lists.specs.declared.tick_lists.Place.{Place}
 use Rattle.yasir_ticks.{proofs.TickRuns.length-run_items, specs.TickRun.run_ticks}
@@ -21,7 +23,7 @@ use Rattle.replay_lists.proofs.Parted.{part-empty, link-there, link-here, link-m
 use Rattle.replay_lists.specs.Comparison.{Compares, expected_reads}
 use Rattle.replay_lists.specs.{FrameBox.kept_frames, FrameList.Holds, Lines.TakesOn, Lines.HearsOn}
 use Rattle.replay_lists.specs.ReplayLists.{KeepsFrames}
-use Rattle.replay_lists.specs.SessionListed.{MayListSession, ListsSession, EndsThree}
+use Rattle.replay_lists.specs.SessionListed.{MayListSession, ListsSession}
 use Rattle.replay_lists.specs.SessionLists.{Setups, HasSession, TakesParts, IsOpen, parting}
 use Rattle.replay_lists.specs.SessionLists.{session_taken, expected_of, link_of, rest_after}
 use Rattle.replay_lists.specs.{SessionLists.rest_left, declared.comparison.Comparison.Comparison}
@@ -496,15 +498,41 @@ module _ {S C V : Type 0} (s : FrameBox S) (c : FrameBox C) (v : Device V)
         ap (rest_left old.timing.link_rest) may.first in
         omega (arith, driven.gives.counted, may.none, may.short, left, same, whole.few)
 
+    -- The lists stop a drive only if there is no memory.
+    for-memory : (end : End) → HasDriven end → StopsForMemory end
+    for-memory end driven = stops-for-memory (parting s c v) (λ lists stop setups items none. none)
+        2 0 before now old new may.setups
+        (record {
+          seals = may.has.seals;
+          passes = may.has.passes;
+          reads = λ few. may.has.reads;
+          nothing = may.nothing;
+          place_is = may.first;
+          timing_is = may.has.timing_is;
+        })
+        end driven
+
     -- If the input didn't end whole, `ListsSession` holds for the way in which it ended.
     pub ends-session : (end : End) → (end ≡ Whole → ⊥) → HasDriven end
         → ListsSession s c v old new before now end
     ends-session Whole other driven = absurd (other refl)
-    ends-session (Refused bad) other driven =
-        record { items = driven.items; takes = driven.takes }
-    ends-session (TooLong what count) other driven =
-        record { items = driven.items; takes = driven.takes }
-    ends-session ReadFault other driven =
-        record { items = driven.items; takes = driven.takes }
-    ends-session (Stopped stop) other driven =
-        record { items = driven.items; takes = driven.takes }
+    ends-session (Refused bad) other driven = record {
+      items = driven.items;
+      takes = driven.takes;
+      memory = for-memory (Refused bad) driven;
+    }
+    ends-session (TooLong what count) other driven = record {
+      items = driven.items;
+      takes = driven.takes;
+      memory = for-memory (TooLong what count) driven;
+    }
+    ends-session ReadFault other driven = record {
+      items = driven.items;
+      takes = driven.takes;
+      memory = for-memory ReadFault driven;
+    }
+    ends-session (Stopped stop) other driven = record {
+      items = driven.items;
+      takes = driven.takes;
+      memory = for-memory (Stopped stop) driven;
+    }

@@ -8,8 +8,8 @@ use Rattle.replay_lists.specs.{Lines.GoesOn, Lines.TakesOn, Lines.HearsOn, Repla
 use Rattle.replay_lists.specs.{ReplayLists.StepsInto, declared.comparison.Comparison.Comparison}
 use Rattle.replay_lists.specs.declared.frame_box.{FrameBox.Ghosts as FrameBox, Numbered.Numbered}
 use Rattle.{replay_lists.specs.declared.frame_list.FrameList.FrameList, std.proofs.Common.◌≡◌}
-use Rattle.std.proofs.Common.{◌∙◌, ℕ, ◌+◌, ◌≤◌, ◌<◌, suc, List, [], ◌∷◌, ◌++◌, length, take, get_or}
-use Rattle.std.proofs.Common.{refl, ap, sym, subst, arith, append-nil, append_assoc, length-append}
+use Rattle.std.proofs.Common.{ℕ, ◌+◌, ◌≤◌, ◌<◌, List, [], ◌∷◌, ◌++◌, length, take, get_or}
+use Rattle.std.proofs.Common.{sym, subst, arith, append-nil, append_assoc, length-append}
 use Rattle.{std.proofs.lemmas.List.take_more, yasir_ticks.specs.Ticks.silent}
 use Rattle.yasir_ticks.specs.declared.tick.Tick.{Tick, TheVariants.Silent}
 

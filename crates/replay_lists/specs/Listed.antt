@@ -6,6 +6,7 @@ use Rattle.device_model.specs.declared.device.Device.{Ghosts as Device}
 use Rattle.tick_drive.specs.Input.{Takes, IsWhole}
 use Rattle.tick_drive.specs.declared.end.End.{End}
 use Rattle.tick_drive.specs.declared.end.End.TheVariants.{Whole}
+use Rattle.tick_lists.specs.Listing.{StopsForMemory}
 use Rattle.replay_lists.specs.Recordings.{before_mark, behind_mark}
 use Rattle.replay_lists.specs.ReplayLists.{HasListed, IsReady, lists_taken}
 use Rattle.replay_lists.specs.declared.frame_box.FrameBox.{Ghosts as FrameBox}
@@ -36,11 +37,13 @@ module _ {S C V : Type 0} (s : FrameBox S) (c : FrameBox C) (v : Device V) where
         → HasListed s c v new setup (before_mark takes.told ++ silent device_rest)
         (behind_mark takes.told ++ silent link_rest)
 
-  -- Holds if the input ended with `end` after these items. Nothing is said of the lists, which are
-  -- of use only if the input ended whole.
+  -- Holds if the input ended with `end` after these items, and there was no memory for what was
+  -- taken of it if the lists stopped it. Nothing is said of the lists, which are of use only if the
+  -- input ended whole.
   pub record EndsListing (before now : Option (List ℕ)) (end : End) : Type 0 where
     pub items : List Item
     pub takes : Takes 1 link_rest before now items end
+    pub memory : StopsForMemory end
 
   -- What each end of the listing says of the input and the lists.
   abbrev pub ListsRecordings : ℕ → ReplayLists S C V → ReplayLists S C V → Option (List ℕ)

@@ -1,11 +1,12 @@
 -- What is listed of three recordings of a session.
-use Rattle.std.specs.Prelude.{◌≡◌, ℕ, ◌+◌, ◌<◌, ◌≤◌, ◌^◌, List, [], ◌++◌, Option}
+use Rattle.std.specs.Prelude.{◌≡◌, ℕ, ◌<◌, ◌≤◌, ◌^◌, List, [], ◌++◌, Option}
 use Rattle.yasir_ticks.specs.Ticks.{Item, silent}
 use Rattle.yasir_ticks.specs.declared.tick.Tick.{Tick}
 use Rattle.device_model.specs.declared.device.Device.{Ghosts as Device}
 use Rattle.tick_drive.specs.Input.{Takes, IsWhole}
 use Rattle.tick_drive.specs.declared.end.End.{End}
 use Rattle.tick_drive.specs.declared.end.End.TheVariants.{Whole}
+use Rattle.tick_lists.specs.Listing.{StopsForMemory}
 use Rattle.tick_lists.specs.Parts.{part}
 use Rattle.tick_lists.specs.declared.tick_lists.Place.TheVariants.{First}
 use Rattle.replay_lists.specs.SessionLists.{HasSession, IsOpen, Setups, all_rests, boxes_taken}
@@ -41,11 +42,13 @@ module _ {S C V : Type 0} (s : FrameBox S) (c : FrameBox C) (v : Device V) where
     pub takes : IsWhole 2 0 before now items
     pub lists : ListsLines old new (part 0 takes.told) (part 1 takes.told) (part 2 takes.told)
 
-  -- Holds if the input ended with `end` after these items. Nothing is said of the lists, which are
-  -- of use only if the input ended whole.
+  -- Holds if the input ended with `end` after these items, and there was no memory for what was
+  -- taken of it if the lists stopped it. Nothing is said of the lists, which are of use only if the
+  -- input ended whole.
   pub record EndsThree (before now : Option (List ℕ)) (end : End) : Type 0 where
     pub items : List Item
     pub takes : Takes 2 0 before now items end
+    pub memory : StopsForMemory end
 
   -- What each end of the listing says of the input and the lists.
   abbrev pub ListsSession : SessionLists S C V → SessionLists S C V → Option (List ℕ)

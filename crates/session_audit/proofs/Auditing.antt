@@ -6,7 +6,7 @@ use Rattle.link_format.specs.{Profile.delay, Y18.y18, Y24.y24}
 use Rattle.receiver_laws.proofs.Accounting.{sealed-rise, rising-accounted}
 use Rattle.receiver_laws.proofs.Headline.{all-stay, bytes-delivered, passed-sealed}
 use Rattle.receiver_laws.proofs.Rising.{have_passed}
-use Rattle.receiver_laws.specs.Accounted.{forged, is_among, pairs_of, rightly_passed, IsSubsequence}
+use Rattle.receiver_laws.specs.Accounted.{forged, is_among, pairs_of, IsSubsequence}
 use Rattle.receiver_laws.specs.{Accounted.IsAccountedFor, AllLeft.ReadsAllThatPassed}
 use Rattle.receiver_laws.specs.{Headline.bytes_read, Headline.bytes_sealed, Reading.delivered}
 use Rattle.replay_lists.proofs.Comparing.{none-before}
@@ -18,14 +18,14 @@ use Rattle.session_audit.specs.Sessions.{link_profile_of, kind_of, sent_profile,
 use Rattle.session_audit.specs.Sessions.{sealed_in, passed_in, read_in, line_received, verdict_with}
 use Rattle.session_audit.specs.{Sessions.verdict_of, Verdicts.verdict_by}
 use Rattle.session_audit.specs.declared.{session.Session.Session, verdict.Verdict.Verdict}
-use Rattle.session_audit.specs.declared.verdict.Verdict.TheVariants.{Clean, Forged, Differs}
-use Rattle.std.proofs.Common.{◌≡◌, ◌≢◌, ◌∙◌, ℕ, suc, ◌==◌, ◌&&◌, Bool, true, false, List, [], ◌∷◌}
+use Rattle.session_audit.specs.declared.verdict.Verdict.TheVariants.{Clean, Differs}
+use Rattle.std.proofs.Common.{◌≡◌, ◌≢◌, ◌∙◌, ℕ, suc, ◌==◌, Bool, true, List, [], ◌∷◌}
 use Rattle.std.proofs.Common.{length, map, bytes_eq, Option, Some, None, option_map, refl, sym, ap}
 use Rattle.std.proofs.Common.{subst, ⊎_elim, Result, if◌then◌else◌}
 use Rattle.std.proofs.lemmas.Bool.{cases_Bool, and_parts, and_from, eqb-true, eq-eqb, cond-true}
 use Rattle.std.proofs.lemmas.{Bool.cond-false, Bool.cond_both, Slice.Eq.bytes_eq-Decides}
 use Rattle.{std.specs.Prelude.IfOk, tick_drive.specs.declared.end.End.End}
-use Rattle.yasir_ticks.specs.{Ticks.AreTicks, declared.tick.Tick.Tick}
+use Rattle.yasir_ticks.specs.{declared.tick.Tick.Tick}
 
 -- ---- lists of reads
 

@@ -5,6 +5,7 @@ use Rattle.yasir_ticks.specs.declared.tick.Tick.{Tick}
 use Rattle.tick_drive.specs.Input.{Takes, IsWhole}
 use Rattle.tick_drive.specs.declared.end.End.{End}
 use Rattle.tick_drive.specs.declared.end.End.TheVariants.{Whole}
+use Rattle.tick_lists.specs.Listing.{StopsForMemory}
 use Rattle.tick_lists.specs.Parts.{part}
 use Rattle.session_audit.specs.declared.verdict.Verdict.{Verdict}
 
@@ -18,12 +19,13 @@ module _ (verdict_on_three : List Tick → List Tick → List Tick → Verdict)
     pub found : verdict
         ≡ verdict_on_three (part 0 takes.told) (part 1 takes.told) (part 2 takes.told)
 
-  -- Holds if the input ended with `end`, which isn't `Whole`. It may be that there was no memory
-  -- for what was taken of it.
+  -- Holds if the input ended with `end`, which isn't `Whole`. If it is `Stopped`, there was no
+  -- memory for what was taken of the input.
   pub record FindsNone (end : End) : Type 0 where
     pub items : List Item
     pub takes : Takes 2 0 before now items end
     pub other : end ≢ Whole
+    pub memory : StopsForMemory end
 
   -- What the result of an audit says of the input.
   abbrev pub AuditsInput : Result Verdict End → Type 0

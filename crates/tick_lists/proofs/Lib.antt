@@ -1,2 +1,3 @@
 pub mod Parting
 mod Holding
+pub mod Stopping

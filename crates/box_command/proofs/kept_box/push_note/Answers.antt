@@ -1,6 +1,5 @@
-use Rattle.{box_command.specs.TimedLines.timed_lines, burst_walk.specs.Answers.note_in}
-use Rattle.replay_lists.specs.FrameList.{Kept, Holds}
-use Rattle.std.proofs.Common.{◌≡◌, ◌∙◌, ℕ, List, [], ◌∷◌, ◌++◌, subst}
+use Rattle.replay_lists.specs.FrameList.{Holds}
+use Rattle.std.proofs.Common.{◌∙◌, [], ◌∷◌, ◌++◌, subst}
 use Rattle.box_command.proofs.kept_box.push_note.Goals as goal
 
 pub returns-in-Ok : goal.returns-in-Ok

@@ -1,7 +1,7 @@
 use Rattle.box_command.proofs.NotesInOrder.{second-alone, first-alone, first-earlier}
 use Rattle.box_command.proofs.NotesInOrder.{second-earlier}
 use Rattle.replay_lists.{proofs.Lists.holds-length, specs.FrameList.Kept}
-use Rattle.std.proofs.Common.{◌≡◌, ◌<◌, ℕ, [], length, inl, inr, arith}
+use Rattle.std.proofs.Common.{◌<◌, ℕ, [], length, inl, inr, arith}
 use Rattle.std.proofs.lemmas.Bool.{leb-true, leb-false}
 use Rattle.box_command.proofs.note_order.is_of_first.Goals as goal
 

@@ -1,6 +1,6 @@
 use Rattle.box_command.proofs.BothKept.{keeps-whole, only-memory}
-use Rattle.{box_command.specs.BothBoxes.Setups, box_pair.specs.Directions.opposite_of}
-use Rattle.{hmac_tag.specs.declared.dir.Dir.Dir, link_format.specs.Setup.setup_of}
+use Rattle.{box_pair.specs.Directions.opposite_of}
+use Rattle.{link_format.specs.Setup.setup_of}
 use Rattle.std.proofs.Common.{refl}
 use Rattle.box_command.proofs.recording.record_both.Goals as goal
 

@@ -1,6 +1,6 @@
 use Rattle.device_model.specs.Frames.{frames_lent}
 use Rattle.replay_lists.specs.{FrameList.Holds, ReplayLists.kept_read, ReplayLists.kept_reads}
-use Rattle.std.proofs.Common.{◌≡◌, ◌∙◌, ◌++◌, [], ◌∷◌, ap, sym, subst, append-nil}
+use Rattle.std.proofs.Common.{◌∙◌, ◌++◌, [], ◌∷◌, ap, sym, subst, append-nil}
 use Rattle.std.proofs.lemmas.{List.map-append, Result.on_ok_weaker}
 use Rattle.replay_lists.proofs.hearing.keep_lent.Goals as goal
 

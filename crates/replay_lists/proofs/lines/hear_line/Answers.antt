@@ -1,4 +1,4 @@
-use Rattle.std.proofs.Common.{◌≡◌, arith, length, take, subst}
+use Rattle.std.proofs.Common.{◌≡◌, arith, take, subst}
 use Rattle.std.proofs.lemmas.List.{take_all, length-take-le}
 use Rattle.yasir_ticks.specs.declared.tick.Tick.TheVariants.{Silent}
 use Rattle.replay_lists.specs.Lines.{HearsOn}

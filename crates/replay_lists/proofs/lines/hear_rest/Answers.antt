@@ -1,6 +1,6 @@
 use Rattle.replay_lists.proofs.TakenLines.{goes-nowhere, goes-silent}
 use Rattle.{replay_lists.specs.Lines.HearsOn, std.proofs.Common.◌≡◌}
-use Rattle.std.proofs.{Common.arith, Common.length, Common.subst, lemmas.List.length-replicate}
+use Rattle.std.proofs.{Common.arith, Common.subst, lemmas.List.length-replicate}
 use Rattle.yasir_ticks.specs.{Ticks.silent, declared.tick.Tick.TheVariants.Silent}
 use Rattle.replay_lists.proofs.lines.hear_rest.Goals as goal
 

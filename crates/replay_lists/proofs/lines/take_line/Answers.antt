@@ -1,7 +1,6 @@
-use Rattle.link_format.specs.Setup.{Setup}
 use Rattle.replay_lists.proofs.TakenLines.{goes-nowhere, goes-tick, box-tick}
-use Rattle.replay_lists.specs.{Lines.TakesOn, ReplayLists.KeepsFrames}
-use Rattle.std.proofs.Common.{◌≡◌, arith, length, take, subst}
+use Rattle.replay_lists.specs.{Lines.TakesOn}
+use Rattle.std.proofs.Common.{◌≡◌, arith, take, subst}
 use Rattle.std.proofs.lemmas.List.{take_all, length-take-le}
 use Rattle.yasir_ticks.specs.declared.tick.Tick.TheVariants.{Silent}
 use Rattle.replay_lists.proofs.lines.take_line.Goals as goal

@@ -1,6 +1,6 @@
 use Rattle.replay_lists.proofs.TakenLines.{goes-nowhere, goes-silent, box-tick}
 use Rattle.{replay_lists.specs.Lines.TakesOn, std.proofs.Common.◌≡◌}
-use Rattle.std.proofs.{Common.arith, Common.length, Common.subst, lemmas.List.length-replicate}
+use Rattle.std.proofs.{Common.arith, Common.subst, lemmas.List.length-replicate}
 use Rattle.yasir_ticks.specs.{Ticks.silent, declared.tick.Tick.TheVariants.Silent}
 use Rattle.replay_lists.proofs.lines.take_silence.Goals as goal
 

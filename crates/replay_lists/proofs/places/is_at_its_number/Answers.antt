@@ -1,8 +1,8 @@
 use Rattle.replay_lists.proofs.InPlace.{kept-at, is-below, is-past, is-there}
 use Rattle.replay_lists.specs.FrameBox.{kept_frames, kept_numbered}
-use Rattle.{replay_lists.specs.Places.stands_at_its_number, std.proofs.Common.◌≡◌}
-use Rattle.std.proofs.Common.{◌∙◌, ◌-◌, ◌<◌, ◌&&◌, length, get_or, bytes_eq, nat_lt, sym, ap, arith}
-use Rattle.std.proofs.{Common.refl, lemmas.Bool.lt-ltb, lemmas.Bool.le-ltb, lemmas.List.length-map}
+use Rattle.{std.proofs.Common.◌≡◌}
+use Rattle.std.proofs.Common.{◌∙◌, ◌-◌, ◌<◌, length, get_or, bytes_eq, sym, ap, arith}
+use Rattle.std.proofs.{lemmas.List.length-map}
 use Rattle.replay_lists.proofs.places.is_at_its_number.Goals as goal
 
 pub returns-then-number-floor : goal.returns-then-number-floor

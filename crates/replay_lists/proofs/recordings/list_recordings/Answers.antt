@@ -27,4 +27,4 @@ returns-in-Ok-clause-listed g c =
 pub returns-in-Err-clause-listed : goal.returns-in-Err-clause-listed
 returns-in-Err-clause-listed g c =
     let driven = c.in-Whole.ensures.driven in
-    record { items = driven.items; takes = inr driven.takes }
+    record { items = driven.items; takes = inr driven.takes; memory = λ stop is. cc }

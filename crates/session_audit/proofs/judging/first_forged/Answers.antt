@@ -3,7 +3,7 @@ use Rattle.receiver_laws.specs.Accounted.{forged, is_among}
 use Rattle.replay_lists.specs.FrameBox.{kept_frames, kept_numbered}
 use Rattle.session_audit.proofs.Judged.{numbered_of, frame-at, forged-here, forged-behind}
 use Rattle.{session_audit.specs.Judging.first_head, std.proofs.Common.◌≡◌, std.proofs.Common.◌∙◌}
-use Rattle.std.proofs.Common.{◌<◌, ◌≤◌, Bool, true, false, [], ◌∷◌, length, get_or, drop, sym, ap}
+use Rattle.std.proofs.Common.{◌<◌, ◌≤◌, true, false, [], ◌∷◌, length, get_or, sym, ap}
 use Rattle.std.proofs.{Common.arith, Common.refl, lemmas.List.length-map, lemmas.List.drop_all}
 use Rattle.session_audit.proofs.judging.first_forged.Goals as goal
 

@@ -2,8 +2,7 @@ use Rattle.receiver_laws.specs.AllLeft.{ReadsAllThatPassed}
 use Rattle.sequence_journal.specs.declared.numbers.TheConstants.{LIMIT}
 use Rattle.session_audit.proofs.Auditing.{never-differs, each-kind}
 use Rattle.session_audit.specs.Sessions.{LinkKind, kind_of, got_profile, got_setup}
-use Rattle.std.proofs.Common.{arith, List}
-use Rattle.yasir_ticks.specs.{Ticks.AreTicks, declared.tick.Tick.Tick}
+use Rattle.std.proofs.Common.{arith}
 use Rattle.session_audit.proofs.laws.own_line_of_a_receiver_never_differs.Goals as goal
 
 pub returns : goal.returns

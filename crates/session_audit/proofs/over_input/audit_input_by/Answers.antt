@@ -1,5 +1,4 @@
-use Rattle.replay_lists.specs.SessionLists.{Setups}
-use Rattle.session_audit.specs.Through.{HasTaken, setups_of}
+use Rattle.session_audit.specs.Through.{setups_of}
 use Rattle.session_audit.proofs.over_input.audit_input_by.Goals as goal
 
 pub judge_lists-requires-clause-taken : goal.judge_lists-requires-clause-taken

@@ -1,8 +1,8 @@
 use Rattle.{box_command.proofs.Kept.keeps-none, link_box.proofs.KnownLinks.known}
-use Rattle.{link_format.specs.Setup.setup_of, replay_lists.specs.FrameList.Holds}
+use Rattle.{link_format.specs.Setup.setup_of}
 use Rattle.sequence_journal.proofs.LoadLemmas.{blank_holds_none}
-use Rattle.sequence_journal.specs.{Journal.journal_floor, Links.IsLink, Slots.greatest}
-use Rattle.std.proofs.Common.{◌≡◌, ◌∙◌, ap, subst, sym, refl, []}
+use Rattle.sequence_journal.specs.{Links.IsLink, Slots.greatest}
+use Rattle.std.proofs.Common.{◌∙◌, ap, subst, sym, refl, []}
 use Rattle.box_command.proofs.kept_box.KeptBox.new.Goals as goal
 
 pub new_journal-journal-requires-clause-link : goal.new_journal-journal-requires-clause-link

@@ -1,4 +1,3 @@
-use Rattle.std.proofs.Common.{◌≡◌, ◌+◌, ℕ}
 use Rattle.box_command.specs.KeptBox.{KeepsWaiting}
 use Rattle.box_command.proofs.kept_box.KeptBox.wait.Given as goal
 

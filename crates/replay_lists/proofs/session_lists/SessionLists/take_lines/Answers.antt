@@ -1,7 +1,6 @@
 use Rattle.replay_lists.proofs.SessionSteps.{lines-have, lines-open, lines-taken}
 use Rattle.replay_lists.specs.SessionLists.{rest_left}
-use Rattle.std.proofs.{Common.arith, Common.ap, Common.length, lemmas.List.length-replicate}
-use Rattle.yasir_ticks.specs.declared.tick.Tick.TheVariants.{Silent}
+use Rattle.std.proofs.{Common.arith, Common.ap}
 use Rattle.replay_lists.proofs.session_lists.SessionLists.take_lines.Goals as goal
 
 pub take_silence-requires-clause-room : goal.take_silence-requires-clause-room
