@@ -1,7 +1,7 @@
 -- Readers of formats that have fields of four bytes, and single bytes between them.
-use Rattle.std.specs.Prelude.{◌≡◌, ℕ, ◌≤◌, nat_lt, Bool, if◌then◌else◌, List, [], ◌∷◌, ◌++◌}
+use Rattle.std.specs.Prelude.{◌≡◌, ℕ, ◌<◌, ◌≤◌, nat_lt, Bool, if◌then◌else◌, List, [], ◌∷◌, ◌++◌}
 use Rattle.std.specs.Prelude.{length, Option, None, Result, Ok, Err}
-use Rattle.byte_walk.specs.Walks.{Begins, BeginsNone}
+use Rattle.byte_walk.specs.Walks.{HaveFirst, Begins, BeginsNone}
 
 -- where a reader of such a format is: what comes next, and the bytes of a field that have come so
 -- far
@@ -28,6 +28,18 @@ module _ {S I F : Type 0} (takes_bytes : S → Bool) (field_at : S → List ℕ 
       else if nat_lt (length spot.partial) 3
       then Ok (record { stage = spot.stage; partial = spot.partial ++ b ∷ [] }, None)
       else at_spot (field_at spot.stage (spot.partial ++ b ∷ []))
+
+module _ {I : Type 0} (IsRight : List ℕ → List I → Type 0) where
+  -- Holds if the bytes up to the last whole field begin an input of the format, with these items.
+  -- Less than a field follows, with which no input has to go on. Each input that begins with all of
+  -- the bytes has these items first.
+  pub record AreFieldsSoFar (bytes : List ℕ) (items : List I) : Type 0 where
+    pub front : List ℕ
+    pub partial : List ℕ
+    pub is : bytes ≡ front ++ partial
+    pub short : length partial < 4
+    pub begins : Begins IsRight front items
+    pub each : HaveFirst IsRight bytes items
 
 -- Holds if byte b after these bytes is refused at the right offset and for the right cause: its
 -- field is the first one with which no input of the format begins. The bytes before the field begin

@@ -22,15 +22,20 @@ module _ {P I F : Type 0} (step : P → ℕ → Result (P × Option I) F) where
   walk from [] = Ok (from, [])
   walk from (b ∷ bytes) = and_then_walk (step from b) (λ place. walk place bytes)
 
--- Holds if the bytes begin an input of this format, and these are the items of the bytes: each
--- input that begins with the bytes has these items first.
 module _ {I : Type 0} (IsRight : List ℕ → List I → Type 0) where
+  -- Holds if each input of this format that begins with these bytes has these items first. If no
+  -- input begins with the bytes, it holds for any items.
+  abbrev pub HaveFirst : List ℕ → List I → Type 0
+  HaveFirst bytes items = (more : List ℕ) (all : List I) → IsRight (bytes ++ more) all
+      → (others : List I) × (all ≡ items ++ others)
+
+  -- Holds if the bytes begin an input of this format, and these are the items of the bytes: each
+  -- input that begins with the bytes has these items first.
   pub record Begins (bytes : List ℕ) (items : List I) : Type 0 where
     pub more : List ℕ
     pub others : List I
     pub right : IsRight (bytes ++ more) (items ++ others)
-    pub each : (more : List ℕ) (all : List I) → IsRight (bytes ++ more) all
-        → (others : List I) × (all ≡ items ++ others)
+    pub each : HaveFirst bytes items
 
   -- Holds if no input of this format begins with these bytes.
   abbrev pub BeginsNone : List ℕ → Type 0

@@ -1,7 +1,7 @@
 -- The reader reads pcap files exactly.
 use Rattle.byte_walk.proofs.FieldLaws.{ReachedSpot, reached_spot}
 use Rattle.byte_walk.proofs.WalkLaws.{walk-more, reads_begins, reads_none, reads_each, reads_open}
-use Rattle.byte_walk.specs.Fields.{Spot, before_field, at_spot, RefusesField}
+use Rattle.byte_walk.specs.Fields.{Spot, before_field, at_spot, RefusesField, AreFieldsSoFar}
 use Rattle.byte_walk.specs.Walks.{walk, ReadsFormat, Begins, BeginsNone}
 use Rattle.capture_pcap.proofs.Stages.{AtStage, Moves, field_goes, byte_goes, field_cause}
 use Rattle.capture_pcap.proofs.Stages.{byte_taken}
@@ -135,6 +135,18 @@ module _ (spot : Spot Stage) (file : List ℕ) (items : List Seen)
       reads_begins step_at (before_field Magic) may_end_at IsCapture reads_pcap front
       (before_field stage) items came (on_stage stage front items at)
 
+  pub file_so_far : AreFieldsSoFar IsCapture file items
+  file_so_far =
+      let r = reached spot file items walks in
+      record {
+        front = r.front;
+        partial = spot.partial;
+        is = r.text_is;
+        short = r.short;
+        begins = front_begins r.front spot.stage r.holds_there r.came;
+        each = file_each;
+      }
+
   bool_cases : (t : Bool) → (t ≡ true) ⊎ (t ≡ false)
   bool_cases true = inl refl
   bool_cases false = inr refl
@@ -201,6 +213,10 @@ module _ (spot : Spot Stage) (file : List ℕ) (items : List Seen)
 pub nothing_begins : Begins IsCapture [] []
 unfolding walk
 nothing_begins = front_begins (before_field Magic) [] [] refl [] Magic magic refl
+
+pub nothing_so_far : AreFieldsSoFar IsCapture [] []
+unfolding walk
+nothing_so_far = file_so_far (before_field Magic) [] [] refl
 
 pub nothing_walks : (partial : List ℕ) → partial ≡ []
     → walk step_at (before_field Magic) [] ≡ Ok (record { stage = Magic; partial = partial }, [])

@@ -28,7 +28,7 @@ pub struct PcapReader {
 
 impl PcapReader {
     ghost use Rattle.byte_walk.specs.Walks.{Begins, BeginsNone};
-    ghost use Rattle.byte_walk.specs.Fields.{RefusesField, before_field, Spot};
+    ghost use Rattle.byte_walk.specs.Fields.{RefusesField, AreFieldsSoFar, before_field, Spot};
     ghost use Rattle.capture_pcap.specs.Pcap.{IsCapture, IsCause};
     ghost use Rattle.capture_pcap.specs.PcapStep.{step_at, may_end_at};
     ghost use Rattle.capture_pcap.specs.Reader.{StandsFor, HasRefused, bytes_taken, spot_of};
@@ -101,6 +101,10 @@ impl PcapReader {
         ensures stands { (file : List ℕ) (items : List Seen) → StandsFor self.old file items
             → IfOk result (λ seen. StandsFor self.new (file ++ b ∷ [])
             (items ++ option_to_list seen)) }
+        // The bytes up to the last whole field begin a capture, with these items.
+        ensures begins { (file : List ℕ) (items : List Seen) → StandsFor self.old file items
+            → IfOk result (λ seen. AreFieldsSoFar IsCapture (file ++ b ∷ [])
+            (items ++ option_to_list seen)) }
         // Each capture that begins with the bytes so far has these items first.
         ensures each { (file : List ℕ) (items : List Seen) → StandsFor self.old file items
             → IfOk result (λ seen. (more : List ℕ) (all : List Seen)
@@ -161,6 +165,7 @@ impl PcapReader {
 }
 
 impl CaptureReader for PcapReader {
+    ghost use Rattle.byte_walk.specs.Fields.{AreFieldsSoFar};
     ghost use Rattle.capture_pcap.specs.Pcap.{IsCapture};
     ghost use Rattle.capture_pcap.specs.Reader.{StandsFor, Refuses, HasRefused};
     ghost use Rattle.capture_pcap.specs.Reader.{bytes_taken as taken_by};
@@ -168,6 +173,8 @@ impl CaptureReader for PcapReader {
     type Refusal = BadPcap;
 
     ghost format = { IsCapture };
+
+    ghost begins = { AreFieldsSoFar IsCapture };
 
     ghost stands = { StandsFor };
 

@@ -3,7 +3,7 @@ use Rattle.byte_walk.proofs.WalkLaws.{walk-cons, walk-join, walk-one, walk-more,
 use Rattle.byte_walk.proofs.WalkLaws.{reads_each, reads_none, reads_open}
 use Rattle.byte_walk.specs.Walks.{walk, ReadsFormat, BeginsNone}
 use Rattle.capture_rows.specs.Rows.{RowState, first_state, may_end, may_end_at, ended_line, line_at}
-use Rattle.capture_rows.specs.Rows.{step_at, AreRows, IsExport, AreRows.none, AreRows.more}
+use Rattle.capture_rows.specs.Rows.{step_at, AreRows, IsExport, AreRowsSoFar, AreRows.none, AreRows.more}
 use Rattle.capture_rows.specs.declared.{TheConstants.MAX_LINE, fault.RowFault.RowFault}
 use Rattle.capture_rows.specs.declared.{fault.RowFault.TheVariants.Long, row.Row.Row}
 use Rattle.{capture_rows.specs.declared.row.Stage.Stage, line_stamps.specs.declared.seen.Seen.Seen}
@@ -264,6 +264,20 @@ module _ (row_at : Stage → List ℕ → Result Row RowFault) (name_of : List �
     rows_each = reads_each step start may_end_at (IsExport row_at name_of) reads_rows text place items
         walks
 
+    pub rows_so_far : AreRowsSoFar row_at name_of text items
+    rows_so_far =
+        let at = reached place text items walks in
+        record {
+          ended = at.ended;
+          line = place.1;
+          state = place.0;
+          text_is = at.text_is;
+          rows = at.rows;
+          one_line = at.one_line;
+          short = at.short;
+          each = rows_each;
+        }
+
     pub rows_none : (b : ℕ) (why : RowFault) → step place b ≡ Err why
         → BeginsNone (IsExport row_at name_of) (text ++ b ∷ [])
     rows_none b why e = reads_none step start may_end_at (IsExport row_at name_of) reads_rows text place
@@ -282,3 +296,9 @@ pub nothing_walks : (row_at : Stage → List ℕ → Result Row RowFault) (name_
     → walk (step_at row_at name_of) (first_state, []) [] ≡ Ok (place, [])
 unfolding walk
 nothing_walks row_at name_of place e = ap (λ p. Ok (p, [])) (sym e)
+
+pub nothing_so_far : (row_at : Stage → List ℕ → Result Row RowFault) (name_of : List ℕ → List ℕ)
+    → AreRowsSoFar row_at name_of [] []
+nothing_so_far row_at name_of =
+    rows_so_far row_at name_of (first_state, []) [] []
+    (nothing_walks row_at name_of (first_state, []) refl)

@@ -4,6 +4,7 @@ use Rattle.std.specs.Prelude.{false, List, [], ◌∷◌, ◌++◌, length, take
 use Rattle.std.specs.Prelude.{slice_index}
 use Rattle.std.specs.List.{list_all}
 use Rattle.std.specs.Option.{option_to_list}
+use Rattle.byte_walk.specs.Walks.{HaveFirst}
 use Rattle.yasir_ticks.specs.Characters.{line_feed, carriage_return}
 use Rattle.line_stamps.specs.declared.capture.Way.{Way}
 use Rattle.line_stamps.specs.declared.seen.Seen.{Seen}
@@ -99,6 +100,18 @@ module _ (row_at : Stage → List ℕ → Result Row RowFault) (name_of : List �
     pub last : RowState
     pub rows : AreRows last text items
     pub ends : may_end last.stage ≡ true
+
+  -- Holds if the text is right rows, with these items, and the beginning of one more line. Each
+  -- export that begins with the text has these items first.
+  pub record AreRowsSoFar (text : List ℕ) (items : List Seen) : Type 0 where
+    pub ended : List ℕ
+    pub line : List ℕ
+    pub state : RowState
+    pub text_is : text ≡ ended ++ line
+    pub rows : AreRows state ended items
+    pub one_line : list_all (λ b. not (b == line_feed)) line ≡ true
+    pub short : length line ≤ MAX_LINE
+    pub each : HaveFirst IsExport text items
 
   -- What one byte does after this much of a line. It describes the format a second time, and the
   -- two are proved equal.

@@ -145,13 +145,15 @@ impl<F: RowForm> RowReader<F> {
 }
 
 impl<F: RowForm> CaptureReader for RowReader<F> {
-    ghost use Rattle.capture_rows.specs.Rows.{IsExport};
+    ghost use Rattle.capture_rows.specs.Rows.{IsExport, AreRowsSoFar};
     ghost use Rattle.capture_rows.specs.Reader.{StandsFor, HasRefused, Refuses};
     ghost use Rattle.capture_rows.specs.Reader.{bytes_taken as taken_by};
 
     type Refusal = BadRow;
 
     ghost format = { IsExport F.row_at F.name_of };
+
+    ghost begins = { AreRowsSoFar F.row_at F.name_of };
 
     ghost stands = { StandsFor F.row_at F.name_of };
 

@@ -1,5 +1,5 @@
 -- A text capture as a list of items, one for each of its bytes.
-use Rattle.byte_walk.specs.Walks.{Begins, BeginsNone}
+use Rattle.byte_walk.specs.Walks.{HaveFirst, Begins, BeginsNone}
 use Rattle.capture_text.specs.{CaptureText.IsTextCapture, Reader.IsSeenText}
 use Rattle.line_stamps.specs.declared.capture.CaptureByte.{CaptureByte}
 use Rattle.line_stamps.specs.declared.seen.Seen.{Seen, TheVariants.Byte}
@@ -27,14 +27,27 @@ seen_more bytes byte items e =
 
 -- Each right text that begins with this text has these items first.
 pub seen_each : (text : List ℕ) (bytes : List CaptureByte) (items : List Seen)
-    → Begins IsTextCapture text bytes → items ≡ map Byte bytes → (more : List ℕ) (all : List Seen)
-    → IsSeenText (text ++ more) all → (others : List Seen) × (all ≡ items ++ others)
+    → Begins IsTextCapture text bytes → items ≡ map Byte bytes → HaveFirst IsSeenText text items
 seen_each text bytes items begins e = λ more all whole.
     let goes_on = begins.each more whole.bytes whole.right in (
       map Byte goes_on.0,
       whole.items_are ∙ ap (map Byte) goes_on.1 ∙ seen-append bytes goes_on.0
           ∙ ap (λ x. x ++ map Byte goes_on.0) (sym e),
     )
+
+-- A text begins a capture with the same items as with its bytes.
+pub seen_begins : (text : List ℕ) (bytes : List CaptureByte) (items : List Seen)
+    → Begins IsTextCapture text bytes → items ≡ map Byte bytes → Begins IsSeenText text items
+seen_begins text bytes items begins e = record {
+  more = begins.more;
+  others = map Byte begins.others;
+  right = record {
+    bytes = bytes ++ begins.others;
+    right = begins.right;
+    items_are = ap (λ x. x ++ map Byte begins.others) e ∙ sym (seen-append bytes begins.others);
+  };
+  each = seen_each text bytes items begins e;
+}
 
 pub seen_none : (text : List ℕ) → BeginsNone IsTextCapture text → BeginsNone IsSeenText text
 seen_none text none = λ more items whole. none more whole.bytes whole.right

@@ -1,7 +1,7 @@
 -- What a reader of a text capture represents.
 use Rattle.std.specs.Prelude.{◌≡◌, ℕ, ◌+◌, List, length, map, Option, Some, None, Ok}
 use Rattle.line_stamps.specs.declared.capture.CaptureByte.{CaptureByte}
-use Rattle.byte_walk.specs.Walks.{walk}
+use Rattle.byte_walk.specs.Walks.{walk, Begins}
 use Rattle.line_stamps.specs.declared.seen.Seen.{Seen}
 use Rattle.line_stamps.specs.declared.seen.Seen.TheVariants.{Byte}
 use Rattle.capture_text.specs.CaptureText.{lines_ended, IsTextCapture, IsCause}
@@ -42,7 +42,9 @@ pub record HasSeen (reader : TextReader) (text : List ℕ) (items : List Seen) :
   pub stands : StandsFor reader text bytes
   pub items_are : items ≡ map Byte bytes
 
--- A byte, or the end of the text, is refused after this text, with this place and cause.
+-- A byte, or the end of the text, is refused after this text, with this place and cause. A text
+-- capture begins with the text, with these items.
 pub record Refuses (text : List ℕ) (items : List Seen) (next : Option ℕ) (bad : BadText) : Type 0 where
+  pub begins : Begins IsSeenText text items
   pub place : IsPlaceOf bad text
   pub cause : IsCause text next bad.why

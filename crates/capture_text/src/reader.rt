@@ -146,10 +146,13 @@ impl TextReader {
 impl CaptureReader for TextReader {
     ghost use Rattle.capture_text.specs.Reader.{IsSeenText, HasSeen, Refuses, HasRefused};
     ghost use Rattle.capture_text.specs.Reader.{bytes_taken as taken_by};
+    ghost use Rattle.byte_walk.specs.Walks.{Begins};
 
     type Refusal = BadText;
 
     ghost format = { IsSeenText };
+
+    ghost begins = { Begins IsSeenText };
 
     ghost stands = { HasSeen };
 

@@ -123,7 +123,7 @@ module _ (row_at : Stage → List ℕ → Result Row RowFault) (name_of : List �
   sound_rows follows = record {
     refused = rows_refused;
     lacking = rows_lacking;
-    first = λ file items more all begins is. begins more all is;
+    first = λ file items more all begins is. begins.each more all is;
     alike = rows_alike;
   }
 
@@ -131,7 +131,7 @@ sound_text : IsSound text_format
 sound_text = record {
   refused = text_refused;
   lacking = text_lacking;
-  first = λ file items more all begins is. begins more all is;
+  first = λ file items more all begins is. begins.each more all is;
   alike = λ file one other a b. a.items_are
       ∙ ap (map Byte) (text_alike file a.bytes b.bytes a.right b.right) ∙ sym b.items_are;
 }
@@ -140,7 +140,7 @@ sound_pcap : IsSound pcap_format
 sound_pcap = record {
   refused = pcap_refused;
   lacking = pcap_lacking;
-  first = λ file items more all begins is. begins more all is;
+  first = λ file items more all begins is. begins.each more all is;
   alike = pcap_alike;
 }
 

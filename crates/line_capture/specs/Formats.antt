@@ -1,12 +1,13 @@
 -- The forms of captures: which files are captures, with which bytes of the line and events, and why
 -- others are refused.
-use Rattle.std.specs.Prelude.{◌≡◌, ℕ, Bool, true, false, List, [], ◌∷◌, ◌++◌, Some, None, Result}
-use Rattle.byte_walk.specs.Walks.{BeginsNone}
+use Rattle.std.specs.Prelude.{ℕ, Bool, true, false, List, [], ◌∷◌, ◌++◌, Some, None, Result}
+use Rattle.byte_walk.specs.Fields.{AreFieldsSoFar}
+use Rattle.byte_walk.specs.Walks.{Begins, BeginsNone}
 use Rattle.capture_pcap.specs.Pcap.{IsCapture}
 use Rattle.capture_pcap.specs.Reader.{Refuses as RefusesPacket}
 use Rattle.capture_rows.specs.Logic2.{logic2_row, logic2_name}
 use Rattle.capture_rows.specs.Reader.{Refuses as RefusesRow}
-use Rattle.capture_rows.specs.Rows.{IsExport}
+use Rattle.capture_rows.specs.Rows.{IsExport, AreRowsSoFar}
 use Rattle.capture_rows.specs.Sigrok.{trace_row, trace_name}
 use Rattle.capture_rows.specs.declared.fault.RowFault.{RowFault}
 use Rattle.capture_rows.specs.declared.row.Row.{Row}
@@ -26,15 +27,11 @@ pub record Format : Type 1 where
   pub refuses : List ℕ → List Seen → ℕ → BadCapture → Type 0
   -- a file with these items that ends here is refused like this
   pub lacks : List ℕ → List Seen → BadCapture → Type 0
-  -- each capture that begins with these bytes has these items first
+  -- these bytes are right so far, with these items, whether or not a capture begins with them; and
+  -- each capture that does has these items first
   pub begins : List ℕ → List Seen → Type 0
   -- whether an error of a byte follows the byte, and isn't in its place
   pub error_follows : Bool
-
--- Holds if each capture that begins with these bytes has these items first.
-abbrev pub HaveFirst : (List ℕ → List Seen → Type 0) → List ℕ → List Seen → Type 0
-HaveFirst is file items = (more : List ℕ) (all : List Seen) → is (file ++ more) all
-    → (others : List Seen) × (all ≡ items ++ others)
 
 -- Holds if this file isn't a capture.
 abbrev pub IsNone : (List ℕ → List Seen → Type 0) → List ℕ → Type 0
@@ -61,7 +58,7 @@ text_format = record {
   is = IsSeenText;
   refuses = RefusesText;
   lacks = LacksText;
-  begins = HaveFirst IsSeenText;
+  begins = Begins IsSeenText;
   error_follows = false;
 }
 
@@ -87,7 +84,7 @@ pcap_format = record {
   is = IsCapture;
   refuses = RefusesPcap;
   lacks = LacksPcap;
-  begins = HaveFirst IsCapture;
+  begins = AreFieldsSoFar IsCapture;
   error_follows = false;
 }
 
@@ -114,7 +111,7 @@ module _ (row_at : Stage → List ℕ → Result Row RowFault) (name_of : List �
     is = IsExport row_at name_of;
     refuses = RefusesRows;
     lacks = LacksRows;
-    begins = HaveFirst (IsExport row_at name_of);
+    begins = AreRowsSoFar row_at name_of;
     error_follows = follows;
   }
 

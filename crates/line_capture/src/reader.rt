@@ -36,8 +36,9 @@ pub trait FormReader: Drop {
         ensures stands { (file : List ℕ) (items : List Seen) → stands self.old file items
             → IfOk result (λ seen. stands self.new (file ++ b ∷ [])
             (items ++ option_to_list seen)) }
-        // Each capture that begins with the bytes so far has these items first.
-        ensures each { (file : List ℕ) (items : List Seen) → stands self.old file items
+        // The bytes so far are right with these items, and each capture that begins with them has
+        // these items first.
+        ensures begins { (file : List ℕ) (items : List Seen) → stands self.old file items
             → IfOk result (λ seen. format.begins (file ++ b ∷ [])
             (items ++ option_to_list seen)) }
         ensures refused { (file : List ℕ) (items : List Seen) → stands self.old file items

@@ -18,6 +18,10 @@ pub trait CaptureReader: Drop {
     // Holds for a capture of this form and what is seen in it.
     ghost format: { List ℕ → List Seen → Type 0 };
 
+    // What the form knows of these bytes, in which these items are seen, though their capture may
+    // not go on to a right end: which of them are right.
+    ghost begins: { List ℕ → List Seen → Type 0 };
+
     // Holds if the reader has taken these bytes, none of which it refused, and has returned these
     // items.
     ghost stands: { Self → List ℕ → List Seen → Type 0 };
@@ -35,6 +39,7 @@ pub trait CaptureReader: Drop {
     /// Returns a reader that has taken nothing yet.
     fn start() -> Self
         ensures stands { stands result [] [] }
+        ensures begins { begins [] [] }
         ensures taken { bytes_taken result ≡ 0 };
 
     /// Returns how many bytes the reader has taken.
@@ -49,6 +54,9 @@ pub trait CaptureReader: Drop {
         ensures stands { (bytes : List ℕ) (items : List Seen) → stands self.old bytes items
             → IfOk result (λ seen. stands self.new (bytes ++ b ∷ [])
             (items ++ option_to_list seen)) }
+        // The bytes so far are right as far as the form knows, whether or not a capture goes on.
+        ensures begins { (bytes : List ℕ) (items : List Seen) → stands self.old bytes items
+            → IfOk result (λ seen. begins (bytes ++ b ∷ []) (items ++ option_to_list seen)) }
         // Each capture that begins with the bytes so far has these items first.
         ensures each { (bytes : List ℕ) (items : List Seen) → stands self.old bytes items
             → IfOk result (λ seen. (more : List ℕ) (all : List Seen)

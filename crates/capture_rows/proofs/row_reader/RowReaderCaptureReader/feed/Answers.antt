@@ -1,7 +1,7 @@
 use Rattle.std.proofs.Common.{◌∙◌, ◌++◌, ◌∷◌, [], ◌+◌, Some, Err, ap, sym, arith}
 use Rattle.std.proofs.lemmas.List.{length-append}
 use Rattle.capture_rows.specs.Reader.{place_of, state_of}
-use Rattle.capture_rows.proofs.RowLaws.{rows_more, rows_each, rows_none}
+use Rattle.capture_rows.proofs.RowLaws.{rows_more, rows_each, rows_so_far, rows_none}
 use Rattle.capture_rows.proofs.Refusals.{refuses_line, cause_in, lines_more}
 use Rattle.capture_rows.proofs.row_reader.RowReaderCaptureReader.feed.Goals as goal
 
@@ -14,6 +14,13 @@ returns-in-Ok-clause-stands g c = λ text items s. record {
   begun = c.in-Ok.ensures.3 s.begun;
   lines = lines_more text c.args.b _ _ s.lines c.in-Ok.ensures.4;
 }
+
+pub returns-in-Ok-clause-begins : goal.returns-in-Ok-clause-begins
+returns-in-Ok-clause-begins g c = λ text items s.
+    rows_so_far g.F.RowForm.row_at g.F.RowForm.name_of (place_of c.step.new.self)
+    (text ++ c.args.b ∷ []) _
+    (rows_more g.F.RowForm.row_at g.F.RowForm.name_of (place_of c.args.self.now) text items s.walks
+    c.args.b (place_of c.step.new.self) c.in-Ok.seen c.in-Ok.ensures.0)
 
 pub returns-in-Ok-clause-each : goal.returns-in-Ok-clause-each
 returns-in-Ok-clause-each g c = λ text items s.

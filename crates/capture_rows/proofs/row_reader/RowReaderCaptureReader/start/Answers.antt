@@ -1,4 +1,4 @@
-use Rattle.capture_rows.proofs.RowLaws.{nothing_walks}
+use Rattle.capture_rows.proofs.RowLaws.{nothing_walks, nothing_so_far}
 use Rattle.capture_rows.specs.{Rows.first_state, declared.row.Stage.TheVariants.Start}
 use Rattle.std.proofs.Common.{◌∙◌, length, refl, ap, arith}
 use Rattle.capture_rows.proofs.row_reader.RowReaderCaptureReader.start.Goals as goal
@@ -13,3 +13,6 @@ returns-clause-stands g c = record {
   begun = omega (arith, ap length c.new-2.ensures);
   lines = refl;
 }
+
+pub returns-clause-begins : goal.returns-clause-begins
+returns-clause-begins g c = nothing_so_far g.F.RowForm.row_at g.F.RowForm.name_of

@@ -1,3 +1,5 @@
+use Rattle.byte_walk.specs.Walks.{Begins}
+use Rattle.capture_text.proofs.{Reading.text_begins, SeenTexts.seen_begins}
 use Rattle.capture_text.specs.CaptureText.{IsTextCapture, IsCause}
 use Rattle.capture_text.specs.Reader.{IsSeenText, HasSeen, IsPlaceOf, Refuses}
 use Rattle.capture_text.specs.declared.{fault.BadText.BadText, reader.TextReader.TextReader}
@@ -11,14 +13,16 @@ right : {A : Type 0} (text : List ℕ) (items : List Seen) (reader : TextReader)
 right text items reader (Ok a) s o = record { bytes = s.bytes; right = o; items_are = s.items_are }
 right text items reader (Err bad) s o = tt
 
-refused : {A : Type 0} (text : List ℕ) (items : List Seen) (bytes : List CaptureByte)
-    (r : Result A BadText)
+refused : {A : Type 0} (text : List ℕ) (items : List Seen) (r : Result A BadText)
+    → Begins IsSeenText text items
     → IfErr r (λ bad. ((all : List CaptureByte) → IsTextCapture text all → ⊥)
     × IsPlaceOf bad text × IsCause text None bad.why)
     → IfErr r (λ bad. ((all : List Seen) → IsSeenText text all → ⊥) × Refuses text items None bad)
-refused text items bytes (Ok a) o = tt
-refused text items bytes (Err bad) o =
-    (λ all whole. o.0 whole.bytes whole.right, record { place = o.1; cause = o.2 })
+refused text items (Ok a) begins o = tt
+refused text items (Err bad) begins o = (
+  λ all whole. o.0 whole.bytes whole.right,
+  record { begins = begins; place = o.1; cause = o.2 },
+)
 
 pub returns-clause-right : goal.returns-clause-right
 returns-clause-right c = λ text items s.
@@ -26,4 +30,7 @@ returns-clause-right c = λ text items s.
 
 pub returns-clause-refused : goal.returns-clause-refused
 returns-clause-refused c = λ text items s.
-    refused text items s.bytes c.finish.result (c.finish.ensures.refused text s.bytes s.stands)
+    refused text items c.finish.result
+    (seen_begins text s.bytes items
+    (text_begins c.args.self.place text s.bytes s.stands.walks) s.items_are)
+    (c.finish.ensures.refused text s.bytes s.stands)

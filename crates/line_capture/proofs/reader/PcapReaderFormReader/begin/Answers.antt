@@ -1,5 +1,0 @@
-use Rattle.std.proofs.Common.{refl}
-use Rattle.line_capture.proofs.reader.PcapReaderFormReader.begin.Goals as goal
-
-pub returns-clause-begins : goal.returns-clause-begins
-returns-clause-begins c = λ more all is. (all, refl)
