@@ -2,13 +2,13 @@
 use Rattle.line_capture.{proofs.CollectedBytes.item_parts, specs.Placed.plain}
 use Rattle.line_capture.specs.Placed.{StopsAt, PlacesByte, SendsFront, Sends, PushesLine, PlacesOne}
 use Rattle.line_capture.specs.Placed.{TakesOne, StopsBefore, PlacesAll, PlacesPart, CountsNext}
-use Rattle.line_capture.specs.{Placed.CountsOverlaps, declared.placing.LineStop.LineStop}
+use Rattle.line_capture.specs.{Placed.CountsOverlaps, Placed.AllInTime, declared.placing.LineStop.LineStop}
 use Rattle.line_capture.specs.declared.placing.LineStop.TheVariants.{AllPlaced, TooLong}
 use Rattle.line_stamps.specs.Places.{Spot, spot_of, line_of, last_spot, last_spot_from}
 use Rattle.line_stamps.specs.Placing.{HasTaken, timing_of, answer_at, is_early, overlaps, is_late}
 use Rattle.line_stamps.specs.Placing.{NoneRefused, silence_before, overlap_count}
 use Rattle.line_stamps.specs.declared.{capture.CaptureByte.CaptureByte, placer.Placer.Placer}
-use Rattle.line_stamps.specs.declared.placer.Unplaced.TheVariants.{Early, Late, Overlap}
+use Rattle.line_stamps.specs.declared.placer.Unplaced.{Unplaced, TheVariants.Early, TheVariants.Late, TheVariants.Overlap}
 use Rattle.line_stamps.specs.declared.timing.Timing.{Timing}
 use Rattle.line_texts.proofs.{PushedRuns.pushed_then, Sending.sends_more, Sending.sent_in_part}
 use Rattle.line_texts.specs.Sending.{AnswersNoted, SinkTexts, HasSentFronts, HaveCause}
@@ -16,7 +16,7 @@ use Rattle.line_texts.specs.Texts.{Writing, waiting_in, texts_held, Writes, Push
 use Rattle.std.proofs.Common.{◌≡◌, ◌∙◌, ℕ, ◌+◌, ◌<◌, ◌≤◌, ◌^◌, Bool, true, false, cond, List, []}
 use Rattle.std.proofs.Common.{◌∷◌, ◌++◌, length, take, get_or, min, drop, ◌-◌, Option, Some, None}
 use Rattle.std.proofs.Common.{Result, Ok, Err, refl, sym, ap, subst, arith, append_assoc}
-use Rattle.std.proofs.Common.{append-nil, suc, inr, ◌⊎◌}
+use Rattle.std.proofs.Common.{append-nil, suc, inl, inr, ◌⊎◌}
 use Rattle.{std.proofs.lemmas.List.take_more, tick_drive.specs.Input.max_ticks}
 use Rattle.yasir_io.proofs.FlushLaws.{none_flushed, none_flushed_then}
 use Rattle.yasir_io.specs.declared.{Failed.Failed, sink.Sink.Ghosts as Sink}
@@ -227,20 +227,78 @@ module _ {O L : Type 0} (o : Sink O) (l : Sink L) where
     writes = so_far.writes;
   }
 
+in_time_more : (t : Timing) (last : Option Spot) (front : List CaptureByte) (c : CaptureByte)
+    → AllInTime t last front → (answer_at t (last_spot_from t last front) c ≡ Err Early → ⊥)
+    → (answer_at t (last_spot_from t last front) c ≡ Err Late → ⊥)
+    → AllInTime t last (front ++ c ∷ [])
+in_time_more t last [] c all early late = (early, late, tt)
+in_time_more t last (d ∷ front) c all early late =
+    (all.0, all.1, in_time_more t (Some (spot_of t last d)) front c all.2 early late)
+
+-- A byte that was counted is one more that was taken, and is neither early nor late.
+pub counts_on : (t : Timing) (cs : List CaptureByte) (i : ℕ) (d : CaptureByte)
+    (placer placed : Placer) → i < length cs → timing_of placer ≡ t → AllInTime t None (take i cs)
+    → CountsNext placer placed (take i cs) (get_or cs i d) true
+    → (timing_of placed ≡ t) × HasTaken placed (take (i + 1) cs)
+    × AllInTime t None (take (i + 1) cs)
+counts_on t cs i d placer placed within timing in_time both =
+    let more = sym (take_more cs i d within) in (
+      both.1 ∙ timing,
+      subst (HasTaken placed) more both.0,
+      subst (AllInTime t None) more (in_time_more t None (take i cs) (get_or cs i d) in_time
+          (subst (λ u. answer_at u (last_spot u (take i cs)) (get_or cs i d) ≡ Err Early → ⊥) timing both.2)
+          (subst (λ u. answer_at u (last_spot u (take i cs)) (get_or cs i d) ≡ Err Late → ⊥) timing both.3)),
+    )
+
 -- the first byte that is early or late ends the count
 pub counts_stop : (t : Timing) (cs : List CaptureByte) (i : ℕ) (d : CaptureByte)
     (placer placed : Placer) (n : ℕ) → i < length cs → timing_of placer ≡ t
-    → HasTaken placer (take i cs) → CountsNext placer placed (take i cs) (get_or cs i d) false
+    → HasTaken placer (take i cs) → AllInTime t None (take i cs)
+    → CountsNext placer placed (take i cs) (get_or cs i d) false
     → ((xs : List CaptureByte) → HasTaken placed xs
     → n ≡ min (overlap_count (timing_of placed) xs) (2 ^ 64 - 1))
     → CountsOverlaps t cs n
-counts_stop t cs i d placer placed n within timing taken both counted =
+counts_stop t cs i d placer placed n within timing taken in_time both counted =
     let all = counted (take i cs) (subst (λ p. HasTaken p (take i cs)) (sym both.0) taken) in record {
       front = take i cs;
       rest = get_or cs i d ∷ drop (suc i) cs;
       is = item_parts cs i d within;
+      in_time = in_time;
       stop = inr (subst (λ u. (answer_at u (last_spot u (take i cs)) (get_or cs i d) ≡ Err Early)
           ⊎ (answer_at u (last_spot u (take i cs)) (get_or cs i d) ≡ Err Late)) timing both.1);
       count_is = subst (λ u. n ≡ min (overlap_count u (take i cs)) (2 ^ 64 - 1))
           (ap timing_of both.0 ∙ timing) all;
     }
+
+-- If no byte is early or late, the overlaps of all bytes count.
+pub counts_all : (t : Timing) (cs front : List CaptureByte) (placer : Placer) (n : ℕ) → front ≡ cs
+    → timing_of placer ≡ t → HasTaken placer front → AllInTime t None front
+    → ((xs : List CaptureByte) → HasTaken placer xs
+    → n ≡ min (overlap_count (timing_of placer) xs) (2 ^ 64 - 1))
+    → CountsOverlaps t cs n
+counts_all t cs front placer n is timing taken in_time counted = record {
+  front = front;
+  rest = [];
+  is = sym is ∙ sym (append-nil front);
+  in_time = in_time;
+  stop = inl refl;
+  count_is = subst (λ u. n ≡ min (overlap_count u front) (2 ^ 64 - 1)) timing (counted front taken);
+}
+
+-- A byte that is placed, or that overlaps, is neither early nor late.
+pub placed_in_time : (a : Result ℕ Unplaced) (n : ℕ) → Ok n ≡ a
+    → (a ≡ Err Early → ⊥) × (a ≡ Err Late → ⊥)
+placed_in_time a n e = (λ f. differ Early (e ∙ f), λ f. differ Late (e ∙ f))
+  where
+    differ : (why : Unplaced) → Ok n ≡ Err why → ⊥
+    differ why g = cc
+
+pub overlap_in_time : (a : Result ℕ Unplaced) → Err Overlap ≡ a
+    → (a ≡ Err Early → ⊥) × (a ≡ Err Late → ⊥)
+overlap_in_time a e = (λ f. not_early (e ∙ f), λ f. not_late (e ∙ f))
+  where
+    not_early : ◌≡◌ {A = Result ℕ Unplaced} (Err Overlap) (Err Early) → ⊥
+    not_early g = cc
+
+    not_late : ◌≡◌ {A = Result ℕ Unplaced} (Err Overlap) (Err Late) → ⊥
+    not_late g = cc

@@ -1,6 +1,6 @@
 -- The line of one way of a capture, as it is written.
 use Rattle.std.specs.Prelude.{◌≡◌, ℕ, ◌<◌, ◌≤◌, ◌-◌, ◌^◌, min, List, [], ◌∷◌, ◌++◌, length, Option}
-use Rattle.std.specs.Prelude.{Result, Ok, Err, OnOk, OnErr, ◌⊎◌, None, Bool, true, false}
+use Rattle.std.specs.Prelude.{Result, Ok, Err, OnOk, OnErr, ◌⊎◌, Some, None, Bool, true, false}
 use Rattle.std.specs.Io.KnownBytes.{append_known}
 use Rattle.yasir_io.specs.Output.{GotPrefix}
 use Rattle.yasir_io.specs.declared.Failed.{Failed}
@@ -14,7 +14,7 @@ use Rattle.line_stamps.specs.declared.capture.CaptureByte.{CaptureByte}
 use Rattle.line_stamps.specs.declared.placer.Placer.{Placer}
 use Rattle.line_stamps.specs.declared.placer.Unplaced.TheVariants.{Early, Late}
 use Rattle.line_stamps.specs.declared.timing.Timing.{Timing}
-use Rattle.line_stamps.specs.Places.{line_of, last_spot}
+use Rattle.line_stamps.specs.Places.{Spot, spot_of, line_of, last_spot}
 use Rattle.line_stamps.specs.Placing.{HasTaken, timing_of, answer_at, NoneRefused, overlap_count}
 use Rattle.line_capture.specs.declared.placing.LineEnd.{LineEnd}
 use Rattle.line_capture.specs.declared.placing.LineStop.{LineStop}
@@ -70,21 +70,31 @@ abbrev pub WritesLine : Timing → List CaptureByte → Option (List ℕ) → Op
 WritesLine t cs before now (Ok end) = WrittenLine t cs before now end
 WritesLine t cs before now (Err failed) = WrittenPart t cs before now
 
+-- Holds if none of these bytes is early or late, given where the byte before them is, if there is
+-- one.
+abbrev pub AllInTime : Timing → Option Spot → List CaptureByte → Type 0
+AllInTime t last [] = Unit {0}
+AllInTime t last (c ∷ cs) = (answer_at t last c ≡ Err Early → ⊥) × (answer_at t last c ≡ Err Late → ⊥)
+    × AllInTime t (Some (spot_of t last c)) cs
+
 -- Holds if this many bytes overlap the one before them, of those up to the first byte that is early
 -- or late. The count stops at 2^64 - 1.
 pub record CountsOverlaps (t : Timing) (cs : List CaptureByte) (count : ℕ) : Type 0 where
   pub front : List CaptureByte
   pub rest : List CaptureByte
   pub is : cs ≡ front ++ rest
+  pub in_time : AllInTime t None front
   pub stop : (rest ≡ []) ⊎ NextIs rest (λ c.
       (answer_at t (last_spot t front) c ≡ Err Early)
       ⊎ (answer_at t (last_spot t front) c ≡ Err Late))
   pub count_is : count ≡ min (overlap_count t front) (2 ^ 64 - 1)
 
--- Holds if a byte was counted, or it is early or late.
+-- Holds if a byte was counted and is neither early nor late, or if it wasn't and is early or late.
 abbrev pub CountsNext : Placer → Placer → List CaptureByte → CaptureByte → Bool → Type 0
 CountsNext placer placed cs c true =
     HasTaken placed (cs ++ c ∷ []) × (timing_of placed ≡ timing_of placer)
+    × (answer_at (timing_of placer) (last_spot (timing_of placer) cs) c ≡ Err Early → ⊥)
+    × (answer_at (timing_of placer) (last_spot (timing_of placer) cs) c ≡ Err Late → ⊥)
 CountsNext placer placed cs c false = (placed ≡ placer)
     × ((answer_at (timing_of placer) (last_spot (timing_of placer) cs) c ≡ Err Early)
     ⊎ (answer_at (timing_of placer) (last_spot (timing_of placer) cs) c ≡ Err Late))
