@@ -8,7 +8,7 @@ use Rattle.line_stamps.specs.Places.{Spot, spot_of, line_of, last_spot, last_spo
 use Rattle.line_stamps.specs.Placing.{HasTaken, timing_of, answer_at, is_early, overlaps, is_late}
 use Rattle.line_stamps.specs.Placing.{NoneRefused, silence_before, overlap_count}
 use Rattle.line_stamps.specs.declared.{capture.CaptureByte.CaptureByte, placer.Placer.Placer}
-use Rattle.line_stamps.specs.declared.placer.Unplaced.{Unplaced, TheVariants.Early, TheVariants.Late, TheVariants.Overlap}
+use Rattle.line_stamps.specs.declared.placer.Unplaced.TheVariants.{Early, Late, Overlap}
 use Rattle.line_stamps.specs.declared.timing.Timing.{Timing}
 use Rattle.line_texts.proofs.{PushedRuns.pushed_then, Sending.sends_more, Sending.sent_in_part}
 use Rattle.line_texts.specs.Sending.{AnswersNoted, SinkTexts, HasSentFronts, HaveCause}
@@ -16,7 +16,7 @@ use Rattle.line_texts.specs.Texts.{Writing, waiting_in, texts_held, Writes, Push
 use Rattle.std.proofs.Common.{◌≡◌, ◌∙◌, ℕ, ◌+◌, ◌<◌, ◌≤◌, ◌^◌, Bool, true, false, cond, List, []}
 use Rattle.std.proofs.Common.{◌∷◌, ◌++◌, length, take, get_or, min, drop, ◌-◌, Option, Some, None}
 use Rattle.std.proofs.Common.{Result, Ok, Err, refl, sym, ap, subst, arith, append_assoc}
-use Rattle.std.proofs.Common.{append-nil, suc, inl, inr, ◌⊎◌}
+use Rattle.std.proofs.Common.{append-nil, suc, inr, ◌⊎◌}
 use Rattle.{std.proofs.lemmas.List.take_more, tick_drive.specs.Input.max_ticks}
 use Rattle.yasir_io.proofs.FlushLaws.{none_flushed, none_flushed_then}
 use Rattle.yasir_io.specs.declared.{Failed.Failed, sink.Sink.Ghosts as Sink}
@@ -269,36 +269,3 @@ counts_stop t cs i d placer placed n within timing taken in_time both counted =
       count_is = subst (λ u. n ≡ min (overlap_count u (take i cs)) (2 ^ 64 - 1))
           (ap timing_of both.0 ∙ timing) all;
     }
-
--- If no byte is early or late, the overlaps of all bytes count.
-pub counts_all : (t : Timing) (cs front : List CaptureByte) (placer : Placer) (n : ℕ) → front ≡ cs
-    → timing_of placer ≡ t → HasTaken placer front → AllInTime t None front
-    → ((xs : List CaptureByte) → HasTaken placer xs
-    → n ≡ min (overlap_count (timing_of placer) xs) (2 ^ 64 - 1))
-    → CountsOverlaps t cs n
-counts_all t cs front placer n is timing taken in_time counted = record {
-  front = front;
-  rest = [];
-  is = sym is ∙ sym (append-nil front);
-  in_time = in_time;
-  stop = inl refl;
-  count_is = subst (λ u. n ≡ min (overlap_count u front) (2 ^ 64 - 1)) timing (counted front taken);
-}
-
--- A byte that is placed, or that overlaps, is neither early nor late.
-pub placed_in_time : (a : Result ℕ Unplaced) (n : ℕ) → Ok n ≡ a
-    → (a ≡ Err Early → ⊥) × (a ≡ Err Late → ⊥)
-placed_in_time a n e = (λ f. differ Early (e ∙ f), λ f. differ Late (e ∙ f))
-  where
-    differ : (why : Unplaced) → Ok n ≡ Err why → ⊥
-    differ why g = cc
-
-pub overlap_in_time : (a : Result ℕ Unplaced) → Err Overlap ≡ a
-    → (a ≡ Err Early → ⊥) × (a ≡ Err Late → ⊥)
-overlap_in_time a e = (λ f. not_early (e ∙ f), λ f. not_late (e ∙ f))
-  where
-    not_early : ◌≡◌ {A = Result ℕ Unplaced} (Err Overlap) (Err Early) → ⊥
-    not_early g = cc
-
-    not_late : ◌≡◌ {A = Result ℕ Unplaced} (Err Overlap) (Err Late) → ⊥
-    not_late g = cc
