@@ -2,9 +2,10 @@
 -- reader of a format.
 use Rattle.std.proofs.Common.{◌≡◌, ◌∙◌, ℕ, Bool, true, false, List, [], ◌∷◌, ◌++◌, Option}
 use Rattle.std.proofs.Common.{Result, Ok, Err, refl, ap, sym, append_assoc, append-nil, subst}
+use Rattle.std.proofs.lemmas.List.{append_cancel_left}
 use Rattle.std.specs.Option.{option_to_list}
 use Rattle.byte_walk.specs.Walks.{walk, after_items, and_then_walk, Begins, BeginsNone, ReadsFormat}
-use Rattle.byte_walk.specs.Walks.{GoesOnFrom}
+use Rattle.byte_walk.specs.Walks.{GoesOnFrom, HaveFirst}
 
 module _ {P I F : Type 0} where
   after_items-twice : (first second : List I) (rest : Result (P × List I) F)
@@ -110,6 +111,32 @@ module _ {P I F : Type 0} (step : P → ℕ → Result (P × Option I) F) where
       ∙ walk-append from place bytes (b ∷ more) items e
       ∙ ap (λ next. after_items items (and_then_walk next (λ q. walk step q more))) f
 
+module _ {I : Type 0} where
+  -- Holds if the two lists have no items in common at their beginning.
+  abbrev pub Apart : List I → List I → Type 0
+  Apart xs ys = (first x y : List I) → xs ≡ first ++ x → ys ≡ first ++ y → first ≡ []
+
+  pub apart_none : (ys : List I) → Apart [] ys
+  apart_none ys [] x y e f = refl
+  apart_none ys (c ∷ first) x y e f = cc
+
+  pub apart_heads : (a b : I) (xs ys : List I) → (a ≡ b → ⊥) → Apart (a ∷ xs) (b ∷ ys)
+  apart_heads a b xs ys differ [] x y e f = refl
+  apart_heads a b xs ys differ (c ∷ first) x y e f =
+      absurd (differ (ap (head_in a) e ∙ sym (ap (head_in b) f)))
+    where
+      head_in : I → List I → I
+      head_in d [] = d
+      head_in d (h ∷ rest) = h
+
+module _ {P I F : Type 0} (step : P → ℕ → Result (P × Option I) F) (start : P) (ends : P → Bool)
+    (IsRight : List ℕ → List I → Type 0) where
+  -- Inputs go on from this place in two ways that begin with no item in common.
+  pub record PartsFrom (place : P) : Type 0 where
+    pub one : GoesOnFrom step start ends IsRight place
+    pub other : GoesOnFrom step start ends IsRight place
+    pub apart : Apart one.others other.others
+
 module _ {P I F : Type 0} (step : P → ℕ → Result (P × Option I) F) (start : P) (ends : P → Bool)
     (IsRight : List ℕ → List I → Type 0) (reads : ReadsFormat step start ends IsRight) where
   -- Each input of the format that begins with these bytes has their items first.
@@ -122,15 +149,37 @@ module _ {P I F : Type 0} (step : P → ℕ → Result (P × Option I) F) (start
       (sym (walk-append step start place bytes more items e) ∙ whole.1) in
       (came.others, came.all_is)
 
+  right_on : (bytes : List ℕ) (place : P) (items : List I) → walk step start bytes ≡ Ok (place, items)
+      → (on : GoesOnFrom step start ends IsRight place)
+      → IsRight (bytes ++ on.more) (items ++ on.others)
+  right_on bytes place items e on =
+      reads.sound (bytes ++ on.more) on.last (items ++ on.others)
+      (walk-join step start place on.last bytes on.more items on.others e on.walks) on.end
+
+  -- What comes first in each input that goes on from here comes first in the items of this one.
+  first_on : (bytes : List ℕ) (place : P) (items further : List I)
+      → walk step start bytes ≡ Ok (place, items) → HaveFirst IsRight bytes (items ++ further)
+      → (on : GoesOnFrom step start ends IsRight place)
+      → (x : List I) × (on.others ≡ further ++ x)
+  first_on bytes place items further e first on =
+      let came = first on.more (items ++ on.others) (right_on bytes place items e on) in (
+        came.0,
+        append_cancel_left items on.others (further ++ came.0)
+            (came.1 ∙ append_assoc items further came.0),
+      )
+
   pub reads_begins : (bytes : List ℕ) (place : P) (items : List I)
       → walk step start bytes ≡ Ok (place, items)
-      → GoesOnFrom step start ends IsRight place → Begins IsRight bytes items
+      → PartsFrom step start ends IsRight place → Begins IsRight bytes items
   reads_begins bytes place items e on = record {
-    more = on.more;
-    others = on.others;
-    right = reads.sound (bytes ++ on.more) on.last (items ++ on.others)
-        (walk-join step start place on.last bytes on.more items on.others e on.walks) on.end;
+    more = on.one.more;
+    others = on.one.others;
+    right = right_on bytes place items e on.one;
     each = reads_each bytes place items e;
+    no_more = λ further first.
+        let x = first_on bytes place items further e first on.one in
+        let y = first_on bytes place items further e first on.other in
+        on.apart further x.0 y.0 x.1 y.1;
   }
 
   pub reads_none : (bytes : List ℕ) (place : P) (items : List I) (b : ℕ) (why : F)

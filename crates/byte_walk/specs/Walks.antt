@@ -30,12 +30,13 @@ module _ {I : Type 0} (IsRight : List ℕ → List I → Type 0) where
       → (others : List I) × (all ≡ items ++ others)
 
   -- Holds if the bytes begin an input of this format, and these are the items of the bytes: each
-  -- input that begins with the bytes has these items first.
+  -- input that begins with the bytes has these items first, and no more items come first in each.
   pub record Begins (bytes : List ℕ) (items : List I) : Type 0 where
     pub more : List ℕ
     pub others : List I
     pub right : IsRight (bytes ++ more) (items ++ others)
     pub each : HaveFirst bytes items
+    pub no_more : (further : List I) → HaveFirst bytes (items ++ further) → further ≡ []
 
   -- Holds if no input of this format begins with these bytes.
   abbrev pub BeginsNone : List ℕ → Type 0

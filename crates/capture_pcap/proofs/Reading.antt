@@ -20,7 +20,7 @@ use Rattle.std.proofs.Common.{append_assoc, append-nil, nat_lt, ◌⊎◌, inl, 
 use Rattle.std.proofs.lemmas.Bool.{and_parts, eqb-true, ltb-false, cond-true, cond-false}
 use Rattle.std.{proofs.lemmas.List.length-append, specs.Option.option_to_list}
 use Rattle.capture_pcap.specs.declared.block.Block.TheVariants as b
-use Rattle.capture_pcap.proofs.{BlockSpelled.blocks_walk, BlockStands.AtBlock, GoingOn.on_stage}
+use Rattle.capture_pcap.proofs.{BlockSpelled.blocks_walk, BlockStands.AtBlock, Going.both_ways, GoingOn.on_stage}
 use Rattle.capture_pcap.proofs.Spelled.{packets_walk}
 
 pub fields : (stage next : Stage) (front field : List ℕ) (items : List Seen) (item : Option Seen)
@@ -133,7 +133,8 @@ module _ (spot : Spot Stage) (file : List ℕ) (items : List Seen)
       → Begins IsCapture front items
   front_begins front stage at came =
       reads_begins step_at (before_field Magic) may_end_at IsCapture reads_pcap front
-      (before_field stage) items came (on_stage stage front items at)
+      (before_field stage) items came
+      (both_ways stage (on_stage 0 stage front items at) (on_stage 1 stage front items at))
 
   pub file_so_far : AreFieldsSoFar IsCapture file items
   file_so_far =

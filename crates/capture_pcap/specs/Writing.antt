@@ -12,6 +12,13 @@ use Rattle.capture_pcap.specs.declared.words.Resolution.TheVariants.{Nanoseconds
 abbrev pub written_clock : Clock
 written_clock = record { order = Little; resolution = Nanoseconds }
 
+-- The header of a file that is written: the magic number of times in nanoseconds, version 2.4, eight
+-- bytes that are 0, packets of at most 262,144 bytes, and the link type.
+abbrev pub file_header : List ℕ
+file_header =
+    (((((little_bytes 4 0xA1B23C4D ++ little_bytes 2 2) ++ little_bytes 2 4)
+    ++ little_bytes 8 0) ++ little_bytes 4 262144) ++ little_bytes 4 250)
+
 -- Holds if new is old and then a field of four bytes with this number.
 pub record AppendsNumber (old new : List ℕ) (n : ℕ) : Type 0 where
   pub field : List ℕ

@@ -3,7 +3,7 @@ ghost use Rattle.std.specs.Prelude.{◌≡◌, ℕ, ◌+◌, ◌*◌, ◌<◌, �
 ghost use Rattle.std.specs.Prelude.{true};
 ghost use Rattle.byteorder.specs.Endian.{big_bytes, little_bytes};
 ghost use Rattle.capture_pcap.specs.Writing.{AppendsNumber, AppendsFour, written_clock, data_event};
-ghost use Rattle.capture_pcap.specs.Writing.{packet_front};
+ghost use Rattle.capture_pcap.specs.Writing.{packet_front, file_header};
 ghost use Rattle.capture_pcap.specs.Pcap.{IsHeader, IsPacket};
 ghost use Rattle.capture_pcap.specs.Record.{seen_bytes};
 
@@ -20,9 +20,11 @@ pub const FILE_HEADER: [u8; 24] = [
 /// What comes before the data of a packet.
 pub type PacketHeader = ArrayVec<u8, 28>;
 
-/// A law: `FILE_HEADER` is the header of a little-endian file whose times count nanoseconds.
+/// A law: `FILE_HEADER` is the header of a little-endian file whose times count nanoseconds, and has
+/// these very bytes.
 pub fn written_header()
-    ensures { IsHeader written_clock FILE_HEADER }
+    ensures header { IsHeader written_clock FILE_HEADER }
+    ensures bytes { FILE_HEADER ≡ file_header }
 {}
 
 /// Appends a number, the lowest byte first.

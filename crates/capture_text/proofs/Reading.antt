@@ -1,5 +1,6 @@
 -- The reader reads text captures exactly.
 use Rattle.byte_walk.proofs.WalkLaws.{walk-cons, walk-more, reads_begins, reads_none, reads_open}
+use Rattle.byte_walk.proofs.WalkLaws.{Apart, apart_none, apart_heads, PartsFrom}
 use Rattle.byte_walk.specs.Walks.{walk, ReadsFormat, GoesOnFrom, Begins, BeginsNone}
 use Rattle.capture_text.proofs.Places.{At, At.start, At.in_comment, At.whole, At.after_point}
 use Rattle.capture_text.proofs.Places.At.{fraction, after_blank, pairs, half, after_return}
@@ -11,17 +12,34 @@ use Rattle.capture_text.specs.declared.{fault.TextFault.TextFault, place.Place.P
 use Rattle.capture_text.specs.declared.place.Place.TheVariants.{Start, Comment, Point, Fraction}
 use Rattle.capture_text.specs.declared.place.Place.TheVariants.{Blank, Pairs, Returned}
 use Rattle.line_stamps.specs.declared.capture.CaptureByte.{CaptureByte}
-use Rattle.std.proofs.Common.{◌≡◌, ℕ, ◌+◌, ◌*◌, ◌<◌, ◌^◌, true, List, [], ◌∷◌, ◌++◌, Option, Some}
-use Rattle.std.proofs.Common.{None, Ok, Err, refl, sym, arith}
+use Rattle.std.proofs.Common.{◌≡◌, ℕ, ◌+◌, ◌*◌, ◌<◌, ◌^◌, Bool, true, List, [], ◌∷◌, ◌++◌, Option, Some}
+use Rattle.std.proofs.Common.{None, Ok, Err, refl, ap, sym, arith}
 use Rattle.std.specs.Option.{option_to_list}
 
--- From this place, a text can still be continued to a right text.
+-- From this place, a text can still be continued to right texts, in two ways that have no byte of
+-- the capture in common at their beginning.
 abbrev GoesOn : Place → Type 0
-GoesOn place = GoesOnFrom step_at Start may_end IsTextCapture place
+GoesOn place = PartsFrom step_at Start may_end IsTextCapture place
+
+-- one way to go on
+abbrev OneWay : Place → Type 0
+OneWay place = GoesOnFrom step_at Start may_end IsTextCapture place
 
 at_once : (place : Place) → may_end place ≡ true → GoesOn place
 unfolding walk
-at_once place e = record { more = []; others = []; last = place; walks = refl; end = e }
+at_once place e =
+    let here : OneWay place = record { more = []; others = []; last = place; walks = refl; end = e } in
+    record { one = here; other = here; apart = apart_none [] }
+
+unlike : (n : ℕ) → n + 0 ≡ n + 1 → ⊥
+unlike n e = omega (arith, e)
+
+-- Two bytes of a record with different values are apart.
+two : (time : ℕ) (first : Bool) (n : ℕ)
+    → Apart (capture_byte time first (n + 0) ∷ []) (capture_byte time first (n + 1) ∷ [])
+two time first n =
+    apart_heads (capture_byte time first (n + 0)) (capture_byte time first (n + 1)) [] []
+    (λ e. unlike n (ap (λ c. c.byte) e))
 
 goes_on : (place : Place) (line : List ℕ) (items : List CaptureByte) → At place line items
     → GoesOn place
@@ -29,45 +47,96 @@ unfolding walk step_at
 goes_on place line items start = at_once Start refl
 goes_on place line items (in_comment _ c) = at_once Comment refl
 goes_on place line items (whole _ time w) = record {
-  more = 32 ∷ 48 ∷ 48 ∷ [];
-  others = capture_byte time true 0 ∷ [];
-  last = Pairs time;
-  walks = refl;
-  end = refl;
+  one = record {
+    more = 32 ∷ 48 ∷ 48 ∷ [];
+    others = capture_byte time true 0 ∷ [];
+    last = Pairs time;
+    walks = refl;
+    end = refl;
+  };
+  other = record {
+    more = 32 ∷ 48 ∷ 49 ∷ [];
+    others = capture_byte time true 1 ∷ [];
+    last = Pairs time;
+    walks = refl;
+    end = refl;
+  };
+  apart = two time true 0;
 }
 goes_on place line items (after_point front time w) = record {
-  more = 48 ∷ 32 ∷ 48 ∷ 48 ∷ [];
-  others = capture_byte time true 0 ∷ [];
-  last = Pairs time;
-  walks = walk-cons step_at (Point time) (Fraction time 10000000) (Pairs time) 48
-      (32 ∷ 48 ∷ 48 ∷ []) None (capture_byte time true 0 ∷ []) (first time w.fits) refl;
-  end = refl;
+  one = record {
+    more = 48 ∷ 32 ∷ 48 ∷ 48 ∷ [];
+    others = capture_byte time true 0 ∷ [];
+    last = Pairs time;
+    walks = walk-cons step_at (Point time) (Fraction time 10000000) (Pairs time) 48
+        (32 ∷ 48 ∷ 48 ∷ []) None (capture_byte time true 0 ∷ []) (first time w.fits) refl;
+    end = refl;
+  };
+  other = record {
+    more = 48 ∷ 32 ∷ 48 ∷ 49 ∷ [];
+    others = capture_byte time true 1 ∷ [];
+    last = Pairs time;
+    walks = walk-cons step_at (Point time) (Fraction time 10000000) (Pairs time) 48
+        (32 ∷ 48 ∷ 49 ∷ []) None (capture_byte time true 1 ∷ []) (first time w.fits) refl;
+    end = refl;
+  };
+  apart = two time true 0;
 }
   where
     first : (time : ℕ) → time < 2 ^ 64
         → step_at (Point time) 48 ≡ Ok (Fraction time 10000000, None)
     first time h = let same : time + 0 ≡ time = omega arith in rw (same, fits_so time h) refl
 goes_on place line items (fraction _ time counts f) = record {
-  more = 32 ∷ 48 ∷ 48 ∷ [];
-  others = capture_byte time true 0 ∷ [];
-  last = Pairs time;
-  walks = refl;
-  end = refl;
+  one = record {
+    more = 32 ∷ 48 ∷ 48 ∷ [];
+    others = capture_byte time true 0 ∷ [];
+    last = Pairs time;
+    walks = refl;
+    end = refl;
+  };
+  other = record {
+    more = 32 ∷ 48 ∷ 49 ∷ [];
+    others = capture_byte time true 1 ∷ [];
+    last = Pairs time;
+    walks = refl;
+    end = refl;
+  };
+  apart = two time true 0;
 }
 goes_on place line items (after_blank seconds blank time t apart) = record {
-  more = 48 ∷ 48 ∷ [];
-  others = capture_byte time true 0 ∷ [];
-  last = Pairs time;
-  walks = refl;
-  end = refl;
+  one = record {
+    more = 48 ∷ 48 ∷ [];
+    others = capture_byte time true 0 ∷ [];
+    last = Pairs time;
+    walks = refl;
+    end = refl;
+  };
+  other = record {
+    more = 48 ∷ 49 ∷ [];
+    others = capture_byte time true 1 ∷ [];
+    last = Pairs time;
+    walks = refl;
+    end = refl;
+  };
+  apart = two time true 0;
 }
 goes_on place line items (pairs _ time _ r) = at_once (Pairs time) refl
 goes_on place line items (half _ time first high _ h) = record {
-  more = 48 ∷ [];
-  others = capture_byte time first (high * 16 + 0) ∷ [];
-  last = Pairs time;
-  walks = refl;
-  end = refl;
+  one = record {
+    more = 48 ∷ [];
+    others = capture_byte time first (high * 16 + 0) ∷ [];
+    last = Pairs time;
+    walks = refl;
+    end = refl;
+  };
+  other = record {
+    more = 49 ∷ [];
+    others = capture_byte time first (high * 16 + 1) ∷ [];
+    last = Pairs time;
+    walks = refl;
+    end = refl;
+  };
+  apart = two time first (high * 16);
 }
 goes_on place line items (after_return content _ c) = at_once Returned refl
 

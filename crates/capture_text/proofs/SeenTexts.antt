@@ -2,9 +2,10 @@
 use Rattle.byte_walk.specs.Walks.{HaveFirst, Begins, BeginsNone}
 use Rattle.capture_text.specs.{CaptureText.IsTextCapture, Reader.IsSeenText}
 use Rattle.line_stamps.specs.declared.capture.CaptureByte.{CaptureByte}
-use Rattle.line_stamps.specs.declared.seen.Seen.{Seen, TheVariants.Byte}
+use Rattle.line_stamps.specs.declared.seen.Seen.{Seen, TheVariants.Byte, TheVariants.Event}
 use Rattle.std.proofs.Common.{◌≡◌, ◌∙◌, ℕ, List, [], ◌∷◌, ◌++◌, map, Option, Some, None, refl, ap}
-use Rattle.std.{proofs.Common.sym, proofs.Common.option_map, specs.Option.option_to_list}
+use Rattle.std.proofs.Common.{append_assoc, sym, option_map}
+use Rattle.std.{proofs.lemmas.List.append_cancel_left, specs.Option.option_to_list}
 
 pub seen-append : (first second : List CaptureByte) → map Byte (first ++ second)
     ≡ map Byte first ++ map Byte second
@@ -35,6 +36,58 @@ seen_each text bytes items begins e = λ more all whole.
           ∙ ap (λ x. x ++ map Byte goes_on.0) (sym e),
     )
 
+-- the bytes among items
+abbrev bytes_in : List Seen → List CaptureByte
+bytes_in [] = []
+bytes_in (Byte c ∷ items) = c ∷ bytes_in items
+bytes_in (Event e ∷ items) = bytes_in items
+
+bytes_in-append : (first second : List Seen)
+    → bytes_in (first ++ second) ≡ bytes_in first ++ bytes_in second
+bytes_in-append [] second = refl
+bytes_in-append (Byte c ∷ first) second = ap (λ x. c ∷ x) (bytes_in-append first second)
+bytes_in-append (Event e ∷ first) second = bytes_in-append first second
+
+bytes_in-map : (bytes : List CaptureByte) → bytes_in (map Byte bytes) ≡ bytes
+bytes_in-map [] = refl
+bytes_in-map (c ∷ bytes) = ap (λ x. c ∷ x) (bytes_in-map bytes)
+
+-- Items that come first among bytes are bytes.
+are_bytes : (all : List CaptureByte) (first others : List Seen) → map Byte all ≡ first ++ others
+    → first ≡ map Byte (bytes_in first)
+are_bytes all [] others e = refl
+are_bytes [] (i ∷ first) others e = cc
+are_bytes (c ∷ all) (Byte d ∷ first) others e =
+    ap (λ x. Byte d ∷ x) (are_bytes all first others (ap behind e))
+  where
+    behind : List Seen → List Seen
+    behind [] = []
+    behind (i ∷ items) = items
+are_bytes (c ∷ all) (Event v ∷ first) others e = cc
+
+-- No more items come first in each right text that begins with this text.
+no_further : (text : List ℕ) (bytes : List CaptureByte) (items : List Seen)
+    → Begins IsTextCapture text bytes → items ≡ map Byte bytes → (further : List Seen)
+    → HaveFirst IsSeenText text (items ++ further) → further ≡ []
+no_further text bytes items begins e further first =
+    let one = first begins.more (map Byte (bytes ++ begins.others)) (record {
+      bytes = bytes ++ begins.others;
+      right = begins.right;
+      items_are = refl;
+    }) in
+    let behind : map Byte begins.others ≡ further ++ one.0 =
+    append_cancel_left (map Byte bytes) (map Byte begins.others) (further ++ one.0)
+    (sym (seen-append bytes begins.others) ∙ one.1 ∙ append_assoc items further one.0
+    ∙ ap (λ x. x ++ (further ++ one.0)) e) in
+    are_bytes begins.others further one.0 behind
+    ∙ ap (map Byte) (begins.no_more (bytes_in further) (λ more all r.
+    let came = first more (map Byte all) (record { bytes = all; right = r; items_are = refl }) in (
+      bytes_in came.0,
+      sym (bytes_in-map all) ∙ ap bytes_in came.1 ∙ bytes_in-append (items ++ further) came.0
+          ∙ ap (λ x. x ++ bytes_in came.0) (bytes_in-append items further
+          ∙ ap (λ x. x ++ bytes_in further) (ap bytes_in e ∙ bytes_in-map bytes)),
+    )))
+
 -- A text begins a capture with the same items as with its bytes.
 pub seen_begins : (text : List ℕ) (bytes : List CaptureByte) (items : List Seen)
     → Begins IsTextCapture text bytes → items ≡ map Byte bytes → Begins IsSeenText text items
@@ -47,6 +100,7 @@ seen_begins text bytes items begins e = record {
     items_are = ap (λ x. x ++ map Byte begins.others) e ∙ sym (seen-append bytes begins.others);
   };
   each = seen_each text bytes items begins e;
+  no_more = no_further text bytes items begins e;
 }
 
 pub seen_none : (text : List ℕ) → BeginsNone IsTextCapture text → BeginsNone IsSeenText text
