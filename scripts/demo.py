@@ -42,7 +42,7 @@ def prove_program(most):
     """Proves the program and all crates that it uses, and builds it."""
     below, room, began = crates_below("link_replay"), room_here(), time.monotonic()
     print("== Proving the program: %d crates, over %d processors and %.0f GB of free memory" % (len(below), room.processors, room.memory))
-    print("The first time this takes 12 to 23 minutes on four processors with nothing else to do, by how fast they are. Later only what changed is proved. What the prover says: %s\n" % os.path.relpath(LOG, ROOT), flush=True)
+    print("The first time this takes 12 to 25 minutes on four processors with nothing else to do, by how fast they are. Later only what changed is proved. What the prover says: %s\n" % os.path.relpath(LOG, ROOT), flush=True)
     with Lanes(most or room.processors) as lanes:
         work = {crate: lines_of(crate) for crate in below}
         prove_all(below, work, lambda crate, jobs: prove(lanes, crate, jobs), say_proved, room, most)
