@@ -9,7 +9,8 @@ use std::io::{self, ErrorKind, Read, Seek, SeekFrom, Write};
 use std::process::Abort;
 use std::rt::Files;
 use std::test::Fail;
-use yasir_io::{Failed, FileSlots, FileSource, Lock, Slot, SlotBytes, SlotDisk, SlotFile, Source};
+use yasir_io::{Durable, Failed, FileSlots, FileSource, Lock, Slot, SlotBytes, SlotDisk};
+use yasir_io::{SlotFile, Source};
 
 const ROOM: usize = 88;
 
@@ -105,6 +106,15 @@ impl Lock for Opened<'_> {
         self.file.locked.set(true);
         self.has_lock.set(true);
         Ok(())
+    }
+}
+
+impl Durable for Opened<'_> {
+    fn sync(&self, whole: bool) -> io::Result<()> {
+        if whole {
+            return self.sync_all();
+        }
+        self.sync_data()
     }
 }
 

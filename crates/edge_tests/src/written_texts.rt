@@ -124,7 +124,9 @@ impl Sink for CountedSink {
     fn write(&mut self, piece: &[u8]) -> Result<usize, Failed> {
         self.writes = self.writes.saturating_add(1);
         self.bytes = self.bytes.saturating_add(piece.len() as u64);
-        self.unflushed = true;
+        if !piece.is_empty() {
+            self.unflushed = true;
+        }
         Ok(piece.len())
     }
 

@@ -15,7 +15,7 @@ use std::alloc::AllocError;
 use std::env::Args;
 use std::io;
 use std::rt::Files;
-use yasir_io::{FileSlots, FileSource, Lock, SlotDisk, SlotFile, Source};
+use yasir_io::{Durable, FileSlots, FileSource, Lock, SlotDisk, SlotFile, Source};
 
 /// The place, counted from 0, of the word that is the path of the key's file.
 const KEY_PLACE: usize = 3;
@@ -60,7 +60,7 @@ fn journal_file<'a, R: Files>(
     words: &[String],
 ) -> Result<FileSlots<'a, R>, AllocError>
 where
-    R::File: Lock,
+    R::File: Lock + Durable,
     ensures { IfOk result (λ disk. (asked : Option Command)
         → Asks (map string_bytes words.now) asked
         → IsJournalFile (word_in (map string_bytes words.now) asked journal_place)
@@ -77,7 +77,7 @@ fn run_words<'a, R: Files + AllocGlobal, P: Port>(
     port: &mut P,
 ) -> Result<Status, AllocError>
 where
-    R::File: Lock,
+    R::File: Lock + Durable,
     ensures runs { IfOk result (λ status. (asked : Option Command)
         → Asks (map string_bytes words.now) asked
         → RunsOverFiles ⟦<FileSource<'a, R> as Source>⟧ P.Port ⟦<FileSlots<'a, R> as SlotDisk>⟧
@@ -97,7 +97,7 @@ pub fn run_over_files<'a, R: Files + AllocGlobal, P: Port>(
     port: &mut P,
 ) -> u8
 where
-    R::File: Lock,
+    R::File: Lock + Durable,
     // If the runtime gives no words, nothing is done.
     ensures no_words { IsErr args → result ≡ NOT_GIVEN }
     ensures untouched { IsErr args → port.new ≡ port.old }

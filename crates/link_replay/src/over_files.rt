@@ -14,7 +14,7 @@ use std::alloc::AllocError;
 use std::env::Args;
 use std::io;
 use std::rt::Files;
-use yasir_io::{FileSlots, FileSource, Lock, Sink, SlotDisk, SlotFile, Source};
+use yasir_io::{Durable, FileSlots, FileSource, Lock, Sink, SlotDisk, SlotFile, Source};
 
 // Returns a copy of the word at this place, or `None` if there is no such word.
 fn path_at(words: &[String], place: Option<usize>) -> Result<Option<String>, AllocError>
@@ -57,7 +57,7 @@ fn journal_file<'a, R: Files>(
     words: &[String],
 ) -> Result<FileSlots<'a, R>, AllocError>
 where
-    R::File: Lock,
+    R::File: Lock + Durable,
     ensures { IfOk result (λ disk. (asked : Option Command)
         → Asks (map string_bytes words.now) asked
         → IsJournalFile (path_in journal_place (map string_bytes words.now) asked)
@@ -76,7 +76,7 @@ fn run_words<'a, R: Files + AllocGlobal, S: Source, O: Sink, L: Sink>(
     log: &mut L,
 ) -> Result<Status, AllocError>
 where
-    R::File: Lock,
+    R::File: Lock + Durable,
     ensures runs { IfOk result (λ status. (asked : Option Command)
         → Asks (map string_bytes words.now) asked
         → RunsOverFiles ⟦<FileSource<'a, R> as Source>⟧ S.Source O.Sink L.Sink
@@ -100,7 +100,7 @@ pub fn run_over_files<'a, R: Files + AllocGlobal, S: Source, O: Sink, L: Sink>(
     log: &mut L,
 ) -> u8
 where
-    R::File: Lock,
+    R::File: Lock + Durable,
     // If the runtime gives no words, nothing is done.
     ensures no_words { IsErr args → result ≡ NOT_GIVEN }
     ensures untouched { IsErr args

@@ -12,7 +12,7 @@ use std::io::{self, ErrorKind, Read, Seek, SeekFrom, Write};
 use std::process::Abort;
 use std::rt::Files;
 use std::test::Fail;
-use yasir_io::{Lock, MemSink, MemSource, Plan};
+use yasir_io::{Durable, Lock, MemSink, MemSource, Plan};
 
 const ROOM: usize = 80;
 
@@ -167,6 +167,15 @@ impl OpenFile for Opened<'_> {
 impl Lock for Opened<'_> {
     fn try_lock(&self) -> io::Result<()> {
         Ok(())
+    }
+}
+
+impl Durable for Opened<'_> {
+    fn sync(&self, whole: bool) -> io::Result<()> {
+        if whole {
+            return self.sync_all();
+        }
+        self.sync_data()
     }
 }
 

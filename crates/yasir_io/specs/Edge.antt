@@ -70,6 +70,14 @@ module _ {R F D : Type 0} {read : Read F} {write : Write F} {seek : Seek F} {in_
   abbrev pub slots_options : FileSlots R F D read write seek in_dir → OpenOptions
   slots_options disk = disk.file.lazy.options
 
+  -- how far writes reach into the file of slots: the end of the last slot that one was begun to
+  abbrev pub slots_written : FileSlots R F D read write seek in_dir → ℕ
+  slots_written disk = disk.reach.written
+
+  -- how far the writes had reached when the file of slots was last synced
+  abbrev pub slots_synced : FileSlots R F D read write seek in_dir → ℕ
+  slots_synced disk = disk.reach.synced
+
   -- how often a call on the file of slots has failed
   abbrev pub slots_faults : FileSlots R F D read write seek in_dir → ℕ
   slots_faults disk = disk.faults.count

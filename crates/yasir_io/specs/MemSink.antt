@@ -19,6 +19,10 @@ sink_plan sink = sink.calls.plan.items
 abbrev pub sink_calls : MemSink → ℕ
 sink_calls sink = sink.calls.made
 
+-- how often a call has failed
+abbrev pub sink_faults : MemSink → ℕ
+sink_faults sink = sink.calls.faults.count
+
 -- the most bytes that a call moves
 abbrev pub sink_piece : MemSink → ℕ
 sink_piece sink = sink.piece

@@ -46,6 +46,10 @@ slots_plan disk = disk.calls.plan.items
 abbrev pub slots_calls : MemSlots → ℕ
 slots_calls disk = disk.calls.made
 
+-- how often a call has failed
+abbrev pub mem_faults : MemSlots → ℕ
+mem_faults disk = disk.calls.faults.count
+
 -- how many calls it has room to record
 abbrev pub slots_room : MemSlots → ℕ
 slots_room disk = disk.room

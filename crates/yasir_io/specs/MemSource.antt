@@ -15,6 +15,10 @@ source_plan source = source.calls.plan.items
 abbrev pub source_calls : MemSource → ℕ
 source_calls source = source.calls.made
 
+-- how often a call has failed
+abbrev pub source_faults : MemSource → ℕ
+source_faults source = source.calls.faults.count
+
 -- the most bytes that a call moves
 abbrev pub source_piece : MemSource → ℕ
 source_piece source = source.piece

@@ -57,6 +57,10 @@ OnOpen Begins (Some f) (Some g) result P = P f g
 abbrev pub AnyStart : {F : Type 0} → F → Type 0
 AnyStart f = ⊤
 
+-- Holds of a file as a run opens it for itself: its lock was taken, and all of it was synced.
+abbrev pub BeginsAlone : {F : Type 0} → (F → Type 0) → (F → Bool → Type 0) → F → Type 0
+BeginsAlone Taken Synced f = Taken f × Synced f true
+
 -- Holds if a file whose position is known is moved to a place, and its bytes stay.
 pub record MovesTo {F : Type 0} (seek : Seek F) (place : ℕ) (old new : F) : Type 0 where
   pub position : IfSome (seek.stream_position old) (λ _. seek.stream_position new ≡ Some place)

@@ -1,17 +1,18 @@
 //! Real files as a source and as a disk, opened at the first call. Their contents aren't told, and
 //! their faults are counted.
-ghost use Rattle.std.specs.Prelude.{◌≡◌, ◌≤◌, length, Some, None, OnOk, OnErr, IfOk, nat_lt};
+ghost use Rattle.std.specs.Prelude.{◌≡◌, ◌≤◌, length, max, Some, None, OnOk, OnErr, IfOk, nat_lt};
 ghost use Rattle.std.specs.Io.KnownBytes.{ReadConsumes};
 ghost use Rattle.yasir_io.specs.Causes.{HasCause};
 ghost use Rattle.yasir_io.specs.Edge.{file_of, file_path, file_options, file_faults};
 ghost use Rattle.yasir_io.specs.Edge.{slots_file, slots_path, slots_kind, slots_options};
-ghost use Rattle.yasir_io.specs.Edge.{slots_faults};
+ghost use Rattle.yasir_io.specs.Edge.{slots_faults, slots_written, slots_synced};
 ghost use Rattle.yasir_io.specs.SlotFiles.{for_reading, for_slots, is_made, slot_end};
-ghost use Rattle.yasir_io.specs.SlotFiles.{OnOpen, AnyStart, ReadsOld, ReadsSlot, WritesIn};
+ghost use Rattle.yasir_io.specs.SlotFiles.{OnOpen, AnyStart, BeginsAlone, ReadsOld, ReadsSlot};
+ghost use Rattle.yasir_io.specs.SlotFiles.{WritesIn};
 
 use crate::faults::Faults;
 use crate::lazy_file::{LazyFile, PlacedFile, end_of, old_place_of, place_of};
-use crate::{Failed, Lock, OldSlotBytes, Slot, SlotBytes, SlotDisk, Source};
+use crate::{Durable, Failed, Lock, OldSlotBytes, Slot, SlotBytes, SlotDisk, Source};
 use std::fs::OpenOptions;
 use std::rt::Files;
 
@@ -46,7 +47,10 @@ struct Reach {
 }
 
 impl Reach {
-    fn none() -> Reach {
+    fn none() -> Reach
+        ensures written { result.written ≡ 0 }
+        ensures synced { result.synced ≡ 0 }
+    {
         Reach {
             written: 0,
             synced: 0,
@@ -55,8 +59,7 @@ impl Reach {
 
     // Begins a write to a slot.
     fn write(&mut self, slot: Slot)
-        ensures reaches { slot_end slot ≤ self.new.written }
-        ensures grows { self.old.written ≤ self.new.written }
+        ensures reaches { self.new.written ≡ max self.old.written (slot_end slot) }
         ensures same { self.new.synced ≡ self.old.synced }
     {
         self.written = self.written.max(end_of(slot));
@@ -137,7 +140,7 @@ pub struct FileSlots<'a, R: Files> {
 
 impl<'a, R: Files> FileSlots<'a, R>
 where
-    R::File: Lock,
+    R::File: Lock + Durable,
 {
     /// Returns a disk in the file at a path. The file isn't opened yet.
     pub fn new(rt: &'a R, path: Option<String>, kind: SlotFile) -> FileSlots<'a, R>
@@ -146,6 +149,8 @@ where
         ensures path { slots_path result ≡ path }
         ensures options { slots_options result ≡ for_slots kind }
         ensures kind { slots_kind result ≡ kind }
+        ensures written { slots_written result ≡ 0 }
+        ensures synced { slots_synced result ≡ 0 }
     {
         let mut options = OpenOptions::new();
         options.read(true).write(true).create(kind.is_made());
@@ -160,7 +165,7 @@ where
 
 impl<'a, R: Files> SlotDisk for FileSlots<'a, R>
 where
-    R::File: Lock,
+    R::File: Lock + Durable,
 {
     ghost told = { λ _. None };
 
@@ -179,10 +184,13 @@ where
     ghost only_now = { λ disk c image. image };
 
     fn read_old(&mut self, slot: Slot) -> Result<OldSlotBytes, Failed>
-        ensures reads { OnOpen R.File.taken (slots_file self.old) (slots_file self.new) result
+        ensures reads { OnOpen (BeginsAlone R.File.taken R.File.synced) (slots_file self.old)
+            (slots_file self.new) result
             (λ f g. IfOk result (ReadsOld R.File.Seek R.File.Read slot f g)) }
         ensures options { slots_options self.new ≡ slots_options self.old }
         ensures kind { slots_kind self.new ≡ slots_kind self.old }
+        ensures written { slots_written self.new ≡ slots_written self.old }
+        ensures synced { slots_synced self.new ≡ slots_synced self.old }
         ensures cause { HasCause (slots_faults self.old) (slots_faults self.new) result }
     {
         match self.file.read_at(old_place_of(slot)) {
@@ -192,10 +200,13 @@ where
     }
 
     fn read_slot(&mut self, slot: Slot) -> Result<SlotBytes, Failed>
-        ensures reads { OnOpen R.File.taken (slots_file self.old) (slots_file self.new) result
+        ensures reads { OnOpen (BeginsAlone R.File.taken R.File.synced) (slots_file self.old)
+            (slots_file self.new) result
             (λ f g. IfOk result (ReadsSlot R.File.Seek R.File.Read slot f g)) }
         ensures options { slots_options self.new ≡ slots_options self.old }
         ensures kind { slots_kind self.new ≡ slots_kind self.old }
+        ensures written { slots_written self.new ≡ slots_written self.old }
+        ensures synced { slots_synced self.new ≡ slots_synced self.old }
         ensures cause { HasCause (slots_faults self.old) (slots_faults self.new) result }
     {
         match self.file.read_at(place_of(slot)) {
@@ -206,12 +217,15 @@ where
 
     /// From its first write on, a new file counts as one that exists.
     fn write_slot(&mut self, slot: Slot, bytes: &SlotBytes) -> Result<(), Failed>
-        ensures writes { OnOpen R.File.taken (slots_file self.old) (slots_file self.new) result
+        ensures writes { OnOpen (BeginsAlone R.File.taken R.File.synced) (slots_file self.old)
+            (slots_file self.new) result
             (λ f g. OnOk result (WritesIn R.File.Seek R.File.Read R.File.Write
             (slots_kind self.old) slot f g bytes.now)) }
         ensures options { slots_options self.new ≡ slots_options self.old }
         ensures stands { OnOk result (slots_kind self.new ≡ SlotFile.Standing) }
         ensures kind { OnErr result (slots_kind self.new ≡ slots_kind self.old) }
+        ensures written { slots_written self.new ≡ max (slots_written self.old) (slot_end slot) }
+        ensures synced { slots_synced self.new ≡ slots_synced self.old }
         ensures cause { HasCause (slots_faults self.old) (slots_faults self.new) result }
     {
         self.reach.write(slot);
@@ -227,10 +241,15 @@ where
     /// Syncs the whole file if a write may have made it longer, and otherwise only what is needed
     /// to read its bytes.
     fn sync(&mut self) -> Result<(), Failed>
-        ensures file { OnOpen R.File.taken (slots_file self.old) (slots_file self.new) result
-            (λ f g. g ≡ f) }
+        ensures file { OnOpen (BeginsAlone R.File.taken R.File.synced) (slots_file self.old)
+            (slots_file self.new) result
+            (λ f g. (g ≡ f) × OnOk result (R.File.synced g
+            (nat_lt (slots_synced self.old) (slots_written self.old)))) }
         ensures options { slots_options self.new ≡ slots_options self.old }
         ensures kind { slots_kind self.new ≡ slots_kind self.old }
+        ensures written { slots_written self.new ≡ slots_written self.old }
+        ensures synced { OnOk result (slots_synced self.new ≡ slots_written self.old) }
+        ensures not_synced { OnErr result (slots_synced self.new ≡ slots_synced self.old) }
         ensures cause { HasCause (slots_faults self.old) (slots_faults self.new) result }
     {
         let whole = self.reach.is_longer();

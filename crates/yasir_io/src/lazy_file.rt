@@ -4,13 +4,14 @@ ghost use Rattle.std.specs.Prelude.{IfOk, IfSome, replicate};
 ghost use Rattle.std.specs.Io.{ReadsAtMost};
 ghost use Rattle.std.specs.Io.KnownBytes.{Appends, Consumes, IsAtEnd, ReadConsumes};
 ghost use Rattle.yasir_io.specs.SlotFiles.{old_place, slot_place, slot_end, slots_end};
-ghost use Rattle.yasir_io.specs.SlotFiles.{OnOpen, AnyStart, MovesTo, ReadsNext, ReadsAt};
+ghost use Rattle.yasir_io.specs.SlotFiles.{OnOpen, AnyStart, BeginsAlone, MovesTo, ReadsNext};
+ghost use Rattle.yasir_io.specs.SlotFiles.{ReadsAt};
 ghost use Rattle.yasir_io.specs.SlotFiles.{IsAt, StandsAs, StandsAt, StandsIn};
 ghost use Rattle.yasir_io.specs.SlotFiles.{WritesSlot, WritesFirst, WritesIn};
 
 use crate::files::SlotFile;
-use crate::{Lock, SLOT_LEN, Slot, SlotBytes};
-use std::fs::{OpenFile, OpenOptions};
+use crate::{Durable, Lock, SLOT_LEN, Slot, SlotBytes};
+use std::fs::OpenOptions;
 use std::io::{self, Read, Seek, SeekFrom, Write};
 use std::rt::Files;
 
@@ -85,7 +86,7 @@ pub(crate) struct PlacedFile<'a, R: Files> {
 
 impl<'a, R: Files> PlacedFile<'a, R>
 where
-    R::File: Lock,
+    R::File: Lock + Durable,
 {
     pub(crate) fn new(rt: &'a R, path: Option<String>, options: OpenOptions) -> PlacedFile<'a, R>
         ensures path { result.lazy.path ≡ path }
@@ -106,20 +107,22 @@ where
         ensures opened { OnOk result (IsSome self.new.lazy.file) }
         ensures closed { OnErr result (self.new.lazy.file ≡ self.old.lazy.file) }
         ensures same { IsSome self.old.lazy.file → self.new.lazy.file ≡ self.old.lazy.file }
-        ensures alone { OnOk result (self.old.lazy.file ≡ None → IfSome self.new.lazy.file R.File.taken) }
+        ensures alone { OnOk result (self.old.lazy.file ≡ None
+            → IfSome self.new.lazy.file (BeginsAlone R.File.taken R.File.synced)) }
         ensures options { self.new.lazy.options ≡ self.old.lazy.options }
     {
         if self.lazy.file.is_none() {
             let file = self.lazy.opened()?;
             file.try_lock()?;
-            file.sync_all()?;
+            file.sync(true)?;
             self.lazy.file = Some(file);
         }
         Ok(())
     }
 
     pub(crate) fn read_at<const N: usize>(&mut self, place: u64) -> io::Result<[u8; N]>
-        ensures reads { OnOpen R.File.taken self.old.lazy.file self.new.lazy.file result
+        ensures reads { OnOpen (BeginsAlone R.File.taken R.File.synced) self.old.lazy.file
+            self.new.lazy.file result
             (λ f g. IfOk result (ReadsAt R.File.Seek R.File.Read N place f g)) }
         ensures options { self.new.lazy.options ≡ self.old.lazy.options }
     {
@@ -137,7 +140,8 @@ where
         slot: Slot,
         bytes: &SlotBytes,
     ) -> io::Result<()>
-        ensures writes { OnOpen R.File.taken self.old.lazy.file self.new.lazy.file result
+        ensures writes { OnOpen (BeginsAlone R.File.taken R.File.synced) self.old.lazy.file
+            self.new.lazy.file result
             (λ f g. OnOk result (WritesIn R.File.Seek R.File.Read R.File.Write kind slot f g
             bytes.now)) }
         ensures options { self.new.lazy.options ≡ self.old.lazy.options }
@@ -153,24 +157,16 @@ where
     }
 
     pub(crate) fn sync(&mut self, whole: bool) -> io::Result<()>
-        ensures file { OnOpen R.File.taken self.old.lazy.file self.new.lazy.file result (λ f g. g ≡ f) }
+        ensures file { OnOpen (BeginsAlone R.File.taken R.File.synced) self.old.lazy.file
+            self.new.lazy.file result (λ f g. (g ≡ f) × OnOk result (R.File.synced g whole)) }
         ensures options { self.new.lazy.options ≡ self.old.lazy.options }
     {
         self.open_alone()?;
         match &self.lazy.file {
-            Some(file) => sync_file(file, whole),
+            Some(file) => file.sync(whole),
             None => Err(io::ErrorKind::NotFound.into()),
         }
     }
-}
-
-// A sync of the data may leave the times of a file off the disk, but never what is needed to read
-// its bytes.
-fn sync_file<F: OpenFile>(file: &F, whole: bool) -> io::Result<()> {
-    if whole {
-        return file.sync_all();
-    }
-    file.sync_data()
 }
 
 pub(crate) fn old_place_of(slot: Slot) -> u64

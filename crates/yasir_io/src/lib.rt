@@ -34,7 +34,7 @@ pub use calls::{NoMemory, Plan};
 pub use disk::{OLD_SLOT_LEN, OldSlotBytes, SLOT_LEN, Slot, SlotBytes, SlotDisk};
 pub use edge::{StderrSink, StdinSource, StdoutSink, WriterSink};
 pub use files::{FileSlots, FileSource, SlotFile};
-pub use lock::Lock;
+pub use lock::{Durable, Lock};
 pub use mem_sink::MemSink;
 pub use mem_slots::MemSlots;
 pub use mem_source::MemSource;

@@ -1,5 +1,5 @@
-//! The lock that a run takes on its journal's file.
-ghost use Rattle.std.specs.Prelude.{⊤, OnOk};
+//! The lock that a run takes on its journal's file, and the syncs of this file.
+ghost use Rattle.std.specs.Prelude.{⊤, Bool, OnOk};
 
 use std::fs::File;
 use std::io;
@@ -19,5 +19,26 @@ pub trait Lock {
 impl Lock for File {
     fn try_lock(&self) -> io::Result<()> {
         Ok(File::try_lock(self)?)
+    }
+}
+
+/// A file whose bytes can be made to outlast a crash of the machine.
+pub trait Durable {
+    /// What is known of a file after a sync: of all of it if the flag is set, and otherwise of what
+    /// is needed to read its bytes. By default nothing is.
+    ghost synced: { Self → Bool → Type 0 } = { λ _ _. ⊤ };
+
+    /// Syncs the file: all of it, or only what is needed to read its bytes. A sync of those may
+    /// leave the times of the file off the disk.
+    fn sync(&self, whole: bool) -> io::Result<()>
+        ensures { OnOk result (synced self.now whole) };
+}
+
+impl Durable for File {
+    fn sync(&self, whole: bool) -> io::Result<()> {
+        if whole {
+            return Ok(File::sync_all(self)?);
+        }
+        Ok(File::sync_data(self)?)
     }
 }

@@ -22,7 +22,7 @@ pub struct MemSink {
 impl MemSink {
     ghost use Rattle.std.specs.Prelude.{◌≡◌, ◌≤◌, [], IfOk, false};
     ghost use Rattle.yasir_io.specs.MemSink.{sink_bytes, sink_room, sink_plan, sink_calls};
-    ghost use Rattle.yasir_io.specs.MemSink.{sink_piece, sink_flushes, sink_unflushed};
+    ghost use Rattle.yasir_io.specs.MemSink.{sink_piece, sink_faults, sink_flushes, sink_unflushed};
 
     /// Returns an empty sink with room for `room` bytes, which is allocated at once. A call moves
     /// at most `piece` bytes. The calls in `fail`, counted from 1, fail.
@@ -39,6 +39,7 @@ impl MemSink {
         ensures piece { IfOk result (λ sink. sink_piece sink ≡ piece) }
         ensures plan { IfOk result (λ sink. sink_plan sink ≡ fail.items) }
         ensures calls { IfOk result (λ sink. sink_calls sink ≡ 0) }
+        ensures faults { IfOk result (λ sink. sink_faults sink ≡ 0) }
         ensures flushes { IfOk result (λ sink. sink_flushes sink ≡ 0) }
         ensures unflushed { IfOk result (λ sink. sink_unflushed sink ≡ false) }
     {

@@ -93,7 +93,7 @@ impl MemSlots {
     ghost use Rattle.yasir_io.specs.Causes.{HasCause};
     ghost use Rattle.yasir_io.specs.Disks.{slot_in, old_slot_in, OneImage};
     ghost use Rattle.yasir_io.specs.MemSlots.{mem_slots, slots_plan, slots_calls, slots_room};
-    ghost use Rattle.yasir_io.specs.MemSlots.{slots_recorded, MayAdd, MayLeave, SlotsFail};
+    ghost use Rattle.yasir_io.specs.MemSlots.{slots_recorded, mem_faults, MayAdd, MayLeave, SlotsFail};
 
     /// Returns a disk with these slots, all synced. It has room to record `calls` calls, which is
     /// allocated at once. The calls in `fail`, counted from 1, fail, and so does each call after
@@ -116,6 +116,7 @@ impl MemSlots {
         ensures recorded { IfOk result (λ disk. slots_recorded disk ≡ 0) }
         ensures plan { IfOk result (λ disk. slots_plan disk ≡ fail.items) }
         ensures calls { IfOk result (λ disk. slots_calls disk ≡ 0) }
+        ensures faults { IfOk result (λ disk. mem_faults disk ≡ 0) }
         ensures synced { IfOk result (λ disk. OneImage (Some (mem_slots disk)) (MayLeave disk)) }
     {
         let Ok(past) = Vec::with_capacity(alloc, calls) else {

@@ -17,7 +17,7 @@ pub struct MemSource<'a> {
 impl<'a> MemSource<'a> {
     ghost use Rattle.std.specs.Prelude.{◌≡◌, ◌≤◌};
     ghost use Rattle.yasir_io.specs.MemSource.{source_bytes, source_plan, source_calls};
-    ghost use Rattle.yasir_io.specs.MemSource.{source_piece};
+    ghost use Rattle.yasir_io.specs.MemSource.{source_piece, source_faults};
 
     /// Returns a source of these bytes. A call moves at most `piece` of them. The calls in `fail`,
     /// counted from 1, fail.
@@ -28,6 +28,7 @@ impl<'a> MemSource<'a> {
         ensures piece { source_piece result ≡ piece }
         ensures plan { source_plan result ≡ fail.items }
         ensures calls { source_calls result ≡ 0 }
+        ensures faults { source_faults result ≡ 0 }
     {
         MemSource {
             bytes,

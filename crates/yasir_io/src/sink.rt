@@ -32,14 +32,17 @@ pub trait Sink {
         ensures err { OnErr result (held self.new ≡ held self.old) }
         ensures cause { HasCause (faults self.old) (faults self.new) result }
         ensures flushes { flushes self.new ≡ flushes self.old }
-        ensures unflushed { IfOk result (λ n. 0 < n → unflushed self.new ≡ true) };
+        ensures unflushed { IfOk result (λ n. 0 < n → unflushed self.new ≡ true) }
+        ensures as_it_was { IfOk result (λ n. n ≡ 0 → unflushed self.new ≡ unflushed self.old) }
+        ensures err_as_it_was { OnErr result (unflushed self.new ≡ unflushed self.old) };
 
     /// Hands on what is held.
     fn flush(&mut self) -> Result<(), Failed>
         ensures same { held self.new ≡ held self.old }
         ensures cause { HasCause (faults self.old) (faults self.new) result }
         ensures counted { IsCounted (flushes self.old) (flushes self.new) (unflushed self.new)
-            result };
+            result }
+        ensures err_as_it_was { OnErr result (unflushed self.new ≡ unflushed self.old) };
 }
 
 /// Appends the whole piece. After an error, a front of it has been appended. Nothing is flushed.
