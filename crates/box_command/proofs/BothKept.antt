@@ -9,10 +9,11 @@ use Rattle.replay_lists.proofs.Runs.{no_mark-front, has_mark-run, before_mark-ru
 use Rattle.replay_lists.specs.Recordings.{has_mark, before_mark, behind_mark}
 use Rattle.std.proofs.Common.{◌≡◌, ◌∙◌, ℕ, ◌<◌, true, false, List, [], ◌∷◌, ◌++◌, length}
 use Rattle.std.proofs.Common.{take, Option, Ok, Err, refl, ap, sym, subst, arith}
-use Rattle.tick_drive.proofs.ItemLaws.{ticks_in-front}
+use Rattle.tick_drive.proofs.{ItemLaws.ticks_in-front, Stopping.stops-for-memory}
 use Rattle.tick_drive.specs.{Consumers.Gives, Consumers.GivesFirst, Drive.Drives, Drive.answer_of}
-use Rattle.tick_drive.specs.declared.consumer.Stop.{Stop, TheVariants.NoMemory}
-use Rattle.tick_drive.specs.declared.end.End.{End, TheVariants.Whole, TheVariants.Stopped}
+use Rattle.tick_drive.specs.Drive.{StopsForMemory}
+use Rattle.tick_drive.specs.declared.consumer.Stop.TheVariants.{NoMemory}
+use Rattle.tick_drive.specs.declared.end.End.{End, TheVariants.Whole}
 use Rattle.yasir_ticks.proofs.TickRuns.{length-run_items}
 use Rattle.yasir_ticks.specs.{TickRun.run_ticks, TickRun.run_items, Ticks.Item}
 use Rattle.yasir_ticks.specs.{Ticks.Item.mark, declared.tick_run.TickRun.TickRun}
@@ -126,10 +127,7 @@ module _ {S C A B : Type 0} (s : LinkBox S A) (sent_line : A → List ℕ) (c : 
       driven.gives in
       (gives.moved setups [] none-yet).keeps
 
-  -- If the boxes stopped, it was for lack of memory.
-  pub only-memory : (stop : Stop) → end ≡ Stopped stop → stop ≡ NoMemory
-  only-memory stop is =
-      let gives : Gives (keeping s sent_line c got_line) old new driven.items (Err stop) =
-      subst (λ e. Gives (keeping s sent_line c got_line) old new driven.items (answer_of e)) is
-      driven.gives in
-      gives.stopped.at setups [] none-yet
+  -- If the boxes stopped, it was for want of memory.
+  pub only-memory : StopsForMemory end
+  only-memory = stops-for-memory (keeping s sent_line c got_line)
+      (λ both stop setups items none. none) 1 0 before now old new setups none-yet end driven

@@ -8,11 +8,10 @@ use Rattle.yasir_ticks.specs.CanonicalText.{canonical_text}
 use Rattle.yasir_ticks.specs.declared.tick.Tick.{Tick}
 use Rattle.hmac_tag.specs.declared.dir.Dir.{Dir}
 use Rattle.link_format.specs.Setup.{Setup, setup_of}
+use Rattle.tick_drive.specs.Drive.{StopsForMemory}
 use Rattle.tick_drive.specs.Input.{Takes, IsWhole}
-use Rattle.tick_drive.specs.declared.consumer.Stop.{Stop}
-use Rattle.tick_drive.specs.declared.consumer.Stop.TheVariants.{NoMemory}
 use Rattle.tick_drive.specs.declared.end.End.{End}
-use Rattle.tick_drive.specs.declared.end.End.TheVariants.{Whole, Stopped}
+use Rattle.tick_drive.specs.declared.end.End.TheVariants.{Whole}
 use Rattle.box_pair.specs.Directions.{opposite_of}
 use Rattle.replay_lists.specs.Recordings.{before_mark, behind_mark}
 use Rattle.replay_status.specs.declared.status.Status.{Status}
@@ -82,7 +81,7 @@ module _ (texts_of : List Tick → List Tick → BothTexts) (before now : Option
     pub items : List Item
     pub takes : Takes 1 0 before now items end
     pub other : end ≢ Whole
-    pub memory : (stop : Stop) → end ≡ Stopped stop → stop ≡ NoMemory
+    pub memory : StopsForMemory end
 
   abbrev pub RecordsBoth : Result Recorded End → Type 0
   RecordsBoth (Ok recorded) = RecordsWhole recorded

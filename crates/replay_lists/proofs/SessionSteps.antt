@@ -8,8 +8,8 @@ use Rattle.tick_drive.specs.{Consumers.Gives, Consumers.GivesFirst, Drive.Drives
 use Rattle.tick_drive.specs.{Input.max_ticks, declared.consumer.Stop.TheVariants.NoMemory}
 use Rattle.tick_drive.specs.declared.end.End.{End, TheVariants.Whole}
 use Rattle.tick_drive.specs.declared.end.End.TheVariants.{Refused, TooLong, ReadFault, Stopped}
-use Rattle.tick_lists.proofs.Stopping.{stops-for-memory}
-use Rattle.tick_lists.specs.Listing.{StopsForMemory}
+use Rattle.tick_drive.proofs.Stopping.{stops-for-memory}
+use Rattle.tick_drive.specs.Drive.{StopsForMemory}
 use Rattle.tick_lists.specs.{Parts.part, Places.place_behind, Places.place_after}
 use Rattle.tick_lists.specs.declared.tick_lists.Place.{Place}
 use Rattle.yasir_ticks.{proofs.TickRuns.length-run_items, specs.TickRun.run_ticks}

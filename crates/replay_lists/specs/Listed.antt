@@ -6,7 +6,7 @@ use Rattle.device_model.specs.declared.device.Device.{Ghosts as Device}
 use Rattle.tick_drive.specs.Input.{Takes, IsWhole}
 use Rattle.tick_drive.specs.declared.end.End.{End}
 use Rattle.tick_drive.specs.declared.end.End.TheVariants.{Whole}
-use Rattle.tick_lists.specs.Listing.{StopsForMemory}
+use Rattle.tick_drive.specs.Drive.{StopsForMemory}
 use Rattle.replay_lists.specs.Recordings.{before_mark, behind_mark}
 use Rattle.replay_lists.specs.ReplayLists.{HasListed, IsReady, lists_taken}
 use Rattle.replay_lists.specs.declared.frame_box.FrameBox.{Ghosts as FrameBox}

@@ -6,7 +6,7 @@ use Rattle.device_model.specs.declared.device.Device.{Ghosts as Device}
 use Rattle.tick_drive.specs.Input.{Takes, IsWhole}
 use Rattle.tick_drive.specs.declared.end.End.{End}
 use Rattle.tick_drive.specs.declared.end.End.TheVariants.{Whole}
-use Rattle.tick_lists.specs.Listing.{StopsForMemory}
+use Rattle.tick_drive.specs.Drive.{StopsForMemory}
 use Rattle.tick_lists.specs.Parts.{part}
 use Rattle.tick_lists.specs.declared.tick_lists.Place.TheVariants.{First}
 use Rattle.replay_lists.specs.SessionLists.{HasSession, IsOpen, Setups, all_rests, boxes_taken}

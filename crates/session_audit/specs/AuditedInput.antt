@@ -5,7 +5,7 @@ use Rattle.yasir_ticks.specs.declared.tick.Tick.{Tick}
 use Rattle.tick_drive.specs.Input.{Takes, IsWhole}
 use Rattle.tick_drive.specs.declared.end.End.{End}
 use Rattle.tick_drive.specs.declared.end.End.TheVariants.{Whole}
-use Rattle.tick_lists.specs.Listing.{StopsForMemory}
+use Rattle.tick_drive.specs.Drive.{StopsForMemory}
 use Rattle.tick_lists.specs.Parts.{part}
 use Rattle.session_audit.specs.declared.verdict.Verdict.{Verdict}
 

@@ -5,6 +5,7 @@ use Rattle.yasir_ticks.specs.declared.TheConstants.{MAX_TICKS}
 use Rattle.tick_drive.specs.Input.{Takes, max_ticks}
 use Rattle.tick_drive.specs.Consumers.{Consuming, Gives}
 use Rattle.tick_drive.specs.declared.consumer.Stop.{Stop}
+use Rattle.tick_drive.specs.declared.consumer.Stop.TheVariants.{NoMemory}
 use Rattle.tick_drive.specs.declared.end.End.{End}
 use Rattle.tick_drive.specs.declared.end.End.TheVariants.{Stopped, TooLong}
 use Rattle.tick_drive.specs.declared.end.TooMuch.TheVariants.{Ticks}
@@ -15,6 +16,11 @@ use Rattle.tick_drive.specs.declared.input_loop.Halt.TheVariants.{TooMany, ByCon
 abbrev pub answer_of : End → Result (Unit {0}) Stop
 answer_of (Stopped stop) = Err stop
 answer_of end = Ok tt
+
+-- Holds if whatever took the ticks of an input that ended like this stopped for want of memory, if
+-- it stopped.
+abbrev pub StopsForMemory : End → Type 0
+StopsForMemory end = (stop : Stop) → end ≡ Stopped stop → stop ≡ NoMemory
 
 -- how a drive ends if it stopped handing over lines
 abbrev pub halted_end : Halt → End

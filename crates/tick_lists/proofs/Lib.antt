@@ -1,3 +1,2 @@
 pub mod Parting
 mod Holding
-pub mod Stopping

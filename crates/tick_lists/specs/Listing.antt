@@ -2,11 +2,11 @@
 use Rattle.std.specs.Prelude.{◌≡◌, ◌≢◌, ℕ, List, Option, Result, Ok, Err, ⊤}
 use Rattle.yasir_ticks.specs.Ticks.{Item}
 use Rattle.tick_drive.specs.Consumers.{Consuming}
+use Rattle.tick_drive.specs.Drive.{StopsForMemory}
 use Rattle.tick_drive.specs.Input.{Takes, IsWhole}
-use Rattle.tick_drive.specs.declared.consumer.Stop.{Stop}
 use Rattle.tick_drive.specs.declared.consumer.Stop.TheVariants.{NoMemory}
 use Rattle.tick_drive.specs.declared.end.End.{End}
-use Rattle.tick_drive.specs.declared.end.End.TheVariants.{Whole, Stopped}
+use Rattle.tick_drive.specs.declared.end.End.TheVariants.{Whole}
 use Rattle.tick_lists.specs.TickLists.{HoldsParts, ticks_taken}
 use Rattle.tick_lists.specs.declared.tick_lists.TickLists.{TickLists}
 
@@ -27,11 +27,6 @@ pub record KeepsWhole (marks : ℕ) (before now : Option (List ℕ)) (lists : Ti
   pub items : List Item
   pub takes : IsWhole marks 0 before now items
   pub holds : HoldsParts lists items
-
--- Holds if whatever took the ticks of an input that ended like this stopped for want of memory, if
--- it stopped.
-abbrev pub StopsForMemory : End → Type 0
-StopsForMemory end = (stop : Stop) → end ≡ Stopped stop → stop ≡ NoMemory
 
 -- Holds if the input ended in any other way than `Whole`, and there was no memory for a tick if the
 -- lists stopped it.

@@ -1,5 +1,5 @@
 use Rattle.std.proofs.Common.{[]}
-use Rattle.tick_lists.proofs.Stopping.{stops-for-memory}
+use Rattle.tick_drive.proofs.Stopping.{stops-for-memory}
 use Rattle.tick_lists.specs.Listing.{listing}
 use Rattle.tick_lists.proofs.listing.list_ticks.Goals as goal
 

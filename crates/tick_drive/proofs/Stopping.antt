@@ -1,9 +1,9 @@
 -- A consumer that stops only if there is no memory stops a drive only then.
 use Rattle.std.proofs.Common.{◌≡◌, ℕ, List, [], Option, Err, subst}
 use Rattle.tick_drive.specs.{Consumers.Consuming, Consumers.Gives, Drive.Drives, Drive.answer_of}
+use Rattle.tick_drive.specs.Drive.{StopsForMemory}
 use Rattle.tick_drive.specs.declared.consumer.Stop.{Stop, TheVariants.NoMemory}
 use Rattle.tick_drive.specs.declared.end.End.{End}
-use Rattle.tick_lists.specs.Listing.{StopsForMemory}
 use Rattle.yasir_ticks.specs.Ticks.{Item}
 
 module _ {C : Type 0} (meaning : Consuming C)
