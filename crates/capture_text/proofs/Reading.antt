@@ -34,110 +34,58 @@ at_once place e =
 unlike : (n : ℕ) → n + 0 ≡ n + 1 → ⊥
 unlike n e = omega (arith, e)
 
--- Two bytes of a record with different values are apart.
-two : (time : ℕ) (first : Bool) (n : ℕ)
-    → Apart (capture_byte time first (n + 0) ∷ []) (capture_byte time first (n + 1) ∷ [])
-two time first n =
-    apart_heads (capture_byte time first (n + 0)) (capture_byte time first (n + 1)) [] []
-    (λ e. unlike n (ap (λ c. c.byte) e))
+module _ (place : Place) (time : ℕ) (first : Bool) (n : ℕ) where
+  -- Holds if these bytes of a text lead on over a pair of digits, which is a byte of this value.
+  abbrev Gives : ℕ → List ℕ → Type 0
+  Gives value more = walk step_at place more
+      ≡ Ok (Pairs time, capture_byte time first value ∷ [])
+
+  one_way : (value : ℕ) (more : List ℕ) → Gives value more → OneWay place
+  one_way value more walks = record {
+    more = more;
+    others = capture_byte time first value ∷ [];
+    last = Pairs time;
+    walks = walks;
+    end = refl;
+  }
+
+  -- A text goes on in two ways if its next pair of digits may end in 0 or in 1.
+  two_ways : (zero one : List ℕ) → Gives (n + 0) zero → Gives (n + 1) one → GoesOn place
+  unfolding one_way
+  two_ways zero one with_zero with_one = record {
+    one = one_way (n + 0) zero with_zero;
+    other = one_way (n + 1) one with_one;
+    apart = apart_heads (capture_byte time first (n + 0)) (capture_byte time first (n + 1)) [] []
+        (λ e. unlike n (ap (λ c. c.byte) e));
+  }
 
 goes_on : (place : Place) (line : List ℕ) (items : List CaptureByte) → At place line items
     → GoesOn place
 unfolding walk step_at
 goes_on place line items start = at_once Start refl
 goes_on place line items (in_comment _ c) = at_once Comment refl
-goes_on place line items (whole _ time w) = record {
-  one = record {
-    more = 32 ∷ 48 ∷ 48 ∷ [];
-    others = capture_byte time true 0 ∷ [];
-    last = Pairs time;
-    walks = refl;
-    end = refl;
-  };
-  other = record {
-    more = 32 ∷ 48 ∷ 49 ∷ [];
-    others = capture_byte time true 1 ∷ [];
-    last = Pairs time;
-    walks = refl;
-    end = refl;
-  };
-  apart = two time true 0;
-}
-goes_on place line items (after_point front time w) = record {
-  one = record {
-    more = 48 ∷ 32 ∷ 48 ∷ 48 ∷ [];
-    others = capture_byte time true 0 ∷ [];
-    last = Pairs time;
-    walks = walk-cons step_at (Point time) (Fraction time 10000000) (Pairs time) 48
-        (32 ∷ 48 ∷ 48 ∷ []) None (capture_byte time true 0 ∷ []) (first time w.fits) refl;
-    end = refl;
-  };
-  other = record {
-    more = 48 ∷ 32 ∷ 48 ∷ 49 ∷ [];
-    others = capture_byte time true 1 ∷ [];
-    last = Pairs time;
-    walks = walk-cons step_at (Point time) (Fraction time 10000000) (Pairs time) 48
-        (32 ∷ 48 ∷ 49 ∷ []) None (capture_byte time true 1 ∷ []) (first time w.fits) refl;
-    end = refl;
-  };
-  apart = two time true 0;
-}
+goes_on place line items (whole _ time w) =
+    two_ways place time true 0 (32 ∷ 48 ∷ 48 ∷ []) (32 ∷ 48 ∷ 49 ∷ []) refl refl
+goes_on place line items (after_point front time w) =
+    two_ways place time true 0 (48 ∷ 32 ∷ 48 ∷ 48 ∷ []) (48 ∷ 32 ∷ 48 ∷ 49 ∷ [])
+    (then 0 (32 ∷ 48 ∷ 48 ∷ []) refl) (then 1 (32 ∷ 48 ∷ 49 ∷ []) refl)
   where
-    first : (time : ℕ) → time < 2 ^ 64
-        → step_at (Point time) 48 ≡ Ok (Fraction time 10000000, None)
-    first time h = let same : time + 0 ≡ time = omega arith in rw (same, fits_so time h) refl
-goes_on place line items (fraction _ time counts f) = record {
-  one = record {
-    more = 32 ∷ 48 ∷ 48 ∷ [];
-    others = capture_byte time true 0 ∷ [];
-    last = Pairs time;
-    walks = refl;
-    end = refl;
-  };
-  other = record {
-    more = 32 ∷ 48 ∷ 49 ∷ [];
-    others = capture_byte time true 1 ∷ [];
-    last = Pairs time;
-    walks = refl;
-    end = refl;
-  };
-  apart = two time true 0;
-}
-goes_on place line items (after_blank seconds blank time t apart) = record {
-  one = record {
-    more = 48 ∷ 48 ∷ [];
-    others = capture_byte time true 0 ∷ [];
-    last = Pairs time;
-    walks = refl;
-    end = refl;
-  };
-  other = record {
-    more = 48 ∷ 49 ∷ [];
-    others = capture_byte time true 1 ∷ [];
-    last = Pairs time;
-    walks = refl;
-    end = refl;
-  };
-  apart = two time true 0;
-}
+    fraction_of : step_at (Point time) 48 ≡ Ok (Fraction time 10000000, None)
+    fraction_of = let same : time + 0 ≡ time = omega arith in rw (same, fits_so time w.fits) refl
+
+    then : (value : ℕ) (more : List ℕ)
+        → walk step_at (Fraction time 10000000) more
+        ≡ Ok (Pairs time, capture_byte time true value ∷ [])
+        → Gives (Point time) time true 0 value (48 ∷ more)
+    then value more e = walk-cons step_at (Point time) (Fraction time 10000000) (Pairs time) 48
+        more None (capture_byte time true value ∷ []) fraction_of e
+goes_on place line items (fraction _ time counts f) =
+    two_ways place time true 0 (32 ∷ 48 ∷ 48 ∷ []) (32 ∷ 48 ∷ 49 ∷ []) refl refl
+goes_on place line items (after_blank seconds blank time t apart) =
+    two_ways place time true 0 (48 ∷ 48 ∷ []) (48 ∷ 49 ∷ []) refl refl
 goes_on place line items (pairs _ time _ r) = at_once (Pairs time) refl
-goes_on place line items (half _ time first high _ h) = record {
-  one = record {
-    more = 48 ∷ [];
-    others = capture_byte time first (high * 16 + 0) ∷ [];
-    last = Pairs time;
-    walks = refl;
-    end = refl;
-  };
-  other = record {
-    more = 49 ∷ [];
-    others = capture_byte time first (high * 16 + 1) ∷ [];
-    last = Pairs time;
-    walks = refl;
-    end = refl;
-  };
-  apart = two time first (high * 16);
-}
+goes_on place line items (half _ time first high _ h) =
+    two_ways place time first (high * 16) (48 ∷ []) (49 ∷ []) refl refl
 goes_on place line items (after_return content _ c) = at_once Returned refl
 
 pub reads_text : ReadsFormat step_at Start may_end IsTextCapture
