@@ -6,8 +6,9 @@
 Only the box of a journal's link may go on from the journal. Each other box must end with status 12 and show the slot. An old
 journal must be taken over. A run that takes one over is cut off at each call on its file, and after each byte of a write, and
 slots are torn and changed in each byte: the next run must go on above all numbers that were used, with the old slots as they
-were. Then the commands that docs/JOURNAL.md gives for the slots of an old journal are tried. A small library, compiled by `cc`
-and loaded before the C library, ends a run at a call. It ends with 1 if a run leaves anything else. It is no part of the gate.
+were. Then the commands that docs/JOURNAL.md gives for the slots of an old journal are tried. A run must lock its journal and sync
+it before it reads it, and sync it after each write. A small library, compiled by `cc` and loaded before the C library, ends a run
+at a call, and writes down which calls a run makes. It ends with 1 if a run does anything else. It is no part of the gate.
 """
 import os, random, re, subprocess, sys, tempfile
 
@@ -24,28 +25,41 @@ CUT, CUT_IN_WRITE = 97, 98
 LIBRARY = r"""
 #define _GNU_SOURCE
 #include <dlfcn.h>
+#include <fcntl.h>
 #include <stdlib.h>
 #include <sys/file.h>
 #include <unistd.h>
 
 static int journal = -1, calls;
 
+/* Adds the letter of a call to the file CALLS, if there is one. */
+static void note(char letter) {
+    ssize_t (*real)(int, const void *, size_t) = dlsym(RTLD_NEXT, "write");
+    const char *path = getenv("CALLS");
+    int file = path ? open(path, O_WRONLY | O_APPEND) : -1;
+    if (file < 0) return;
+    if (real(file, &letter, 1) != 1) _exit(99);
+    close(file);
+}
+
 /* Whether the run ends at this call on the journal: the one of this number. */
-static int ends(int file) {
+static int ends(int file, char letter) {
     const char *at = getenv("CUT_CALL");
-    return file == journal && ++calls == (at ? atoi(at) : 0);
+    if (file != journal) return 0;
+    note(letter);
+    return ++calls == (at ? atoi(at) : 0);
 }
 
 int flock(int file, int operation) {
     int (*real)(int, int) = dlsym(RTLD_NEXT, "flock");
     journal = file;
-    if (ends(file)) _exit(97);
+    if (ends(file, 'l')) _exit(97);
     return real(file, operation);
 }
 
 off_t lseek(int file, off_t to, int from) {
     off_t (*real)(int, off_t, int) = dlsym(RTLD_NEXT, "lseek");
-    if (ends(file)) _exit(97);
+    if (ends(file, 's')) _exit(97);
     return real(file, to, from);
 }
 
@@ -53,13 +67,13 @@ off_t lseek64(int file, off_t to, int from) { return lseek(file, to, from); }
 
 ssize_t read(int file, void *to, size_t size) {
     ssize_t (*real)(int, void *, size_t) = dlsym(RTLD_NEXT, "read");
-    if (ends(file)) _exit(97);
+    if (ends(file, 'r')) _exit(97);
     return real(file, to, size);
 }
 
 ssize_t write(int file, const void *from, size_t size) {
     ssize_t (*real)(int, const void *, size_t) = dlsym(RTLD_NEXT, "write");
-    if (ends(file)) {
+    if (ends(file, 'w')) {
         size_t some = atoi(getenv("CUT_BYTES"));
         if (some > 0) real(file, from, some < size ? some : size);
         _exit(98);
@@ -69,7 +83,13 @@ ssize_t write(int file, const void *from, size_t size) {
 
 int fsync(int file) {
     int (*real)(int) = dlsym(RTLD_NEXT, "fsync");
-    if (ends(file)) _exit(97);
+    if (ends(file, 'F')) _exit(97);
+    return real(file);
+}
+
+int fdatasync(int file) {
+    int (*real)(int) = dlsym(RTLD_NEXT, "fdatasync");
+    if (ends(file, 'D')) _exit(97);
     return real(file);
 }
 """
@@ -78,7 +98,7 @@ int fsync(int file) {
 class Runs:
     def __init__(self, program, folder):
         self.program, self.wrong = program, 0
-        self.key, self.path, self.library = (os.path.join(folder, name) for name in ("key", "journal", "cut.so"))
+        self.key, self.path, self.library, self.noted = (os.path.join(folder, name) for name in ("key", "journal", "cut.so", "calls"))
         open(self.key, "w").write(KEY)
         open(os.path.join(folder, "cut.c"), "w").write(LIBRARY)
         subprocess.run(["cc", "-shared", "-fPIC", "-O1", "-o", self.library, os.path.join(folder, "cut.c"), "-ldl"], check=True)
@@ -89,13 +109,19 @@ class Runs:
     def bytes(self):
         return open(self.path, "rb").read().ljust(80, b"\0")
 
-    def run(self, command="seal", link=LINK, text=FRAME, cut=None):
-        """The status and log of a run. `cut` is the call on the journal at which the run ends, and how many bytes this call writes first."""
+    def run(self, command="seal", link=LINK, text=FRAME, cut=None, noted=False):
+        """The status and log of a run. `cut` is the call on the journal at which the run ends, and how many bytes this call writes first.
+
+        If `noted`, the file of noted calls gets a letter for each call on the journal.
+        """
         around = dict(os.environ)
         if cut:
             around.update(LD_PRELOAD=self.library, CUT_CALL=str(cut[0]), CUT_BYTES=str(cut[1]))
+        if noted:
+            around.update(LD_PRELOAD=self.library, CALLS=self.noted)
         run = subprocess.run([self.program, command, *link, self.key, self.path], input=text, stdout=subprocess.PIPE,
                              stderr=subprocess.PIPE, env=around)
+        self.output = run.stdout
         self.numbers = [int(n) for n in re.findall(rb"^sealed (\d+) at \d+ len 8$", run.stderr, re.M)]
         return run.returncode, run.stderr
 
@@ -174,6 +200,28 @@ def cut_off(runs):
     runs.see(False, "a run that is cut off at each call never ends")
 
 
+def synced(runs):
+    """Checks that a run locks its journal first, then syncs all of it, and after each write syncs it before it goes on.
+
+    After a write, `F` is a sync of the whole file, which is due if it may be longer than it was, and `D` one of its data alone.
+    """
+    rows = [
+        ("a new journal", (BLANK_OLD, BLANK_OLD, slot_of(0)), "FDD"),
+        ("a journal with both slots", (BLANK_OLD, BLANK_OLD, slot_of(7), slot_of(6)), "FDD"),
+        ("an old journal", (OLD, BLANK_OLD), "FFDD"),
+    ]
+    for what, slots, due in rows:
+        runs.output = FRAME * 3
+        for command in ("seal", "check"):
+            runs.put(*slots)
+            open(runs.noted, "w").close()
+            status, log = runs.run(command, text=runs.output, noted=True)
+            calls = open(runs.noted).read()
+            right = re.fullmatch("lF[sr]+(s?w[FD])+", calls) and "".join(re.findall("w(.)", calls)) == due
+            runs.see(status == 0 and right, "%s over %s: status %d, %r, calls %s" % (command, what, status, log, calls))
+    print("%d runs that lock their journal, and sync it at first and after each write" % (2 * len(rows)))
+
+
 def torn(runs):
     """Checks slots A that were torn while they were written over zeros to take over an old journal: each byte is the old or the new one."""
     chance, new, count = random.Random(1), slot_of(5), 300
@@ -214,7 +262,7 @@ def main():
     program = built.program(sys.argv, 1)
     with tempfile.TemporaryDirectory(dir="/dev/shm" if os.path.isdir("/dev/shm") else None) as folder:
         runs = Runs(program, folder)
-        for part in (every_link, other_slots, cut_off, torn, commands):
+        for part in (every_link, other_slots, cut_off, synced, torn, commands):
             part(runs)
     print("%d wrong" % runs.wrong)
     sys.exit(runs.wrong > 0)
