@@ -64,7 +64,7 @@ int journal_open(journal *kept, const char *path, int make, const yasir_kind *ki
             return refuse(kept, path, "can't be made");
     }
     for (i = 0; i < FIRST; i++)
-        if (all[i] != 0) return refuse(kept, path, "has old slots: run link_replay over it first");
+        if (all[i] != 0) return refuse(kept, path, "has old slots: docs/JOURNAL.md says how to take it over and zero them");
     if (fsync(kept->file) != 0) return refuse(kept, path, strerror(errno));
     memcpy(kept->slots, all + FIRST, sizeof kept->slots);
     return 0;
