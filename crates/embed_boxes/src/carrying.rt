@@ -1,6 +1,7 @@
 //! Carries a device's line through a transmitter, a link that nobody touches, and a receiver.
-ghost use Rattle.std.specs.Prelude.{◌≡◌, ◌≤◌, [], length, IfOk};
+ghost use Rattle.std.specs.Prelude.{◌≡◌, ◌≤◌, [], length, IfOk, IfErr};
 ghost use Rattle.yasir_ticks.specs.declared.TheConstants.{MAX_TICKS};
+ghost use Rattle.yasir_io.specs.Causes.{Rose};
 ghost use Rattle.link_format.specs.Setup.{Setup, setup_of};
 ghost use Rattle.link_box.specs.Links.{AreLinks};
 ghost use Rattle.link_box.specs.Stepping.{ServesLink};
@@ -51,6 +52,9 @@ fn pass_line<X: LinkBox, D: SlotDisk>(
     ensures other { IfOk result (λ other. (setup : Setup)
         → X.stands line_box.old (journal_floor journal.old) setup []
         → other.items ≡ other_line X.walking setup line.now) }
+    // A journal fails only if a call to its disk does.
+    ensures journal { result ≡ Err NotCarried.Journal
+        → Rose (D.faults disk.old) (D.faults disk.new) }
 {
     let mut other = Vec::new(alloc);
     for index in 0..line.len() {
@@ -78,6 +82,7 @@ fn through<X: LinkBox>(
     ensures long { IfOk result (λ other. length other.items ≡ length line.now) }
     ensures other { IfOk result (λ other. other.items
         ≡ other_line X.walking (setup_of key.now dir 0) line.now) }
+    ensures memory { IfErr result (λ why. why ≡ NotCarried.NoMemory) }
 {
     let mut disk = SteadySlots::new([0; 24], [0; 24]);
     let link = X::link(dir);
@@ -92,11 +97,13 @@ fn through<X: LinkBox>(
 }
 
 /// Carries a device's line from a to b: a transmitter seals it, and a receiver checks the link.
-/// Both have this key, which may have any length, and a new journal.
+/// Both have this key, which may have any length, and a new journal in memory, which never fails:
+/// the only error is [`NotCarried::NoMemory`].
 pub fn carry(alloc: Global, key: &[u8], line: &[Tick]) -> Result<Carried, NotCarried>
     requires { length line.now ≤ MAX_TICKS }
-    ensures { IfOk result (λ carried. Carries key.now line.now carried.link.items
+    ensures carries { IfOk result (λ carried. Carries key.now line.now carried.link.items
         carried.received.items) }
+    ensures memory { IfErr result (λ why. why ≡ NotCarried.NoMemory) }
 {
     let link = match through::<Sealer<Rtu, HmacSha1, 2>>(alloc, key, Dir::Ab, line) {
         Ok(link) => link,

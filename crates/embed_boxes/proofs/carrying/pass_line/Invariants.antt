@@ -7,6 +7,7 @@ abbrev pub invariant-loop-index : goal.invariant-loop-index
 invariant-loop-index g l = record {
   taken : g.X.LinkBox.taken l.line_box ≡ l.index;
   serves : ServesLink (g.X.LinkBox.link_of l.line_box) l.journal (g.D.SlotDisk.told l.disk);
+  faults : g.D.SlotDisk.faults l.disk ≡ g.D.SlotDisk.faults l.fn.disk;
   long : length l.other.items ≡ l.index;
   passed : (setup : Setup) → g.X.LinkBox.stands l.fn.line_box (journal_floor l.fn.journal) setup []
       → g.X.LinkBox.stands l.line_box (journal_floor l.journal) setup (take l.index l.line)
