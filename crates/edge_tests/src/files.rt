@@ -9,8 +9,9 @@ use std::io::{self, ErrorKind, Read, Seek, SeekFrom, Write};
 use std::process::Abort;
 use std::rt::Files;
 use std::test::Fail;
-use yasir_io::{Durable, Failed, FileSlots, FileSource, Lock, Slot, SlotBytes, SlotDisk};
-use yasir_io::{SlotFile, Source};
+use yasir_io::{
+    Durable, Failed, FileSlots, FileSource, Lock, Slot, SlotBytes, SlotDisk, SlotFile, Source,
+};
 
 const ROOM: usize = 88;
 
