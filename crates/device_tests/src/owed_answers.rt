@@ -3,12 +3,13 @@ ghost use Rattle.std.specs.Prelude.{◌≡◌, ◌<◌, ◌≤◌, ◌+◌, leng
 ghost use Rattle.yasir_ticks.specs.TickRun.{run_ticks};
 ghost use Rattle.yasir_ticks.specs.declared.TheConstants.{MAX_TICKS};
 
-use crate::spacers::Part::{Bytes, Silence};
+use crate::devices::Part::{Bytes, Silence};
+use crate::devices::{LONGEST, Part, RESET_LINK};
 use crate::spacers::{
-    Part, RESET_LINK, Row, Spaces, TWO_QUERIES, TWO_RESETS, add_run, answers, line_of,
+    Answers, DnpSpacer, Row, RtuSpacer, Spaces, TWO_QUERIES, TWO_RESETS, add_run, are_answers,
+    are_ticks_of, by_ticks,
 };
-use device_model::{DnpDevice, Met, RtuDevice};
-use line_spacer::Spacer;
+use device_model::Met;
 use std::alloc::{AllocError, Global};
 use std::process::Abort;
 use std::test::Fail;
@@ -137,30 +138,30 @@ fn hear_line<B: Spaces>(
     Ok(given)
 }
 
-// Checks that a spacer that hears this line in pieces gives what another one gives that takes it
-// tick by tick, and that this is what the row says.
-fn both_ways<B: Spaces>(
-    rt: &impl Abort,
+// Returns the answers of a new spacer, in which this many frames may wait, to a line that it hears
+// in pieces.
+fn by_pieces<B: Spaces>(
     alloc: Global,
-    spacers: (&mut B, &mut B),
+    room: usize,
+    line: &[Part],
+    pieces: Pieces,
+) -> Result<Answers, Fail> {
+    let mut spacer = B::fresh(alloc, room)?;
+    let given = hear_line(alloc, &mut spacer, line, pieces)?;
+    Ok((given.ticks, given.lost))
+}
+
+// Returns whether a spacer that hears this line in pieces gives what another one gives that takes
+// it tick by tick, and whether this is what the row says.
+fn both_ways<B: Spaces>(
+    alloc: Global,
+    room: usize,
     row: &Row,
     pieces: Pieces,
-) -> Result<(), Fail>
-    requires first { B.taken spacers.0.now ≡ 0 }
-    requires second { B.taken spacers.1.now ≡ 0 }
-{
-    let (hearing, stepping) = spacers;
-    let line = line_of(alloc, row.line)?;
-    if line.len() >= 1000 {
-        return Err("a long line".into());
-    }
-    let (ticks, lost) = answers(alloc, stepping, line.as_slice())?;
-    let given = hear_line(alloc, hearing, row.line, pieces)?;
-    assert_eq!(rt; given.ticks, ticks);
-    assert_eq!(rt; given.lost, lost);
-    assert_eq!(rt; given.ticks, line_of(alloc, row.leaves)?);
-    assert_eq!(rt; given.lost.as_slice(), row.lost);
-    Ok(())
+) -> Result<bool, Fail> {
+    let given = by_pieces::<B>(alloc, room, row.line, pieces)?;
+    let stepped = by_ticks::<B>(alloc, room, row.line)?;
+    Ok(given == stepped && are_answers(alloc, row, &given)?)
 }
 
 // Five resets to a spacer in which two may wait. The fourth one is read in tick 39, in which the
@@ -189,16 +190,12 @@ const FIVE_RESETS: Row = Row {
     lost: &[(39, 30)],
 };
 
+// Checks the rows, with lines that are heard in these pieces.
 fn rows_agree(rt: &impl Abort, alloc: Global, pieces: Pieces) -> Result<(), Fail> {
-    let mut rtu = Spacer::<RtuDevice, 21>::new(alloc, 64)?;
-    let mut other = Spacer::<RtuDevice, 21>::new(alloc, 64)?;
-    both_ways(rt, alloc, (&mut rtu, &mut other), &TWO_QUERIES, pieces)?;
-    let mut dnp = Spacer::<DnpDevice, 21>::new(alloc, 64)?;
-    let mut other = Spacer::<DnpDevice, 21>::new(alloc, 64)?;
-    both_ways(rt, alloc, (&mut dnp, &mut other), &TWO_RESETS, pieces)?;
-    let mut narrow = Spacer::<DnpDevice, 21>::new(alloc, 2)?;
-    let mut other = Spacer::<DnpDevice, 21>::new(alloc, 2)?;
-    both_ways(rt, alloc, (&mut narrow, &mut other), &FIVE_RESETS, pieces)
+    assert!(rt; both_ways::<RtuSpacer>(alloc, 64, &TWO_QUERIES, pieces)?);
+    assert!(rt; both_ways::<DnpSpacer>(alloc, 64, &TWO_RESETS, pieces)?);
+    assert!(rt; both_ways::<DnpSpacer>(alloc, 2, &FIVE_RESETS, pieces)?);
+    Ok(())
 }
 
 // However a line is heard and answered, the other line is the one that single ticks give.
@@ -212,69 +209,130 @@ fn answers_are_those_of_ticks(rt: HostRuntime) -> Result<(), Fail> {
     Ok(())
 }
 
+// Hears a reset, which isn't queued, and returns the tick of its first byte.
+fn hear_unqueued<B: Spaces>(rt: &impl Abort, spacer: &mut B) -> Option<u64>
+    requires { B.taken spacer.old ≡ 0 }
+    ensures { B.taken spacer.new ≤ 10 }
+{
+    let Met { taken, start } = spacer.hear_some(TickRun::Bytes(RESET_LINK));
+    assert_eq!(rt; (taken, start), (10, Some(0)));
+    assert_eq!(rt; (spacer.queue_read(10), spacer.waiting()), (false, 0));
+    start
+}
+
 // A reset isn't queued, since nothing else leaves while it is read. It is the next to leave.
 fn first_reset<B: Spaces>(rt: &impl Abort, alloc: Global, spacer: &mut B) -> Result<Given, Fail>
     requires { B.taken spacer.old ≡ 0 }
     ensures { OnOk result (B.taken spacer.new ≤ 10) }
 {
+    let start = hear_unqueued(rt, spacer);
     let mut given = nothing_given(alloc);
-    let Met { taken, start } = spacer.hear_some(TickRun::Bytes(RESET_LINK));
-    assert_eq!(rt; (taken, start), (10, Some(0)));
-    assert_eq!(rt; (spacer.queue_read(10), spacer.waiting()), (false, 0));
     given.owed = 10;
     give_all(spacer, start, &mut given)?;
     assert_eq!(rt; (given.calls, spacer.waiting()), (1, 1));
     Ok(given)
 }
 
-// Returns whether a reset is queued that comes `silence + 1` silent ticks after a first one, and
-// the other line.
-fn second_reset<B: Spaces>(
+// A reset that comes `silence + 1` silent ticks after a first one: whether it is queued, and the
+// other line.
+struct SecondReset {
+    silence: u8,
+    queued: bool,
+    leaves: &'static [Part],
+}
+
+// Hears silence and a second reset, and gives all that is owed then. Returns whether the reset is
+// queued.
+fn answer_reset<B: Spaces>(
     rt: &impl Abort,
-    alloc: Global,
     spacer: &mut B,
-    silence: u32,
-) -> Result<(bool, Vec<Tick>), Fail>
-    requires new { B.taken spacer.old ≡ 0 }
-    requires short { silence < 100 }
+    silence: u8,
+    given: &mut Given,
+) -> Result<bool, AllocError>
+    requires { B.taken spacer.old ≤ 10 }
+    ensures { OnOk result (B.taken spacer.new ≤ 1000) }
 {
-    let mut given = first_reset(rt, alloc, spacer)?;
-    let waited = spacer.hear_some(TickRun::Silence(silence + 1)).taken;
+    let waited = spacer
+        .hear_some(TickRun::Silence(u32::from(silence) + 1))
+        .taken;
     let Met { taken, start } = spacer.hear_some(TickRun::Bytes(RESET_LINK));
     given.owed = waited + taken;
     let queued = spacer.queue_read(given.owed);
     assert_eq!(rt; spacer.waiting(), if queued { 2 } else { 1 });
-    give_all(spacer, if queued { None } else { start }, &mut given)?;
-    given.owed = spacer.hear_some(TickRun::Silence(40)).taken;
-    give_all(spacer, None, &mut given)?;
-    assert_eq!(rt; (given.lost.len(), spacer.waiting()), (0, 0));
-    Ok((queued, given.ticks))
+    give_all(spacer, if queued { None } else { start }, given)?;
+    Ok(queued)
 }
 
-// Checks a reset that comes `silence + 1` silent ticks after a first one: whether it is queued, how
-// many silent ticks leave before it, and how many after it.
-fn resets_leave(
+// Hears silence, and gives all that is owed then.
+fn answer_silence<B: Spaces>(spacer: &mut B, given: &mut Given) -> Result<(), AllocError>
+    requires { B.taken spacer.old ≤ 1000 }
+{
+    given.owed = spacer.hear_some(TickRun::Silence(40)).taken;
+    give_all(spacer, None, given)
+}
+
+// Checks whether a second reset is queued, and returns the other line.
+fn second_reset<B: Spaces>(
     rt: &impl Abort,
     alloc: Global,
-    silence: u32,
-    want: (bool, usize, usize),
-) -> Result<(), Fail>
-    requires { silence < 100 }
+    spacer: &mut B,
+    row: &SecondReset,
+) -> Result<Vec<Tick>, Fail>
+    requires { B.taken spacer.old ≡ 0 }
 {
-    let (sure, gap, following) = want;
-    let mut spacer = Spacer::<DnpDevice, 21>::new(alloc, 64)?;
-    let (queued, ticks) = second_reset(rt, alloc, &mut spacer, silence)?;
-    assert_eq!(rt; queued, sure);
-    let leaves = [
-        Silence(10),
-        Bytes(RESET_LINK),
-        Silence(gap),
-        Bytes(RESET_LINK),
-        Silence(following),
-    ];
-    assert_eq!(rt; ticks, line_of(alloc, &leaves)?);
+    let mut given = first_reset(rt, alloc, spacer)?;
+    assert_eq!(rt;
+        answer_reset(rt, spacer, row.silence, &mut given)?,
+        row.queued
+    );
+    answer_silence(spacer, &mut given)?;
+    assert_eq!(rt; (given.lost.len(), spacer.waiting()), (0, 0));
+    Ok(given.ticks)
+}
+
+// Checks whether a second reset is queued, and what leaves.
+fn resets_leave(rt: &impl Abort, alloc: Global, row: &SecondReset) -> Result<(), Fail> {
+    let mut spacer = DnpSpacer::new(alloc, 64)?;
+    let ticks = second_reset(rt, alloc, &mut spacer, row)?;
+    assert!(rt; are_ticks_of(alloc, ticks.as_slice(), row.leaves)?);
     Ok(())
 }
+
+const SECOND_RESETS: [SecondReset; 3] = [
+    SecondReset {
+        silence: 0,
+        queued: true,
+        leaves: &[
+            Silence(10),
+            Bytes(RESET_LINK),
+            Silence(21),
+            Bytes(RESET_LINK),
+            Silence(10),
+        ],
+    },
+    SecondReset {
+        silence: 20,
+        queued: true,
+        leaves: &[
+            Silence(10),
+            Bytes(RESET_LINK),
+            Silence(21),
+            Bytes(RESET_LINK),
+            Silence(30),
+        ],
+    },
+    SecondReset {
+        silence: 21,
+        queued: false,
+        leaves: &[
+            Silence(10),
+            Bytes(RESET_LINK),
+            Silence(22),
+            Bytes(RESET_LINK),
+            Silence(30),
+        ],
+    },
+];
 
 // A frame is queued before the ticks in which it is read are answered, if another frame and its gap
 // leave in all of these ticks. That frame and its gap have 31 ticks. After 21 silent ticks 31 are
@@ -282,26 +340,70 @@ fn resets_leave(
 // the resets, and 40 after them.
 #[test]
 fn frames_are_queued(rt: HostRuntime) -> Result<(), Fail> {
-    let alloc = rt.alloc();
-    resets_leave(&rt, alloc, 0, (true, 21, 10))?;
-    resets_leave(&rt, alloc, 20, (true, 21, 30))?;
-    resets_leave(&rt, alloc, 21, (false, 22, 30))
+    for row in &SECOND_RESETS {
+        resets_leave(&rt, rt.alloc(), row)?;
+    }
+    Ok(())
+}
+
+// Hears a reset for which there is no room, and checks that it is lost.
+fn lose_reset<B: Spaces>(rt: &impl Abort, spacer: &mut B)
+    requires { B.taken spacer.old ≡ 0 }
+    ensures { B.taken spacer.new ≤ 10 }
+{
+    let start = hear_unqueued(rt, spacer);
+    let run = spacer.give_some(10, start);
+    assert_eq!(rt; (run.taken, run.lost), (10, Some(0)));
+    assert_eq!(rt; spacer.frame_bytes(), RESET_LINK);
+}
+
+// Hears silence, and checks that silence leaves.
+fn give_silence<B: Spaces>(rt: &impl Abort, spacer: &mut B)
+    requires { B.taken spacer.old ≤ 10 }
+{
+    spacer.hear_some(TickRun::Silence(50));
+    let run = spacer.give_some(50, None);
+    assert_eq!(rt; (run.taken, run.lost), (50, None));
+    assert_eq!(rt; (spacer.sent_bytes().len(), spacer.waiting()), (0, 0));
 }
 
 // A frame for which there is no room isn't queued. It is lost, and doesn't leave later.
 #[test]
 fn a_frame_without_room_is_not_queued(rt: HostRuntime) -> Result<(), Fail> {
-    let mut spacer = Spacer::<DnpDevice, 21>::new(rt.alloc(), 0)?;
-    let Met { taken, start } = spacer.hear_some(TickRun::Bytes(RESET_LINK));
-    assert_eq!(rt; (taken, start), (10, Some(0)));
-    assert_eq!(rt; (spacer.queue_read(10), spacer.waiting()), (false, 0));
-    let run = spacer.give_some(10, start);
-    assert_eq!(rt; (run.taken, run.lost), (10, Some(0)));
-    assert_eq!(rt; spacer.frame_bytes(), RESET_LINK);
-    spacer.hear_some(TickRun::Silence(50));
-    let run = spacer.give_some(50, None);
-    assert_eq!(rt; (run.taken, run.lost), (50, None));
-    assert_eq!(rt; (spacer.sent_bytes().len(), spacer.waiting()), (0, 0));
+    let mut spacer = DnpSpacer::new(rt.alloc(), 0)?;
+    lose_reset(&rt, &mut spacer);
+    give_silence(&rt, &mut spacer);
+    Ok(())
+}
+
+// Lines of 32 bytes, after which nothing is given if no frame is read.
+const LINES: Pieces = Pieces {
+    heard: 32,
+    owed: 1000,
+};
+
+const SILENT_LINE: &[Part] = &[Silence(260)];
+
+// Hears the longest frame and the silence that ends it. All that is owed up to the tick in which
+// the frame is read is given in one call.
+fn hear_longest<B: Spaces>(rt: &impl Abort, spacer: &mut B, given: &mut Given) -> Result<(), Fail>
+    requires { B.taken spacer.old ≡ 0 }
+    ensures { OnOk result (B.taken spacer.new ≤ 1000) }
+{
+    hear_run(spacer, TickRun::Bytes(LONGEST), LINES, given)?;
+    hear_run(spacer, TickRun::Silence(4), LINES, given)?;
+    assert_eq!(rt; (given.calls, spacer.waiting()), (1, 1));
+    Ok(())
+}
+
+// Hears the longest frame once more, after which the first one leaves in one call.
+fn give_longest<B: Spaces>(rt: &impl Abort, spacer: &mut B, given: &mut Given) -> Result<(), Fail>
+    requires { B.taken spacer.old ≤ 1000 }
+{
+    hear_run(spacer, TickRun::Bytes(LONGEST), LINES, given)?;
+    let run = spacer.give_some(256, None);
+    assert_eq!(rt; (given.owed, run.taken, run.lost), (256, 256, None));
+    assert_eq!(rt; spacer.sent_bytes(), LONGEST);
     Ok(())
 }
 
@@ -311,22 +413,9 @@ fn a_frame_without_room_is_not_queued(rt: HostRuntime) -> Result<(), Fail> {
 #[test]
 fn a_frame_leaves_at_once(rt: HostRuntime) -> Result<(), Fail> {
     let alloc = rt.alloc();
-    let mut frame = [0; 256];
-    frame[254] = 0x55;
-    frame[255] = 0x4E;
-    let lines = Pieces {
-        heard: 32,
-        owed: 1000,
-    };
-    let mut spacer = Spacer::<RtuDevice, 21>::new(alloc, 64)?;
+    let mut spacer = RtuSpacer::new(alloc, 64)?;
     let mut given = nothing_given(alloc);
-    hear_run(&mut spacer, TickRun::Bytes(&frame), lines, &mut given)?;
-    hear_run(&mut spacer, TickRun::Silence(4), lines, &mut given)?;
-    assert_eq!(rt; given.ticks, line_of(alloc, &[Silence(260)])?);
-    assert_eq!(rt; (given.calls, spacer.waiting()), (1, 1));
-    hear_run(&mut spacer, TickRun::Bytes(&frame), lines, &mut given)?;
-    let run = spacer.give_some(256, None);
-    assert_eq!(rt; (given.owed, run.taken, run.lost), (256, 256, None));
-    assert_eq!(rt; spacer.sent_bytes(), frame.as_slice());
-    Ok(())
+    hear_longest(&rt, &mut spacer, &mut given)?;
+    assert!(rt; are_ticks_of(alloc, given.ticks.as_slice(), SILENT_LINE)?);
+    give_longest(&rt, &mut spacer, &mut given)
 }

@@ -1,8 +1,10 @@
 //! Tests of the spacer: gaps, frames that wait or are lost, and how few calls a run takes.
-ghost use Rattle.std.specs.Prelude.{◌≡◌, ◌<◌, ◌≤◌, ◌+◌, ℕ, [], length, OnOk};
+ghost use Rattle.std.specs.Prelude.{◌≡◌, ◌<◌, ◌≤◌, ◌+◌, ℕ, [], length, IfOk, OnOk};
 ghost use Rattle.yasir_ticks.specs.TickRun.{run_ticks};
 ghost use Rattle.yasir_ticks.specs.declared.TheConstants.{MAX_TICKS};
 
+use crate::devices::Part::{Bytes, Silence};
+use crate::devices::{Part, RESET_LINK, add_bytes, add_silence, line_of, short_line};
 use device_model::{Device, DnpDevice, Hunted, HuntingFamily, Met, RtuDevice};
 use dnp_link_frame::Dnp;
 use line_spacer::*;
@@ -95,8 +97,12 @@ impl Device for Deaf {
 }
 
 /// A spacer of any device, so that one loop serves all of them.
-pub trait Spaces {
+pub trait Spaces: Drop {
     ghost taken: { Self → ℕ };
+
+    /// Makes a spacer in which this many frames may wait (`Spacer::new`). None is made without a gap.
+    fn fresh(alloc: Global, room: usize) -> Result<Self, NoMemory>
+        ensures { IfOk result (λ spacer. taken spacer ≡ 0) };
 
     /// Takes a tick (`Spacer::step`).
     fn take(&mut self, t: Tick) -> SpaceStep
@@ -135,14 +141,24 @@ pub trait Spaces {
     /// Returns the bytes that left in the last ticks taken, one in each tick.
     fn sent_bytes(&self) -> &[u8];
 
+    /// Returns the bytes that the device lends (`Spacer::frame_bytes`).
+    fn frame_bytes(&self) -> &[u8];
+
     /// Returns how many frames wait.
     fn waiting(&self) -> usize;
 }
 
-impl<V: Device, const GAP: usize> Spaces for Spacer<V, GAP> {
+impl<V: Device + Drop, const GAP: usize> Spaces for Spacer<V, GAP> {
     ghost use Rattle.line_spacer.specs.Stands.{ticks_taken};
 
     ghost taken = { λ spacer. ticks_taken V.Device spacer };
+
+    fn fresh(alloc: Global, room: usize) -> Result<Self, NoMemory> {
+        if GAP == 0 {
+            return Err(NoMemory);
+        }
+        Spacer::new(alloc, room)
+    }
 
     fn take(&mut self, t: Tick) -> SpaceStep {
         self.step(t)
@@ -168,46 +184,22 @@ impl<V: Device, const GAP: usize> Spaces for Spacer<V, GAP> {
         Spacer::sent_bytes(self)
     }
 
+    fn frame_bytes(&self) -> &[u8] {
+        Spacer::frame_bytes(self)
+    }
+
     fn waiting(&self) -> usize {
         Spacer::waiting(self)
     }
 }
 
-/// A part of a line.
-#[derive(Drop)]
-pub enum Part {
-    /// These bytes, one in each tick.
-    Bytes(&'static [u8]),
-    /// How many silent ticks.
-    Silence(usize),
-}
+/// A spacer of DNP3 devices.
+pub type DnpSpacer = Spacer<DnpDevice, 21>;
 
-use Part::{Bytes, Silence};
+/// A spacer of Modbus RTU devices.
+pub type RtuSpacer = Spacer<RtuDevice, 21>;
 
-fn add_part(line: &mut Vec<Tick>, part: &Part) -> Result<(), AllocError> {
-    match part {
-        Bytes(bytes) => {
-            for byte in *bytes {
-                line.push(Tick::Byte(*byte))?;
-            }
-        }
-        Silence(ticks) => {
-            for _ in 0..*ticks {
-                line.push(Tick::Silent)?;
-            }
-        }
-    }
-    Ok(())
-}
-
-/// Returns the ticks of these parts, in order.
-pub fn line_of(alloc: Global, parts: &[Part]) -> Result<Vec<Tick>, AllocError> {
-    let mut line = Vec::new(alloc);
-    for part in parts {
-        add_part(&mut line, part)?;
-    }
-    Ok(line)
-}
+type ForgetfulSpacer = Spacer<ForgetfulDevice<Dnp>, 21>;
 
 /// The other line, and for each frame that is lost the step in which it is lost and the tick of its
 /// first byte.
@@ -234,9 +226,6 @@ pub fn answers<B: Spaces>(
     Ok((ticks, lost))
 }
 
-/// The reset of a DNP3 link.
-pub const RESET_LINK: &[u8] = b"\x05\x64\x05\xC0\x01\x00\x00\x04\xE9\x21";
-
 const READ_TEN: &[u8] = b"\x01\x03\x00\x00\x00\x0A\xC5\xCD";
 
 const READ_ONE: &[u8] = b"\x01\x03\x00\x00\x00\x01\x84\x0A";
@@ -251,17 +240,30 @@ pub struct Row {
     pub lost: &'static [(usize, u64)],
 }
 
-fn space<B: Spaces>(rt: &impl Abort, alloc: Global, spacer: &mut B, row: &Row) -> Result<(), Fail>
-    requires { B.taken spacer.old ≡ 0 }
-{
-    let line = line_of(alloc, row.line)?;
-    if line.len() >= 1000 {
-        return Err("a long line".into());
-    }
-    let (ticks, lost) = answers(alloc, spacer, line.as_slice())?;
-    assert_eq!(rt; ticks, line_of(alloc, row.leaves)?);
-    assert_eq!(rt; lost.as_slice(), row.lost);
-    Ok(())
+/// Returns whether these ticks are those of the parts.
+pub fn are_ticks_of(alloc: Global, ticks: &[Tick], parts: &[Part]) -> Result<bool, AllocError> {
+    let line = line_of(alloc, parts)?;
+    Ok(ticks == line.as_slice())
+}
+
+/// Returns whether these answers are those of the row.
+pub fn are_answers(alloc: Global, row: &Row, given: &Answers) -> Result<bool, AllocError> {
+    let (ticks, lost) = given;
+    Ok(lost.as_slice() == row.lost && are_ticks_of(alloc, ticks.as_slice(), row.leaves)?)
+}
+
+/// Returns the answers of a new spacer, in which this many frames may wait, to a line that it takes
+/// tick by tick.
+pub fn by_ticks<B: Spaces>(alloc: Global, room: usize, line: &[Part]) -> Result<Answers, Fail> {
+    let line = short_line(alloc, line)?;
+    let mut spacer = B::fresh(alloc, room)?;
+    Ok(answers(alloc, &mut spacer, line.as_slice())?)
+}
+
+// Returns whether a new spacer, in which this many frames may wait, gives the answers of the row.
+fn row_is_spaced<B: Spaces>(alloc: Global, room: usize, row: &Row) -> Result<bool, Fail> {
+    let given = by_ticks::<B>(alloc, room, row.line)?;
+    Ok(are_answers(alloc, row, &given)?)
 }
 
 /// Two resets with no silence between them: the first is sent after its last byte, and the second
@@ -330,43 +332,43 @@ const PARTED_RESETS: Row = Row {
 #[test]
 fn frames_are_spaced(rt: HostRuntime) -> Result<(), Fail> {
     let alloc = rt.alloc();
-    let mut dnp = Spacer::<DnpDevice, 21>::new(alloc, 64)?;
-    space(&rt, alloc, &mut dnp, &TWO_RESETS)?;
-    let mut rtu = Spacer::<RtuDevice, 21>::new(alloc, 64)?;
-    space(&rt, alloc, &mut rtu, &TWO_QUERIES)?;
-    let mut narrow = Spacer::<DnpDevice, 21>::new(alloc, 1)?;
-    space(&rt, alloc, &mut narrow, &THREE_RESETS)?;
-    let mut forgetful = Spacer::<ForgetfulDevice<Dnp>, 21>::new(alloc, 64)?;
-    space(&rt, alloc, &mut forgetful, &PARTED_RESETS)?;
+    assert!(rt; row_is_spaced::<DnpSpacer>(alloc, 64, &TWO_RESETS)?);
+    assert!(rt; row_is_spaced::<RtuSpacer>(alloc, 64, &TWO_QUERIES)?);
+    assert!(rt; row_is_spaced::<DnpSpacer>(alloc, 1, &THREE_RESETS)?);
+    assert!(rt; row_is_spaced::<ForgetfulSpacer>(alloc, 64, &PARTED_RESETS)?);
     Ok(())
 }
+
+// Returns how many frames wait in a new spacer, how many ticks this line has, and how many frames
+// wait when the spacer has taken it.
+fn waiting_after<B: Spaces>(alloc: Global, line: &[Part]) -> Result<(usize, usize, usize), Fail> {
+    let line = short_line(alloc, line)?;
+    let mut spacer = B::fresh(alloc, 1024)?;
+    let before = spacer.waiting();
+    answers(alloc, &mut spacer, line.as_slice())?;
+    Ok((before, line.len(), spacer.waiting()))
+}
+
+// A reset up to the tick in which it is read, and up to the one in which it begins to leave.
+const READ: &[Part] = &[Bytes(RESET_LINK)];
+
+const BEGUN: &[Part] = &[Bytes(RESET_LINK), Silence(1)];
 
 // A frame waits from the step in which it is read until its first byte is sent.
 #[test]
 fn frames_wait(rt: HostRuntime) -> Result<(), Fail> {
     let alloc = rt.alloc();
-    let read = line_of(alloc, &[Bytes(RESET_LINK)])?;
-    let begun = line_of(alloc, &[Bytes(RESET_LINK), Silence(1)])?;
-    assert_eq!(rt; (read.len(), begun.len()), (10, 11));
-    let mut spacer = Spacer::<DnpDevice, 21>::new(alloc, 1024)?;
-    assert_eq!(rt; spacer.waiting(), 0);
-    answers(alloc, &mut spacer, read.as_slice())?;
-    assert_eq!(rt; spacer.waiting(), 1);
-    let mut other = Spacer::<DnpDevice, 21>::new(alloc, 1024)?;
-    answers(alloc, &mut other, begun.as_slice())?;
-    assert_eq!(rt; other.waiting(), 0);
+    assert_eq!(rt; waiting_after::<DnpSpacer>(alloc, READ)?, (0, 10, 1));
+    assert_eq!(rt; waiting_after::<DnpSpacer>(alloc, BEGUN)?, (0, 11, 0));
     Ok(())
 }
 
 /// Adds what leaves in a run to the other line.
 pub fn add_run(line: &mut Vec<Tick>, run: &SpaceRun, sent: &[u8]) -> Result<(), AllocError> {
     if sent.is_empty() {
-        return add_part(line, &Silence(run.taken));
+        return add_silence(line, run.taken);
     }
-    for byte in sent {
-        line.push(Tick::Byte(*byte))?;
-    }
-    Ok(())
+    add_bytes(line, sent)
 }
 
 // Takes this run, adds what leaves to the other line, and returns how many calls that took.
@@ -394,66 +396,91 @@ fn take_all<B: Spaces>(
 const RESETS: &[u8] =
     b"\x05\x64\x05\xC0\x01\x00\x00\x04\xE9\x21\x05\x64\x05\xC0\x01\x00\x00\x04\xE9\x21";
 
+// Takes both resets and the silence after them, and returns how many calls each of the two took.
+fn take_both<B: Spaces>(spacer: &mut B, line: &mut Vec<Tick>) -> Result<(u32, u32), AllocError>
+    requires { B.taken spacer.old ≡ 0 }
+{
+    let heard = take_all(spacer, TickRun::Bytes(RESETS), line)?;
+    let waited = take_all(spacer, TickRun::Silence(40), line)?;
+    Ok((heard, waited))
+}
+
 // The first reset is heard in one run, whose last byte ends it. Then it leaves in one run, at whose
 // end the second one is read. After that 21 ticks of the silence pass in one run, the second reset
 // leaves in one, and what is left of the silence passes in one.
-fn take_resets<B: Spaces>(rt: &impl Abort, alloc: Global, spacer: &mut B) -> Result<(), Fail>
-    requires { B.taken spacer.old ≡ 0 }
-{
+fn take_resets<B: Spaces>(rt: &impl Abort, alloc: Global) -> Result<(), Fail> {
+    let mut spacer = B::fresh(alloc, 64)?;
     let mut line = Vec::new(alloc);
-    let heard = take_all(spacer, TickRun::Bytes(RESETS), &mut line)?;
-    let waited = take_all(spacer, TickRun::Silence(40), &mut line)?;
-    assert_eq!(rt; (heard, waited), (2, 3));
+    assert_eq!(rt; take_both(&mut spacer, &mut line)?, (2, 3));
     let row = &TWO_RESETS;
-    assert_eq!(rt; line, line_of(alloc, row.leaves)?);
+    assert!(rt; are_ticks_of(alloc, line.as_slice(), row.leaves)?);
     Ok(())
 }
 
 // Runs cost few calls of the spacer, even if the device goes through them tick by tick.
 #[test]
 fn runs_are_taken_at_once(rt: HostRuntime) -> Result<(), Fail> {
-    let alloc = rt.alloc();
-    let mut spacer = Spacer::<DnpDevice, 21>::new(alloc, 64)?;
-    take_resets(&rt, alloc, &mut spacer)?;
-    let mut forgetful = Spacer::<ForgetfulDevice<Dnp>, 21>::new(alloc, 64)?;
-    take_resets(&rt, alloc, &mut forgetful)
+    take_resets::<DnpSpacer>(&rt, rt.alloc())?;
+    take_resets::<ForgetfulSpacer>(&rt, rt.alloc())
+}
+
+const LONG_SILENCE: &[Part] = &[Silence(900)];
+
+// Checks that silence passes in one run.
+fn silence_passes<B: Spaces>(rt: &impl Abort, alloc: Global, spacer: &mut B) -> Result<(), Fail>
+    requires { B.taken spacer.old ≡ 0 }
+{
+    let mut line = Vec::new(alloc);
+    assert_eq!(rt; take_all(spacer, TickRun::Silence(900), &mut line)?, 1);
+    assert!(rt; are_ticks_of(alloc, line.as_slice(), LONG_SILENCE)?);
+    Ok(())
 }
 
 // Silence is one run if nothing waits.
 #[test]
 fn silence_is_one_run(rt: HostRuntime) -> Result<(), Fail> {
-    let alloc = rt.alloc();
-    let mut spacer = Spacer::<RtuDevice, 21>::new(alloc, 64)?;
-    let mut line = Vec::new(alloc);
-    assert_eq!(rt; take_all(&mut spacer, TickRun::Silence(900), &mut line)?, 1);
-    assert_eq!(rt; line, line_of(alloc, &[Silence(900)])?);
-    Ok(())
+    let mut spacer = RtuSpacer::new(rt.alloc(), 64)?;
+    silence_passes(&rt, rt.alloc(), &mut spacer)
+}
+
+// Checks that a run of silence is one call of the device, and that one of bytes is another.
+fn two_runs_pass<B: Spaces>(rt: &impl Abort, spacer: &mut B)
+    requires { B.taken spacer.old ≡ 0 }
+{
+    let waited = spacer.take_some(TickRun::Silence(900)).taken;
+    let heard = spacer.take_some(TickRun::Bytes(RESETS)).taken;
+    assert_eq!(rt; (waited, heard), (900, 20));
+    assert_eq!(rt; spacer.frame_bytes(), [1, 1, 0].as_slice());
 }
 
 // If nothing waits, a run is one call of the device.
 #[test]
 fn a_run_is_one_call_of_the_device(rt: HostRuntime) -> Result<(), Fail> {
     let mut spacer = Spacer::<Deaf, 21>::new(rt.alloc(), 1)?;
-    let waited = spacer.take_some(TickRun::Silence(900)).taken;
-    let heard = spacer.take_some(TickRun::Bytes(RESETS)).taken;
-    assert_eq!(rt; (waited, heard), (900, 20));
-    assert_eq!(rt; spacer.frame_bytes(), [1, 1, 0].as_slice());
+    two_runs_pass(&rt, &mut spacer);
     Ok(())
+}
+
+// Checks that a reset is lost and lent.
+fn lose_reset<B: Spaces>(rt: &impl Abort, spacer: &mut B)
+    requires { B.taken spacer.old ≡ 0 }
+{
+    let run = spacer.take_some(TickRun::Bytes(RESETS));
+    assert_eq!(rt; (run.taken, run.lost), (10, Some(0)));
+    assert_eq!(rt; spacer.frame_bytes(), RESET_LINK);
 }
 
 // The bytes of a lost frame are lent.
 #[test]
 fn a_lost_frame_is_lent(rt: HostRuntime) -> Result<(), Fail> {
-    let mut spacer = Spacer::<DnpDevice, 21>::new(rt.alloc(), 0)?;
-    let run = spacer.take_some(TickRun::Bytes(RESETS));
-    assert_eq!(rt; (run.taken, run.lost), (10, Some(0)));
-    assert_eq!(rt; spacer.frame_bytes(), RESET_LINK);
+    let mut spacer = DnpSpacer::new(rt.alloc(), 0)?;
+    lose_reset(&rt, &mut spacer);
     Ok(())
 }
 
 #[test]
 fn memory_is_refused(rt: HostRuntime) -> Result<(), Fail> {
-    let refused = Spacer::<DnpDevice, 21>::new(rt.alloc(), usize::MAX);
+    let refused = DnpSpacer::new(rt.alloc(), usize::MAX);
     assert!(rt; matches!(refused, Err(NoMemory)));
     Ok(())
 }

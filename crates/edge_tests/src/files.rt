@@ -1,274 +1,20 @@
 //! Tests of files: short calls, calls that fail, how a file is opened, and that what is written is
 //! synced.
-ghost use Rattle.std.specs.Io.{ReadsAtMost, WritesAtMost};
-
-use std::alloc::{Allocator, Global};
-use std::cell::Cell;
-use std::fs::{Metadata, OpenFile, OpenOptions};
-use std::io::{self, ErrorKind, Read, Seek, SeekFrom, Write};
-use std::process::Abort;
+use crate::one_file::{Folder, OneFile, PATH, ROOM, file_of};
+use std::alloc::Global;
 use std::rt::Files;
 use std::test::Fail;
 use yasir_io::{
     Durable, Failed, FileSlots, FileSource, Lock, Slot, SlotBytes, SlotDisk, SlotFile, Source,
 };
 
-const ROOM: usize = 88;
-
-// The only path of the file system. Its blanks belong to it, and it is longer than 64 bytes.
-const PATH: &str =
-    " a folder whose name is rather long/another one that is in it/the file of slots ";
-
-// A file system with one file. A call moves at most `piece` bytes, and call `fail`, counted from 1,
-// fails.
-#[derive(Drop)]
-struct OneFile {
-    bytes: Cell<[u8; ROOM]>,
-    len: Cell<usize>,
-    exists: Cell<bool>,
-    locked: Cell<bool>,
-    piece: usize,
-    fail: u32,
-    calls: Cell<u32>,
-    openings: Cell<u32>,
-    syncs: Cell<u32>,
-    data_syncs: Cell<u32>,
-    unsynced: Cell<bool>,
-    // Whether the file has become longer since it was last synced whole. If so, a sync of only its
-    // data leaves it unsynced.
-    longer: Cell<bool>,
-}
-
-impl OneFile {
-    fn begin(&self) -> io::Result<()> {
-        let call = self.calls.get().saturating_add(1);
-        self.calls.set(call);
-        if call == self.fail {
-            return Err(ErrorKind::Other.into());
-        }
-        Ok(())
-    }
-}
-
-// A file of `len` bytes: 0, 1, 2 and so on. An earlier run has left it unsynced.
-fn file_of(len: usize, piece: usize, fail: u32) -> OneFile {
-    let mut bytes = [0; ROOM];
-    let mut next = 0u8;
-    for byte in bytes.iter_mut() {
-        *byte = next;
-        next = next.wrapping_add(1);
-    }
-    OneFile {
-        bytes: Cell::new(bytes),
-        len: Cell::new(len),
-        exists: Cell::new(true),
-        locked: Cell::new(false),
-        piece,
-        fail,
-        calls: Cell::new(0),
-        openings: Cell::new(0),
-        syncs: Cell::new(0),
-        data_syncs: Cell::new(0),
-        unsynced: Cell::new(true),
-        longer: Cell::new(true),
-    }
-}
-
-#[derive(Drop)]
-struct Folder<'a>(&'a OneFile);
-
-struct Opened<'a> {
-    file: &'a OneFile,
-    place: usize,
-    writes: bool,
-    has_lock: Cell<bool>,
-}
-
-impl Drop for Opened<'_> {
-    fn drop(self) {
-        if self.has_lock.get() {
-            self.file.locked.set(false);
-        }
-        let Opened {
-            file: _,
-            place: _,
-            writes: _,
-            has_lock: _,
-        } = self;
-    }
-}
-
-impl Lock for Opened<'_> {
-    fn try_lock(&self) -> io::Result<()> {
-        self.file.begin()?;
-        if self.file.locked.get() {
-            return Err(ErrorKind::WouldBlock.into());
-        }
-        self.file.locked.set(true);
-        self.has_lock.set(true);
-        Ok(())
-    }
-}
-
-impl Durable for Opened<'_> {
-    fn sync(&self, whole: bool) -> io::Result<()> {
-        if whole {
-            return self.sync_all();
-        }
-        self.sync_data()
-    }
-}
-
-impl Opened<'_> {
-    fn give(&mut self, buf: &mut [u8]) -> io::Result<usize>
-        ensures { ReadsAtMost result buf.new }
-    {
-        self.file.begin()?;
-        let bytes = self.file.bytes.get();
-        let left = bytes.get(self.place..self.file.len.get()).unwrap_or(&[]);
-        let n = left.len().min(buf.len()).min(self.file.piece);
-        buf[..n].copy_from_slice(&left[..n]);
-        self.place = self.place.saturating_add(n);
-        Ok(n)
-    }
-
-    fn take(&mut self, buf: &[u8]) -> io::Result<usize>
-        ensures { WritesAtMost result buf.now }
-    {
-        self.file.begin()?;
-        if !self.writes || self.place > ROOM {
-            return Err(ErrorKind::PermissionDenied.into());
-        }
-        let n = buf.len().min(ROOM - self.place).min(self.file.piece);
-        let mut bytes = self.file.bytes.get();
-        bytes[self.place..self.place + n].copy_from_slice(&buf[..n]);
-        self.file.bytes.set(bytes);
-        self.place += n;
-        if self.file.len.get() < self.place {
-            self.file.len.set(self.place);
-            self.file.longer.set(true);
-        }
-        self.file.unsynced.set(true);
-        Ok(n)
-    }
-}
-
-impl Read for Opened<'_> {
-    fn read(&mut self, buf: &mut [u8]) -> io::Result<usize> {
-        self.give(buf)
-    }
-}
-
-impl Write for Opened<'_> {
-    fn write(&mut self, buf: &[u8]) -> io::Result<usize> {
-        self.take(buf)
-    }
-
-    fn flush(&mut self) -> io::Result<()> {
-        Ok(())
-    }
-}
-
-impl Seek for Opened<'_> {
-    fn seek(&mut self, to: SeekFrom) -> io::Result<u64> {
-        self.file.begin()?;
-        let SeekFrom::Start(place) = to else {
-            return Err(ErrorKind::Unsupported.into());
-        };
-        self.place = usize::try_from(place).unwrap_or(ROOM);
-        Ok(place)
-    }
-}
-
-impl OpenFile for Opened<'_> {
-    fn metadata(&self) -> io::Result<Metadata> {
-        Err(ErrorKind::Unsupported.into())
-    }
-
-    fn set_len(&self, _size: u64) -> io::Result<()> {
-        Err(ErrorKind::Unsupported.into())
-    }
-
-    fn sync_all(&self) -> io::Result<()> {
-        self.file.begin()?;
-        self.file.syncs.set(self.file.syncs.get().saturating_add(1));
-        self.file.unsynced.set(false);
-        self.file.longer.set(false);
-        Ok(())
-    }
-
-    fn sync_data(&self) -> io::Result<()> {
-        self.file.begin()?;
-        let count = self.file.data_syncs.get().saturating_add(1);
-        self.file.data_syncs.set(count);
-        self.file.unsynced.set(self.file.longer.get());
-        Ok(())
-    }
-}
-
-impl<'a> Files for Folder<'a> {
-    type File = Opened<'a>;
-
-    type Dir = Opened<'a>;
-
-    fn open_file(&self, how: &OpenOptions, path: &str) -> io::Result<Opened<'a>> {
-        how.check()?;
-        self.0.begin()?;
-        if path != PATH || !self.0.exists.get() && !how.asks_create() {
-            return Err(ErrorKind::NotFound.into());
-        }
-        self.0.exists.set(true);
-        if how.asks_truncate() || how.asks_append() || how.asks_create_new() {
-            self.0.len.set(0);
-        }
-        self.0.openings.set(self.0.openings.get().saturating_add(1));
-        Ok(Opened {
-            file: self.0,
-            place: 0,
-            writes: how.asks_write(),
-            has_lock: Cell::new(false),
-        })
-    }
-
-    fn open_dir(&self, _path: &str) -> io::Result<Opened<'a>> {
-        Err(ErrorKind::Unsupported.into())
-    }
-
-    fn metadata(&self, _path: &str) -> io::Result<Metadata> {
-        Err(ErrorKind::Unsupported.into())
-    }
-
-    fn symlink_metadata(&self, _path: &str) -> io::Result<Metadata> {
-        Err(ErrorKind::Unsupported.into())
-    }
-
-    fn copy(&self, _from: &str, _to: &str) -> io::Result<u64> {
-        Err(ErrorKind::Unsupported.into())
-    }
-
-    fn rename(&self, _from: &str, _to: &str) -> io::Result<()> {
-        Err(ErrorKind::Unsupported.into())
-    }
-
-    fn remove_file(&self, _path: &str) -> io::Result<()> {
-        Err(ErrorKind::Unsupported.into())
-    }
-
-    fn create_dir(&self, _path: &str) -> io::Result<()> {
-        Err(ErrorKind::Unsupported.into())
-    }
-
-    fn remove_dir(&self, _path: &str) -> io::Result<()> {
-        Err(ErrorKind::Unsupported.into())
-    }
-
-    fn remove_dir_all<B: Allocator>(&self, _alloc: B, _path: &str) -> io::Result<()> {
-        Err(ErrorKind::Unsupported.into())
-    }
-}
-
 fn name(alloc: Global) -> Result<Option<String>, Fail> {
     Ok(Some(String::from_str(alloc, PATH)?))
+}
+
+// How often a file was opened, how often it was synced whole, and how many bytes it has.
+fn counts_of(file: &OneFile) -> (u32, u32, usize) {
+    (file.openings.get(), file.syncs.get(), file.len.get())
 }
 
 // Whether the first `len` of these bytes count up from `first`, and the others are 0.
@@ -300,51 +46,65 @@ fn is_front<const N: usize>(
     }
 }
 
+// Sets the bytes of a slot among those of a file.
+fn put(bytes: &mut [u8; ROOM], slot: Slot, held: SlotBytes) {
+    match slot {
+        Slot::A => bytes[32..56].copy_from_slice(&held),
+        Slot::B => bytes[56..80].copy_from_slice(&held),
+    }
+}
+
+// How many bytes of a file the reads of old slots A and B and of slots A and B give, or none if the
+// read fails.
+type Fronts = (Option<usize>, Option<usize>, Option<usize>, Option<usize>);
+
 // How many bytes a file has, how many a call on it moves at most, and which call fails. Then how
-// often the file is opened, and how many bytes of the file the reads of old slots A and B and of
-// slots A and B give, or none if the read fails.
-type Reads = (usize, usize, u32, u32, [Option<usize>; 4]);
+// often the file is opened, and what the reads give.
+type Reads = (usize, usize, u32, u32, Fronts);
 
 const READS: [Reads; 13] = [
-    (80, 88, 0, 1, [Some(16), Some(16), Some(24), Some(24)]),
-    (88, 5, 0, 1, [Some(16), Some(16), Some(24), Some(24)]),
-    (67, 7, 0, 1, [Some(16), Some(16), Some(24), Some(11)]),
+    (80, 88, 0, 1, (Some(16), Some(16), Some(24), Some(24))),
+    (88, 5, 0, 1, (Some(16), Some(16), Some(24), Some(24))),
+    (67, 7, 0, 1, (Some(16), Some(16), Some(24), Some(11))),
     // A file of the first version, which has only old slots, one that ends inside an old slot, and
     // an empty one.
-    (32, 88, 0, 1, [Some(16), Some(16), Some(0), Some(0)]),
-    (19, 7, 0, 1, [Some(16), Some(3), Some(0), Some(0)]),
-    (0, 88, 0, 1, [Some(0); 4]),
+    (32, 88, 0, 1, (Some(16), Some(16), Some(0), Some(0))),
+    (19, 7, 0, 1, (Some(16), Some(3), Some(0), Some(0))),
+    (0, 88, 0, 1, (Some(0), Some(0), Some(0), Some(0))),
     // In turn, these fail: the opening, the lock and the first sync. The file isn't open then.
-    (80, 88, 1, 1, [None, Some(16), Some(24), Some(24)]),
-    (80, 88, 2, 2, [None, Some(16), Some(24), Some(24)]),
-    (80, 88, 3, 2, [None, Some(16), Some(24), Some(24)]),
+    (80, 88, 1, 1, (None, Some(16), Some(24), Some(24))),
+    (80, 88, 2, 2, (None, Some(16), Some(24), Some(24))),
+    (80, 88, 3, 2, (None, Some(16), Some(24), Some(24))),
     // In turn, these fail: the seek for the first slot, the second of the reads for it, the read
     // for the next slot, and the seek for the last one.
-    (80, 88, 4, 1, [None, Some(16), Some(24), Some(24)]),
-    (80, 9, 6, 1, [None, Some(16), Some(24), Some(24)]),
-    (80, 88, 7, 1, [Some(16), None, Some(24), Some(24)]),
-    (80, 88, 10, 1, [Some(16), Some(16), Some(24), None]),
+    (80, 88, 4, 1, (None, Some(16), Some(24), Some(24))),
+    (80, 9, 6, 1, (None, Some(16), Some(24), Some(24))),
+    (80, 88, 7, 1, (Some(16), None, Some(24), Some(24))),
+    (80, 88, 10, 1, (Some(16), Some(16), Some(24), None)),
 ];
 
-fn read_all(rt: &impl Abort, alloc: Global, row: &Reads) -> Result<(), Fail> {
-    let (len, piece, fail, openings, [old_a, old_b, a, b]) = *row;
+// Whether the reads of old slots A and B, and then of slots A and B, give this.
+fn gives(disk: &mut FileSlots<'_, Folder<'_>>, fronts: &Fronts) -> bool {
+    let (old_a, old_b, a, b) = *fronts;
+    is_front(disk.read_old(Slot::A), 0, old_a)
+        && is_front(disk.read_old(Slot::B), 16, old_b)
+        && is_front(disk.read_slot(Slot::A), 32, a)
+        && is_front(disk.read_slot(Slot::B), 56, b)
+}
+
+// Whether all slots of a file are read as the row says.
+fn is_read(path: Option<String>, row: &Reads) -> bool {
+    let (len, piece, fail, openings, fronts) = *row;
     let file = file_of(len, piece, fail);
     let folder = Folder(&file);
-    let mut disk = FileSlots::new(&folder, name(alloc)?, SlotFile::Standing);
-    assert!(rt; is_front(disk.read_old(Slot::A), 0, old_a));
-    assert!(rt; is_front(disk.read_old(Slot::B), 16, old_b));
-    assert!(rt; is_front(disk.read_slot(Slot::A), 32, a));
-    assert!(rt; is_front(disk.read_slot(Slot::B), 56, b));
-    assert!(rt; file.openings.get() == openings);
-    assert!(rt; file.syncs.get() == 1);
-    assert!(rt; file.len.get() == len);
-    Ok(())
+    let mut disk = FileSlots::new(&folder, path, SlotFile::Standing);
+    gives(&mut disk, &fronts) && counts_of(&file) == (openings, 1, len)
 }
 
 #[test]
 fn a_slot_is_read_whole_or_not_at_all(rt: HostRuntime) -> Result<(), Fail> {
     for row in &READS {
-        read_all(&rt, rt.alloc(), row)?;
+        assert!(rt; is_read(name(rt.alloc())?, row));
     }
     Ok(())
 }
@@ -367,43 +127,54 @@ const WRITES: [Writes; 9] = [
     (88, 6, true, false, 1, 1),
 ];
 
-// Writes bytes 99 to slot B, syncs, and checks what the row says.
-fn write_and_sync(rt: &impl Abort, alloc: Global, row: &Writes) -> Result<(), Fail> {
-    let (piece, fail, written, synced, openings, syncs) = *row;
-    let file = file_of(88, piece, fail);
-    let folder = Folder(&file);
-    let mut disk = FileSlots::new(&folder, name(alloc)?, SlotFile::Standing);
-    assert!(rt; disk.write_slot(Slot::B, &[99; 24]).is_ok() == written);
-    assert!(rt; disk.sync().is_ok() == synced);
-    assert!(rt; file.syncs.get() == syncs);
-    assert!(rt; file.unsynced.get() == !synced);
-    assert!(rt; file.len.get() == 88);
-    assert!(rt; file.openings.get() == openings);
-    holds(rt, file.bytes.get(), written);
-    Ok(())
+// Writes bytes 99 to slot B, and then syncs. Returns which of the two are done.
+fn done_of(disk: &mut FileSlots<'_, Folder<'_>>) -> (bool, bool) {
+    let written = disk.write_slot(Slot::B, &[99; 24]).is_ok();
+    let synced = disk.sync().is_ok();
+    (written, synced)
 }
 
-// Checks that nothing outside slot B was written, and that slot B was if `written` says so.
-fn holds(rt: &impl Abort, bytes: [u8; ROOM], written: bool) {
-    assert!(rt; counts_up(bytes.get(..56).unwrap_or(&[1]), 0, 56));
-    assert!(rt; counts_up(bytes.get(80..).unwrap_or(&[1]), 80, 8));
-    if written {
-        assert!(rt; bytes.get(56..80) == Some([99u8; 24].as_slice()));
-    }
+// Sets slot B among the bytes of a file.
+fn with_slot_b(mut bytes: [u8; ROOM]) -> [u8; ROOM] {
+    put(&mut bytes, Slot::B, [99; 24]);
+    bytes
+}
+
+// Whether nothing outside slot B was written, and slot B was if `written` says so.
+fn holds(after: [u8; ROOM], before: [u8; ROOM], written: bool) -> bool {
+    let found = if written { after } else { with_slot_b(after) };
+    found == with_slot_b(before)
+}
+
+// Whether a write of slot B and the sync after it do what the row says.
+fn is_written(path: Option<String>, row: &Writes) -> bool {
+    let (piece, fail, written, synced, openings, syncs) = *row;
+    let file = file_of(88, piece, fail);
+    let before = file.bytes.get();
+    let folder = Folder(&file);
+    let mut disk = FileSlots::new(&folder, path, SlotFile::Standing);
+    done_of(&mut disk) == (written, synced)
+        && file.unsynced.get() == !synced
+        && counts_of(&file) == (openings, syncs, 88)
+        && holds(file.bytes.get(), before, written)
 }
 
 #[test]
 fn a_slot_is_written_whole_or_a_fault(rt: HostRuntime) -> Result<(), Fail> {
     for row in &WRITES {
-        write_and_sync(&rt, rt.alloc(), row)?;
+        assert!(rt; is_written(name(rt.alloc())?, row));
     }
     Ok(())
 }
 
+// A slot and its bytes. Then how often the file has been synced whole once they are written and
+// synced, and how often only its data.
+type Number = (Slot, SlotBytes, u32, u32);
+
 // Slots that are written one after the other, and after each of them how often the file has been
 // synced whole, and how often only its data. It is synced whole when it is opened, and after the
 // first write of each slot, which may make the file longer.
-const NUMBERS: [(Slot, SlotBytes, u32, u32); 5] = [
+const NUMBERS: [Number; 5] = [
     (Slot::A, *b"the number one, and then", 2, 0),
     (Slot::B, *b"a number of three bytes.", 3, 0),
     (Slot::A, *b"and the greatest of all.", 3, 1),
@@ -411,22 +182,46 @@ const NUMBERS: [(Slot, SlotBytes, u32, u32); 5] = [
     (Slot::B, *b"and so is the last one..", 3, 3),
 ];
 
-#[test]
-fn each_write_is_synced_for_itself(rt: HostRuntime) -> Result<(), Fail> {
-    for len in [0, 56, 80] {
-        let file = file_of(len, 88, 0);
-        let folder = Folder(&file);
-        let mut disk = FileSlots::new(&folder, name(rt.alloc())?, SlotFile::Standing);
-        for (slot, bytes, syncs, data_syncs) in &NUMBERS {
-            assert_eq!(rt; disk.write_slot(*slot, bytes), Ok(()));
-            assert!(rt; file.unsynced.get());
-            assert_eq!(rt; disk.sync(), Ok(()));
-            assert!(rt; !file.unsynced.get());
-            assert_eq!(rt; file.syncs.get(), *syncs);
-            assert_eq!(rt; file.data_syncs.get(), *data_syncs);
-            assert_eq!(rt; disk.read_slot(*slot), Ok(*bytes));
+// Whether a slot is written, and then synced. In between alone the file is unsynced.
+fn is_synced(disk: &mut FileSlots<'_, Folder<'_>>, file: &OneFile, row: &Number) -> bool {
+    disk.write_slot(row.0, &row.1).is_ok()
+        && file.unsynced.get()
+        && disk.sync().is_ok()
+        && !file.unsynced.get()
+}
+
+// Whether a slot is written, synced and read as the row says.
+fn is_kept(disk: &mut FileSlots<'_, Folder<'_>>, file: &OneFile, row: &Number) -> bool {
+    is_synced(disk, file, row)
+        && (file.syncs.get(), file.data_syncs.get()) == (row.2, row.3)
+        && disk.read_slot(row.0) == Ok(row.1)
+}
+
+// Whether each of `NUMBERS` is written, synced and read.
+fn are_kept(disk: &mut FileSlots<'_, Folder<'_>>, file: &OneFile) -> bool {
+    for row in &NUMBERS {
+        if !is_kept(disk, file, row) {
+            return false;
         }
     }
+    true
+}
+
+// Whether a file of `len` bytes keeps all of `NUMBERS`.
+fn keeps(path: Option<String>, len: usize) -> bool {
+    let file = file_of(len, 88, 0);
+    let folder = Folder(&file);
+    are_kept(
+        &mut FileSlots::new(&folder, path, SlotFile::Standing),
+        &file,
+    )
+}
+
+#[test]
+fn each_write_is_synced_for_itself(rt: HostRuntime) -> Result<(), Fail> {
+    assert!(rt; keeps(name(rt.alloc())?, 0));
+    assert!(rt; keeps(name(rt.alloc())?, 56));
+    assert!(rt; keeps(name(rt.alloc())?, 80));
     Ok(())
 }
 
@@ -461,175 +256,295 @@ const ACTS: [(Act, u32); 16] = [
     (Act::Write(Slot::B), 1),
 ];
 
-// The bytes of slot A and then of slot B.
-fn slots_of(file: &OneFile) -> [u8; 48] {
-    let bytes = file.bytes.get();
-    let mut slots = [0; 48];
-    if let Some(held) = bytes.get(32..80) {
-        slots.copy_from_slice(held);
+// Whether this act is done. A write is of bytes `mark`.
+fn is_done(disk: &mut FileSlots<'_, Folder<'_>>, act: Act, mark: u8) -> bool {
+    match act {
+        Act::Write(slot) => disk.write_slot(slot, &[mark; 24]).is_ok(),
+        Act::Read(slot) => disk.read_slot(slot).is_ok(),
+        Act::ReadOld(slot) => disk.read_old(slot).is_ok(),
+        Act::Sync => disk.sync().is_ok(),
     }
-    slots
 }
 
-fn put(slots: &mut [u8; 48], slot: Slot, bytes: SlotBytes) {
-    match slot {
-        Slot::A => slots[..24].copy_from_slice(&bytes),
-        Slot::B => slots[24..].copy_from_slice(&bytes),
+// Whether the act of a row is done, in as many calls as the row says.
+fn is_done_in(
+    disk: &mut FileSlots<'_, Folder<'_>>,
+    file: &OneFile,
+    row: &(Act, u32),
+    mark: u8,
+) -> bool {
+    let (act, calls) = *row;
+    let before = file.calls.get();
+    is_done(disk, act, mark) && file.calls.get() == before.saturating_add(calls)
+}
+
+// Does the same to the bytes of a file.
+fn put_act(bytes: &mut [u8; ROOM], act: Act, mark: u8) {
+    if let Act::Write(slot) = act {
+        put(bytes, slot, [mark; 24]);
     }
+}
+
+// Whether all of `ACTS` are done, each write with bytes of its own, and after each of them the file
+// has the bytes that were written, and those that it had before.
+fn are_done(disk: &mut FileSlots<'_, Folder<'_>>, file: &OneFile) -> bool {
+    let mut bytes = file.bytes.get();
+    let mut mark = 100u8;
+    for row in &ACTS {
+        mark = mark.wrapping_add(1);
+        put_act(&mut bytes, row.0, mark);
+        if !is_done_in(disk, file, row, mark) || file.bytes.get() != bytes {
+            return false;
+        }
+    }
+    true
 }
 
 #[test]
 fn slot_b_follows_slot_a_without_a_seek(rt: HostRuntime) -> Result<(), Fail> {
+    let path = name(rt.alloc())?;
     let file = file_of(88, 88, 0);
     let folder = Folder(&file);
-    let mut disk = FileSlots::new(&folder, name(rt.alloc())?, SlotFile::Standing);
-    let mut slots = slots_of(&file);
-    let mut mark = 100u8;
-    for (act, calls) in &ACTS {
-        let before = file.calls.get();
-        mark = mark.wrapping_add(1);
-        match *act {
-            Act::Write(slot) => {
-                put(&mut slots, slot, [mark; 24]);
-                assert_eq!(rt; disk.write_slot(slot, &[mark; 24]), Ok(()));
-            }
-            Act::Read(slot) => assert!(rt; disk.read_slot(slot).is_ok()),
-            Act::ReadOld(slot) => assert!(rt; disk.read_old(slot).is_ok()),
-            Act::Sync => assert_eq!(rt; disk.sync(), Ok(())),
-        }
-        assert_eq!(rt; file.calls.get(), before.saturating_add(*calls));
-        assert!(rt; slots_of(&file) == slots);
-        assert!(rt; counts_up(file.bytes.get().get(..32).unwrap_or(&[1]), 0, 32));
-        assert!(rt; counts_up(file.bytes.get().get(80..).unwrap_or(&[1]), 80, 8));
-    }
+    let mut disk = FileSlots::new(&folder, path, SlotFile::Standing);
+    assert!(rt; are_done(&mut disk, &file));
     Ok(())
 }
 
 // Which call fails, whether writes of slot A, of slot B and of slot B once more are done, and how
 // many calls on the file all this takes, with its opening, lock and first sync.
-type Faults = (u32, [bool; 3], u32);
+type Faults = (u32, (bool, bool, bool), u32);
 
 const FAULTS: [Faults; 5] = [
-    (0, [true; 3], 8),
+    (0, (true, true, true), 8),
     // In turn, these fail: the seek to slot A, its write, and the first and the second write of
     // slot B.
-    (4, [false, true, true], 8),
-    (5, [false, true, true], 9),
-    (6, [true, false, true], 8),
-    (8, [true, true, false], 8),
+    (4, (false, true, true), 8),
+    (5, (false, true, true), 9),
+    (6, (true, false, true), 8),
+    (8, (true, true, false), 8),
 ];
+
+// A slot, the byte that is written to all of it, and whether this is done.
+type Mark = (Slot, u8, bool);
+
+// Whether a write is done if the row says so, and the file has these bytes then, with what was
+// written.
+fn is_marked(
+    disk: &mut FileSlots<'_, Folder<'_>>,
+    file: &OneFile,
+    bytes: &mut [u8; ROOM],
+    row: Mark,
+) -> bool {
+    let (slot, mark, done) = row;
+    if done {
+        put(bytes, slot, [mark; 24]);
+    }
+    disk.write_slot(slot, &[mark; 24]).is_ok() == done && file.bytes.get() == *bytes
+}
+
+// Whether those of three writes are done that `written` says.
+fn are_marked(
+    disk: &mut FileSlots<'_, Folder<'_>>,
+    file: &OneFile,
+    written: (bool, bool, bool),
+) -> bool {
+    let (first, second, third) = written;
+    let mut bytes = file.bytes.get();
+    is_marked(disk, file, &mut bytes, (Slot::A, 97, first))
+        && is_marked(disk, file, &mut bytes, (Slot::B, 98, second))
+        && is_marked(disk, file, &mut bytes, (Slot::B, 99, third))
+}
+
+// Whether three writes with a fault do what the row says.
+fn goes_on(path: Option<String>, row: &Faults) -> bool {
+    let (fail, written, calls) = *row;
+    let file = file_of(88, 88, fail);
+    let folder = Folder(&file);
+    let mut disk = FileSlots::new(&folder, path, SlotFile::Standing);
+    are_marked(&mut disk, &file, written) && file.calls.get() == calls
+}
 
 #[test]
 fn a_fault_is_followed_by_a_seek(rt: HostRuntime) -> Result<(), Fail> {
-    for (fail, written, calls) in &FAULTS {
-        let file = file_of(88, 88, *fail);
-        let folder = Folder(&file);
-        let mut disk = FileSlots::new(&folder, name(rt.alloc())?, SlotFile::Standing);
-        let mut slots = slots_of(&file);
-        let [first, second, third] = *written;
-        for (slot, mark, done) in [
-            (Slot::A, 97, first),
-            (Slot::B, 98, second),
-            (Slot::B, 99, third),
-        ] {
-            assert!(rt; disk.write_slot(slot, &[mark; 24]).is_ok() == done);
-            if done {
-                put(&mut slots, slot, [mark; 24]);
-            }
-            assert!(rt; slots_of(&file) == slots);
-        }
-        assert_eq!(rt; file.calls.get(), *calls);
+    for row in &FAULTS {
+        assert!(rt; goes_on(name(rt.alloc())?, row));
     }
     Ok(())
 }
 
+// Sets all bytes of a slot but its last one among those of a file.
+fn put_short(bytes: &mut [u8; ROOM], slot: Slot, mark: u8) {
+    match slot {
+        Slot::A => bytes[32..55].copy_from_slice(&[mark; 23]),
+        Slot::B => bytes[56..79].copy_from_slice(&[mark; 23]),
+    }
+}
+
+// Whether a write fails that is cut short by a byte, and the file has these bytes then, with what
+// was written.
+fn is_cut_short(
+    disk: &mut FileSlots<'_, Folder<'_>>,
+    file: &OneFile,
+    bytes: &mut [u8; ROOM],
+    slot: Slot,
+    mark: u8,
+) -> bool {
+    put_short(bytes, slot, mark);
+    disk.write_slot(slot, &[mark; 24]).is_err() && file.bytes.get() == *bytes
+}
+
 #[test]
 fn a_write_cut_short_is_followed_by_a_seek(rt: HostRuntime) -> Result<(), Fail> {
+    let path = name(rt.alloc())?;
     let file = file_of(88, 23, 0);
     let folder = Folder(&file);
-    let mut disk = FileSlots::new(&folder, name(rt.alloc())?, SlotFile::Standing);
-    let mut slots = slots_of(&file);
-    for (slot, mark, place) in [(Slot::A, 97, 0), (Slot::B, 98, 24)] {
-        assert_eq!(rt; disk.write_slot(slot, &[mark; 24]), Err(Failed));
-        for byte in slots.iter_mut().skip(place).take(23) {
-            *byte = mark;
-        }
-        assert!(rt; slots_of(&file) == slots);
-    }
+    let mut disk = FileSlots::new(&folder, path, SlotFile::Standing);
+    let mut bytes = file.bytes.get();
+    assert!(rt; is_cut_short(&mut disk, &file, &mut bytes, Slot::A, 97));
+    assert!(rt; is_cut_short(&mut disk, &file, &mut bytes, Slot::B, 98));
     Ok(())
+}
+
+// Whether a write of slot B and the second of two syncs are done, and the first sync fails.
+fn is_synced_in_the_end(disk: &mut FileSlots<'_, Folder<'_>>) -> bool {
+    done_of(disk) == (true, false) && disk.sync().is_ok()
 }
 
 // If a whole sync fails, the next sync is whole too. Call 6, which fails, is the sync after the
 // write.
 #[test]
 fn a_longer_file_is_synced_whole_in_the_end(rt: HostRuntime) -> Result<(), Fail> {
+    let path = name(rt.alloc())?;
     let file = file_of(32, 88, 6);
     let folder = Folder(&file);
-    let mut disk = FileSlots::new(&folder, name(rt.alloc())?, SlotFile::Standing);
-    assert_eq!(rt; disk.write_slot(Slot::B, &[99; 24]), Ok(()));
-    assert_eq!(rt; disk.sync(), Err(Failed));
-    assert_eq!(rt; disk.sync(), Ok(()));
+    let mut disk = FileSlots::new(&folder, path, SlotFile::Standing);
+    assert!(rt; is_synced_in_the_end(&mut disk));
     assert!(rt; !file.unsynced.get());
     Ok(())
 }
 
+/// Whether each call on a disk fails. The write is of bytes `byte`.
+pub fn all_fail<R: Files>(disk: &mut FileSlots<'_, R>, byte: u8) -> bool
+where
+    R::File: Lock + Durable,
+{
+    disk.read_old(Slot::A).is_err()
+        && disk.read_slot(Slot::A).is_err()
+        && disk.write_slot(Slot::A, &[byte; 24]).is_err()
+        && disk.sync().is_err()
+}
+
+// Whether all calls on the second disk fail, twice, once a call on the first disk has opened the
+// file.
+fn first_has_it(
+    first: &mut FileSlots<'_, Folder<'_>>,
+    second: &mut FileSlots<'_, Folder<'_>>,
+) -> bool {
+    is_front(first.read_old(Slot::A), 0, Some(16))
+        && all_fail(second, 99)
+        && all_fail(second, 99)
+        && is_front(first.read_slot(Slot::A), 32, Some(24))
+}
+
+// Whether a first disk, which is gone at the end, has the file for itself.
+fn takes_it(
+    folder: &Folder<'_>,
+    path: Option<String>,
+    second: &mut FileSlots<'_, Folder<'_>>,
+) -> bool {
+    let mut first = FileSlots::new(folder, path, SlotFile::Standing);
+    first_has_it(&mut first, second)
+}
+
+// Whether the second of two disks has the file only once the first one is gone.
+fn take_turns(file: &OneFile, first: Option<String>, second: Option<String>) -> bool {
+    let folder = Folder(file);
+    let mut second = FileSlots::new(&folder, second, SlotFile::Standing);
+    takes_it(&folder, first, &mut second)
+        && file.syncs.get() == 1
+        && is_front(second.read_slot(Slot::A), 32, Some(24))
+}
+
 #[test]
 fn one_disk_has_the_file(rt: HostRuntime) -> Result<(), Fail> {
-    let file = file_of(80, 88, 0);
-    let folder = Folder(&file);
-    let mut second = FileSlots::new(&folder, name(rt.alloc())?, SlotFile::Standing);
-    {
-        let mut first = FileSlots::new(&folder, name(rt.alloc())?, SlotFile::Standing);
-        assert!(rt; is_front(first.read_old(Slot::A), 0, Some(16)));
-        for _ in 0..2 {
-            assert_eq!(rt; second.read_old(Slot::A), Err(Failed));
-            assert_eq!(rt; second.read_slot(Slot::A), Err(Failed));
-            assert_eq!(rt; second.write_slot(Slot::A, &[99; 24]), Err(Failed));
-            assert_eq!(rt; second.sync(), Err(Failed));
-        }
-        assert!(rt; is_front(first.read_slot(Slot::A), 32, Some(24)));
-        assert_eq!(rt; file.syncs.get(), 1);
-    }
-    assert!(rt; is_front(second.read_slot(Slot::A), 32, Some(24)));
+    let first = name(rt.alloc())?;
+    let second = name(rt.alloc())?;
+    assert!(rt; take_turns(&file_of(80, 88, 0), first, second));
     Ok(())
+}
+
+// What is expected of a missing file, whether it is made, and how often it is then synced whole.
+type Missing = (SlotFile, bool, u32);
+
+const MISSING: [Missing; 2] = [(SlotFile::Standing, false, 0), (SlotFile::New, true, 1)];
+
+// Whether a sync of a missing file does what the row says.
+fn is_made(path: Option<String>, row: &Missing) -> bool {
+    let (kind, made, syncs) = *row;
+    let file = file_of(0, 88, 0);
+    file.exists.set(false);
+    let folder = Folder(&file);
+    let mut disk = FileSlots::new(&folder, path, kind);
+    disk.sync().is_ok() == made
+        && file.exists.get() == made
+        && file.syncs.get() == syncs
+        && file.unsynced.get() != made
 }
 
 #[test]
 fn a_missing_file_is_made_where_it_is_said(rt: HostRuntime) -> Result<(), Fail> {
-    for (kind, made, syncs) in [(SlotFile::Standing, false, 0), (SlotFile::New, true, 1)] {
-        let file = file_of(0, 88, 0);
-        file.exists.set(false);
-        let folder = Folder(&file);
-        let mut disk = FileSlots::new(&folder, name(rt.alloc())?, kind);
-        assert!(rt; disk.sync().is_ok() == made);
-        assert!(rt; file.exists.get() == made);
-        assert!(rt; file.syncs.get() == syncs);
-        assert!(rt; file.unsynced.get() != made);
+    for row in &MISSING {
+        assert!(rt; is_made(name(rt.alloc())?, row));
     }
     Ok(())
 }
 
+// How many bytes a call moves at most, which call fails, and how many reads fail.
+type Pieces = (usize, u32, u32);
+
+const PIECES: [Pieces; 5] = [(88, 0, 0), (7, 0, 0), (7, 1, 1), (7, 3, 1), (9, 6, 1)];
+
+// Reads twenty times into room for eleven bytes, and keeps the bytes that come. Returns how many of
+// the reads failed.
+fn read_often(source: &mut FileSource<'_, Folder<'_>>, out: &mut Vec<u8>) -> Result<u32, Fail> {
+    let mut part = [0u8; 11];
+    let mut failures = 0u32;
+    for _ in 0..20 {
+        match source.read(&mut part) {
+            Ok(n) => out.extend_from_slice(&part[..n])?,
+            Err(Failed) => failures = failures.saturating_add(1),
+        }
+    }
+    Ok(failures)
+}
+
+// Reads a file to its end and beyond. Returns how many reads failed, and whether one into no room
+// is done then.
+fn read_all(file: &OneFile, path: Option<String>, out: &mut Vec<u8>) -> Result<(u32, bool), Fail> {
+    let folder = Folder(file);
+    let mut source = FileSource::new(&folder, path);
+    let failures = read_often(&mut source, out)?;
+    Ok((failures, source.read(&mut []) == Ok(0)))
+}
+
+// Whether a file gives its bytes as the row says.
+fn gives_once(alloc: Global, row: &Pieces) -> Result<bool, Fail> {
+    let (piece, fail, failed) = *row;
+    let path = name(alloc)?;
+    let file = file_of(88, piece, fail);
+    let mut out = Vec::new(alloc);
+    let found = read_all(&file, path, &mut out)?;
+    Ok(
+        found == (failed, true)
+            && out.as_slice() == file.bytes.get().as_slice()
+            && file.openings.get() == 1,
+    )
+}
+
 #[test]
 fn a_file_gives_each_byte_once(rt: HostRuntime) -> Result<(), Fail> {
-    // how many bytes a call moves at most, which call fails, and how many reads fail
-    let rows: [(usize, u32, u32); 5] = [(88, 0, 0), (7, 0, 0), (7, 1, 1), (7, 3, 1), (9, 6, 1)];
-    for (piece, fail, failed) in rows {
-        let file = file_of(88, piece, fail);
-        let folder = Folder(&file);
-        let mut source = FileSource::new(&folder, name(rt.alloc())?);
-        let mut out = Vec::new(rt.alloc());
-        let mut part = [0u8; 11];
-        let mut failures = 0u32;
-        for _ in 0..20 {
-            match source.read(&mut part) {
-                Ok(n) => out.extend_from_slice(part.get(..n).unwrap_or(&[]))?,
-                Err(Failed) => failures = failures.saturating_add(1),
-            }
-        }
-        assert_eq!(rt; failures, failed);
-        assert_eq!(rt; out.as_slice(), file.bytes.get().as_slice());
-        assert_eq!(rt; file.openings.get(), 1);
-        assert_eq!(rt; source.read(&mut []), Ok(0));
+    for row in &PIECES {
+        assert!(rt; gives_once(rt.alloc(), row)?);
     }
     Ok(())
 }
@@ -654,35 +569,59 @@ const FIRST: [First; 11] = [
     (88, Some(79), false),
 ];
 
-fn write_first(rt: &impl Abort, alloc: Global, row: &First) -> Result<(), Fail> {
-    let (len, place, written) = *row;
+// Zeros, with a digit at this place, if there is one.
+fn zeros_but(place: Option<usize>) -> [u8; ROOM] {
     let mut bytes = [0; ROOM];
     if let Some(byte) = place.and_then(|place| bytes.get_mut(place)) {
         *byte = b'5';
     }
+    bytes
+}
+
+// These bytes of a file, with 99 in slots A and B, if `written` says so.
+fn written_over(bytes: [u8; ROOM], written: bool) -> [u8; ROOM] {
+    let mut after = bytes;
+    if written {
+        after[32..80].copy_from_slice(&[99; 48]);
+    }
+    after
+}
+
+// Whether a write of bytes 99 to a slot is done if `written` says so. If it is, the file is
+// unsynced.
+fn is_over(
+    disk: &mut FileSlots<'_, Folder<'_>>,
+    file: &OneFile,
+    slot: Slot,
+    written: bool,
+) -> bool {
+    disk.write_slot(slot, &[99; 24]).is_ok() == written && file.unsynced.get() == written
+}
+
+// Whether three writes are done, or none.
+fn are_over(disk: &mut FileSlots<'_, Folder<'_>>, file: &OneFile, written: bool) -> bool {
+    is_over(disk, file, Slot::A, written)
+        && is_over(disk, file, Slot::B, written)
+        && is_over(disk, file, Slot::A, written)
+}
+
+// Whether a new disk writes over the file of a row, or leaves it as it is.
+fn is_written_over(path: Option<String>, row: &First) -> bool {
+    let (len, place, written) = *row;
+    let bytes = zeros_but(place);
     let file = file_of(len, 88, 0);
     file.bytes.set(bytes);
     let folder = Folder(&file);
-    let mut disk = FileSlots::new(&folder, name(alloc)?, SlotFile::New);
-    for slot in [Slot::A, Slot::B, Slot::A] {
-        assert!(rt; disk.write_slot(slot, &[99; 24]).is_ok() == written);
-        assert!(rt; file.unsynced.get() == written);
-    }
-    let after = file.bytes.get();
-    assert!(rt; after.get(..32) == bytes.get(..32));
-    assert!(rt; after.get(80..) == bytes.get(80..));
-    if written {
-        assert!(rt; after.get(32..80) == Some([99u8; 48].as_slice()));
-    } else {
-        assert!(rt; after == bytes && file.len.get() == len);
-    }
-    Ok(())
+    let mut disk = FileSlots::new(&folder, path, SlotFile::New);
+    are_over(&mut disk, &file, written)
+        && file.bytes.get() == written_over(bytes, written)
+        && (written || file.len.get() == len)
 }
 
 #[test]
 fn a_new_disk_writes_over_zeros_alone(rt: HostRuntime) -> Result<(), Fail> {
     for row in &FIRST {
-        write_first(&rt, rt.alloc(), row)?;
+        assert!(rt; is_written_over(name(rt.alloc())?, row));
     }
     Ok(())
 }

@@ -1,6 +1,7 @@
 //! Tests of slots, numbers and journals, over disks whose calls fail.
 ghost use Rattle.std.specs.Prelude.{◌≡◌, ◌+◌, ◌≤◌, ℕ, [], ◌∷◌, List, Some, IfSome};
 ghost use Rattle.yasir_io.specs.Disks.{Slots, OneImage};
+ghost use Rattle.sequence_journal.specs.Journal.{Fits};
 ghost use Rattle.sequence_journal.specs.Links.{IsLink};
 ghost use Rattle.sequence_journal.specs.Slots.{floor_of};
 ghost use Rattle.sequence_journal.specs.Uptimes.{Step, answered, EndsInside, IsIdle, AreUptimes};
@@ -11,7 +12,6 @@ use sequence_journal::{
     number_in, number_in_old, slot_of,
 };
 use std::alloc::Global;
-use std::process::Abort;
 use std::test::Fail;
 use yasir_io::{MemSlots, Plan, Slot, SlotDisk};
 
@@ -51,21 +51,36 @@ const HELD: [(u64, LinkId, [u64; 3]); 4] = [
     ),
 ];
 
+// Whether a slot is that of a number for this link.
+fn holds_number(n: u64, link: &LinkId, slot: &[u8; 24]) -> bool {
+    n <= LIMIT
+        && link.is_known()
+        && slot_of(n, link) == *slot
+        && number_in(slot, link) == Some(n)
+        && link_in(slot) == Some((n, *link))
+}
+
+// Whether a slot holds no number for the link with the other profile.
+fn holds_none_for_other(link: &LinkId, slot: &[u8; 24]) -> bool {
+    let profile = match link.profile {
+        18 => 24,
+        _ => 18,
+    };
+    let other = LinkId { profile, ..*link };
+    other.is_known() && number_in(slot, &other).is_none()
+}
+
+// Whether a slot holds the number of a row, for its link alone.
+fn holds(row: &(u64, LinkId, [u64; 3])) -> bool {
+    let (n, link, words) = row;
+    let slot = bytes_of(words);
+    holds_number(*n, link, &slot) && holds_none_for_other(link, &slot)
+}
+
 #[test]
 fn a_slot_holds_a_number_for_a_link(rt: HostRuntime) {
-    for (n, link, words) in &HELD {
-        let (n, link, slot) = (*n, *link, bytes_of(words));
-        assert!(rt; n <= LIMIT);
-        assert!(rt; link.is_known());
-        assert_eq!(rt; slot_of(n, &link), slot);
-        assert_eq!(rt; number_in(&slot, &link), Some(n));
-        assert_eq!(rt; link_in(&slot), Some((n, link)));
-        let other = LinkId {
-            profile: 42 - link.profile,
-            ..link
-        };
-        assert!(rt; other.is_known());
-        assert_eq!(rt; number_in(&slot, &other), None);
+    for row in &HELD {
+        assert!(rt; holds(row));
     }
 }
 
@@ -88,286 +103,404 @@ const NONE_HELD: [[u64; 3]; 9] = [
     [5, 0x01001402_ffffffff, 0xfffffffa_feffebfd],
 ];
 
-#[test]
-fn other_slots_hold_none(rt: HostRuntime) {
-    for words in &NONE_HELD {
-        let slot = bytes_of(words);
-        assert_eq!(rt; number_in(&slot, &RTU_AB), None);
-        assert_eq!(rt; link_in(&slot), None);
-    }
+// Whether the slot with these words holds no number, for whatever link.
+fn holds_none(words: &[u64; 3]) -> bool {
+    let slot = bytes_of(words);
+    number_in(&slot, &RTU_AB).is_none() && link_in(&slot).is_none()
 }
 
 #[test]
-fn an_old_slot_holds_a_number(rt: HostRuntime) {
-    let rows: [(u128, Option<u64>); 8] = [
-        (0x0000000000000000_ffffffffffffffff, Some(0)),
-        (0x0000000000000005_fffffffffffffffa, Some(5)),
-        (
-            0x0000ffffffffffff_ffff000000000000,
-            Some(281_474_976_710_655),
-        ),
-        // Nothing written, no complement, a complement that is wrong in its first bit, one that is
-        // wrong in its last bit, and a number above the limit.
-        (0, None),
-        (0x11111111111111111111111111111111, None),
-        (0x0000000000000005_7ffffffffffffffa, None),
-        (0x0000000000000005_fffffffffffffffb, None),
-        (0x0001000000000000_fffeffffffffffff, None),
-    ];
-    for (slot, n) in rows {
-        assert_eq!(rt; number_in_old(&slot.to_be_bytes()), n);
+fn other_slots_hold_none(rt: HostRuntime) {
+    for words in &NONE_HELD {
+        assert!(rt; holds_none(words));
     }
+}
+
+// An old slot, and the number that it holds, if it holds one.
+const OLD_HELD: [(u128, Option<u64>); 8] = [
+    (0x0000000000000000_ffffffffffffffff, Some(0)),
+    (0x0000000000000005_fffffffffffffffa, Some(5)),
+    (
+        0x0000ffffffffffff_ffff000000000000,
+        Some(281_474_976_710_655),
+    ),
+    // Nothing written, no complement, a complement that is wrong in its first bit, one that is
+    // wrong in its last bit, and a number above the limit.
+    (0, None),
+    (0x11111111111111111111111111111111, None),
+    (0x0000000000000005_7ffffffffffffffa, None),
+    (0x0000000000000005_fffffffffffffffb, None),
+    (0x0001000000000000_fffeffffffffffff, None),
+];
+
+#[test]
+fn an_old_slot_holds_a_number(rt: HostRuntime) {
+    for (slot, n) in &OLD_HELD {
+        assert!(rt; number_in_old(&slot.to_be_bytes()) == *n);
+    }
+}
+
+// A floor, a word, and the number that the word stands for, if there is one.
+const WORDS: [(u64, u16, Option<u64>); 6] = [
+    (65_535, 1, Some(65_537)),
+    (65_535, 0, Some(65_536)),
+    (0, 0, Some(65_536)),
+    (281_474_976_710_654, 65_535, Some(281_474_976_710_655)),
+    (281_474_976_710_654, 0, None),
+    (281_474_976_710_655, 65_535, None),
+];
+
+// The same for words of four bytes.
+const WIDE_WORDS: [(u64, u32, Option<u64>); 6] = [
+    (65_535, 1, Some(4_294_967_297)),
+    (65_535, 65_536, Some(65_536)),
+    (0, 0, Some(4_294_967_296)),
+    (281_474_976_710_655, 0, None),
+    (281_474_976_710_655, 1, None),
+    (281_474_976_710_655, 4_294_967_295, None),
+];
+
+// Whether a word stands for this number.
+fn stands_for(floor: u64, word: u16, want: Option<u64>) -> bool {
+    floor <= LIMIT && full_number(floor, word) == want
+}
+
+// Whether a word of four bytes stands for this number.
+fn stands_for_wide(floor: u64, word: u32, want: Option<u64>) -> bool {
+    floor <= LIMIT && full_number_wide(floor, word) == want
 }
 
 #[test]
 fn a_word_stands_for_the_next_number_that_has_it(rt: HostRuntime) {
-    let rows: [(u64, u16, Option<u64>); 6] = [
-        (65_535, 1, Some(65_537)),
-        (65_535, 0, Some(65_536)),
-        (0, 0, Some(65_536)),
-        (281_474_976_710_654, 65_535, Some(281_474_976_710_655)),
-        (281_474_976_710_654, 0, None),
-        (281_474_976_710_655, 65_535, None),
-    ];
-    for (floor, word, want) in rows {
-        assert!(rt; floor <= LIMIT);
-        assert_eq!(rt; full_number(floor, word), want);
+    for (floor, word, want) in &WORDS {
+        assert!(rt; stands_for(*floor, *word, *want));
     }
-    let wide_rows: [(u64, u32, Option<u64>); 6] = [
-        (65_535, 1, Some(4_294_967_297)),
-        (65_535, 65_536, Some(65_536)),
-        (0, 0, Some(4_294_967_296)),
-        (281_474_976_710_655, 0, None),
-        (281_474_976_710_655, 1, None),
-        (281_474_976_710_655, 4_294_967_295, None),
-    ];
-    for (floor, word, want) in wide_rows {
-        assert!(rt; floor <= LIMIT);
-        assert_eq!(rt; full_number_wide(floor, word), want);
+    for (floor, word, want) in &WIDE_WORDS {
+        assert!(rt; stands_for_wide(*floor, *word, *want));
     }
 }
 
-// The bytes of all slots of a disk: old slots A and B, then slots A and B.
+// What a slot has: zeros, bytes that hold no number, a number for the link `RTU_AB`, or one for the
+// link `DNP_BA_24`. An old slot with a number names no link.
+#[derive(Clone, Copy)]
+enum Content {
+    Blank,
+    Ones,
+    Own(u64),
+    Another(u64),
+}
+
+use Content::{Another, Blank, Ones, Own};
+
+impl Content {
+    // The bytes of a slot.
+    fn bytes(self) -> [u8; 24] {
+        match self {
+            Blank => [0; 24],
+            Ones => [0x11; 24],
+            Own(n) => slot_of(n.min(LIMIT), &RTU_AB),
+            Another(n) => slot_of(n.min(LIMIT), &DNP_BA_24),
+        }
+    }
+
+    // The bytes of an old slot.
+    fn old_bytes(self) -> [u8; 16] {
+        match self {
+            Blank => [0; 16],
+            Ones => [0x11; 16],
+            Own(n) | Another(n) => ((u128::from(n) << 64) | u128::from(!n)).to_be_bytes(),
+        }
+    }
+}
+
+// What all slots of a disk have: old slots A and B, then slots A and B.
+type Contents = (Content, Content, Content, Content);
+
+// The bytes of all slots of a disk, in the same order.
 type AllBytes = ([u8; 16], [u8; 16], [u8; 24], [u8; 24]);
 
-// A disk with these slots, whose call `fail` fails.
-fn disk_of(alloc: Global, slots: &AllBytes, fail: u32) -> Result<MemSlots, Fail> {
+// The bytes of slots that have this.
+fn all_bytes(slots: &Contents) -> AllBytes {
     let (old_a, old_b, a, b) = *slots;
+    (old_a.old_bytes(), old_b.old_bytes(), a.bytes(), b.bytes())
+}
+
+// A disk with the bytes of these slots, whose call `fail` fails.
+fn disk_with(alloc: Global, slots: AllBytes, fail: u32) -> Result<MemSlots, Fail> {
+    let (old_a, old_b, a, b) = slots;
     let mut plan = Plan::new();
     plan.push(fail);
     Ok(MemSlots::with_room(alloc, old_a, old_b, a, b, 16, plan)?)
 }
 
-// A disk with these slots A and B and blank old slots, whose call `fail` fails.
-fn new_disk_of(alloc: Global, a: [u8; 24], b: [u8; 24], fail: u32) -> Result<MemSlots, Fail> {
-    disk_of(alloc, &(OLD_BLANK, OLD_BLANK, a, b), fail)
+// A disk with these slots, whose call `fail` fails.
+fn disk_of(alloc: Global, slots: &Contents, fail: u32) -> Result<MemSlots, Fail> {
+    disk_with(alloc, all_bytes(slots), fail)
 }
 
-const OLD_BLANK: [u8; 16] = [0; 16];
-
-const OLD_ONES: [u8; 16] = [0x11; 16];
-
-const BLANK: [u8; 24] = [0; 24];
-
-const ONES: [u8; 24] = [0x11; 24];
-
-// An old slot that holds this number.
-fn old(n: u64) -> [u8; 16] {
-    ((u128::from(n) << 64) | u128::from(!n)).to_be_bytes()
+// A disk with this in slots A and B and zeros in the old ones, whose call `fail` fails.
+fn new_disk_of(alloc: Global, a: Content, b: Content, fail: u32) -> Result<MemSlots, Fail> {
+    disk_of(alloc, &(Blank, Blank, a, b), fail)
 }
 
-fn own(n: u64) -> [u8; 24] {
-    slot_of(n.min(LIMIT), &RTU_AB)
-}
-
-fn another(n: u64) -> [u8; 24] {
-    slot_of(n.min(LIMIT), &DNP_BA_24)
-}
-
-// All slots of a disk.
-fn slots_of(disk: &MemSlots) -> AllBytes {
-    (
+// Whether the slots of a disk have this.
+fn has_slots(disk: &MemSlots, slots: &Contents) -> bool {
+    let found = (
         disk.old_slot(Slot::A),
         disk.old_slot(Slot::B),
         disk.slot(Slot::A),
         disk.slot(Slot::B),
-    )
+    );
+    found == all_bytes(slots)
+}
+
+// The floor that is loaded from a disk.
+fn floor_in<D: SlotDisk>(disk: &mut D) -> Option<u64> {
+    match Journal::load(disk, &RTU_AB) {
+        Ok(journal) => Some(journal.floor()),
+        Err(_) => None,
+    }
+}
+
+// The floor that is loaded from a disk with these slots.
+fn floor_left(alloc: Global, slots: &Contents) -> Result<Option<u64>, Fail> {
+    Ok(floor_in(&mut disk_of(alloc, slots, 0)?))
+}
+
+// Why no journal is loaded from a disk.
+fn refusal<D: SlotDisk>(disk: &mut D) -> Option<LoadError> {
+    Journal::load(disk, &RTU_AB).err()
+}
+
+// Why no journal is made on a disk.
+fn refusal_to_make<D: SlotDisk>(disk: &mut D) -> Option<InitError> {
+    Journal::init(disk, &RTU_AB).err()
+}
+
+// Whether number 9 is committed after a lower one.
+fn commits_nine<D: SlotDisk>(journal: &mut Journal, disk: &mut D) -> bool
+    requires { Fits journal.old (D.told disk.old) }
+{
+    journal.floor() < 9 && journal.commit(disk, 9).is_ok()
+}
+
+// The slots, the floor, what slot A has after the load, and the slot that the next commit writes.
+type FloorRow = (Contents, u64, Content, Slot);
+
+const FLOORS: [FloorRow; 9] = [
+    ((Blank, Blank, Own(5), Ones), 5, Own(5), Slot::B),
+    ((Blank, Ones, Ones, Own(5)), 5, Ones, Slot::A),
+    ((Ones, Blank, Own(5), Own(6)), 6, Own(5), Slot::A),
+    ((Ones, Ones, Own(6), Own(5)), 6, Own(6), Slot::B),
+    ((Blank, Blank, Own(5), Own(5)), 5, Own(5), Slot::B),
+    // A number beside another link's number, and one beside old numbers.
+    ((Blank, Blank, Another(9), Own(5)), 5, Another(9), Slot::A),
+    ((Own(7), Own(4), Own(5), Ones), 7, Own(5), Slot::B),
+    // If there are only old numbers, the greatest of them is taken over.
+    ((Own(5), Ones, Blank, Blank), 5, Own(5), Slot::B),
+    ((Own(5), Own(6), Ones, Ones), 6, Own(6), Slot::B),
+];
+
+// Whether a journal is loaded and number 9 is committed as the row says.
+fn goes_on(disk: &mut MemSlots, row: &FloorRow) -> bool {
+    let ((old_a, old_b, _, b), floor, a, written) = *row;
+    let Ok(mut journal) = Journal::load(disk, &RTU_AB) else {
+        return false;
+    };
+    (journal.floor(), journal.broken()) == (floor, false)
+        && has_slots(disk, &(old_a, old_b, a, b))
+        && commits_nine(&mut journal, disk)
+        && disk.slot(written) == Own(9).bytes()
+        && floor_in(disk) == Some(9)
+}
+
+// Calls the laws.
+fn laws_hold() {
+    numbers_rise();
+    failed_calls_keep_images::<MemSlots>();
+    uptime_ends_at_any_moment::<MemSlots>();
 }
 
 #[test]
 fn the_greater_number_is_the_floor(rt: HostRuntime) -> Result<(), Fail> {
-    // The slots, the floor, slot A after the load, and the slot that the next commit writes.
-    let rows: [(AllBytes, u64, [u8; 24], Slot); 9] = [
-        ((OLD_BLANK, OLD_BLANK, own(5), ONES), 5, own(5), Slot::B),
-        ((OLD_BLANK, OLD_ONES, ONES, own(5)), 5, ONES, Slot::A),
-        ((OLD_ONES, OLD_BLANK, own(5), own(6)), 6, own(5), Slot::A),
-        ((OLD_ONES, OLD_ONES, own(6), own(5)), 6, own(6), Slot::B),
-        ((OLD_BLANK, OLD_BLANK, own(5), own(5)), 5, own(5), Slot::B),
-        // A number beside another link's number, and one beside old numbers.
-        (
-            (OLD_BLANK, OLD_BLANK, another(9), own(5)),
-            5,
-            another(9),
-            Slot::A,
-        ),
-        ((old(7), old(4), own(5), ONES), 7, own(5), Slot::B),
-        // If there are only old numbers, the greatest of them is taken over.
-        ((old(5), OLD_ONES, BLANK, BLANK), 5, own(5), Slot::B),
-        ((old(5), old(6), ONES, ONES), 6, own(6), Slot::B),
-    ];
-    for row in &rows {
-        let (slots, floor, a, written) = row;
-        let mut disk = disk_of(rt.alloc(), slots, 0)?;
-        let mut journal = Journal::load(&mut disk, &RTU_AB)?;
-        assert_eq!(rt; journal.floor(), *floor);
-        assert!(rt; !journal.broken());
-        assert!(rt; slots_of(&disk) == (slots.0, slots.1, *a, slots.3));
-        assert!(rt; journal.floor() < 9);
-        assert_eq!(rt; journal.commit(&mut disk, 9), Ok(()));
-        assert_eq!(rt; disk.slot(*written), own(9));
-        assert_eq!(rt; Journal::load(&mut disk, &RTU_AB)?.floor(), 9);
+    for row in &FLOORS {
+        assert!(rt; goes_on(&mut disk_of(rt.alloc(), &row.0, 0)?, row));
     }
-    numbers_rise();
-    failed_calls_keep_images::<MemSlots>();
-    uptime_ends_at_any_moment::<MemSlots>();
+    laws_hold();
     Ok(())
+}
+
+// The slots, and the number for another link that they are refused for, or none if they are refused
+// because they hold no number.
+type RefusedRow = (Contents, Option<u64>);
+
+const REFUSED: [RefusedRow; 6] = [
+    ((Blank, Ones, Ones, Blank), None),
+    ((Blank, Ones, Another(5), Blank), Some(5)),
+    ((Blank, Ones, Blank, Another(6)), Some(6)),
+    ((Blank, Ones, Another(5), Another(6)), Some(6)),
+    ((Blank, Ones, Another(5), Another(4)), Some(5)),
+    // Old numbers don't count if there is a number for another link.
+    ((Own(9), Own(8), Another(5), Blank), Some(5)),
+];
+
+// Why no journal is loaded: for the number of another link, or because there is none.
+fn why_of(other: Option<u64>) -> LoadError {
+    match other {
+        Some(n) => LoadError::WrongLink {
+            slot: Another(n).bytes(),
+        },
+        None => LoadError::Bad {
+            a: [0x11; 24],
+            b: [0; 24],
+        },
+    }
+}
+
+// Whether no journal is loaded, for the reason of the row, and the slots stay as they are.
+fn is_refused(alloc: Global, row: &RefusedRow) -> Result<bool, Fail> {
+    let (slots, other) = *row;
+    let mut disk = disk_of(alloc, &slots, 0)?;
+    Ok(refusal(&mut disk) == Some(why_of(other)) && has_slots(&disk, &slots))
 }
 
 #[test]
 fn other_disks_are_refused(rt: HostRuntime) -> Result<(), Fail> {
-    let bad = LoadError::Bad { a: ONES, b: BLANK };
-    let first = LoadError::WrongLink { slot: another(5) };
-    let second = LoadError::WrongLink { slot: another(6) };
-    let rows: [(AllBytes, LoadError); 6] = [
-        ((OLD_BLANK, OLD_ONES, ONES, BLANK), bad),
-        ((OLD_BLANK, OLD_ONES, another(5), BLANK), first),
-        ((OLD_BLANK, OLD_ONES, BLANK, another(6)), second),
-        ((OLD_BLANK, OLD_ONES, another(5), another(6)), second),
-        ((OLD_BLANK, OLD_ONES, another(5), another(4)), first),
-        // Old numbers don't count if there is a number for another link.
-        ((old(9), old(8), another(5), BLANK), first),
-    ];
-    for row in &rows {
-        let (slots, why) = row;
-        let mut disk = disk_of(rt.alloc(), slots, 0)?;
-        assert!(rt; Journal::load(&mut disk, &RTU_AB).err() == Some(*why));
-        assert!(rt; slots_of(&disk) == *slots);
+    for row in &REFUSED {
+        assert!(rt; is_refused(rt.alloc(), row)?);
     }
     Ok(())
 }
 
-// Which call fails, whether the commit is done, what slot B then holds, and the floor that a later
+// Which call fails, whether the commit is done, what slot B then has, and the floor that a later
 // run loads.
-type CommitRow = (u32, bool, [u8; 24], u64);
+type CommitRow = (u32, bool, Content, u64);
 
-// Commits number 6 after number 5, and checks what the row says.
-fn commit_keeps_the_floor(rt: &impl Abort, alloc: Global, row: &CommitRow) -> Result<(), Fail> {
-    let (fail, done, b, later) = row;
-    let mut disk = new_disk_of(alloc, own(5), ONES, *fail)?;
-    let mut journal = Journal::load(&mut disk, &RTU_AB)?;
-    assert!(rt; journal.floor() < 6);
-    assert_eq!(rt; journal.commit(&mut disk, 6).is_ok(), *done);
-    assert_eq!(rt; journal.broken(), !*done);
-    assert_eq!(rt; journal.floor(), if *done { 6 } else { 5 });
-    assert_eq!(rt; disk.slot(Slot::A), own(5));
-    assert_eq!(rt; disk.slot(Slot::B), *b);
-    let mut again = new_disk_of(alloc, disk.slot(Slot::A), disk.slot(Slot::B), 0)?;
-    assert_eq!(rt; Journal::load(&mut again, &RTU_AB)?.floor(), *later);
-    Ok(())
+// Call 5 is the write and call 6 the sync.
+const COMMITS: [CommitRow; 3] = [
+    (5, false, Ones, 5),
+    (6, false, Own(6), 6),
+    (7, true, Own(6), 6),
+];
+
+// Whether number 6 is committed after number 5 if `done` says so.
+fn commits_six<D: SlotDisk>(disk: &mut D, done: bool) -> bool {
+    let Ok(mut journal) = Journal::load(disk, &RTU_AB) else {
+        return false;
+    };
+    let floor = if done { 6 } else { 5 };
+    journal.floor() < 6
+        && journal.commit(disk, 6).is_ok() == done
+        && (journal.broken(), journal.floor()) == (!done, floor)
 }
 
-// Checks that nothing is loaded if call `fail` fails.
-fn load_fails(rt: &impl Abort, alloc: Global, fail: u32) -> Result<(), Fail> {
-    let mut disk = new_disk_of(alloc, own(5), ONES, fail)?;
-    assert!(rt; matches!(Journal::load(&mut disk, &RTU_AB), Err(LoadError::Fault)));
-    Ok(())
+// Whether a commit of number 6 after number 5 does what the row says.
+fn keeps_the_floor(alloc: Global, row: &CommitRow) -> Result<bool, Fail> {
+    let (fail, done, b, later) = *row;
+    let left = (Blank, Blank, Own(5), b);
+    let floor = floor_left(alloc, &left)?;
+    let mut disk = new_disk_of(alloc, Own(5), Ones, fail)?;
+    Ok(commits_six(&mut disk, done) && has_slots(&disk, &left) && floor == Some(later))
+}
+
+// Whether nothing is loaded if call `fail` fails.
+fn load_fails(alloc: Global, fail: u32) -> Result<bool, Fail> {
+    let mut disk = new_disk_of(alloc, Own(5), Ones, fail)?;
+    Ok(refusal(&mut disk) == Some(LoadError::Fault))
 }
 
 #[test]
 fn a_fault_of_a_commit_keeps_the_floor(rt: HostRuntime) -> Result<(), Fail> {
-    // Call 5 is the write and call 6 the sync.
-    let rows: [CommitRow; 3] = [
-        (5, false, ONES, 5),
-        (6, false, own(6), 6),
-        (7, true, own(6), 6),
-    ];
-    for row in &rows {
-        commit_keeps_the_floor(&rt, rt.alloc(), row)?;
+    for row in &COMMITS {
+        assert!(rt; keeps_the_floor(rt.alloc(), row)?);
     }
     for fail in 1..5 {
-        load_fails(&rt, rt.alloc(), fail)?;
+        assert!(rt; load_fails(rt.alloc(), fail)?);
     }
     Ok(())
 }
 
-// Checks that the floor stays 5 if call `fail` fails while number 5 of an old slot is taken over,
-// and that slot A then holds the bytes `a`.
-fn taking_over_keeps_the_floor(
-    rt: &impl Abort,
-    alloc: Global,
-    fail: u32,
-    a: &[u8; 24],
-) -> Result<(), Fail> {
-    let mut disk = disk_of(alloc, &(old(5), OLD_ONES, BLANK, BLANK), fail)?;
-    assert!(rt; matches!(Journal::load(&mut disk, &RTU_AB), Err(LoadError::Fault)));
-    assert!(rt; slots_of(&disk) == (old(5), OLD_ONES, *a, BLANK));
-    assert_eq!(rt; Journal::load(&mut disk, &RTU_AB)?.floor(), 5);
-    Ok(())
+// Whether the floor stays 5 if call `fail` fails while number 5 of an old slot is taken over, and
+// slot A has this then.
+fn stays_at_five(alloc: Global, fail: u32, a: Content) -> Result<bool, Fail> {
+    let mut disk = disk_of(alloc, &(Own(5), Ones, Blank, Blank), fail)?;
+    Ok(
+        refusal(&mut disk) == Some(LoadError::Fault)
+            && has_slots(&disk, &(Own(5), Ones, a, Blank))
+            && floor_in(&mut disk) == Some(5),
+    )
 }
 
 #[test]
 fn a_fault_of_a_taking_over_keeps_the_floor(rt: HostRuntime) -> Result<(), Fail> {
     // Call 5 is the write and call 6 the sync.
-    taking_over_keeps_the_floor(&rt, rt.alloc(), 5, &BLANK)?;
-    taking_over_keeps_the_floor(&rt, rt.alloc(), 6, &own(5))?;
+    assert!(rt; stays_at_five(rt.alloc(), 5, Blank)?);
+    assert!(rt; stays_at_five(rt.alloc(), 6, Own(5))?);
     // A slot that a crash tore. It holds no number, or reads as one for another link.
-    let mut torn = disk_of(rt.alloc(), &(old(5), OLD_ONES, ONES, BLANK), 0)?;
-    assert_eq!(rt; Journal::load(&mut torn, &RTU_AB)?.floor(), 5);
-    let mut torn = disk_of(rt.alloc(), &(old(5), OLD_ONES, another(9), BLANK), 0)?;
-    let why = LoadError::WrongLink { slot: another(9) };
-    assert!(rt; Journal::load(&mut torn, &RTU_AB).err() == Some(why));
+    assert!(rt; floor_left(rt.alloc(), &(Own(5), Ones, Ones, Blank))? == Some(5));
+    let torn = ((Own(5), Ones, Another(9), Blank), Some(9));
+    assert!(rt; is_refused(rt.alloc(), &torn)?);
     Ok(())
 }
 
-// Checks that slots with a number, for whatever link, aren't taken for a new disk, and stay as they
-// are.
-fn numbers_stay(rt: &impl Abort, alloc: Global, slots: &AllBytes, floor: u64) -> Result<(), Fail> {
-    let mut disk = disk_of(alloc, slots, 0)?;
-    let stands = InitError::Stands { floor };
-    assert!(rt; Journal::init(&mut disk, &RTU_AB).err() == Some(stands));
-    assert!(rt; slots_of(&disk) == *slots);
-    Ok(())
+// Slots with a number, for whatever link, and the floor that is found.
+type StandingRow = (Contents, u64);
+
+const STANDING: [StandingRow; 4] = [
+    // Those of a new journal.
+    ((Ones, Blank, Own(0), Ones), 0),
+    // The floor that is found is the greatest number, for whatever link.
+    ((Blank, Blank, Own(5), Another(6)), 6),
+    ((Blank, Own(4), Blank, Blank), 4),
+    ((Own(7), Blank, Blank, Own(5)), 7),
+];
+
+// Whether slots with a number aren't taken for a new disk, and stay as they are.
+fn numbers_stay(alloc: Global, row: &StandingRow) -> Result<bool, Fail> {
+    let (slots, floor) = *row;
+    let mut disk = disk_of(alloc, &slots, 0)?;
+    Ok(refusal_to_make(&mut disk) == Some(InitError::Stands { floor }) && has_slots(&disk, &slots))
 }
 
-// Checks that no journal begins if call `fail` fails, and that slot A then holds the bytes `a`.
-fn init_fails(rt: &impl Abort, alloc: Global, fail: u32, a: &[u8; 24]) -> Result<(), Fail> {
-    let mut disk = new_disk_of(alloc, BLANK, BLANK, fail)?;
-    assert!(rt; matches!(Journal::init(&mut disk, &RTU_AB), Err(InitError::Fault)));
-    assert_eq!(rt; disk.slot(Slot::A), *a);
-    assert_eq!(rt; disk.slot(Slot::B), BLANK);
-    Ok(())
+// Which call fails while a journal is made, and what slot A has then. Calls 1 to 4 are the reads, 5
+// the write, 6 the sync.
+type InitRow = (u32, Content);
+
+const INIT_FAULTS: [InitRow; 4] = [(1, Blank), (4, Blank), (5, Blank), (6, Own(0))];
+
+// Whether no journal begins if a call fails.
+fn init_fails(alloc: Global, row: &InitRow) -> Result<bool, Fail> {
+    let (fail, a) = *row;
+    let mut disk = new_disk_of(alloc, Blank, Blank, fail)?;
+    Ok(
+        refusal_to_make(&mut disk) == Some(InitError::Fault)
+            && has_slots(&disk, &(Blank, Blank, a, Blank)),
+    )
+}
+
+// The floor of a journal that is made on a disk.
+fn new_floor_in<D: SlotDisk>(disk: &mut D) -> Option<u64> {
+    match Journal::init(disk, &RTU_AB) {
+        Ok(journal) => Some(journal.floor()),
+        Err(_) => None,
+    }
+}
+
+// Whether a journal over slots without a number begins at 0, in slot A.
+fn begins_at_zero(alloc: Global) -> Result<bool, Fail> {
+    let mut disk = disk_of(alloc, &(Ones, Blank, Ones, Ones), 0)?;
+    Ok(new_floor_in(&mut disk) == Some(0) && has_slots(&disk, &(Ones, Blank, Own(0), Ones)))
 }
 
 #[test]
 fn a_new_journal_stands_at_zero(rt: HostRuntime) -> Result<(), Fail> {
-    let mut disk = disk_of(rt.alloc(), &(OLD_ONES, OLD_BLANK, ONES, ONES), 0)?;
-    assert_eq!(rt; Journal::init(&mut disk, &RTU_AB)?.floor(), 0);
-    assert!(rt; slots_of(&disk) == (OLD_ONES, OLD_BLANK, own(0), ONES));
-    numbers_stay(&rt, rt.alloc(), &slots_of(&disk), 0)?;
-    // The floor that is found is the greatest number, for whatever link.
-    numbers_stay(
-        &rt,
-        rt.alloc(),
-        &(OLD_BLANK, OLD_BLANK, own(5), another(6)),
-        6,
-    )?;
-    numbers_stay(&rt, rt.alloc(), &(OLD_BLANK, old(4), BLANK, BLANK), 4)?;
-    numbers_stay(&rt, rt.alloc(), &(old(7), OLD_BLANK, BLANK, own(5)), 7)?;
-    // Calls 1 to 4 are the reads, 5 the write, 6 the sync.
-    init_fails(&rt, rt.alloc(), 1, &BLANK)?;
-    init_fails(&rt, rt.alloc(), 4, &BLANK)?;
-    init_fails(&rt, rt.alloc(), 5, &BLANK)?;
-    init_fails(&rt, rt.alloc(), 6, &own(0))?;
+    assert!(rt; begins_at_zero(rt.alloc())?);
+    for row in &STANDING {
+        assert!(rt; numbers_stay(rt.alloc(), row)?);
+    }
+    for row in &INIT_FAULTS {
+        assert!(rt; init_fails(rt.alloc(), row)?);
+    }
     Ok(())
 }
 
@@ -423,28 +556,53 @@ fn answer_twice<D: SlotDisk>(first: &mut D, second: &mut D, link: &LinkId) -> Op
     Some((n, m))
 }
 
+// The number of an uptime as in `answer_one`, for the link `RTU_AB`.
+fn one_number<D: SlotDisk>(disk: &mut D) -> Option<u64> {
+    answer_one(disk, &RTU_AB)
+}
+
+// The numbers of two uptimes as in `answer_twice`, for the link `RTU_AB`.
+fn two_numbers<D: SlotDisk>(first: &mut D, second: &mut D) -> Option<(u64, u64)> {
+    answer_twice(first, second, &RTU_AB)
+}
+
+// A disk that a crash in the write of 2 into slot A has left. It may leave anything there, such as
+// this.
+fn torn_disk(alloc: Global) -> Result<MemSlots, Fail> {
+    let torn = bytes_of(&[2, 0x01001202_ffffffff, 0xffffffff_feffedfd]);
+    disk_with(alloc, ([0; 16], [0; 16], torn, Own(1).bytes()), 0)
+}
+
+// Whether two uptimes return 1 and 2, and the first of them leaves 1 in slot B.
+fn return_one_and_two(first: &mut MemSlots, second: &mut MemSlots) -> bool {
+    two_numbers(first, second) == Some((1, 2)) && has_slots(first, &(Blank, Blank, Own(0), Own(1)))
+}
+
 #[test]
 fn an_uptime_ends_inside_a_commit(rt: HostRuntime) -> Result<(), Fail> {
-    // Call 7 is the write of 2 into slot A. A crash in it may leave anything there, such as this.
-    let torn = bytes_of(&[2, 0x01001202_ffffffff, 0xffffffff_feffedfd]);
-    let mut first = new_disk_of(rt.alloc(), own(0), BLANK, 7)?;
-    let mut second = new_disk_of(rt.alloc(), torn, own(1), 0)?;
-    assert_eq!(rt;
-        answer_twice(&mut first, &mut second, &RTU_AB),
-        Some((1, 2))
-    );
-    assert_eq!(rt; first.slot(Slot::A), own(0));
-    assert_eq!(rt; first.slot(Slot::B), own(1));
+    // Call 7 is the write of 2 into slot A.
+    let mut first = new_disk_of(rt.alloc(), Own(0), Blank, 7)?;
+    assert!(rt; return_one_and_two(&mut first, &mut torn_disk(rt.alloc())?));
     Ok(())
+}
+
+// An uptime as in `answer_none`. Call 5 is the write of 5 into slot A.
+fn end_inside_a_load(alloc: Global) -> Result<(), Fail> {
+    let mut disk = disk_of(alloc, &(Own(5), Ones, Blank, Blank), 5)?;
+    answer_none(&mut disk, &RTU_AB);
+    Ok(())
+}
+
+// Whether an uptime returns 6, and leaves it in slot B.
+fn returns_six(disk: &mut MemSlots) -> bool {
+    one_number(disk) == Some(6) && disk.slot(Slot::B) == Own(6).bytes()
 }
 
 #[test]
 fn an_uptime_ends_inside_its_load(rt: HostRuntime) -> Result<(), Fail> {
-    // Call 5 is the write of 5 into slot A. A crash in it may leave anything there.
-    let mut first = disk_of(rt.alloc(), &(old(5), OLD_ONES, BLANK, BLANK), 5)?;
-    answer_none(&mut first, &RTU_AB);
-    let mut second = disk_of(rt.alloc(), &(old(5), OLD_ONES, ONES, BLANK), 0)?;
-    assert_eq!(rt; answer_one(&mut second, &RTU_AB), Some(6));
-    assert_eq!(rt; second.slot(Slot::B), own(6));
+    end_inside_a_load(rt.alloc())?;
+    // A crash in the write into slot A may leave anything there.
+    let mut second = disk_of(rt.alloc(), &(Own(5), Ones, Ones, Blank), 0)?;
+    assert!(rt; returns_six(&mut second));
     Ok(())
 }

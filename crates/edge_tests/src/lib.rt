@@ -13,6 +13,8 @@ mod keys;
 #[cfg(test)]
 mod live_outputs;
 #[cfg(test)]
+mod one_file;
+#[cfg(test)]
 mod streams;
 #[cfg(test)]
 mod written_texts;

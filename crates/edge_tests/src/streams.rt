@@ -2,9 +2,9 @@
 ghost use Rattle.std.specs.Io.{ReadsAtMost, WritesAtMost};
 ghost use Rattle.std.specs.Prelude.{◌≡◌, take, IfOk};
 
+use crate::files::all_fail;
 use std::alloc::Global;
 use std::io::{self, Read, Write};
-use std::process::Abort;
 use std::test::Fail;
 use std::{env, fs};
 use yasir_io::{
@@ -14,54 +14,58 @@ use yasir_io::{
 };
 
 // A plan by which these calls fail. A 0 is no call.
-fn plan(calls: [u32; 2]) -> Plan {
+fn plan(calls: (u32, u32)) -> Plan {
     let mut plan = Plan::new();
-    let _ = plan.try_extend_from_slice(&calls);
+    let _ = plan.try_extend_from_slice(&[calls.0, calls.1]);
     plan
 }
 
-// Whether a sink takes the first `len` bytes of a text, and how many bytes it holds then.
-fn taken(
-    rt: &impl Abort,
-    alloc: Global,
-    room: usize,
-    piece: u16,
-    fail: [u32; 2],
-    len: usize,
-) -> Result<(bool, usize), Fail> {
-    assert!(rt; piece >= 1 && piece <= 512);
-    let text = b"abcdefghi".get(..len).ok_or("len")?;
+// How many bytes a sink has room for, how many a call moves at most, which calls fail, and how many
+// bytes of a text are written. Then whether all of these are taken, and how many bytes are held.
+type SinkRow = (usize, u16, (u32, u32), usize, bool, usize);
+
+const SINK_ROWS: [SinkRow; 6] = [
+    (4, 512, (0, 0), 4, true, 4),
+    (4, 512, (0, 0), 5, false, 4),
+    (0, 512, (0, 0), 0, true, 0),
+    (0, 512, (0, 0), 1, false, 0),
+    (9, 3, (2, 0), 8, false, 3),
+    (9, 3, (4, 9), 9, true, 9),
+];
+
+// Whether of a text what the row says is taken by a sink, and the sink holds the first bytes of it.
+fn takes(sink: &mut MemSink, text: &[u8], row: &SinkRow) -> bool {
+    write_all(sink, text).is_ok() == row.4
+        && text.starts_with(sink.held())
+        && sink.held().len() == row.5
+}
+
+// Whether the sink of a row takes what the row says.
+fn is_taken(alloc: Global, row: &SinkRow) -> Result<bool, Fail> {
+    let (room, piece, fail, len, _, _) = *row;
+    if piece < 1 || piece > 512 || len > 9 {
+        return Ok(false);
+    }
     let mut sink = MemSink::with_room(alloc, room, piece, plan(fail))?;
-    let written = write_all(&mut sink, text).is_ok();
-    assert!(rt; text.starts_with(sink.held()));
-    Ok((written, sink.held().len()))
+    Ok(takes(&mut sink, &b"abcdefghi"[..len], row))
 }
 
 #[test]
 fn a_sink_takes_what_it_has_room_for(rt: HostRuntime) -> Result<(), Fail> {
-    // room, piece, calls that fail, bytes written, whether all are taken, bytes held
-    let rows = [
-        (4, 512, [0, 0], 4, true, 4),
-        (4, 512, [0, 0], 5, false, 4),
-        (0, 512, [0, 0], 0, true, 0),
-        (0, 512, [0, 0], 1, false, 0),
-        (9, 3, [2, 0], 8, false, 3),
-        (9, 3, [4, 9], 9, true, 9),
-    ];
-    for (room, piece, fail, len, written, held) in rows {
-        let found = taken(&rt, rt.alloc(), room, piece, fail, len)?;
-        assert!(rt; found == (written, held));
+    for row in &SINK_ROWS {
+        assert!(rt; is_taken(rt.alloc(), row)?);
     }
     let refused = MemSink::with_room(rt.alloc(), usize::MAX, 1, Plan::new());
     assert!(rt; matches!(refused, Err(NoMemory)));
     Ok(())
 }
 
-// Asks forty times for a byte, which is past the end of each source here, and keeps the bytes that
-// come. Returns how many of the calls failed.
-fn drained<S: Source>(pieces: &mut Pieces, source: &mut S, out: &mut Vec<u8>) -> Result<u32, Fail> {
+// Asks `times` times for a byte, which is past the end of each source here, and keeps the bytes
+// that come. Returns how many of the calls failed.
+fn drained<S: Source>(source: &mut S, out: &mut Vec<u8>, times: u32) -> Result<u32, Fail> {
+    let mut pieces = Pieces::new();
     let mut failed = 0u32;
-    for _ in 0..40 {
+    for _ in 0..times {
         match pieces.next(source) {
             Ok(Some(byte)) => out.push(byte)?,
             Ok(None) => {}
@@ -71,106 +75,137 @@ fn drained<S: Source>(pieces: &mut Pieces, source: &mut S, out: &mut Vec<u8>) ->
     Ok(failed)
 }
 
-// Checks that a source gives this text, and that `failed` of its calls fail.
-fn gives<S: Source>(
-    rt: &impl Abort,
-    alloc: Global,
-    source: &mut S,
-    failed: u32,
-    text: &[u8],
-) -> Result<(), Fail> {
+// Whether a source gives this text, and `failed` of its calls fail.
+fn gives<S: Source>(alloc: Global, source: &mut S, failed: u32, text: &[u8]) -> Result<bool, Fail> {
     let mut out = Vec::new(alloc);
-    let found = drained(&mut Pieces::new(), source, &mut out)?;
-    assert!(rt; found == failed);
-    assert!(rt; out.as_slice() == text);
-    Ok(())
+    let found = drained(source, &mut out, 40)?;
+    Ok(found == failed && out.as_slice() == text)
+}
+
+// How many bytes a call moves at most, which calls fail, and how many fail.
+type SourceRow = (u16, (u32, u32), u32);
+
+const SOURCE_ROWS: [SourceRow; 4] = [
+    (512, (0, 0), 0),
+    (2, (2, 3), 2),
+    (1, (1, 7), 2),
+    (3, (9, 0), 0),
+];
+
+// Whether the source of a row gives its text.
+fn is_given(alloc: Global, row: &SourceRow) -> Result<bool, Fail> {
+    let (piece, fail, failed) = *row;
+    if piece < 1 || piece > 512 {
+        return Ok(false);
+    }
+    let mut source = MemSource::new(b"abcdef", piece, plan(fail));
+    gives(alloc, &mut source, failed, b"abcdef")
 }
 
 #[test]
 fn a_source_gives_each_byte_once(rt: HostRuntime) -> Result<(), Fail> {
-    // piece, calls that fail, how many fail
-    let rows = [
-        (512, [0, 0], 0),
-        (2, [2, 3], 2),
-        (1, [1, 7], 2),
-        (3, [9, 0], 0),
-    ];
-    for (piece, fail, failed) in rows {
-        assert!(rt; piece >= 1 && piece <= 512);
-        let mut source = MemSource::new(b"abcdef", piece, plan(fail));
-        gives(&rt, rt.alloc(), &mut source, failed, b"abcdef")?;
+    for row in &SOURCE_ROWS {
+        assert!(rt; is_given(rt.alloc(), row)?);
     }
-    gives(&rt, rt.alloc(), &mut SteadySource::new(b"abc"), 0, b"abc")
+    assert!(rt; gives(rt.alloc(), &mut SteadySource::new(b"abc"), 0, b"abc")?);
+    Ok(())
+}
+
+// Whether a read gives as many bytes as the slice has room for, and these.
+fn reads<S: Source>(source: &mut S, count: usize, bytes: [u8; 2]) -> bool {
+    let mut two = [0; 2];
+    source.read(&mut two) == Ok(count) && two == bytes
+}
+
+// Whether the bytes `abc` are read into a slice shorter than what is left, into one without room,
+// and to the end.
+fn gives_by_room(source: &mut MemSource<'_>) -> bool {
+    reads(source, 2, *b"ab")
+        && source.read(&mut []) == Ok(0)
+        && reads(source, 1, *b"c\0")
+        && reads(source, 0, [0; 2])
 }
 
 #[test]
 fn a_read_gives_what_its_slice_has_room_for(rt: HostRuntime) {
-    // A slice shorter than what is left, and one without room.
     let mut source = MemSource::new(b"abc", 512, Plan::new());
-    let mut two = [0; 2];
-    assert!(rt; source.read(&mut two) == Ok(2));
-    assert!(rt; two == *b"ab");
-    assert!(rt; source.read(&mut []) == Ok(0));
-    assert!(rt; source.read(&mut two) == Ok(1));
-    assert!(rt; source.read(&mut two) == Ok(0));
+    assert!(rt; gives_by_room(&mut source));
 }
 
-// Whether a buffer writes pieces of these lengths to a sink, of which 0 is no piece, and how many
-// bytes the sink holds then.
-fn buffered(
-    rt: &impl Abort,
-    alloc: Global,
-    lens: [usize; 5],
-    fail: u32,
-) -> Result<(bool, usize), Fail> {
-    let mut long = Vec::new(alloc);
-    long.resize(70_000, b'l')?;
-    let mut sink = MemSink::with_room(alloc, 140_000, 512, plan([fail, 0]))?;
-    let mut buffer = TextBuffer::new();
-    let mut done = true;
+// A text of `len` letters.
+fn letters(alloc: Global, len: usize) -> Result<Vec<u8>, Fail> {
+    let mut text = Vec::new(alloc);
+    text.resize(len, b'l')?;
+    Ok(text)
+}
+
+// Whether a buffer takes the first bytes of a text in pieces of these lengths, of which 0 is no
+// piece.
+fn pushes(buffer: &mut TextBuffer, sink: &mut MemSink, text: &[u8], lens: &[usize]) -> bool {
     for len in lens {
-        if len > 0 {
-            let piece = long.get(..len).ok_or("long")?;
-            done = done && buffer.push(&mut sink, piece).is_ok();
+        let Some(piece) = text.get(..*len) else {
+            return false;
+        };
+        if *len > 0 && buffer.push(sink, piece).is_err() {
+            return false;
         }
     }
-    done = done && buffer.drain(&mut sink).is_ok();
-    let held = sink.held().len();
-    assert!(rt; sink.flush().is_ok());
-    Ok((done, held))
+    true
+}
+
+// Whether a buffer writes all pieces of these lengths.
+fn buffers(sink: &mut MemSink, text: &[u8], lens: &[usize]) -> bool {
+    let mut buffer = TextBuffer::new();
+    pushes(&mut buffer, sink, text, lens) && buffer.drain(sink).is_ok()
+}
+
+// The lengths of the pieces that are pushed, the call that fails, whether all is written, and how
+// many bytes are held.
+type BufferRow = (&'static [usize], u32, bool, usize);
+
+const BUFFER_ROWS: [BufferRow; 5] = [
+    (&[0, 0, 0, 0, 0], 0, true, 0),
+    (&[1, 2, 3, 0, 0], 0, true, 6),
+    (&[65_535, 1, 1, 70_000, 7], 0, true, 135_544),
+    (&[65_536, 1, 0, 0, 0], 129, false, 65_536),
+    (&[10, 70_000, 0, 0, 0], 2, false, 10),
+];
+
+// Whether the pieces of a row are written as the row says.
+fn are_buffered(sink: &mut MemSink, text: &[u8], row: &BufferRow) -> bool {
+    let (lens, _, written, held) = *row;
+    buffers(sink, text, lens) == written && sink.held().len() == held && sink.flush().is_ok()
+}
+
+// Makes the text and the sink of a row, and returns whether the pieces are written as it says.
+fn is_buffered(alloc: Global, row: &BufferRow) -> Result<bool, Fail> {
+    let long = letters(alloc, 70_000)?;
+    let mut sink = MemSink::with_room(alloc, 140_000, 512, plan((row.1, 0)))?;
+    Ok(are_buffered(&mut sink, long.as_slice(), row))
 }
 
 #[test]
 fn a_buffer_writes_a_text_in_order(rt: HostRuntime) -> Result<(), Fail> {
-    // lengths of the pieces pushed, the call that fails, whether all is written, bytes held
-    let rows = [
-        ([0, 0, 0, 0, 0], 0, true, 0),
-        ([1, 2, 3, 0, 0], 0, true, 6),
-        ([65_535, 1, 1, 70_000, 7], 0, true, 135_544),
-        ([65_536, 1, 0, 0, 0], 129, false, 65_536),
-        ([10, 70_000, 0, 0, 0], 2, false, 10),
-    ];
-    for (lens, fail, written, held) in rows {
-        let found = buffered(&rt, rt.alloc(), lens, fail)?;
-        assert!(rt; found == (written, held));
+    for row in &BUFFER_ROWS {
+        assert!(rt; is_buffered(rt.alloc(), row)?);
     }
     Ok(())
 }
 
-// Checks that the slot has these bytes, and that its old slot is all zeros.
-fn steady_slot_is(rt: &impl Abort, disk: &mut SteadySlots, slot: Slot, want: &[u8; 24]) {
-    assert_eq!(rt; disk.read_old(slot), Ok([0; 16]));
-    assert_eq!(rt; disk.read_slot(slot), Ok(*want));
-    assert_eq!(rt; disk.slot(slot), *want);
+// Whether the slot has these bytes, and its old slot is all zeros.
+fn steady_slot_is(disk: &mut SteadySlots, slot: Slot, want: &[u8; 24]) -> bool {
+    disk.read_old(slot) == Ok([0; 16])
+        && disk.read_slot(slot) == Ok(*want)
+        && disk.slot(slot) == *want
 }
 
 #[test]
 fn steady_slots_hold_what_is_written(rt: HostRuntime) {
     let mut disk = SteadySlots::new([1; 24], [2; 24]);
-    assert_eq!(rt; disk.write_slot(Slot::B, &[3; 24]), Ok(()));
-    assert_eq!(rt; disk.sync(), Ok(()));
-    steady_slot_is(&rt, &mut disk, Slot::A, &[1; 24]);
-    steady_slot_is(&rt, &mut disk, Slot::B, &[3; 24]);
+    assert!(rt; disk.write_slot(Slot::B, &[3; 24]) == Ok(()));
+    assert!(rt; disk.sync() == Ok(()));
+    assert!(rt; steady_slot_is(&mut disk, Slot::A, &[1; 24]));
+    assert!(rt; steady_slot_is(&mut disk, Slot::B, &[3; 24]));
 }
 
 // A stream outside the program. A read moves one byte, and a write up to two, six in all. The
@@ -247,17 +282,20 @@ impl Write for &mut Outside {
     }
 }
 
-#[test]
-fn a_reader_is_read_to_its_end(rt: HostRuntime) -> Result<(), Fail> {
-    let mut outside = Outside {
-        bytes: b"abcde".to_vec(rt.alloc())?,
+// The stream with these bytes, before any call.
+fn outside_of(alloc: Global, bytes: &[u8]) -> Result<Outside, Fail> {
+    Ok(Outside {
+        bytes: bytes.to_vec(alloc)?,
         calls: 0,
         flushes: 0,
-    };
-    let mut out = Vec::new(rt.alloc());
+    })
+}
+
+#[test]
+fn a_reader_is_read_to_its_end(rt: HostRuntime) -> Result<(), Fail> {
+    let mut outside = outside_of(rt.alloc(), b"abcde")?;
     let mut source = StdinSource::new(&mut outside);
-    assert_eq!(rt; drained(&mut Pieces::new(), &mut source, &mut out)?, 1);
-    assert_eq!(rt; out.as_slice(), b"abcde".as_slice());
+    assert!(rt; gives(rt.alloc(), &mut source, 1, b"abcde")?);
     Ok(())
 }
 
@@ -276,55 +314,60 @@ fn a_reader_that_tells_gives_its_bytes(rt: HostRuntime) -> Result<(), Fail> {
     Ok(())
 }
 
+// Writes a text to a vector in one call, and returns how many bytes were taken.
+fn written_at_once(out: &mut Vec<u8>, text: &[u8]) -> Result<usize, Failed> {
+    StdoutSink::new(out).write(text)
+}
+
 // A writer that takes all gets a whole buffer in one call.
 #[test]
 fn a_writer_gets_a_whole_buffer_at_once(rt: HostRuntime) -> Result<(), Fail> {
-    let mut long = Vec::new(rt.alloc());
-    long.resize(65_536, b'l')?;
+    let long = letters(rt.alloc(), 65_536)?;
     let mut out = Vec::new(rt.alloc());
-    let mut sink = StdoutSink::new(&mut out);
-    assert_eq!(rt; sink.write(long.as_slice()), Ok(65_536));
-    drop(sink);
+    assert!(rt; written_at_once(&mut out, long.as_slice()) == Ok(65_536));
     assert!(rt; out.as_slice() == long.as_slice());
     Ok(())
 }
 
-#[test]
-fn a_reader_keeps_its_order_where_it_gives_much_at_once(rt: HostRuntime) -> Result<(), Fail> {
-    let mut bytes = [0u8; 40_000];
+// Sets the bytes to 0, 7, 14 and so on.
+fn count_by_seven(bytes: &mut [u8]) {
     let mut next = 0u8;
     for byte in bytes.iter_mut() {
         *byte = next;
         next = next.wrapping_add(7);
     }
+}
+
+#[test]
+fn a_reader_keeps_its_order_where_it_gives_much_at_once(rt: HostRuntime) -> Result<(), Fail> {
+    let mut bytes = [0u8; 40_000];
+    count_by_seven(&mut bytes);
     let mut out = Vec::new(rt.alloc());
     let mut source = StdinSource::new(bytes.as_slice());
-    let mut pieces = Pieces::new();
-    for _ in 0..50_000 {
-        if let Ok(Some(byte)) = pieces.next(&mut source) {
-            out.push(byte)?;
-        }
-    }
+    assert!(rt; drained(&mut source, &mut out, 50_000)? == 0);
     assert!(rt; out.as_slice() == bytes.as_slice());
     Ok(())
 }
 
+// Whether four pieces are written, of which the first and the last aren't taken whole.
+fn writes_pieces<S: Sink>(sink: &mut S) -> bool {
+    write_all(sink, b"abcd").is_err()
+        && write_all(sink, b"").is_ok()
+        && write_all(sink, b"cdef").is_ok()
+        && write_all(sink, b"g").is_err()
+}
+
+// Whether pieces are written to a stream, and of two flushes the second one fails.
+fn writes_outside(outside: &mut Outside) -> bool {
+    let mut sink = StdoutSink::new(outside);
+    writes_pieces(&mut sink) && sink.flush().is_ok() && sink.flush().is_err()
+}
+
 #[test]
 fn a_writer_gets_each_piece_at_once(rt: HostRuntime) -> Result<(), Fail> {
-    let mut outside = Outside {
-        bytes: Vec::new(rt.alloc()),
-        calls: 0,
-        flushes: 0,
-    };
-    let mut sink = StdoutSink::new(&mut outside);
-    assert_eq!(rt; write_all(&mut sink, b"abcd"), Err(Failed));
-    assert_eq!(rt; write_all(&mut sink, b""), Ok(()));
-    assert_eq!(rt; write_all(&mut sink, b"cdef"), Ok(()));
-    assert_eq!(rt; write_all(&mut sink, b"g"), Err(Failed));
-    assert_eq!(rt; sink.flush(), Ok(()));
-    assert_eq!(rt; sink.flush(), Err(Failed));
-    drop(sink);
-    assert_eq!(rt; outside.bytes.as_slice(), b"abcdef".as_slice());
+    let mut outside = outside_of(rt.alloc(), b"")?;
+    assert!(rt; writes_outside(&mut outside));
+    assert!(rt; outside.bytes.as_slice() == b"abcdef".as_slice());
     Ok(())
 }
 
@@ -333,56 +376,63 @@ fn slots_of(alloc: Global, calls: usize, fail: Plan) -> Result<MemSlots, NoMemor
     MemSlots::with_room(alloc, [5; 16], [6; 16], [1; 24], [2; 24], calls, fail)
 }
 
-// Checks that the slot has the bytes `new`, and its old slot the bytes `old`.
-fn slot_is(rt: &impl Abort, disk: &mut MemSlots, slot: Slot, old: &[u8; 16], new: &[u8; 24]) {
-    assert!(rt; disk.read_old(slot) == Ok(*old));
-    assert!(rt; disk.old_slot(slot) == *old);
-    assert!(rt; disk.read_slot(slot) == Ok(*new));
+// Whether the slot has the bytes `new`, and its old slot the bytes `old`.
+fn slot_is(disk: &mut MemSlots, slot: Slot, old: &[u8; 16], new: &[u8; 24]) -> bool {
+    disk.read_old(slot) == Ok(*old)
+        && disk.old_slot(slot) == *old
+        && disk.read_slot(slot) == Ok(*new)
 }
 
 #[test]
 fn slots_in_memory_are_read(rt: HostRuntime) -> Result<(), Fail> {
     let mut disk = slots_of(rt.alloc(), 8, Plan::new())?;
-    slot_is(&rt, &mut disk, Slot::A, &[5; 16], &[1; 24]);
-    slot_is(&rt, &mut disk, Slot::B, &[6; 16], &[2; 24]);
+    assert!(rt; slot_is(&mut disk, Slot::A, &[5; 16], &[1; 24]));
+    assert!(rt; slot_is(&mut disk, Slot::B, &[6; 16], &[2; 24]));
     Ok(())
 }
 
-// Writes bytes 3 to slot B, which has bytes 2, syncs, and reads the slot, on a disk with room for
-// `calls` calls, of which call `fail` fails. Returns which of the three are done. Checks that slot
-// B then has bytes `byte`, and that slot A and old slot B are as they were.
-fn done_of(
-    rt: &impl Abort,
-    alloc: Global,
-    calls: usize,
-    fail: u32,
-    byte: u8,
-) -> Result<[bool; 3], Fail> {
-    let mut disk = slots_of(alloc, calls, plan([fail, 0]))?;
+// Which are done of a write of slot B, a sync, and a read of slot B.
+type Done = (bool, bool, bool);
+
+// Writes bytes 3 to slot B, syncs, and reads the slot. Returns which of the three are done.
+fn done_of(disk: &mut MemSlots) -> Done {
     let written = disk.write_slot(Slot::B, &[3; 24]).is_ok();
     let synced = disk.sync().is_ok();
     let read = disk.read_slot(Slot::B).is_ok();
-    assert!(rt; disk.slot(Slot::A) == [1; 24]);
-    assert!(rt; disk.slot(Slot::B) == [byte; 24]);
-    assert!(rt; disk.old_slot(Slot::B) == [6; 16]);
-    Ok([written, synced, read])
+    (written, synced, read)
+}
+
+// Whether slot B has bytes `byte`, and slot A and old slot B are as they were.
+fn slot_b_is(disk: &MemSlots, byte: u8) -> bool {
+    disk.slot(Slot::A) == [1; 24]
+        && disk.slot(Slot::B) == [byte; 24]
+        && disk.old_slot(Slot::B) == [6; 16]
+}
+
+// How many calls there is room for, which call fails, which are done of the write, the sync and the
+// read of slot B, and the bytes of the slot then.
+type DiskRow = (usize, u32, Done, u8);
+
+const DISK_ROWS: [DiskRow; 6] = [
+    (2, 1, (false, true, false), 2),
+    (3, 0, (true, true, true), 3),
+    (3, 1, (false, true, true), 2),
+    (3, 2, (true, false, true), 3),
+    (3, 3, (true, true, false), 3),
+    (1, 0, (true, false, false), 3),
+];
+
+// Whether the calls of a disk, whose slot B has bytes 2, do what the row says.
+fn are_done(alloc: Global, row: &DiskRow) -> Result<bool, Fail> {
+    let (calls, fail, done, byte) = *row;
+    let mut disk = slots_of(alloc, calls, plan((fail, 0)))?;
+    Ok(done_of(&mut disk) == done && slot_b_is(&disk, byte))
 }
 
 #[test]
 fn slots_in_memory_fail_where_they_are_told_to(rt: HostRuntime) -> Result<(), Fail> {
-    // How many calls there is room for, which call fails, which are done of the write, the sync and
-    // the read of slot B, and the bytes of the slot then.
-    let rows = [
-        (2, 1, [false, true, false], 2),
-        (3, 0, [true, true, true], 3),
-        (3, 1, [false, true, true], 2),
-        (3, 2, [true, false, true], 3),
-        (3, 3, [true, true, false], 3),
-        (1, 0, [true, false, false], 3),
-    ];
-    for (calls, fail, done, byte) in rows {
-        let found = done_of(&rt, rt.alloc(), calls, fail, byte)?;
-        assert!(rt; found == done);
+    for row in &DISK_ROWS {
+        assert!(rt; are_done(rt.alloc(), row)?);
     }
     let refused = slots_of(rt.alloc(), usize::MAX, Plan::new());
     assert!(rt; matches!(refused, Err(NoMemory)));
@@ -398,39 +448,81 @@ fn fresh_path(rt: &HostRuntime, name: &str) -> Result<String, Fail> {
     Ok(path)
 }
 
+// Whether a slot is all zeros, and is written.
+fn writes_blank(disk: &mut FileSlots<'_, HostRuntime>, slot: Slot, byte: u8) -> bool {
+    disk.read_slot(slot) == Ok([0; 24]) && disk.write_slot(slot, &[byte; 24]) == Ok(())
+}
+
+// Whether slots B and A, which are all zeros, are written and synced.
+fn writes_both(disk: &mut FileSlots<'_, HostRuntime>) -> bool {
+    writes_blank(disk, Slot::B, b'b') && writes_blank(disk, Slot::A, b'a') && disk.sync() == Ok(())
+}
+
+// Whether a file has zeros, and then the bytes that `writes_both` writes.
+fn has_both(rt: &HostRuntime, path: &str) -> bool {
+    match fs::read_to_string(rt, path) {
+        Ok(text) => {
+            text.as_str()
+                == concat!(
+                    "\0\0\0\0\0\0\0\0\0\0\0\0\0\0\0\0\0\0\0\0\0\0\0\0\0\0\0\0\0\0\0\0",
+                    "aaaaaaaaaaaaaaaaaaaaaaaabbbbbbbbbbbbbbbbbbbbbbbb"
+                )
+        }
+        Err(_) => false,
+    }
+}
+
+// Whether a missing file isn't read.
+fn is_missing(rt: &HostRuntime, path: Option<String>) -> bool {
+    let mut missing = FileSlots::new(rt, path, SlotFile::Standing);
+    missing.read_slot(Slot::A) == Err(Failed)
+}
+
+// Whether the slots of a file are made by a disk, which is gone at the end, and another disk can't
+// read them meanwhile.
+fn makes_both(
+    rt: &HostRuntime,
+    made: Option<String>,
+    path: &str,
+    again: &mut FileSlots<'_, HostRuntime>,
+) -> bool {
+    let mut made = FileSlots::new(rt, made, SlotFile::New);
+    writes_both(&mut made) && has_both(rt, path) && again.read_slot(Slot::B) == Err(Failed)
+}
+
+// Whether the slots of a file are made, and another disk reads them after that.
+fn stand(rt: &HostRuntime, made: Option<String>, again: Option<String>, path: &str) -> bool {
+    let mut again = FileSlots::new(rt, again, SlotFile::Standing);
+    makes_both(rt, made, path, &mut again)
+        && again.read_slot(Slot::B) == Ok([b'b'; 24])
+        && again.read_old(Slot::B) == Ok([0; 16])
+}
+
+// Whether all calls on a disk fail whose path is that of no file.
+fn is_no_file(rt: &HostRuntime, path: Option<String>) -> bool {
+    all_fail(&mut FileSlots::new(rt, path, SlotFile::New), 0)
+}
+
+// A path, as the caller of a disk or a source owns it.
+fn owned(rt: &HostRuntime, path: &str) -> Result<Option<String>, Fail> {
+    Ok(Some(String::from_str(rt.alloc(), path)?))
+}
+
+// Whether slots stand in a file at a path at which there is none yet.
+fn stand_at(rt: &HostRuntime, path: &str) -> Result<bool, Fail> {
+    let missing = is_missing(rt, owned(rt, path)?);
+    let made = owned(rt, path)?;
+    Ok(missing && stand(rt, made, owned(rt, path)?, path))
+}
+
 #[test]
 fn slots_stand_in_a_file(rt: HostRuntime) -> Result<(), Fail> {
     let path = fresh_path(&rt, "slots")?;
-    let mut missing = FileSlots::new(&rt, Some(path.clone()?), SlotFile::Standing);
-    assert_eq!(rt; missing.read_slot(Slot::A), Err(Failed));
-    let mut made = FileSlots::new(&rt, Some(path.clone()?), SlotFile::New);
-    assert_eq!(rt; made.read_slot(Slot::B), Ok([0; 24]));
-    assert_eq!(rt; made.write_slot(Slot::B, &[b'b'; 24]), Ok(()));
-    assert_eq!(rt; made.read_slot(Slot::A), Ok([0; 24]));
-    assert_eq!(rt; made.write_slot(Slot::A, &[b'a'; 24]), Ok(()));
-    assert_eq!(rt; made.sync(), Ok(()));
-    assert_eq!(rt;
-        fs::read_to_string(&rt, path.as_str())?.as_str(),
-        concat!(
-            "\0\0\0\0\0\0\0\0\0\0\0\0\0\0\0\0\0\0\0\0\0\0\0\0\0\0\0\0\0\0\0\0",
-            "aaaaaaaaaaaaaaaaaaaaaaaabbbbbbbbbbbbbbbbbbbbbbbb"
-        )
-    );
-    let mut again = FileSlots::new(&rt, Some(path.clone()?), SlotFile::Standing);
-    assert_eq!(rt; again.read_slot(Slot::B), Err(Failed));
-    drop(made);
-    assert_eq!(rt; again.read_slot(Slot::B), Ok([b'b'; 24]));
-    assert_eq!(rt; again.read_old(Slot::B), Ok([0; 16]));
+    assert!(rt; stand_at(&rt, path.as_str())?);
     fs::remove_file(&rt, path.as_str())?;
     // The path of a folder, and no path at all.
-    let folder = String::from_str(rt.alloc(), ".")?;
-    for path in [Some(folder), None] {
-        let mut disk = FileSlots::new(&rt, path, SlotFile::New);
-        assert_eq!(rt; disk.read_slot(Slot::A), Err(Failed));
-        assert_eq!(rt; disk.read_old(Slot::A), Err(Failed));
-        assert_eq!(rt; disk.write_slot(Slot::A, &[0; 24]), Err(Failed));
-        assert_eq!(rt; disk.sync(), Err(Failed));
-    }
+    assert!(rt; is_no_file(&rt, owned(&rt, ".")?));
+    assert!(rt; is_no_file(&rt, None));
     Ok(())
 }
 
@@ -438,7 +530,7 @@ fn slots_stand_in_a_file(rt: HostRuntime) -> Result<(), Fail> {
 fn read_file(rt: &HostRuntime, path: Option<String>) -> Result<(u32, Vec<u8>), Fail> {
     let mut out = Vec::new(rt.alloc());
     let mut source = FileSource::new(rt, path);
-    let failed = drained(&mut Pieces::new(), &mut source, &mut out)?;
+    let failed = drained(&mut source, &mut out, 40)?;
     Ok((failed, out))
 }
 
@@ -448,23 +540,25 @@ fn gives_nothing(rt: &HostRuntime, path: Option<String>) -> Result<bool, Fail> {
     Ok(failed == 40 && bytes.is_empty())
 }
 
+// Whether a text is written to a file, and read to its end. The file is gone then.
+fn is_read_whole(rt: &HostRuntime, path: &str) -> Result<bool, Fail> {
+    fs::write(rt, path, "abc")?;
+    let (failed, bytes) = read_file(rt, owned(rt, path)?)?;
+    fs::remove_file(rt, path)?;
+    Ok(failed == 0 && bytes.as_slice() == b"abc".as_slice())
+}
+
 #[test]
 fn a_file_is_read_to_its_end(rt: HostRuntime) -> Result<(), Fail> {
     let path = fresh_path(&rt, "source")?;
-    fs::write(&rt, path.as_str(), "abc")?;
-    let (failed, bytes) = read_file(&rt, Some(path.clone()?))?;
-    fs::remove_file(&rt, path.as_str())?;
-    assert!(rt; failed == 0);
-    assert!(rt; bytes.as_slice() == b"abc".as_slice());
+    assert!(rt; is_read_whole(&rt, path.as_str())?);
     Ok(())
 }
 
 #[test]
 fn what_is_no_file_gives_nothing(rt: HostRuntime) -> Result<(), Fail> {
-    let missing = fresh_path(&rt, "missing")?;
-    assert!(rt; gives_nothing(&rt, Some(missing))?);
-    let folder = String::from_str(rt.alloc(), ".")?;
-    assert!(rt; gives_nothing(&rt, Some(folder))?);
+    assert!(rt; gives_nothing(&rt, Some(fresh_path(&rt, "missing")?))?);
+    assert!(rt; gives_nothing(&rt, owned(&rt, ".")?)?);
     assert!(rt; gives_nothing(&rt, None)?);
     Ok(())
 }

@@ -11,86 +11,113 @@ const SEVENS: [u8; 40] = [7; 40];
 const LINES_OF_SEVENS: &[u8] =
     b"+0707070707070707070707070707070707070707070707070707070707070707\n+0707070707070707\n";
 
-/// Writes the text of these runs to a sink, each run in one call, and returns the sink.
-fn written(alloc: Global, runs: &[TickRun<'_>]) -> Result<MemSink, Fail> {
-    let mut out = MemSink::with_room(alloc, 200, 512, Plan::new())?;
-    let mut log = MemSink::with_room(alloc, 0, 512, Plan::new())?;
+// Whether a text of these runs is written, each run in one call.
+fn is_pushed(out: &mut MemSink, log: &mut MemSink, runs: &[TickRun<'_>]) -> bool {
     let mut texts = Texts::new();
     for run in runs {
-        push_run(&mut texts, &mut out, &mut log, *run)
-            .ok()
-            .ok_or("run")?;
+        if push_run(&mut texts, out, log, *run).is_err() {
+            return false;
+        }
     }
-    texts.finish(&mut out, &mut log).ok().ok_or("finish")?;
-    Ok(out)
+    texts.finish(out, log).is_ok()
+}
+
+// Whether this is the text of these runs.
+fn is_text(alloc: Global, runs: &[TickRun<'_>], text: &[u8]) -> Result<bool, Fail> {
+    let mut out = MemSink::with_room(alloc, 200, 512, Plan::new())?;
+    let mut log = MemSink::with_room(alloc, 0, 512, Plan::new())?;
+    Ok(is_pushed(&mut out, &mut log, runs) && out.held() == text)
+}
+
+// Runs, and their text.
+type Row = (&'static [TickRun<'static>], &'static [u8]);
+
+const ROWS: [Row; 4] = [
+    (
+        &[
+            TickRun::Silence(9),
+            TickRun::Bytes(&[15]),
+            TickRun::Silence(10),
+        ],
+        b"-9\n+0f\n-10\n",
+    ),
+    (
+        &[
+            TickRun::Silence(90),
+            TickRun::Silence(9),
+            TickRun::Bytes(&[0, 171]),
+        ],
+        b"-99\n+00ab\n",
+    ),
+    (
+        &[
+            TickRun::Bytes(&[1]),
+            TickRun::Bytes(&[]),
+            TickRun::Silence(100),
+        ],
+        b"+01\n-100\n",
+    ),
+    (
+        &[
+            TickRun::Silence(999_999),
+            TickRun::Silence(2),
+            TickRun::Silence(0),
+        ],
+        b"-1000000\n-1\n",
+    ),
+];
+
+// Whether forty bytes of 7 are written in two lines, in one run and in three.
+fn sevens_are_cut(alloc: Global) -> Result<bool, Fail> {
+    let (seven, many) = (&SEVENS[..7], &SEVENS[..26]);
+    let runs = [
+        TickRun::Bytes(seven),
+        TickRun::Bytes(many),
+        TickRun::Bytes(seven),
+    ];
+    let whole = [TickRun::Bytes(&SEVENS)];
+    Ok(is_text(alloc, &runs, LINES_OF_SEVENS)? && is_text(alloc, &whole, LINES_OF_SEVENS)?)
 }
 
 #[test]
 fn runs_are_joined_and_cut_into_lines(rt: HostRuntime) -> Result<(), Fail> {
-    let (seven, many) = (&SEVENS[..7], &SEVENS[..]);
-    let rows: [([TickRun<'_>; 3], &[u8]); 5] = [
-        (
-            [
-                TickRun::Silence(9),
-                TickRun::Bytes(&[15]),
-                TickRun::Silence(10),
-            ],
-            b"-9\n+0f\n-10\n",
-        ),
-        (
-            [
-                TickRun::Silence(90),
-                TickRun::Silence(9),
-                TickRun::Bytes(&[0, 171]),
-            ],
-            b"-99\n+00ab\n",
-        ),
-        (
-            [
-                TickRun::Bytes(&[1]),
-                TickRun::Bytes(&[]),
-                TickRun::Silence(100),
-            ],
-            b"+01\n-100\n",
-        ),
-        (
-            [
-                TickRun::Silence(999_999),
-                TickRun::Silence(2),
-                TickRun::Silence(0),
-            ],
-            b"-1000000\n-1\n",
-        ),
-        (
-            [
-                TickRun::Bytes(seven),
-                TickRun::Bytes(&many[..26]),
-                TickRun::Bytes(seven),
-            ],
-            LINES_OF_SEVENS,
-        ),
-    ];
-    for (runs, text) in &rows {
-        let out = written(rt.alloc(), runs)?;
-        assert_eq!(rt; out.held(), *text);
+    for (runs, text) in &ROWS {
+        assert!(rt; is_text(rt.alloc(), runs, text)?);
     }
-    let out = written(rt.alloc(), &[TickRun::Bytes(many)])?;
-    assert_eq!(rt; out.held(), LINES_OF_SEVENS);
+    assert!(rt; sevens_are_cut(rt.alloc())?);
     Ok(())
+}
+
+// Whether a note before three silent ticks is taken, and another silent tick and a byte after it.
+fn is_noted(texts: &mut Texts, out: &mut MemSink, log: &mut MemSink) -> bool {
+    texts
+        .push_noted(out, log, b"note\n", answer_run(3, &[]))
+        .is_ok()
+        && texts.push_tick(out, log, Tick::Silent).is_ok()
+        && texts.push_tick(out, log, Tick::Byte(255)).is_ok()
+}
+
+// Whether all of this is written.
+fn is_finished(out: &mut MemSink, log: &mut MemSink) -> bool {
+    let mut texts = Texts::new();
+    let noted = is_noted(&mut texts, out, log);
+    texts.finish(out, log).is_ok() && noted
+}
+
+// Whether the note goes to the log, and the ticks to the other sink.
+fn goes_to_the_log(alloc: Global) -> Result<bool, Fail> {
+    let mut out = MemSink::with_room(alloc, 20, 512, Plan::new())?;
+    let mut log = MemSink::with_room(alloc, 20, 512, Plan::new())?;
+    Ok(
+        is_finished(&mut out, &mut log)
+            && out.held() == b"-4\n+ff\n".as_slice()
+            && log.held() == b"note\n".as_slice(),
+    )
 }
 
 #[test]
 fn a_note_goes_to_the_log(rt: HostRuntime) -> Result<(), Fail> {
-    let mut out = MemSink::with_room(rt.alloc(), 20, 512, Plan::new())?;
-    let mut log = MemSink::with_room(rt.alloc(), 20, 512, Plan::new())?;
-    let mut texts = Texts::new();
-    let noted = texts.push_noted(&mut out, &mut log, b"note\n", answer_run(3, &[]));
-    assert!(rt; noted.is_ok());
-    assert!(rt; texts.push_tick(&mut out, &mut log, Tick::Silent).is_ok());
-    assert!(rt; texts.push_tick(&mut out, &mut log, Tick::Byte(255)).is_ok());
-    assert!(rt; texts.finish(&mut out, &mut log).is_ok());
-    assert_eq!(rt; out.held(), b"-4\n+ff\n".as_slice());
-    assert_eq!(rt; log.held(), b"note\n".as_slice());
+    assert!(rt; goes_to_the_log(rt.alloc())?);
     Ok(())
 }
 
@@ -137,26 +164,24 @@ impl Sink for CountedSink {
     }
 }
 
+// Whether 2,000 lines of 32 bytes are written.
+fn are_written(out: &mut CountedSink, log: &mut CountedSink) -> bool {
+    let mut texts = Texts::new();
+    for _ in 0..2000 {
+        if push_run(&mut texts, out, log, TickRun::Bytes(&SEVENS[..32])).is_err() {
+            return false;
+        }
+    }
+    texts.finish(out, log).is_ok()
+}
+
 // A buffer of 65,536 bytes is full after 992 lines of 66 bytes, so 2,000 lines go out in three
 // writes.
 #[test]
 fn lines_go_out_by_full_buffers(rt: HostRuntime) -> Result<(), Fail> {
     let mut out = NO_WRITES;
     let mut log = NO_WRITES;
-    let mut texts = Texts::new();
-    for _ in 0..2000 {
-        push_run(
-            &mut texts,
-            &mut out,
-            &mut log,
-            TickRun::Bytes(&SEVENS[..32]),
-        )
-        .ok()
-        .ok_or("run")?;
-    }
-    texts.finish(&mut out, &mut log).ok().ok_or("finish")?;
-    assert!(rt; out.writes == 3);
-    assert!(rt; out.bytes == 2000 * 66);
-    assert!(rt; log.writes == 0);
+    assert!(rt; are_written(&mut out, &mut log));
+    assert!(rt; (out.writes, out.bytes, log.writes) == (3, 2000 * 66, 0));
     Ok(())
 }

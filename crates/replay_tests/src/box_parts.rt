@@ -92,16 +92,27 @@ const _: () = prove!(size_of::<Checker<Rtu, HmacSha256, 4, 24>>() <= CHECKER_MOS
 
 const _: () = prove!(size_of::<Checker<Dnp, HmacSha256, 4, 24>>() <= CHECKER_MOST);
 
-// What leaves for the last of the bytes 01 7e 80, which have a right ending and are no frame.
-fn last_byte(passed: bool) -> u8 {
+// An outlet of which the bytes 01 7e of a burst have left.
+fn two_left() -> Outlet<Rtu> {
     let mut outlet = Outlet::<Rtu>::new();
     outlet.begin();
     for byte in [0x01, 0x7e] {
         outlet.emit(byte, false, false);
     }
+    outlet
+}
+
+// The rules after the bytes 01 7e 80.
+fn all_three() -> Rtu {
     let mut all = Rtu::fresh();
     all.take_some(&[0x01, 0x7e, 0x80]);
-    outlet.refuse(all);
+    all
+}
+
+// What leaves for the last of the bytes 01 7e 80, which have a right ending and are no frame.
+fn last_byte(passed: bool) -> u8 {
+    let mut outlet = two_left();
+    outlet.refuse(all_three());
     outlet.emit(0x80, true, passed)
 }
 

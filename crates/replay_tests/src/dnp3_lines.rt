@@ -1,10 +1,12 @@
 //! Tests of both boxes and the device over lines of DNP3.
 use crate::outside::STEADY;
 use crate::over_boxes::{AT_0, AT_1, AT_2, BoxKind, FRESH, KEY, Row, compare_all, has_passed};
+use crate::texts::add_times;
 use device_model::DnpDevice;
 use hmac_tag::Dir;
 use replay_status::Status;
 use std::alloc::{AllocError, Global};
+use std::process::Abort;
 use std::test::Fail;
 
 /// The packet of number 1 for a frame without user data.
@@ -258,20 +260,35 @@ const LARGEST: [u8; 292] = [
 
 const DIGITS: &[u8; 16] = b"0123456789abcdef";
 
+// Adds a line of text that has one byte.
+fn add_byte(text: &mut Vec<u8>, byte: u8) -> Result<(), AllocError> {
+    let high = DIGITS[usize::from(byte >> 4)];
+    let low = DIGITS[usize::from(byte & 15)];
+    text.extend_from_slice(&[b'+', high, low, b'\n'])
+}
+
 // The first `len` bytes of the longest frame, silence up to tick 700, and a packet from there on.
 fn cut_at(alloc: Global, len: usize) -> Result<Vec<u8>, AllocError> {
     let mut text = Vec::new(alloc);
     for byte in LARGEST.iter().take(len) {
-        text.push(b'+')?;
-        text.push(DIGITS[usize::from(byte >> 4)])?;
-        text.push(DIGITS[usize::from(byte & 15)])?;
-        text.push(b'\n')?;
+        add_byte(&mut text, *byte)?;
     }
-    for _ in len..700 {
-        text.extend_from_slice(b"-1\n")?;
-    }
+    add_times(&mut text, b"-1\n", 700_usize.saturating_sub(len))?;
     text.extend_from_slice(PACKET)?;
     Ok(text)
+}
+
+// Checks that the longest frame, cut to this length, costs no packet after it.
+fn costs_no_other(rt: &impl Abort, alloc: Global, len: usize) -> Result<(), Fail> {
+    let notes: &[u8] = if len < 10 {
+        b"dropped at 0 head\npassed 1 at 700 len 10\n"
+    } else {
+        b"refused at 0 trailer\npassed 1 at 700 len 10\n"
+    };
+    let text = cut_at(alloc, len)?;
+    let frames = b"read at 718 056405c001000004e921\n";
+    let kind = BoxKind::CheckDnp;
+    has_passed::<DnpDevice>(rt, alloc, kind, text.as_slice(), notes, frames)
 }
 
 // The longest frame, cut at every length. A refused frame is filled, so that the device is ready
@@ -279,15 +296,7 @@ fn cut_at(alloc: Global, len: usize) -> Result<Vec<u8>, AllocError> {
 #[test]
 fn a_cut_frame_costs_no_other(rt: HostRuntime) -> Result<(), Fail> {
     for len in 1..292 {
-        let notes: &[u8] = if len < 10 {
-            b"dropped at 0 head\npassed 1 at 700 len 10\n"
-        } else {
-            b"refused at 0 trailer\npassed 1 at 700 len 10\n"
-        };
-        let text = cut_at(rt.alloc(), len)?;
-        let frames = b"read at 718 056405c001000004e921\n";
-        let kind = BoxKind::CheckDnp;
-        has_passed::<DnpDevice>(&rt, rt.alloc(), kind, text.as_slice(), notes, frames)?;
+        costs_no_other(&rt, rt.alloc(), len)?;
     }
     Ok(())
 }

@@ -2,14 +2,17 @@
 //! writes. No contract says that a run is taken at once, nor how much a call writes.
 ghost use Rattle.std.specs.Prelude.{◌≡◌, ℕ, ◌+◌, ◌<◌, ◌≤◌, length, IfOk, OnOk, None, Some};
 ghost use Rattle.yasir_io.specs.Steady.{steady_slots};
+ghost use Rattle.yasir_ticks.specs.TickRun.{run_ticks};
 ghost use Rattle.link_box.specs.Links.{AreLinks};
 ghost use Rattle.link_box.specs.Stepping.{ServesLink};
 ghost use Rattle.yasir_ticks.specs.declared.TheConstants.{MAX_TICKS};
 
-use crate::over_boxes::KEY;
+use crate::fresh::{FreshJournal, fresh_disk, load_fresh};
+use crate::over_boxes::{KEY, run_ends};
 use crate::packets::{self, DNP_PACKET, LINKS, Link, RTU_PACKET, packet_of};
-use crate::receiver_runs::{alike, link_of};
-use box_command::{LineBox, replay_box};
+use crate::receiver_runs::{alike, link_of, part_at};
+use crate::texts::repeated;
+use box_command::LineBox;
 use burst_walk::RunBytes;
 use check_receiver::Checker;
 use dnp_link_frame::Dnp;
@@ -19,9 +22,9 @@ use replay_lists::FrameBox;
 use replay_status::{Ends, Status};
 use rtu_frame::Rtu;
 use seal_transmitter::Sealer;
-use sequence_journal::{Journal, slot_of};
+use sequence_journal::Journal;
 use session_audit::{SealedFrames, ShownFrames};
-use std::alloc::Global;
+use std::alloc::{AllocError, Global};
 use std::process::Abort;
 use std::test::Fail;
 use yasir_io::{Failed, Sink, SteadySlots, SteadySource};
@@ -72,14 +75,45 @@ impl<B: LineBox> Journaled<B> {
             (Some (steady_slots value.disk))) }
     {
         let served = B::link(Dir::Ab);
-        let mut disk = SteadySlots::new(slot_of(0, &served), [0; 24]);
-        let journal = Journal::load(&mut disk, &served)?;
+        let FreshJournal { journal, disk } = load_fresh(&served)?;
         Ok(Journaled {
             line_box: B::new(&packets::KEY.to_be_bytes(), Dir::Ab),
             journal,
             disk,
         })
     }
+
+    // Takes a tick by a step.
+    fn step_once(&mut self, tick: Tick) -> Result<(), Fail>
+        requires room { B.taken self.old.line_box < MAX_TICKS }
+        requires able { ServesLink (B.link_of self.old.line_box) self.old.journal
+            (Some (steady_slots self.old.disk)) }
+        ensures taken { OnOk result (B.taken self.new.line_box
+            ≡ B.taken self.old.line_box + 1) }
+        ensures able { OnOk result (ServesLink (B.link_of self.new.line_box) self.new.journal
+            (Some (steady_slots self.new.disk))) }
+    {
+        match self.line_box.step(tick, &mut self.journal, &mut self.disk) {
+            Ok(_) => Ok(()),
+            Err(_) => Err(Fail::from("the journal failed")),
+        }
+    }
+}
+
+// Gives a box ticks as a run, by each of its calls for runs in turn until one takes some. Returns
+// how many it took.
+fn pass_run<B: LineBox>(line_box: &mut B, run: TickRun<'_>) -> usize
+    requires { B.taken line_box.old + length (run_ticks run) ≤ MAX_TICKS }
+    ensures within { result ≤ length (run_ticks run.entry) }
+    ensures taken { B.taken line_box.new ≡ B.taken line_box.old + result }
+    ensures link { B.link_of line_box.new ≡ B.link_of line_box.old }
+{
+    let count = line_box.forward(run);
+    if count > 0 {
+        return count;
+    }
+    let mut sent = RunBytes::new();
+    line_box.pass(run, &mut sent)
 }
 
 impl<B: LineBox> Turning for Journaled<B> {
@@ -89,41 +123,22 @@ impl<B: LineBox> Turning for Journaled<B> {
         (Some (steady_slots value.disk)) };
 
     fn turn_bytes(&mut self, bytes: &[u8]) -> Result<usize, Fail> {
-        let run = TickRun::Bytes(bytes);
-        let count = self.line_box.forward(run);
+        let count = pass_run(&mut self.line_box, TickRun::Bytes(bytes));
         if count > 0 {
             return Ok(count);
         }
-        let mut sent = RunBytes::new();
-        let count = self.line_box.pass(run, &mut sent);
-        if count > 0 {
-            return Ok(count);
-        }
-        let tick = Tick::Byte(bytes[0]);
-        match self.line_box.step(tick, &mut self.journal, &mut self.disk) {
-            Ok(_) => Ok(1),
-            Err(_) => Err(Fail::from("the journal failed")),
-        }
+        self.step_once(Tick::Byte(bytes[0]))?;
+        Ok(1)
     }
 
     fn turn_silence(&mut self, ticks: u32) -> Result<u32, Fail> {
         let run = TickRun::Silence(ticks);
-        let count = self.line_box.forward(run).min(ticks as usize) as u32;
+        let count = pass_run(&mut self.line_box, run).min(ticks as usize) as u32;
         if count > 0 {
             return Ok(count);
         }
-        let mut sent = RunBytes::new();
-        let count = self.line_box.pass(run, &mut sent).min(ticks as usize) as u32;
-        if count > 0 {
-            return Ok(count);
-        }
-        match self
-            .line_box
-            .step(Tick::Silent, &mut self.journal, &mut self.disk)
-        {
-            Ok(_) => Ok(1),
-            Err(_) => Err(Fail::from("the journal failed")),
-        }
+        self.step_once(Tick::Silent)?;
+        Ok(1)
     }
 }
 
@@ -201,17 +216,21 @@ fn turns<X: Turning>(rt: &impl Abort, line_box: &mut X, line: &[u8]) -> Result<u
     let mut place = 0;
     let mut turns = 0;
     while place < line.len() {
-        let part = &line[place..];
-        let part = &part[..alike(part, 1000)];
-        assert!(rt; !part.is_empty());
+        let part = part_at(rt, line, place, 1000);
         place += turn(line_box, part)?;
         turns += 1;
     }
     Ok(turns)
 }
 
-// Checks that a box takes these ticks, and more silence after them than a trailer or the receiver's
-// delay needs, in at most `most` turns.
+// These ticks, and more silence after them than a trailer or the receiver's delay needs.
+fn with_silence(alloc: Global, ticks: &[u8]) -> Result<Vec<u8>, AllocError> {
+    let mut line = ticks.to_vec(alloc)?;
+    line.extend_from_slice(&[b'.'; 40])?;
+    Ok(line)
+}
+
+// Checks that a box takes these ticks, and the silence after them, in at most `most` turns.
 fn takes<X: Turning>(
     rt: &impl Abort,
     alloc: Global,
@@ -222,12 +241,38 @@ fn takes<X: Turning>(
     requires able { X.able line_box }
     requires begun { X.taken line_box ≡ 0 }
 {
-    let mut line = ticks.to_vec(alloc)?;
-    line.extend_from_slice(&[b'.'; 40])?;
+    let line = with_silence(alloc, ticks)?;
     let line = &line.as_slice()[..line.len().min(999)];
     let turns = turns(rt, &mut line_box, line)?;
     assert!(rt; turns <= most, "{turns} turns");
     Ok(())
+}
+
+// Checks that a box of `seal` or `check` takes these ticks in at most `most` turns.
+fn takes_journaled<B: LineBox>(
+    rt: &impl Abort,
+    alloc: Global,
+    ticks: &[u8],
+    most: usize,
+) -> Result<(), Fail>
+    requires widths { B.widths_fit }
+    requires links { AreLinks B.link_in }
+{
+    let line_box: Journaled<B> = Journaled::new()?;
+    takes(rt, alloc, line_box, ticks, most)
+}
+
+// Checks that a box of `replay` takes these ticks in at most `most` turns.
+fn takes_shown<X: FrameBox>(
+    rt: &impl Abort,
+    alloc: Global,
+    ticks: &[u8],
+    most: usize,
+) -> Result<(), Fail>
+    requires { X.widths_fit }
+{
+    let line_box: Shown<X> = Shown::new();
+    takes(rt, alloc, line_box, ticks, most)
 }
 
 const RTU_FRAME: &[u8] = b"\x01\x03\x00\x00\x00\x0a\xc5\xcd";
@@ -246,22 +291,10 @@ fn seals(
     most: usize,
 ) -> Result<(), Fail> {
     match link {
-        Link::Rtu => {
-            let line_box: Journaled<Sealer<Rtu, HmacSha1, 2>> = Journaled::new()?;
-            takes(rt, alloc, line_box, ticks, most)
-        }
-        Link::Dnp => {
-            let line_box: Journaled<Sealer<Dnp, HmacSha1, 2>> = Journaled::new()?;
-            takes(rt, alloc, line_box, ticks, most)
-        }
-        Link::WideRtu => {
-            let line_box: Journaled<Sealer<Rtu, HmacSha256, 4>> = Journaled::new()?;
-            takes(rt, alloc, line_box, ticks, most)
-        }
-        Link::WideDnp => {
-            let line_box: Journaled<Sealer<Dnp, HmacSha256, 4>> = Journaled::new()?;
-            takes(rt, alloc, line_box, ticks, most)
-        }
+        Link::Rtu => { takes_journaled::<Sealer<Rtu, HmacSha1, 2>>(rt, alloc, ticks, most) }
+        Link::Dnp => { takes_journaled::<Sealer<Dnp, HmacSha1, 2>>(rt, alloc, ticks, most) }
+        Link::WideRtu => { takes_journaled::<Sealer<Rtu, HmacSha256, 4>>(rt, alloc, ticks, most) }
+        Link::WideDnp => { takes_journaled::<Sealer<Dnp, HmacSha256, 4>>(rt, alloc, ticks, most) }
     }
 }
 
@@ -274,23 +307,27 @@ fn checks(
     most: usize,
 ) -> Result<(), Fail> {
     match link {
-        Link::Rtu => {
-            let line_box: Journaled<Checker<Rtu, HmacSha1, 2, 18>> = Journaled::new()?;
-            takes(rt, alloc, line_box, ticks, most)
-        }
-        Link::Dnp => {
-            let line_box: Journaled<Checker<Dnp, HmacSha1, 2, 18>> = Journaled::new()?;
-            takes(rt, alloc, line_box, ticks, most)
-        }
+        Link::Rtu => { takes_journaled::<Checker<Rtu, HmacSha1, 2, 18>>(rt, alloc, ticks, most) }
+        Link::Dnp => { takes_journaled::<Checker<Dnp, HmacSha1, 2, 18>>(rt, alloc, ticks, most) }
         Link::WideRtu => {
-            let line_box: Journaled<Checker<Rtu, HmacSha256, 4, 24>> = Journaled::new()?;
-            takes(rt, alloc, line_box, ticks, most)
+            takes_journaled::<Checker<Rtu, HmacSha256, 4, 24>>(rt, alloc, ticks, most)
         }
         Link::WideDnp => {
-            let line_box: Journaled<Checker<Dnp, HmacSha256, 4, 24>> = Journaled::new()?;
-            takes(rt, alloc, line_box, ticks, most)
+            takes_journaled::<Checker<Dnp, HmacSha256, 4, 24>>(rt, alloc, ticks, most)
         }
     }
+}
+
+// The frame of a packet, `pause` silent ticks, and a burst of `count` bytes.
+fn frame_and_burst(
+    alloc: Global,
+    link: Link,
+    pause: usize,
+    count: usize,
+) -> Result<Vec<u8>, AllocError> {
+    let packet = packet_of(link);
+    let frame = alike(packet, 1000);
+    link_of(alloc, packet, frame, frame, pause, count)
 }
 
 // Checks that a transmitter takes the frame of a packet, `pause` silent ticks and a burst of
@@ -303,9 +340,7 @@ fn seals_frame(
     count: usize,
     most: usize,
 ) -> Result<(), Fail> {
-    let packet = packet_of(link);
-    let frame = alike(packet, 1000);
-    let line = link_of(alloc, packet, frame, frame, pause, count)?;
+    let line = frame_and_burst(alloc, link, pause, count)?;
     seals(rt, alloc, link, line.as_slice(), most)
 }
 
@@ -333,9 +368,7 @@ fn checks_frame(
     count: usize,
     most: usize,
 ) -> Result<(), Fail> {
-    let packet = packet_of(link);
-    let frame = alike(packet, 1000);
-    let line = link_of(alloc, packet, frame, frame, pause, count)?;
+    let line = frame_and_burst(alloc, link, pause, count)?;
     checks(rt, alloc, link, line.as_slice(), most)
 }
 
@@ -356,16 +389,21 @@ fn frames_are_sealed_in_few_turns(rt: HostRuntime) -> Result<(), Fail> {
     Ok(())
 }
 
+// Checks that a transmitter takes few turns for a frame and a burst that it doesn't seal.
+fn seals_no_burst(rt: &impl Abort, alloc: Global, link: Link) -> Result<(), Fail> {
+    let packet = packet_of(link);
+    let behind = packet.len() + 1 - alike(packet, 1000).min(packet.len());
+    // A burst that is early while the trailer goes out, and one that is early after it.
+    seals_frame(rt, alloc, link, 6, 8, TURNS_OF_AN_EARLY_BURST)?;
+    seals_frame(rt, alloc, link, behind, 4, TURNS_OF_AN_EARLY_BURST)?;
+    // Bytes that join the frame and aren't live are one more run.
+    seals_frame(rt, alloc, link, 2, 5, 6)
+}
+
 #[test]
 fn bursts_that_are_not_sealed_take_few_turns(rt: HostRuntime) -> Result<(), Fail> {
     for link in LINKS {
-        let packet = packet_of(link);
-        let behind = packet.len() + 1 - alike(packet, 1000).min(packet.len());
-        // A burst that is early while the trailer goes out, and one that is early after it.
-        seals_frame(&rt, rt.alloc(), link, 6, 8, TURNS_OF_AN_EARLY_BURST)?;
-        seals_frame(&rt, rt.alloc(), link, behind, 4, TURNS_OF_AN_EARLY_BURST)?;
-        // Bytes that join the frame and aren't live are one more run.
-        seals_frame(&rt, rt.alloc(), link, 2, 5, 6)?;
+        seals_no_burst(&rt, rt.alloc(), link)?;
     }
     Ok(())
 }
@@ -405,16 +443,11 @@ type ShownChecker<R> = ShownFrames<Checker<R, HmacSha1, 2, 18>, R, SteadySlots>;
 #[test]
 fn frames_and_packets_take_the_boxes_of_replay_few_turns(rt: HostRuntime) -> Result<(), Fail> {
     let (rt, alloc) = (&rt, rt.alloc());
-    let line_box: Shown<ShownSealer<Rtu>> = Shown::new();
-    takes(rt, alloc, line_box, RTU_FRAME, TURNS_OF_A_FRAME)?;
-    let line_box: Shown<ShownSealer<Dnp>> = Shown::new();
-    takes(rt, alloc, line_box, DNP_FRAME, TURNS_OF_A_FRAME)?;
-    let line_box: Shown<ShownSealer<Rtu>> = Shown::new();
-    takes(rt, alloc, line_box, EARLY_BURST, TURNS_OF_AN_EARLY_BURST)?;
-    let line_box: Shown<ShownChecker<Rtu>> = Shown::new();
-    takes(rt, alloc, line_box, RTU_PACKET, TURNS_OF_A_PACKET)?;
-    let line_box: Shown<ShownChecker<Dnp>> = Shown::new();
-    takes(rt, alloc, line_box, DNP_PACKET, TURNS_OF_A_PACKET)
+    takes_shown::<ShownSealer<Rtu>>(rt, alloc, RTU_FRAME, TURNS_OF_A_FRAME)?;
+    takes_shown::<ShownSealer<Dnp>>(rt, alloc, DNP_FRAME, TURNS_OF_A_FRAME)?;
+    takes_shown::<ShownSealer<Rtu>>(rt, alloc, EARLY_BURST, TURNS_OF_AN_EARLY_BURST)?;
+    takes_shown::<ShownChecker<Rtu>>(rt, alloc, RTU_PACKET, TURNS_OF_A_PACKET)?;
+    takes_shown::<ShownChecker<Dnp>>(rt, alloc, DNP_PACKET, TURNS_OF_A_PACKET)
 }
 
 /// How many boxes of each kind wait through a run of silence, one after the other. It is as long as
@@ -431,17 +464,35 @@ fn waits<X: Turning>(rt: &impl Abort, mut line_box: X) -> Result<(), Fail>
     Ok(())
 }
 
+// Checks that a box of `seal` or `check` takes a run of silence at once.
+fn waits_journaled<B: LineBox>(rt: &impl Abort) -> Result<(), Fail>
+    requires widths { B.widths_fit }
+    requires links { AreLinks B.link_in }
+{
+    let line_box: Journaled<B> = Journaled::new()?;
+    waits(rt, line_box)
+}
+
+// Checks that a box of `replay` takes a run of silence at once.
+fn waits_shown<X: FrameBox>(rt: &impl Abort) -> Result<(), Fail>
+    requires { X.widths_fit }
+{
+    let line_box: Shown<X> = Shown::new();
+    waits(rt, line_box)
+}
+
+// Checks that a box of each kind takes a run of silence at once.
+fn all_wait(rt: &impl Abort) -> Result<(), Fail> {
+    waits_journaled::<Sealer<Rtu, HmacSha1, 2>>(rt)?;
+    waits_journaled::<Checker<Dnp, HmacSha1, 2, 18>>(rt)?;
+    waits_shown::<ShownSealer<Rtu>>(rt)?;
+    waits_shown::<ShownChecker<Rtu>>(rt)
+}
+
 #[test]
 fn silence_takes_no_longer_than_a_tick(rt: HostRuntime) -> Result<(), Fail> {
     for _ in 0..WAITING {
-        let line_box: Journaled<Sealer<Rtu, HmacSha1, 2>> = Journaled::new()?;
-        waits(&rt, line_box)?;
-        let line_box: Journaled<Checker<Dnp, HmacSha1, 2, 18>> = Journaled::new()?;
-        waits(&rt, line_box)?;
-        let line_box: Shown<ShownSealer<Rtu>> = Shown::new();
-        waits(&rt, line_box)?;
-        let line_box: Shown<ShownChecker<Rtu>> = Shown::new();
-        waits(&rt, line_box)?;
+        all_wait(&rt)?;
     }
     Ok(())
 }
@@ -498,44 +549,55 @@ const LINK_TEXT: u64 = 18 + 3 + 30 + 4;
 /// that of a note and has 80.
 const LEAST_WRITTEN: u64 = 65_536 - 80;
 
-// Text goes out in full buffers, and at the end what is left goes out. The notes that wait go out
-// before ticks do.
-#[test]
-fn text_goes_out_by_full_buffers(rt: HostRuntime) -> Result<(), Fail> {
-    let mut text = Vec::new(rt.alloc());
-    for _ in 0..REQUESTS {
-        text.extend_from_slice(b"+01030000000ac5cd\n-40\n")?;
-    }
+// Seals the line of this text, and counts what is written.
+fn seal_counted(text: &[u8], out: &mut CountedSink, log: &mut CountedSink) -> Status {
     let mut key = SteadySource::new(KEY);
-    let mut input = SteadySource::new(text.as_slice());
-    let mut out = NO_WRITES;
-    let mut log = NO_WRITES;
-    let served = Sealer::<Rtu, HmacSha1, 2>::link(Dir::Ab);
-    let mut disk = SteadySlots::new(slot_of(0, &served), [0; 24]);
+    let mut input = SteadySource::new(text);
+    let mut disk = fresh_disk(&Sealer::<Rtu, HmacSha1, 2>::link(Dir::Ab));
     let ends = Ends {
         key: &mut key,
         input: &mut input,
-        out: &mut out,
-        log: &mut log,
+        out,
+        log,
         disk: &mut disk,
     };
-    let status = replay_box::<
+    run_ends::<
         Sealer<Rtu, HmacSha1, 2>,
         SteadySource,
         SteadySource,
         CountedSink,
         CountedSink,
         SteadySlots,
-    >(&served, Dir::Ab, 24, ends);
-    assert_eq!(rt; status, Status::Done);
+    >(Dir::Ab, 24, ends)
+}
+
+// Checks that an output has all of the link's text, and that it was written by full buffers.
+fn has_text_by_buffers(rt: &impl Abort, out: &CountedSink) {
     assert_eq!(rt; out.bytes, REQUESTS * LINK_TEXT);
     assert!(rt;
         out.writes <= out.bytes / LEAST_WRITTEN + 1,
         "{} writes",
         out.writes
     );
+}
+
+// Checks that a log was written by full buffers, and otherwise only before a write of the output.
+fn has_notes_by_buffers(rt: &impl Abort, log: &CountedSink, out: &CountedSink) {
     let full = log.bytes / LEAST_WRITTEN;
     let most = out.writes.saturating_add(full).saturating_add(1);
     assert!(rt; log.writes <= most, "{} writes", log.writes);
+}
+
+// Text goes out in full buffers, and at the end what is left goes out. The notes that wait go out
+// before ticks do.
+#[test]
+fn text_goes_out_by_full_buffers(rt: HostRuntime) -> Result<(), Fail> {
+    let text = repeated(rt.alloc(), b"+01030000000ac5cd\n-40\n", REQUESTS as usize)?;
+    let mut out = NO_WRITES;
+    let mut log = NO_WRITES;
+    let status = seal_counted(text.as_slice(), &mut out, &mut log);
+    assert_eq!(rt; status, Status::Done);
+    has_text_by_buffers(&rt, &out);
+    has_notes_by_buffers(&rt, &log, &out);
     Ok(())
 }

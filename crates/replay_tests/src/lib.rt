@@ -15,6 +15,8 @@ mod dnp3_lines;
 #[cfg(test)]
 mod fast_paths;
 #[cfg(test)]
+mod fresh;
+#[cfg(test)]
 mod order;
 #[cfg(test)]
 mod outside;
@@ -36,3 +38,5 @@ mod sealing;
 mod second_profile;
 #[cfg(test)]
 mod taking_over;
+#[cfg(test)]
+mod texts;

@@ -1,5 +1,8 @@
-//! Which calls fail in a test, and how many bytes a call moves.
-use yasir_io::Plan;
+//! Which calls fail in a test, how many bytes a call moves, and sources and sinks that do so.
+ghost use Rattle.std.specs.Prelude.{◌≤◌};
+
+use std::alloc::Global;
+use yasir_io::{MemSink, MemSource, NoMemory, Plan};
 
 /// What fails outside: for the key, the input, the output, the log and the disk the number of the
 /// call that fails, counted from 1, or 0 if none does. `piece` is how many bytes a call moves at
@@ -34,4 +37,36 @@ pub fn plan(call: u32) -> Plan {
         let _ = plan.try_push(call);
     }
     plan
+}
+
+/// A source of this text. A call moves at most `piece` bytes, and call `call` fails.
+pub fn source(text: &[u8], piece: u16, call: u32) -> MemSource<'_>
+    requires some { 1 ≤ piece }
+    requires within { piece ≤ 512 }
+{
+    MemSource::new(text, piece, plan(call))
+}
+
+// An empty sink with this room. A call moves at most `piece` bytes, and call `call` fails.
+fn sink(alloc: Global, room: usize, piece: u16, call: u32) -> Result<MemSink, NoMemory>
+    requires some { 1 ≤ piece }
+    requires within { piece ≤ 512 }
+{
+    MemSink::with_room(alloc, room, piece, plan(call))
+}
+
+/// An empty output and an empty log with these rooms, in turn. A call moves at most `piece` bytes,
+/// and those calls fail that `failing` says.
+pub fn sinks(
+    alloc: Global,
+    rooms: (usize, usize),
+    piece: u16,
+    failing: &Failing,
+) -> Result<(MemSink, MemSink), NoMemory>
+    requires some { 1 ≤ piece }
+    requires within { piece ≤ 512 }
+{
+    let out = sink(alloc, rooms.0, piece, failing.out)?;
+    let log = sink(alloc, rooms.1, piece, failing.log)?;
+    Ok((out, log))
 }

@@ -3,7 +3,7 @@ ghost use Rattle.std.specs.Prelude.{◌≡◌};
 ghost use Rattle.link_box.specs.Links.{AreLinks};
 ghost use Rattle.sequence_journal.specs.Links.{IsLink};
 
-use crate::outside::{Failing, STEADY, plan};
+use crate::outside::{Failing, STEADY, plan, sinks, source};
 use crate::reading::has_read;
 use box_command::{LineBox, replay_box};
 use check_receiver::Checker;
@@ -14,10 +14,10 @@ use replay_status::{Ends, Status, write_fault};
 use rtu_frame::Rtu;
 use seal_transmitter::Sealer;
 use sequence_journal::{Journal, LIMIT, LinkId, slot_of};
-use std::alloc::Global;
+use std::alloc::{AllocError, Global};
 use std::process::Abort;
 use std::test::Fail;
-use yasir_io::{MemSink, MemSlots, MemSource, Slot, SteadySlots};
+use yasir_io::{MemSink, MemSlots, MemSource, NoMemory, Sink, Slot, SlotDisk, Source, SteadySlots};
 
 /// The key of all boxes, as its text: 32 digits for 16 bytes.
 pub const KEY: &[u8] = b"000102030405060708090a0b0c0d0e0f";
@@ -98,12 +98,12 @@ const BLANK: [u8; 16] = [0; 16];
 
 // A disk whose slots A and B hold this for a link, and whose old slots are blank. Call `fail`
 // fails.
-fn disk_of(alloc: Global, slots: Numbers, link: &LinkId, fail: u32) -> Result<MemSlots, Fail>
+fn disk_of(alloc: Global, slots: Numbers, link: &LinkId, fail: u32) -> Result<MemSlots, NoMemory>
     requires { IsLink link.now }
 {
     let (a, b) = slots;
     let (a, b) = (slot_at(a, link), slot_at(b, link));
-    Ok(MemSlots::with_room(alloc, BLANK, BLANK, a, b, 2000, plan(fail))?)
+    MemSlots::with_room(alloc, BLANK, BLANK, a, b, 2000, plan(fail))
 }
 
 /// How a run ended, what its sinks hold, and its disk.
@@ -130,6 +130,19 @@ pub struct Row {
     pub slots_now: Numbers,
 }
 
+/// Runs a box over these ends, with `rest` silent ticks after a whole input.
+pub fn run_ends<B: LineBox, K: Source, S: Source, O: Sink, L: Sink, D: SlotDisk>(
+    dir: Dir,
+    rest: u32,
+    ends: Ends<K, S, O, L, D>,
+) -> Status
+    requires widths { B.widths_fit }
+    requires links { AreLinks B.link_in }
+{
+    let link = B::link(dir);
+    replay_box::<B, K, S, O, L, D>(&link, dir, rest, ends)
+}
+
 // Runs a box with this key over the line of this text. The fault line follows the notes in the log.
 fn replay_by<B: LineBox>(
     alloc: Global,
@@ -143,12 +156,10 @@ fn replay_by<B: LineBox>(
     requires widths { B.widths_fit }
     requires links { AreLinks B.link_in }
 {
-    let link = B::link(dir);
+    let (mut out, mut log) = sinks(alloc, (8000, 40000), 512, failing)?;
     let mut disk = disk;
-    let mut key = MemSource::new(key, 512, plan(failing.key));
-    let mut input = MemSource::new(text, 512, plan(failing.input));
-    let mut out = MemSink::with_room(alloc, 8000, 512, plan(failing.out))?;
-    let mut log = MemSink::with_room(alloc, 40000, 512, plan(failing.log))?;
+    let mut key = source(key, 512, failing.key);
+    let mut input = source(text, 512, failing.input);
     let ends = Ends {
         key: &mut key,
         input: &mut input,
@@ -156,9 +167,7 @@ fn replay_by<B: LineBox>(
         log: &mut log,
         disk: &mut disk,
     };
-    let status = replay_box::<B, MemSource, MemSource, MemSink, MemSink, MemSlots>(
-        &link, dir, rest, ends,
-    );
+    let status = run_ends::<B, MemSource, MemSource, MemSink, MemSink, MemSlots>(dir, rest, ends);
     write_fault(&mut log, &status);
     Ok(Ran {
         status,
@@ -221,16 +230,35 @@ pub fn replay_on(
     }
 }
 
+/// Checks that slots A and B of a disk hold these bytes.
+pub fn slots_hold(rt: &impl Abort, disk: &MemSlots, a: &[u8; 24], b: &[u8; 24]) {
+    assert!(rt; disk.slot(Slot::A) == *a);
+    assert!(rt; disk.slot(Slot::B) == *b);
+}
+
 // Checks that a disk's slots hold this for the link of a box.
 fn has_slots(rt: &impl Abort, disk: &MemSlots, slots: Numbers, kind: BoxKind, dir: Dir) {
     let link = link_of(kind, dir);
-    assert!(rt; disk.slot(Slot::A) == slot_at(slots.0, &link));
-    assert!(rt; disk.slot(Slot::B) == slot_at(slots.1, &link));
+    slots_hold(rt, disk, &slot_at(slots.0, &link), &slot_at(slots.1, &link));
 }
 
 /// Checks that the sink holds these bytes.
 pub fn holds(rt: &impl Abort, sink: &MemSink, bytes: &[u8]) {
     assert_eq!(rt; sink.held(), bytes);
+}
+
+/// Checks that a run ended with the status that is wanted, and that this is its exit status.
+pub fn has_status(rt: &impl Abort, status: &Status, wanted: &Status, exit_status: u8) {
+    assert_eq!(rt; *status, *wanted);
+    assert!(rt; status.exit_status() == exit_status);
+}
+
+// Checks that the results of a run are those of a row.
+fn has_results(rt: &impl Abort, ran: &Ran, kind: BoxKind, row: &Row) {
+    has_status(rt, &ran.status, &row.status, row.exit_status);
+    holds(rt, &ran.out, row.out);
+    holds(rt, &ran.log, row.log);
+    has_slots(rt, &ran.disk, row.slots_now, kind, row.dir);
 }
 
 /// Runs a box over the line of a row, and checks that the results are those of the row.
@@ -244,11 +272,7 @@ pub fn compare(rt: &impl Abort, alloc: Global, kind: BoxKind, row: &Row) -> Resu
         row.text,
         &row.failing,
     )?;
-    assert_eq!(rt; ran.status, row.status);
-    assert!(rt; ran.status.exit_status() == row.exit_status);
-    holds(rt, &ran.out, row.out);
-    holds(rt, &ran.log, row.log);
-    has_slots(rt, &ran.disk, row.slots_now, kind, row.dir);
+    has_results(rt, &ran, kind, row);
     Ok(())
 }
 
@@ -299,12 +323,22 @@ fn floor_of(a: [u8; 24], b: [u8; 24], link: &LinkId) -> Option<u64>
 pub type DiskFault = (u32, &'static [u8], usize, u64);
 
 // The text of the log: these notes, and the fault line after them if the journal failed.
-fn log_of(alloc: Global, notes: &[u8], has_failed: bool) -> Result<Vec<u8>, Fail> {
+fn log_of(alloc: Global, notes: &[u8], has_failed: bool) -> Result<Vec<u8>, AllocError> {
     let mut log = notes.to_vec(alloc)?;
     if has_failed {
         log.extend_from_slice(b"fault: journal\n")?;
     }
     Ok(log)
+}
+
+/// A slot that was being written when the program ended.
+const TORN: [u8; 24] = [0x11; 24];
+
+// Checks that a later run loads this floor from these slots.
+fn has_floor(rt: &impl Abort, a: [u8; 24], b: [u8; 24], link: &LinkId, floor: u64)
+    requires { IsLink link.now }
+{
+    assert!(rt; floor_of(a, b, link) == Some(floor));
 }
 
 // Checks that a later run loads this floor. If a sync failed, the slot that was written may be
@@ -313,13 +347,48 @@ fn loads(rt: &impl Abort, disk: &MemSlots, link: &LinkId, call: u32, floor: u64)
     requires { IsLink link.now }
 {
     let (a, b) = (disk.slot(Slot::A), disk.slot(Slot::B));
-    let torn = [0x11; 24];
-    assert!(rt; floor_of(a, b, link) == Some(floor));
+    has_floor(rt, a, b, link, floor);
     match call {
-        6 => assert!(rt; floor_of(a, torn, link) == Some(0)),
-        8 => assert!(rt; floor_of(torn, b, link) == Some(1)),
+        6 => has_floor(rt, a, TORN, link, 0),
+        8 => has_floor(rt, TORN, b, link, 1),
         _ => {}
     }
+}
+
+// Checks that a run ended because its journal failed, or else that it is done.
+fn has_ended(rt: &impl Abort, status: &Status, has_failed: bool) {
+    if has_failed {
+        has_status(rt, status, &Status::JournalFault, 7);
+    } else {
+        assert!(rt; *status == Status::Done);
+    }
+}
+
+// Checks that the log holds these notes, and the fault line after them if the journal failed.
+fn has_logged(
+    rt: &impl Abort,
+    alloc: Global,
+    log: &MemSink,
+    notes: &[u8],
+    has_failed: bool,
+) -> Result<(), Fail> {
+    let text = log_of(alloc, notes, has_failed)?;
+    holds(rt, log, text.as_slice());
+    Ok(())
+}
+
+// Checks the status, the output and the log of a run in which this call of the disk was to fail.
+fn has_ended_at(
+    rt: &impl Abort,
+    alloc: Global,
+    ran: &Ran,
+    notes: &[u8],
+    fault: &DiskFault,
+) -> Result<(), Fail> {
+    let (_, out, noted, _) = *fault;
+    has_ended(rt, &ran.status, noted < 3);
+    holds(rt, &ran.out, out);
+    has_logged(rt, alloc, &ran.log, notes, noted < 3)
 }
 
 fn fail_call(
@@ -330,20 +399,13 @@ fn fail_call(
     notes: &[u8],
     fault: &DiskFault,
 ) -> Result<(), Fail> {
-    let (call, out, noted, floor) = *fault;
+    let (call, _, _, floor) = *fault;
     let failing = Failing {
         disk: call,
         ..STEADY
     };
     let ran = replay(alloc, kind, Dir::Ab, KEY, FRESH, text, &failing)?;
-    if noted < 3 {
-        assert!(rt; ran.status == Status::JournalFault);
-        assert!(rt; ran.status.exit_status() == 7);
-    } else {
-        assert!(rt; ran.status == Status::Done);
-    }
-    holds(rt, &ran.out, out);
-    holds(rt, &ran.log, log_of(alloc, notes, noted < 3)?.as_slice());
+    has_ended_at(rt, alloc, &ran, notes, fault)?;
     loads(rt, &ran.disk, &link_of(kind, Dir::Ab), call, floor);
     Ok(())
 }

@@ -1,11 +1,12 @@
 //! Tests of a Modbus RTU device over recorded lines, and the functions with which tests read a
 //! line.
-use crate::outside::{BYTE_BY_BYTE, Failing, STEADY, plan};
-use crate::over_boxes::holds;
+use crate::outside::{BYTE_BY_BYTE, Failing, STEADY, sinks, source};
+use crate::over_boxes::{has_status, holds};
+use crate::texts::{add_times, repeated};
 use device_model::{Device, RtuDevice};
 use device_replay::read_frames;
 use replay_status::{Status, write_fault};
-use std::alloc::Global;
+use std::alloc::{AllocError, Global};
 use std::process::Abort;
 use std::test::Fail;
 use tick_drive::TooMuch;
@@ -30,6 +31,17 @@ pub fn read(rt: &impl Abort, alloc: Global, text: &[u8], outside: &Failing) -> R
     read_by::<RtuDevice>(rt, alloc, text, outside)
 }
 
+// Prints what a device reads of this input, and then the fault line.
+fn read_into<D: Device + Drop>(
+    input: &mut MemSource<'_>,
+    out: &mut MemSink,
+    log: &mut MemSink,
+) -> Status {
+    let status = read_frames::<D, MemSource, MemSink, MemSink>(input, out, log);
+    write_fault(log, &status);
+    status
+}
+
 /// Prints what a device reads of this text, and then the fault line.
 pub fn read_by<D: Device + Drop>(
     rt: &impl Abort,
@@ -39,11 +51,9 @@ pub fn read_by<D: Device + Drop>(
 ) -> Result<Ran, Fail> {
     let piece = outside.piece;
     assert!(rt; piece >= 1 && piece <= 512);
-    let mut input = MemSource::new(text, piece, plan(outside.input));
-    let mut out = MemSink::with_room(alloc, 20000, piece, plan(outside.out))?;
-    let mut log = MemSink::with_room(alloc, 100, piece, plan(outside.log))?;
-    let status = read_frames::<D, MemSource, MemSink, MemSink>(&mut input, &mut out, &mut log);
-    write_fault(&mut log, &status);
+    let (mut out, mut log) = sinks(alloc, (20000, 100), piece, outside)?;
+    let mut input = source(text, piece, outside.input);
+    let status = read_into::<D>(&mut input, &mut out, &mut log);
     Ok(Ran { status, out, log })
 }
 
@@ -71,12 +81,17 @@ struct Row {
     log: &'static [u8],
 }
 
+// Checks that these lines were printed, and that the log has this.
+fn has_printed(rt: &impl Abort, ran: &Ran, lines: &[u8], log: &[u8]) {
+    holds(rt, &ran.out, lines);
+    holds(rt, &ran.log, log);
+}
+
+// Checks that the results are those of the row, if this fails outside.
 fn check(rt: &impl Abort, alloc: Global, row: &Row, outside: &Failing) -> Result<(), Fail> {
     let ran = read(rt, alloc, row.text, outside)?;
-    assert_eq!(rt; ran.status, row.status);
-    assert!(rt; ran.status.exit_status() == row.exit_status);
-    holds(rt, &ran.out, row.out);
-    holds(rt, &ran.log, row.log);
+    has_status(rt, &ran.status, &row.status, row.exit_status);
+    has_printed(rt, &ran, row.out, row.log);
     Ok(())
 }
 
@@ -90,99 +105,151 @@ fn check_all(rt: &impl Abort, alloc: Global, rows: &[Row]) -> Result<(), Fail> {
     Ok(())
 }
 
-const fn whole(text: &'static [u8], out: &'static [u8]) -> Row {
+/// A row in which the whole of a text is read.
+const WHOLE: Row = Row {
+    text: b"",
+    outside: STEADY,
+    status: Status::Done,
+    exit_status: 0,
+    out: b"",
+    log: b"",
+};
+
+const RIGHT: [Row; 8] = [
+    WHOLE,
     Row {
-        text,
-        outside: STEADY,
-        status: Status::Done,
-        exit_status: 0,
-        out,
-        log: b"",
-    }
-}
+        text: b"+01030000000ac5cd\n-4\n+01030000000ac5cc\n-4\n+0103\n-1\n+4021\n",
+        out: b"read at 0 01030000000ac5cd\nread at 24 01034021\n",
+        ..WHOLE
+    },
+    Row {
+        text: b"+01030000000ac5cd",
+        out: REQUEST_LINE,
+        ..WHOLE
+    },
+    Row {
+        text: b"+01030000000ac5cd\r\n-4\r\n",
+        out: REQUEST_LINE,
+        ..WHOLE
+    },
+    Row {
+        text: b"+01030000000AC5CD\n",
+        out: REQUEST_LINE,
+        ..WHOLE
+    },
+    Row {
+        text: b"# a request\n+01030000000ac5cd\n# its silence\n-4\n",
+        out: REQUEST_LINE,
+        ..WHOLE
+    },
+    Row {
+        text: b"\n\r\n+0103\n\n+0000000ac5cd\n",
+        out: REQUEST_LINE,
+        ..WHOLE
+    },
+    Row {
+        text: b"-1000000\n+01030000000ac5cd\n",
+        out: b"read at 1000000 01030000000ac5cd\n",
+        ..WHOLE
+    },
+];
 
 #[test]
 fn prints_the_frames_of_a_right_text(rt: HostRuntime) -> Result<(), Fail> {
-    let rows = [
-        whole(b"", b""),
-        whole(
-            b"+01030000000ac5cd\n-4\n+01030000000ac5cc\n-4\n+0103\n-1\n+4021\n",
-            b"read at 0 01030000000ac5cd\nread at 24 01034021\n",
-        ),
-        whole(b"+01030000000ac5cd", REQUEST_LINE),
-        whole(b"+01030000000ac5cd\r\n-4\r\n", REQUEST_LINE),
-        whole(b"+01030000000AC5CD\n", REQUEST_LINE),
-        whole(
-            b"# a request\n+01030000000ac5cd\n# its silence\n-4\n",
-            REQUEST_LINE,
-        ),
-        whole(b"\n\r\n+0103\n\n+0000000ac5cd\n", REQUEST_LINE),
-        whole(
-            b"-1000000\n+01030000000ac5cd\n",
-            b"read at 1000000 01030000000ac5cd\n",
-        ),
-    ];
-    check_all(&rt, rt.alloc(), &rows)
+    check_all(&rt, rt.alloc(), &RIGHT)
 }
 
-const fn refused(
-    text: &'static [u8],
-    line: u32,
-    why: TickFault,
-    log: &'static [u8],
-    out: &'static [u8],
-) -> Row {
+/// A row in which the first line of a text is refused for its count.
+const BAD_COUNT: Row = Row {
+    text: b"-0",
+    outside: STEADY,
+    status: Status::BadTicks(BadTicks {
+        line: 1,
+        why: TickFault::Count,
+    }),
+    exit_status: 4,
+    out: b"",
+    log: b"fault: line 1 count\n",
+};
+
+/// A row in which the first line of a text is refused for a character.
+const BAD_CHAR: Row = Row {
+    text: b"x",
+    status: Status::BadTicks(BadTicks {
+        line: 1,
+        why: TickFault::Char,
+    }),
+    log: b"fault: line 1 char\n",
+    ..BAD_COUNT
+};
+
+const REFUSED: [Row; 10] = [
+    BAD_COUNT,
     Row {
-        text,
-        outside: STEADY,
-        status: Status::BadTicks(BadTicks { line, why }),
-        exit_status: 4,
-        out,
-        log,
-    }
-}
+        text: b"-07",
+        ..BAD_COUNT
+    },
+    Row {
+        text: b"-1000001",
+        ..BAD_COUNT
+    },
+    Row {
+        text: b"+1",
+        status: Status::BadTicks(BadTicks {
+            line: 1,
+            why: TickFault::Odd,
+        }),
+        log: b"fault: line 1 odd\n",
+        ..BAD_COUNT
+    },
+    Row {
+        text: b"+",
+        status: Status::BadTicks(BadTicks {
+            line: 1,
+            why: TickFault::Empty,
+        }),
+        log: b"fault: line 1 empty\n",
+        ..BAD_COUNT
+    },
+    Row {
+        text: b"+0g",
+        ..BAD_CHAR
+    },
+    BAD_CHAR,
+    Row {
+        text: b"%",
+        ..BAD_CHAR
+    },
+    Row {
+        text: b"+000000000000000000000000000000000000000000000000000000000000000000",
+        status: Status::BadTicks(BadTicks {
+            line: 1,
+            why: TickFault::Long,
+        }),
+        log: b"fault: line 1 long\n",
+        ..BAD_COUNT
+    },
+    Row {
+        text: b"+01030000000ac5cd\n-4\nx",
+        status: Status::BadTicks(BadTicks {
+            line: 3,
+            why: TickFault::Char,
+        }),
+        out: REQUEST_LINE,
+        log: b"fault: line 3 char\n",
+        ..BAD_COUNT
+    },
+];
 
 #[test]
 fn refuses_what_is_no_tick_text(rt: HostRuntime) -> Result<(), Fail> {
-    let rows = [
-        refused(b"-0", 1, TickFault::Count, b"fault: line 1 count\n", b""),
-        refused(b"-07", 1, TickFault::Count, b"fault: line 1 count\n", b""),
-        refused(
-            b"-1000001",
-            1,
-            TickFault::Count,
-            b"fault: line 1 count\n",
-            b"",
-        ),
-        refused(b"+1", 1, TickFault::Odd, b"fault: line 1 odd\n", b""),
-        refused(b"+", 1, TickFault::Empty, b"fault: line 1 empty\n", b""),
-        refused(b"+0g", 1, TickFault::Char, b"fault: line 1 char\n", b""),
-        refused(b"x", 1, TickFault::Char, b"fault: line 1 char\n", b""),
-        refused(b"%", 1, TickFault::Char, b"fault: line 1 char\n", b""),
-        refused(
-            b"+000000000000000000000000000000000000000000000000000000000000000000",
-            1,
-            TickFault::Long,
-            b"fault: line 1 long\n",
-            b"",
-        ),
-        refused(
-            b"+01030000000ac5cd\n-4\nx",
-            3,
-            TickFault::Char,
-            b"fault: line 3 char\n",
-            REQUEST_LINE,
-        ),
-    ];
-    check_all(&rt, rt.alloc(), &rows)
+    check_all(&rt, rt.alloc(), &REFUSED)
 }
 
 // Sixteen lines of a million silent ticks between two pieces of text.
-fn with_millions(alloc: Global, before: &[u8], behind: &[u8]) -> Result<Vec<u8>, Fail> {
+fn with_millions(alloc: Global, before: &[u8], behind: &[u8]) -> Result<Vec<u8>, AllocError> {
     let mut text = before.to_vec(alloc)?;
-    for _ in 0..16 {
-        text.extend_from_slice(b"-1000000\n")?;
-    }
+    add_times(&mut text, b"-1000000\n", 16)?;
     text.extend_from_slice(behind)?;
     Ok(text)
 }
@@ -199,18 +266,16 @@ fn is_too_long(
 ) -> Result<(), Fail> {
     let ran = read(rt, alloc, text, &STEADY)?;
     let what = TooMuch::Ticks;
-    assert!(rt; ran.status == Status::TooLong { what, count });
-    assert!(rt; ran.status.exit_status() == 10);
-    holds(rt, &ran.out, lines);
-    holds(rt, &ran.log, fault);
+    has_status(rt, &ran.status, &Status::TooLong { what, count }, 10);
+    has_printed(rt, &ran, lines, fault);
     Ok(())
 }
 
+// Checks that this text is read whole, and that these lines are printed.
 fn is_whole(rt: &impl Abort, alloc: Global, text: &[u8], lines: &[u8]) -> Result<(), Fail> {
     let ran = read(rt, alloc, text, &STEADY)?;
     assert!(rt; ran.status == Status::Done);
-    holds(rt, &ran.out, lines);
-    holds(rt, &ran.log, b"");
+    has_printed(rt, &ran, lines, b"");
     Ok(())
 }
 
@@ -241,85 +306,125 @@ fn takes_as_many_ticks_as_the_limit(rt: HostRuntime) -> Result<(), Fail> {
     is_whole(&rt, rt.alloc(), text.as_slice(), REQUEST_LINE)
 }
 
-const fn failing(piece: u16, input: u32, out: u32, log: u32) -> Failing {
-    Failing {
-        piece,
-        input,
-        out,
-        log,
-        ..STEADY
-    }
-}
+/// A row in which a read of the request fails.
+const READ_FAULT: Row = Row {
+    text: REQUEST,
+    outside: STEADY,
+    status: Status::ReadFault,
+    exit_status: 5,
+    out: b"",
+    log: b"fault: read\n",
+};
 
-const fn read_fault(outside: Failing, out: &'static [u8]) -> Row {
-    Row {
-        text: REQUEST,
-        outside,
-        status: Status::ReadFault,
-        exit_status: 5,
-        out,
-        log: b"fault: read\n",
-    }
-}
+/// A row in which a write of the request's line fails.
+const WRITE_FAULT: Row = Row {
+    status: Status::WriteFault,
+    exit_status: 6,
+    log: b"",
+    ..READ_FAULT
+};
 
-const fn write_fault_of(text: &'static [u8], outside: Failing, out: &'static [u8]) -> Row {
+const FAILED: [Row; 10] = [
+    // The first read gives the whole text, the next one fails.
     Row {
-        text,
-        outside,
-        status: Status::WriteFault,
-        exit_status: 6,
-        out,
+        outside: Failing { input: 2, ..STEADY },
+        out: REQUEST_LINE,
+        ..READ_FAULT
+    },
+    Row {
+        outside: Failing { input: 1, ..STEADY },
+        ..READ_FAULT
+    },
+    // The first read gives only the line of the request, without the silence after it.
+    Row {
+        outside: Failing {
+            piece: 18,
+            input: 2,
+            ..STEADY
+        },
+        ..READ_FAULT
+    },
+    // The first call on an empty output is its flush.
+    Row {
+        text: b"",
+        outside: Failing { out: 1, ..STEADY },
+        ..WRITE_FAULT
+    },
+    Row {
+        outside: Failing { out: 1, ..STEADY },
+        ..WRITE_FAULT
+    },
+    // A write in the middle of the line fails, and the flush after the line.
+    Row {
+        outside: Failing {
+            piece: 10,
+            out: 2,
+            ..STEADY
+        },
+        out: b"read at 0 ",
+        ..WRITE_FAULT
+    },
+    Row {
+        outside: Failing { out: 2, ..STEADY },
+        out: REQUEST_LINE,
+        ..WRITE_FAULT
+    },
+    // The flush of the log fails.
+    Row {
+        outside: Failing { log: 1, ..STEADY },
+        out: REQUEST_LINE,
+        ..WRITE_FAULT
+    },
+    // A read fails, and then the write of the lines so far.
+    Row {
+        outside: Failing {
+            input: 2,
+            out: 1,
+            ..STEADY
+        },
+        ..WRITE_FAULT
+    },
+    // The write of the fault line fails, which doesn't change the status.
+    Row {
+        outside: Failing { log: 1, ..STEADY },
         log: b"",
-    }
-}
+        ..BAD_COUNT
+    },
+];
 
 #[test]
 fn answers_what_failed_outside(rt: HostRuntime) -> Result<(), Fail> {
-    let rows = [
-        // The first read gives the whole text, the next one fails.
-        read_fault(failing(512, 2, 0, 0), REQUEST_LINE),
-        read_fault(failing(512, 1, 0, 0), b""),
-        // The first read gives only the line of the request, without the silence after it.
-        read_fault(failing(18, 2, 0, 0), b""),
-        // The first call on an empty output is its flush.
-        write_fault_of(b"", failing(512, 0, 1, 0), b""),
-        write_fault_of(REQUEST, failing(512, 0, 1, 0), b""),
-        // A write in the middle of the line fails, and the flush after the line.
-        write_fault_of(REQUEST, failing(10, 0, 2, 0), b"read at 0 "),
-        write_fault_of(REQUEST, failing(512, 0, 2, 0), REQUEST_LINE),
-        // The flush of the log fails.
-        write_fault_of(REQUEST, failing(512, 0, 0, 1), REQUEST_LINE),
-        // A read fails, and then the write of the lines so far.
-        write_fault_of(REQUEST, failing(512, 2, 1, 0), b""),
-        // The write of the fault line fails, which doesn't change the status.
-        Row {
-            outside: failing(512, 0, 0, 1),
-            ..refused(b"-0", 1, TickFault::Count, b"", b"")
-        },
-    ];
-    for row in &rows {
+    for row in &FAILED {
         check(&rt, rt.alloc(), row, &row.outside)?;
     }
     Ok(())
 }
 
 // Four hundred requests, twelve ticks apart.
-fn long_text(alloc: Global) -> Result<Vec<u8>, Fail> {
-    let mut text = Vec::new(alloc);
-    for _ in 0..400 {
-        text.extend_from_slice(REQUEST)?;
-    }
-    Ok(text)
+fn long_text(alloc: Global) -> Result<Vec<u8>, AllocError> {
+    repeated(alloc, REQUEST, 400)
 }
 
-fn long_answer(alloc: Global) -> Result<Vec<u8>, Fail> {
+// Adds the line that is printed for a request from tick `start` on.
+fn add_answer(alloc: Global, lines: &mut Vec<u8>, start: u32) -> Result<(), AllocError> {
+    let line = format!(in alloc; "read at {start} 01030000000ac5cd\n")?;
+    lines.extend_from_slice(line.as_bytes())?;
+    Ok(())
+}
+
+// The lines that are printed for `long_text`.
+fn long_answer(alloc: Global) -> Result<Vec<u8>, AllocError> {
     let mut lines = Vec::new(alloc);
     for place in 0..400u32 {
-        let start = place * 12;
-        let line = format!(in alloc; "read at {start} 01030000000ac5cd\n")?;
-        lines.extend_from_slice(line.as_bytes())?;
+        add_answer(alloc, &mut lines, place * 12)?;
     }
     Ok(lines)
+}
+
+// Checks that a front of these lines was written, and not all of them.
+fn holds_front(rt: &impl Abort, out: &MemSink, lines: &[u8]) {
+    assert!(rt; lines.starts_with(out.held()));
+    assert!(rt; out.held().len() < lines.len());
 }
 
 // Checks that a front of the lines is written if call `call` of the output fails.
@@ -330,11 +435,28 @@ fn is_cut(
     call: u32,
     lines: &[u8],
 ) -> Result<(), Fail> {
-    let ran = read(rt, alloc, text, &failing(512, 0, call, 0))?;
+    let failing = Failing {
+        out: call,
+        ..STEADY
+    };
+    let ran = read(rt, alloc, text, &failing)?;
     assert!(rt; ran.status == Status::WriteFault);
-    assert!(rt; lines.starts_with(ran.out.held()));
-    assert!(rt; ran.out.held().len() < lines.len());
+    holds_front(rt, &ran.out, lines);
     holds(rt, &ran.log, b"");
+    Ok(())
+}
+
+// Checks that all of these lines are written, or a front of them if a call of the output fails.
+fn fronts_are_written(
+    rt: &impl Abort,
+    alloc: Global,
+    text: &[u8],
+    lines: &[u8],
+) -> Result<(), Fail> {
+    is_whole(rt, alloc, text, lines)?;
+    for call in [1, 9, 20] {
+        is_cut(rt, alloc, text, call, lines)?;
+    }
     Ok(())
 }
 
@@ -342,19 +464,21 @@ fn is_cut(
 fn writes_a_front_of_a_long_answer(rt: HostRuntime) -> Result<(), Fail> {
     let text = long_text(rt.alloc())?;
     let lines = long_answer(rt.alloc())?;
-    is_whole(&rt, rt.alloc(), text.as_slice(), lines.as_slice())?;
-    for call in [1, 9, 20] {
-        is_cut(&rt, rt.alloc(), text.as_slice(), call, lines.as_slice())?;
-    }
-    Ok(())
+    fronts_are_written(&rt, rt.alloc(), text.as_slice(), lines.as_slice())
+}
+
+// Checks that the first flush of a sink fails, and the second one doesn't.
+fn fails_first(rt: &impl Abort, out: &mut MemSink) {
+    assert!(rt; out.flush().is_err());
+    assert!(rt; out.flush().is_ok());
 }
 
 #[test]
 fn flushes_for_an_answer_alone(rt: HostRuntime) -> Result<(), Fail> {
     // No call is made on the output, so the next one is its first, which fails.
-    let mut ran = read(&rt, rt.alloc(), b"x", &failing(512, 0, 1, 0))?;
-    assert_eq!(rt; ran.log.held(), b"fault: line 1 char\n".as_slice());
-    assert!(rt; ran.out.flush().is_err());
-    assert!(rt; ran.out.flush().is_ok());
+    let failing = Failing { out: 1, ..STEADY };
+    let mut ran = read(&rt, rt.alloc(), b"x", &failing)?;
+    holds(&rt, &ran.log, b"fault: line 1 char\n");
+    fails_first(&rt, &mut ran.out);
     Ok(())
 }

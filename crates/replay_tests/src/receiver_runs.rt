@@ -5,19 +5,21 @@ ghost use Rattle.link_box.specs.Links.{link_by};
 ghost use Rattle.sequence_journal.specs.Journal.{journal_link, Fits};
 ghost use Rattle.check_receiver.specs.Stands.{direction_of, ticks_taken};
 
+use crate::fresh::{FreshJournal, load_fresh};
 use crate::packets::{DNP_PACKET, KEY, RTU_PACKET, WIDE_RTU_PACKET};
-use crate::receiver_steps::{steps, tick_of};
+use crate::receiver_steps::{step_by, steps};
+use crate::texts::add_times;
 use check_receiver::{BoxStep, CheckNote, Checker, RunBytes};
 use dnp_link_frame::Dnp;
 use hmac_tag::{Dir, HmacSha1, HmacSha256, Mac};
 use line_rules::LineRules;
 use link_box::LinkBox;
 use rtu_frame::Rtu;
-use sequence_journal::{Journal, slot_of};
+use sequence_journal::Journal;
 use std::alloc::{AllocError, Global};
 use std::process::Abort;
 use std::test::Fail;
-use yasir_io::{SlotDisk, SteadySlots};
+use yasir_io::SlotDisk;
 use yasir_ticks::Tick;
 
 type RtuChecker = Checker<Rtu, HmacSha1, 2, 18>;
@@ -41,6 +43,18 @@ pub fn alike(link: &[u8], most: usize) -> usize
     link.len()
 }
 
+// The letters from `place` on that are all silence or all bytes, at most `most`.
+pub fn part_at<'a>(rt: &impl Abort, link: &'a [u8], place: usize, most: usize) -> &'a [u8]
+    requires { place ≤ length link.now }
+    ensures some { 0 < length result.now }
+    ensures within { place + length result.now ≤ length link.now }
+{
+    let part = &link[place..];
+    let part = &part[..alike(part, most)];
+    assert!(rt; !part.is_empty());
+    part
+}
+
 // Gives the receiver letters that are all silence or all bytes, as a run. Returns how many it took.
 fn pass<R: LineRules, M: Mac, const B: usize, const D: usize>(
     checker: &mut Checker<R, M, B, D>,
@@ -58,6 +72,18 @@ fn pass<R: LineRules, M: Mac, const B: usize, const D: usize>(
     }
 }
 
+// Whether this is a step that has no note, and returns this byte, or silence if there is none.
+fn is_answered(step: Option<&BoxStep<CheckNote>>, sent: Option<&u8>) -> bool {
+    let tick = match sent {
+        Some(byte) => Tick::Byte(*byte),
+        None => Tick::Silent,
+    };
+    match step {
+        Some(step) => *step == (BoxStep { tick, note: None }),
+        None => false,
+    }
+}
+
 // Whether the first `count` of these steps have no note, and return the bytes `sent`, or silence if
 // there are none.
 fn are_answered(wanted: &[BoxStep<CheckNote>], count: usize, sent: &[u8]) -> bool {
@@ -65,16 +91,32 @@ fn are_answered(wanted: &[BoxStep<CheckNote>], count: usize, sent: &[u8]) -> boo
         return false;
     }
     for at in 0..count {
-        let tick = match sent.get(at) {
-            Some(byte) => Tick::Byte(*byte),
-            None => Tick::Silent,
-        };
-        match wanted.get(at) {
-            Some(step) if *step == (BoxStep { tick, note: None }) => {}
-            _ => return false,
+        if !is_answered(wanted.get(at), sent.get(at)) {
+            return false;
         }
     }
     true
+}
+
+// Gives the receiver letters that are all silence or all bytes, as a run. Checks that it returns
+// what is wanted for those that it takes, and returns how many these are.
+fn take_run<R: LineRules, M: Mac, const B: usize, const D: usize>(
+    rt: &impl Abort,
+    checker: &mut Checker<R, M, B, D>,
+    part: &[u8],
+    wanted: &[BoxStep<CheckNote>],
+) -> usize
+    requires room { ticks_taken checker.old + length part.now ≤ 1000 }
+    ensures within { result ≤ length part.now }
+    ensures taken { ticks_taken checker.new ≡ ticks_taken checker.old + result }
+    ensures direction { direction_of checker.new ≡ direction_of checker.old }
+{
+    let mut sent = RunBytes::new();
+    let count = pass(checker, part, &mut sent);
+    if count > 0 {
+        assert!(rt; are_answered(wanted, count, sent.as_slice()));
+    }
+    count
 }
 
 // Gives the receiver letters that are all silence or all bytes: as a run or, if it takes none so,
@@ -100,13 +142,11 @@ fn take<R: LineRules, M: Mac, S: SlotDisk, const B: usize, const D: usize>(
         ≡ link_by R.LineRules M.Mac B (direction_of checker.new)) }
     ensures fits { OnOk result (Fits journal.new (S.told disk.new)) }
 {
-    let mut sent = RunBytes::new();
-    let count = pass(checker, part, &mut sent);
+    let count = take_run(rt, checker, part, wanted);
     if count > 0 {
-        assert!(rt; are_answered(wanted, count, sent.as_slice()));
         return Ok(count);
     }
-    let step = checker.step(tick_of(part[0]), journal, disk)?;
+    let step = step_by(checker, journal, disk, part[0])?;
     assert!(rt; wanted.first() == Some(&step));
     Ok(1)
 }
@@ -135,9 +175,7 @@ fn follow<R: LineRules, M: Mac, S: SlotDisk, const B: usize, const D: usize>(
     let mut turns = 0;
     while place < link.len() {
         let room = if place < cut { cut - place } else { most };
-        let part = &link[place..];
-        let part = &part[..alike(part, room)];
-        assert!(rt; !part.is_empty());
+        let part = part_at(rt, link, place, room);
         place += take(rt, checker, journal, disk, part, &wanted[place..])?;
         turns += 1;
     }
@@ -161,16 +199,31 @@ fn packet_of(receiver: Receiver) -> &'static [u8] {
     }
 }
 
+// Uses a receiver of this type that has taken no tick, with a new journal and its disk.
+macro_rules! over_fresh {
+    ($receiver:ty, $checker:ident, $journal:ident, $disk:ident, $use:expr) => {{
+        let mut $checker: $receiver = Checker::new(&KEY.to_be_bytes(), Dir::Ab);
+        let served = <$receiver>::link(Dir::Ab);
+        let FreshJournal {
+            journal: mut $journal,
+            disk: mut $disk,
+        } = load_fresh(&served)?;
+        $use
+    }};
+}
+
 // For each receiver there are two functions: what it returns for the ticks of a link, one by one,
 // and a comparison of that with what it returns for runs.
-fn rtu_steps(alloc: Global, link: &[u8]) -> Result<Vec<BoxStep<CheckNote>>, Fail>
+pub fn rtu_steps(alloc: Global, link: &[u8]) -> Result<Vec<BoxStep<CheckNote>>, Fail>
     requires short { length link.now < 1000 }
 {
-    let mut checker: RtuChecker = Checker::new(&KEY.to_be_bytes(), Dir::Ab);
-    let served = RtuChecker::link(Dir::Ab);
-    let mut disk = SteadySlots::new(slot_of(0, &served), [0; 24]);
-    let mut journal = Journal::load(&mut disk, &served)?;
-    steps(alloc, &mut checker, &mut journal, &mut disk, link)
+    over_fresh!(
+        RtuChecker,
+        checker,
+        journal,
+        disk,
+        { steps(alloc, &mut checker, &mut journal, &mut disk, link) }
+    )
 }
 
 fn follow_rtu(
@@ -182,30 +235,36 @@ fn follow_rtu(
 ) -> Result<usize, Fail>
     requires short { length link.now < 1000 }
 {
-    let mut checker: RtuChecker = Checker::new(&KEY.to_be_bytes(), Dir::Ab);
-    let served = RtuChecker::link(Dir::Ab);
-    let mut disk = SteadySlots::new(slot_of(0, &served), [0; 24]);
-    let mut journal = Journal::load(&mut disk, &served)?;
-    follow(
-        rt,
-        &mut checker,
-        &mut journal,
-        &mut disk,
-        link,
-        wanted,
-        cut,
-        most,
+    over_fresh!(
+        RtuChecker,
+        checker,
+        journal,
+        disk,
+        {
+            follow(
+                rt,
+                &mut checker,
+                &mut journal,
+                &mut disk,
+                link,
+                wanted,
+                cut,
+                most
+            )
+        }
     )
 }
 
 fn dnp_steps(alloc: Global, link: &[u8]) -> Result<Vec<BoxStep<CheckNote>>, Fail>
     requires short { length link.now < 1000 }
 {
-    let mut checker: DnpChecker = Checker::new(&KEY.to_be_bytes(), Dir::Ab);
-    let served = DnpChecker::link(Dir::Ab);
-    let mut disk = SteadySlots::new(slot_of(0, &served), [0; 24]);
-    let mut journal = Journal::load(&mut disk, &served)?;
-    steps(alloc, &mut checker, &mut journal, &mut disk, link)
+    over_fresh!(
+        DnpChecker,
+        checker,
+        journal,
+        disk,
+        { steps(alloc, &mut checker, &mut journal, &mut disk, link) }
+    )
 }
 
 fn follow_dnp(
@@ -217,30 +276,36 @@ fn follow_dnp(
 ) -> Result<usize, Fail>
     requires short { length link.now < 1000 }
 {
-    let mut checker: DnpChecker = Checker::new(&KEY.to_be_bytes(), Dir::Ab);
-    let served = DnpChecker::link(Dir::Ab);
-    let mut disk = SteadySlots::new(slot_of(0, &served), [0; 24]);
-    let mut journal = Journal::load(&mut disk, &served)?;
-    follow(
-        rt,
-        &mut checker,
-        &mut journal,
-        &mut disk,
-        link,
-        wanted,
-        cut,
-        most,
+    over_fresh!(
+        DnpChecker,
+        checker,
+        journal,
+        disk,
+        {
+            follow(
+                rt,
+                &mut checker,
+                &mut journal,
+                &mut disk,
+                link,
+                wanted,
+                cut,
+                most
+            )
+        }
     )
 }
 
 fn wide_rtu_steps(alloc: Global, link: &[u8]) -> Result<Vec<BoxStep<CheckNote>>, Fail>
     requires short { length link.now < 1000 }
 {
-    let mut checker: WideRtuChecker = Checker::new(&KEY.to_be_bytes(), Dir::Ab);
-    let served = WideRtuChecker::link(Dir::Ab);
-    let mut disk = SteadySlots::new(slot_of(0, &served), [0; 24]);
-    let mut journal = Journal::load(&mut disk, &served)?;
-    steps(alloc, &mut checker, &mut journal, &mut disk, link)
+    over_fresh!(
+        WideRtuChecker,
+        checker,
+        journal,
+        disk,
+        { steps(alloc, &mut checker, &mut journal, &mut disk, link) }
+    )
 }
 
 fn follow_wide_rtu(
@@ -252,22 +317,27 @@ fn follow_wide_rtu(
 ) -> Result<usize, Fail>
     requires short { length link.now < 1000 }
 {
-    let mut checker: WideRtuChecker = Checker::new(&KEY.to_be_bytes(), Dir::Ab);
-    let served = WideRtuChecker::link(Dir::Ab);
-    let mut disk = SteadySlots::new(slot_of(0, &served), [0; 24]);
-    let mut journal = Journal::load(&mut disk, &served)?;
-    follow(
-        rt,
-        &mut checker,
-        &mut journal,
-        &mut disk,
-        link,
-        wanted,
-        cut,
-        most,
+    over_fresh!(
+        WideRtuChecker,
+        checker,
+        journal,
+        disk,
+        {
+            follow(
+                rt,
+                &mut checker,
+                &mut journal,
+                &mut disk,
+                link,
+                wanted,
+                cut,
+                most
+            )
+        }
     )
 }
 
+// What a receiver returns for the ticks of a link, one by one.
 fn steps_of(alloc: Global, receiver: Receiver, link: &[u8]) -> Result<Vec<BoxStep<CheckNote>>, Fail>
     requires short { length link.now < 1000 }
 {
@@ -278,6 +348,7 @@ fn steps_of(alloc: Global, receiver: Receiver, link: &[u8]) -> Result<Vec<BoxSte
     }
 }
 
+// Compares what a receiver returns for runs with these steps.
 fn follow_by(
     rt: &impl Abort,
     receiver: Receiver,
@@ -291,15 +362,29 @@ fn follow_by(
     match receiver {
         Receiver::Rtu => follow_rtu(rt, link, wanted, cut, most),
         Receiver::Dnp => follow_dnp(rt, link, wanted, cut, most),
-        Receiver::WideRtu => follow_wide_rtu(rt, link, wanted, cut, most),
+        Receiver::WideRtu => { follow_wide_rtu(rt, link, wanted, cut, most) }
     }
 }
 
-fn add(link: &mut Vec<u8>, letter: u8, times: usize) -> Result<(), AllocError> {
-    for _ in 0..times {
-        link.push(letter)?;
+// Adds the first `kept` ticks of the packet, with the one at place `wrong` altered if it is among
+// them.
+fn add_kept(
+    link: &mut Vec<u8>,
+    packet: &[u8],
+    kept: usize,
+    wrong: usize,
+) -> Result<(), AllocError> {
+    for (at, letter) in packet.iter().take(kept).enumerate() {
+        link.push(if at == wrong { *letter ^ 1 } else { *letter })?;
     }
     Ok(())
+}
+
+// Adds `pause` silent ticks, a burst of `count` bytes, and silence.
+fn add_burst(link: &mut Vec<u8>, pause: usize, count: usize) -> Result<(), AllocError> {
+    add_times(link, b".", pause)?;
+    add_times(link, b"A", count)?;
+    add_times(link, b".", 30)
 }
 
 // The first `kept` ticks of the packet, with the one at place `wrong` altered if it is among them,
@@ -313,17 +398,29 @@ pub fn link_of(
     count: usize,
 ) -> Result<Vec<u8>, AllocError> {
     let mut link = Vec::new(alloc);
-    for (at, letter) in packet.iter().take(kept).enumerate() {
-        link.push(if at == wrong { *letter ^ 1 } else { *letter })?;
-    }
-    add(&mut link, b'.', pause)?;
-    add(&mut link, b'A', count)?;
-    add(&mut link, b'.', 30)?;
+    add_kept(&mut link, packet, kept, wrong)?;
+    add_burst(&mut link, pause, count)?;
     Ok(link)
 }
 
-// Compares runs with single ticks over a link by `link_of`, with a cut at each place, and with runs
-// of each length up to that of the link.
+// Compares runs with these steps over a link, with a cut at each place, and with runs of each
+// length up to that of the link.
+fn follow_each(
+    rt: &impl Abort,
+    receiver: Receiver,
+    link: &[u8],
+    wanted: &[BoxStep<CheckNote>],
+) -> Result<(), Fail>
+    requires short { length link.now < 1000 }
+{
+    for at in 0..link.len() {
+        follow_by(rt, receiver, link, wanted, at, 1000)?;
+        follow_by(rt, receiver, link, wanted, 0, at + 1)?;
+    }
+    Ok(())
+}
+
+// Compares runs with single ticks over a link by `link_of`, as `follow_each` does.
 fn compare_runs(
     rt: &impl Abort,
     alloc: Global,
@@ -336,11 +433,7 @@ fn compare_runs(
     let link = link_of(alloc, packet_of(receiver), kept, wrong, pause, count)?;
     let link = &link[..link.len().min(999)];
     let wanted = steps_of(alloc, receiver, link)?;
-    for at in 0..link.len() {
-        follow_by(rt, receiver, link, wanted.as_slice(), at, 1000)?;
-        follow_by(rt, receiver, link, wanted.as_slice(), 0, at + 1)?;
-    }
-    Ok(())
+    follow_each(rt, receiver, link, wanted.as_slice())
 }
 
 // Compares runs with single ticks for each beginning of the packet, and for the whole packet with
@@ -396,6 +489,14 @@ fn runs_are_checked_as_their_ticks_by_the_second_profile(rt: HostRuntime) -> Res
     compare_all(&rt, rt.alloc(), Receiver::WideRtu)
 }
 
+// How many runs and single steps a receiver takes a link in, if no run is cut.
+fn turns_of(rt: &impl Abort, alloc: Global, receiver: Receiver, link: &[u8]) -> Result<usize, Fail>
+    requires short { length link.now < 1000 }
+{
+    let wanted = steps_of(alloc, receiver, link)?;
+    follow_by(rt, receiver, link, wanted.as_slice(), 0, 1000)
+}
+
 // Five runs: the frame, the pause, the trailer's bytes while nothing leaves, those while the frame
 // leaves, and the silence after them. Two single steps: the verdict, and the frame's last byte.
 #[test]
@@ -409,8 +510,7 @@ fn a_packet_is_taken_in_seven_turns(rt: HostRuntime) -> Result<(), Fail> {
         0,
     )?;
     let link = &link[..link.len().min(999)];
-    let wanted = steps_of(rt.alloc(), Receiver::Rtu, link)?;
-    let turns = follow_by(&rt, Receiver::Rtu, link, wanted.as_slice(), 0, 1000)?;
+    let turns = turns_of(&rt, rt.alloc(), Receiver::Rtu, link)?;
     assert!(rt; link.len() == 55);
     assert!(rt; turns <= 7, "{turns} turns");
     Ok(())

@@ -1,19 +1,18 @@
 //! Tests of what the receiver returns for each tick of some links.
-ghost use Rattle.std.specs.Prelude.{◌≡◌, ◌<◌, length};
+ghost use Rattle.std.specs.Prelude.{◌≡◌, ◌+◌, ◌<◌, length, OnOk};
 ghost use Rattle.link_box.specs.Links.{link_by};
 ghost use Rattle.sequence_journal.specs.Journal.{journal_link, Fits};
 ghost use Rattle.check_receiver.specs.Stands.{direction_of, ticks_taken};
 
+use crate::receiver_runs::rtu_steps;
 use check_receiver::{BoxStep, CheckNote, Checker, DroppedWhy, RefusedWhy};
-use hmac_tag::{Dir, HmacSha1, Mac};
+use hmac_tag::Mac;
 use line_rules::LineRules;
-use link_box::LinkBox;
-use rtu_frame::Rtu;
-use sequence_journal::{Journal, slot_of};
+use sequence_journal::Journal;
 use std::alloc::Global;
 use std::process::Abort;
 use std::test::Fail;
-use yasir_io::{SlotDisk, SteadySlots};
+use yasir_io::SlotDisk;
 use yasir_ticks::Tick;
 
 // The tick of a letter in the texts here: a point is silence.
@@ -22,6 +21,25 @@ pub fn tick_of(letter: u8) -> Tick {
         b'.' => Tick::Silent,
         byte => Tick::Byte(byte),
     }
+}
+
+// What the receiver returns for the tick of this letter.
+pub fn step_by<R: LineRules, M: Mac, S: SlotDisk, const B: usize, const D: usize>(
+    checker: &mut Checker<R, M, B, D>,
+    journal: &mut Journal,
+    disk: &mut S,
+    letter: u8,
+) -> Result<BoxStep<CheckNote>, Fail>
+    requires room { ticks_taken checker.old < 1000 }
+    requires of_link { journal_link journal.old
+        ≡ link_by R.LineRules M.Mac B (direction_of checker.old) }
+    requires fits { Fits journal.old (S.told disk.old) }
+    ensures taken { OnOk result (ticks_taken checker.new ≡ ticks_taken checker.old + 1) }
+    ensures of_link { OnOk result (journal_link journal.new
+        ≡ link_by R.LineRules M.Mac B (direction_of checker.new)) }
+    ensures fits { OnOk result (Fits journal.new (S.told disk.new)) }
+{
+    Ok(checker.step(tick_of(letter), journal, disk)?)
 }
 
 // What the receiver returns for each tick.
@@ -40,9 +58,37 @@ pub fn steps<R: LineRules, M: Mac, S: SlotDisk, const B: usize, const D: usize>(
 {
     let mut steps = Vec::new(alloc);
     for letter in link {
-        steps.push(checker.step(tick_of(*letter), journal, disk)?)?;
+        steps.push(step_by(checker, journal, disk, *letter)?)?;
     }
     Ok(steps)
+}
+
+// The note that falls into the step at this place, if these notes have one there.
+fn note_at(notes: &[(usize, CheckNote)], place: usize) -> Option<CheckNote> {
+    let mut note = None;
+    for (at, noted) in notes {
+        if *at == place {
+            note = Some(*noted);
+        }
+    }
+    note
+}
+
+// Checks that these steps send the ticks of this line, and have these notes.
+fn are_steps(
+    rt: &impl Abort,
+    steps: &[BoxStep<CheckNote>],
+    line: &[u8],
+    notes: &[(usize, CheckNote)],
+) {
+    assert_eq!(rt; steps.len(), line.len());
+    for (i, (step, letter)) in steps.iter().zip(line).enumerate() {
+        assert_eq!(rt;
+            (step.tick, step.note),
+            (tick_of(*letter), note_at(notes, i)),
+            "at tick {i}"
+        );
+    }
 }
 
 // Checks what a receiver by y18 for Modbus RTU, over a fresh journal, sends and notes for a link.
@@ -55,26 +101,8 @@ fn compare(
 ) -> Result<(), Fail>
     requires short { length link.now < 1000 }
 {
-    let key: [u8; 16] = 0x000102030405060708090a0b0c0d0e0f_u128.to_be_bytes();
-    let mut checker: Checker<Rtu, HmacSha1, 2, 18> = Checker::new(&key, Dir::Ab);
-    let served = Checker::<Rtu, HmacSha1, 2, 18>::link(Dir::Ab);
-    let mut disk = SteadySlots::new(slot_of(0, &served), [0; 24]);
-    let mut journal = Journal::load(&mut disk, &served)?;
-    let steps = steps(alloc, &mut checker, &mut journal, &mut disk, link)?;
-    assert_eq!(rt; steps.len(), line.len());
-    for (i, (step, letter)) in steps.iter().zip(line).enumerate() {
-        let mut note = None;
-        for (at, noted) in notes {
-            if *at == i {
-                note = Some(*noted);
-            }
-        }
-        assert_eq!(rt;
-            (step.tick, step.note),
-            (tick_of(*letter), note),
-            "at tick {i}"
-        );
-    }
+    let steps = rtu_steps(alloc, link)?;
+    are_steps(rt, steps.as_slice(), line, notes);
     Ok(())
 }
 

@@ -1,13 +1,16 @@
 //! Tests of the transmitter over lines of Modbus RTU, with faults outside.
 use crate::outside::{Failing, STEADY};
 use crate::over_boxes::{
-    AT_0, AT_1, AT_2, AT_LIMIT, BoxKind, DiskFault, FRESH, Held, KEY, NO_NUMBER, NOTHING, Row,
+    AT_0, AT_1, AT_2, AT_LIMIT, BoxKind, DiskFault, FRESH, Held, KEY, NO_NUMBER, NOTHING, Ran, Row,
     compare_all, fail_each_call, holds, replay,
 };
+use crate::texts::repeated;
 use hmac_tag::Dir;
 use replay_status::Status;
-use std::alloc::Global;
+use std::alloc::{AllocError, Global};
+use std::process::Abort;
 use std::test::Fail;
+use yasir_io::MemSink;
 use yasir_ticks::{BadTicks, TickFault};
 
 /// Slots that hold these numbers.
@@ -112,33 +115,40 @@ fn seals_the_frames_of_a_line(rt: HostRuntime) -> Result<(), Fail> {
 }
 
 // 254 bytes 00 and their CRC, followed by `behind`.
-fn longest_frame(alloc: Global, behind: &[u8]) -> Result<Vec<u8>, Fail> {
-    let mut text = Vec::new(alloc);
-    for _ in 0..7 {
-        text.extend_from_slice(
-            b"+0000000000000000000000000000000000000000000000000000000000000000\n",
-        )?;
-    }
+fn longest_frame(alloc: Global, behind: &[u8]) -> Result<Vec<u8>, AllocError> {
+    let zeros = b"+0000000000000000000000000000000000000000000000000000000000000000\n";
+    let mut text = repeated(alloc, zeros, 7)?;
     text.extend_from_slice(b"+000000000000000000000000000000000000000000000000000000000000554e\n")?;
     text.extend_from_slice(behind)?;
     Ok(text)
 }
 
-#[test]
-fn seals_the_longest_frame(rt: HostRuntime) -> Result<(), Fail> {
-    let text = longest_frame(rt.alloc(), b"")?;
-    let ran = replay(
-        rt.alloc(),
+// Seals the longest frame.
+fn seal_longest(alloc: Global) -> Result<Ran, Fail> {
+    let text = longest_frame(alloc, b"")?;
+    replay(
+        alloc,
         BoxKind::SealRtu,
         Dir::Ab,
         KEY,
         FRESH,
         text.as_slice(),
         &STEADY,
-    )?;
+    )
+}
+
+// Checks that a sink holds the longest frame and its trailer.
+fn holds_longest(rt: &impl Abort, alloc: Global, out: &MemSink) -> Result<(), AllocError> {
+    let text = longest_frame(alloc, b"-3\n+000101c84727bb115a36d1402d21\n-7\n")?;
+    holds(rt, out, text.as_slice());
+    Ok(())
+}
+
+#[test]
+fn seals_the_longest_frame(rt: HostRuntime) -> Result<(), Fail> {
+    let ran = seal_longest(rt.alloc())?;
     assert!(rt; ran.status == Status::Done);
-    let out = longest_frame(rt.alloc(), b"-3\n+000101c84727bb115a36d1402d21\n-7\n")?;
-    holds(&rt, &ran.out, out.as_slice());
+    holds_longest(&rt, rt.alloc(), &ran.out)?;
     holds(&rt, &ran.log, b"sealed 1 at 0 len 256\n");
     Ok(())
 }

@@ -1,7 +1,7 @@
 //! Tests of a box over a journal with old slots, which name no link and are taken over, also if a
 //! call of the disk fails, and of a box over a journal of another link.
 use crate::outside::{Failing, STEADY, plan};
-use crate::over_boxes::{BoxKind, KEY, Ran, holds, replay_on};
+use crate::over_boxes::{BoxKind, KEY, Ran, has_status, holds, replay_on, slots_hold};
 use hmac_tag::Dir;
 use replay_status::Status;
 use sequence_journal::{Journal, LinkId};
@@ -40,67 +40,99 @@ const SEALED_AT_6: &[u8] = b"+01030000000ac5cd\n-3\n+0006bffa8bcd3f6ad232de11820
 fn seal_over(
     alloc: Global,
     dir: Dir,
-    a: [u8; 24],
-    b: [u8; 24],
+    a: &[u8; 24],
+    b: &[u8; 24],
     failing: &Failing,
 ) -> Result<Ran, Fail> {
     let fail = plan(failing.disk);
-    let disk = MemSlots::with_room(alloc, OLD_5, OLD_ONES, a, b, 2000, fail)?;
+    let disk = MemSlots::with_room(alloc, OLD_5, OLD_ONES, *a, *b, 2000, fail)?;
     replay_on(alloc, BoxKind::SealRtu, dir, KEY, disk, REQUEST, failing)
 }
 
-fn has_slots(rt: &impl Abort, disk: &MemSlots, a: [u8; 24], b: [u8; 24]) {
+// Checks that the old slots of a disk are as they were.
+fn has_old_slots(rt: &impl Abort, disk: &MemSlots) {
     assert!(rt; disk.old_slot(Slot::A) == OLD_5);
     assert!(rt; disk.old_slot(Slot::B) == OLD_ONES);
-    assert!(rt; disk.slot(Slot::A) == a);
-    assert!(rt; disk.slot(Slot::B) == b);
+}
+
+// Checks that slots A and B of a disk hold these bytes, and that its old slots are as they were.
+fn has_slots(rt: &impl Abort, disk: &MemSlots, a: &[u8; 24], b: &[u8; 24]) {
+    has_old_slots(rt, disk);
+    slots_hold(rt, disk, a, b);
+}
+
+// Checks that a run took over the number of the old slots, and sealed the request with the next.
+fn is_taken_over(rt: &impl Abort, ran: &Ran) {
+    assert!(rt; ran.status == Status::Done);
+    holds(rt, &ran.out, SEALED_AT_6);
+    holds(rt, &ran.log, b"sealed 6 at 0 len 8\n");
+    has_slots(rt, &ran.disk, &NUMBER_5, &NUMBER_6);
 }
 
 #[test]
 fn old_slots_are_taken_over(rt: HostRuntime) -> Result<(), Fail> {
-    let ran = seal_over(rt.alloc(), Dir::Ab, BLANK, BLANK, &STEADY)?;
-    assert!(rt; ran.status == Status::Done);
-    holds(&rt, &ran.out, SEALED_AT_6);
-    holds(&rt, &ran.log, b"sealed 6 at 0 len 8\n");
-    has_slots(&rt, &ran.disk, NUMBER_5, NUMBER_6);
+    let ran = seal_over(rt.alloc(), Dir::Ab, &BLANK, &BLANK, &STEADY)?;
+    is_taken_over(&rt, &ran);
     Ok(())
+}
+
+// Checks that a run refused the slots of another link, and left them as they were.
+fn is_refused(rt: &impl Abort, ran: &Ran) {
+    has_status(rt, &ran.status, &Status::WrongLink { slot: NUMBER_6 }, 12);
+    holds(rt, &ran.out, b"");
+    holds(
+        rt,
+        &ran.log,
+        b"fault: wrong link 000000000000000601001202fffffffffffffff9feffedfd\n",
+    );
+    has_slots(rt, &ran.disk, &NUMBER_5, &NUMBER_6);
 }
 
 #[test]
 fn slots_of_another_link_are_refused(rt: HostRuntime) -> Result<(), Fail> {
-    let ran = seal_over(rt.alloc(), Dir::Ba, NUMBER_5, NUMBER_6, &STEADY)?;
-    assert!(rt; ran.status == Status::WrongLink { slot: NUMBER_6 });
-    assert!(rt; ran.status.exit_status() == 12);
-    holds(&rt, &ran.out, b"");
-    holds(
-        &rt,
-        &ran.log,
-        b"fault: wrong link 000000000000000601001202fffffffffffffff9feffedfd\n",
-    );
-    has_slots(&rt, &ran.disk, NUMBER_5, NUMBER_6);
+    let ran = seal_over(rt.alloc(), Dir::Ba, &NUMBER_5, &NUMBER_6, &STEADY)?;
+    is_refused(&rt, &ran);
     Ok(())
 }
 
-#[test]
-fn a_taking_over_that_fails_loses_no_number(rt: HostRuntime) -> Result<(), Fail> {
+/// A call of the disk that fails while the journal is taken over, and what slot A holds then. Call
+/// 5 is the write, and call 6 the sync.
+const FAILED_CALLS: [(u32, [u8; 24]); 2] = [(5, BLANK), (6, NUMBER_5)];
+
+// Checks that a run sealed nothing because its journal failed, and that slot A holds `a`.
+fn has_failed(rt: &impl Abort, ran: &Ran, a: &[u8; 24]) {
+    has_status(rt, &ran.status, &Status::JournalFault, 7);
+    holds(rt, &ran.out, b"");
+    holds(rt, &ran.log, b"fault: journal\n");
+    has_slots(rt, &ran.disk, a, &BLANK);
+}
+
+// Checks that a later run loads the number of the old slots.
+fn loads_five(rt: &impl Abort, disk: &mut MemSlots) -> Result<(), Fail> {
     let link = LinkId {
         label: 1,
         dir: 0,
         profile: 18,
     };
-    // Call 5 is the write, and call 6 the sync. `a` is what slot A holds then.
-    for (call, a) in [(5, BLANK), (6, NUMBER_5)] {
-        let failing = Failing {
-            disk: call,
-            ..STEADY
-        };
-        let mut ran = seal_over(rt.alloc(), Dir::Ab, BLANK, BLANK, &failing)?;
-        assert!(rt; ran.status == Status::JournalFault);
-        assert!(rt; ran.status.exit_status() == 7);
-        holds(&rt, &ran.out, b"");
-        holds(&rt, &ran.log, b"fault: journal\n");
-        has_slots(&rt, &ran.disk, a, BLANK);
-        assert!(rt; Journal::load(&mut ran.disk, &link)?.floor() == 5);
+    assert!(rt; Journal::load(disk, &link)?.floor() == 5);
+    Ok(())
+}
+
+// Lets this call of the disk fail while the journal is taken over. Slot A must then hold `a`.
+fn fail_taking_over(rt: &impl Abort, alloc: Global, call: u32, a: &[u8; 24]) -> Result<(), Fail> {
+    let failing = Failing {
+        disk: call,
+        ..STEADY
+    };
+    let mut ran = seal_over(alloc, Dir::Ab, &BLANK, &BLANK, &failing)?;
+    has_failed(rt, &ran, a);
+    loads_five(rt, &mut ran.disk)
+}
+
+#[test]
+fn a_taking_over_that_fails_loses_no_number(rt: HostRuntime) -> Result<(), Fail> {
+    for (call, a) in &FAILED_CALLS {
+        fail_taking_over(&rt, rt.alloc(), *call, a)?;
     }
     Ok(())
 }

@@ -1,5 +1,5 @@
 use Rattle.sequence_journal.proofs.SlotLemmas.{at_some}
-use Rattle.sequence_journal.specs.{Journal.journal_link, Journal.journal_floor, Slots.floor_of}
+use Rattle.sequence_journal.specs.{Journal.journal_floor, Slots.floor_of}
 use Rattle.sequence_journal.specs.Uptimes.{Step, IsStep, numbers_answered}
 use Rattle.std.proofs.Common.{◌≡◌, ◌∙◌, ℕ, ◌+◌, [], ◌∷◌, Some, refl, sym, subst, ap, unwrap_or}
 use Rattle.edge_tests.proofs.journals.answer_one.Goals as goal
