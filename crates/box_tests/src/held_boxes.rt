@@ -7,7 +7,6 @@ use hmac_tag::Dir;
 use seal_transmitter::SealNote;
 use sequence_journal::{LoadError, slot_of};
 use std::alloc::{AllocError, Global};
-use std::process::Abort;
 use std::test::Fail;
 use yasir_io::{SLOT_LEN, Slot, SlotBytes};
 use yasir_ticks::{Tick, TickRun};
@@ -83,6 +82,11 @@ impl Packet {
         }
     }
 
+    // Returns the number of bytes of the frame.
+    fn frame_len(&self) -> u16 {
+        self.frame.len().min(0xFFFF) as u16
+    }
+
     // Returns a box whose journal has floor 0.
     fn made(&self, part: Part) -> Result<HeldBox, Fail> {
         let kind = self.kind(part);
@@ -119,78 +123,145 @@ impl Packet {
     }
 }
 
-// Steps a box over a line. Returns the other line, and the steps that have a note or a commit.
-fn step_all(
-    alloc: Global,
-    held: &mut HeldBox,
-    line: &[Tick],
-) -> Result<(Vec<Tick>, Vec<(usize, HeldStep)>), Fail> {
-    let mut other = Vec::new(alloc);
-    let mut noted = Vec::new(alloc);
-    for (i, tick) in line.iter().enumerate() {
-        let Ok(step) = held.step(*tick) else {
-            return Err("a box is full".into());
-        };
-        other.push(step.tick)?;
+/// What the steps of a box over a line returned: the other line, and the steps that have a note or a
+/// commit, each with its place.
+#[derive(Drop)]
+struct Walk {
+    other: Vec<Tick>,
+    noted: Vec<(usize, HeldStep)>,
+}
+
+impl Walk {
+    // Adds the next step.
+    fn add(&mut self, step: HeldStep) -> Result<(), AllocError> {
         if step.note.is_some() || step.commit.is_some() {
-            noted.push((i, step))?;
+            self.noted.push((self.other.len(), step))?;
         }
+        self.other.push(step.tick)?;
+        Ok(())
     }
-    Ok((other, noted))
+}
+
+// Takes a tick.
+fn step_of(held: &mut HeldBox, tick: Tick) -> Result<HeldStep, Fail> {
+    match held.step(tick) {
+        Ok(step) => Ok(step),
+        Err(_) => Err("a box is full".into()),
+    }
+}
+
+// Steps a box over a line.
+fn step_all(alloc: Global, held: &mut HeldBox, line: &[Tick]) -> Result<Walk, Fail> {
+    let mut walk = Walk {
+        other: Vec::new(alloc),
+        noted: Vec::new(alloc),
+    };
+    for tick in line {
+        walk.add(step_of(held, *tick)?)?;
+    }
+    Ok(walk)
+}
+
+// Whether these are one step, with this note and this commit.
+fn is_once(noted: &[(usize, HeldStep)], note: AnyNote, commit: Option<Commit>) -> bool {
+    match noted {
+        [(_, step)] => step.note == Some(note) && step.commit == commit,
+        _ => false,
+    }
+}
+
+// Whether these are one step, at this place.
+fn is_at(noted: &[(usize, HeldStep)], place: usize) -> bool {
+    match noted {
+        [(at, _)] => *at == place,
+        _ => false,
+    }
+}
+
+// Whether this is the last number that a box used, and it has taken as many ticks.
+fn has_taken(held: &HeldBox, floor: u64, ticks: usize) -> bool {
+    held.floor() == floor && held.ticks() == ticks as u64
+}
+
+// Whether the frame alone is noted and owes a commit, where its trailer begins.
+fn notes_sealed(packet: &Packet, noted: &[(usize, HeldStep)]) -> bool {
+    let sealed = SealNote::Sealed {
+        number: 1,
+        start: 0,
+        len: packet.frame_len(),
+    };
+    is_once(noted, AnyNote::OfSealer(sealed), Some(packet.owed()))
+        && is_at(noted, packet.frame.len().saturating_add(3))
+}
+
+// Whether a new transmitter makes this link of the packet's frame on this line.
+fn is_sealed(alloc: Global, packet: &Packet, line: &[Tick], link: &[Tick]) -> Result<bool, Fail> {
+    let mut sealer = packet.made(Part::Sealer)?;
+    let walk = step_all(alloc, &mut sealer, line)?;
+    Ok(
+        walk.other.as_slice() == link
+            && notes_sealed(packet, walk.noted.as_slice())
+            && has_taken(&sealer, 1, line.len()),
+    )
 }
 
 #[test]
 fn each_frame_is_sealed(rt: HostRuntime) -> Result<(), Fail> {
     for packet in &PACKETS {
-        let mut sealer = packet.made(Part::Sealer)?;
         let line = packet.device_line(rt.alloc())?;
-        let (link, noted) = step_all(rt.alloc(), &mut sealer, line.as_slice())?;
-        assert_eq!(rt; link.as_slice(), packet.link_line(rt.alloc())?.as_slice());
-        assert_eq!(rt; noted.len(), 1);
-        for (at, step) in &noted {
-            assert_eq!(rt; *at, packet.frame.len() + 3);
-            let sealed = SealNote::Sealed {
-                number: 1,
-                start: 0,
-                len: packet.frame.len() as u16,
-            };
-            assert_eq!(rt; step.note, Some(AnyNote::OfSealer(sealed)));
-            assert_eq!(rt; step.commit, Some(packet.owed()));
-        }
-        assert_eq!(rt; (sealer.floor(), sealer.ticks()), (1, line.len() as u64));
+        let link = packet.link_line(rt.alloc())?;
+        assert!(rt; is_sealed(rt.alloc(), packet, line.as_slice(), link.as_slice())?);
     }
     Ok(())
+}
+
+// Whether the packet alone is noted and owes a commit, at the last byte of its trailer.
+fn notes_passed(packet: &Packet, noted: &[(usize, HeldStep)]) -> bool {
+    let passed = CheckNote::Passed {
+        number: 1,
+        start: 0,
+        len: packet.frame_len(),
+    };
+    let len = packet.frame.len().saturating_add(packet.trailer.len());
+    is_once(noted, AnyNote::OfChecker(passed), Some(packet.owed()))
+        && is_at(noted, len.saturating_add(2))
+}
+
+// Whether a receiver passes the packet of this link.
+fn passes(
+    alloc: Global,
+    packet: &Packet,
+    checker: &mut HeldBox,
+    link: &[Tick],
+) -> Result<bool, Fail> {
+    let walk = step_all(alloc, checker, link)?;
+    Ok(notes_passed(packet, walk.noted.as_slice()))
+}
+
+// Whether a receiver refuses the packet of this link, of which it has taken as many ticks before.
+fn refuses(alloc: Global, checker: &mut HeldBox, link: &[Tick]) -> Result<bool, Fail> {
+    let walk = step_all(alloc, checker, link)?;
+    let refused = CheckNote::Refused {
+        start: link.len() as u64,
+        why: RefusedWhy::Tag,
+    };
+    let note = AnyNote::OfChecker(refused);
+    Ok(is_once(walk.noted.as_slice(), note, None))
+}
+
+// Whether a new receiver passes the packet of this link once. If the same packet comes a second
+// time, its word is that of a greater number, which has another tag.
+fn passes_once(alloc: Global, packet: &Packet, link: &[Tick]) -> Result<bool, Fail> {
+    let mut checker = packet.made(Part::Checker)?;
+    let passed = passes(alloc, packet, &mut checker, link)?;
+    Ok(passed && refuses(alloc, &mut checker, link)?)
 }
 
 #[test]
 fn a_packet_passes_once(rt: HostRuntime) -> Result<(), Fail> {
     for packet in &PACKETS {
-        let mut checker = packet.made(Part::Checker)?;
         let link = packet.link_line(rt.alloc())?;
-        let (_, noted) = step_all(rt.alloc(), &mut checker, link.as_slice())?;
-        let passed = CheckNote::Passed {
-            number: 1,
-            start: 0,
-            len: packet.frame.len() as u16,
-        };
-        assert_eq!(rt; noted.len(), 1);
-        for (at, step) in &noted {
-            assert_eq!(rt; *at, packet.frame.len() + 2 + packet.trailer.len());
-            assert_eq!(rt; step.note, Some(AnyNote::OfChecker(passed)));
-            assert_eq!(rt; step.commit, Some(packet.owed()));
-        }
-        // If the same packet comes a second time, its word is that of a greater number, which has
-        // another tag.
-        let (_, again) = step_all(rt.alloc(), &mut checker, link.as_slice())?;
-        let refused = CheckNote::Refused {
-            start: link.len() as u64,
-            why: RefusedWhy::Tag,
-        };
-        assert_eq!(rt; again.len(), 1);
-        for (_, step) in &again {
-            assert_eq!(rt; step.note, Some(AnyNote::OfChecker(refused)));
-            assert_eq!(rt; step.commit, None);
-        }
+        assert!(rt; passes_once(rt.alloc(), packet, link.as_slice())?);
     }
     Ok(())
 }
@@ -207,21 +278,29 @@ fn a_box_goes_on_where_it_was(rt: HostRuntime) -> Result<(), Fail> {
     Ok(())
 }
 
-fn refused(kind: Kind, a: SlotBytes, b: SlotBytes) -> Option<LoadError> {
-    HeldBox::new(kind, Dir::Ab, &KEY.to_be_bytes(), a, b).err()
+// Whether no box is made of these slots, and this is why.
+fn is_refused(kind: Kind, a: SlotBytes, b: SlotBytes, why: LoadError) -> bool {
+    HeldBox::new(kind, Dir::Ab, &KEY.to_be_bytes(), a, b).err() == Some(why)
+}
+
+// Whether no box is made of slots in which nothing was written.
+fn refuses_blank(kind: Kind) -> bool {
+    let bad = LoadError::Bad { a: BLANK, b: BLANK };
+    is_refused(kind, BLANK, BLANK, bad)
+}
+
+// Whether no box is made of the slots of the other direction.
+fn refuses_other_link(kind: Kind) -> bool {
+    let slot = slot_of(7, &kind.link(Dir::Ba));
+    is_refused(kind, BLANK, slot, LoadError::WrongLink { slot })
 }
 
 #[test]
 fn slots_without_a_journal_are_refused(rt: HostRuntime) -> Result<(), Fail> {
     for packet in &PACKETS {
         let kind = packet.kind(Part::Checker);
-        let bad = LoadError::Bad { a: BLANK, b: BLANK };
-        assert_eq!(rt; refused(kind, BLANK, BLANK), Some(bad));
-        let slot = slot_of(7, &kind.link(Dir::Ba));
-        assert_eq!(rt;
-            refused(kind, BLANK, slot),
-            Some(LoadError::WrongLink { slot })
-        );
+        assert!(rt; refuses_blank(kind));
+        assert!(rt; refuses_other_link(kind));
     }
     Ok(())
 }
@@ -241,26 +320,38 @@ fn take_run(held: &mut HeldBox, run: TickRun<'_>, other: &mut Vec<Tick>) -> Resu
             following = following.behind(taken);
             continue;
         }
-        let Ok(step) = held.step(following.first()) else {
-            return Err("a box is full".into());
-        };
-        other.push(step.tick)?;
+        other.push(step_of(held, following.first())?.tick)?;
         following = following.behind(1);
     }
     Err("a run has more than 100 parts".into())
+}
+
+// Gives a box the frame of a packet and then 60 silent ticks, by runs. Whether each run takes few
+// turns.
+fn takes_few_turns(
+    held: &mut HeldBox,
+    packet: &Packet,
+    other: &mut Vec<Tick>,
+) -> Result<bool, Fail> {
+    let first = take_run(held, TickRun::Bytes(packet.frame), other)?;
+    let second = take_run(held, TickRun::Silence(60), other)?;
+    Ok(first <= 10 && second <= 10)
+}
+
+// Whether a new transmitter makes this link of the packet's frame by runs, in few turns.
+fn is_sealed_by_runs(alloc: Global, packet: &Packet, link: &[Tick]) -> Result<bool, Fail> {
+    let mut sealer = packet.made(Part::Sealer)?;
+    let mut other = Vec::new(alloc);
+    let few = takes_few_turns(&mut sealer, packet, &mut other)?;
+    Ok(few && other.as_slice() == link && sealer.ticks() == other.len() as u64)
 }
 
 // Runs give the same other line as steps, and take few turns.
 #[test]
 fn runs_are_taken_as_their_ticks(rt: HostRuntime) -> Result<(), Fail> {
     for packet in &PACKETS {
-        let mut sealer = packet.made(Part::Sealer)?;
-        let mut link = Vec::new(rt.alloc());
-        let first = take_run(&mut sealer, TickRun::Bytes(packet.frame), &mut link)?;
-        let second = take_run(&mut sealer, TickRun::Silence(60), &mut link)?;
-        assert_eq!(rt; link.as_slice(), packet.link_line(rt.alloc())?.as_slice());
-        assert!(rt; first <= 10 && second <= 10);
-        assert_eq!(rt; sealer.ticks(), link.len() as u64);
+        let link = packet.link_line(rt.alloc())?;
+        assert!(rt; is_sealed_by_runs(rt.alloc(), packet, link.as_slice())?);
     }
     Ok(())
 }

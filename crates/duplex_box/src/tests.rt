@@ -71,6 +71,14 @@ struct Ran {
     got: u64,
 }
 
+// Returns the tick of a line at this place, or silence if the line has ended.
+fn tick_at(line: &[Tick], i: usize) -> Tick {
+    match line.get(i) {
+        Some(tick) => *tick,
+        None => Tick::Silent,
+    }
+}
+
 // Gives a box of direction `ab`, with new journals, these ticks: as many as the device's line has.
 fn run<X: SlotDisk + Drop, Y: SlotDisk + Drop>(
     alloc: Global,
@@ -88,10 +96,9 @@ fn run<X: SlotDisk + Drop, Y: SlotDisk + Drop>(
     let mut steps = Vec::new(alloc);
     let mut fault = None;
     for (i, from_device) in device.iter().enumerate() {
-        let from_link = link.get(i).copied().unwrap_or(Tick::Silent);
         match duplex.step(
             *from_device,
-            from_link,
+            tick_at(link, i),
             &mut sent,
             &mut sent_disk,
             &mut got,
@@ -112,7 +119,58 @@ fn run<X: SlotDisk + Drop, Y: SlotDisk + Drop>(
     })
 }
 
+// Whether a line has this tick at this place.
+fn has_at(line: &[Tick], i: usize, tick: Tick) -> bool {
+    match line.get(i) {
+        Some(found) => *found == tick,
+        None => false,
+    }
+}
+
+// Whether a step has no note, or the next one of these, which is of its place.
+fn is_due<N: Copy + PartialEq>(
+    notes: &[(usize, N)],
+    next: &mut usize,
+    i: usize,
+    note: Option<N>,
+) -> bool {
+    let Some(note) = note else {
+        return true;
+    };
+    let due = notes.get(*next);
+    *next = next.saturating_add(1);
+    match due {
+        Some((at, wanted)) => *at == i && *wanted == note,
+        None => false,
+    }
+}
+
 impl Ran {
+    // Returns the place of the first step that has another tick of the link, or another one for
+    // the device, if there is one.
+    fn first_other(&self, link: &[Tick], device: &[Tick]) -> Option<usize> {
+        for (i, step) in self.steps.iter().enumerate() {
+            if !has_at(link, i, step.link) || !has_at(device, i, step.device) {
+                return Some(i);
+            }
+        }
+        None
+    }
+
+    // Whether these are the notes of both boxes, in the order of steps.
+    fn has_notes(&self, sealed: &[(usize, SealNote)], checked: &[(usize, CheckNote)]) -> bool {
+        let mut seals = 0;
+        let mut checks = 0;
+        for (i, step) in self.steps.iter().enumerate() {
+            if !is_due(sealed, &mut seals, i, step.sealed)
+                || !is_due(checked, &mut checks, i, step.checked)
+            {
+                return false;
+            }
+        }
+        seals == sealed.len() && checks == checked.len()
+    }
+
     // Checks the ticks of the link, those for the device, and the notes in the order of steps.
     fn check(
         &self,
@@ -122,31 +180,9 @@ impl Ran {
         sealed: &[(usize, SealNote)],
         checked: &[(usize, CheckNote)],
     ) {
-        assert_eq!(rt; self.steps.len(), link.len());
-        let mut links = link.iter();
-        let mut devices = device.iter();
-        let mut seals = sealed.iter();
-        let mut checks = checked.iter();
-        for (i, step) in self.steps.iter().enumerate() {
-            assert_eq!(rt;
-                Some(step.link),
-                links.next().copied(),
-                "on the link at tick {i}"
-            );
-            assert_eq!(rt;
-                Some(step.device),
-                devices.next().copied(),
-                "to the device at tick {i}"
-            );
-            if let Some(note) = step.sealed {
-                assert_eq!(rt; seals.next().copied(), Some((i, note)));
-            }
-            if let Some(note) = step.checked {
-                assert_eq!(rt; checks.next().copied(), Some((i, note)));
-            }
-        }
-        assert_eq!(rt; seals.next().copied(), None);
-        assert_eq!(rt; checks.next().copied(), None);
+        assert!(rt; self.steps.len() == link.len());
+        assert_eq!(rt; self.first_other(link, device), None);
+        assert!(rt; self.has_notes(sealed, checked));
     }
 }
 

@@ -8,8 +8,8 @@ use Rattle.link_words.proofs.Telling.{is_word, proto_by, profile_by, dir_by, pro
 use Rattle.link_words.proofs.Telling.{dir-by}
 use Rattle.link_words.specs.{Words.dir_word, Words.link_word, declared.words.Profile.Profile}
 use Rattle.link_words.specs.declared.words.Proto.{Proto, TheVariants.Rtu, TheVariants.Dnp3}
-use Rattle.std.proofs.Common.{◌≡◌, ◌∙◌, ℕ, zero, suc, ◌+◌, ◌*◌, Bool, List, [], ◌∷◌, Option, Some}
-use Rattle.std.proofs.Common.{None, cond, nat_eq, refl, sym, ap, arith, subst, ◌≤◌, ◌^◌, ◌<◌, inl}
+use Rattle.std.proofs.Common.{◌≡◌, ◌∙◌, ℕ, zero, suc, List, [], ◌∷◌, Option, Some}
+use Rattle.std.proofs.Common.{None, cond, refl, sym, ap, arith, subst, ◌≤◌, ◌^◌, ◌<◌, inl}
 use Rattle.std.proofs.{Common.inr, lemmas.Fmt.decimal_is_IsNumeral}
 use Rattle.std.specs.{Prelude.codes, Prelude.decimal, Str.Parse.digits_value}
 

@@ -13,7 +13,7 @@ use Rattle.session_audit.{proofs.Auditing.kind-so, specs.AuditedInput.FindsNone}
 use Rattle.session_audit.specs.Sessions.{sent_setup, got_setup, verdict_of, verdict_with}
 use Rattle.session_audit.specs.Verdicts.{verdict_on}
 use Rattle.session_audit.specs.declared.{session.Session.Session, verdict.Verdict.Verdict}
-use Rattle.std.proofs.Common.{◌≡◌, ◌⊎◌, ℕ, ◌+◌, List, ◌++◌, Option, true, false, inl, inr, refl}
+use Rattle.std.proofs.Common.{◌≡◌, ◌⊎◌, ℕ, List, ◌++◌, Option, true, false, inl, inr, refl}
 use Rattle.std.proofs.{Common.arith, lemmas.Bool.eq-eqb, lemmas.Bool.ne_eqb}
 use Rattle.tick_drive.specs.declared.{consumer.Stop.Stop, end.End.End, end.End.TheVariants.Whole}
 use Rattle.tick_drive.specs.declared.end.End.TheVariants.{Refused, TooLong, ReadFault, Stopped}

@@ -1,6 +1,6 @@
 -- If a word spells a number as it would be printed, it is read as that number.
 use Rattle.std.proofs.Common.{◌≡◌, ◌∙◌, ℕ, ◌^◌, ◌<◌, true, false, List, Result, Ok, Err, sym, ap}
-use Rattle.std.proofs.{Common.arith, lemmas.Fmt.parse-decimal, lemmas.Slice.Eq.bytes_eq-Decides}
+use Rattle.std.proofs.{lemmas.Fmt.parse-decimal, lemmas.Slice.Eq.bytes_eq-Decides}
 use Rattle.std.specs.{Prelude.bytes_eq, Prelude.decimal, Str.Parse.ParsesUnsigned}
 
 module _ {E : Type 0} (word : List ℕ) (r : Result ℕ E) (n : ℕ) (few : n < 2 ^ 64)

@@ -1,17 +1,17 @@
 -- What `space` leaves if it has taken all of its input: all accepted frames have left.
 use Rattle.dnp_link_frame.specs.{Rules.dnp_rules, RulesLaws.dnp_lawful, RulesLaws.dnp_framed}
 use Rattle.{line_spacer.specs.Spacing.accepted_of, line_texts.specs.Sending.SinkTexts}
-use Rattle.{line_texts.specs.Sending.sink_texts, link_replay.specs.ReadCommand.device_reads}
+use Rattle.{link_replay.specs.ReadCommand.device_reads}
 use Rattle.link_replay.specs.SpaceCommand.{spaced_by, SpacesBy, SpacesTexts, Spaces}
 use Rattle.link_words.specs.Links.{gap_of}
 use Rattle.link_words.specs.declared.words.Profile.{Profile, TheVariants.Y18, TheVariants.Y24}
 use Rattle.link_words.specs.declared.words.Proto.{Proto, TheVariants.Rtu, TheVariants.Dnp3}
 use Rattle.replay_status.specs.{Outside.Outside, Outside.outside, declared.status.Status.Status}
-use Rattle.replay_status.specs.declared.status.Status.TheVariants.{Done, NoMemory}
+use Rattle.replay_status.specs.declared.status.Status.TheVariants.{Done}
 use Rattle.space_replay.specs.{SpacedTexts.most_waiting, SpacesLine.SpacesLine}
 use Rattle.{space_replay.specs.SpacesLine.space_rest, spacer_laws.proofs.Leaving.rtu-leave}
 use Rattle.spacer_laws.{proofs.Leaving.hunt-leave, specs.Leaving.HaveLeft, specs.Leaving.AllLeave}
-use Rattle.std.proofs.Common.{◌≡◌, ◌∙◌, ◌≤◌, ◌+◌, ◌*◌, ℕ, List, ◌++◌, length, Option, ap, sym}
+use Rattle.std.proofs.Common.{◌≡◌, ◌∙◌, ℕ, List, ◌++◌, length, Option, ap, sym}
 use Rattle.std.proofs.Common.{subst, arith, refl}
 use Rattle.tick_drive.proofs.ItemLaws.{ticks_in-append}
 use Rattle.tick_drive.specs.{Input.Takes, Items.silent_items, declared.end.End.TheVariants.Whole}

@@ -75,33 +75,55 @@ fn has_line(rt: &impl Abort, page: &str, words: &str) {
     assert!(rt; found);
 }
 
-#[test]
-fn help_has_a_line_for_each_command(rt: HostRuntime) -> Result<(), Fail> {
-    for words in &HELP_WORDS {
-        let ran = run_about(rt.alloc(), words, 0)?;
-        ended(&rt, &ran, Status::Done, &HELP_PAGE, b"");
-        let page = str::from_utf8(ran.out.held())?;
-        for command in &COMMANDS {
-            has_line(&rt, page, command);
-        }
+// Checks that the page has a line for each command.
+fn has_lines(rt: &impl Abort, page: &[u8]) -> Result<(), Fail> {
+    let page = str::from_utf8(page)?;
+    for command in &COMMANDS {
+        has_line(rt, page, command);
     }
     Ok(())
 }
 
 #[test]
-fn the_examples_of_help_are_commands(rt: HostRuntime) -> Result<(), Fail> {
+fn help_has_a_line_for_each_command(rt: HostRuntime) -> Result<(), Fail> {
+    for words in &HELP_WORDS {
+        let ran = run_about(rt.alloc(), words, 0)?;
+        ended(&rt, &ran, Status::Done, &HELP_PAGE, b"");
+        has_lines(&rt, ran.out.held())?;
+    }
+    Ok(())
+}
+
+// Returns the words of an example, which stand before its input.
+fn words_in(example: &str) -> &str {
+    match example.split_once(" <") {
+        Some((asked, _)) => asked,
+        None => example,
+    }
+}
+
+// Checks that the words of an example ask for a command.
+fn is_command(rt: &impl Abort, alloc: Global, example: &str) -> Result<(), Fail> {
+    let words = words_of(alloc, words_in(example))?;
+    assert!(rt; read_words(words.as_slice()).is_ok());
+    Ok(())
+}
+
+// Checks each example of the page. Returns whether there is one.
+fn try_examples(rt: &impl Abort, alloc: Global, page: &str) -> Result<bool, Fail> {
     let mut found = false;
-    for line in str::from_utf8(&HELP_PAGE)?.lines() {
+    for line in page.lines() {
         if let Some(example) = line.strip_prefix("  link_replay ") {
-            let asked = match example.split_once(" <") {
-                Some((asked, _)) => asked,
-                None => example,
-            };
-            let words = words_of(rt.alloc(), asked)?;
-            assert!(&rt; read_words(words.as_slice()).is_ok());
+            is_command(rt, alloc, example)?;
             found = true;
         }
     }
-    assert!(&rt; found);
+    Ok(found)
+}
+
+#[test]
+fn the_examples_of_help_are_commands(rt: HostRuntime) -> Result<(), Fail> {
+    let page = str::from_utf8(&HELP_PAGE)?;
+    assert!(rt; try_examples(&rt, rt.alloc(), page)?);
     Ok(())
 }

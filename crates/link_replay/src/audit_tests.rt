@@ -1,7 +1,7 @@
 //! Audits: each verdict, words that ask for no audit, and inputs that aren't three recordings.
-use crate::running::{Ends, KEY, ended, plan, run_words, words_of};
-use crate::tests::run_over;
-use crate::{Command, Dir, Profile, Proto, key_word, read_words};
+use crate::running::{Ends, KEY, ended, has_key, plan, run_words, words_of};
+use crate::tests::run_over_text;
+use crate::{Command, Dir, Profile, Proto, read_words};
 use replay_status::Status;
 use std::alloc::Global;
 use std::process::Abort;
@@ -146,8 +146,7 @@ const ROWS: [Row; 14] = [
 ];
 
 fn compare(rt: &impl Abort, alloc: Global, row: &Row) -> Result<(), Fail> {
-    let mut disk = SteadySlots::new([0; 24], [0; 24]);
-    let ran = run_over(alloc, row.words, KEY, row.text, 0, &mut disk)?;
+    let ran = run_over_text(alloc, row.words, KEY, row.text, 0)?;
     ended(rt, &ran, row.status, row.out, row.log);
     Ok(())
 }
@@ -287,7 +286,7 @@ fn compare_words(rt: &impl Abort, alloc: Global, row: &Asked) -> Result<(), Fail
         None => None,
     };
     assert_eq!(rt; read_words(words.as_slice()).ok(), row.command);
-    assert_eq!(rt; key_word(words.as_slice()), place);
+    has_key(rt, words.as_slice(), place);
     Ok(())
 }
 

@@ -1,13 +1,11 @@
 //! Runs of `duplex`: a frame that is sealed on its way out, a frame of the box's own direction that
 //! is reflected, and runs that end early.
-use crate::running::{KEY, Ran, ended, words_of};
-use crate::tests::run_over;
-use crate::{Command, Dir, Profile, Proto, key_word, read_words};
+use crate::running::{KEY, Ran, asks, ended, has_key, words_of};
+use crate::tests::run_over_text;
+use crate::{Command, Dir, Profile, Proto};
 use replay_status::Status;
 use std::alloc::Global;
-use std::process::Abort;
 use std::test::Fail;
-use yasir_io::SteadySlots;
 use yasir_ticks::{BadTicks, TickFault};
 
 /// A query of Modbus RTU, and an empty recording of a link.
@@ -37,8 +35,7 @@ const ROWS: [(&[u8], &[u8], &[u8]); 2] = [
 
 // Runs `duplex` over this input, with an output whose call of this number fails.
 fn duplex(alloc: Global, text: &'static [u8], fail: u32) -> Result<Ran, Fail> {
-    let mut disk = SteadySlots::new([0; 24], [0; 24]);
-    run_over(alloc, "duplex rtu ab key", KEY, text, fail, &mut disk)
+    run_over_text(alloc, "duplex rtu ab key", KEY, text, fail)
 }
 
 #[test]
@@ -74,7 +71,7 @@ fn runs_that_end_early(rt: HostRuntime) -> Result<(), Fail> {
 fn a_duplex_box_has_a_key(rt: HostRuntime) -> Result<(), Fail> {
     let words = words_of(rt.alloc(), "duplex dnp24 ba key")?;
     let asked = Command::Duplex(Proto::Dnp3, Profile::Y24, Dir::Ba);
-    assert_eq!(rt; read_words(words.as_slice()), Ok(asked));
-    assert_eq!(rt; key_word(words.as_slice()), Some(3));
+    asks(&rt, words.as_slice(), Ok(asked));
+    has_key(&rt, words.as_slice(), Some(3));
     Ok(())
 }

@@ -1,12 +1,12 @@
 //! In a short run of each command, each call on an object of the outside fails in turn. A call
 //! moves at most ten bytes. What such a run leaves is a part of what a whole run leaves.
-use crate::running::{Ends, KEY, ended, has_slots, plan, run_words};
+use crate::running::{Ends, KEY, Ran, ended, has_slots, plan, run_words};
 use crate::tests::{CHECK, INIT, READ, Row, SEAL, VECTORS, disk_of, slots_at};
 use replay_status::Status;
 use std::alloc::{AllocError, Global};
 use std::process::Abort;
 use std::test::Fail;
-use yasir_io::{MemSink, MemSource, Plan};
+use yasir_io::{MemSink, MemSlots, MemSource, Plan};
 
 /// How many bytes a call moves at most.
 const PIECE: usize = 10;
@@ -31,6 +31,13 @@ const OBJECTS: [Object; 5] = [
     Object::Log,
     Object::Disk,
 ];
+
+/// The object of which a call fails, and which call that is, counted from 1.
+#[derive(Clone, Copy, Drop)]
+struct Fault {
+    failing: Object,
+    call: u32,
+}
 
 /// What a run leaves: what its sinks hold, the log without the fault line, and whether the slots
 /// are those after a whole run or those before it.
@@ -64,26 +71,21 @@ struct Ending {
 }
 
 // Returns the plan of an object's calls if this call of one object fails.
-fn plan_of(object: Object, failing: Object, call: u32) -> Plan {
-    if object == failing {
-        plan(call)
+fn plan_of(object: Object, fault: Fault) -> Plan {
+    if object == fault.failing {
+        plan(fault.call)
     } else {
         Plan::new()
     }
 }
 
 // Returns what a run is handed, except its disk, if this call of one object fails.
-fn ends_of(
-    alloc: Global,
-    text: &'static [u8],
-    failing: Object,
-    call: u32,
-) -> Result<Ends<'static>, Fail> {
+fn ends_of(alloc: Global, text: &'static [u8], fault: Fault) -> Result<Ends<'static>, Fail> {
     Ok(Ends {
-        key: MemSource::new(KEY, 10, plan_of(Object::Key, failing, call)),
-        input: MemSource::new(text, 10, plan_of(Object::Input, failing, call)),
-        out: MemSink::with_room(alloc, 500, 10, plan_of(Object::Out, failing, call))?,
-        log: MemSink::with_room(alloc, 100, 10, plan_of(Object::Log, failing, call))?,
+        key: MemSource::new(KEY, 10, plan_of(Object::Key, fault)),
+        input: MemSource::new(text, 10, plan_of(Object::Input, fault)),
+        out: MemSink::with_room(alloc, 500, 10, plan_of(Object::Out, fault))?,
+        log: MemSink::with_room(alloc, 100, 10, plan_of(Object::Log, fault))?,
     })
 }
 
@@ -104,24 +106,38 @@ fn slots_of(row: &Row, ending: &Ending) -> ([u8; 24], [u8; 24]) {
     slots_at(numbers, &row.link)
 }
 
+// Does the run of a row over this disk. This call of one object fails.
+fn run_row(alloc: Global, row: &Row, fault: Fault, disk: &mut MemSlots) -> Result<Ran, Fail> {
+    let ends = ends_of(alloc, row.text, fault)?;
+    run_words(alloc, row.words, ends, disk)
+}
+
+// Checks that a sink was flushed this often.
+fn has_flushes(rt: &impl Abort, sink: &MemSink, flushes: u64) {
+    assert_eq!(rt; sink.flushes(), flushes);
+}
+
+// Checks that a run ended in this way, except for its slots.
+fn has_ending(rt: &impl Abort, alloc: Global, ran: &Ran, ending: &Ending) -> Result<(), Fail> {
+    let log = log_of(alloc, ending)?;
+    ended(rt, ran, ending.status, ending.left.out, log.as_slice());
+    has_flushes(rt, &ran.out, ending.flushes.0);
+    has_flushes(rt, &ran.log, ending.flushes.1);
+    Ok(())
+}
+
 // Checks that a run in which this call of one object fails ends in this way.
 fn compare(
     rt: &impl Abort,
     alloc: Global,
     row: &Row,
-    failing: Object,
-    call: u32,
+    fault: Fault,
     ending: &Ending,
 ) -> Result<(), Fail> {
-    let log = log_of(alloc, ending)?;
-    let mut disk = disk_of(alloc, row, plan_of(Object::Disk, failing, call))?;
-    let ends = ends_of(alloc, row.text, failing, call)?;
-    let ran = run_words(alloc, row.words, ends, &mut disk)?;
-    ended(rt, &ran, ending.status, ending.left.out, log.as_slice());
+    let mut disk = disk_of(alloc, row, plan_of(Object::Disk, fault))?;
+    let ran = run_row(alloc, row, fault, &mut disk)?;
     has_slots(rt, &disk, slots_of(row, ending));
-    assert_eq!(rt; ran.out.flushes(), ending.flushes.0);
-    assert_eq!(rt; ran.log.flushes(), ending.flushes.1);
-    Ok(())
+    has_ending(rt, alloc, &ran, ending)
 }
 
 // Returns what is left by a run in which nothing fails.
@@ -254,14 +270,14 @@ fn disk_fails(case: &Case, call: u32) -> Option<Ending> {
 }
 
 // Returns how a run ends if this call of one object fails, or `None` if the call isn't made.
-fn ending_of(case: &Case, failing: Object, call: u32) -> Option<Ending> {
-    let moved = moved_before(call);
-    match failing {
+fn ending_of(case: &Case, fault: Fault) -> Option<Ending> {
+    let moved = moved_before(fault.call);
+    match fault.failing {
         Object::Key => key_fails(case, moved),
         Object::Input => input_fails(case, moved),
         Object::Out => out_fails(&case.row, moved),
         Object::Log => log_fails(&case.row, moved),
-        Object::Disk => disk_fails(case, call),
+        Object::Disk => disk_fails(case, fault.call),
     }
 }
 
@@ -274,10 +290,11 @@ fn fail_each_call(
     failing: Object,
 ) -> Result<(), Fail> {
     for call in 1..MANY {
-        let Some(ending) = ending_of(case, failing, call) else {
-            return compare(rt, alloc, &case.row, failing, call, &done(&case.row));
+        let fault = Fault { failing, call };
+        let Some(ending) = ending_of(case, fault) else {
+            return compare(rt, alloc, &case.row, fault, &done(&case.row));
         };
-        compare(rt, alloc, &case.row, failing, call, &ending)?;
+        compare(rt, alloc, &case.row, fault, &ending)?;
     }
     assert!(rt; false, "more calls than {MANY}");
     Ok(())

@@ -1,9 +1,10 @@
 //! Two recordings of many frames, whose lists have to grow many times.
 use crate::run;
-use crate::running::{KEY, Ran, plan, words_of};
+use crate::running::{KEY, Ran, has_status, plan, words_of};
 use replay_status::Status;
 use sequence_journal::{LinkId, slot_of};
 use std::alloc::Global;
+use std::process::Abort;
 use std::test::Fail;
 use yasir_io::{MemSink, SteadySlots, SteadySource};
 
@@ -54,35 +55,80 @@ fn requests(alloc: Global) -> Result<Vec<u8>, Fail> {
     Ok(text)
 }
 
+// Adds the line of a frame that was sealed or passed: its number, and when it began.
+fn add_number(
+    alloc: Global,
+    lines: &mut Vec<u8>,
+    verb: &str,
+    number: u64,
+    at: u64,
+) -> Result<(), Fail> {
+    let line = format!(in alloc; "{verb} {number} at {at} {FRAME}\n")?;
+    lines.extend_from_slice(line.as_bytes())?;
+    Ok(())
+}
+
+// Adds the lines of all frames, which were sealed or passed.
+fn add_numbers(alloc: Global, lines: &mut Vec<u8>, verb: &str) -> Result<(), Fail> {
+    for at in 0..FRAMES {
+        add_number(alloc, lines, verb, at + 1, at * PERIOD)?;
+    }
+    Ok(())
+}
+
+// Adds the line of a frame that was read, which began then.
+fn add_read(alloc: Global, lines: &mut Vec<u8>, at: u64) -> Result<(), Fail> {
+    let line = format!(in alloc; "read at {at} {FRAME}\n")?;
+    lines.extend_from_slice(line.as_bytes())?;
+    Ok(())
+}
+
+// Adds the lines of all frames, which were read.
+fn add_reads(alloc: Global, lines: &mut Vec<u8>) -> Result<(), Fail> {
+    for at in 0..FRAMES {
+        add_read(alloc, lines, at * PERIOD + DELAY)?;
+    }
+    Ok(())
+}
+
 // Returns what is printed for these requests on a link that is left alone: each is sealed, passes
 // and is read.
 fn all_arrive(alloc: Global) -> Result<Vec<u8>, Fail> {
     let mut lines = Vec::new(alloc);
-    for verb in ["sealed", "passed"] {
-        for at in 0..FRAMES {
-            let line = format!(in alloc; "{verb} {} at {} {FRAME}\n", at + 1, at * PERIOD)?;
-            lines.extend_from_slice(line.as_bytes())?;
-        }
-    }
-    for at in 0..FRAMES {
-        let line = format!(in alloc; "read at {} {FRAME}\n", at * PERIOD + DELAY)?;
-        lines.extend_from_slice(line.as_bytes())?;
-    }
+    add_numbers(alloc, &mut lines, "sealed")?;
+    add_numbers(alloc, &mut lines, "passed")?;
+    add_reads(alloc, &mut lines)?;
     Ok(lines)
 }
 
-// No clause says that there is memory for this many frames. The link is what the transmitter makes
-// of the device's line.
-#[test]
-fn replays_two_thousand_frames(rt: HostRuntime) -> Result<(), Fail> {
-    let mut text = requests(rt.alloc())?;
-    let sealed = run_over(rt.alloc(), "seal rtu ab key journal", text.as_slice())?;
-    assert_eq!(rt; sealed.status, Status::Done);
+// Does a run as `run_over` does, and checks that it is done.
+fn done_over(rt: &impl Abort, alloc: Global, words: &str, text: &[u8]) -> Result<Ran, Fail> {
+    let ran = run_over(alloc, words, text)?;
+    has_status(rt, &ran, Status::Done);
+    Ok(ran)
+}
+
+// Returns both recordings: the device's line, and the link that the transmitter makes of it.
+fn recordings(rt: &impl Abort, alloc: Global) -> Result<Vec<u8>, Fail> {
+    let mut text = requests(alloc)?;
+    let sealed = done_over(rt, alloc, "seal rtu ab key journal", text.as_slice())?;
     text.extend_from_slice(b"%\n")?;
     text.extend_from_slice(sealed.out.held())?;
-    let ran = run_over(rt.alloc(), "replay rtu ab key", text.as_slice())?;
-    assert_eq!(rt; ran.status, Status::Done);
-    assert!(rt; ran.out.held() == all_arrive(rt.alloc())?.as_slice());
+    Ok(text)
+}
+
+// Checks that a run has printed what `all_arrive` returns, and no note.
+fn has_all(rt: &impl Abort, alloc: Global, ran: &Ran) -> Result<(), Fail> {
+    let lines = all_arrive(alloc)?;
+    assert!(rt; ran.out.held() == lines.as_slice());
     assert!(rt; ran.log.held().is_empty());
     Ok(())
+}
+
+// No clause says that there is memory for this many frames.
+#[test]
+fn replays_two_thousand_frames(rt: HostRuntime) -> Result<(), Fail> {
+    let text = recordings(&rt, rt.alloc())?;
+    let ran = done_over(&rt, rt.alloc(), "replay rtu ab key", text.as_slice())?;
+    has_all(&rt, rt.alloc(), &ran)
 }

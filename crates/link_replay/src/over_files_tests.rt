@@ -1,9 +1,10 @@
 //! The program over a file system with a key and a journal: which files are opened and made, what
 //! reaches the output and the log, and the exit status.
+ghost use Rattle.std.specs.Prelude.{◌≤◌, length};
 ghost use Rattle.std.specs.Io.{ReadsAtMost, WritesAtMost};
 
 use crate::run_over_files;
-use crate::running::{KEY, plan, words_of};
+use crate::running::{KEY, holds, plan, words_of};
 use std::alloc::{Allocator, Global};
 use std::cell::Cell;
 use std::env::Args;
@@ -19,6 +20,26 @@ const ROOM: usize = 80;
 /// How many handles of the root are open while a run opens its files.
 const PLACES: u32 = 3;
 
+// Returns the error of a call that fails for this reason.
+fn error(kind: ErrorKind) -> io::Error {
+    io::Error::from(kind)
+}
+
+// Returns the error of a call that no run makes.
+fn unsupported() -> io::Error {
+    error(ErrorKind::Unsupported)
+}
+
+// Copies as many bytes as there is room for. Returns how many.
+fn copy_front(from: &[u8], to: &mut [u8]) -> usize
+    ensures read { result ≤ length from.now }
+    ensures room { result ≤ length to.new }
+{
+    let n = from.len().min(to.len());
+    to[..n].copy_from_slice(&from[..n]);
+    n
+}
+
 // A file. If it has no length, it is missing.
 #[derive(Drop)]
 struct Kept {
@@ -29,15 +50,42 @@ struct Kept {
 impl Kept {
     fn of(text: Option<&[u8]>) -> Kept {
         let mut bytes = [0; ROOM];
-        let text_len = text.map(|text| text.len().min(ROOM));
-        if let Some(text) = text {
-            let n = text.len().min(ROOM);
-            bytes[..n].copy_from_slice(&text[..n]);
-        }
+        let len = match text {
+            Some(text) => Some(copy_front(text, &mut bytes)),
+            None => None,
+        };
         Kept {
             bytes: Cell::new(bytes),
-            len: Cell::new(text_len),
+            len: Cell::new(len),
         }
+    }
+
+    // Copies the bytes from this place on, as many as there is room for. Returns how many.
+    fn copy_from(&self, place: usize, buf: &mut [u8]) -> usize
+        ensures { result ≤ length buf.new }
+    {
+        let bytes = self.bytes.get();
+        let end = self.len.get().unwrap_or(0);
+        copy_front(bytes.get(place..end).unwrap_or(&[]), buf)
+    }
+
+    // Makes the file at least this long.
+    fn lengthen(&self, len: usize) {
+        self.len.set(Some(self.len.get().unwrap_or(0).max(len)));
+    }
+
+    // Puts bytes at this place and after it, as many as there is room for. Returns how many.
+    fn put(&self, place: usize, buf: &[u8]) -> io::Result<usize>
+        ensures { WritesAtMost result buf.now }
+    {
+        if place > ROOM {
+            return Err(error(ErrorKind::PermissionDenied));
+        }
+        let mut bytes = self.bytes.get();
+        let n = copy_front(buf, &mut bytes[place..]);
+        self.bytes.set(bytes);
+        self.lengthen(place.saturating_add(n));
+        Ok(n)
     }
 }
 
@@ -53,13 +101,43 @@ struct Disk {
 impl Disk {
     fn kept(&self, path: &str) -> io::Result<&Kept> {
         if self.roots.get() != PLACES {
-            return Err(ErrorKind::Other.into());
+            return Err(error(ErrorKind::Other));
         }
         match path {
             "keys/ab" => Ok(&self.key),
             "journals/ab" => Ok(&self.journal),
-            _ => Err(ErrorKind::NotFound.into()),
+            _ => Err(error(ErrorKind::NotFound)),
         }
+    }
+
+    // Counts one more handle of the root.
+    fn open_root(&self, how: &OpenOptions) -> io::Result<()> {
+        if !self.has_root || how.asks_write() {
+            return Err(error(ErrorKind::PermissionDenied));
+        }
+        self.roots.set(self.roots.get().saturating_add(1));
+        Ok(())
+    }
+
+    // Returns the file at this path, which is made if it is missing and may be made.
+    fn open_kept(&self, how: &OpenOptions, path: &str) -> io::Result<&Kept> {
+        let kept = self.kept(path)?;
+        if kept.len.get().is_none() {
+            if !how.asks_create() {
+                return Err(error(ErrorKind::NotFound));
+            }
+            kept.len.set(Some(0));
+        }
+        Ok(kept)
+    }
+
+    // Opens what is at this path. Returns the file, or `None` if it is the root.
+    fn open(&self, how: &OpenOptions, path: &str) -> io::Result<Option<&Kept>> {
+        if path == "/" {
+            self.open_root(how)?;
+            return Ok(None);
+        }
+        Ok(Some(self.open_kept(how, path)?))
     }
 }
 
@@ -88,16 +166,19 @@ impl Drop for Opened<'_> {
     }
 }
 
-impl Opened<'_> {
+impl<'a> Opened<'a> {
+    // Returns the file of this handle. It fails for the root.
+    fn kept(&self) -> io::Result<&'a Kept> {
+        match self.file {
+            Some(file) => Ok(file),
+            None => Err(error(ErrorKind::IsADirectory)),
+        }
+    }
+
     fn give(&mut self, buf: &mut [u8]) -> io::Result<usize>
         ensures { ReadsAtMost result buf.new }
     {
-        let file = self.file.ok_or(ErrorKind::IsADirectory)?;
-        let bytes = file.bytes.get();
-        let end = file.len.get().unwrap_or(0);
-        let left = bytes.get(self.place..end).unwrap_or(&[]);
-        let n = left.len().min(buf.len());
-        buf[..n].copy_from_slice(&left[..n]);
+        let n = self.kept()?.copy_from(self.place, buf);
         self.place = self.place.saturating_add(n);
         Ok(n)
     }
@@ -105,17 +186,12 @@ impl Opened<'_> {
     fn take(&mut self, buf: &[u8]) -> io::Result<usize>
         ensures { WritesAtMost result buf.now }
     {
-        let file = self.file.ok_or(ErrorKind::IsADirectory)?;
-        if !self.writes || self.place > ROOM {
-            return Err(ErrorKind::PermissionDenied.into());
+        let file = self.kept()?;
+        if !self.writes {
+            return Err(error(ErrorKind::PermissionDenied));
         }
-        let n = buf.len().min(ROOM - self.place);
-        let mut bytes = file.bytes.get();
-        bytes[self.place..self.place + n].copy_from_slice(&buf[..n]);
-        file.bytes.set(bytes);
-        self.place += n;
-        file.len
-            .set(Some(file.len.get().unwrap_or(0).max(self.place)));
+        let n = file.put(self.place, buf)?;
+        self.place = self.place.saturating_add(n);
         Ok(n)
     }
 }
@@ -139,7 +215,7 @@ impl Write for Opened<'_> {
 impl Seek for Opened<'_> {
     fn seek(&mut self, to: SeekFrom) -> io::Result<u64> {
         let SeekFrom::Start(place) = to else {
-            return Err(ErrorKind::Unsupported.into());
+            return Err(unsupported());
         };
         self.place = usize::try_from(place).unwrap_or(ROOM);
         Ok(place)
@@ -148,11 +224,11 @@ impl Seek for Opened<'_> {
 
 impl OpenFile for Opened<'_> {
     fn metadata(&self) -> io::Result<Metadata> {
-        Err(ErrorKind::Unsupported.into())
+        Err(unsupported())
     }
 
     fn set_len(&self, _size: u64) -> io::Result<()> {
-        Err(ErrorKind::Unsupported.into())
+        Err(unsupported())
     }
 
     fn sync_all(&self) -> io::Result<()> {
@@ -185,25 +261,9 @@ impl<'a> Files for Folder<'a> {
     type Dir = Opened<'a>;
 
     fn open_file(&self, how: &OpenOptions, path: &str) -> io::Result<Opened<'a>> {
-        let disk = self.0;
-        let mut file = None;
-        if path == "/" {
-            if !disk.has_root || how.asks_write() {
-                return Err(ErrorKind::PermissionDenied.into());
-            }
-            disk.roots.set(disk.roots.get().saturating_add(1));
-        } else {
-            let kept = disk.kept(path)?;
-            if kept.len.get().is_none() {
-                if !how.asks_create() {
-                    return Err(ErrorKind::NotFound.into());
-                }
-                kept.len.set(Some(0));
-            }
-            file = Some(kept);
-        }
+        let file = self.0.open(how, path)?;
         Ok(Opened {
-            disk,
+            disk: self.0,
             file,
             place: 0,
             writes: how.asks_write(),
@@ -211,39 +271,39 @@ impl<'a> Files for Folder<'a> {
     }
 
     fn open_dir(&self, _path: &str) -> io::Result<Opened<'a>> {
-        Err(ErrorKind::Unsupported.into())
+        Err(unsupported())
     }
 
     fn metadata(&self, _path: &str) -> io::Result<Metadata> {
-        Err(ErrorKind::Unsupported.into())
+        Err(unsupported())
     }
 
     fn symlink_metadata(&self, _path: &str) -> io::Result<Metadata> {
-        Err(ErrorKind::Unsupported.into())
+        Err(unsupported())
     }
 
     fn copy(&self, _from: &str, _to: &str) -> io::Result<u64> {
-        Err(ErrorKind::Unsupported.into())
+        Err(unsupported())
     }
 
     fn rename(&self, _from: &str, _to: &str) -> io::Result<()> {
-        Err(ErrorKind::Unsupported.into())
+        Err(unsupported())
     }
 
     fn remove_file(&self, _path: &str) -> io::Result<()> {
-        Err(ErrorKind::Unsupported.into())
+        Err(unsupported())
     }
 
     fn create_dir(&self, _path: &str) -> io::Result<()> {
-        Err(ErrorKind::Unsupported.into())
+        Err(unsupported())
     }
 
     fn remove_dir(&self, _path: &str) -> io::Result<()> {
-        Err(ErrorKind::Unsupported.into())
+        Err(unsupported())
     }
 
     fn remove_dir_all<B: Allocator>(&self, _alloc: B, _path: &str) -> io::Result<()> {
-        Err(ErrorKind::Unsupported.into())
+        Err(unsupported())
     }
 }
 
@@ -362,6 +422,67 @@ const ROWS: [Row; 11] = [
     },
 ];
 
+// Returns the disk before the run of a row.
+fn disk_of(row: &Row, has_root: bool) -> Disk {
+    Disk {
+        key: Kept::of(row.key),
+        journal: Kept::of(row.journal),
+        has_root,
+        roots: Cell::new(0),
+    }
+}
+
+// How a run ended, and what its sinks hold.
+#[derive(Drop)]
+struct Ended {
+    exit_status: u8,
+    out: MemSink,
+    log: MemSink,
+}
+
+// Runs the program with these arguments over this disk and these sinks.
+fn run_into(
+    alloc: Global,
+    args: io::Result<Args>,
+    disk: &Disk,
+    mut out: MemSink,
+    mut log: MemSink,
+) -> Ended {
+    let system = (Folder(disk), alloc);
+    let mut input = MemSource::new(REQUEST, 512, Plan::new());
+    let exit_status = run_over_files(&system, args, &mut input, &mut out, &mut log);
+    Ended {
+        exit_status,
+        out,
+        log,
+    }
+}
+
+// Returns a sink for what a run writes.
+fn sink(alloc: Global) -> Result<MemSink, Fail> {
+    Ok(MemSink::with_room(alloc, 100, 512, plan(0))?)
+}
+
+// Runs the program with these arguments over this disk.
+fn run_over(alloc: Global, args: io::Result<Args>, disk: &Disk) -> Result<Ended, Fail> {
+    let out = sink(alloc)?;
+    let log = sink(alloc)?;
+    Ok(run_into(alloc, args, disk, out, log))
+}
+
+// Checks that a run ended with the row's exit status, output and log.
+fn has_ended(rt: &impl Abort, ran: &Ended, row: &Row) {
+    assert_eq!(rt; ran.exit_status, row.exit_status);
+    holds(rt, &ran.out, row.out);
+    holds(rt, &ran.log, row.log);
+}
+
+// Checks that a file has these bytes, or is missing.
+fn is_kept(rt: &impl Abort, file: &Kept, text: Option<&[u8]>) {
+    let bytes = file.bytes.get();
+    assert!(rt; file.len.get().and_then(|len| bytes.get(..len)) == text);
+}
+
 // Checks that the program with these arguments over this disk ends with the row's exit status,
 // output and log, and leaves the row's journal.
 fn compare(
@@ -371,33 +492,31 @@ fn compare(
     has_root: bool,
     row: &Row,
 ) -> Result<(), Fail> {
-    let disk = Disk {
-        key: Kept::of(row.key),
-        journal: Kept::of(row.journal),
-        has_root,
-        roots: Cell::new(0),
-    };
-    let system = (Folder(&disk), alloc);
-    let mut input = MemSource::new(REQUEST, 512, Plan::new());
-    let mut out = MemSink::with_room(alloc, 100, 512, plan(0))?;
-    let mut log = MemSink::with_room(alloc, 100, 512, plan(0))?;
-    let exit_status = run_over_files(&system, args, &mut input, &mut out, &mut log);
-    assert_eq!(rt; exit_status, row.exit_status);
-    assert_eq!(rt; out.held(), row.out);
-    assert_eq!(rt; log.held(), row.log);
-    let bytes = disk.journal.bytes.get();
-    assert!(rt; disk.journal.len.get().and_then(|len| bytes.get(..len)) == row.journal_now);
+    let disk = disk_of(row, has_root);
+    let ran = run_over(alloc, args, &disk)?;
+    has_ended(rt, &ran, row);
+    is_kept(rt, &disk.journal, row.journal_now);
     assert_eq!(rt; disk.roots.get(), 0);
+    Ok(())
+}
+
+// Does the same with the row's arguments.
+fn compare_row(rt: &impl Abort, alloc: Global, has_root: bool, row: &Row) -> Result<(), Fail> {
+    let args = words_of(alloc, row.args)?.into_iter();
+    compare(rt, alloc, Ok(args), has_root, row)
+}
+
+// Does the same for each row. The root can be opened.
+fn compare_rows(rt: &impl Abort, alloc: Global, rows: &[Row]) -> Result<(), Fail> {
+    for row in rows {
+        compare_row(rt, alloc, true, row)?;
+    }
     Ok(())
 }
 
 #[test]
 fn the_program_runs_over_files(rt: HostRuntime) -> Result<(), Fail> {
-    for row in &ROWS {
-        let args = words_of(rt.alloc(), row.args)?.into_iter();
-        compare(&rt, rt.alloc(), Ok(args), true, row)?;
-    }
-    Ok(())
+    compare_rows(&rt, rt.alloc(), &ROWS)
 }
 
 /// What a run leaves if the runtime refuses something that it needs.
@@ -411,13 +530,7 @@ const NOTHING: Row = Row {
 
 #[test]
 fn nothing_is_done_without_words_or_places(rt: HostRuntime) -> Result<(), Fail> {
-    compare(
-        &rt,
-        rt.alloc(),
-        Err(ErrorKind::InvalidData.into()),
-        true,
-        &NOTHING,
-    )?;
-    let args = words_of(rt.alloc(), NOTHING.args)?.into_iter();
-    compare(&rt, rt.alloc(), Ok(args), false, &NOTHING)
+    let args = Err(error(ErrorKind::InvalidData));
+    compare(&rt, rt.alloc(), args, true, &NOTHING)?;
+    compare_row(&rt, rt.alloc(), false, &NOTHING)
 }

@@ -1,6 +1,6 @@
 //! Tests of `replay` over recordings with an attacker, and over ends that fail.
 use crate::running::{Ends, KEY, ended, plan, run_words};
-use crate::tests::run_over;
+use crate::tests::run_over_text;
 use replay_status::Status;
 use std::alloc::Global;
 use std::process::Abort;
@@ -201,8 +201,7 @@ const ROWS_Y24: [Row; 3] = [
 ];
 
 fn compare(rt: &impl Abort, alloc: Global, row: &Row) -> Result<(), Fail> {
-    let mut disk = SteadySlots::new([0; 24], [0; 24]);
-    let ran = run_over(alloc, row.words, KEY, row.text, 0, &mut disk)?;
+    let ran = run_over_text(alloc, row.words, KEY, row.text, 0)?;
     ended(rt, &ran, row.status, row.out, row.log);
     Ok(())
 }

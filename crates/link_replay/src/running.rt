@@ -1,7 +1,7 @@
 //! Runs of the program over ends in memory, and checks of what they leave: all tests of runs use
 //! these functions. The tests borrow their tables, since copying one makes the proof of a test up
 //! to a minute and a half longer.
-use crate::run;
+use crate::{Command, Usage, key_word, read_words, run};
 use replay_status::Status;
 use std::alloc::{AllocError, Global};
 use std::process::Abort;
@@ -44,16 +44,37 @@ pub fn plan(call: u32) -> Plan {
     plan
 }
 
+/// Adds a word.
+pub fn push_word(alloc: Global, words: &mut Vec<String>, word: &str) -> Result<(), AllocError> {
+    words.push(String::from_str(alloc, word)?)?;
+    Ok(())
+}
+
+// Adds the words of a text, which single spaces separate.
+fn push_words(alloc: Global, words: &mut Vec<String>, text: &str) -> Result<(), AllocError> {
+    for word in text.split(' ') {
+        push_word(alloc, words, word)?;
+    }
+    Ok(())
+}
+
 /// Returns the words of a text, which single spaces separate. An empty text has none.
 pub fn words_of(alloc: Global, text: &str) -> Result<Vec<String>, AllocError> {
     let mut words = Vec::new(alloc);
-    if text.is_empty() {
-        return Ok(words);
-    }
-    for word in text.split(' ') {
-        words.push(String::from_str(alloc, word)?)?;
+    if !text.is_empty() {
+        push_words(alloc, &mut words, text)?;
     }
     Ok(words)
+}
+
+/// Checks that words ask for this command, or that they fit none.
+pub fn asks(rt: &impl Abort, words: &[String], asked: Result<Command, Usage>) {
+    assert_eq!(rt; read_words(words), asked);
+}
+
+/// Checks that the path of the key is at this place among the words.
+pub fn has_key(rt: &impl Abort, words: &[String], place: Option<usize>) {
+    assert_eq!(rt; key_word(words), place);
 }
 
 /// Runs the program with these words over these ends.
@@ -82,15 +103,30 @@ pub fn run_words<D: SlotDisk>(
     Ok(Ran { status, out, log })
 }
 
+/// Checks that a run ended with this status.
+pub fn has_status(rt: &impl Abort, ran: &Ran, status: Status) {
+    assert_eq!(rt; ran.status, status);
+}
+
+/// Checks that a sink holds these bytes.
+pub fn holds(rt: &impl Abort, sink: &MemSink, bytes: &[u8]) {
+    assert_eq!(rt; sink.held(), bytes);
+}
+
 /// Checks that a run ended with this status, and that its sinks hold these bytes.
 pub fn ended(rt: &impl Abort, ran: &Ran, status: Status, out: &[u8], log: &[u8]) {
-    assert_eq!(rt; ran.status, status);
-    assert_eq!(rt; ran.out.held(), out);
-    assert_eq!(rt; ran.log.held(), log);
+    has_status(rt, ran, status);
+    holds(rt, &ran.out, out);
+    holds(rt, &ran.log, log);
+}
+
+// Checks that a slot of a disk has these bytes.
+fn has_slot(rt: &impl Abort, disk: &MemSlots, slot: Slot, bytes: [u8; 24]) {
+    assert_eq!(rt; disk.slot(slot), bytes);
 }
 
 /// Checks that a disk has these slots.
 pub fn has_slots(rt: &impl Abort, disk: &MemSlots, slots: ([u8; 24], [u8; 24])) {
-    assert_eq!(rt; disk.slot(Slot::A), slots.0);
-    assert_eq!(rt; disk.slot(Slot::B), slots.1);
+    has_slot(rt, disk, Slot::A, slots.0);
+    has_slot(rt, disk, Slot::B, slots.1);
 }

@@ -1,13 +1,11 @@
 //! Runs of `space`: close frames go out apart, a frame that can't wait is named, and each status
 //! comes except that for no memory, which `scripts/refused_memory.py` tries.
-use crate::running::{Ran, ended, words_of};
-use crate::tests::run_over;
-use crate::{Command, Profile, Proto, read_words};
+use crate::running::{Ran, asks, ended, words_of};
+use crate::tests::run_over_text;
+use crate::{Command, Profile, Proto};
 use replay_status::Status;
 use std::alloc::Global;
-use std::process::Abort;
 use std::test::Fail;
-use yasir_io::SteadySlots;
 use yasir_ticks::{BadTicks, TickFault};
 
 /// Two resets of a DNP3 link with no silence between them.
@@ -39,8 +37,7 @@ const ROWS: [(&str, &[u8], &[u8]); 3] = [
 // Runs the program with these words over this input, with an output whose call of this number
 // fails.
 fn space(alloc: Global, words: &str, text: &'static [u8], fail: u32) -> Result<Ran, Fail> {
-    let mut disk = SteadySlots::new([0; 24], [0; 24]);
-    run_over(alloc, words, b"", text, fail, &mut disk)
+    run_over_text(alloc, words, b"", text, fail)
 }
 
 #[test]
@@ -70,6 +67,6 @@ fn runs_that_end_early(rt: HostRuntime) -> Result<(), Fail> {
 fn a_spacer_has_its_protocol_and_its_profile(rt: HostRuntime) -> Result<(), Fail> {
     let words = words_of(rt.alloc(), "space dnp24")?;
     let asked = Command::Space(Proto::Dnp3, Profile::Y24);
-    assert_eq!(rt; read_words(words.as_slice()), Ok(asked));
+    asks(&rt, words.as_slice(), Ok(asked));
     Ok(())
 }

@@ -1,16 +1,15 @@
 //! Tests of the program's words, and of the commands `read`, `vectors`, `init`, `seal` and `check`.
-use crate::running::{Ends, KEY, Ran, ended, has_slots, plan, run_words, words_of};
-use crate::{
-    Command, Dir, Profile, Proto, Usage, journal_word, key_word, makes_journal, read_words,
-};
+use crate::running::{Ends, KEY, Ran, asks, ended, has_key, has_slots, plan, run_words, words_of};
+use crate::{Command, Dir, Profile, Proto, Usage, journal_word, makes_journal};
 use replay_status::Status;
 use sequence_journal::{LIMIT, LinkId, slot_of};
-use std::alloc::Global;
+use std::alloc::{AllocError, Global};
 use std::process::Abort;
 use std::test::Fail;
 use std::{env, fs};
 use yasir_io::{
-    FileSlots, MemSink, MemSlots, MemSource, Plan, Sink, Slot, SlotDisk, SlotFile, SteadySlots,
+    Failed, FileSlots, MemSink, MemSlots, MemSource, Plan, Sink, Slot, SlotBytes, SlotDisk,
+    SlotFile, SteadySlots,
 };
 use yasir_ticks::{BadTicks, TickFault};
 
@@ -78,35 +77,72 @@ pub fn run_over<D: SlotDisk>(
     run_words(alloc, words, ends, disk)
 }
 
-// Checks that these words ask for this command, that the paths of its key and its journal are at
-// these places, and whether the journal is made.
-fn find(
-    rt: &impl Abort,
+/// Runs the program with this key and this input over slots of zeros, and with an output whose call
+/// of this number fails.
+pub fn run_over_text(
     alloc: Global,
     words: &str,
-    asked: Result<Command, Usage>,
+    key: &'static [u8],
+    text: &'static [u8],
+    fail: u32,
+) -> Result<Ran, Fail> {
+    let mut disk = SteadySlots::new([0; 24], [0; 24]);
+    run_over(alloc, words, key, text, fail, &mut disk)
+}
+
+/// What words ask for: a command, the places of the paths of its key and its journal, and whether
+/// the journal is made.
+#[derive(Clone, Copy, Drop)]
+struct Asked {
+    command: Result<Command, Usage>,
     key: Option<usize>,
     journal: Option<usize>,
     makes: bool,
-) -> Result<(), Fail> {
+}
+
+/// Words that fit no command.
+const NO_COMMAND: Asked = Asked {
+    command: Err(Usage),
+    key: None,
+    journal: None,
+    makes: false,
+};
+
+// Checks that the path of the journal is at this place among the words, and whether the journal is
+// made.
+fn has_journal_word(rt: &impl Abort, words: &[String], place: Option<usize>, makes: bool) {
+    assert_eq!(rt; journal_word(words), place);
+    assert_eq!(rt; makes_journal(words), makes);
+}
+
+// Checks that these words ask for this.
+fn find(rt: &impl Abort, alloc: Global, words: &str, asked: &Asked) -> Result<(), Fail> {
     let words = words_of(alloc, words)?;
-    assert_eq!(rt; read_words(words.as_slice()), asked);
-    assert_eq!(rt; key_word(words.as_slice()), key);
-    assert_eq!(rt; journal_word(words.as_slice()), journal);
-    assert_eq!(rt; makes_journal(words.as_slice()), makes);
+    asks(rt, words.as_slice(), asked.command);
+    has_key(rt, words.as_slice(), asked.key);
+    has_journal_word(rt, words.as_slice(), asked.journal, asked.makes);
     Ok(())
+}
+
+// Checks that a run ended with this exit status.
+fn has_exit_status(rt: &impl Abort, ran: &Ran, exit_status: u8) {
+    assert_eq!(rt; ran.status.exit_status(), exit_status);
+}
+
+// Checks that in a run, the first call of whose output fails, nothing was done except that the
+// fault line was written.
+fn is_refused(rt: &impl Abort, mut ran: Ran) {
+    ended(rt, &ran, Status::Usage, b"", b"fault: usage\n");
+    has_exit_status(rt, &ran, 2);
+    // No call has been made on the output yet, so this one is the first, which fails.
+    assert!(rt; ran.out.flush().is_err());
 }
 
 // Checks that these words fit no command, and that nothing is done except that the fault line is
 // written.
 fn refuse(rt: &impl Abort, alloc: Global, words: &str) -> Result<(), Fail> {
-    find(rt, alloc, words, Err(Usage), None, None, false)?;
-    let mut disk = SteadySlots::new([0; 24], [0; 24]);
-    let mut ran = run_over(alloc, words, KEY, REQUEST, 1, &mut disk)?;
-    ended(rt, &ran, Status::Usage, b"", b"fault: usage\n");
-    assert_eq!(rt; ran.status.exit_status(), 2);
-    // No call has been made on the output yet, so this one is the first, which fails.
-    assert!(rt; ran.out.flush().is_err());
+    find(rt, alloc, words, &NO_COMMAND)?;
+    is_refused(rt, run_over_text(alloc, words, KEY, REQUEST, 1)?);
     Ok(())
 }
 
@@ -164,7 +200,9 @@ fn refuses_words_of_no_command(rt: HostRuntime) -> Result<(), Fail> {
 }
 
 /// Words, the command, the place of the journal's path, and whether the journal is made.
-const KEYLESS: [(&str, Command, Option<usize>, bool); 11] = [
+type Keyless = (&'static str, Command, Option<usize>, bool);
+
+const KEYLESS: [Keyless; 11] = [
     ("help", Command::Help, None, false),
     ("--help", Command::Help, None, false),
     ("-h", Command::Help, None, false),
@@ -193,10 +231,22 @@ const KEYLESS: [(&str, Command, Option<usize>, bool); 11] = [
     ("vectors", Command::Vectors, None, false),
 ];
 
+// Checks that words ask for what the row says, and that no word is the path of a key.
+fn find_keyless(rt: &impl Abort, alloc: Global, row: &Keyless) -> Result<(), Fail> {
+    let (words, command, journal, makes) = *row;
+    let asked = Asked {
+        command: Ok(command),
+        key: None,
+        journal,
+        makes,
+    };
+    find(rt, alloc, words, &asked)
+}
+
 #[test]
 fn finds_no_path_of_a_key_among_the_words(rt: HostRuntime) -> Result<(), Fail> {
-    for (words, command, journal, makes) in &KEYLESS {
-        find(&rt, rt.alloc(), words, Ok(*command), None, *journal, *makes)?;
+    for row in &KEYLESS {
+        find_keyless(&rt, rt.alloc(), row)?;
     }
     Ok(())
 }
@@ -224,23 +274,30 @@ const KEY_ALONE: [(&str, Command); 2] = [
     ("replay dnp24 ba k", Command::Replay(DNP, Y24, Dir::Ba)),
 ];
 
-#[test]
-fn finds_the_paths_among_the_words(rt: HostRuntime) -> Result<(), Fail> {
-    for (words, command) in &KEY_AND_JOURNAL {
-        find(
-            &rt,
-            rt.alloc(),
-            words,
-            Ok(*command),
-            Some(3),
-            Some(4),
-            false,
-        )?;
-    }
-    for (words, command) in &KEY_ALONE {
-        find(&rt, rt.alloc(), words, Ok(*command), Some(3), None, false)?;
+// Checks that the words of each row ask for its command, that word 3 is the key's path, and that
+// the journal's path is at this place.
+fn find_keyed(
+    rt: &impl Abort,
+    alloc: Global,
+    rows: &[(&'static str, Command)],
+    journal: Option<usize>,
+) -> Result<(), Fail> {
+    for (words, command) in rows {
+        let asked = Asked {
+            command: Ok(*command),
+            key: Some(3),
+            journal,
+            makes: false,
+        };
+        find(rt, alloc, words, &asked)?;
     }
     Ok(())
+}
+
+#[test]
+fn finds_the_paths_among_the_words(rt: HostRuntime) -> Result<(), Fail> {
+    find_keyed(&rt, rt.alloc(), &KEY_AND_JOURNAL, Some(4))?;
+    find_keyed(&rt, rt.alloc(), &KEY_ALONE, None)
 }
 
 /// Words, the input, the link and the numbers of the slots before, whether old slot A holds 5, and
@@ -597,7 +654,7 @@ fn compare(rt: &impl Abort, alloc: Global, row: &Row) -> Result<(), Fail> {
     let mut disk = disk_of(alloc, row, plan(row.disk_fails))?;
     let ran = run_over(alloc, row.words, KEY, row.text, row.out_fails, &mut disk)?;
     ended(rt, &ran, row.status, row.out, row.log);
-    assert_eq!(rt; ran.status.exit_status(), row.exit_status);
+    has_exit_status(rt, &ran, row.exit_status);
     has_slots(rt, &disk, slots_at(row.slots_now, &row.link));
     Ok(())
 }
@@ -627,6 +684,17 @@ fn fresh_path(rt: &HostRuntime, name: &str) -> Result<String, Fail> {
     Ok(path)
 }
 
+// Returns a copy of a path.
+fn path_of(alloc: Global, path: &str) -> Result<Option<String>, AllocError> {
+    Ok(Some(String::from_str(alloc, path)?))
+}
+
+// Runs `init` over the file at this path.
+fn init_at(host: &HostRuntime, path: Option<String>) -> Result<Ran, Fail> {
+    let mut disk = FileSlots::new(host, path, SlotFile::New);
+    run_over(host.alloc(), "init rtu ab journal", KEY, b"", 0, &mut disk)
+}
+
 // Checks that `init` over the file at this path ends with this status and this fault line.
 fn make_at(
     rt: &impl Abort,
@@ -635,26 +703,39 @@ fn make_at(
     status: Status,
     fault: &[u8],
 ) -> Result<(), Fail> {
-    let mut disk = FileSlots::new(host, path, SlotFile::New);
-    let ran = run_over(host.alloc(), "init rtu ab journal", KEY, b"", 0, &mut disk)?;
+    let ran = init_at(host, path)?;
     ended(rt, &ran, status, b"", fault);
     Ok(())
 }
 
+/// What a read of slot A and then of slot B gives.
+type Reads = (Result<SlotBytes, Failed>, Result<SlotBytes, Failed>);
+
+// Reads both slots of the file at this path.
+fn slots_in(host: &HostRuntime, path: Option<String>) -> Reads {
+    let mut disk = FileSlots::new(host, path, SlotFile::Standing);
+    let a = disk.read_slot(Slot::A);
+    (a, disk.read_slot(Slot::B))
+}
+
+// Checks that a read of a slot gives these bytes.
+fn is_read(rt: &impl Abort, read: Result<SlotBytes, Failed>, bytes: SlotBytes) {
+    assert_eq!(rt; read, Ok(bytes));
+}
+
 // Checks that the file at this path holds number 0 in slot A, and zeros in slot B.
 fn has_journal(rt: &impl Abort, host: &HostRuntime, path: &str) -> Result<(), Fail> {
-    let path = Some(String::from_str(host.alloc(), path)?);
-    let mut disk = FileSlots::new(host, path, SlotFile::Standing);
-    assert_eq!(rt; disk.read_slot(Slot::A), Ok(NUMBER_0));
-    assert_eq!(rt; disk.read_slot(Slot::B), Ok([0; 24]));
+    let (a, b) = slots_in(host, path_of(host.alloc(), path)?);
+    is_read(rt, a, NUMBER_0);
+    is_read(rt, b, [0; 24]);
     Ok(())
 }
 
 // Checks that a journal is made in the file at this path, and isn't made a second time.
 fn make_twice(rt: &impl Abort, host: &HostRuntime, path: &str) -> Result<(), Fail> {
-    let first = Some(String::from_str(host.alloc(), path)?);
+    let first = path_of(host.alloc(), path)?;
     make_at(rt, host, first, Status::Done, b"")?;
-    let second = Some(String::from_str(host.alloc(), path)?);
+    let second = path_of(host.alloc(), path)?;
     let stands = Status::HasJournal { floor: 0 };
     make_at(rt, host, second, stands, b"fault: journal stands at 0\n")?;
     has_journal(rt, host, path)
@@ -679,7 +760,7 @@ fn makes_a_journal_in_an_empty_file(rt: HostRuntime) -> Result<(), Fail> {
 
 #[test]
 fn makes_no_journal_where_no_file_can_stand(rt: HostRuntime) -> Result<(), Fail> {
-    let folder = Some(String::from_str(rt.alloc(), ".")?);
+    let folder = path_of(rt.alloc(), ".")?;
     make_at(&rt, &rt, folder, Status::JournalFault, b"fault: journal\n")?;
     make_at(&rt, &rt, None, Status::JournalFault, b"fault: journal\n")
 }

@@ -1,18 +1,16 @@
 //! Tests of `trial`: the numbers among its words, and its counts, which a model in Python has
 //! computed too.
-use crate::running::{ended, words_of};
-use crate::tests::run_over;
+use crate::running::{asks, ended, push_word, words_of};
+use crate::tests::run_over_text;
 use crate::{Command, Profile, Proto, read_words};
 use replay_status::Status;
 use std::alloc::{AllocError, Global};
 use std::process::Abort;
 use std::test::Fail;
-use yasir_io::SteadySlots;
 
 // Checks that a trial with these words prints this line.
 fn try_link(rt: &impl Abort, alloc: Global, words: &str, line: &[u8]) -> Result<(), Fail> {
-    let mut disk = SteadySlots::new([0; 24], [0; 24]);
-    let ran = run_over(alloc, words, b"", b"", 0, &mut disk)?;
+    let ran = run_over_text(alloc, words, b"", b"", 0)?;
     ended(rt, &ran, Status::Done, line, b"");
     Ok(())
 }
@@ -42,8 +40,8 @@ fn trials_of_both_protocols_and_profiles(rt: HostRuntime) -> Result<(), Fail> {
 
 fn is_trial(alloc: Global, seed: &str, count: &str) -> Result<bool, AllocError> {
     let mut words = words_of(alloc, "trial rtu")?;
-    words.push(String::from_str(alloc, seed)?)?;
-    words.push(String::from_str(alloc, count)?)?;
+    push_word(alloc, &mut words, seed)?;
+    push_word(alloc, &mut words, count)?;
     Ok(read_words(words.as_slice()).is_ok())
 }
 
@@ -83,6 +81,6 @@ fn numbers_of_a_trial(rt: HostRuntime) -> Result<(), Fail> {
 fn a_trial_has_its_protocol_its_profile_and_its_numbers(rt: HostRuntime) -> Result<(), Fail> {
     let words = words_of(rt.alloc(), "trial dnp24 7 12")?;
     let trial = Command::Trial(Proto::Dnp3, Profile::Y24, 7, 12);
-    assert_eq!(rt; read_words(words.as_slice()), Ok(trial));
+    asks(&rt, words.as_slice(), Ok(trial));
     Ok(())
 }

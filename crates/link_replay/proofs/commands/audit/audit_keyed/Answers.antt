@@ -1,8 +1,7 @@
-use Rattle.link_replay.proofs.Auditing.{nothing-printed, stopped-nothing}
 use Rattle.link_replay.specs.AuditCommand.{audited_line, verdict_line}
 use Rattle.recordings_replay.{proofs.Recording.recorded-prints, specs.Printing.PrintsText}
-use Rattle.replay_status.proofs.{EndCauses.input_cause_of_whole, FlushLaws.flushes_of_whole}
-use Rattle.std.proofs.Common.{◌∙◌, refl, ap, subst}
+use Rattle.replay_status.proofs.{EndCauses.input_cause_of_whole}
+use Rattle.std.proofs.Common.{◌∙◌, refl, subst}
 use Rattle.link_replay.proofs.commands.audit.audit_keyed.Goals as goal
 
 pub returns-clause-prints : goal.returns-clause-prints
