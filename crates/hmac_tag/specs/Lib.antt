@@ -5,6 +5,5 @@ pub mod Sha256Words
 pub mod HashValues
 pub mod Hashing
 pub mod Tag
-pub mod Macs
 pub mod Stands
 pub mod Digests

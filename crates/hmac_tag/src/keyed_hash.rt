@@ -1,12 +1,11 @@
-//! HMAC over a hash function, as a stream.
+//! HMAC over any hash function, as a stream.
 ghost use Rattle.std.specs.Prelude.{◌≡◌, ℕ, List, [], ◌∷◌, ◌++◌, ◌≤◌, ◌<◌, length, take};
 ghost use Rattle.arrayvec.specs.ArrayVec.{array_vec_len};
-ghost use Rattle.hmac_tag.specs.Digests.{length-hmac_cut, All-hmac_cut};
 ghost use Rattle.hmac_tag.specs.Hmac.{xored, filled, key_block, hmac};
 ghost use Rattle.hmac_tag.specs.Stands.{StandsFor};
 ghost use Rattle.hmac_tag.specs.Tag.{hmac_cut};
 
-use crate::{BlockHasher, BlockStart, Digest, Mac, Sha1Value, Sha256Value, TagBytes};
+use crate::{Digest, TagBytes};
 use arrayvec::ArrayVec;
 
 const BLOCK_LEN: usize = 64;
@@ -15,20 +14,14 @@ const INNER_PAD: u8 = 0x36;
 
 const OUTER_PAD: u8 = 0x5C;
 
-/// HMAC (RFC 2104) of a text that comes in pieces. It keeps the states after the key's inner block
-/// and after its outer block, and a hasher that has taken the inner block and the text so far.
+// HMAC (RFC 2104) of a text that comes in pieces. It keeps the states after the key's inner block
+// and after its outer block, and a hasher that has taken the inner block and the text so far.
 #[derive(Drop)]
 pub struct Hmac<D, S, const N: usize> {
     inner: S,
     outer: S,
     running: D,
 }
-
-/// HMAC over SHA-1, whose tags are its first 12 bytes (RFC 2404).
-pub type HmacSha1 = Hmac<BlockHasher<Sha1Value>, BlockStart<Sha1Value>, 20>;
-
-/// HMAC over SHA-256, whose tags are its first 16 bytes (RFC 4868).
-pub type HmacSha256 = Hmac<BlockHasher<Sha256Value>, BlockStart<Sha256Value>, 32>;
 
 // Returns a key of at most a block, filled with zeros to a whole one.
 fn filled(key: &[u8]) -> [u8; BLOCK_LEN]
@@ -69,21 +62,6 @@ fn xored(pad: u8, mut block: [u8; BLOCK_LEN]) -> [u8; BLOCK_LEN]
     block
 }
 
-impl<D: Digest<S, N>, S: Drop, const N: usize> Hmac<D, S, N> {
-    /// Returns the whole MAC of a text under a key of any length.
-    #[tactic(auto, unfolding(crate::specs::Hmac::hmac))]
-    pub fn digest(key: &[u8], text: &[u8]) -> [u8; N]
-        ensures { result ≡ hmac D.digest_of key.now text.now }
-    {
-        let block = key_block::<D, S, N>(key);
-        let start = D::start_of(&xored(INNER_PAD, block));
-        let mut inner = D::new();
-        inner.begin(&start);
-        inner.update(text);
-        D::nest(&D::start_of(&xored(OUTER_PAD, block)), &inner)
-    }
-}
-
 // Returns the first `size` bytes of a MAC.
 fn cut<const N: usize>(whole: &[u8; N], size: usize) -> TagBytes
     requires within { size ≤ N }
@@ -96,22 +74,24 @@ fn cut<const N: usize>(whole: &[u8; N], size: usize) -> TagBytes
     tag
 }
 
-impl<D: Digest<S, N>, S: Drop, const N: usize> Mac for Hmac<D, S, N> {
-    ghost tag_of = { hmac_cut D.digest_of D.TAG };
+impl<D: Digest<S, N>, S: Drop, const N: usize> Hmac<D, S, N> {
+    // Returns the whole MAC of a text under a key of any length.
+    #[tactic(auto, unfolding(crate::specs::Hmac::hmac))]
+    pub(crate) fn digest(key: &[u8], text: &[u8]) -> [u8; N]
+        ensures { result ≡ hmac D.digest_of key.now text.now }
+    {
+        let block = key_block::<D, S, N>(key);
+        let start = D::start_of(&xored(INNER_PAD, block));
+        let mut inner = D::new();
+        inner.begin(&start);
+        inner.update(text);
+        D::nest(&D::start_of(&xored(OUTER_PAD, block)), &inner)
+    }
 
-    ghost stands = { StandsFor D.digest_of D.starts D.holds };
-
-    ghost TAG = { D.TAG };
-
-    const TAG: usize = D::TAG;
-
-    ghost tag_size = { D.tag_size };
-
-    ghost tag_len = { length-hmac_cut D.digest_of N D.TAG D.digest_len D.tag_within };
-
-    ghost tag_bytes = { All-hmac_cut D.digest_of D.TAG D.digest_bytes };
-
-    fn with_key(key: &[u8]) -> Self {
+    // Returns a value that represents a key of any length and the empty text.
+    pub(crate) fn with_key(key: &[u8]) -> Self
+        ensures { StandsFor D.digest_of D.starts D.holds result key.now [] }
+    {
         let block = key_block::<D, S, N>(key);
         let inner = D::start_of(&xored(INNER_PAD, block));
         let outer = D::start_of(&xored(OUTER_PAD, block));
@@ -124,18 +104,35 @@ impl<D: Digest<S, N>, S: Drop, const N: usize> Mac for Hmac<D, S, N> {
         }
     }
 
+    // Begins anew with the empty text, under the same key.
     #[inline]
-    fn begin(&mut self) {
+    pub(crate) fn begin(&mut self)
+        ensures { (key text : List ℕ) → StandsFor D.digest_of D.starts D.holds self.old key text
+            → StandsFor D.digest_of D.starts D.holds self.new key [] }
+    {
         self.running.begin(&self.inner);
     }
 
+    // Appends to the text.
     #[inline]
-    fn update(&mut self, part: &[u8]) {
+    pub(crate) fn update(&mut self, part: &[u8])
+        ensures { (key text : List ℕ) → StandsFor D.digest_of D.starts D.holds self.old key text
+            → StandsFor D.digest_of D.starts D.holds self.new key (text ++ part.now) }
+    {
         self.running.update(part);
     }
 
+    // Returns the first bytes of the MAC of the text, and begins anew with the empty text, under
+    // the same key.
     #[tactic(auto, unfolding(crate::specs::Hmac::hmac))]
-    fn finish(&mut self) -> TagBytes {
+    pub(crate) fn finish(&mut self) -> TagBytes
+        ensures tag { (key text : List ℕ) → StandsFor D.digest_of D.starts D.holds self.old key text
+            → result.items ≡ hmac_cut D.digest_of D.TAG key text }
+        ensures len { array_vec_len result ≡ D.TAG }
+        ensures begun { (key text : List ℕ)
+            → StandsFor D.digest_of D.starts D.holds self.old key text
+            → StandsFor D.digest_of D.starts D.holds self.new key [] }
+    {
         let whole = D::nest(&self.outer, &self.running);
         self.begin();
         cut(&whole, D::TAG)

@@ -10,7 +10,7 @@ use Rattle.dnp_link_frame.specs.declared.dnp.Dnp.{Dnp}
 use Rattle.line_rules.specs.declared.line_rules.LineRules.{Ghosts as LineRules}
 use Rattle.hmac_tag.specs.declared.dir.Dir.{Dir}
 use Rattle.hmac_tag.specs.declared.tag.Mac.{Ghosts as Mac}
-use Rattle.hmac_tag.specs.Macs.{HmacSha1, HmacSha256}
+use Rattle.hmac_tag.specs.declared.macs.{HmacSha1.HmacSha1, HmacSha256.HmacSha256}
 use Rattle.sequence_journal.specs.Slots.{slot_bytes, any_floor, wrong_slot}
 use Rattle.sequence_journal.specs.declared.journal.LoadError.{LoadError}
 use Rattle.sequence_journal.specs.declared.journal.LoadError.TheVariants as Load
