@@ -2,7 +2,7 @@
 use Rattle.hex.{proofs.HexLemmas.decode_of-encode_lower, specs.Hex.encode_lower, specs.Hex.IsBytes}
 use Rattle.std.proofs.Common.{◌≡◌, ◌∙◌, ℕ, zero, suc, ◌+◌, ◌-◌, ◌/◌, ◌%◌, ◌^◌, ◌<◌, ◌≤◌, true, List}
 use Rattle.std.proofs.Common.{[], ◌∷◌, ◌++◌, length, map, take, drop, replicate, Some, refl, sym}
-use Rattle.std.proofs.Common.{ap, subst, arith, append_assoc, inl, inr}
+use Rattle.std.proofs.Common.{ap, arith, append_assoc, inl, inr}
 use Rattle.std.proofs.lemmas.{Bool.cases_lt, Fmt.decimal_by_steps}
 use Rattle.std.proofs.lemmas.List.{append-nil, map-append, length-take, get_or_past}
 use Rattle.std.proofs.lemmas.List.{take-append-drop, length-drop, replicate-append-replicate}

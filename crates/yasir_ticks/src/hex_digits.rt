@@ -6,8 +6,6 @@ ghost use Rattle.hex.specs.Hex.{encode_lower};
 mod digit;
 mod digit_lanes;
 mod pairs;
-#[cfg(test)]
-mod tests;
 
 use arrayvec::ArrayVec;
 pub(crate) use digit::hex_value;

@@ -19,8 +19,6 @@ mod place;
 mod reader;
 mod run;
 mod slices;
-#[cfg(test)]
-mod tests;
 mod tick;
 mod tick_run;
 mod whole_lines;

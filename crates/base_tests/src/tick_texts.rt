@@ -1,8 +1,8 @@
 //! Tests of tick text: right texts, refused texts, marks, and runs.
-use crate::{BadTicks, Content, Run, Tick, TickFault, TickReader, TickRun};
 use std::alloc::Global;
 use std::process::Abort;
 use std::test::Fail;
+use yasir_ticks::{BadTicks, Content, Run, Tick, TickFault, TickReader, TickRun};
 
 /// Texts, and the bytes and the number of silent ticks that they represent.
 const ACCEPTED: [(&[u8], &[u8], u32); 10] = [

@@ -1,7 +1,7 @@
 //! Hex digits: known ones, and runs of each length against the crate `hex`.
-use super::push_digits;
 use arrayvec::ArrayVec;
 use std::test::Fail;
+use yasir_ticks::push_digits;
 
 #[test]
 fn known_digits(rt: HostRuntime) {
