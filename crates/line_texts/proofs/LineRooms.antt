@@ -1,7 +1,7 @@
 -- Pieces of lines after those that wait.
 use Rattle.hex.specs.Hex.{encode_lower, encode_with, lower_digits}
 use Rattle.std.proofs.Common.{◌≡◌, ◌∙◌, ℕ, zero, suc, ◌+◌, ◌*◌, ◌<◌, ◌≤◌, ◌/◌, ◌%◌, List, [], ◌∷◌}
-use Rattle.std.proofs.Common.{◌++◌, length, take, get_or, refl, sym, ap, arith, append_assoc}
+use Rattle.std.proofs.Common.{◌++◌, take, get_or, refl, ap, arith, append_assoc}
 use Rattle.std.{proofs.lemmas.Fmt.decimal_digit, proofs.lemmas.Fmt.decimal_step, specs.Fmt.decimal}
 use Rattle.yasir_ticks.specs.{CanonicalText.byte_line, Characters.plus_sign, Characters.line_feed}
 

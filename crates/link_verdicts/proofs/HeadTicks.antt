@@ -1,7 +1,7 @@
 -- Where a header ends, with at most one silent tick between its bytes.
 use Rattle.frame_ending.specs.LiveBytes.{before_pause, spelled, live_bytes}
 use Rattle.line_rules.specs.{Rules.Rules, RulesLaws.IsLawful, RulesLaws.IsHeaded}
-use Rattle.std.proofs.Common.{ℕ, ◌+◌, ◌-◌, ◌*◌, ◌<◌, ◌≤◌, List, [], ◌∷◌, ◌++◌, length, arith}
+use Rattle.std.proofs.Common.{ℕ, ◌+◌, ◌*◌, ◌<◌, ◌≤◌, List, [], ◌∷◌, ◌++◌, length, arith}
 use Rattle.{std.proofs.lemmas.List.length-take, yasir_ticks.specs.Bursts.Burst}
 use Rattle.yasir_ticks.specs.BurstsOf.{IsContiguous, one, more}
 use Rattle.yasir_ticks.specs.Ticks.{bytes_in, silent}

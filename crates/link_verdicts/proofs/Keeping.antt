@@ -1,7 +1,7 @@
 -- How many ticks keep a shape when silence and other ticks follow them.
 use Rattle.link_format.specs.Profile.{Profile, pause_len, trailer_len, trailer_shape}
 use Rattle.link_verdicts.specs.Shapes.{kept}
-use Rattle.std.proofs.Common.{◌≡◌, ℕ, zero, suc, ◌+◌, ◌-◌, ◌<◌, ◌≤◌, Bool, true, false, List, []}
+use Rattle.std.proofs.Common.{◌≡◌, ℕ, zero, suc, ◌+◌, ◌<◌, ◌≤◌, Bool, true, false, List, []}
 use Rattle.std.proofs.Common.{◌∷◌, ◌++◌, length, take, drop, replicate, refl, ap, arith}
 use Rattle.std.proofs.lemmas.List.{take-append-le, length-replicate}
 use Rattle.yasir_ticks.specs.Ticks.{silent}

@@ -11,7 +11,7 @@ use Rattle.link_verdicts.specs.{Emissions.spoiled, Shapes.kept}
 use Rattle.link_verdicts.specs.Verdicts.{verdict_of, checked}
 use Rattle.link_verdicts.specs.declared.note.DroppedWhy.TheVariants.{Busy, Head}
 use Rattle.link_verdicts.specs.declared.note.RefusedWhy.TheVariants.{Trailer, Form, Tag}
-use Rattle.std.proofs.Common.{◌≡◌, ℕ, ◌==◌, ◌&&◌, ◌-◌, nat_le, Bool, List, [], ◌∷◌, ◌++◌, length}
+use Rattle.std.proofs.Common.{ℕ, ◌==◌, ◌&&◌, ◌-◌, nat_le, Bool, List, [], ◌∷◌, ◌++◌, length}
 use Rattle.std.proofs.Common.{get_or, cond, refl}
 use Rattle.yasir_ticks.specs.Bursts.{bursts_from, with_byte}
 use Rattle.yasir_ticks.specs.{Ticks.silent, declared.tick.Tick.Tick}

@@ -1,11 +1,11 @@
 -- The causes of the status with which a run over an input ends.
-use Rattle.std.proofs.Common.{◌≡◌, ℕ, ◌⊎◌, inl, inr, false, List, refl, sym, subst, arith}
+use Rattle.std.proofs.Common.{◌≡◌, ℕ, ◌⊎◌, inl, inr, false, refl, sym, subst, arith}
 use Rattle.tick_drive.specs.{Consumers.is_write_fault, Drive.answer_of}
 use Rattle.tick_drive.specs.Input.{IsReadCause, is_read_fault}
 use Rattle.tick_drive.specs.declared.consumer.Stop.TheVariants as stops
 use Rattle.replay_status.specs.Causes.{InputCause, SinkCause}
 use Rattle.replay_status.specs.{Endings.status_of, declared.status.Status.Status}
-use Rattle.replay_status.specs.declared.status.Status.TheVariants.{Done, WriteFault, BadJournal}
+use Rattle.replay_status.specs.declared.status.Status.TheVariants.{Done, WriteFault}
 use Rattle.tick_drive.specs.declared.end.End.{End, TheVariants.Whole}
 use Rattle.tick_drive.specs.declared.end.End.TheVariants.{Refused, TooLong, ReadFault, Stopped}
 

@@ -11,7 +11,7 @@ use Rattle.seal_judgements.specs.Sealing.FullNote.{sealed_note, unsealed_note}
 use Rattle.seal_judgements.specs.declared.note.UnsealedWhy.TheVariants.{Early, Spent}
 use Rattle.std.proofs.Common.{◌≡◌, List, [], ◌∷◌, ◌++◌, refl}
 use Rattle.yasir_ticks.specs.Bursts.{bursts_from, with_byte}
-use Rattle.yasir_ticks.specs.{Ticks.silent, declared.tick.Tick.Tick}
+use Rattle.yasir_ticks.specs.{Ticks.silent}
 
 abbrev profile : Profile
 profile = profile_with 4 16

@@ -20,7 +20,7 @@ use Rattle.seal_transmitter.specs.{Foretold.Forwards, Foretold.Foretold, Runs.Ha
 use Rattle.seal_transmitter.specs.{Stands.StandsAt, Stands.HasTaken, declared.sealer.Sealer.Sealer}
 use Rattle.sequence_journal.specs.declared.numbers.TheConstants.{LIMIT}
 use Rattle.std.proofs.Common.{◌≡◌, ◌∙◌, ◌⊎◌, ⊎_elim, inl, inr, ℕ, zero, suc, ◌+◌, ◌-◌, ◌<◌, ◌≤◌}
-use Rattle.std.proofs.Common.{◌==◌, true, false, not, List, [], ◌∷◌, ◌++◌, length, take, drop, map}
+use Rattle.std.proofs.Common.{◌==◌, true, false, not, List, [], ◌∷◌, length, take, drop, map}
 use Rattle.std.proofs.Common.{get_or, refl, sym, ap, subst, arith, Option, None}
 use Rattle.std.proofs.lemmas.Bool.{cases_lt, not-true, eqb-false}
 use Rattle.std.proofs.lemmas.List.{length-replicate, length-take, length-take-le, length-map}

@@ -4,10 +4,10 @@ use Rattle.frame_ending.specs.SoFar.{last_burst, quiet_in, quiet_so_far, has_pau
 use Rattle.frame_ending.specs.SoFar.{is_over_so_far, live_bytes_in, live_bytes_so_far}
 use Rattle.frame_ending.specs.{Stands.StandsFor, declared.burst_cut.BurstCut.BurstCut}
 use Rattle.{frame_ending.specs.declared.cut.Cut.TheVariants.Live, line_rules.specs.Bytes.AreBytes}
-use Rattle.line_rules.specs.Rules.{Rules, fills_room, head_of, lacking_of, lacking_by}
+use Rattle.line_rules.specs.Rules.{Rules, fills_room, lacking_of, lacking_by}
 use Rattle.line_rules.specs.declared.line_rules.LineRules.{Ghosts as LineRules}
-use Rattle.std.proofs.Common.{◌≡◌, ◌∙◌, ⊎_elim, ℕ, zero, suc, ◌+◌, ◌-◌, ◌<◌, ◌≤◌, ◌==◌, ◌||◌, Bool}
-use Rattle.std.proofs.Common.{true, false, List, [], ◌∷◌, ◌++◌, length, take, map, refl, sym, ap}
+use Rattle.std.proofs.Common.{◌≡◌, ◌∙◌, ⊎_elim, ℕ, ◌-◌, ◌<◌, ◌≤◌}
+use Rattle.std.proofs.Common.{false, List, [], ◌∷◌, ◌++◌, length, take, map, refl, sym, ap}
 use Rattle.std.proofs.Common.{subst, arith, append-nil, append_assoc, length-append, Option, Some}
 use Rattle.std.proofs.Common.{None}
 use Rattle.std.proofs.lemmas.Bool.{cases_Bool, cases_lt, cond-true, lt-ltb, eqb-true, or_parts}

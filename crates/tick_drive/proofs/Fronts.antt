@@ -1,10 +1,10 @@
 -- A consumer that takes the first ticks of a run at once if it can, and otherwise one tick.
-use Rattle.std.proofs.Common.{◌≡◌, ℕ, ◌≤◌, ◌<◌, List, [], ◌∷◌, ◌++◌, length, take, Result, Ok, Err}
-use Rattle.std.proofs.Common.{ap, subst, sym, arith}
+use Rattle.std.proofs.Common.{◌≡◌, ℕ, ◌≤◌, ◌<◌, List, [], ◌∷◌, length, take, Result, Ok, Err}
+use Rattle.std.proofs.Common.{ap, sym, arith}
 use Rattle.tick_drive.proofs.Moving.{gives_items, gives_front, gives_then}
 use Rattle.tick_drive.specs.Consumers.{Consuming, AreJoined, MayTake, Gives, GivesFirst, GivesUpTo}
 use Rattle.tick_drive.specs.{Consumers.GivesFront, declared.consumer.Stop.Stop}
-use Rattle.yasir_ticks.specs.Ticks.{Item, ticks_in}
+use Rattle.yasir_ticks.specs.Ticks.{Item}
 
 module _ {C : Type 0} (meaning : Consuming C) where
   pub none_given : (c0 c1 : C) (items : List Item) (n : ℕ) → n ≤ 0

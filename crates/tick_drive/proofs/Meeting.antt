@@ -1,5 +1,5 @@
 -- If a reader has taken a line from the kept bytes, the line is met.
-use Rattle.std.proofs.Common.{◌≡◌, ◌+◌, ◌-◌, ◌<◌, ◌≤◌, ℕ, List, ◌++◌, length, take, drop, get_or}
+use Rattle.std.proofs.Common.{◌≡◌, ◌+◌, ◌-◌, ◌<◌, ◌≤◌, ℕ, List, length, take, drop, get_or}
 use Rattle.std.proofs.Common.{Option, ap, ◌∙◌, sym, subst, arith, length-append}
 use Rattle.std.{proofs.lemmas.List.length-take, specs.Io.KnownBytes.prepend_known}
 use Rattle.tick_drive.{proofs.Known.text_last, proofs.Known.met_slice, specs.Intake.HasMet}

@@ -1,5 +1,5 @@
 use Rattle.frame_ending.specs.Stands.{StandsFor, ticks_taken}
-use Rattle.std.proofs.Common.{◌≡◌, ◌+◌, ◌≤◌, ◌++◌, List, length, map, take}
+use Rattle.std.proofs.Common.{◌≡◌, ◌+◌, ◌++◌, List, map, take}
 use Rattle.yasir_ticks.specs.declared.tick.Tick.{Tick, TheVariants.Byte}
 use Rattle.seal_transmitter.proofs.silence.cut_all.Given as goal
 

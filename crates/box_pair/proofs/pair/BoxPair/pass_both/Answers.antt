@@ -1,4 +1,4 @@
-use Rattle.std.proofs.Common.{◌≡◌, ◌≤◌, arith, length, refl}
+use Rattle.std.proofs.Common.{◌≤◌, arith, length, refl}
 use Rattle.yasir_ticks.specs.TickRun.{run_ticks}
 use Rattle.box_pair.proofs.PassedRuns.{passed-as, silent-front, front-long}
 use Rattle.box_pair.proofs.pair.BoxPair.pass_both.Goals as goal

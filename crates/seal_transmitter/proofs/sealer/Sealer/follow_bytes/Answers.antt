@@ -3,8 +3,8 @@ use Rattle.link_box.proofs.Answered.{answered-all}
 use Rattle.seal_transmitter.proofs.Foretelling.{single-byte, foretold-bytes, foretold-few}
 use Rattle.seal_transmitter.proofs.RunSteps.{nothing-taken, forward-taken}
 use Rattle.seal_transmitter.specs.{Foretold.Forwards, Runs.HasTakenRun}
-use Rattle.std.proofs.Common.{◌≡◌, ◌∙◌, ◌+◌, ◌<◌, ℕ, List, [], ◌∷◌, map, length, get_or, refl, sym}
-use Rattle.std.proofs.{Common.ap, Common.subst, Common.arith, lemmas.Bool.eqb-true}
+use Rattle.std.proofs.Common.{◌≡◌, ◌∙◌, ◌<◌, ℕ, List, [], ◌∷◌, map, length, get_or, refl, sym}
+use Rattle.std.proofs.{Common.subst, Common.arith, lemmas.Bool.eqb-true}
 use Rattle.std.proofs.lemmas.{Bool.eqb-false, List.nil_from_length, List.Elements.All-from_get_or}
 use Rattle.yasir_ticks.specs.declared.tick.Tick.{Tick, TheVariants.Byte}
 use Rattle.seal_transmitter.proofs.sealer.Sealer.follow_bytes.Goals as goal

@@ -1,7 +1,7 @@
 use Rattle.{burst_walk.specs.Answered.answered, link_format.specs.Trailers.bytes_unsent}
 use Rattle.seal_transmitter.proofs.Foretelling.{foretold-silence, open-still, sent-alike}
 use Rattle.seal_transmitter.proofs.RunSteps.{open-taken}
-use Rattle.std.proofs.Common.{◌≡◌, ◌∙◌, ◌≤◌, ℕ, List, [], ap, length, arith}
+use Rattle.std.proofs.Common.{◌∙◌, ℕ, List, ap, length, arith}
 use Rattle.seal_transmitter.proofs.sealer.Sealer.follow_silence.Goals as goal
 
 pub returns-clause-run : goal.returns-clause-run

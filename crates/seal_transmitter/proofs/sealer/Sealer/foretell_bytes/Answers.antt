@@ -1,7 +1,7 @@
 use Rattle.frame_ending.specs.SoFar.{start_so_far, live_bytes_so_far}
 use Rattle.seal_transmitter.proofs.Foretelling.{byte-foretold, bytes-foretold}
 use Rattle.seal_transmitter.{proofs.RoomLeft.bytes-live, specs.Foretold.Forwards}
-use Rattle.std.proofs.Common.{◌≡◌, ◌∙◌, ◌<◌, ◌≤◌, ℕ, List, length, map, take, sym, arith, ⊎_elim}
+use Rattle.std.proofs.Common.{◌∙◌, ℕ, sym, arith, ⊎_elim}
 use Rattle.std.proofs.lemmas.Bool.{cases_lt, ltb-false}
 use Rattle.seal_transmitter.proofs.sealer.Sealer.foretell_bytes.Goals as goal
 

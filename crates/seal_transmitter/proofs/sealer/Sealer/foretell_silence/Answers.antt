@@ -1,4 +1,4 @@
-use Rattle.std.proofs.Common.{◌≤◌, arith}
+use Rattle.std.proofs.Common.{arith}
 use Rattle.seal_transmitter.proofs.Foretelling.{silence-foretold, fewer-open, silence-noted}
 use Rattle.seal_transmitter.proofs.sealer.Sealer.foretell_silence.Goals as goal
 

@@ -1,8 +1,8 @@
 use Rattle.{burst_walk.specs.Answered.answered, seal_transmitter.proofs.Keeping.takes-run}
-use Rattle.std.proofs.Common.{◌≡◌, ◌∙◌, ◌+◌, List, ap, sym, subst, arith, length}
+use Rattle.std.proofs.Common.{◌∙◌, ap, sym, length}
 use Rattle.std.proofs.lemmas.List.{length-map, length-replicate}
 use Rattle.yasir_ticks.specs.TickRun.{run_ticks}
-use Rattle.yasir_ticks.specs.declared.tick.Tick.{Tick, TheVariants.Silent, TheVariants.Byte}
+use Rattle.yasir_ticks.specs.declared.tick.Tick.{TheVariants.Silent, TheVariants.Byte}
 use Rattle.seal_transmitter.proofs.sealer.foretelling.SealerForetellingBox.follow.Goals as goal
 
 pub returns-in-Bytes-clause-run : goal.returns-in-Bytes-clause-run

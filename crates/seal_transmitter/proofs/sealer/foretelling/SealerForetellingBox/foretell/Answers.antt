@@ -1,8 +1,8 @@
 use Rattle.{link_box.specs.Noteless.MayNoteAt, seal_transmitter.proofs.Foretelling.no-byte-noted}
 use Rattle.seal_transmitter.specs.{Foretold.Foretold, Foretold.closes_none, Stands.StandsAt}
-use Rattle.std.proofs.Common.{◌≡◌, ◌<◌, ◌≤◌, ℕ, List, ⊎_elim, sym, subst, arith, take, length}
+use Rattle.std.proofs.Common.{List, ⊎_elim, sym, subst, arith, take, length}
 use Rattle.std.proofs.lemmas.{Bool.cases_lt, List.take-replicate}
-use Rattle.yasir_ticks.specs.{TickRun.run_ticks, Ticks.silent, declared.tick.Tick.Tick}
+use Rattle.yasir_ticks.specs.{TickRun.run_ticks, declared.tick.Tick.Tick}
 use Rattle.yasir_ticks.specs.declared.{tick.Tick.TheVariants.Silent, tick_run.TickRun.TickRun}
 use Rattle.seal_transmitter.proofs.sealer.foretelling.SealerForetellingBox.foretell.Goals as goal
 
