@@ -34,6 +34,16 @@ def after(words, name):
     return words[words.index(name) + 1] if name in words[:-1] else None
 
 
+def written_by(process, kept):
+    """The folders to which a prover writes: the one that it was told to keep, as seen from where it runs, or its own."""
+    if not kept:
+        return glob.glob("/tmp/rattle-logic-built-locked-%s-*" % process)
+    try:
+        return [os.path.join(os.readlink("/proc/%s/cwd" % process), kept)]
+    except OSError:
+        return []
+
+
 def folders():
     """For each folder to which a prover writes now, the crate that it proves."""
     found = {}
@@ -44,8 +54,7 @@ def folders():
             continue
         if "--test" in words:
             crate += " (tests)"
-        kept = after(words, "--incremental")
-        for folder in [kept] if kept else glob.glob("/tmp/rattle-logic-built-locked-%s-*" % process):
+        for folder in written_by(process, after(words, "--incremental")):
             found[folder] = crate
     return found
 
