@@ -2,7 +2,7 @@ use Rattle.link_format.specs.NumberedFrame.{NumberedFrame}
 use Rattle.receiver_laws.{proofs.InTurn.among-in-place, specs.Accounted.is_among}
 use Rattle.recordings_replay.proofs.Pushing.{adds-nothing}
 use Rattle.recordings_replay.specs.Printing.{AddsText, BreaksOff, on_the_way}
-use Rattle.std.proofs.Common.{◌≡◌, ◌∙◌, Bool, true, false, sym, ap, subst, refl, codes}
+use Rattle.std.proofs.Common.{◌≡◌, ◌∙◌, true, false, sym, subst, refl}
 use Rattle.std.proofs.lemmas.Bool.{cond-true, cond-false}
 use Rattle.yasir_io.specs.TextBuffer.{waiting_bytes}
 use Rattle.recordings_replay.proofs.groups.push_if_forged.Goals as goal
