@@ -45,7 +45,7 @@ pub enum AnyBox {
     DnpChecker24(Checker<Dnp, HmacSha256, 4, 24>),
 }
 
-// Does the same with the box that is held, whichever of the eight it is.
+// Evaluates an expression with the box that is held, whichever of the eight it is.
 macro_rules! with_box {
     ($held:expr, $line_box:ident => $call:expr) => {
         match $held {

@@ -278,7 +278,7 @@ fn is_done_in(
     is_done(disk, act, mark) && file.calls.get() == before.saturating_add(calls)
 }
 
-// Does the same to the bytes of a file.
+// Writes what an act writes into these bytes of a file.
 fn put_act(bytes: &mut [u8; ROOM], act: Act, mark: u8) {
     if let Act::Write(slot) = act {
         put(bytes, slot, [mark; 24]);

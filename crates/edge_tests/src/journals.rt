@@ -150,7 +150,7 @@ const WORDS: [(u64, u16, Option<u64>); 6] = [
     (281_474_976_710_655, 65_535, None),
 ];
 
-// The same for words of four bytes.
+// A floor, a word of four bytes, and the number that the word stands for, if there is one.
 const WIDE_WORDS: [(u64, u32, Option<u64>); 6] = [
     (65_535, 1, Some(4_294_967_297)),
     (65_535, 65_536, Some(65_536)),

@@ -500,13 +500,13 @@ fn compare(
     Ok(())
 }
 
-// Does the same with the row's arguments.
+// Makes the comparison of `compare` with the row's own arguments.
 fn compare_row(rt: &impl Abort, alloc: Global, has_root: bool, row: &Row) -> Result<(), Fail> {
     let args = words_of(alloc, row.args)?.into_iter();
     compare(rt, alloc, Ok(args), has_root, row)
 }
 
-// Does the same for each row. The root can be opened.
+// Makes the comparison of `compare_row` for each row. The root can be opened.
 fn compare_rows(rt: &impl Abort, alloc: Global, rows: &[Row]) -> Result<(), Fail> {
     for row in rows {
         compare_row(rt, alloc, true, row)?;
