@@ -225,100 +225,94 @@ fn a_number_alone_does_not_tell(rt: HostRuntime) -> Result<(), Fail> {
     finds(&rt, rt.alloc(), session_of(Link::Rtu, 0, 0), all, forged)
 }
 
+// A line of two frames, and the link with their packets.
+const SENT_TWICE: &[Part<'static>] = &[
+    Bytes(READ_TEN_REGISTERS),
+    Silence(32),
+    Bytes(READ_ONE_REGISTER),
+    Silence(32),
+];
+
+const PACKETS_1_AND_2: &[Part<'static>] = &[
+    Bytes(READ_TEN_REGISTERS),
+    Silence(3),
+    Bytes(TEN_AS_1),
+    Silence(15),
+    Bytes(READ_ONE_REGISTER),
+    Silence(3),
+    Bytes(ONE_AS_2),
+    Silence(15),
+];
+
+/// The line of the device that receives two frames, and the verdict.
+#[derive(Clone, Copy)]
+struct Received {
+    line: &'static [Part<'static>],
+    verdict: Verdict,
+}
+
+const RECEIVED: [Received; 4] = [
+    Received {
+        line: &[
+            Silence(18),
+            Bytes(READ_TEN_REGISTERS),
+            Silence(32),
+            Bytes(READ_ONE_REGISTER),
+        ],
+        verdict: Verdict::Clean {
+            sealed: 2,
+            passed: 2,
+            read: 2,
+        },
+    },
+    // Only the first frame.
+    Received {
+        line: &[Silence(18), Bytes(READ_TEN_REGISTERS), Silence(50)],
+        verdict: Verdict::Differs { place: 1 },
+    },
+    // The second frame comes a tick late.
+    Received {
+        line: &[
+            Silence(18),
+            Bytes(READ_TEN_REGISTERS),
+            Silence(33),
+            Bytes(READ_ONE_REGISTER),
+        ],
+        verdict: Verdict::Differs { place: 1 },
+    },
+    // Both frames and one more.
+    Received {
+        line: &[
+            Silence(18),
+            Bytes(READ_TEN_REGISTERS),
+            Silence(32),
+            Bytes(READ_ONE_REGISTER),
+            Silence(4),
+            Bytes(READ_ONE_REGISTER),
+        ],
+        verdict: Verdict::Differs { place: 2 },
+    },
+];
+
+// Checks that an audit of two frames, their packets and the line of a row finds the verdict of the
+// row.
+fn finds_received(rt: &impl Abort, alloc: Global, row: &Received) -> Result<(), Fail> {
+    let all = Recorded {
+        device: SENT_TWICE,
+        link: PACKETS_1_AND_2,
+        received: row.line,
+    };
+    finds(rt, alloc, session_of(Link::Rtu, 0, 0), all, row.verdict)
+}
+
 // Two frames passed. If the device read only the first one, both and one more, or the second one a
 // tick late, the verdict has the first place that differs.
 #[test]
 fn places_are_counted_from_0(rt: HostRuntime) -> Result<(), Fail> {
-    let device: &[Part<'_>] = &[
-        Bytes(READ_TEN_REGISTERS),
-        Silence(32),
-        Bytes(READ_ONE_REGISTER),
-        Silence(32),
-    ];
-    let link: &[Part<'_>] = &[
-        Bytes(READ_TEN_REGISTERS),
-        Silence(3),
-        Bytes(TEN_AS_1),
-        Silence(15),
-        Bytes(READ_ONE_REGISTER),
-        Silence(3),
-        Bytes(ONE_AS_2),
-        Silence(15),
-    ];
-    let session = session_of(Link::Rtu, 0, 0);
-    let both: &[Part<'_>] = &[
-        Silence(18),
-        Bytes(READ_TEN_REGISTERS),
-        Silence(32),
-        Bytes(READ_ONE_REGISTER),
-    ];
-    let clean = Verdict::Clean {
-        sealed: 2,
-        passed: 2,
-        read: 2,
-    };
-    let received = both;
-    finds(
-        &rt,
-        rt.alloc(),
-        session,
-        Recorded {
-            device,
-            link,
-            received,
-        },
-        clean,
-    )?;
-    let received: &[Part<'_>] = &[Silence(18), Bytes(READ_TEN_REGISTERS), Silence(50)];
-    let second = Verdict::Differs { place: 1 };
-    finds(
-        &rt,
-        rt.alloc(),
-        session,
-        Recorded {
-            device,
-            link,
-            received,
-        },
-        second,
-    )?;
-    let received: &[Part<'_>] = &[
-        Silence(18),
-        Bytes(READ_TEN_REGISTERS),
-        Silence(33),
-        Bytes(READ_ONE_REGISTER),
-    ];
-    finds(
-        &rt,
-        rt.alloc(),
-        session,
-        Recorded {
-            device,
-            link,
-            received,
-        },
-        second,
-    )?;
-    let received: &[Part<'_>] = &[
-        Silence(18),
-        Bytes(READ_TEN_REGISTERS),
-        Silence(32),
-        Bytes(READ_ONE_REGISTER),
-        Silence(4),
-        Bytes(READ_ONE_REGISTER),
-    ];
-    let third = Verdict::Differs { place: 2 };
-    finds(
-        &rt,
-        rt.alloc(),
-        session,
-        Recorded {
-            device,
-            link,
-            received,
-        },
-        third,
-    )
+    for row in &RECEIVED {
+        finds_received(&rt, rt.alloc(), row)?;
+    }
+    Ok(())
 }
 
 // A packet that was lost is missing on both sides of the receiver, so the session is clean.
@@ -367,57 +361,77 @@ fn numbers_go_on_from_the_floors(rt: HostRuntime) -> Result<(), Fail> {
     finds(&rt, rt.alloc(), session_of(Link::Rtu, 5, 6), all, read)
 }
 
-// Clean sessions with the other profile, with the other protocol, and with both.
-#[test]
-fn each_protocol_and_profile_is_judged(rt: HostRuntime) -> Result<(), Fail> {
+/// A clean session of one frame: its link, the floor of both boxes, and its recordings.
+#[derive(Clone, Copy)]
+struct CleanSession {
+    link: Link,
+    floor: u32,
+    recorded: Recorded<'static>,
+}
+
+const CLEAN_SESSIONS: [CleanSession; 3] = [
+    CleanSession {
+        link: Link::WideRtu,
+        floor: 0,
+        recorded: Recorded {
+            device: SENT,
+            link: &[
+                Bytes(READ_TEN_REGISTERS),
+                Silence(3),
+                Bytes(WIDE_TEN_AS_1),
+                Silence(47),
+            ],
+            received: &[Silence(24), Bytes(READ_TEN_REGISTERS), Silence(366)],
+        },
+    },
+    CleanSession {
+        link: Link::Dnp,
+        floor: 0,
+        recorded: Recorded {
+            device: &[Bytes(RESET_LINK), Silence(40)],
+            link: &[
+                Bytes(RESET_LINK),
+                Silence(3),
+                Bytes(RESET_AS_1),
+                Silence(47),
+            ],
+            received: &[Silence(18), Bytes(RESET_LINK), Silence(366)],
+        },
+    },
+    CleanSession {
+        link: Link::WideDnp,
+        floor: 7,
+        recorded: Recorded {
+            device: &[Silence(2), Bytes(RESET_LINK), Silence(40)],
+            link: &[
+                Silence(2),
+                Bytes(RESET_LINK),
+                Silence(3),
+                Bytes(WIDE_RESET_AS_8),
+            ],
+            received: &[Silence(26), Bytes(RESET_LINK)],
+        },
+    },
+];
+
+// Checks that the session of a row is clean, and that its frame was sealed, has passed and was
+// read.
+fn is_clean(rt: &impl Abort, alloc: Global, row: &CleanSession) -> Result<(), Fail> {
+    let floor = u64::from(row.floor);
     let clean = Verdict::Clean {
         sealed: 1,
         passed: 1,
         read: 1,
     };
-    let wide = Recorded {
-        device: SENT,
-        link: &[
-            Bytes(READ_TEN_REGISTERS),
-            Silence(3),
-            Bytes(WIDE_TEN_AS_1),
-            Silence(47),
-        ],
-        received: &[Silence(24), Bytes(READ_TEN_REGISTERS), Silence(366)],
-    };
-    finds(
-        &rt,
-        rt.alloc(),
-        session_of(Link::WideRtu, 0, 0),
-        wide,
-        clean,
-    )?;
-    let dnp = Recorded {
-        device: &[Bytes(RESET_LINK), Silence(40)],
-        link: &[
-            Bytes(RESET_LINK),
-            Silence(3),
-            Bytes(RESET_AS_1),
-            Silence(47),
-        ],
-        received: &[Silence(18), Bytes(RESET_LINK), Silence(366)],
-    };
-    finds(&rt, rt.alloc(), session_of(Link::Dnp, 0, 0), dnp, clean)?;
-    let wide_dnp = Recorded {
-        device: &[Silence(2), Bytes(RESET_LINK), Silence(40)],
-        link: &[
-            Silence(2),
-            Bytes(RESET_LINK),
-            Silence(3),
-            Bytes(WIDE_RESET_AS_8),
-        ],
-        received: &[Silence(26), Bytes(RESET_LINK)],
-    };
-    finds(
-        &rt,
-        rt.alloc(),
-        session_of(Link::WideDnp, 7, 7),
-        wide_dnp,
-        clean,
-    )
+    let session = session_of(row.link, floor, floor);
+    finds(rt, alloc, session, row.recorded, clean)
+}
+
+// Clean sessions with the other profile, with the other protocol, and with both.
+#[test]
+fn each_protocol_and_profile_is_judged(rt: HostRuntime) -> Result<(), Fail> {
+    for row in &CLEAN_SESSIONS {
+        is_clean(&rt, rt.alloc(), row)?;
+    }
+    Ok(())
 }

@@ -71,6 +71,16 @@ struct Ran {
     got: u64,
 }
 
+/// What the steps of a box are to return: the ticks of the link, those for the device, and the
+/// notes of the transmitter and of the receiver, each with the place of its step.
+#[derive(Clone, Copy)]
+struct Wanted<'a> {
+    link: &'a [Tick],
+    device: &'a [Tick],
+    sealed: &'a [(usize, SealNote)],
+    checked: &'a [(usize, CheckNote)],
+}
+
 // Returns the tick of a line at this place, or silence if the line has ended.
 fn tick_at(line: &[Tick], i: usize) -> Tick {
     match line.get(i) {
@@ -172,17 +182,10 @@ impl Ran {
     }
 
     // Checks the ticks of the link, those for the device, and the notes in the order of steps.
-    fn check(
-        &self,
-        rt: &impl Abort,
-        link: &[Tick],
-        device: &[Tick],
-        sealed: &[(usize, SealNote)],
-        checked: &[(usize, CheckNote)],
-    ) {
-        assert!(rt; self.steps.len() == link.len());
-        assert_eq!(rt; self.first_other(link, device), None);
-        assert!(rt; self.has_notes(sealed, checked));
+    fn check(&self, rt: &impl Abort, wanted: &Wanted<'_>) {
+        assert!(rt; self.steps.len() == wanted.link.len());
+        assert_eq!(rt; self.first_other(wanted.link, wanted.device), None);
+        assert!(rt; self.has_notes(wanted.sealed, wanted.checked));
     }
 }
 
@@ -221,7 +224,13 @@ fn a_request_is_sealed_and_a_silent_link_stays_silent(rt: HostRuntime) -> Result
     ];
     let link = line_of(alloc, &packet, 328)?;
     let received = line_of(alloc, &[], 328)?;
-    ran.check(&rt, &link, &received, &[SEALED_AT_11], &[]);
+    let wanted = Wanted {
+        link: link.as_slice(),
+        device: received.as_slice(),
+        sealed: &[SEALED_AT_11],
+        checked: &[],
+    };
+    ran.check(&rt, &wanted);
     assert_eq!(rt; (ran.fault, ran.sent, ran.got), (None, 1, 0));
     Ok(())
 }
@@ -248,7 +257,13 @@ fn a_reflected_packet_is_refused(rt: HostRuntime) -> Result<(), Fail> {
         start: 0,
         why: RefusedWhy::Tag,
     };
-    ran.check(&rt, &link, &received, &[SEALED_AT_11], &[(24, refused)]);
+    let wanted = Wanted {
+        link: link.as_slice(),
+        device: received.as_slice(),
+        sealed: &[SEALED_AT_11],
+        checked: &[(24, refused)],
+    };
+    ran.check(&rt, &wanted);
     assert_eq!(rt; (ran.fault, ran.sent, ran.got), (None, 1, 0));
     Ok(())
 }
@@ -288,7 +303,13 @@ fn both_directions_use_numbers_in_one_step(rt: HostRuntime) -> Result<(), Fail> 
         len: 8,
     };
     let (sent, received) = (line_of(alloc, &sent, 50)?, line_of(alloc, &received, 50)?);
-    ran.check(&rt, &sent, &received, &[(24, sealed)], &[(24, passed)]);
+    let wanted = Wanted {
+        link: sent.as_slice(),
+        device: received.as_slice(),
+        sealed: &[(24, sealed)],
+        checked: &[(24, passed)],
+    };
+    ran.check(&rt, &wanted);
     assert_eq!(rt; (ran.fault, ran.sent, ran.got), (None, 1, 1));
     Ok(())
 }

@@ -2,7 +2,7 @@
 use crate::outside::{Failing, STEADY};
 use crate::over_boxes::{
     AT_0, AT_1, AT_2, AT_LIMIT, BoxKind, DiskFault, FRESH, Held, KEY, NO_NUMBER, NOTHING, Reading,
-    Row, compare_all, fail_each_call, has_passed,
+    Row, ThreeFrames, compare_all, fail_each_call, has_passed,
 };
 use device_model::RtuDevice;
 use hmac_tag::Dir;
@@ -307,45 +307,49 @@ const SEVEN_NOTES: &[u8] =
     b"passed 1 at 0 len 8\nrefused at 100 form\npassed 3 at 200 len 8\nrefused at 300 tag\n\
         passed 4 at 400 len 8\npassed 6 at 500 len 8\nrefused at 600 tag\n";
 
-const READ: [Reading; 4] = [
-    (
-        PACKET,
-        b"passed 1 at 0 len 8\n",
-        b"read at 18 01030000000ac5cd\n",
-    ),
-    (
-        b"+01030000000ac5cd\n-3\n+0001014c5b8d33c6d29a347013b1\n-47\n",
-        b"refused at 0 tag\n",
-        b"",
-    ),
-    (b"+01030000000ac5cc\n-4\n", b"refused at 0 trailer\n", b""),
-    (
-        SEVEN_PACKETS,
-        SEVEN_NOTES,
-        b"read at 18 01030000000ac5cd\nread at 218 1103006b00037687\n\
+const READ: [Reading<'static>; 4] = [
+    Reading {
+        text: PACKET,
+        notes: b"passed 1 at 0 len 8\n",
+        frames: b"read at 18 01030000000ac5cd\n",
+    },
+    Reading {
+        text: b"+01030000000ac5cd\n-3\n+0001014c5b8d33c6d29a347013b1\n-47\n",
+        notes: b"refused at 0 tag\n",
+        frames: b"",
+    },
+    Reading {
+        text: b"+01030000000ac5cc\n-4\n",
+        notes: b"refused at 0 trailer\n",
+        frames: b"",
+    },
+    Reading {
+        text: SEVEN_PACKETS,
+        notes: SEVEN_NOTES,
+        frames: b"read at 18 01030000000ac5cd\nread at 218 1103006b00037687\n\
             read at 418 01030000000ac5cd\nread at 518 1103006b00037687\n",
-    ),
+    },
 ];
 
 #[test]
 fn a_device_reads_what_passed(rt: HostRuntime) -> Result<(), Fail> {
-    for (text, notes, frames) in &READ {
-        has_passed::<RtuDevice>(&rt, rt.alloc(), BoxKind::CheckRtu, text, notes, frames)?;
+    for row in &READ {
+        has_passed::<RtuDevice>(&rt, rt.alloc(), BoxKind::CheckRtu, row)?;
     }
     Ok(())
 }
 
-const THREE_PACKETS: &[u8] =
-    b"+01030000000ac5cd\n-3\n+0001014c5b8d33c6d29a347013b0\n-4\n+010300000001840a\n-3\n\
+const THREE_PACKETS: ThreeFrames = ThreeFrames {
+    text: b"+01030000000ac5cd\n-3\n+0001014c5b8d33c6d29a347013b0\n-4\n+010300000001840a\n-3\n\
         +0002ee5b1d1d6fc159af2411aeb5\n-4\n+1103006b00037687\n-3\n+00037f89dbbfa5b4b19474035c96\n\
-        -7\n";
-
-const THREE_NOTES: [&[u8]; 4] = [
-    b"",
-    b"passed 1 at 0 len 8\n",
-    b"passed 1 at 0 len 8\npassed 2 at 29 len 8\n",
-    b"passed 1 at 0 len 8\npassed 2 at 29 len 8\npassed 3 at 58 len 8\n",
-];
+        -7\n",
+    notes: &[
+        b"",
+        b"passed 1 at 0 len 8\n",
+        b"passed 1 at 0 len 8\npassed 2 at 29 len 8\n",
+        b"passed 1 at 0 len 8\npassed 2 at 29 len 8\npassed 3 at 58 len 8\n",
+    ],
+};
 
 /// What the receiver sends for three packets before the tick of the last byte of the first trailer,
 /// of the second and of the third, and up to the end.
@@ -378,8 +382,7 @@ fn a_failed_call_of_the_disk_passes_no_number_twice(rt: HostRuntime) -> Result<(
         &rt,
         rt.alloc(),
         BoxKind::CheckRtu,
-        THREE_PACKETS,
-        &THREE_NOTES,
+        &THREE_PACKETS,
         &DISK_FAULTS,
     )
 }

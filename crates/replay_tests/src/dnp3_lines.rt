@@ -1,6 +1,8 @@
 //! Tests of both boxes and the device over lines of DNP3.
 use crate::outside::STEADY;
-use crate::over_boxes::{AT_0, AT_1, AT_2, BoxKind, FRESH, KEY, Row, compare_all, has_passed};
+use crate::over_boxes::{
+    AT_0, AT_1, AT_2, BoxKind, FRESH, KEY, Reading, Row, compare_all, has_passed,
+};
 use crate::texts::add_times;
 use device_model::DnpDevice;
 use hmac_tag::Dir;
@@ -227,11 +229,20 @@ const FRAMES: [&[u8]; 10] = [
     b"read at 102 056405c001000004e921\n",
 ];
 
+// Checks that a device behind the receiver reads these frames of the link of a row.
+fn reads_what_passed(rt: &impl Abort, alloc: Global, row: &Row, frames: &[u8]) -> Result<(), Fail> {
+    let reading = Reading {
+        text: row.text,
+        notes: row.log,
+        frames,
+    };
+    has_passed::<DnpDevice>(rt, alloc, BoxKind::CheckDnp, &reading)
+}
+
 #[test]
 fn a_dnp3_device_reads_what_passed(rt: HostRuntime) -> Result<(), Fail> {
     for (row, frames) in CHECKS.iter().zip(FRAMES.iter()) {
-        let kind = BoxKind::CheckDnp;
-        has_passed::<DnpDevice>(&rt, rt.alloc(), kind, row.text, row.log, frames)?;
+        reads_what_passed(&rt, rt.alloc(), row, frames)?;
     }
     Ok(())
 }
@@ -286,9 +297,12 @@ fn costs_no_other(rt: &impl Abort, alloc: Global, len: usize) -> Result<(), Fail
         b"refused at 0 trailer\npassed 1 at 700 len 10\n"
     };
     let text = cut_at(alloc, len)?;
-    let frames = b"read at 718 056405c001000004e921\n";
-    let kind = BoxKind::CheckDnp;
-    has_passed::<DnpDevice>(rt, alloc, kind, text.as_slice(), notes, frames)
+    let reading = Reading {
+        text: text.as_slice(),
+        notes,
+        frames: b"read at 718 056405c001000004e921\n",
+    };
+    has_passed::<DnpDevice>(rt, alloc, BoxKind::CheckDnp, &reading)
 }
 
 // The longest frame, cut at every length. A refused frame is filled, so that the device is ready

@@ -10,7 +10,7 @@ ghost use Rattle.yasir_ticks.specs.declared.TheConstants.{MAX_TICKS};
 use crate::fresh::{FreshJournal, fresh_disk, load_fresh};
 use crate::over_boxes::{KEY, run_ends};
 use crate::packets::{self, DNP_PACKET, LINKS, Link, RTU_PACKET, packet_of};
-use crate::receiver_runs::{alike, link_of, part_at};
+use crate::receiver_runs::{Burst, NO_BURST, alike, front_with, link_of, part_at};
 use crate::texts::repeated;
 use box_command::LineBox;
 use burst_walk::RunBytes;
@@ -318,29 +318,22 @@ fn checks(
     }
 }
 
-// The frame of a packet, `pause` silent ticks, and a burst of `count` bytes.
-fn frame_and_burst(
-    alloc: Global,
-    link: Link,
-    pause: usize,
-    count: usize,
-) -> Result<Vec<u8>, AllocError> {
+// The frame of a packet, and this burst.
+fn frame_and_burst(alloc: Global, link: Link, burst: Burst) -> Result<Vec<u8>, AllocError> {
     let packet = packet_of(link);
     let frame = alike(packet, 1000);
-    link_of(alloc, packet, frame, frame, pause, count)
+    link_of(alloc, packet, &front_with(frame, burst))
 }
 
-// Checks that a transmitter takes the frame of a packet, `pause` silent ticks and a burst of
-// `count` bytes in at most `most` turns.
+// Checks that a transmitter takes the frame of a packet and a burst in at most `most` turns.
 fn seals_frame(
     rt: &impl Abort,
     alloc: Global,
     link: Link,
-    pause: usize,
-    count: usize,
+    burst: Burst,
     most: usize,
 ) -> Result<(), Fail> {
-    let line = frame_and_burst(alloc, link, pause, count)?;
+    let line = frame_and_burst(alloc, link, burst)?;
     seals(rt, alloc, link, line.as_slice(), most)
 }
 
@@ -354,21 +347,20 @@ fn checks_packet(
     most: usize,
 ) -> Result<(), Fail> {
     let packet = packet_of(link);
-    let line = link_of(alloc, packet, packet.len(), packet.len(), 0, count)?;
+    let joined = front_with(packet.len(), Burst { pause: 0, count });
+    let line = link_of(alloc, packet, &joined)?;
     checks(rt, alloc, link, line.as_slice(), most)
 }
 
-// Checks that a receiver takes the frame of a packet, `pause` silent ticks and a burst of `count`
-// bytes in at most `most` turns.
+// Checks that a receiver takes the frame of a packet and a burst in at most `most` turns.
 fn checks_frame(
     rt: &impl Abort,
     alloc: Global,
     link: Link,
-    pause: usize,
-    count: usize,
+    burst: Burst,
     most: usize,
 ) -> Result<(), Fail> {
-    let line = frame_and_burst(alloc, link, pause, count)?;
+    let line = frame_and_burst(alloc, link, burst)?;
     checks(rt, alloc, link, line.as_slice(), most)
 }
 
@@ -384,7 +376,7 @@ const TURNS_OF_AN_EARLY_BURST: usize = 10;
 #[test]
 fn frames_are_sealed_in_few_turns(rt: HostRuntime) -> Result<(), Fail> {
     for link in LINKS {
-        seals_frame(&rt, rt.alloc(), link, 0, 0, TURNS_OF_A_FRAME)?;
+        seals_frame(&rt, rt.alloc(), link, NO_BURST, TURNS_OF_A_FRAME)?;
     }
     Ok(())
 }
@@ -394,10 +386,15 @@ fn seals_no_burst(rt: &impl Abort, alloc: Global, link: Link) -> Result<(), Fail
     let packet = packet_of(link);
     let behind = packet.len() + 1 - alike(packet, 1000).min(packet.len());
     // A burst that is early while the trailer goes out, and one that is early after it.
-    seals_frame(rt, alloc, link, 6, 8, TURNS_OF_AN_EARLY_BURST)?;
-    seals_frame(rt, alloc, link, behind, 4, TURNS_OF_AN_EARLY_BURST)?;
+    let during = Burst { pause: 6, count: 8 };
+    seals_frame(rt, alloc, link, during, TURNS_OF_AN_EARLY_BURST)?;
+    let after = Burst {
+        pause: behind,
+        count: 4,
+    };
+    seals_frame(rt, alloc, link, after, TURNS_OF_AN_EARLY_BURST)?;
     // Bytes that join the frame and aren't live are one more run.
-    seals_frame(rt, alloc, link, 2, 5, 6)
+    seals_frame(rt, alloc, link, Burst { pause: 2, count: 5 }, 6)
 }
 
 #[test]
@@ -429,8 +426,9 @@ fn packets_are_checked_in_few_turns(rt: HostRuntime) -> Result<(), Fail> {
 #[test]
 fn bursts_that_do_not_pass_take_few_turns(rt: HostRuntime) -> Result<(), Fail> {
     for link in LINKS {
-        checks_frame(&rt, rt.alloc(), link, 0, 0, TURNS_OF_A_PACKET)?;
-        checks_frame(&rt, rt.alloc(), link, 4, 4, TURNS_OF_A_PACKET + 2)?;
+        checks_frame(&rt, rt.alloc(), link, NO_BURST, TURNS_OF_A_PACKET)?;
+        let soon = Burst { pause: 4, count: 4 };
+        checks_frame(&rt, rt.alloc(), link, soon, TURNS_OF_A_PACKET + 2)?;
     }
     Ok(())
 }

@@ -1,8 +1,7 @@
 //! A test that notes reach the log before their ticks reach the output.
 use crate::outside::{Failing, STEADY};
-use crate::over_boxes::{BoxKind, FRESH, KEY, Ran, replay};
+use crate::over_boxes::{BoxKind, FRESH, Ran, line_given, replay};
 use crate::texts::repeated;
-use hmac_tag::Dir;
 use replay_status::Status;
 use std::alloc::Global;
 use std::process::Abort;
@@ -15,8 +14,8 @@ const BURSTS: usize = 1500;
 fn seal_and_fail(alloc: Global) -> Result<Ran, Fail> {
     let text = repeated(alloc, b"+01030000000ac5cd\n-40\n", BURSTS)?;
     let failing = Failing { out: 1, ..STEADY };
-    let kind = BoxKind::SealRtu;
-    replay(alloc, kind, Dir::Ab, KEY, FRESH, text.as_slice(), &failing)
+    let given = line_given(text.as_slice(), &failing);
+    replay(alloc, BoxKind::SealRtu, &given, FRESH)
 }
 
 // Checks that a log has the notes of all trailers that can wait at once.

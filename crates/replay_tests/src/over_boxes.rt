@@ -130,6 +130,26 @@ pub struct Row {
     pub slots_now: Numbers,
 }
 
+/// What a box is run over, except its disk: its direction, its key, the text of its line, and what
+/// fails outside.
+#[derive(Clone, Copy)]
+pub struct Given<'a> {
+    pub dir: Dir,
+    pub key: &'a [u8],
+    pub text: &'a [u8],
+    pub failing: &'a Failing,
+}
+
+/// The line of this text in direction `ab`, with the key of all boxes.
+pub fn line_given<'a>(text: &'a [u8], failing: &'a Failing) -> Given<'a> {
+    Given {
+        dir: Dir::Ab,
+        key: KEY,
+        text,
+        failing,
+    }
+}
+
 /// Runs a box over these ends, with `rest` silent ticks after a whole input.
 pub fn run_ends<B: LineBox, K: Source, S: Source, O: Sink, L: Sink, D: SlotDisk>(
     dir: Dir,
@@ -143,23 +163,22 @@ pub fn run_ends<B: LineBox, K: Source, S: Source, O: Sink, L: Sink, D: SlotDisk>
     replay_box::<B, K, S, O, L, D>(&link, dir, rest, ends)
 }
 
-// Runs a box with this key over the line of this text. The fault line follows the notes in the log.
+// Runs a box over what is given and this disk, with `rest` silent ticks after a whole input. The
+// fault line follows the notes in the log.
 fn replay_by<B: LineBox>(
     alloc: Global,
     rest: u32,
-    dir: Dir,
-    key: &[u8],
+    given: &Given<'_>,
     disk: MemSlots,
-    text: &[u8],
-    failing: &Failing,
 ) -> Result<Ran, Fail>
     requires widths { B.widths_fit }
     requires links { AreLinks B.link_in }
 {
+    let failing = given.failing;
     let (mut out, mut log) = sinks(alloc, (8000, 40000), 512, failing)?;
     let mut disk = disk;
-    let mut key = source(key, 512, failing.key);
-    let mut input = source(text, 512, failing.input);
+    let mut key = source(given.key, 512, failing.key);
+    let mut input = source(given.text, 512, failing.input);
     let ends = Ends {
         key: &mut key,
         input: &mut input,
@@ -167,6 +186,7 @@ fn replay_by<B: LineBox>(
         log: &mut log,
         disk: &mut disk,
     };
+    let dir = given.dir;
     let status = run_ends::<B, MemSource, MemSource, MemSink, MemSink, MemSlots>(dir, rest, ends);
     write_fault(&mut log, &status);
     Ok(Ran {
@@ -177,55 +197,38 @@ fn replay_by<B: LineBox>(
     })
 }
 
-/// Runs a box of the program with this key over the line of this text. The fault line follows the
-/// notes in the log. As many silent ticks follow a whole input as in the program.
+/// Runs a box of the program over what is given, and over a disk whose slots A and B hold these
+/// numbers. The fault line follows the notes in the log. As many silent ticks follow a whole input
+/// as in the program.
 pub fn replay(
     alloc: Global,
     kind: BoxKind,
-    dir: Dir,
-    key: &[u8],
+    given: &Given<'_>,
     slots: Numbers,
-    text: &[u8],
-    failing: &Failing,
 ) -> Result<Ran, Fail> {
-    let disk = disk_of(alloc, slots, &link_of(kind, dir), failing.disk)?;
-    replay_on(alloc, kind, dir, key, disk, text, failing)
+    let disk = disk_of(alloc, slots, &link_of(kind, given.dir), given.failing.disk)?;
+    replay_on(alloc, kind, given, disk)
 }
 
-/// Runs a box of the program over this disk, with this key and this input.
+/// Runs a box of the program over what is given and this disk.
 pub fn replay_on(
     alloc: Global,
     kind: BoxKind,
-    dir: Dir,
-    key: &[u8],
+    given: &Given<'_>,
     disk: MemSlots,
-    text: &[u8],
-    failing: &Failing,
 ) -> Result<Ran, Fail> {
     match kind {
-        BoxKind::SealRtu => {
-            replay_by::<Sealer<Rtu, HmacSha1, 2>>(alloc, 24, dir, key, disk, text, failing)
-        }
-        BoxKind::SealDnp => {
-            replay_by::<Sealer<Dnp, HmacSha1, 2>>(alloc, 24, dir, key, disk, text, failing)
-        }
-        BoxKind::SealRtu24 => {
-            replay_by::<Sealer<Rtu, HmacSha256, 4>>(alloc, 30, dir, key, disk, text, failing)
-        }
-        BoxKind::SealDnp24 => {
-            replay_by::<Sealer<Dnp, HmacSha256, 4>>(alloc, 30, dir, key, disk, text, failing)
-        }
-        BoxKind::CheckRtu => {
-            replay_by::<Checker<Rtu, HmacSha1, 2, 18>>(alloc, 320, dir, key, disk, text, failing)
-        }
-        BoxKind::CheckDnp => {
-            replay_by::<Checker<Dnp, HmacSha1, 2, 18>>(alloc, 320, dir, key, disk, text, failing)
-        }
+        BoxKind::SealRtu => replay_by::<Sealer<Rtu, HmacSha1, 2>>(alloc, 24, given, disk),
+        BoxKind::SealDnp => replay_by::<Sealer<Dnp, HmacSha1, 2>>(alloc, 24, given, disk),
+        BoxKind::SealRtu24 => replay_by::<Sealer<Rtu, HmacSha256, 4>>(alloc, 30, given, disk),
+        BoxKind::SealDnp24 => replay_by::<Sealer<Dnp, HmacSha256, 4>>(alloc, 30, given, disk),
+        BoxKind::CheckRtu => replay_by::<Checker<Rtu, HmacSha1, 2, 18>>(alloc, 320, given, disk),
+        BoxKind::CheckDnp => replay_by::<Checker<Dnp, HmacSha1, 2, 18>>(alloc, 320, given, disk),
         BoxKind::CheckRtu24 => {
-            replay_by::<Checker<Rtu, HmacSha256, 4, 24>>(alloc, 320, dir, key, disk, text, failing)
+            replay_by::<Checker<Rtu, HmacSha256, 4, 24>>(alloc, 320, given, disk)
         }
         BoxKind::CheckDnp24 => {
-            replay_by::<Checker<Dnp, HmacSha256, 4, 24>>(alloc, 320, dir, key, disk, text, failing)
+            replay_by::<Checker<Dnp, HmacSha256, 4, 24>>(alloc, 320, given, disk)
         }
     }
 }
@@ -263,15 +266,13 @@ fn has_results(rt: &impl Abort, ran: &Ran, kind: BoxKind, row: &Row) {
 
 /// Runs a box over the line of a row, and checks that the results are those of the row.
 pub fn compare(rt: &impl Abort, alloc: Global, kind: BoxKind, row: &Row) -> Result<(), Fail> {
-    let ran = replay(
-        alloc,
-        kind,
-        row.dir,
-        row.key,
-        row.slots,
-        row.text,
-        &row.failing,
-    )?;
+    let given = Given {
+        dir: row.dir,
+        key: row.key,
+        text: row.text,
+        failing: &row.failing,
+    };
+    let ran = replay(alloc, kind, &given, row.slots)?;
     has_results(rt, &ran, kind, row);
     Ok(())
 }
@@ -289,22 +290,25 @@ pub fn compare_all(
     Ok(())
 }
 
-/// A link, the notes on it, and the frames that a device behind the receiver reads.
-pub type Reading = (&'static [u8], &'static [u8], &'static [u8]);
+/// The text of a link, the notes on it, and the frames that a device behind the receiver reads.
+#[derive(Clone, Copy)]
+pub struct Reading<'a> {
+    pub text: &'a [u8],
+    pub notes: &'a [u8],
+    pub frames: &'a [u8],
+}
 
-/// Checks that a receiver notes this on a link, and that a device behind the receiver reads these
-/// frames.
+/// Checks that a receiver notes on a link what the row says, and that a device behind the receiver
+/// reads the frames of the row.
 pub fn has_passed<D: Device + Drop>(
     rt: &impl Abort,
     alloc: Global,
     kind: BoxKind,
-    text: &[u8],
-    notes: &[u8],
-    frames: &[u8],
+    row: &Reading<'_>,
 ) -> Result<(), Fail> {
-    let checked = replay(alloc, kind, Dir::Ab, KEY, FRESH, text, &STEADY)?;
-    holds(rt, &checked.log, notes);
-    has_read::<D>(rt, alloc, checked.out.held(), frames)
+    let checked = replay(alloc, kind, &line_given(row.text, &STEADY), FRESH)?;
+    holds(rt, &checked.log, row.notes);
+    has_read::<D>(rt, alloc, checked.out.held(), row.frames)
 }
 
 // The floor that a later run loads from these slots.
@@ -316,6 +320,14 @@ fn floor_of(a: [u8; 24], b: [u8; 24], link: &LinkId) -> Option<u64>
         Ok(journal) => Some(journal.floor()),
         Err(_) => None,
     }
+}
+
+/// The text of a line of three frames, and the notes on none of the frames, on one, on two and on
+/// all three.
+#[derive(Clone, Copy)]
+pub struct ThreeFrames {
+    pub text: &'static [u8],
+    pub notes: &'static [&'static [u8]; 4],
 }
 
 /// Which call of the disk fails, what the box sends, how many notes are written, and the floor that
@@ -391,12 +403,20 @@ fn has_ended_at(
     has_logged(rt, alloc, &ran.log, notes, noted < 3)
 }
 
+// The notes that are written if this call of the disk fails.
+fn notes_at(rt: &impl Abort, line: &ThreeFrames, fault: &DiskFault) -> &'static [u8] {
+    let noted = fault.2;
+    assert!(rt; noted < 4);
+    line.notes[noted]
+}
+
+// Runs a box over a line of three frames, with a fresh journal, and lets this call of the disk
+// fail.
 fn fail_call(
     rt: &impl Abort,
     alloc: Global,
     kind: BoxKind,
-    text: &[u8],
-    notes: &[u8],
+    line: &ThreeFrames,
     fault: &DiskFault,
 ) -> Result<(), Fail> {
     let (call, _, _, floor) = *fault;
@@ -404,7 +424,8 @@ fn fail_call(
         disk: call,
         ..STEADY
     };
-    let ran = replay(alloc, kind, Dir::Ab, KEY, FRESH, text, &failing)?;
+    let notes = notes_at(rt, line, fault);
+    let ran = replay(alloc, kind, &line_given(line.text, &failing), FRESH)?;
     has_ended_at(rt, alloc, &ran, notes, fault)?;
     loads(rt, &ran.disk, &link_of(kind, Dir::Ab), call, floor);
     Ok(())
@@ -412,19 +433,15 @@ fn fail_call(
 
 /// Runs a box over a line of three frames, with a fresh journal, and lets each call of the disk
 /// fail in turn. A journal is loaded with four calls, and each number costs a write and a sync.
-/// `notes` has the notes on none of the frames, on one, on two and on all three.
 pub fn fail_each_call(
     rt: &impl Abort,
     alloc: Global,
     kind: BoxKind,
-    text: &[u8],
-    notes: &[&[u8]; 4],
+    line: &ThreeFrames,
     faults: &[DiskFault; 11],
 ) -> Result<(), Fail> {
     for fault in faults {
-        let noted = fault.2;
-        assert!(rt; noted < 4);
-        fail_call(rt, alloc, kind, text, notes[noted], fault)?;
+        fail_call(rt, alloc, kind, line, fault)?;
     }
     Ok(())
 }

@@ -254,20 +254,25 @@ fn with_millions(alloc: Global, before: &[u8], behind: &[u8]) -> Result<Vec<u8>,
     Ok(text)
 }
 
-// Checks that this text has too many ticks, `count` of them up to the end of the line that is
-// refused.
-fn is_too_long(
-    rt: &impl Abort,
-    alloc: Global,
-    text: &[u8],
+/// A text that has too many ticks, how many there are up to the end of the line that is refused,
+/// the fault line, and the lines that are printed.
+#[derive(Clone, Copy)]
+struct LongText<'a> {
+    text: &'a [u8],
     count: u64,
-    fault: &[u8],
-    lines: &[u8],
-) -> Result<(), Fail> {
-    let ran = read(rt, alloc, text, &STEADY)?;
-    let what = TooMuch::Ticks;
-    has_status(rt, &ran.status, &Status::TooLong { what, count }, 10);
-    has_printed(rt, &ran, lines, fault);
+    fault: &'static [u8],
+    lines: &'static [u8],
+}
+
+// Checks that a text is refused because it has too many ticks.
+fn is_too_long(rt: &impl Abort, alloc: Global, long: &LongText<'_>) -> Result<(), Fail> {
+    let ran = read(rt, alloc, long.text, &STEADY)?;
+    let too_long = Status::TooLong {
+        what: TooMuch::Ticks,
+        count: long.count,
+    };
+    has_status(rt, &ran.status, &too_long, 10);
+    has_printed(rt, &ran, long.lines, long.fault);
     Ok(())
 }
 
@@ -282,22 +287,25 @@ fn is_whole(rt: &impl Abort, alloc: Global, text: &[u8], lines: &[u8]) -> Result
 #[test]
 fn refuses_too_much_silence(rt: HostRuntime) -> Result<(), Fail> {
     let text = with_millions(rt.alloc(), b"", b"-1000000\n")?;
-    let fault = b"fault: too long 17000000 ticks\n";
-    is_too_long(&rt, rt.alloc(), text.as_slice(), 17000000, fault, b"")
+    let long = LongText {
+        text: text.as_slice(),
+        count: 17000000,
+        fault: b"fault: too long 17000000 ticks\n",
+        lines: b"",
+    };
+    is_too_long(&rt, rt.alloc(), &long)
 }
 
 #[test]
 fn refuses_one_tick_too_much(rt: HostRuntime) -> Result<(), Fail> {
     let text = with_millions(rt.alloc(), b"+01030000000ac5cd\n", b"-777209\n")?;
-    let fault = b"fault: too long 16777217 ticks\n";
-    is_too_long(
-        &rt,
-        rt.alloc(),
-        text.as_slice(),
-        16777217,
-        fault,
-        REQUEST_LINE,
-    )
+    let long = LongText {
+        text: text.as_slice(),
+        count: 16777217,
+        fault: b"fault: too long 16777217 ticks\n",
+        lines: REQUEST_LINE,
+    };
+    is_too_long(&rt, rt.alloc(), &long)
 }
 
 #[test]

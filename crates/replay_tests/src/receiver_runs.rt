@@ -1,6 +1,7 @@
 //! Tests that the receiver returns for a run of ticks what it returns for them one by one, whatever
 //! the length of the runs and wherever a link is cut into them.
-ghost use Rattle.std.specs.Prelude.{◌≡◌, ◌+◌, ◌<◌, ◌≤◌, length, OnOk, IfOk};
+ghost use Rattle.std.specs.Prelude.{◌≡◌, ◌+◌, ◌<◌, ◌≤◌, length, OnOk, IfOk, Some};
+ghost use Rattle.yasir_io.specs.Steady.{steady_slots};
 ghost use Rattle.link_box.specs.Links.{link_by};
 ghost use Rattle.sequence_journal.specs.Journal.{journal_link, Fits};
 ghost use Rattle.check_receiver.specs.Stands.{direction_of, ticks_taken};
@@ -15,11 +16,9 @@ use hmac_tag::{Dir, HmacSha1, HmacSha256, Mac};
 use line_rules::LineRules;
 use link_box::LinkBox;
 use rtu_frame::Rtu;
-use sequence_journal::Journal;
 use std::alloc::{AllocError, Global};
 use std::process::Abort;
 use std::test::Fail;
-use yasir_io::SlotDisk;
 use yasir_ticks::Tick;
 
 type RtuChecker = Checker<Rtu, HmacSha1, 2, 18>;
@@ -121,62 +120,82 @@ fn take_run<R: LineRules, M: Mac, const B: usize, const D: usize>(
 
 // Gives the receiver letters that are all silence or all bytes: as a run or, if it takes none so,
 // the first one by a step. Checks that it returns what is wanted. Returns how many letters it took.
-fn take<R: LineRules, M: Mac, S: SlotDisk, const B: usize, const D: usize>(
+fn take<R: LineRules, M: Mac, const B: usize, const D: usize>(
     rt: &impl Abort,
     checker: &mut Checker<R, M, B, D>,
-    journal: &mut Journal,
-    disk: &mut S,
+    fresh: &mut FreshJournal,
     part: &[u8],
     wanted: &[BoxStep<CheckNote>],
 ) -> Result<usize, Fail>
     requires room { ticks_taken checker.old + length part.now ≤ 1000 }
     requires some { 0 < length part.now }
-    requires of_link { journal_link journal.old
+    requires of_link { journal_link fresh.old.journal
         ≡ link_by R.LineRules M.Mac B (direction_of checker.old) }
-    requires fits { Fits journal.old (S.told disk.old) }
+    requires fits { Fits fresh.old.journal (Some (steady_slots fresh.old.disk)) }
     ensures some { IfOk result (λ count. 0 < count) }
     ensures within { IfOk result (λ count. count ≤ length part.now) }
     ensures taken { IfOk result (λ count. ticks_taken checker.new
         ≡ ticks_taken checker.old + count) }
-    ensures of_link { OnOk result (journal_link journal.new
+    ensures of_link { OnOk result (journal_link fresh.new.journal
         ≡ link_by R.LineRules M.Mac B (direction_of checker.new)) }
-    ensures fits { OnOk result (Fits journal.new (S.told disk.new)) }
+    ensures fits { OnOk result (Fits fresh.new.journal (Some (steady_slots fresh.new.disk))) }
 {
     let count = take_run(rt, checker, part, wanted);
     if count > 0 {
         return Ok(count);
     }
-    let step = step_by(checker, journal, disk, part[0])?;
+    let step = step_by(checker, &mut fresh.journal, &mut fresh.disk, part[0])?;
     assert!(rt; wanted.first() == Some(&step));
     Ok(1)
 }
 
-// Compares a receiver that takes a link by runs with the steps of one that takes it tick by tick. A
-// run ends at the cut, and those after it have at most `most` ticks. Returns how many runs and
-// single steps it took.
-fn follow<R: LineRules, M: Mac, S: SlotDisk, const B: usize, const D: usize>(
+/// A link, and what a receiver returns for its ticks one by one.
+#[derive(Clone, Copy)]
+struct Stepped<'a> {
+    link: &'a [u8],
+    steps: &'a [BoxStep<CheckNote>],
+}
+
+/// How a link is cut into runs: one ends at place `at`, and those after it have at most `most`
+/// ticks.
+#[derive(Clone, Copy)]
+struct Cut {
+    at: usize,
+    most: usize,
+}
+
+/// A cut that divides no run of the links in this file.
+const UNCUT: Cut = Cut { at: 0, most: 1000 };
+
+// How many ticks a run that begins at this place has at most.
+fn room_at(cut: Cut, place: usize) -> usize {
+    if place < cut.at {
+        return cut.at - place;
+    }
+    cut.most
+}
+
+// Compares a receiver that takes a link by runs, with this cut, with the steps of one that takes it
+// tick by tick. Returns how many runs and single steps it took.
+fn follow<R: LineRules, M: Mac, const B: usize, const D: usize>(
     rt: &impl Abort,
     checker: &mut Checker<R, M, B, D>,
-    journal: &mut Journal,
-    disk: &mut S,
-    link: &[u8],
-    wanted: &[BoxStep<CheckNote>],
-    cut: usize,
-    most: usize,
+    fresh: &mut FreshJournal,
+    stepped: &Stepped<'_>,
+    cut: Cut,
 ) -> Result<usize, Fail>
     requires begun { ticks_taken checker.old ≡ 0 }
-    requires of_link { journal_link journal.old
+    requires of_link { journal_link fresh.old.journal
         ≡ link_by R.LineRules M.Mac B (direction_of checker.old) }
-    requires fits { Fits journal.old (S.told disk.old) }
-    requires short { length link.now < 1000 }
+    requires fits { Fits fresh.old.journal (Some (steady_slots fresh.old.disk)) }
+    requires short { length stepped.now.link.now < 1000 }
 {
-    assert!(rt; wanted.len() == link.len());
+    assert!(rt; stepped.steps.len() == stepped.link.len());
     let mut place = 0;
     let mut turns = 0;
-    while place < link.len() {
-        let room = if place < cut { cut - place } else { most };
-        let part = part_at(rt, link, place, room);
-        place += take(rt, checker, journal, disk, part, &wanted[place..])?;
+    while place < stepped.link.len() {
+        let part = part_at(rt, stepped.link, place, room_at(cut, place));
+        place += take(rt, checker, fresh, part, &stepped.steps[place..])?;
         turns += 1;
     }
     Ok(turns)
@@ -201,13 +220,10 @@ fn packet_of(receiver: Receiver) -> &'static [u8] {
 
 // Uses a receiver of this type that has taken no tick, with a new journal and its disk.
 macro_rules! over_fresh {
-    ($receiver:ty, $checker:ident, $journal:ident, $disk:ident, $use:expr) => {{
+    ($receiver:ty, $checker:ident, $fresh:ident, $use:expr) => {{
         let mut $checker: $receiver = Checker::new(&KEY.to_be_bytes(), Dir::Ab);
         let served = <$receiver>::link(Dir::Ab);
-        let FreshJournal {
-            journal: mut $journal,
-            disk: mut $disk,
-        } = load_fresh(&served)?;
+        let mut $fresh = load_fresh(&served)?;
         $use
     }};
 }
@@ -220,38 +236,27 @@ pub fn rtu_steps(alloc: Global, link: &[u8]) -> Result<Vec<BoxStep<CheckNote>>, 
     over_fresh!(
         RtuChecker,
         checker,
-        journal,
-        disk,
-        { steps(alloc, &mut checker, &mut journal, &mut disk, link) }
+        fresh,
+        {
+            steps(
+                alloc,
+                &mut checker,
+                &mut fresh.journal,
+                &mut fresh.disk,
+                link
+            )
+        }
     )
 }
 
-fn follow_rtu(
-    rt: &impl Abort,
-    link: &[u8],
-    wanted: &[BoxStep<CheckNote>],
-    cut: usize,
-    most: usize,
-) -> Result<usize, Fail>
-    requires short { length link.now < 1000 }
+fn follow_rtu(rt: &impl Abort, stepped: &Stepped<'_>, cut: Cut) -> Result<usize, Fail>
+    requires short { length stepped.now.link.now < 1000 }
 {
     over_fresh!(
         RtuChecker,
         checker,
-        journal,
-        disk,
-        {
-            follow(
-                rt,
-                &mut checker,
-                &mut journal,
-                &mut disk,
-                link,
-                wanted,
-                cut,
-                most
-            )
-        }
+        fresh,
+        { follow(rt, &mut checker, &mut fresh, stepped, cut) }
     )
 }
 
@@ -261,38 +266,27 @@ fn dnp_steps(alloc: Global, link: &[u8]) -> Result<Vec<BoxStep<CheckNote>>, Fail
     over_fresh!(
         DnpChecker,
         checker,
-        journal,
-        disk,
-        { steps(alloc, &mut checker, &mut journal, &mut disk, link) }
+        fresh,
+        {
+            steps(
+                alloc,
+                &mut checker,
+                &mut fresh.journal,
+                &mut fresh.disk,
+                link
+            )
+        }
     )
 }
 
-fn follow_dnp(
-    rt: &impl Abort,
-    link: &[u8],
-    wanted: &[BoxStep<CheckNote>],
-    cut: usize,
-    most: usize,
-) -> Result<usize, Fail>
-    requires short { length link.now < 1000 }
+fn follow_dnp(rt: &impl Abort, stepped: &Stepped<'_>, cut: Cut) -> Result<usize, Fail>
+    requires short { length stepped.now.link.now < 1000 }
 {
     over_fresh!(
         DnpChecker,
         checker,
-        journal,
-        disk,
-        {
-            follow(
-                rt,
-                &mut checker,
-                &mut journal,
-                &mut disk,
-                link,
-                wanted,
-                cut,
-                most
-            )
-        }
+        fresh,
+        { follow(rt, &mut checker, &mut fresh, stepped, cut) }
     )
 }
 
@@ -302,38 +296,27 @@ fn wide_rtu_steps(alloc: Global, link: &[u8]) -> Result<Vec<BoxStep<CheckNote>>,
     over_fresh!(
         WideRtuChecker,
         checker,
-        journal,
-        disk,
-        { steps(alloc, &mut checker, &mut journal, &mut disk, link) }
+        fresh,
+        {
+            steps(
+                alloc,
+                &mut checker,
+                &mut fresh.journal,
+                &mut fresh.disk,
+                link
+            )
+        }
     )
 }
 
-fn follow_wide_rtu(
-    rt: &impl Abort,
-    link: &[u8],
-    wanted: &[BoxStep<CheckNote>],
-    cut: usize,
-    most: usize,
-) -> Result<usize, Fail>
-    requires short { length link.now < 1000 }
+fn follow_wide_rtu(rt: &impl Abort, stepped: &Stepped<'_>, cut: Cut) -> Result<usize, Fail>
+    requires short { length stepped.now.link.now < 1000 }
 {
     over_fresh!(
         WideRtuChecker,
         checker,
-        journal,
-        disk,
-        {
-            follow(
-                rt,
-                &mut checker,
-                &mut journal,
-                &mut disk,
-                link,
-                wanted,
-                cut,
-                most
-            )
-        }
+        fresh,
+        { follow(rt, &mut checker, &mut fresh, stepped, cut) }
     )
 }
 
@@ -348,21 +331,47 @@ fn steps_of(alloc: Global, receiver: Receiver, link: &[u8]) -> Result<Vec<BoxSte
     }
 }
 
-// Compares what a receiver returns for runs with these steps.
+// Compares what a receiver returns for runs with its steps.
 fn follow_by(
     rt: &impl Abort,
     receiver: Receiver,
-    link: &[u8],
-    wanted: &[BoxStep<CheckNote>],
-    cut: usize,
-    most: usize,
+    stepped: &Stepped<'_>,
+    cut: Cut,
 ) -> Result<usize, Fail>
-    requires short { length link.now < 1000 }
+    requires short { length stepped.now.link.now < 1000 }
 {
     match receiver {
-        Receiver::Rtu => follow_rtu(rt, link, wanted, cut, most),
-        Receiver::Dnp => follow_dnp(rt, link, wanted, cut, most),
-        Receiver::WideRtu => { follow_wide_rtu(rt, link, wanted, cut, most) }
+        Receiver::Rtu => follow_rtu(rt, stepped, cut),
+        Receiver::Dnp => follow_dnp(rt, stepped, cut),
+        Receiver::WideRtu => follow_wide_rtu(rt, stepped, cut),
+    }
+}
+
+/// Silent ticks, and the bytes that come after them.
+#[derive(Clone, Copy)]
+pub struct Burst {
+    pub pause: usize,
+    pub count: usize,
+}
+
+/// Neither silent ticks nor bytes.
+pub const NO_BURST: Burst = Burst { pause: 0, count: 0 };
+
+/// What is made of a packet: its first `kept` ticks, with the one at place `wrong` altered if it is
+/// among them, and the burst that follows.
+#[derive(Clone, Copy)]
+pub struct Altered {
+    pub kept: usize,
+    pub wrong: usize,
+    pub burst: Burst,
+}
+
+/// The first `kept` ticks of a packet as they are, and the burst that follows.
+pub fn front_with(kept: usize, burst: Burst) -> Altered {
+    Altered {
+        kept,
+        wrong: kept,
+        burst,
     }
 }
 
@@ -380,42 +389,37 @@ fn add_kept(
     Ok(())
 }
 
-// Adds `pause` silent ticks, a burst of `count` bytes, and silence.
-fn add_burst(link: &mut Vec<u8>, pause: usize, count: usize) -> Result<(), AllocError> {
-    add_times(link, b".", pause)?;
-    add_times(link, b"A", count)?;
+// Adds the silent ticks and the bytes of a burst, and silence.
+fn add_burst(link: &mut Vec<u8>, burst: Burst) -> Result<(), AllocError> {
+    add_times(link, b".", burst.pause)?;
+    add_times(link, b"A", burst.count)?;
     add_times(link, b".", 30)
 }
 
-// The first `kept` ticks of the packet, with the one at place `wrong` altered if it is among them,
-// then `pause` silent ticks, a burst of `count` bytes, and silence.
-pub fn link_of(
-    alloc: Global,
-    packet: &[u8],
-    kept: usize,
-    wrong: usize,
-    pause: usize,
-    count: usize,
-) -> Result<Vec<u8>, AllocError> {
+// The ticks of an altered packet, the burst that follows, and silence.
+pub fn link_of(alloc: Global, packet: &[u8], altered: &Altered) -> Result<Vec<u8>, AllocError> {
     let mut link = Vec::new(alloc);
-    add_kept(&mut link, packet, kept, wrong)?;
-    add_burst(&mut link, pause, count)?;
+    add_kept(&mut link, packet, altered.kept, altered.wrong)?;
+    add_burst(&mut link, altered.burst)?;
     Ok(link)
 }
 
-// Compares runs with these steps over a link, with a cut at each place, and with runs of each
+// Compares runs over a link with its single steps: runs with a cut at each place, and runs of each
 // length up to that of the link.
-fn follow_each(
-    rt: &impl Abort,
-    receiver: Receiver,
-    link: &[u8],
-    wanted: &[BoxStep<CheckNote>],
-) -> Result<(), Fail>
-    requires short { length link.now < 1000 }
+fn follow_each(rt: &impl Abort, receiver: Receiver, stepped: &Stepped<'_>) -> Result<(), Fail>
+    requires short { length stepped.now.link.now < 1000 }
 {
-    for at in 0..link.len() {
-        follow_by(rt, receiver, link, wanted, at, 1000)?;
-        follow_by(rt, receiver, link, wanted, 0, at + 1)?;
+    for at in 0..stepped.link.len() {
+        follow_by(rt, receiver, stepped, Cut { at, most: 1000 })?;
+        follow_by(
+            rt,
+            receiver,
+            stepped,
+            Cut {
+                at: 0,
+                most: at + 1,
+            },
+        )?;
     }
     Ok(())
 }
@@ -425,15 +429,16 @@ fn compare_runs(
     rt: &impl Abort,
     alloc: Global,
     receiver: Receiver,
-    kept: usize,
-    wrong: usize,
-    pause: usize,
-    count: usize,
+    altered: &Altered,
 ) -> Result<(), Fail> {
-    let link = link_of(alloc, packet_of(receiver), kept, wrong, pause, count)?;
+    let link = link_of(alloc, packet_of(receiver), altered)?;
     let link = &link[..link.len().min(999)];
-    let wanted = steps_of(alloc, receiver, link)?;
-    follow_each(rt, receiver, link, wanted.as_slice())
+    let steps = steps_of(alloc, receiver, link)?;
+    let stepped = Stepped {
+        link,
+        steps: steps.as_slice(),
+    };
+    follow_each(rt, receiver, &stepped)
 }
 
 // Compares runs with single ticks for each beginning of the packet, and for the whole packet with
@@ -441,8 +446,13 @@ fn compare_runs(
 fn compare_trailers(rt: &impl Abort, alloc: Global, receiver: Receiver) -> Result<(), Fail> {
     let whole = packet_of(receiver).len();
     for place in 0..whole {
-        compare_runs(rt, alloc, receiver, place, whole, 0, 0)?;
-        compare_runs(rt, alloc, receiver, whole, place, 0, 0)?;
+        compare_runs(rt, alloc, receiver, &front_with(place, NO_BURST))?;
+        let altered = Altered {
+            kept: whole,
+            wrong: place,
+            burst: NO_BURST,
+        };
+        compare_runs(rt, alloc, receiver, &altered)?;
     }
     Ok(())
 }
@@ -453,7 +463,12 @@ fn compare_bursts(rt: &impl Abort, alloc: Global, receiver: Receiver) -> Result<
     let whole = packet_of(receiver).len();
     for pause in [0, 4, 24] {
         for count in [1, 2, 7, 17, 18, 19, 200, 300] {
-            compare_runs(rt, alloc, receiver, whole, whole, pause, count)?;
+            compare_runs(
+                rt,
+                alloc,
+                receiver,
+                &front_with(whole, Burst { pause, count }),
+            )?;
         }
     }
     Ok(())
@@ -462,9 +477,18 @@ fn compare_bursts(rt: &impl Abort, alloc: Global, receiver: Receiver) -> Result<
 fn compare_silence(rt: &impl Abort, alloc: Global, receiver: Receiver) -> Result<(), Fail> {
     let whole = packet_of(receiver).len();
     for pause in 1..25 {
-        compare_runs(rt, alloc, receiver, whole, whole, pause, 3)?;
+        compare_runs(
+            rt,
+            alloc,
+            receiver,
+            &front_with(whole, Burst { pause, count: 3 }),
+        )?;
     }
-    compare_runs(rt, alloc, receiver, whole, whole, 200, 3)
+    let late = Burst {
+        pause: 200,
+        count: 3,
+    };
+    compare_runs(rt, alloc, receiver, &front_with(whole, late))
 }
 
 // Makes the comparisons of `compare_trailers`, `compare_bursts` and `compare_silence`.
@@ -493,22 +517,20 @@ fn runs_are_checked_as_their_ticks_by_the_second_profile(rt: HostRuntime) -> Res
 fn turns_of(rt: &impl Abort, alloc: Global, receiver: Receiver, link: &[u8]) -> Result<usize, Fail>
     requires short { length link.now < 1000 }
 {
-    let wanted = steps_of(alloc, receiver, link)?;
-    follow_by(rt, receiver, link, wanted.as_slice(), 0, 1000)
+    let steps = steps_of(alloc, receiver, link)?;
+    let stepped = Stepped {
+        link,
+        steps: steps.as_slice(),
+    };
+    follow_by(rt, receiver, &stepped, UNCUT)
 }
 
 // Five runs: the frame, the pause, the trailer's bytes while nothing leaves, those while the frame
 // leaves, and the silence after them. Two single steps: the verdict, and the frame's last byte.
 #[test]
 fn a_packet_is_taken_in_seven_turns(rt: HostRuntime) -> Result<(), Fail> {
-    let link = link_of(
-        rt.alloc(),
-        RTU_PACKET,
-        RTU_PACKET.len(),
-        RTU_PACKET.len(),
-        0,
-        0,
-    )?;
+    let whole = front_with(RTU_PACKET.len(), NO_BURST);
+    let link = link_of(rt.alloc(), RTU_PACKET, &whole)?;
     let link = &link[..link.len().min(999)];
     let turns = turns_of(&rt, rt.alloc(), Receiver::Rtu, link)?;
     assert!(rt; link.len() == 55);

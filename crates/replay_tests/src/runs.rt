@@ -2,8 +2,7 @@
 ghost use Rattle.std.specs.Prelude.{◌<◌};
 
 use crate::outside::STEADY;
-use crate::over_boxes::{BoxKind, FRESH, KEY, Ran, replay};
-use hmac_tag::Dir;
+use crate::over_boxes::{BoxKind, FRESH, Ran, line_given, replay};
 use replay_status::Status;
 use std::alloc::{AllocError, Global};
 use std::process::Abort;
@@ -55,15 +54,8 @@ fn seal_bursts(alloc: Global, len: usize, most: usize) -> Result<Ran, Fail>
 {
     let mut text = Vec::new(alloc);
     push_bursts(&mut text, len, most)?;
-    replay(
-        alloc,
-        BoxKind::SealRtu,
-        Dir::Ab,
-        KEY,
-        FRESH,
-        text.as_slice(),
-        &STEADY,
-    )
+    let given = line_given(text.as_slice(), &STEADY);
+    replay(alloc, BoxKind::SealRtu, &given, FRESH)
 }
 
 // Checks that bursts in lines of `most` bytes were sealed like those in single bytes.

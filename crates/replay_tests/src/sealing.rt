@@ -2,7 +2,7 @@
 use crate::outside::{Failing, STEADY};
 use crate::over_boxes::{
     AT_0, AT_1, AT_2, AT_LIMIT, BoxKind, DiskFault, FRESH, Held, KEY, NO_NUMBER, NOTHING, Ran, Row,
-    compare_all, fail_each_call, holds, replay,
+    ThreeFrames, compare_all, fail_each_call, holds, line_given, replay,
 };
 use crate::texts::repeated;
 use hmac_tag::Dir;
@@ -126,15 +126,8 @@ fn longest_frame(alloc: Global, behind: &[u8]) -> Result<Vec<u8>, AllocError> {
 // Seals the longest frame.
 fn seal_longest(alloc: Global) -> Result<Ran, Fail> {
     let text = longest_frame(alloc, b"")?;
-    replay(
-        alloc,
-        BoxKind::SealRtu,
-        Dir::Ab,
-        KEY,
-        FRESH,
-        text.as_slice(),
-        &STEADY,
-    )
+    let given = line_given(text.as_slice(), &STEADY);
+    replay(alloc, BoxKind::SealRtu, &given, FRESH)
 }
 
 // Checks that a sink holds the longest frame and its trailer.
@@ -153,14 +146,15 @@ fn seals_the_longest_frame(rt: HostRuntime) -> Result<(), Fail> {
     Ok(())
 }
 
-const THREE_FRAMES: &[u8] = b"+01030000000ac5cd\n-21\n+010300000001840a\n-21\n+1103006b00037687\n";
-
-const THREE_NOTES: [&[u8]; 4] = [
-    b"",
-    b"sealed 1 at 0 len 8\n",
-    b"sealed 1 at 0 len 8\nsealed 2 at 29 len 8\n",
-    b"sealed 1 at 0 len 8\nsealed 2 at 29 len 8\nsealed 3 at 58 len 8\n",
-];
+const THREE_FRAMES: ThreeFrames = ThreeFrames {
+    text: b"+01030000000ac5cd\n-21\n+010300000001840a\n-21\n+1103006b00037687\n",
+    notes: &[
+        b"",
+        b"sealed 1 at 0 len 8\n",
+        b"sealed 1 at 0 len 8\nsealed 2 at 29 len 8\n",
+        b"sealed 1 at 0 len 8\nsealed 2 at 29 len 8\nsealed 3 at 58 len 8\n",
+    ],
+};
 
 /// What the transmitter sends for three frames before the tick that closes the first, the second
 /// and the third, and up to the end.
@@ -198,8 +192,7 @@ fn a_failed_call_of_the_disk_loses_no_number(rt: HostRuntime) -> Result<(), Fail
         &rt,
         rt.alloc(),
         BoxKind::SealRtu,
-        THREE_FRAMES,
-        &THREE_NOTES,
+        &THREE_FRAMES,
         &DISK_FAULTS,
     )
 }

@@ -192,22 +192,22 @@ const SOON_ENOUGH: &[u8] = b"+0564ffc4010000042727\n-306\n+056405c001000004e921\
         +00000001cd525d6a6c119047d45db5ba9f9e4290\n-47\n";
 
 // Links of DNP3, the notes on each, and what a device behind the receiver reads.
-const DNP3_CHECKS: [Reading; 3] = [
-    (
-        DNP3_PACKET,
-        b"passed 1 at 0 len 10\n",
-        b"read at 24 056405c001000004e921\n",
-    ),
-    (
-        TOO_SOON,
-        b"refused at 0 trailer\ndropped at 315 busy\n",
-        b"",
-    ),
-    (
-        SOON_ENOUGH,
-        b"refused at 0 trailer\npassed 1 at 316 len 10\n",
-        b"read at 340 056405c001000004e921\n",
-    ),
+const DNP3_CHECKS: [Reading<'static>; 3] = [
+    Reading {
+        text: DNP3_PACKET,
+        notes: b"passed 1 at 0 len 10\n",
+        frames: b"read at 24 056405c001000004e921\n",
+    },
+    Reading {
+        text: TOO_SOON,
+        notes: b"refused at 0 trailer\ndropped at 315 busy\n",
+        frames: b"",
+    },
+    Reading {
+        text: SOON_ENOUGH,
+        notes: b"refused at 0 trailer\npassed 1 at 316 len 10\n",
+        frames: b"read at 340 056405c001000004e921\n",
+    },
 ];
 
 #[test]
@@ -227,8 +227,8 @@ fn checks_words_of_four_bytes(rt: HostRuntime) -> Result<(), Fail> {
 
 #[test]
 fn checks_words_of_four_bytes_behind_frames_of_dnp3(rt: HostRuntime) -> Result<(), Fail> {
-    for (text, notes, frames) in &DNP3_CHECKS {
-        has_passed::<DnpDevice>(&rt, rt.alloc(), BoxKind::CheckDnp24, text, notes, frames)?;
+    for row in &DNP3_CHECKS {
+        has_passed::<DnpDevice>(&rt, rt.alloc(), BoxKind::CheckDnp24, row)?;
     }
     Ok(())
 }

@@ -1,7 +1,7 @@
 //! Tests of a box over a journal with old slots, which name no link and are taken over, also if a
 //! call of the disk fails, and of a box over a journal of another link.
 use crate::outside::{Failing, STEADY, plan};
-use crate::over_boxes::{BoxKind, KEY, Ran, has_status, holds, replay_on, slots_hold};
+use crate::over_boxes::{BoxKind, Given, KEY, Ran, has_status, holds, replay_on, slots_hold};
 use hmac_tag::Dir;
 use replay_status::Status;
 use sequence_journal::{Journal, LinkId};
@@ -46,7 +46,13 @@ fn seal_over(
 ) -> Result<Ran, Fail> {
     let fail = plan(failing.disk);
     let disk = MemSlots::with_room(alloc, OLD_5, OLD_ONES, *a, *b, 2000, fail)?;
-    replay_on(alloc, BoxKind::SealRtu, dir, KEY, disk, REQUEST, failing)
+    let given = Given {
+        dir,
+        key: KEY,
+        text: REQUEST,
+        failing,
+    };
+    replay_on(alloc, BoxKind::SealRtu, &given, disk)
 }
 
 // Checks that the old slots of a disk are as they were.
