@@ -58,23 +58,25 @@ pub fn disk_of(alloc: Global, row: &Row, fail: Plan) -> Result<MemSlots, Fail> {
     Ok(MemSlots::with_room(alloc, old, OLD_NONE, a, b, 16, fail)?)
 }
 
-/// Runs the program with this key and this input, and with an output whose call of this number
-/// fails.
-pub fn run_over<D: SlotDisk>(
-    alloc: Global,
-    words: &str,
+/// What a run is given, except its disk: its words, the key, the input, and the call of the output
+/// that fails, counted from 1, or 0 if none does.
+#[derive(Clone, Copy)]
+struct Given<'a> {
+    words: &'a str,
     key: &'static [u8],
     text: &'static [u8],
-    fail: u32,
-    disk: &mut D,
-) -> Result<Ran, Fail> {
+    out_fails: u32,
+}
+
+// Runs the program over what is given and this disk.
+fn run_over<D: SlotDisk>(alloc: Global, given: &Given<'_>, disk: &mut D) -> Result<Ran, Fail> {
     let ends = Ends {
-        key: MemSource::new(key, 512, Plan::new()),
-        input: MemSource::new(text, 512, Plan::new()),
-        out: MemSink::with_room(alloc, 800, 512, plan(fail))?,
+        key: MemSource::new(given.key, 512, Plan::new()),
+        input: MemSource::new(given.text, 512, Plan::new()),
+        out: MemSink::with_room(alloc, 800, 512, plan(given.out_fails))?,
         log: MemSink::with_room(alloc, 200, 512, Plan::new())?,
     };
-    run_words(alloc, words, ends, disk)
+    run_words(alloc, given.words, ends, disk)
 }
 
 /// Runs the program with this key and this input over slots of zeros, and with an output whose call
@@ -86,8 +88,13 @@ pub fn run_over_text(
     text: &'static [u8],
     fail: u32,
 ) -> Result<Ran, Fail> {
-    let mut disk = SteadySlots::new([0; 24], [0; 24]);
-    run_over(alloc, words, key, text, fail, &mut disk)
+    let given = Given {
+        words,
+        key,
+        text,
+        out_fails: fail,
+    };
+    run_over(alloc, &given, &mut SteadySlots::new([0; 24], [0; 24]))
 }
 
 /// What words ask for: a command, the places of the paths of its key and its journal, and whether
@@ -651,8 +658,14 @@ const BOXES: [Row; 14] = [
 
 // Checks that a run ends as its row says.
 fn compare(rt: &impl Abort, alloc: Global, row: &Row) -> Result<(), Fail> {
+    let given = Given {
+        words: row.words,
+        key: KEY,
+        text: row.text,
+        out_fails: row.out_fails,
+    };
     let mut disk = disk_of(alloc, row, plan(row.disk_fails))?;
-    let ran = run_over(alloc, row.words, KEY, row.text, row.out_fails, &mut disk)?;
+    let ran = run_over(alloc, &given, &mut disk)?;
     ended(rt, &ran, row.status, row.out, row.log);
     has_exit_status(rt, &ran, row.exit_status);
     has_slots(rt, &disk, slots_at(row.slots_now, &row.link));
@@ -691,8 +704,14 @@ fn path_of(alloc: Global, path: &str) -> Result<Option<String>, AllocError> {
 
 // Runs `init` over the file at this path.
 fn init_at(host: &HostRuntime, path: Option<String>) -> Result<Ran, Fail> {
+    let given = Given {
+        words: "init rtu ab journal",
+        key: KEY,
+        text: b"",
+        out_fails: 0,
+    };
     let mut disk = FileSlots::new(host, path, SlotFile::New);
-    run_over(host.alloc(), "init rtu ab journal", KEY, b"", 0, &mut disk)
+    run_over(host.alloc(), &given, &mut disk)
 }
 
 // Checks that `init` over the file at this path ends with this status and this fault line.
