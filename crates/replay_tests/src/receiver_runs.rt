@@ -229,7 +229,8 @@ macro_rules! over_fresh {
 }
 
 // For each receiver there are two functions: what it returns for the ticks of a link, one by one,
-// and a comparison of that with what it returns for runs.
+// and a comparison of that with what it returns for runs. One function over any receiver couldn't be
+// proved: how much memory a receiver takes isn't known before its rules and its MAC are.
 pub fn rtu_steps(alloc: Global, link: &[u8]) -> Result<Vec<BoxStep<CheckNote>>, Fail>
     requires short { length link.now < 1000 }
 {
