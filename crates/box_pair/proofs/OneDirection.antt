@@ -1,16 +1,14 @@
--- What the steps and runs of a pair are in one of its directions.
+-- What the steps of a pair are in one of its directions.
 use Rattle.box_pair.specs.Pairs.{OneWay, BothWays, HasTaken}
-use Rattle.box_pair.specs.Turns.{Turn, Turns, TakesTurn, HasPassedAlone, notes_from, MakesLine}
-use Rattle.box_pair.specs.Turns.{ticks_from_device, ticks_from_link, ticks_to_link, ticks_to_device}
-use Rattle.box_pair.specs.Turns.{notes_sealed, notes_checked, Turn.stepped, Turn.passed}
+use Rattle.box_pair.specs.Turns.{Turn, Turns, notes_from, MakesLine}
 use Rattle.burst_walk.specs.{Answers.told_notes, Answers.note_in, Walk.Noted}
 use Rattle.link_box.specs.Walking.{full_notes, other_line}
 use Rattle.link_box.specs.declared.box_trait.LinkBox.{Ghosts as LinkBox}
 use Rattle.{link_format.specs.Setup.Setup, sequence_journal.specs.Journal.journal_floor}
-use Rattle.std.proofs.Common.{◌≡◌, ◌∙◌, ℕ, zero, suc, ◌+◌, List, [], ◌∷◌, ◌++◌, length, replicate}
-use Rattle.std.proofs.Common.{Option, None, refl, sym, ap, subst, arith, append_assoc}
-use Rattle.std.proofs.{Common.length-append, lemmas.List.append-nil, lemmas.List.length-replicate}
-use Rattle.{std.specs.List.flat_map, yasir_io.specs.declared.disk.SlotDisk.Ghosts as SlotDisk}
+use Rattle.std.proofs.Common.{◌≡◌, ◌∙◌, ℕ, suc, ◌+◌, List, [], ◌∷◌, ◌++◌, length, map, Option}
+use Rattle.std.proofs.Common.{refl, sym, ap, subst, arith, append_assoc, length-append}
+use Rattle.std.proofs.lemmas.List.{append-nil}
+use Rattle.yasir_io.specs.declared.disk.SlotDisk.{Ghosts as SlotDisk}
 use Rattle.yasir_ticks.specs.declared.tick.Tick.{Tick}
 
 -- notes that follow others
@@ -24,13 +22,6 @@ notes-joined m (n ∷ ns) ms =
     append_assoc (note_in m n) (notes_from (m + 1) ns) (notes_from (m + suc (length ns)) ms)
     ∙ ap (λ l. note_in m n ++ l)
     (ap (λ k. notes_from (m + 1) ns ++ notes_from k ms) next ∙ notes-joined (m + 1) ns ms)
-
--- no notes
-notes-none : {A : Type 0} (m n : ℕ) (none : List (Option A)) → none ≡ replicate n None
-    → notes_from m none ≡ []
-notes-none m zero none is = ap (λ l. notes_from m l) is
-notes-none m (suc n) none is =
-    ap (λ l. notes_from m l) is ∙ notes-none (m + 1) n (replicate n None) refl
 
 module _ {S A X : Type 0} (boxed : LinkBox S A) (d : SlotDisk X) where
   abbrev told : Setup → List Tick → List (Noted A)
@@ -68,24 +59,6 @@ module _ {S A X : Type 0} (boxed : LinkBox S A) (d : SlotDisk X) where
         link = taken.journal.link;
         crash_safe = taken.journal.crash_safe;
       }
-
-  pub makes-run : (old new : OneWay S X) (run answer : List Tick)
-      → HasPassedAlone boxed old new run answer
-      → Makes old new run answer (replicate (length run) None)
-  makes-run old new run answer alone setup line stands =
-      let taken = alone.passed_is.takes (journal_floor old.journal) setup line stands in
-      let P : OneWay S X → Type 0 = λ way.
-      MakesLine boxed d old way setup line run answer (replicate (length run) None) in
-      let nothing : List (Option A) = replicate (length run) None in
-      let none = notes-none (length line) (length run) nothing refl in
-      subst P (sym alone.kept) (record {
-        stands = taken.stands;
-        answers_are = taken.answers.ticks;
-        notes_are = taken.answers.notes
-            ∙ (sym (append-nil (told setup line)) ∙ ap (λ l. told setup line ++ l) (sym none));
-        link = refl;
-        crash_safe = λ safe. safe;
-      })
 
   -- ticks that follow others
   pub makes-more : (old mid new : OneWay S X) (setup : Setup)
@@ -125,79 +98,40 @@ module _ {S A X : Type 0} (boxed : LinkBox S A) (d : SlotDisk X) where
         crash_safe = λ safe. then.crash_safe (first.crash_safe safe);
       }
 
-module _ {S A X T : Type 0} (boxed : LinkBox S A) (d : SlotDisk X) (ticks_of : T → List Tick)
-    (answers_of : T → List Tick) (notes_of : T → List (Option A)) where
+module _ {S A X T : Type 0} (boxed : LinkBox S A) (d : SlotDisk X) (tick_of : T → Tick)
+    (answer_of : T → Tick) (note_of : T → Option A) where
   -- Holds if these turns lead, one after the other, from `old` to `new`.
   abbrev pub Along : OneWay S X → List T → OneWay S X → Type 0
   Along old [] new = old ≡ new
   Along old (x ∷ xs) new = (next : OneWay S X)
-      × (length (notes_of x) ≡ length (ticks_of x))
-      × Makes boxed d old next (ticks_of x) (answers_of x) (notes_of x) × Along next xs new
+      × HasTaken boxed d old next (tick_of x) (answer_of x) (note_of x) × Along next xs new
 
   pub makes-line : (xs : List T) (old new : OneWay S X) → Along old xs new
-      → Makes boxed d old new (flat_map ticks_of xs) (flat_map answers_of xs)
-      (flat_map notes_of xs)
+      → Makes boxed d old new (map tick_of xs) (map answer_of xs) (map note_of xs)
   makes-line [] old new same setup line stands =
       let P : OneWay S X → Type 0 = λ way. MakesLine boxed d old way setup line [] [] [] in
       subst P same (makes-none boxed d old setup line stands)
   makes-line (x ∷ xs) old new along setup line stands =
-      let first = along.2 setup line stands in
-      makes-more boxed d old along.0 new setup line (ticks_of x) (answers_of x)
-      (flat_map ticks_of xs) (flat_map answers_of xs) (notes_of x) (flat_map notes_of xs) along.1
-      first (makes-line xs along.0 new along.3 setup (line ++ ticks_of x) first.stands)
+      let first = makes-step boxed d old along.0 (tick_of x) (answer_of x) (note_of x) along.1 setup
+      line stands in
+      makes-more boxed d old along.0 new setup line (tick_of x ∷ []) (answer_of x ∷ [])
+      (map tick_of xs) (map answer_of xs) (note_of x ∷ []) (map note_of xs) refl
+      first (makes-line xs along.0 new along.2 setup (line ++ tick_of x ∷ []) first.stands)
 
 module _ {S C A B X Y : Type 0} (sends : LinkBox S A) (gets : LinkBox C B) (d : SlotDisk X)
     (e : SlotDisk Y) where
-  -- ---- one turn in each direction
-
-  level-sealed : (turn : Turn A B) → length (notes_sealed turn) ≡ length (ticks_from_device turn)
-  level-sealed (stepped from_device from_link step) = refl
-  level-sealed (passed from_device from_link to_link to_device) =
-      length-replicate (length from_device) None
-
-  level-checked : (turn : Turn A B) → length (notes_checked turn) ≡ length (ticks_from_link turn)
-  level-checked (stepped from_device from_link step) = refl
-  level-checked (passed from_device from_link to_link to_device) =
-      length-replicate (length from_link) None
-
-  turn-outgoing : (turn : Turn A B) (old new : BothWays S C X Y)
-      → TakesTurn sends gets d e old turn new
-      → Makes sends d old.outgoing new.outgoing (ticks_from_device turn) (ticks_to_link turn)
-      (notes_sealed turn)
-  turn-outgoing (stepped from_device from_link step) old new goes =
-      makes-step sends d old.outgoing new.outgoing from_device step.link step.sealed goes.outgoing
-  turn-outgoing (passed from_device from_link to_link to_device) old new goes =
-      makes-run sends d old.outgoing new.outgoing from_device to_link goes.0
-
-  turn-incoming : (turn : Turn A B) (old new : BothWays S C X Y)
-      → TakesTurn sends gets d e old turn new
-      → Makes gets e old.incoming new.incoming (ticks_from_link turn) (ticks_to_device turn)
-      (notes_checked turn)
-  turn-incoming (stepped from_device from_link step) old new goes =
-      makes-step gets e old.incoming new.incoming from_link step.device step.checked goes.incoming
-  turn-incoming (passed from_device from_link to_link to_device) old new goes =
-      makes-run gets e old.incoming new.incoming from_link to_device goes.1
-
-  -- ---- all turns
-
   pub along-outgoing : (turns : List (Turn A B)) (old new : BothWays S C X Y)
       → Turns sends gets d e old turns new
-      → Along sends d ticks_from_device ticks_to_link notes_sealed old.outgoing turns new.outgoing
+      → Along sends d (λ turn. turn.from_device) (λ turn. turn.step.link)
+      (λ turn. turn.step.sealed) old.outgoing turns new.outgoing
   along-outgoing [] old new same = ap (λ ways. ways.outgoing) same
-  along-outgoing (turn ∷ turns) old new steps = (
-    steps.0.outgoing,
-    level-sealed turn,
-    turn-outgoing turn old steps.0 steps.1,
-    along-outgoing turns steps.0 new steps.2,
-  )
+  along-outgoing (turn ∷ turns) old new steps =
+      (steps.0.outgoing, steps.1.outgoing, along-outgoing turns steps.0 new steps.2)
 
   pub along-incoming : (turns : List (Turn A B)) (old new : BothWays S C X Y)
       → Turns sends gets d e old turns new
-      → Along gets e ticks_from_link ticks_to_device notes_checked old.incoming turns new.incoming
+      → Along gets e (λ turn. turn.from_link) (λ turn. turn.step.device)
+      (λ turn. turn.step.checked) old.incoming turns new.incoming
   along-incoming [] old new same = ap (λ ways. ways.incoming) same
-  along-incoming (turn ∷ turns) old new steps = (
-    steps.0.incoming,
-    level-checked turn,
-    turn-incoming turn old steps.0 steps.1,
-    along-incoming turns steps.0 new steps.2,
-  )
+  along-incoming (turn ∷ turns) old new steps =
+      (steps.0.incoming, steps.1.incoming, along-incoming turns steps.0 new steps.2)

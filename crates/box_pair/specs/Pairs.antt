@@ -8,7 +8,6 @@ use Rattle.sequence_journal.specs.declared.journal.JournalFault.{JournalFault}
 use Rattle.sequence_journal.specs.Journal.{journal_floor}
 use Rattle.burst_walk.specs.declared.box_step.BoxStep.{BoxStep}
 use Rattle.link_box.specs.declared.box_trait.LinkBox.{Ghosts as LinkBox}
-use Rattle.link_box.specs.Runs.{TakesRun}
 use Rattle.link_box.specs.Stepping.{Steps, FailsStep, KeepsJournal}
 use Rattle.box_pair.specs.declared.pair.BoxPair.{BoxPair}
 use Rattle.box_pair.specs.declared.pair.PairStep.{PairStep}
@@ -43,14 +42,6 @@ ways_of pair sent sent_disk got got_disk = record {
   outgoing = record { line_box = outgoing_box pair; journal = sent; disk = sent_disk };
   incoming = record { line_box = incoming_box pair; journal = got; disk = got_disk };
 }
-
--- Holds if, in one direction, the box has taken this run as that many steps without a note take it,
--- and has returned these ticks. No number is used, so its journal and disk have no part in it.
-pub record HasPassed {S A : Type 0} (boxed : LinkBox S A) (old new : S) (run answer : List Tick) :
-    Type 0 where
-  pub counted : boxed.taken new ≡ boxed.taken old + length run
-  pub link : boxed.link_of new ≡ boxed.link_of old
-  pub takes : TakesRun boxed.walking boxed.stands old new run answer
 
 module _ {S A X : Type 0} (boxed : LinkBox S A) (d : SlotDisk X) where
   -- Holds if, in one direction, the box has taken this tick and returned this tick of the other

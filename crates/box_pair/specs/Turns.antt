@@ -1,5 +1,5 @@
--- Steps and runs of both directions, one after the other.
-use Rattle.std.specs.Prelude.{◌≡◌, ℕ, ◌+◌, List, [], ◌∷◌, ◌++◌, length, replicate, Option, None}
+-- Steps of both directions, one after the other.
+use Rattle.std.specs.Prelude.{◌≡◌, ℕ, ◌+◌, List, [], ◌∷◌, ◌++◌, length, map, Option}
 use Rattle.yasir_ticks.specs.declared.tick.Tick.{Tick}
 use Rattle.yasir_io.specs.declared.disk.SlotDisk.{Ghosts as SlotDisk}
 use Rattle.burst_walk.specs.Answers.{told_notes, note_in}
@@ -8,65 +8,45 @@ use Rattle.link_format.specs.Setup.{Setup}
 use Rattle.sequence_journal.specs.Journal.{journal_link, journal_floor, IsCrashSafe}
 use Rattle.link_box.specs.declared.box_trait.LinkBox.{Ghosts as LinkBox}
 use Rattle.link_box.specs.Walking.{full_notes, other_line}
-use Rattle.box_pair.specs.Pairs.{OneWay, BothWays, GoesOn, HasPassed}
+use Rattle.box_pair.specs.Pairs.{OneWay, BothWays, GoesOn}
 use Rattle.box_pair.specs.declared.pair.PairStep.{PairStep}
 
--- A step, with what it was given and what it returned, or a run, with what it was given and what
--- was sent on the link and to the device meanwhile.
-pub data Turn (A B : Type 0) : Type 0 where
-  stepped : (from_device from_link : Tick) (step : PairStep A B) → Turn A B
-  passed : (from_device from_link to_link to_device : List Tick) → Turn A B
+-- A step that didn't fail, with what it was given and what it returned.
+pub record Turn (A B : Type 0) : Type 0 where
+  pub from_device : Tick
+  pub from_link : Tick
+  pub step : PairStep A B
 
 module _ {A B : Type 0} where
-  -- the ticks that a turn was given
-  abbrev pub ticks_from_device : Turn A B → List Tick
-  ticks_from_device (stepped from_device from_link step) = from_device ∷ []
-  ticks_from_device (passed from_device from_link to_link to_device) = from_device
+  -- the ticks that steps were given
+  abbrev pub ticks_from_device : List (Turn A B) → List Tick
+  ticks_from_device turns = map (λ turn. turn.from_device) turns
 
-  abbrev pub ticks_from_link : Turn A B → List Tick
-  ticks_from_link (stepped from_device from_link step) = from_link ∷ []
-  ticks_from_link (passed from_device from_link to_link to_device) = from_link
+  abbrev pub ticks_from_link : List (Turn A B) → List Tick
+  ticks_from_link turns = map (λ turn. turn.from_link) turns
 
-  -- the ticks that a turn returned
-  abbrev pub ticks_to_link : Turn A B → List Tick
-  ticks_to_link (stepped from_device from_link step) = step.link ∷ []
-  ticks_to_link (passed from_device from_link to_link to_device) = to_link
+  -- the ticks that steps returned
+  abbrev pub ticks_to_link : List (Turn A B) → List Tick
+  ticks_to_link turns = map (λ turn. turn.step.link) turns
 
-  abbrev pub ticks_to_device : Turn A B → List Tick
-  ticks_to_device (stepped from_device from_link step) = step.device ∷ []
-  ticks_to_device (passed from_device from_link to_link to_device) = to_device
+  abbrev pub ticks_to_device : List (Turn A B) → List Tick
+  ticks_to_device turns = map (λ turn. turn.step.device) turns
 
-  -- the notes of the ticks of a turn; a run has none
-  abbrev pub notes_sealed : Turn A B → List (Option A)
-  notes_sealed (stepped from_device from_link step) = step.sealed ∷ []
-  notes_sealed (passed from_device from_link to_link to_device) = replicate (length from_device) None
+  -- the notes of the ticks of steps
+  abbrev pub notes_sealed : List (Turn A B) → List (Option A)
+  notes_sealed turns = map (λ turn. turn.step.sealed) turns
 
-  abbrev pub notes_checked : Turn A B → List (Option B)
-  notes_checked (stepped from_device from_link step) = step.checked ∷ []
-  notes_checked (passed from_device from_link to_link to_device) = replicate (length from_link) None
-
--- Holds if, in one direction, the box has taken this run, and its journal and disk are as they
--- were.
-pub record HasPassedAlone {S A X : Type 0} (boxed : LinkBox S A) (old new : OneWay S X)
-    (run answer : List Tick) : Type 0 where
-  pub passed_is : HasPassed boxed old.line_box new.line_box run answer
-  pub kept : new ≡ record old { line_box = new.line_box }
+  abbrev pub notes_checked : List (Turn A B) → List (Option B)
+  notes_checked turns = map (λ turn. turn.step.checked) turns
 
 module _ {S C A B X Y : Type 0} (sends : LinkBox S A) (gets : LinkBox C B) (d : SlotDisk X)
     (e : SlotDisk Y) where
-  -- Holds if this turn, a step that didn't fail or a run, leads from `old` to `new`.
-  abbrev pub TakesTurn : BothWays S C X Y → Turn A B → BothWays S C X Y → Type 0
-  TakesTurn old (stepped from_device from_link step) new =
-      GoesOn sends gets d e from_device from_link old new step
-  TakesTurn old (passed from_device from_link to_link to_device) new =
-      HasPassedAlone sends old.outgoing new.outgoing from_device to_link
-      × HasPassedAlone gets old.incoming new.incoming from_link to_device
-
-  -- Holds if these turns, one after the other, lead from `old` to `new`.
+  -- Holds if these steps, one after the other, lead from `old` to `new`.
   abbrev pub Turns : BothWays S C X Y → List (Turn A B) → BothWays S C X Y → Type 0
   Turns old [] new = old ≡ new
   Turns old (turn ∷ turns) new = (next : BothWays S C X Y)
-      × TakesTurn old turn next × Turns next turns new
+      × GoesOn sends gets d e turn.from_device turn.from_link old next turn.step
+      × Turns next turns new
 
 -- the notes of these ticks, the first of which is tick m
 abbrev pub notes_from : {A : Type 0} → ℕ → List (Option A) → List (Noted A)

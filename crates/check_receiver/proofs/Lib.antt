@@ -26,4 +26,3 @@ pub mod Beginnings
 pub mod Fills
 pub mod Uptimes
 pub mod Keeping
-pub mod Noteless

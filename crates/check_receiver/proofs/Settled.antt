@@ -1,5 +1,5 @@
 -- The phase of a receiver after a step.
-use Rattle.check_receiver.specs.Phases.{is_idle, is_open, passes_in, LeftIn, settled}
+use Rattle.check_receiver.specs.Phases.{is_open, passes_in, LeftIn, settled}
 use Rattle.check_receiver.specs.declared.phase.Phase.{Phase}
 use Rattle.check_receiver.specs.declared.phase.Phase.TheVariants.{Idle, Open, Leaving}
 use Rattle.line_rules.specs.{Rules.Rules, declared.line_rules.LineRules.Ghosts as LineRules}
@@ -15,29 +15,6 @@ use Rattle.yasir_ticks.specs.{Bursts.Burst, Ticks.bytes_in}
 use Rattle.yasir_ticks.specs.declared.tick.Tick.{Tick, TheVariants.Silent}
 
 -- ---- what hasn't left yet in a phase
-
-pub idle-is : (p : Phase) → is_idle p ≡ true → p ≡ Idle
-idle-is Idle is = refl
-idle-is Open is = absurd cc
-idle-is (Leaving passed) is = absurd cc
-
--- A receiver is idle exactly if it is at rest.
-pub rest-told : (p : Phase) (until owed : ℕ) → LeftIn p until owed
-    → is_idle p ≡ ((not (is_open p) && not (nat_lt 0 owed)) && until == 0)
-rest-told Idle until owed left =
-    let unowed : nat_lt 0 owed ≡ false = le-ltb _ _ (omega (arith, left.1)) in
-    let none : (until == 0) ≡ true = eq-eqb until 0 left.0 in
-    sym (ap (λ b. (true && not b) && until == 0) unowed ∙ none)
-rest-told Open until owed left = refl
-rest-told (Leaving passed) until owed left =
-    ⊎_elim
-    (λ fills. let owes : nat_lt 0 owed ≡ true = lt-ltb _ _ fills in
-    sym (ap (λ b. (true && not b) && until == 0) owes))
-    (λ unowed.
-    let none : nat_lt 0 owed ≡ false = le-ltb _ _ unowed in
-    let more : (until == 0) ≡ false = ne_eqb until 0 (λ last. omega (arith, left, unowed, last)) in
-    sym (ap (λ b. (true && not b) && until == 0) none ∙ more))
-    (cases_lt 0 owed)
 
 -- If a verdict is open, `LeftIn` asks nothing: the walk says what hasn't left yet.
 pub open-left : (p : Phase) (until owed : ℕ) → is_open p ≡ true → LeftIn p until owed

@@ -6,5 +6,3 @@ pub mod Turning
 pub mod Between
 pub mod Runs
 pub mod Boxed
-pub mod Resting
-pub mod Noteless

@@ -15,12 +15,6 @@ passes_in Idle = false
 passes_in Open = false
 passes_in (Leaving passed) = passed
 
--- whether no verdict is open, and everything has left
-abbrev pub is_idle : Phase → Bool
-is_idle Idle = true
-is_idle Open = false
-is_idle (Leaving passed) = false
-
 -- Holds if these two numbers fit the phase: the last live tick leaves `until` steps from now, and
 -- `owed` bytes of a fill are owed. Both are 0 if the receiver is idle, and not both while a noted
 -- burst is still leaving.

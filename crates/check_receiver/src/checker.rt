@@ -12,8 +12,6 @@ use spoiler::Outlet;
 use yasir_io::SlotDisk;
 use yasir_ticks::{MAX_TICKS, Tick};
 
-mod noteless;
-mod resting;
 mod run_steps;
 mod single_steps;
 mod verdict;

@@ -1,6 +1,6 @@
 //! The phases of a receiver.
 ghost use Rattle.std.specs.Prelude.{◌≡◌};
-ghost use Rattle.check_receiver.specs.Phases.{is_idle, is_open, passes_in, settled};
+ghost use Rattle.check_receiver.specs.Phases.{is_open, passes_in, settled};
 
 /// What a receiver is doing. The first byte of a burst that doesn't start too soon opens its
 /// verdict, and the burst's note ends that. The receiver is then idle as soon as all of the burst
@@ -17,17 +17,6 @@ pub enum Phase {
 }
 
 impl Phase {
-    /// Whether no verdict is open, and everything has left.
-    #[inline]
-    pub fn is_idle(self) -> bool
-        ensures { result ≡ is_idle self }
-    {
-        match self {
-            Phase::Idle => true,
-            Phase::Open | Phase::Leaving { .. } => false,
-        }
-    }
-
     /// Whether a verdict is open.
     #[inline]
     pub fn is_open(self) -> bool

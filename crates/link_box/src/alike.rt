@@ -6,7 +6,7 @@ ghost use Rattle.link_box.specs.Runs.{TakesRun};
 
 use crate::LinkBox;
 use burst_walk::RunBytes;
-use yasir_ticks::{MAX_TICKS, Tick, TickRun};
+use yasir_ticks::{MAX_TICKS, TickRun};
 
 /// The most bytes that are forwarded at once: as many as `RunBytes` has room for.
 const MAX_RUN: usize = 64;
@@ -19,18 +19,6 @@ pub fn put_bytes(sent: &mut RunBytes, bytes: &[u8])
 {
     sent.clear();
     let _ = sent.try_extend_from_slice(bytes);
-}
-
-/// Puts the tick that a box returns for a single tick into `sent`, in place of what is there: its
-/// byte, or nothing if it is silent.
-#[inline]
-pub fn put_tick(sent: &mut RunBytes, tick: Tick)
-    ensures { answered 1 sent.new.items ≡ tick ∷ [] }
-{
-    sent.clear();
-    if let Tick::Byte(byte) = tick {
-        let _ = sent.try_push(byte);
-    }
 }
 
 // Takes as many of the first of these ticks as the box forwards, and returns how many. Puts the

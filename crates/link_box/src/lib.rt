@@ -13,10 +13,6 @@
 
 mod alike;
 mod box_trait;
-mod noteless;
-mod resting;
 
-pub use alike::{put_bytes, put_tick, take_alike};
+pub use alike::{put_bytes, take_alike};
 pub use box_trait::LinkBox;
-pub use noteless::{ForetellingBox, NotelessBox};
-pub use resting::RestingBox;

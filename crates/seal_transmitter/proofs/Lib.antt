@@ -9,5 +9,3 @@ pub mod OpenSilence
 pub mod Beginning
 pub mod Uptimes
 pub mod Keeping
-pub mod RoomLeft
-pub mod Foretelling

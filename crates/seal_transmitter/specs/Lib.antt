@@ -3,5 +3,3 @@ pub mod Stands
 pub mod Boxed
 pub mod Between
 pub mod Runs
-pub mod Resting
-pub mod Foretold

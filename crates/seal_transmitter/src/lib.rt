@@ -11,13 +11,11 @@
 
 mod boxed;
 mod laws;
-mod rooms;
 mod sealer;
 mod silence;
 
 pub use burst_walk::{BoxStep, RunBytes};
 pub use hmac_tag::Dir;
 pub use laws::{longer_lines, steps_are_of_an_uptime};
-pub use rooms::RoomTelling;
 pub use seal_judgements::{SealNote, UnsealedWhy};
 pub use sealer::Sealer;

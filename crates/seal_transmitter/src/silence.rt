@@ -1,4 +1,4 @@
-//! Runs of ticks for the value that cuts a line: silence that closes no burst, and bytes.
+//! Silence for the value that cuts a line, as long as it closes no burst.
 ghost use Rattle.std.specs.Prelude.{◌≡◌, ◌+◌, ◌≤◌, ◌++◌, List, All, length, map};
 ghost use Rattle.yasir_ticks.specs.Ticks.{silent};
 ghost use Rattle.yasir_ticks.specs.declared.tick.Tick.{Tick};
@@ -8,7 +8,7 @@ ghost use Rattle.frame_ending.specs.Stands.{StandsFor, ticks_taken};
 
 use frame_ending::BurstCut;
 use line_rules::LineRules;
-use yasir_ticks::{MAX_TICKS, T3_5_TICKS, Tick};
+use yasir_ticks::{MAX_TICKS, T3_5_TICKS};
 
 /// Takes up to `ticks` silent ticks, as long as none closes a burst. Returns how many it has taken.
 #[inline]
@@ -29,19 +29,4 @@ pub(crate) fn wait_open<R: LineRules>(cut: &mut BurstCut<R>, ticks: u32) -> u32
     let count = ticks.min(u32::from(T3_5_TICKS - 1 - quiet));
     cut.wait_some(count);
     count
-}
-
-/// Takes these bytes, one in each tick: the live ones at once, and then the others, if there are
-/// any.
-#[inline]
-pub(crate) fn cut_all<R: LineRules>(cut: &mut BurstCut<R>, bytes: &[u8])
-    requires { ticks_taken cut.old + length bytes.now ≤ MAX_TICKS }
-    ensures taken { ticks_taken cut.new ≡ ticks_taken cut.old + length bytes.now }
-    ensures stands { (line : List Tick) → StandsFor R.LineRules cut.old line
-        → StandsFor R.LineRules cut.new (line ++ map Byte bytes.now) }
-{
-    let live = cut.go_on_some(bytes);
-    for i in live..bytes.len() {
-        let _ = cut.step(Tick::Byte(bytes[i]));
-    }
 }

@@ -74,10 +74,6 @@ impl<R: LineRules, M: Mac, const B: usize, const D: usize> Checker<R, M, B, D> {
     pub(super) fn go_on(&mut self, byte: u8) -> BoxStep<CheckNote>
         ensures cut { self.new.cut ≡ self.old.cut }
         ensures note { IsNoPass result.note }
-        ensures goes_on { (line : List Tick) → CutStandsFor R.LineRules self.old.cut line
-            → (is_open self.old.phase ≡ true
-            → head_of R.rules (live_bytes_so_far R.rules line) ≡ Bad → ⊥)
-            → result.note ≡ None }
         ensures step { (last : ℕ) (setup : Setup) (line : List Tick) (t : Tick)
             → IsBetween R.LineRules M.Mac self.old last setup line t (Live byte)
             → HasTaken R.LineRules M.Mac self.new last setup line t result }
@@ -114,11 +110,6 @@ impl<R: LineRules, M: Mac, const B: usize, const D: usize> Checker<R, M, B, D> {
         requires room { ticks_cut self.old.cut ≤ MAX_TICKS }
         ensures cut { self.new.cut ≡ self.old.cut }
         ensures note { IsNoPass result.note }
-        ensures goes_on { (line : List Tick) → CutStandsFor R.LineRules self.old.cut line
-            → (is_open self.old.phase ≡ true → D ≤ self.old.until + 3)
-            → (is_open self.old.phase ≡ true → self.old.until + 2 ≡ D
-            → head_of R.rules (live_bytes_so_far R.rules line) ≡ Short → ⊥)
-            → result.note ≡ None }
         ensures step { (last : ℕ) (setup : Setup) (line : List Tick) (cut : Cut)
             → IsSilence cut
             → IsBetween R.LineRules M.Mac self.old last setup line Silent cut
@@ -144,9 +135,6 @@ impl<R: LineRules, M: Mac, const B: usize, const D: usize> Checker<R, M, B, D> {
         requires room { ticks_cut self.old.cut ≤ MAX_TICKS }
         ensures cut { self.new.cut ≡ self.old.cut }
         ensures note { IsNoPass result.note }
-        ensures goes_on { (line : List Tick) → CutStandsFor R.LineRules self.old.cut line
-            → (head_of R.rules (live_bytes_so_far R.rules line) ≡ Short → ⊥)
-            → result.note ≡ None }
         ensures step { (last : ℕ) (setup : Setup) (line : List Tick) (cut : Cut)
             → IsSilence cut → is_open self.old.phase ≡ true → self.old.until + 2 ≡ D
             → IsBetween R.LineRules M.Mac self.old last setup line Silent cut
@@ -157,26 +145,6 @@ impl<R: LineRules, M: Mac, const B: usize, const D: usize> Checker<R, M, B, D> {
             Head::Short => self.drop_headless(),
             Head::Bad | Head::Good => self.pass_by(None),
         }
-    }
-
-    // Takes a byte that isn't live, while no verdict is open, or a byte of the trailer that isn't
-    // its last one.
-    #[inline]
-    pub(super) fn hear_more(&mut self, extra: u8) -> BoxStep<CheckNote>
-        ensures cut { self.new.cut ≡ self.old.cut }
-        ensures note { result.note ≡ None }
-        ensures step { (last : ℕ) (setup : Setup) (line : List Tick) (t : Tick)
-            → (is_open self.old.phase ≡ true → self.old.until + 3 < D)
-            → (is_open self.old.phase ≡ true → 1 < self.old.until)
-            → IsBetween R.LineRules M.Mac self.old last setup line t (Extra extra)
-            → HasTaken R.LineRules M.Mac self.new last setup line t result }
-        ensures direction { direction_of self.new ≡ direction_of self.old }
-    {
-        if !self.phase.is_open() {
-            return self.pass_by(None);
-        }
-        self.arriving.take(extra);
-        self.pass_by(None)
     }
 
     // Takes a byte that isn't live.

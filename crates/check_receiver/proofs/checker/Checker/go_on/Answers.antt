@@ -21,7 +21,6 @@ returns-then-not-is_open-clause-step g c = λ last setup line t between.
 pub returns-in-Short : goal.returns-in-Short
 returns-in-Short g c = record {
   cut = ap (λ v. v.cut) c.enter.ensures.turned.others;
-  goes_on = λ line cuts good. c.enter.ensures.note;
   direction = ap direction_of c.enter.ensures.turned.others;
   note =
       let P : Option CheckNote → Type 0 = λ n. IsNoPass n in
@@ -64,11 +63,3 @@ returns-in-Bad-clause-step g c = λ last setup line t between.
     (sym (c.head.ensures (line ++ Byte c.args.byte ∷ []) at.cuts) ∙ c.in-Bad.is)
     (text.0 ++ c.args.byte ∷ [], c.update.ensures setup.key text.0 text.1) d.0 d.1 in
     subst P (sym is) taken between
-
-pub returns-then-not-is_open-clause-goes_on : goal.returns-then-not-is_open-clause-goes_on
-returns-then-not-is_open-clause-goes_on g c = λ line cuts good. c.pass_by.ensures.note
-
-pub returns-in-Bad-clause-goes_on : goal.returns-in-Bad-clause-goes_on
-returns-in-Bad-clause-goes_on g c = λ line cuts good.
-    let opens = sym c.is_open.ensures ∙ c.if-not-is_open.false in
-    absurd (good opens (sym (c.head.ensures line cuts) ∙ c.in-Bad.is))

@@ -30,7 +30,6 @@ returns-in-Short-clause-step g c = λ last setup line cut silence waits until be
 pub returns-in-Bad : goal.returns-in-Bad
 returns-in-Bad g c = record {
   cut = ap (λ v. v.cut) c.pass_by.ensures.turned.others;
-  goes_on = λ line cuts whole. c.pass_by.ensures.note;
   direction = ap direction_of c.pass_by.ensures.turned.others;
   note =
       let P : Option CheckNote → Type 0 = λ n. IsNoPass n in
@@ -54,7 +53,3 @@ returns-in-Bad g c = record {
       ⊎_elim (λ bad. absurd cc) (λ good. absurd cc) which))
       waits;
 }
-
-pub returns-in-Short-clause-goes_on : goal.returns-in-Short-clause-goes_on
-returns-in-Short-clause-goes_on g c = λ line cuts whole.
-    absurd (whole (sym (c.head.ensures line cuts) ∙ c.in-Short.is))

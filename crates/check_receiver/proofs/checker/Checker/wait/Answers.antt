@@ -56,24 +56,3 @@ returns-clause-step g c = λ last setup line cut silence between.
     (λ from. waits-header g.R.LineRules g.M.Mac c.args.self.now last setup line cut between d.0 d.1
     (omega arith))
     opens
-
-pub returns-then-not-is_open-clause-goes_on : goal.returns-then-not-is_open-clause-goes_on
-returns-then-not-is_open-clause-goes_on g c = λ line cuts early whole. c.pass_by.ensures.note
-
-pub returns-then-from-clause-goes_on : goal.returns-then-from-clause-goes_on
-returns-then-from-clause-goes_on g c = λ line cuts early whole.
-    let opens = sym c.is_open.ensures ∙ c.if-not-is_open.false in
-    let until = c.from.ensures in
-    let few = c.if-from.true in
-    let many = early opens in
-    absurd (omega arith)
-
-pub returns-then-from-2-clause-goes_on : goal.returns-then-from-2-clause-goes_on
-returns-then-from-2-clause-goes_on g c = λ line cuts early whole.
-    let opens = sym c.is_open.ensures ∙ c.if-not-is_open.false in
-    let same = c.from-2.ensures in
-    let second = c.if-from-2.true in
-    c.pause.ensures.goes_on line cuts (whole opens (omega arith))
-
-pub returns-clause-goes_on : goal.returns-clause-goes_on
-returns-clause-goes_on g c = λ line cuts early whole. c.pass_by-2.ensures.note
