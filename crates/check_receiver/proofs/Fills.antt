@@ -27,21 +27,6 @@ answered-bytes [] zero long = refl
 answered-bytes [] (suc n) long = absurd (omega arith)
 answered-bytes (b ∷ x) n long = refl
 
--- A byte begins no burst before four silent ticks have come.
-pub runs-none : {R : Type 0} (proto : LineRules R) (cut : BurstCut R) (line : List Tick)
-    → CutStandsFor proto cut line → (b : ℕ) → quiet_so_far line < 4
-    → BeginsNone proto.rules line (Byte b)
-runs-none proto cut line cuts b runs =
-    let full : Bool = proto.is_full cut.rules in
-    let full_is = proto.fullness cut.rules _ cuts.bytes in
-    let same = cuts.quiet_is in
-    ⊎_elim
-    (λ over. inr (sym (cut-pass proto cut line cuts full b (omega arith) full_is over)))
-    (λ open'.
-    let parts = or_parts cut.paused full open' in
-    inl (sym (cut-go_on proto cut line cuts full b (omega arith) full_is parts.0 parts.1)))
-    (cases_Bool (cut.paused || full))
-
 -- If bytes of a fill are owed, there is a next one.
 fill-some : (rules : Rules) (left : List ℕ) (owed : ℕ) → 0 < owed
     → tick_or_silence (filled rules left owed) ≡ Silent → ⊥

@@ -72,8 +72,8 @@ pub fn begin_well<R: LineRules>(bytes: &[u8]) -> bool
     }
 }
 
-/// Returns the bytes at the front with which a burst can begin without a note: all of them if they
-/// begin with a good header, and otherwise those in which the header isn't whole yet.
+/// Returns the bytes with which a burst can begin without a note: all of them if they begin with a
+/// good header, and otherwise none.
 #[inline]
 pub fn noteless_front<R: LineRules>(bytes: &[u8]) -> &[u8]
     ensures within { length result.now ≤ length bytes.now }
@@ -84,25 +84,7 @@ pub fn noteless_front<R: LineRules>(bytes: &[u8]) -> &[u8]
     if begin_well::<R>(bytes) {
         return bytes;
     }
-    front_of_header::<R>(bytes)
-}
-
-// Returns the bytes at the front in which a header isn't whole yet, or none if it is whole in fewer
-// than `HEADER_MOST` bytes.
-#[inline(never)]
-fn front_of_header<R: LineRules>(bytes: &[u8]) -> &[u8]
-    ensures within { length result.now ≤ length bytes.now }
-    ensures front { result.now ≡ take (length result.now) bytes.now }
-    ensures keeps { (first : ℕ) (others : List ℕ) → first ∷ others ≡ result.now
-        → KeepsHeader R.rules (first ∷ []) others }
-{
-    let part = &bytes[..bytes.len().min(HEADER_MOST - 1)];
-    let mut rules = R::fresh();
-    let taken = rules.take_some(part);
-    match rules.head() {
-        Head::Short => &part[..taken],
-        Head::Good | Head::Bad => &part[..0],
-    }
+    &bytes[..0]
 }
 
 /// Puts into `sent`, which must be empty, the bytes that leave in the next `count` ticks, none of

@@ -4,7 +4,7 @@ use crate::runs::{alike_along, cut_some, lend, lend_along, noteless_front};
 use burst_walk::RunBytes;
 use hmac_tag::Mac;
 use line_rules::LineRules;
-use yasir_ticks::{MAX_TICKS, T3_5_TICKS, Tick};
+use yasir_ticks::{MAX_TICKS, Tick};
 
 // The greatest number of bytes of a fill that leave at once.
 const MOST_FILLED: u32 = 64;
@@ -165,10 +165,7 @@ impl<R: LineRules, M: Mac, const B: usize, const D: usize> Checker<R, M, B, D> {
             (map Byte (take result bytes.now)) (answered result sent.new.items) }
         ensures direction { direction_of self.new ≡ direction_of self.old }
     {
-        if self.until == 0 {
-            return self.fill_along(bytes, sent);
-        }
-        // the last live tick leaves in the next step
+        // the last live tick leaves in the next step, or a fill leaves
         if self.until < 2 {
             return 0;
         }
@@ -287,36 +284,6 @@ impl<R: LineRules, M: Mac, const B: usize, const D: usize> Checker<R, M, B, D> {
                 return count;
             }
             let byte = self.fill_one(Tick::Silent);
-            let _ = sent.try_push(byte);
-        }
-        most
-    }
-
-    // Takes bytes that begin no burst while a fill leaves.
-    #[inline(never)]
-    fn fill_along(&mut self, bytes: &[u8], sent: &mut RunBytes) -> usize
-        requires room { ticks_taken self.old + length bytes.now ≤ MAX_TICKS }
-        requires phase { is_open self.old.phase ≡ false }
-        requires until { self.old.until ≡ 0 }
-        requires empty { sent.old.items ≡ [] }
-        ensures within { result ≤ length bytes.now }
-        ensures taken { ticks_taken self.new ≡ ticks_taken self.old + result }
-        ensures run { (last : ℕ) (setup : Setup) (line : List Tick)
-            → StandsAt R.LineRules M.Mac self.old last setup line
-            → HasTakenRun R.LineRules M.Mac self.new last setup line
-            (map Byte (take result bytes.now)) (answered result sent.new.items) }
-        ensures direction { direction_of self.new ≡ direction_of self.old }
-    {
-        let most = bytes.len().min(MOST_FILLED as usize);
-        for count in 0..most {
-            // the byte begins another burst
-            if self.cut.quiet() >= T3_5_TICKS {
-                return count;
-            }
-            if !self.outlet.owes() {
-                return count;
-            }
-            let byte = self.fill_one(Tick::Byte(bytes[count]));
             let _ = sent.try_push(byte);
         }
         most
