@@ -18,7 +18,6 @@ mod line_room;
 mod place;
 mod reader;
 mod run;
-mod slices;
 mod tick;
 mod tick_run;
 mod whole_lines;

@@ -354,14 +354,7 @@ impl TickReader {
             → (result.taken ≡ 0) × (result.line ≡ Err bad) × (self.new ≡ self.old) }
     {
         let mut taken = 0;
-        loop {
-            taken += self.take_many(&bytes[taken..]);
-            if taken == bytes.len() {
-                return FedLine {
-                    taken,
-                    line: Ok(Content::NoTick),
-                };
-            }
+        while taken < bytes.len() {
             match self.step_line(bytes[taken]) {
                 Ok(None) => taken += 1,
                 Ok(Some(content)) => {
@@ -377,6 +370,10 @@ impl TickReader {
                     };
                 }
             }
+        }
+        FedLine {
+            taken,
+            line: Ok(Content::NoTick),
         }
     }
 
