@@ -1,9 +1,10 @@
 //! The loop over an input: each line of its text goes to the consumer as a run of ticks.
-ghost use Rattle.std.specs.Prelude.{◌≡◌, ℕ, ◌+◌, ◌≤◌, length};
+ghost use Rattle.std.specs.Prelude.{◌≡◌, ℕ, ◌+◌, ◌≤◌, [], length};
 ghost use Rattle.yasir_ticks.specs.Ticks.{items_of_run, ticks_in};
 ghost use Rattle.yasir_ticks.specs.Reader.{items_of_content};
 ghost use Rattle.yasir_ticks.specs.TickRun.{run_items};
 ghost use Rattle.yasir_ticks.specs.declared.tick_run.TickRun.TheVariants.{Silence};
+ghost use Rattle.yasir_ticks.specs.declared.place.Content.TheVariants.{SilentTicks, OneMark};
 ghost use Rattle.yasir_ticks.specs.declared.TheConstants.{MAX_TICKS};
 ghost use Rattle.tick_drive.specs.Input.{IsReadCause, is_read_fault, max_ticks};
 ghost use Rattle.tick_drive.specs.Consumers.{MayTake, Gives};
@@ -123,9 +124,45 @@ fn hand_content<C: Consumer>(
     }
 }
 
+// Hands silent ticks to the consumer, unless there are too many ticks with them. Returns the number
+// of ticks up to their end.
+#[inline(always)]
+fn hand_silence<C: Consumer>(ticks: u32, more: u32, consumer: &mut C) -> Result<u32, Halt>
+    requires within { ticks ≤ max_ticks }
+    requires room { C.meaning.taken consumer.old + max_ticks ≤ MAX_TICKS + ticks }
+    requires able { C.meaning.able consumer.old }
+    ensures { HandAnswer C.meaning consumer.old consumer.new ticks
+        (items_of_content (SilentTicks more) []) result }
+{
+    let all = u64::from(ticks) + u64::from(ticks_of(Content::SilentTicks(more), &[]));
+    if all > u64::from(MAX_INPUT_TICKS) {
+        return Err(Halt::TooMany(all));
+    }
+    if let Err(stop) = give_silence(more, consumer) {
+        return Err(Halt::ByConsumer(stop));
+    }
+    Ok(all as u32)
+}
+
+// Hands a mark to the consumer. Returns the number of ticks before it.
+#[inline(always)]
+fn hand_mark<C: Consumer>(ticks: u32, consumer: &mut C) -> Result<u32, Halt>
+    requires within { ticks ≤ max_ticks }
+    requires room { C.meaning.taken consumer.old + max_ticks ≤ MAX_TICKS + ticks }
+    requires able { C.meaning.able consumer.old }
+    ensures { HandAnswer C.meaning consumer.old consumer.new ticks (items_of_content OneMark [])
+        result }
+{
+    if let Err(stop) = consumer.take_mark() {
+        return Err(Halt::ByConsumer(stop));
+    }
+    Ok(ticks)
+}
+
 // Hands one line to the consumer, unless there are too many ticks with it. Returns the number of
 // ticks up to its end. Each kind of line is compiled by itself, so that the kind is looked at only
-// once.
+// once. What takes bytes stands here once: the compiler drops a hint to inline a function that
+// would grow very large.
 #[inline(always)]
 fn hand_over<C: Consumer>(
     ticks: u32,
@@ -141,10 +178,10 @@ fn hand_over<C: Consumer>(
         (items_of_content content bytes.now) result }
 {
     match content {
-        Content::NoTick => hand_content(ticks, Content::NoTick, bytes, consumer),
+        Content::NoTick => Ok(ticks),
         Content::KeptBytes => hand_content(ticks, Content::KeptBytes, bytes, consumer),
-        Content::SilentTicks(n) => hand_content(ticks, Content::SilentTicks(n), bytes, consumer),
-        Content::OneMark => hand_content(ticks, Content::OneMark, bytes, consumer),
+        Content::SilentTicks(more) => hand_silence(ticks, more, consumer),
+        Content::OneMark => hand_mark(ticks, consumer),
     }
 }
 
