@@ -235,25 +235,18 @@ enum Act {
 }
 
 // Acts one after the other, and how many calls on the file each takes. The first one also opens,
-// locks and syncs the file. A write of a slot is a seek and a write. But if slot B is written after
-// slot A, with nothing but a sync between them, no seek is needed.
-const ACTS: [(Act, u32); 16] = [
+// locks and syncs the file. A read or a write of a slot is a seek, and then a read or a write.
+const ACTS: [(Act, u32); 10] = [
     (Act::Write(Slot::A), 5),
-    (Act::Write(Slot::B), 1),
-    (Act::Write(Slot::A), 2),
-    (Act::Sync, 1),
-    (Act::Write(Slot::B), 1),
+    (Act::Write(Slot::B), 2),
     (Act::Sync, 1),
     (Act::Write(Slot::B), 2),
     (Act::Write(Slot::A), 2),
     (Act::Write(Slot::A), 2),
     (Act::Read(Slot::A), 2),
     (Act::Write(Slot::B), 2),
-    (Act::Write(Slot::A), 2),
     (Act::ReadOld(Slot::B), 2),
     (Act::Write(Slot::B), 2),
-    (Act::Write(Slot::A), 2),
-    (Act::Write(Slot::B), 1),
 ];
 
 // Whether this act is done. A write is of bytes `mark`.
@@ -301,7 +294,7 @@ fn are_done(disk: &mut FileSlots<'_, Folder<'_>>, file: &OneFile) -> bool {
 }
 
 #[test]
-fn slot_b_follows_slot_a_without_a_seek(rt: HostRuntime) -> Result<(), Fail> {
+fn each_slot_is_written_at_its_place(rt: HostRuntime) -> Result<(), Fail> {
     let path = name(rt.alloc())?;
     let file = file_of(88, 88, 0);
     let folder = Folder(&file);
@@ -315,13 +308,13 @@ fn slot_b_follows_slot_a_without_a_seek(rt: HostRuntime) -> Result<(), Fail> {
 type Faults = (u32, (bool, bool, bool), u32);
 
 const FAULTS: [Faults; 5] = [
-    (0, (true, true, true), 8),
+    (0, (true, true, true), 9),
     // In turn, these fail: the seek to slot A, its write, and the first and the second write of
     // slot B.
     (4, (false, true, true), 8),
     (5, (false, true, true), 9),
-    (6, (true, false, true), 8),
-    (8, (true, true, false), 8),
+    (7, (true, false, true), 9),
+    (9, (true, true, false), 9),
 ];
 
 // A slot, the byte that is written to all of it, and whether this is done.
@@ -365,7 +358,7 @@ fn goes_on(path: Option<String>, row: &Faults) -> bool {
 }
 
 #[test]
-fn a_fault_is_followed_by_a_seek(rt: HostRuntime) -> Result<(), Fail> {
+fn a_fault_is_followed_by_a_write_at_its_place(rt: HostRuntime) -> Result<(), Fail> {
     for row in &FAULTS {
         assert!(rt; goes_on(name(rt.alloc())?, row));
     }
@@ -394,7 +387,7 @@ fn is_cut_short(
 }
 
 #[test]
-fn a_write_cut_short_is_followed_by_a_seek(rt: HostRuntime) -> Result<(), Fail> {
+fn a_write_cut_short_is_followed_by_one_at_its_place(rt: HostRuntime) -> Result<(), Fail> {
     let path = name(rt.alloc())?;
     let file = file_of(88, 23, 0);
     let folder = Folder(&file);
@@ -424,7 +417,7 @@ fn a_longer_file_is_synced_whole_in_the_end(rt: HostRuntime) -> Result<(), Fail>
 }
 
 /// Whether each call on a disk fails. The write is of bytes `byte`.
-pub fn all_fail<R: Files>(disk: &mut FileSlots<'_, R>, byte: u8) -> bool
+pub fn all_fail<R: OpensFiles>(disk: &mut FileSlots<'_, R>, byte: u8) -> bool
 where
     R::File: Lock + Durable,
 {
