@@ -2,10 +2,10 @@
 //! synced.
 use crate::one_file::{Folder, OneFile, PATH, ROOM, file_of};
 use std::alloc::Global;
-use std::rt::Files;
 use std::test::Fail;
 use yasir_io::{
-    Durable, Failed, FileSlots, FileSource, Lock, Slot, SlotBytes, SlotDisk, SlotFile, Source,
+    Durable, Failed, FileSlots, FileSource, Lock, OpensFiles, Slot, SlotBytes, SlotDisk, SlotFile,
+    Source,
 };
 
 fn name(alloc: Global) -> Result<Option<String>, Fail> {
@@ -71,10 +71,11 @@ const READS: [Reads; 13] = [
     (32, 88, 0, 1, (Some(16), Some(16), Some(0), Some(0))),
     (19, 7, 0, 1, (Some(16), Some(3), Some(0), Some(0))),
     (0, 88, 0, 1, (Some(0), Some(0), Some(0), Some(0))),
-    // In turn, these fail: the opening, the lock and the first sync. The file isn't open then.
+    // In turn, these fail: the opening, the lock and the first sync. The next call tries again: it
+    // opens the file only if it isn't open.
     (80, 88, 1, 1, (None, Some(16), Some(24), Some(24))),
-    (80, 88, 2, 2, (None, Some(16), Some(24), Some(24))),
-    (80, 88, 3, 2, (None, Some(16), Some(24), Some(24))),
+    (80, 88, 2, 1, (None, Some(16), Some(24), Some(24))),
+    (80, 88, 3, 1, (None, Some(16), Some(24), Some(24))),
     // In turn, these fail: the seek for the first slot, the second of the reads for it, the read
     // for the next slot, and the seek for the last one.
     (80, 88, 4, 1, (None, Some(16), Some(24), Some(24))),
@@ -120,8 +121,8 @@ const WRITES: [Writes; 9] = [
     // In turn, these fail: the opening, the lock, the first sync, the seek, the write, and the sync
     // after it.
     (88, 1, false, true, 1, 2),
-    (88, 2, false, true, 2, 2),
-    (88, 3, false, true, 2, 2),
+    (88, 2, false, true, 1, 2),
+    (88, 3, false, true, 1, 2),
     (88, 4, false, true, 1, 2),
     (88, 5, false, true, 1, 2),
     (88, 6, true, false, 1, 1),

@@ -46,7 +46,10 @@ fn path_at(words: &[String], place: usize) -> Result<Option<String>, AllocError>
 }
 
 // Returns the file of the key.
-fn key_file<'a, R: OpensFiles>(files: &'a R, words: &[String]) -> Result<FileSource<'a, R>, AllocError>
+fn key_file<'a, R: OpensFiles>(
+    files: &'a R,
+    words: &[String],
+) -> Result<FileSource<'a, R>, AllocError>
     ensures { IfOk result (λ key. (asked : Option Command) → Asks (map string_bytes words.now) asked
         → IsKeyFile (word_in (map string_bytes words.now) asked key_place) key) }
 {

@@ -13,7 +13,9 @@ use replay_status::{NOT_GIVEN, Status, take_places, words_after_name};
 use std::alloc::AllocError;
 use std::env::Args;
 use std::io;
-use yasir_io::{Durable, FileSlots, FileSource, Lock, OpensFiles, Sink, SlotDisk, SlotFile, Source};
+use yasir_io::{
+    Durable, FileSlots, FileSource, Lock, OpensFiles, Sink, SlotDisk, SlotFile, Source,
+};
 
 // Returns a copy of the word at this place, or `None` if there is no such word.
 fn path_at(words: &[String], place: Option<usize>) -> Result<Option<String>, AllocError>
@@ -30,7 +32,10 @@ fn path_at(words: &[String], place: Option<usize>) -> Result<Option<String>, All
 }
 
 // Returns the file of the key.
-fn key_file<'a, R: OpensFiles>(files: &'a R, words: &[String]) -> Result<FileSource<'a, R>, AllocError>
+fn key_file<'a, R: OpensFiles>(
+    files: &'a R,
+    words: &[String],
+) -> Result<FileSource<'a, R>, AllocError>
     ensures { IfOk result (λ key. (asked : Option Command) → Asks (map string_bytes words.now) asked
         → IsKeyFile (path_in key_place (map string_bytes words.now) asked) key) }
 {

@@ -13,7 +13,7 @@ use std::io::{self, ErrorKind, Read, Seek, SeekFrom, Write};
 use std::process::Abort;
 use std::rt::Files;
 use std::test::Fail;
-use yasir_io::{Durable, Lock, OpensFiles, MemSink, MemSource, Plan};
+use yasir_io::{Durable, Lock, MemSink, MemSource, OpensFiles, Plan};
 
 const ROOM: usize = 80;
 
