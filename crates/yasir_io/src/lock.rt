@@ -9,9 +9,9 @@ pub trait Lock {
     /// What is known of a file after its lock was taken. By default nothing is.
     ghost taken: { Self → Type 0 } = { λ _. ⊤ };
 
-    /// Takes the file for this run only. It is an error if another run holds it, or if the file
-    /// system gives no lock. The system releases the lock with the last handle of the file, even if
-    /// the process is killed.
+    /// Takes the file for this run only. A handle that holds the file may take it again. It is an
+    /// error if another run holds it, or if the file system gives no lock. The system releases the
+    /// lock with the last handle of the file, even if the process is killed.
     fn try_lock(&self) -> io::Result<()>
         ensures { OnOk result (taken self.now) };
 }
