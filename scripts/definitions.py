@@ -196,7 +196,7 @@ class Specs:
         if parts[0] != "Rattle" or not os.path.isdir(os.path.join(self.root, "crates", parts[1])):
             return Word(module, name)
         crate, below = parts[1], parts[3:]
-        if parts[2] != "specs":
+        if parts[2:3] != ["specs"] or not below:
             raise NotFound("%s.%s is no definition" % (module, name))
         if below[0] == "declared":
             return self.declared(crate, below[1:], name)

@@ -19,7 +19,7 @@ from definitions import ROOT, TOKEN, NotFound, Rust, Spec, Specs, Word, code_of,
 HEADLINE = Spec("link_replay", "ReplayCommand", "Headline")
 PAGE = os.path.join(ROOT, "out", "reading.md")
 
-# A line on each word of the toolchain. `◌` stands for an argument.
+# A line on each word of the toolchain.
 WORDS = {
     "ℕ": "the natural numbers 0, 1, 2 and so on",
     "zero": "0, as a pattern",
@@ -87,15 +87,28 @@ WORDS = {
 
 HEAD = """# The definitions under the headline
 
-{text}
+> {words}
 
-By `python3 scripts/reading.py` (`make reading`), from the definitions themselves. docs/HEADLINE.md says in words what the record means, and docs/PROOF.md how it is proved.
+By `python3 scripts/reading.py` (`make reading`), from the definitions themselves. docs/HEADLINE.md says in words what the record
+means, and docs/PROOF.md how it is proved.
 
-The record is the last definition on this page, `Headline`. The clause *runs* of `run` has it for each `replay` that ended with status 0. It rests on {definitions} definitions, itself among them, of {lines} lines in {files} files, and on {words} words of the toolchain and {types} types and {constants} constants of the program. Each definition stands behind all that it uses. Of the files only what the headline uses is shown. Lines are counted without comments, imports and `module` lines.
+The record is the last definition on this page, `Headline`. The clause *runs* of `run` has it for each `replay` that ended with
+status 0. It rests on {definitions} definitions, itself among them, of {lines} lines in {files} files, on {known} words of the
+toolchain, and on {types} types and {constants} constants of the program. Each definition stands behind all that it uses. Of a file
+only what the headline uses is here. Comments, imports and `module` lines aren't counted.
 
 ## How to read them
 
-`abbrev` and `unfoldable` begin a definition by its type. Under it stand its clauses, of which the first one holds whose patterns fit. They differ only in what the prover unfolds by itself; `pub` says that other files may use the name. A `record` is a value with these fields, and where the fields are propositions, it holds if all of them hold. A `data` type is one of its constructors. `Type 0` is the type of types and of propositions. `A → B` is a function, or says that B holds if A does, and `(x : A) → B` says so for each x. `A × B` is a pair, or says that both hold, and `.0` and `.1` are its parts. `(x : A) × B` says that there is such an x. `λ x. e` is the function that takes x to e, `¬` says that something doesn't hold, `⊥` never holds, and `Unit` always does. `module _ (x : A) where` gives what stands indented under it the parameter x. Ticks and places are counted from 0.
+- `abbrev` and `unfoldable` begin a definition by its type. Its clauses stand under it; the first one whose patterns fit holds. The
+  two differ only in what the prover unfolds by itself. `pub` says that other files may use the name.
+- A `record` is a value with these fields. One with propositions among its fields holds if there are values for the other fields with
+  which all of them hold. A value of a `data` type is made by one of its constructors.
+- `Type 0` is the type of types and of propositions. `Unit` is a proposition that holds, and `⊥` one that doesn't.
+- `A → B` is a function, or the proposition that B holds if A does. `(x : A) → B` says so for each x of A.
+- `A × B` is a pair, or the proposition that both hold.
+- `λ x. e` is the function that takes x to e. `r.f` is the field f of r.
+- `module _ (x : A) where` gives all that stands indented under it the parameter x.
+- Ticks and places are counted from 0.
 """
 
 
@@ -113,7 +126,8 @@ def in_words(file):
 def rust_item(specs, thing):
     """The lines of an item of src/, with its comment and without attributes."""
     lines = lines_of(os.path.join(specs.root, thing.path))
-    found = [place for place, line in enumerate(lines) if re.match(r"\s*(pub(\(\w+\))? )?(struct|enum|trait|const|type) %s\b" % thing.name, line)]
+    item = re.compile(r"\s*(pub(\(\w+\))? )?(struct|enum|trait|const|type) %s\b" % thing.name)
+    found = [place for place, line in enumerate(lines) if item.match(line)]
     if len(found) != 1:
         raise NotFound("%s has no one item `%s`" % (thing.path, thing.name))
     begin = end = found[0]
@@ -156,7 +170,8 @@ def by_file(specs, things):
 
 def stands_before(specs, files):
     """The definitions that stand before one that they use."""
-    place = {Spec(file.crate, file.module, name): at for at, (file, name) in enumerate((file, name) for file, names in files for name in names)}
+    order = [Spec(file.crate, file.module, name) for file, names in files for name in names]
+    place = {thing: at for at, thing in enumerate(order)}
     return [(thing, use) for thing in place for use in specs.uses_of(thing) if isinstance(use, Spec) and place[use] > place[thing]]
 
 
@@ -195,41 +210,60 @@ def other_names(specs, file, names, often):
     return found
 
 
-def page(specs):
-    things = rests_on(specs, HEADLINE)
-    files = by_file(specs, things)
-    wrong = stands_before(specs, files)
-    if wrong:
-        raise NotFound("`%s` stands before `%s`, which it uses" % (wrong[0][0].name, wrong[0][1].name))
-    where = {thing.name: thing.module for thing in reversed(things) if isinstance(thing, Word)}
+def words_table(where):
+    """The words of the toolchain that are used, each with its line and its module."""
     for word in where:
         if word not in WORDS:
             raise NotFound("no line says what `%s` of %s means" % (word, where[word]))
-    words = [word for word in WORDS if word in where]
-    items = [thing for thing in things if isinstance(thing, Rust)]
-    constants = [thing for thing in items if is_constant(specs, thing)]
-    counts = counts_of(specs, things)
-    text = HEAD.format(text="> " + in_words(specs.file(HEADLINE.crate, HEADLINE.module)), words=len(words), types=len(items) - len(constants),
-                       constants=len(constants), **counts)
-    lines = [text, "## The words of the toolchain", "", "| word | what it means | where it is |", "|---|---|---|"]
-    lines += ["| `%s` | %s | `%s` |" % (word.replace("|", "\\|"), WORDS[word].replace("|", "\\|"), where[word]) for word in words]
-    lines += ["", "## The constants of the program", "", "| constant | value | what it is | where it is |", "|---|---|---|---|"]
+    rows = [(word, WORDS[word], where[word]) for word in WORDS if word in where]
+    return ["## The words of the toolchain", "", "`◌` stands for an argument.", "", "| word | what it means | where it is |", "|---|---|---|"] + [
+        "| `%s` | %s | `%s` |" % tuple(cell.replace("|", "\\|") for cell in row) for row in rows] + [""]
+
+
+def constants_table(specs, constants):
+    """The constants of src/, with their values."""
+    lines = ["## The constants of the program", "", "| constant | value | what it is | where it is |", "|---|---|---|---|"]
     for thing in constants:
         item = rust_item(specs, thing)
-        value = re.search(r"= (.*);", item[-1]).group(1)
-        lines.append("| `%s` | %s | %s | `%s` |" % (thing.name, value.replace("_", ""), " ".join(line.strip("/ ") for line in item[:-1]), thing.path))
-    lines += ["", "## The types of the program", ""]
-    for thing in items:
-        if thing not in constants:
-            lines += ["`%s` of `%s`:" % (thing.name, thing.path), "", "```rust"] + rust_item(specs, thing) + ["```", ""]
-    lines += ["## The definitions", ""]
+        value = re.search(r"= (.*);", item[-1]).group(1).replace("_", "")
+        lines.append("| `%s` | %s | %s | `%s` |" % (thing.name, value, " ".join(line.strip("/ ") for line in item[:-1]), thing.path))
+    return lines + [""]
+
+
+def types_as_they_stand(specs, types):
+    lines = ["## The types of the program", ""]
+    for thing in types:
+        lines += ["`%s` in `%s`:" % (thing.name, thing.path), "", "```rust"] + rust_item(specs, thing) + ["```", ""]
+    return lines
+
+
+def definitions_by_file(specs, things):
+    files = by_file(specs, things)
+    for thing, use in stands_before(specs, files):
+        raise NotFound("`%s` stands before `%s`, which it uses" % (thing.name, use.name))
     often = collections.Counter(thing.name for thing in things if not isinstance(thing, Word))
+    lines = ["## The definitions", ""]
     for file, names in files:
         lines += ["### " + file.path, ""] + (plain(file.intro) + [""] if file.intro else [])
         also = other_names(specs, file, names, often)
         lines += ["Here " + ", and ".join(also) + ".", ""] if also else []
         lines += ["```"] + page_of_file(file, names) + ["```", ""]
-    return "\n".join(lines), counts
+    return lines
+
+
+def page(specs):
+    """The page, and what is counted on it."""
+    things = rests_on(specs, HEADLINE)
+    items = [thing for thing in things if isinstance(thing, Rust)]
+    constants = [thing for thing in items if is_constant(specs, thing)]
+    types = [thing for thing in items if thing not in constants]
+    where = {thing.name: thing.module for thing in reversed(things) if isinstance(thing, Word)}
+    counts = counts_of(specs, things)
+    head = HEAD.format(words=in_words(specs.file(HEADLINE.crate, HEADLINE.module)), known=len(where), types=len(types),
+                       constants=len(constants), **counts)
+    lines = words_table(where) + constants_table(specs, constants) + types_as_they_stand(specs, types)
+    lines += definitions_by_file(specs, things)
+    return head + "\n" + "\n".join(lines), counts
 
 
 def main():

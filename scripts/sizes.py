@@ -1,5 +1,6 @@
 #!/usr/bin/env python3
-"""Prints how many lines of definitions, code, contracts, proofs and tests each crate has, and how wide the headline, names and protocols reach.
+"""Prints how many lines of definitions, code, contracts, proofs and tests each crate has, what the headline rests on, and how far
+names, protocols and profiles reach.
 
     python3 scripts/sizes.py
 
@@ -40,9 +41,9 @@ RECORDS = (("the headline rests on", Spec("link_replay", "ReplayCommand", "Headl
            ("with all statuses of `replay` it is", Spec("link_replay", "ReplayCommand", "Replays")),
            ("with all commands it is", Spec("link_replay", "Commands", "Does")))
 PARTS = (("src", "rt"), ("specs", "antt"), ("proofs", "antt"))
-# What names a third protocol or profile, and the crates that are its own.
-THIRD = (("a third protocol (DNP3)", re.compile(r"dnp", re.I), ("dnp_link_frame",)),
-         ("a third profile (y24)", re.compile(r"y24|rtu24|dnp24|hmac_?sha_?256", re.I), ("link_format", "hmac_tag")))
+# What names a protocol or a profile as a third one would be named, and the crates that are its own.
+THIRD = (("DNP3, as a third protocol would be,", re.compile(r"dnp", re.I), ("dnp_link_frame",)),
+         ("y24, as a third profile would be,", re.compile(r"y24|rtu24|dnp24|hmac_?sha_?256", re.I), ("link_format", "hmac_tag")))
 
 
 def lines_of(path):
@@ -162,12 +163,14 @@ def files_that_name(crates, pattern, own):
 def print_reach(specs, crates):
     """Prints on what the headline rests, and how far names, protocols and profiles reach."""
     for what, record in RECORDS:
-        print("%s %d definitions, %d lines, in %d files" % ((what,) + tuple(counts_of(specs, rests_on(specs, record))[one] for one in ("definitions", "lines", "files"))))
+        found = counts_of(specs, rests_on(specs, record))
+        print("%s %d definitions, %d lines, in %d files" % (what, found["definitions"], found["lines"], found["files"]))
     files = brought_in(HEADLINE)
     print("with whole files it is %d lines, in %d files" % (sum(map(definitions_in, files)), len(files)))
     print("names in two or more crates: %d, with %d lines beside the longest of each" % names_in_many(specs, crates))
     for what, pattern, own in THIRD:
-        print("%s is named outside its crates in %d files of src/, %d of specs/, %d of proofs/" % ((what,) + tuple(files_that_name(crates, pattern, own))))
+        found = tuple(files_that_name(crates, pattern, own))
+        print("%s is named outside its crates in %d files of src/, %d of specs/, %d of proofs/" % ((what,) + found))
 
 
 def main():
