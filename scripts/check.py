@@ -21,7 +21,7 @@ ROOT = os.path.dirname(os.path.dirname(os.path.abspath(__file__)))
 LOGS = os.path.join(ROOT, "out", "check")
 LEVELS = ("quick", "change", "release")
 MEMORY = "/dev/shm"
-TOOLS = ("cc", "valgrind", "mbpoll", "tshark", "text2pcap", "editcap", "sigrok-cli")
+TOOLS = ("cc", "nm", "valgrind", "mbpoll", "tshark", "text2pcap", "editcap", "sigrok-cli")
 LIBRARY = os.path.join(ROOT, "crates", "yasir_c", "out", "libyasir_c.a")
 
 # A script, what it needs, and its words at each level, or None if the level doesn't run it. PROGRAM, LIVE, BEFORE and MEMORY are
@@ -45,6 +45,7 @@ CHECKS = [
     Check("closed_streams", ("program",), *same("PROGRAM")),
     Check("init_over", ("program",), *same("PROGRAM")),
     Check("live_pipe", ("program", "link_live"), *same("LIVE", "PROGRAM")),
+    Check("inlined", ("program", "nm"), None, ["PROGRAM"], ["PROGRAM"]),
     Check("two_runs", ("program",), None, ["PROGRAM", "10"], ["PROGRAM", "60"]),
     Check("taken_over", ("program", "cc"), None, ["PROGRAM"], ["PROGRAM"]),
     Check("killed_seal", ("program", "memory"), None, ["40", "PROGRAM", "MEMORY"], ["400", "PROGRAM", "MEMORY"]),
