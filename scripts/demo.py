@@ -150,17 +150,18 @@ def silent_between(line, first, last):
     return canonical(ticks[:first] + [None] * (last + 1 - first) + ticks[last + 1:])
 
 
-def show_deaf(name, first, last, folder):
-    """Shows the receiver over a link with a byte and a frame in one burst, and says what a device reads of its line that answers,
-    and doesn't listen, from the first of these ticks to the last one."""
-    same = show_altered(name, "rtu", "A link with a byte and a frame directly after it", "device", folder)
+def show_deaf(name, protocol, what, answer, folder):
+    """Shows the receiver over a link, and what a device reads of its line that answers, and doesn't listen, in these ticks: from the
+    first one to the last one."""
+    same = show_altered(name, protocol, what, "device", folder)
     heard = os.path.join(folder, name + ".heard.ticks")
     with open(os.path.join(folder, name + ".received.ticks")) as line, open(heard, "w") as written:
-        written.write(silent_between(line.read(), first, last))
-    same &= show("read rtu: the frames that it reads if it answers in ticks %d to %d, and doesn't listen meanwhile" % (first, last),
-                 run(["read", "rtu"], heard)[0], name + ".deaf_acts.txt")
-    print("A device that listens while it answers reads the first frame alone. One that doesn't misses the byte 55, and acts on")
-    print("01060001beefe826 too, though that burst was refused. The receiver alone doesn't protect it (docs/DEVICES.md).\n")
+        written.write(silent_between(line.read(), *answer))
+    acts = run(["read", protocol], heard)[0]
+    same &= show("read %s: the frames that it reads if it answers in ticks %d to %d, and doesn't listen meanwhile" % ((protocol,) + answer),
+                 acts, name + ".deaf_acts.txt")
+    print("A device that listens while it answers reads the first frame alone. One that doesn't misses the first byte of the burst, and acts")
+    print("on %s too, though that burst was refused. The receiver alone doesn't protect it (docs/DEVICES.md).\n" % acts.split()[-1])
     return same
 
 
@@ -297,7 +298,8 @@ def main():
         same &= show_side("outstation", "dnp3", "ab", "From the control centre to a DNP3 outstation", "outstation", folder)
         same &= show_altered("outstation_altered", "dnp3", "This link again", "outstation", folder)
         same &= show_guarded("byte_behind", folder)
-        same &= show_deaf("deaf_device", 41, 47, folder)
+        same &= show_deaf("deaf_device", "rtu", "A link with a byte and a frame directly after it", (41, 47), folder)
+        same &= show_deaf("deaf_outstation", "dnp3", "A link with a frame inside a longer one", (40, 49), folder)
         same &= show_wrong_link(folder)
         same &= show_taken_over(folder)
         same &= show_sessions(folder)
