@@ -74,18 +74,25 @@ def way(letter, protocol, frames, notes, meanings, counts, more=""):
     """What is shown of a way of a capture."""
     link = "%s %s" % (protocol, {"a": "ab", "b": "ba"}[letter])
     indented = ["\n".join("    " + row for row in rows) for rows in (frames, notes)]
-    return WAY % (letter, protocol, indented[0], letter, link, indented[1], "\n".join(meanings), *counts, more)
+    return WAY % (letter, protocol.replace("rtu24", "rtu").replace("dnp24", "dnp3"), indented[0], letter, link, indented[1], "\n".join(meanings), *counts, more)
 
 
 # The frames of examples/captures/, by their README.md: the requests begin in ticks 0 and 100 and have eight bytes each, and the
 # replies in ticks 28 and 120 and have 25 and 5.
-MODBUS = (way("a", "rtu", ["read at 0 01030000000ac5cd", "read at 100 0103000a0002e409"], ["sealed 1 at 0 len 8", "sealed 2 at 100 len 8"], [SEALED], (2, 2, 2))
-          + way("b", "rtu", ["read at 28 01031408fd08fa090100650067006301f400000000000198d2", "read at 120 018302c0f1"],
-                ["sealed 1 at 28 len 25", "sealed 2 at 120 len 5"], [SEALED], (2, 2, 2)))
-DNP3 = (way("a", "dnp3", ["read at 0 056405c001000004e921", "read at 100 05640bc401000004f45cc0c0013c020654e0"],
-            ["sealed 1 at 0 len 10", "sealed 2 at 100 len 18"], [SEALED], (2, 2, 2))
-        + way("b", "dnp3", ["read at 20 056405000004010019a6", "read at 130 05640a4400040100595ec0c08100009ce8"],
-              ["sealed 1 at 20 len 10", "sealed 2 at 130 len 17"], [SEALED], (2, 2, 2)))
+def modbus(word):
+    """What is shown of the Modbus RTU captures, by the protocol's word with its profile."""
+    return (way("a", word, ["read at 0 01030000000ac5cd", "read at 100 0103000a0002e409"], ["sealed 1 at 0 len 8", "sealed 2 at 100 len 8"], [SEALED], (2, 2, 2))
+            + way("b", word, ["read at 28 01031408fd08fa090100650067006301f400000000000198d2", "read at 120 018302c0f1"],
+                  ["sealed 1 at 28 len 25", "sealed 2 at 120 len 5"], [SEALED], (2, 2, 2)))
+
+
+def dnp3(word):
+    """What is shown of the DNP3 captures."""
+    return (way("a", word, ["read at 0 056405c001000004e921", "read at 100 05640bc401000004f45cc0c0013c020654e0"],
+                ["sealed 1 at 0 len 10", "sealed 2 at 100 len 18"], [SEALED], (2, 2, 2))
+            + way("b", word, ["read at 20 056405000004010019a6", "read at 130 05640a4400040100595ec0c08100009ce8"],
+                  ["sealed 1 at 20 len 10", "sealed 2 at 130 len 17"], [SEALED], (2, 2, 2)))
+
 
 # Five replies of 85 bytes, with four silent ticks between two of them where each record is a frame.
 REPLY = ("01035003e803e903ea03eb03ec03ed03ee03ef03f003f103f203f303f403f503f603f703f803f903fa03fb03fc03fd03fe03ff"
@@ -106,12 +113,13 @@ NOTHING = way("a", "dnp3", ["none"], ["unsealed at 0 form", "unsealed at 100 for
     "link: 0.\n", "link: 0.\nIf you know that frames were sent, RATE or P is wrong, or their bytes lie too far apart (docs/LINE_CAPTURE.md).\n")
 
 # A file, the rate, the protocol, whether each record is a frame, its form, what is shown, and whether all of it is taken.
-CAPTURES = [("captures/modbus.pcap", "9600x11", "rtu", False, "pcap", COUNTED + "\n" + MODBUS, True),
-            ("captures/modbus.pcapng", "9600x11", "rtu", False, "pcap", COUNTED + "\n" + MODBUS, True),
-            ("captures/modbus.logic2.csv", "9600x11", "rtu", False, "logic2", COUNTED + "\n" + MODBUS, True),
-            ("captures/modbus.sigrok.json", "9600x11", "rtu", False, "sigrok", COUNTED + "\n" + MODBUS, True),
-            ("captures/modbus.ticks", "9600x11", "rtu", False, "ticks", "\n" + MODBUS, True),
-            ("captures/dnp3.pcap", "9600x10", "dnp3", False, "pcap", COUNTED + "\n" + DNP3, True),
+CAPTURES = [("captures/modbus.pcap", "9600x11", "rtu", False, "pcap", COUNTED + "\n" + modbus("rtu"), True),
+            ("captures/modbus.pcapng", "9600x11", "rtu24", False, "pcap", COUNTED + "\n" + modbus("rtu24"), True),
+            ("captures/modbus.logic2.csv", "9600x11", "rtu", False, "logic2", COUNTED + "\n" + modbus("rtu"), True),
+            ("captures/modbus.sigrok.json", "9600x11", "rtu", False, "sigrok", COUNTED + "\n" + modbus("rtu"), True),
+            ("captures/modbus.ticks", "9600x11", "rtu", False, "ticks", "\n" + modbus("rtu"), True),
+            ("captures/dnp3.pcap", "9600x10", "dnp3", False, "pcap", COUNTED + "\n" + dnp3("dnp3"), True),
+            ("captures/dnp3.pcapng", "9600x10", "dnp24", False, "pcap", COUNTED + "\n" + dnp3("dnp24"), True),
             ("captures/gateway_replies.text", "9600x11", "rtu", False, "text", REFUSED + "\n" + FIRST, False),
             ("captures/gateway_replies.text", "9600x11", "rtu", True, "text", COUNTED + "\n" + GATEWAY, True),
             ("requests.ticks", "9600x11", "rtu", False, "ticks", "\n" + REQUESTS, True),

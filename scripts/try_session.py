@@ -14,6 +14,9 @@ MOST = 24
 # The delay of the receiver in ticks, and the silent ticks that the transmitter needs between frames, by the protocol's word.
 DELAYS = {"rtu": 18, "dnp3": 18, "rtu24": 24, "dnp24": 24}
 
+# The word by which `read` has a protocol, which has no profile.
+READERS = {"rtu": "rtu", "dnp3": "dnp3", "rtu24": "rtu", "dnp24": "dnp3"}
+
 # What the notes mean, by their words and causes.
 MEANINGS = {
     "sealed": "forwarded, with its number and tag behind it", "unsealed form": "no frame: forwarded, with nothing behind it",
@@ -198,14 +201,14 @@ def has_bytes(line):
 
 def show_way(bench, capture, way, line):
     """Shows the frames of one way of a capture, and what `seal` makes of it. Returns the words by which timeline.py shows it."""
-    protocol = capture.protocol
+    protocol, reader = capture.protocol, READERS[capture.protocol]
     link = [protocol, {"a": "ab", "b": "ba"}[way]]
     bench.write(way + ".ticks", line)
-    frames = bench.replay(["read", protocol], line)[0].decode()
+    frames = bench.replay(["read", reader], line)[0].decode()
     sent, sealed = bench.box("seal", link, line, way + ".sent")
     received, _ = bench.box("check", link, sent, way + ".received")
-    acts = bench.replay(["read", protocol], received)[0].decode()
-    print("== Way %s: the frames that a device reads (`read %s`)\n" % (way, protocol))
+    acts = bench.replay(["read", reader], received)[0].decode()
+    print("== Way %s: the frames that a device reads (`read %s`)\n" % (way, reader))
     print_some(["    " + frame for frame in frames.splitlines()], bench.write(way + ".read.txt", frames))
     print("\n== Way %s: what the transmitter makes of it (`seal %s`, with a new journal)\n" % (way, " ".join(link)))
     print_some(["    " + note for note in sealed.splitlines()], bench.name(way + ".sent.notes.txt"))
