@@ -13,7 +13,7 @@ BRIDGE = os.path.join(ROOT, "bridge")
 OUT = os.path.join(BRIDGE, "out")
 CRATE = os.path.join(ROOT, "crates", "yasir_c")
 LIBRARY = os.path.join(CRATE, "out", "libyasir_c.a")
-FLAGS = ["-std=gnu11", "-O2", "-Wall", "-Wextra"]
+FLAGS = ["-std=gnu11", "-O2", "-Wall", "-Wextra", "-Wconversion"]
 PROGRAMS = {
     "filter": (["filter.c", "journal.c"], []),
     "bridge": (["bridge.c", "journal.c"], ["-pthread"]),
@@ -58,12 +58,13 @@ def library():
 library.built = False
 
 
-def build(name):
-    """Builds a program of bridge/, and returns its path."""
+def build(name, path=None, more=()):
+    """Builds a program of bridge/, and returns its path: the one that is given, or the one in bridge/out/. `more` is further words for
+    the compiler."""
     os.makedirs(OUT, exist_ok=True)
-    sources, more = PROGRAMS[name]
-    path = os.path.join(OUT, name)
-    ran([compiler(), *FLAGS, "-I", BRIDGE, *(os.path.join(BRIDGE, source) for source in sources), *library(), *more, "-o", path])
+    sources, words = PROGRAMS[name]
+    path = path or os.path.join(OUT, name)
+    ran([compiler(), *FLAGS, "-I", BRIDGE, *(os.path.join(BRIDGE, source) for source in sources), *more, *library(), *words, "-o", path])
     return path
 
 

@@ -11,6 +11,7 @@ import difflib, os, subprocess, sys, tempfile, threading, time
 import timeline
 from killed import old_slot_of
 from lanes import Lanes, run_in
+from model import canonical, ticks_of
 from prove import crates_below, lines_of, prove_all, room_here
 
 ROOT = os.path.dirname(os.path.dirname(os.path.abspath(__file__)))
@@ -140,6 +141,27 @@ def show_guarded(name, folder):
         raise RuntimeError("a frame is lost that shouldn't be: %s" % lost.strip())
     same &= show("check rtu ab | space rtu: the line that the spacer sends on", line, name + ".guarded.ticks")
     print("Behind this spacer any device, also one that counts bytes, is given the two frames that passed, and silence.\n")
+    return same
+
+
+def silent_between(line, first, last):
+    """The text of a line, with silence in the ticks from the first one to the last one."""
+    ticks = ticks_of(line)
+    return canonical(ticks[:first] + [None] * (last + 1 - first) + ticks[last + 1:])
+
+
+def show_deaf(name, protocol, what, answer, folder):
+    """Shows the receiver over a link, and what a device reads of its line that answers, and doesn't listen, in these ticks: from the
+    first one to the last one."""
+    same = show_altered(name, protocol, what, "device", folder)
+    heard = os.path.join(folder, name + ".heard.ticks")
+    with open(os.path.join(folder, name + ".received.ticks")) as line, open(heard, "w") as written:
+        written.write(silent_between(line.read(), *answer))
+    acts = run(["read", protocol], heard)[0]
+    same &= show("read %s: the frames that it reads if it answers in ticks %d to %d, and doesn't listen meanwhile" % ((protocol,) + answer),
+                 acts, name + ".deaf_acts.txt")
+    print("A device that listens while it answers reads the first frame alone. One that doesn't misses the first byte of the burst, and acts")
+    print("on %s too, though that burst was refused. The receiver alone doesn't protect it (docs/DEVICES.md).\n" % acts.split()[-1])
     return same
 
 
@@ -276,6 +298,8 @@ def main():
         same &= show_side("outstation", "dnp3", "ab", "From the control centre to a DNP3 outstation", "outstation", folder)
         same &= show_altered("outstation_altered", "dnp3", "This link again", "outstation", folder)
         same &= show_guarded("byte_behind", folder)
+        same &= show_deaf("deaf_device", "rtu", "A link with a byte and a frame directly after it", (41, 47), folder)
+        same &= show_deaf("deaf_outstation", "dnp3", "A link with a frame inside a longer one", (40, 49), folder)
         same &= show_wrong_link(folder)
         same &= show_taken_over(folder)
         same &= show_sessions(folder)

@@ -4,7 +4,7 @@
     python3 scripts/live.py [SECONDS]
 
 The line is mbpoll - bridge - attacker - bridge - server, over pseudo-terminals at 9,600 baud with even parity, with both directions
-sealed and the guard on. mbpoll writes a register and reads all ten, while the attacker does ten sorts of things in turn, for at least
+sealed. mbpoll writes a register and reads all ten, while the attacker does ten sorts of things in turn, for at least
 SECONDS seconds (40 if not given). The value that the attacker tries to get into a register is never one that mbpoll writes.
 
 The exit status is 0 only if polls were answered, each sort of attack was done at least once, no attack changed a register, and the
