@@ -36,6 +36,7 @@ def same(*words):
 CHECKS = [
     Check("prove_check", (), *same()),
     Check("docs_check", (), *same()),
+    Check("refusals", (), *same()),
     Check("docs_commands", ("program",), *same("PROGRAM")),
     Check("trial_model", ("program",), *same("compare", "PROGRAM")),
     Check("random_lines", ("program",), ["200", "PROGRAM"], ["2000", "PROGRAM", "2"], ["20000", "PROGRAM", "3"]),
