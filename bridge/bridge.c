@@ -225,6 +225,11 @@ static uint16_t next_tick(way *w, nanos at)
     return tick;
 }
 
+static void end_line(void)
+{
+    if (fflush(stdout) != 0) fail("a note");
+}
+
 /* Prints the line of a note, if there is one, as link_replay does. */
 static void note_line(const yasir_answer *a)
 {
@@ -238,7 +243,7 @@ static void note_line(const yasir_answer *a)
         printf("%s at %" PRIu64 " %s\n", a->note == YASIR_UNSEALED ? "unsealed" : a->note == YASIR_REFUSED
                ? "refused" : "dropped", a->start, a->note == YASIR_UNSEALED ? unsealed[a->why]
                : a->note == YASIR_REFUSED ? refused[a->why] : dropped[a->why]);
-    if (fflush(stdout) != 0) fail("a note");
+    end_line();
 }
 
 /* Queues what a box returns for a tick: on the way to the device, what the guard makes of it. */
@@ -250,7 +255,7 @@ static void leave(way *w, int is_byte, uint8_t byte, nanos at)
             fail_with("the guard", "it takes no more ticks");
             return;
         }
-        if (spaced.is_lost && !opt.quiet) printf("lost at %" PRIu64 "\n", spaced.lost_start), fflush(stdout);
+        if (spaced.is_lost && !opt.quiet) printf("lost at %" PRIu64 "\n", spaced.lost_start), end_line();
         is_byte = spaced.is_byte, byte = spaced.byte;
     }
     if (!is_byte) return;

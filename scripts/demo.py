@@ -268,10 +268,10 @@ def show_incident(folder):
 
 
 def session_of(protocol, title, side, altered):
-    """The words for timeline.py by which it shows a line and its link as an attacker left it, from texts that the program has
-    just written."""
+    """The words for timeline.py by which it shows a line from the control centre and its link as an attacker left it, from texts
+    that the program has just written."""
     expected = lambda name: os.path.join(EXAMPLES, "expected", name)
-    return [protocol, "title=" + title,
+    return [protocol, "title=" + title, "title.device=the control centre's line", "title.received=the line to the device",
             "device=" + os.path.join(EXAMPLES, side + ".ticks"), "sent=" + expected(side + ".link.ticks"),
             "came=" + os.path.join(EXAMPLES, altered + ".ticks"), "received=" + expected(altered + ".received.ticks"),
             "notes=" + expected(side + ".notes.txt"), "notes=" + expected(altered + ".verdicts.txt"),

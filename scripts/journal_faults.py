@@ -229,6 +229,7 @@ def disk_tried(tried):
 def keys(tried):
     """Compares filter and PROGRAM over keys of many lengths, in both cases and with other ends."""
     rows = [(length, case, "\n") for length in (0, 30, 31, 32, 33, 34, 40, 62, 64, 66, 126, 128, 129, 130, 140) for case in (str.lower, str.upper, str)]
+    rows += [(length, str, "") for length in (0, 30, 31, 33, 34, 64, 127, 130)]
     rows += [(length, str, end) for length in (32, 128) for end in ("", "\r\n", "\r", "\n\n", "\r\r\n", " \n", "g\n")]
     for length, case, end in rows:
         tried.put(tried.key, (case(DIGITS[3:3 + length]) + end).encode())

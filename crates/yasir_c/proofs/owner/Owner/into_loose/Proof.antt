@@ -25,29 +25,29 @@ use denote.Steps.{heard}
 use denote.Memory.{lone}
 use denote.RawPtr.{null_ptr, in_a_block}
 use Rattle.{core.proofs.alloc.Calls.handle_tells, std.specs.Box.Ownership.box_owns}
-use Rattle.yasir_c.{proofs.Values.al, specs.Owning.handle_owns, specs.declared.held.Held.Held}
-use Rattle.yasir_c.specs.contracts.handle.Handle as handle
-use Rattle.yasir_c.proofs.Handles.{word, word_good, handle_out}
+use Rattle.yasir_c.{proofs.Values.al, specs.Owning.owner_owns, specs.declared.held.Held.Held}
+use Rattle.yasir_c.specs.contracts.owner.Owner as owner
+use Rattle.yasir_c.proofs.Owners.{word, word_good, owner_out}
 use Rattle.std.specs.contracts.alloc.Global as heap
 use Rattle.std.proofs.alloc.Global.TheLaws as heap_laws
 use Rattle.std.specs.contracts.impls.GlobalAllocator.TheImpl.{ghosts}
 use Rattle.yasir_c.proofs.Values.{both, loose_good, loose_in}
 use Rattle.yasir_c.specs.contracts.held.Held as state
-use Rattle.yasir_c.proofs.handle.Handle.into_loose.Statement.{statement}
-use Rattle.yasir_c.specs.contracts.handle.Handle.into_loose.{ended, clauses, Key.name as #self}
-use Rattle.yasir_c.proofs.handle.Handle.into_loose.Code as code
+use Rattle.yasir_c.proofs.owner.Owner.into_loose.Statement.{statement}
+use Rattle.yasir_c.specs.contracts.owner.Owner.into_loose.{ended, clauses, Key.name as #self}
+use Rattle.yasir_c.proofs.owner.Owner.into_loose.Code as code
 
 pub into_loose_spec : {M : Type 1} → statement M
 into_loose_spec 𝓤 𝓛 𝓜 𝓡 wired =
     let H = 𝓛.H in let 𝓣 = tables 𝓤 H 𝓜 𝓡 𝓡.env in let R : RattleType = state.the_row in let Z : RattleType = heap.the_row in let LZ = heap_laws.the_row_laws in
     let En = ended in let c = clauses 𝓛 𝓜.mem 𝓡.returns in let fn = code.function in
-    let hs : Stays En.signature.params En.kept = (stay_dropped (plain (λ _. handle.the_row)) En.kept.0, (stay_dropped (plain (λ _. Z)) En.kept.1.0, tt)) in
-    proved_at 𝓛 En hs c 𝓜 𝓡 (Goes-blank 𝓛 0 (plain (λ _. handle.the_row)) En.kept.0 (λ κs x f. tt), (Goes-dropped 𝓛 0 (plain (λ _. Z)) En.kept.1.0 (λ κs x f. refl), tt)) #self fn (code.unfolded 𝓤 H 𝓜 𝓡 wired) (λ z are.
+    let hs : Stays En.signature.params En.kept = (stay_dropped (plain (λ _. owner.the_row)) En.kept.0, (stay_dropped (plain (λ _. Z)) En.kept.1.0, tt)) in
+    proved_at 𝓛 En hs c 𝓜 𝓡 (Goes-blank 𝓛 0 (plain (λ _. owner.the_row)) En.kept.0 (λ κs x f. tt), (Goes-dropped 𝓛 0 (plain (λ _. Z)) En.kept.1.0 (λ κs x f. refl), tt)) #self fn (code.unfolded 𝓤 H 𝓜 𝓡 wired) (λ z are.
     let Post : Val → SProp 𝓤 = (walk_of 𝓛 En hs c).post z in let Run : List Val → SProp 𝓤 = λ ws. WpFn 𝓤 H 𝓣.C 𝓣.Λ fn ws Post in
     let d = z.0.3.0 in let a = z.0.3.1.0 in let Has = (x : Held) × (d.value ≡ Some x) in
     qed 𝓛 ((raw (alive 𝓛 En.signature z.0.0 z.0.1) ⊛ ‵ (owns (types_at En.signature.params z.0.0) z.0.3 z.0.4)) ∷ raw (fact 𝓤 Has) ∷ []) ∵
-    move ! (1 ∷ []) $ heard ! Has (λ has. split ! $ move ! (1 ∷ []) $ fsplit3 ! $ handle_out ! d z.0.4.0 (λ ws.
-    rewrite ! 0 (λ (o : Option Held). ‵ (handle_owns d.at o)) has.1 refl $
+    move ! (1 ∷ []) $ heard ! Has (λ has. split ! $ move ! (1 ∷ []) $ fsplit3 ! $ owner_out ! d z.0.4.0 (λ ws.
+    rewrite ! 0 (λ (o : Option Held). ‵ (owner_owns d.at o)) has.1 refl $
     fpick ! (λ freed. in_a_block ! d.at (λ p. box_owns (ghosts.dealloc_token freed) R p has.0) (fst∗ 𝓤 (never 𝓤) (sem 𝓛 (ghosts.dealloc_token freed (bare (lone R.mir)) null_ptr))) (λ b o e.
     move ! (1 ∷ []) $ handle_tells (al R Z LZ ghosts) ! a z.0.4.1.0 (λ h eh fits.
     let w : Val = word (block_ptr b o) in let ws' : z.0.4.0 ≡ w ∷ [] = subst (λ (p : Ptr). z.0.4.0 ≡ word p ∷ []) e ws in

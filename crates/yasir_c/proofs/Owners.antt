@@ -1,4 +1,4 @@
--- The machine value of a handle. Assumes `Logic`.
+-- The machine value of an owner. Assumes `Logic`.
 use Rattle.std.proofs.Common.{◌≡◌, List, [], ◌∷◌, ◌++◌, refl, subst}
 use lib.Dec.{T, lit<}
 use seplogic.Ra.Ura.{Ura}
@@ -14,8 +14,8 @@ use denote.Steps.{nothing}
 use denote.Struct.Struct.{within}
 use denote.Struct.Owning.{shape}
 use Rattle.std.specs.Prelude.{Option}
-use Rattle.yasir_c.specs.{Owning.handle_owns, declared.held.Held.Held}
-use Rattle.yasir_c.specs.contracts.handle.Handle as held
+use Rattle.yasir_c.specs.{Owning.owner_owns, declared.held.Held.Held}
+use Rattle.yasir_c.specs.contracts.owner.Owner as held
 
 abbrev pub word : Ptr → Val
 word p = vstruct (vcons (ptr_val p) vnil)
@@ -29,15 +29,15 @@ word_good (block_ptr b o) = (tt, (tt, tt))
 word_good null_ptr = (tt, (record { fits = lit< tt }, tt))
 
 module _ {M : Type 1} {𝓤 : Ura M} {𝓛 : Logic 𝓤} {K : Type 0} {Γ : List (Item 𝓤)} {G : Goal 𝓤 𝓛.H} where
-  pub handle_out : K → (d : held.the_row.Denot) (vs : List Val)
-      → (vs ≡ word d.at ∷ [] → Seq K 𝓛 (‵ (handle_owns d.at d.value) ∷ Γ) G)
+  pub owner_out : K → (d : held.the_row.Denot) (vs : List Val)
+      → (vs ≡ word d.at ∷ [] → Seq K 𝓛 (‵ (owner_owns d.at d.value) ∷ Γ) G)
       → Seq K 𝓛 (‵ (held.the_row.own_val d vs) ∷ Γ) G
-  handle_out t d vs k =
+  owner_out t d vs k =
       fsplit t $ fpick t (λ vss. fsplit t $ feq_l t (λ ev. fsplit t $ feq_l t (λ ep. drop t $ k
       (subst (λ (ps : List Val). vs ≡ vstruct (of_list (ps ++ [])) ∷ []) ep ev))))
 
-  pub handle_in : K → (p : Ptr) (x : Option Held)
-      → Step K 𝓛 (‵ (held.the_row.own_val (record { at = p; value = x }) (word p ∷ [])) ∷ Γ) G (‵ (handle_owns p x) ∷ Γ) G
-  handle_in t p x = step (λ s. nothing t $ feq_i t (List Val) (ptr_val p ∷ []) (ptr_val p ∷ []) refl $ fjoin t $
+  pub owner_in : K → (p : Ptr) (x : Option Held)
+      → Step K 𝓛 (‵ (held.the_row.own_val (record { at = p; value = x }) (word p ∷ [])) ∷ Γ) G (‵ (owner_owns p x) ∷ Γ) G
+  owner_in t p x = step (λ s. nothing t $ feq_i t (List Val) (ptr_val p ∷ []) (ptr_val p ∷ []) refl $ fjoin t $
       feq_i t (List Val) (word p ∷ []) (word p ∷ []) refl $ fjoin t $
       fpack t (Valss (RawPtr ∷ [])) (within (shape held.the_type) (p, tt) (word p ∷ [])) (ptr_val p ∷ [], tt) $ fjoin t $ s)

@@ -17,16 +17,16 @@ use denote.Triple.Entry.{alive}
 use denote.Triple.Walked.{Stays, stay_dropped, walk_of}
 use Rattle.{core.proofs.alloc.Calls.Goes-blank, std.proofs.raw_atomic.Walks.proved_at}
 use Rattle.std.{proofs.raw_atomic.Walks.leaves, specs.Prelude.Some}
-use Rattle.yasir_c.proofs.Handles.{word, word_good, handle_in}
+use Rattle.yasir_c.proofs.Owners.{word, word_good, owner_in}
 use Rattle.std.specs.contracts.alloc.Global as heap
 use Rattle.std.proofs.alloc.Global.TheLaws as heap_laws
 use Rattle.std.specs.{Box.Ownership.box_owns, contracts.impls.GlobalAllocator.TheImpl.ghosts}
 use Rattle.std.specs.declared.alloc.Global.{Global}
 use Rattle.yasir_c.proofs.Values.{both, loose_good, loose_out, Loose}
 use Rattle.yasir_c.specs.contracts.held.Held as state
-use Rattle.yasir_c.proofs.handle.Handle.of.Statement.{statement}
-use Rattle.yasir_c.specs.contracts.handle.Handle.of.{ended, clauses, Key.name as #self}
-use Rattle.yasir_c.proofs.handle.Handle.of.Code as code
+use Rattle.yasir_c.proofs.owner.Owner.of.Statement.{statement}
+use Rattle.yasir_c.specs.contracts.owner.Owner.of.{ended, clauses, Key.name as #self}
+use Rattle.yasir_c.proofs.owner.Owner.of.Code as code
 
 pub of_spec : {M : Type 1} → statement M
 of_spec 𝓤 𝓛 𝓜 𝓡 wired =
@@ -46,6 +46,6 @@ of_spec 𝓤 𝓛 𝓜 𝓡 wired =
     sets ! (agg ! (and_then ! (get ! refl) (no_more !))) refl (word_good (block_ptr b o)) $
     returns ! (look_at ! 0 refl) $ free_all ! refl $
     fpack ! Global (λ freed. box_owns (ghosts.dealloc_token freed) R (block_ptr b o) v.value) v.alloc $
-    handle_in ! (block_ptr b o) (Some v.value) $ use0 𝓛 (raw (fact 𝓤 (Some v.value ≡ Some v.value))) (fact_i 𝓤 (Some v.value ≡ Some v.value) (emp 𝓤) refl) $
+    owner_in ! (block_ptr b o) (Some v.value) $ use0 𝓛 (raw (fact 𝓤 (Some v.value ≡ Some v.value))) (fact_i 𝓤 (Some v.value ≡ Some v.value) (emp 𝓤) refl) $
     nothing ! $ nothing ! $ fjoin ! $ keep ! (5 ∷ 0 ∷ 2 ∷ 1 ∷ []) $
     by ! (leaves 𝓛 En hs c z (word (block_ptr b o)) (record { at = block_ptr b o; value = Some v.value }) (_, tt) (tt, tt)))))

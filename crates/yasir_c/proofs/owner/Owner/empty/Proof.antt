@@ -16,11 +16,11 @@ use denote.Triple.Walked.{walk_of}
 use Rattle.std.proofs.raw_atomic.Walks.{proved, leaves}
 use Rattle.std.specs.Prelude.{Option, None}
 use mathlib.Core.Path.{Path}
-use Rattle.yasir_c.proofs.Handles.{word, word_good, handle_in}
-use Rattle.yasir_c.proofs.handle.Handle.empty.Statement.{statement}
-use Rattle.yasir_c.specs.contracts.handle.Handle.empty.{ended, clauses, Key.name as #self}
+use Rattle.yasir_c.proofs.Owners.{word, word_good, owner_in}
+use Rattle.yasir_c.proofs.owner.Owner.empty.Statement.{statement}
+use Rattle.yasir_c.specs.contracts.owner.Owner.empty.{ended, clauses, Key.name as #self}
 use Rattle.yasir_c.specs.declared.held.Held.{Held}
-use Rattle.yasir_c.proofs.handle.Handle.empty.Code as code
+use Rattle.yasir_c.proofs.owner.Owner.empty.Code as code
 
 pub empty_spec : {M : Type 1} → statement M
 empty_spec 𝓤 𝓛 𝓜 𝓡 wired =
@@ -30,6 +30,6 @@ empty_spec 𝓤 𝓛 𝓜 𝓡 wired =
     qed 𝓛 ((raw (alive 𝓛 En.signature κs qs) ⊛ ‵ ftrue) ∷ raw ((c κs a).requires gh) ∷ []) ∵ split ! $ keep ! (0 ∷ []) $
     enter ! 𝓣.C 𝓣.Λ fn [] Post $ alloc_all ! (λ l. pass_all ! refl tt $
     sets ! (agg ! (and_then ! (lit ! tt) (no_more !))) refl (word_good null_ptr) $
-    nothing ! $ handle_in ! null_ptr None $ use0 𝓛 (raw (fact 𝓤 (Path (Option Held) None None))) (fact_i 𝓤 (Path (Option Held) None None) (emp 𝓤) refl) $ nothing ! $
+    nothing ! $ owner_in ! null_ptr None $ use0 𝓛 (raw (fact 𝓤 (Path (Option Held) None None))) (fact_i 𝓤 (Path (Option Held) None None) (emp 𝓤) refl) $ nothing ! $
     returns ! (look_at ! 0 refl) $ free_all ! refl $ keep ! (3 ∷ 0 ∷ 2 ∷ 1 ∷ []) $
     by ! (leaves 𝓛 En tt c y (word null_ptr) (record { at = null_ptr; value = None }) tt tt)))
