@@ -7,22 +7,34 @@
  * tick, and for each tick it returns the tick of the other line at the same place. Ticks are counted
  * from 0, as the box takes them.
  *
+ * A number is never used twice. A box keeps the last number that it used in a journal of two slots
+ * of 24 bytes, which the caller stores. If a step uses a number, yasir_step withholds the tick and the
+ * note of that step, and returns YASIR_COMMIT and the slot to be written. The caller writes the slot,
+ * syncs, and tells how that went by yasir_committed. This hands out what was withheld, or, if the
+ * write or the sync failed, stops the box for good. In between the box takes no tick.
+ *
  * What the caller owes
- *  - A handle is {0} before yasir_new or yasir_spacer_new and after yasir_free; between them it
- *    holds a box or a spacer. yasir_new and yasir_spacer_new must be given a handle that holds
- *    nothing, yasir_spacer_step one that holds a spacer, yasir_free one that holds a box or a spacer,
- *    and every other function that takes a handle one that holds a box.
- *  - A handle is never copied while it holds something, and no two calls use it at the same time.
- *  - Each pointer with a length beside it points to that many bytes. Nothing else uses what a
- *    pointer points to during the call.
+ *  - A handle is {0} before the first call that is given it. It is changed by these functions alone,
+ *    and isn't copied while it holds something.
+ *  - Each pointer with a length beside it points to that many bytes, and no pointer is null unless
+ *    its length is 0. What two pointers of one call point to doesn't overlap, and nothing else reads
+ *    or writes it during the call.
+ *  - A handle is used by the thread that made what it holds, and by no other. Different handles may be
+ *    used by different threads at the same time.
  *  - malloc and free are those of the C library. No call is made from a signal handler, or in the
  *    forked child of a process that has threads.
+ *  - The key is secret, and the same at both ends of the link.
  *
- * What the caller owes the disk. A box keeps the last number that it used in a journal of two slots
- * of 24 bytes, which the caller stores. If `commit` of an answer names a slot, the caller must write
- * the 24 bytes of `slot` into it and sync before the tick of this answer leaves. If the write or the
- * sync fails, the tick must not leave, and the box must not be used any more: the next start loads
- * the journal again. */
+ * What the caller owes so that no number is used twice under one key
+ *  - The slots that yasir_new is given are what the disk holds, and are synced: those that
+ *    yasir_init made, or those that were last written for this box.
+ *  - One box at a time uses a journal: a journal that is loaded isn't loaded again until the box is
+ *    freed. Nothing sees two handles over one journal. Use a lock.
+ *  - With one key, one transmitter sends in a direction, and its journal is never made anew, copied
+ *    back from a backup, or lost.
+ *  - yasir_committed is given 1 only if all 24 bytes were written and then synced without an error.
+ *  - After a sync that failed, the machine is restarted before the journal is loaded again: the system
+ *    may have dropped what it couldn't write, and still read it back. */
 #ifndef YASIR_H
 #define YASIR_H
 
@@ -33,11 +45,23 @@
 extern "C" {
 #endif
 
-/* A handle: it holds a box, a spacer, or nothing. It is {0} if it holds nothing. */
-typedef struct { void *box; } yasir_handle;
+/* The version of these functions. It rises when one of them changes what it takes or returns. */
+#define YASIR_VERSION 2
 
-/* The bytes of one slot, and the room in bytes that `sent` of the calls for runs must have. */
-enum { YASIR_SLOT_LEN = 24, YASIR_RUN_LEN = 64 };
+/* Returns YASIR_VERSION of the library. */
+uint32_t yasir_version(void);
+
+/* A handle: it holds a box, a spacer, or nothing. It is {0} if it holds nothing. A caller sets it to
+ * {0} once, and neither reads nor writes its fields after that.
+ *
+ * On x86-64 a box is one block of 1,024 bytes. A spacer is one of these, and two more blocks with 300
+ * bytes for each frame that may wait. A call for a box needs up to 6,100 bytes of stack, and one for a
+ * spacer up to 1,000. These sizes were measured by scripts/clib_sizes.py, and aren't proved. */
+typedef struct { void *box; uint8_t holds; } yasir_handle;
+
+/* The bytes of one slot and of both, and the room in bytes that `sent` of the calls for runs must
+ * have. */
+enum { YASIR_SLOT_LEN = 24, YASIR_SLOTS_LEN = 48, YASIR_RUN_LEN = 64 };
 
 /* Which box: its part, protocol, profile and direction, each by one of the numbers below. */
 typedef struct { uint8_t part, protocol, profile, direction; } yasir_kind;
@@ -50,8 +74,7 @@ enum { YASIR_AB = 0, YASIR_BA = 1 };            /* direction: ab, ba */
 /* A tick that is given to a step: 0 to 255 is that byte, and YASIR_SILENT is silence. */
 enum { YASIR_SILENT = 256 };
 
-/* The status that yasir_new, yasir_step, yasir_init, yasir_spacer_new and yasir_spacer_step return.
- * Each of them says below which of these it can return. */
+/* The status that a call returns. Each function below says which of these it can return. */
 enum {
     YASIR_OK = 0,
     YASIR_BAD_ARGUMENT = 1, /* there is no such box, spacer or tick, or a length is wrong */
@@ -59,6 +82,10 @@ enum {
     YASIR_OTHER_LINK = 3,   /* the slots hold numbers, but only for other links */
     YASIR_NO_MEMORY = 4,    /* malloc gave no memory */
     YASIR_FULL = 5,         /* the box or the spacer has taken 2^62 ticks, and takes no more */
+    YASIR_COMMIT = 6,       /* the tick is taken, and withheld until yasir_committed */
+    YASIR_WAITING = 7,      /* an earlier tick is still withheld */
+    YASIR_STOPPED = 8,      /* a slot couldn't be written: the box returns nothing any more */
+    YASIR_EMPTY = 9,        /* the handle doesn't hold what the call is for */
 };
 
 /* What `note` of an answer says about a burst, and which other fields it sets. A transmitter returns
@@ -79,15 +106,16 @@ enum {
 /* What `commit` of an answer says: the slot that the caller must write, if any. */
 enum { YASIR_NO_COMMIT = 0, YASIR_SLOT_A = 1, YASIR_SLOT_B = 2 };
 
-/* What yasir_step returns for one tick: the tick of the other line, the slot that the caller must
- * write, and the note, if there is one. */
+/* The answer of one tick: the tick of the other line, and the note, if there is one. With
+ * YASIR_COMMIT `commit` is the slot to be written, and all other fields are 0: the tick and the note
+ * are withheld, and there is nothing to send. */
 typedef struct {
     uint64_t number; /* of the frame, if the note is sealed or passed; otherwise 0 */
     uint64_t start;  /* the tick of the first byte of the noted burst; 0 without a note */
     uint16_t len;    /* bytes of the frame, if the note is sealed or passed; otherwise 0 */
     uint8_t is_byte; /* 1 if the tick of the other line carries a byte, 0 if it is silent */
     uint8_t byte;    /* that byte; 0 if the tick is silent */
-    uint8_t commit;  /* YASIR_NO_COMMIT, or the slot to write and sync before this tick leaves */
+    uint8_t commit;  /* with YASIR_COMMIT the slot to write and sync; otherwise YASIR_NO_COMMIT */
     uint8_t note;    /* YASIR_NO_NOTE, or what is noted */
     uint8_t why;     /* the reason, if the note is unsealed, refused or dropped; otherwise 0 */
     uint8_t unused;  /* always 0 */
@@ -97,19 +125,37 @@ typedef struct {
  * `key` is the secret that both boxes of the link have; any length is taken (link_replay takes 16 to
  * 64 bytes). `slots` is both slots of the box's journal, slot A and then slot B: slots_len must be 48.
  *
- * Returns YASIR_OK, YASIR_BAD_ARGUMENT (no such kind, or slots_len isn't 48), YASIR_NO_JOURNAL,
- * YASIR_OTHER_LINK or YASIR_NO_MEMORY. Unless it returns YASIR_OK the handle still holds nothing. */
+ * Returns YASIR_OK, YASIR_BAD_ARGUMENT (no such kind, slots_len isn't 48, or the handle holds
+ * something), YASIR_NO_JOURNAL, YASIR_OTHER_LINK or YASIR_NO_MEMORY. Unless it returns YASIR_OK the
+ * handle is unchanged. */
 uint8_t yasir_new(yasir_handle *handle, const yasir_kind *kind, const uint8_t *key, size_t key_len,
                   const uint8_t *slots, size_t slots_len);
 
-/* Takes the next tick with the box: `tick` is a byte (0 to 255) or YASIR_SILENT. Writes what the step
- * returns to `answer`. Writes 24 bytes to `slot`, for which slot_len must be 24: those that the caller
- * must write into the slot that `commit` of the answer names, or zeros with YASIR_NO_COMMIT.
+/* Takes the next tick with the box: `tick` is a byte (0 to 255) or YASIR_SILENT. Writes 24 bytes to
+ * `slot`, for which slot_len must be 24.
  *
- * Returns YASIR_OK, YASIR_BAD_ARGUMENT (`tick` is above 256, or slot_len isn't 24) or YASIR_FULL.
- * Unless it returns YASIR_OK the tick isn't taken, and box, answer and slot are unchanged. */
+ * Returns YASIR_OK if the step uses no number: `answer` has the tick of the other line and the note,
+ * and `slot` is zeros. Returns YASIR_COMMIT if it uses a number: `answer` has only `commit`, and
+ * `slot` has the bytes that the caller must write into that slot and sync, before it calls
+ * yasir_committed.
+ *
+ * Otherwise it returns YASIR_BAD_ARGUMENT (`tick` is above 256, or slot_len isn't 24), YASIR_EMPTY
+ * (the handle holds no box), YASIR_WAITING, YASIR_STOPPED or YASIR_FULL. Then the tick isn't taken,
+ * and box, answer and slot are unchanged. */
 uint8_t yasir_step(yasir_handle *handle, uint16_t tick, yasir_answer *answer, uint8_t *slot,
                    size_t slot_len);
+
+/* Tells the box how the commit went that yasir_step asked for with YASIR_COMMIT. `ok` is 1 if the
+ * slot is written and synced, and 0 if the write or the sync failed.
+ *
+ * Returns YASIR_OK if `ok` is 1: `answer` has the tick and the note that were withheld, with
+ * YASIR_NO_COMMIT, and the box takes the next tick. Returns YASIR_STOPPED if `ok` is 0: `answer` is
+ * unchanged, what was withheld is never returned, and from then on yasir_step and yasir_committed
+ * return YASIR_STOPPED and the calls for runs take nothing. The next start loads the journal again.
+ *
+ * Otherwise it returns YASIR_BAD_ARGUMENT (`ok` is above 1, or nothing is withheld) or YASIR_EMPTY
+ * (the handle holds no box), and box and answer are unchanged. */
+uint8_t yasir_committed(yasir_handle *handle, uint8_t ok, yasir_answer *answer);
 
 /* Takes ticks that carry the first of the `len` bytes at `bytes`, one byte a tick, as long as the box
  * returns silence for all of these ticks or a byte for each of them, with no note and no slot to
@@ -118,25 +164,24 @@ uint8_t yasir_step(yasir_handle *handle, uint16_t tick, yasir_answer *answer, ui
  * 0, all ticks that the box returned are silent.
  *
  * Returns how many ticks were taken, 0 to `len`. If it returns 0, nothing was taken, and the caller
- * goes on with yasir_step; with sent_len below 64 it always returns 0. */
+ * goes on with yasir_step. It always returns 0 if sent_len is below 64, while a tick is withheld,
+ * after the box was stopped, and if the handle holds no box. */
 size_t yasir_take_bytes(yasir_handle *handle, const uint8_t *bytes, size_t len, uint8_t *sent,
                         size_t sent_len, size_t *sent_count);
 
-/* Takes the first of `ticks` silent ticks, as long as the box returns silence for all of them or a
- * byte for each of them, with no note and no slot to write. `sent` must have room for YASIR_RUN_LEN
- * bytes (sent_len, at least 64): it gets the bytes that the box returns, one for each tick taken, and
- * *sent_count is how many they are. If *sent_count is 0, all ticks that the box returned are silent.
+/* Takes the first of `ticks` silent ticks, as yasir_take_bytes takes ticks that carry bytes.
  *
  * Returns how many ticks were taken, 0 to `ticks`. If it returns 0, nothing was taken, and the caller
- * goes on with yasir_step; with sent_len below 64 it always returns 0. */
+ * goes on with yasir_step. It always returns 0 in the cases in which yasir_take_bytes does. */
 size_t yasir_take_silence(yasir_handle *handle, uint32_t ticks, uint8_t *sent, size_t sent_len,
                           size_t *sent_count);
 
-/* Returns the floor of the box: the last number that it used, or 0 if no number was used since its
- * journal was made by yasir_init. The box is unchanged. */
+/* Returns the floor of the box: the last number that it used, also if the tick of that step is still
+ * withheld or the box was stopped; or 0 if no number was used since its journal was made by
+ * yasir_init, or if the handle holds no box. The box is unchanged. */
 uint64_t yasir_floor(yasir_handle *handle);
 
-/* Frees the box or the spacer that the handle holds. The handle then holds nothing. */
+/* Frees the box or the spacer that the handle holds, if it holds one. The handle then holds nothing. */
 void yasir_free(yasir_handle *handle);
 
 /* Writes slot A of a new journal for a box of this kind, with the number 0, to `slot`: 24 bytes, for
@@ -160,20 +205,21 @@ typedef struct {
 
 /* Makes a spacer that has taken no tick, and puts it into a handle that holds nothing. `protocol` is
  * YASIR_RTU or YASIR_DNP3, `profile` is YASIR_Y18 or YASIR_Y24, and `room` is how many frames may
- * wait. The spacer reads a line as a device of the protocol does, and sends each frame again, whole,
- * with at least 21 silent ticks (27 with YASIR_Y24) between one frame and the next. For DNP3 this
- * device forgets a frame that was begun when 18 silent ticks in a row come. All memory is taken here:
- * 300 bytes for each frame that may wait, and that of the spacer itself.
+ * wait, at least 1. The spacer reads a line as a device of the protocol does, and sends each frame
+ * again, whole, with at least 21 silent ticks (27 with YASIR_Y24) between one frame and the next. For
+ * DNP3 this device forgets a frame that was begun when 18 silent ticks in a row come. All memory is
+ * taken here: 300 bytes for each frame that may wait, and that of the spacer itself.
  *
- * Returns YASIR_OK, YASIR_BAD_ARGUMENT (no such protocol or profile) or YASIR_NO_MEMORY. Unless it
- * returns YASIR_OK the handle still holds nothing. */
+ * Returns YASIR_OK, YASIR_BAD_ARGUMENT (no such protocol or profile, `room` is 0, or the handle holds
+ * something) or YASIR_NO_MEMORY. Unless it returns YASIR_OK the handle is unchanged. */
 uint8_t yasir_spacer_new(yasir_handle *handle, uint8_t protocol, uint8_t profile, uint32_t room);
 
 /* Takes the next tick with the spacer: `tick` is a byte (0 to 255) or YASIR_SILENT. Writes what the
  * step returns to `answer`.
  *
- * Returns YASIR_OK, YASIR_BAD_ARGUMENT (`tick` is above 256) or YASIR_FULL. Unless it returns YASIR_OK
- * the tick isn't taken, and spacer and answer are unchanged. */
+ * Returns YASIR_OK, YASIR_BAD_ARGUMENT (`tick` is above 256), YASIR_EMPTY (the handle holds no spacer)
+ * or YASIR_FULL. Unless it returns YASIR_OK the tick isn't taken, and spacer and answer are
+ * unchanged. */
 uint8_t yasir_spacer_step(yasir_handle *handle, uint16_t tick, yasir_spaced *answer);
 
 #ifdef __cplusplus

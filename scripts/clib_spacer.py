@@ -37,7 +37,7 @@ int main(int count, char **words) {
         else if (spaced.lost_start) return 1;
     }
     yasir_free(&spacer);
-    return spacer.box != NULL;
+    return yasir_spacer_step(&spacer, YASIR_SILENT, &spaced) != YASIR_EMPTY;
 }
 """
 

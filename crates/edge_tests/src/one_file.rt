@@ -105,7 +105,7 @@ impl Drop for Opened<'_> {
 }
 
 impl Lock for Opened<'_> {
-    fn try_lock(&self) -> io::Result<()> {
+    fn try_lock(&mut self) -> io::Result<()> {
         self.file.begin()?;
         if self.file.locked.get() && !self.has_lock.get() {
             return Err(ErrorKind::WouldBlock.into());

@@ -241,7 +241,7 @@ impl OpenFile for Opened<'_> {
 }
 
 impl Lock for Opened<'_> {
-    fn try_lock(&self) -> io::Result<()> {
+    fn try_lock(&mut self) -> io::Result<()> {
         Ok(())
     }
 }

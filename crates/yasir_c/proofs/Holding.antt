@@ -1,38 +1,79 @@
 -- What a handle holds is taken out of it and put back.
-use Rattle.any_spacer.specs.{Held.StepsOrFull, declared.forgetful.ForgetfulDevice.ForgetfulDevice}
-use Rattle.any_spacer.specs.declared.held_spacer.HeldSpacer.{HeldSpacer}
-use Rattle.device_model.specs.declared.{device.Device.Ghosts as Device, rtu.RtuDevice.RtuDevice}
-use Rattle.dnp_link_frame.specs.declared.dnp.Dnp.{Dnp}
-use Rattle.{line_spacer.specs.declared.spacer.SpaceStep.SpaceStep, std.proofs.Common.◌≡◌}
-use Rattle.std.proofs.{Common.◌∙◌, Common.sym, Common.ap, Common.refl, lemmas.Option.same_Some}
-use Rattle.std.specs.Prelude.{Option, Some, None}
-use Rattle.yasir_c.specs.Holding.{SpacesOrFull}
-use Rattle.yasir_c.specs.declared.held.Held.{Held, TheVariants.Spacer}
-use Rattle.yasir_ticks.specs.declared.tick.Tick.{Tick}
+use Rattle.std.proofs.Common.{◌≡◌, ◌≤◌, ℕ, ◌∙◌, refl, sym, ap, subst, arith, true, false}
+use Rattle.{std.proofs.lemmas.Bool.false≢true, any_box.specs.declared.owed.Commit.Commit}
+use Rattle.std.specs.Prelude.{Option, Some, None, is_some}
+use Rattle.any_box.specs.declared.{held_box.HeldBox.HeldBox, held_box.HeldStep.HeldStep}
+use Rattle.yasir_c.specs.{Answers.answer_of, Holding.HoldsOne, Withholding.readiness_after}
+use Rattle.yasir_c.specs.Withholding.{withholding, after_step}
+use Rattle.yasir_c.specs.Owning.{number_held}
+use Rattle.yasir_c.specs.declared.held.Held.{Held, TheVariants.LineBox}
+use Rattle.yasir_c.specs.declared.answer.Answer.{Answer}
+use Rattle.yasir_c.specs.declared.withholding.Readiness.TheVariants.{Ready, Withholds}
+use Rattle.yasir_c.specs.declared.withholding.{Readiness.Readiness, WithholdingBox.WithholdingBox}
 
--- what is taken out is of the kind that the handle held
-pub taken-is : {X : Type 0} (make : X → Held) (o : Option Held) (held same : Held)
-    → o ≡ Some held → same ≡ held → (x : X) × (o ≡ Some (make x)) → (x : X) × (same ≡ make x)
-taken-is make o held same out is has =
-    (has.0, is ∙ same_Some held (make has.0) (sym out ∙ has.1))
+-- a handle whose number isn't 0 holds something
+pub some-held : (value : Option Held) (n : ℕ) → n ≡ number_held value → 1 ≤ n
+    → (held : Held) × (value ≡ Some held)
+some-held None n is some = absurd (omega (arith, is, some))
+some-held (Some held) n is some = (held, refl)
 
--- the handle held what was taken out
-pub held-is : {X : Type 0} (make : X → Held) (o : Option Held) (held same : Held) (x : X)
-    → o ≡ Some held → same ≡ held → same ≡ make x → o ≡ Some (make x)
-held-is make o held same x out is has = out ∙ ap (λ h. Some h) (sym is ∙ has)
+-- what holds of what is taken out and of what is put back holds of the handle before and after
+pub put-back : (P : Option Held → Option Held → Type 0) (o n : Option Held) (held same now : Held)
+    → o ≡ Some held → same ≡ held → n ≡ Some now → P (Some same) (Some now) → P o n
+put-back P o n held same now out is put holds =
+    subst (λ x. P x n) (sym (out ∙ ap (λ h. Some h) (sym is)))
+    (subst (λ x. P (Some same) x) (sym put) holds)
+
+-- what holds of what is taken out holds of the handle before
+pub held-so : (P : Option Held → Type 0) (o : Option Held) (held same : Held)
+    → o ≡ Some held → same ≡ held → P (Some same) → P o
+held-so P o held same out is holds = subst P (sym (out ∙ ap (λ h. Some h) (sym is))) holds
 
 -- what is put back as it was taken out leaves the handle as it was
-pub back-is : (old new : Option Held) (held same now : Held)
-    → old ≡ Some held → same ≡ held → new ≡ Some now → now ≡ same → new ≡ old
-back-is old new held same now out is put kept =
+pub back-is : (o n : Option Held) (held same now : Held)
+    → o ≡ Some held → same ≡ held → n ≡ Some now → now ≡ same → n ≡ o
+back-is o n held same now out is put kept =
     (put ∙ ap (λ h. Some h) (kept ∙ is)) ∙ sym out
 
--- a step of the spacer that is held
-pub spaces : (rtu : Device RtuDevice) (dnp : Device (ForgetfulDevice Dnp)) (old : Held)
-    (before after : HeldSpacer) (t : Tick) (result : Option SpaceStep) → old ≡ Spacer before
-    → StepsOrFull rtu dnp before after t result
-    → SpacesOrFull rtu dnp old (Spacer after) t result
-spaces rtu dnp old before after t (Some step) is steps =
-    record { before = before; after = after; old_is = is; new_is = refl; steps = steps }
-spaces rtu dnp old before after t None is full =
-    ((before, is, full.0), ap (λ s. Spacer s) full.1 ∙ sym is)
+-- a box whose readiness is known
+pub with-readiness : (line_box : WithholdingBox) (readiness : Readiness)
+    → line_box.readiness ≡ readiness → Some (LineBox line_box)
+    ≡ Some (LineBox (record { line_box = line_box.line_box; readiness = readiness }))
+with-readiness line_box readiness is =
+    ap (λ r. Some (LineBox (record { line_box = line_box.line_box; readiness = r }))) is
+
+-- the readiness of a box after a step that has something for the caller to write, and after one
+-- that has nothing
+after-some : (commit : Option Commit) (answer : Answer) → true ≡ is_some commit
+    → Withholds answer ≡ readiness_after commit answer
+after-some None answer is = absurd (false≢true (sym is))
+after-some (Some commit) answer is = refl
+
+after-none : (commit : Option Commit) (answer : Answer) → false ≡ is_some commit
+    → Ready ≡ readiness_after commit answer
+after-none None answer is = refl
+after-none (Some commit) answer is = absurd (false≢true is)
+
+pub withheld-after : (held : HeldBox) (step : HeldStep) (answer : Answer) → answer ≡ answer_of step
+    → true ≡ is_some step.commit → Some (LineBox (withholding answer held))
+    ≡ Some (LineBox (after_step step held))
+withheld-after held step answer is some =
+    ap (λ r. Some (LineBox (record { line_box = held; readiness = r })))
+    (ap (λ a. Withholds a) is ∙ after-some step.commit (answer_of step) some)
+
+pub ready-after : (held : HeldBox) (step : HeldStep) (readiness : Readiness) → readiness ≡ Ready
+    → false ≡ is_some step.commit
+    → Some (LineBox (record { line_box = held; readiness = readiness }))
+    ≡ Some (LineBox (after_step step held))
+ready-after held step readiness is none =
+    ap (λ r. Some (LineBox (record { line_box = held; readiness = r })))
+    (is ∙ after-none step.commit (answer_of step) none)
+
+-- whether a handle holds something
+pub holds-one : (value : Option Held) → true ≡ is_some value → HoldsOne value
+holds-one None is = absurd (false≢true (sym is))
+holds-one (Some held) is = (held, refl)
+
+pub holds-none : (value : Option Held) → false ≡ is_some value → value ≡ None
+holds-none None is = refl
+holds-none (Some held) is = absurd (false≢true is)

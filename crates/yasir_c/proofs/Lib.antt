@@ -1,4 +1,5 @@
 mod Values
-mod Handles
-mod NoneTaken
+mod Owners
 mod Holding
+mod Causes
+mod Telling

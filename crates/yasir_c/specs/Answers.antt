@@ -1,5 +1,5 @@
--- What C reads of a step.
-use Rattle.std.specs.Prelude.{ℕ, nat_lt, nat_eq, List, Option, Some, None, replicate, if◌then◌else◌}
+-- What C is told of a step.
+use Rattle.std.specs.Prelude.{ℕ, nat_lt, nat_eq, Option, Some, None, if◌then◌else◌}
 use Rattle.yasir_ticks.specs.declared.tick.Tick.{Tick}
 use Rattle.yasir_ticks.specs.declared.tick.Tick.TheVariants.{Silent, Byte}
 use Rattle.yasir_io.specs.declared.disk.Slot.{Slot}
@@ -57,22 +57,12 @@ abbrev pub slot_number : Slot → ℕ
 slot_number A = 1
 slot_number B = 2
 
--- the number of the slot that must be written, or 0 if none must
-abbrev pub commit_number : Option Commit → ℕ
-commit_number None = 0
-commit_number (Some commit) = slot_number commit.slot
-
--- the bytes that must be written into that slot, or zeros if none must
-abbrev pub commit_bytes : Option Commit → List ℕ
-commit_bytes None = replicate 24 0
-commit_bytes (Some commit) = commit.bytes
-
 -- whether a tick carries a byte, and that byte
 abbrev pub tick_bytes : Tick → ℕ × ℕ
 tick_bytes Silent = (0, 0)
 tick_bytes (Byte b) = (1, b)
 
--- what C reads of a step
+-- the tick and the note of a step, as C reads them
 abbrev pub answer_of : HeldStep → Answer
 answer_of step = record {
   number = (numbers_in step.note).number;
@@ -80,9 +70,23 @@ answer_of step = record {
   len = (numbers_in step.note).len;
   is_byte = (tick_bytes step.tick).0;
   byte = (tick_bytes step.tick).1;
-  commit = commit_number step.commit;
+  commit = 0;
   note = (numbers_in step.note).note;
   why = (numbers_in step.note).why;
+  unused = 0;
+}
+
+-- which slot must be written, and nothing else
+abbrev pub asking : Commit → Answer
+asking commit = record {
+  number = 0;
+  start = 0;
+  len = 0;
+  is_byte = 0;
+  byte = 0;
+  commit = slot_number commit.slot;
+  note = 0;
+  why = 0;
   unused = 0;
 }
 

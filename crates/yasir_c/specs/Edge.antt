@@ -1,10 +1,9 @@
 -- What the functions that C calls do: the clauses of a box, for the values that its handle holds.
-use Rattle.std.specs.Prelude.{◌≡◌, ◌≢◌, ℕ, ◌*◌, ◌≤◌, ◌⊎◌, List, length, take, drop, Option, Some, None}
-use Rattle.yasir_ticks.specs.declared.TheConstants.{MAX_TICKS}
+use Rattle.std.specs.Prelude.{◌≡◌, ◌≢◌, ℕ, ◌*◌, ◌≤◌, ◌⊎◌, List, length, take, drop, replicate}
+use Rattle.std.specs.Prelude.{Option, Some, None}
 use Rattle.yasir_ticks.specs.declared.tick.Tick.{Tick}
 use Rattle.yasir_io.specs.declared.disk.Slot.{Slot}
 use Rattle.yasir_io.specs.declared.disk.TheConstants.{SLOT_LEN}
-use Rattle.burst_walk.specs.Answered.{answered}
 use Rattle.rtu_frame.specs.declared.rtu.Rtu.{Rtu}
 use Rattle.dnp_link_frame.specs.declared.dnp.Dnp.{Dnp}
 use Rattle.line_rules.specs.declared.line_rules.LineRules.{Ghosts as LineRules}
@@ -15,12 +14,16 @@ use Rattle.sequence_journal.specs.Slots.{slot_bytes, any_floor, wrong_slot}
 use Rattle.sequence_journal.specs.declared.journal.LoadError.{LoadError}
 use Rattle.sequence_journal.specs.declared.journal.LoadError.TheVariants as Load
 use Rattle.any_box.specs.Kinds.{link_for}
-use Rattle.any_box.specs.Held.{slots_given, floor_held, ticks_held, Begins, StepsHeld, TakesHeld}
+use Rattle.any_box.specs.Held.{slots_given, Begins}
 use Rattle.any_box.specs.declared.held_box.HeldBox.{HeldBox}
 use Rattle.any_box.specs.declared.held_box.HeldStep.{HeldStep}
 use Rattle.any_box.specs.declared.kind.Kind.{Kind}
-use Rattle.yasir_c.specs.Answers.{answer_of, commit_bytes, tick_in}
+use Rattle.any_box.specs.declared.owed.Commit.{Commit}
+use Rattle.yasir_c.specs.Answers.{answer_of, asking, tick_in}
+use Rattle.yasir_c.specs.Holding.{HoldsOne, HandsOut, HandsNothing}
+use Rattle.yasir_c.specs.Holding.{TakesTick, TakesNoTick, TakesFront}
 use Rattle.yasir_c.specs.Kinds.{IsKind, IsNoKind}
+use Rattle.yasir_c.specs.Withholding.{ready}
 use Rattle.yasir_c.specs.declared.answer.Answer.{Answer}
 use Rattle.yasir_c.specs.declared.held.Held.{Held}
 use Rattle.yasir_c.specs.declared.held.Held.TheVariants.{LineBox}
@@ -28,30 +31,12 @@ use Rattle.yasir_c.specs.declared.kind.KindNumbers.{KindNumbers}
 use Rattle.yasir_c.specs.declared.status.Status.{Status}
 use Rattle.yasir_c.specs.declared.status.Status.TheVariants as Is
 
--- Holds if a handle holds a box or a spacer.
-abbrev pub HoldsOne : Option Held → Type 0
-HoldsOne value = (held : Held) × (value ≡ Some held)
-
--- Holds if a handle holds a box.
-abbrev pub HoldsBox : Option Held → Type 0
-HoldsBox value = (held : HeldBox) × (value ≡ Some (LineBox held))
-
--- Holds if a handle holds a box that has taken as many ticks as a box can take.
-abbrev pub HoldsFull : Option Held → Type 0
-HoldsFull value =
-    (held : HeldBox) × (value ≡ Some (LineBox held)) × (ticks_held held ≡ MAX_TICKS)
-
--- Holds if nothing has changed: the box in a handle, the answer and the slot are as they were.
+-- Holds if nothing has changed: what a handle holds, the answer and the slot are as they were.
 pub record IsAsItWas (old new : Option Held) (answer_old answer_new : Answer)
     (slot_old slot_new : List ℕ) : Type 0 where
   pub box_is : new ≡ old
   pub answer_is : answer_new ≡ answer_old
   pub slot_is : slot_new ≡ slot_old
-
--- Holds if the result is the last number that the box in a handle used, and the box is as it was.
-abbrev pub TellsFloor : Option Held → Option Held → ℕ → Type 0
-TellsFloor old new result = (held : HeldBox) × (old ≡ Some (LineBox held)) × (new ≡ old)
-    × (result ≡ floor_held held)
 
 -- the two slots of a journal that C hands over, one after the other
 abbrev pub first_slot : List ℕ → List ℕ
@@ -60,16 +45,28 @@ first_slot slots = take SLOT_LEN slots
 abbrev pub second_slot : List ℕ → List ℕ
 second_slot slots = take SLOT_LEN (drop SLOT_LEN slots)
 
--- Holds if no slot holds a number.
-abbrev pub FindsNoJournal : List ℕ → Type 0
-FindsNoJournal slots = any_floor (slots_given (first_slot slots) (second_slot slots)) ≡ None
+-- Holds if C asks for this box with both slots of its journal, and the handle holds nothing.
+pub record AsksFor (numbers : KindNumbers) (slots : List ℕ) (old : Option Held) (kind : Kind)
+    (dir : Dir) : Type 0 where
+  pub kind_is : IsKind numbers kind dir
+  pub length_is : length slots ≡ 2 * SLOT_LEN
+  pub holds_none : old ≡ None
 
--- Holds if the slots hold numbers only for other links than that of the box. `place` is the slot
--- with the greatest.
-pub record FindsOtherLink (numbers : KindNumbers) (slots : List ℕ) : Type 0 where
+-- Holds if a box is asked for, and no slot holds a number.
+pub record FindsNoJournal (numbers : KindNumbers) (slots : List ℕ) (old : Option Held)
+    : Type 0 where
   pub kind : Kind
   pub dir : Dir
-  pub kind_is : IsKind numbers kind dir
+  pub asks : AsksFor numbers slots old kind dir
+  pub no_floor : any_floor (slots_given (first_slot slots) (second_slot slots)) ≡ None
+
+-- Holds if a box is asked for, and the slots hold numbers only for other links than that of the
+-- box. `place` is the slot with the greatest.
+pub record FindsOtherLink (numbers : KindNumbers) (slots : List ℕ) (old : Option Held)
+    : Type 0 where
+  pub kind : Kind
+  pub dir : Dir
+  pub asks : AsksFor numbers slots old kind dir
   pub place : Slot
   pub wrong : wrong_slot (link_for kind dir)
       (slots_given (first_slot slots) (second_slot slots)) ≡ Some place
@@ -88,77 +85,97 @@ pub record BeginsSlot (numbers : KindNumbers) (slot : List ℕ) : Type 0 where
   pub slot_is : slot ≡ slot_bytes 0 (link_for kind dir)
 
 -- What has happened, by the status: slot A of a new journal is written, or there is no such box, or
--- no room of a slot's size, and nothing is written.
+-- the slot has another length, and the slot is as it was.
 abbrev pub InitsBy : KindNumbers → List ℕ → List ℕ → Status → Type 0
 InitsBy numbers old new Is.Done = BeginsSlot numbers new
 InitsBy numbers old new Is.BadArgument =
     (new ≡ old) × (IsNoKind numbers ⊎ (length old ≢ SLOT_LEN))
-InitsBy numbers old new Is.NoJournal = ⊥
-InitsBy numbers old new Is.OtherLink = ⊥
-InitsBy numbers old new Is.NoMemory = ⊥
-InitsBy numbers old new Is.Full = ⊥
+InitsBy numbers old new status = ⊥
+
+-- What C is told of a step, by the status: the tick and the note if the step uses no number, and
+-- otherwise only what it must write.
+abbrev pub TellsStep : HeldStep → Answer → List ℕ → Status → Type 0
+TellsStep step answer slot Is.Done =
+    (step.commit ≡ None) × (answer ≡ answer_of step) × (slot ≡ replicate SLOT_LEN 0)
+TellsStep step answer slot Is.Commit = (commit : Commit) × (step.commit ≡ Some commit)
+    × (answer ≡ asking commit) × (slot ≡ commit.bytes)
+TellsStep step answer slot status = ⊥
+
+-- What has happened, by the status: the answer that was withheld is returned, or the box is
+-- stopped, or there is a cause to return none, and nothing has changed.
+abbrev pub CommittedBy : Option Held → Option Held → ℕ → Answer → Answer → Status → Type 0
+CommittedBy old new ok answer_old answer_new Is.Done = (ok ≡ 1) × HandsOut old new answer_new
+CommittedBy old new ok answer_old answer_new status =
+    (answer_new ≡ answer_old) × HandsNothing ok old new status
+
+-- Holds if a call for runs has taken nothing, and has changed nothing but the count of bytes, which
+-- is 0.
+pub record TakesNothing (old new : Option Held) (sent_old sent_new : List ℕ)
+    (sent_count result : ℕ) : Type 0 where
+  pub none : result ≡ 0
+  pub no_bytes : sent_count ≡ 0
+  pub box_is : new ≡ old
+  pub sent_is : sent_new ≡ sent_old
 
 -- The rules of the two protocols, and the MACs of the two profiles.
 module _ (rtu : LineRules Rtu) (dnp : LineRules Dnp) (short : Mac HmacSha1)
     (long : Mac HmacSha256) where
-  -- Holds if a box begins from both slots of its journal, and the handle holds it.
-  pub record Makes (numbers : KindNumbers) (key slots : List ℕ) (new : Option Held) : Type 0 where
+  -- Holds if a box that was asked for begins from both slots of its journal, and the handle holds
+  -- it, ready for the first tick.
+  pub record Makes (numbers : KindNumbers) (key slots : List ℕ) (old new : Option Held)
+      : Type 0 where
     pub held : HeldBox
     pub kind : Kind
     pub dir : Dir
-    pub new_is : new ≡ Some (LineBox held)
-    pub kind_is : IsKind numbers kind dir
+    pub new_is : new ≡ Some (LineBox (ready held))
+    pub asks : AsksFor numbers slots old kind dir
     pub begins : Begins rtu dnp short long kind dir key (first_slot slots) (second_slot slots) held
 
   -- What has happened, by the status: the handle holds a box that begins, or there is a cause for
-  -- none, and the handle holds nothing.
-  abbrev pub MakesBy : KindNumbers → List ℕ → List ℕ → Option Held → Status → Type 0
-  MakesBy numbers key slots new Is.Done = Makes numbers key slots new
-  MakesBy numbers key slots new Is.BadArgument =
-      (new ≡ None) × (IsNoKind numbers ⊎ (length slots ≢ 2 * SLOT_LEN))
-  MakesBy numbers key slots new Is.NoJournal = (new ≡ None) × FindsNoJournal slots
-  MakesBy numbers key slots new Is.OtherLink = (new ≡ None) × FindsOtherLink numbers slots
-  MakesBy numbers key slots new Is.NoMemory = new ≡ None
-  MakesBy numbers key slots new Is.Full = ⊥
+  -- none, and the handle holds what it held.
+  abbrev pub MakesBy : KindNumbers → List ℕ → List ℕ → Option Held → Option Held → Status → Type 0
+  MakesBy numbers key slots old new Is.Done = Makes numbers key slots old new
+  MakesBy numbers key slots old new Is.BadArgument =
+      (new ≡ old) × (IsNoKind numbers ⊎ ((length slots ≢ 2 * SLOT_LEN) ⊎ HoldsOne old))
+  MakesBy numbers key slots old new Is.NoJournal = (new ≡ old) × FindsNoJournal numbers slots old
+  MakesBy numbers key slots old new Is.OtherLink = (new ≡ old) × FindsOtherLink numbers slots old
+  MakesBy numbers key slots old new Is.NoMemory = new ≡ old
+  MakesBy numbers key slots old new status = ⊥
 
-  -- Holds if the box in a handle has taken a tick, and what C reads is what its step returns.
+  -- Holds if the box in a handle has taken a tick, and C is told of the step with this status.
   pub record StepsOnce (old new : Option Held) (number : ℕ) (answer : Answer) (slot : List ℕ)
-      : Type 0 where
-    pub before : HeldBox
-    pub after : HeldBox
+      (status : Status) : Type 0 where
     pub t : Tick
     pub step : HeldStep
-    pub old_is : old ≡ Some (LineBox before)
-    pub new_is : new ≡ Some (LineBox after)
     pub tick_is : tick_in number ≡ Some t
-    pub steps : StepsHeld rtu dnp short long before after t step
-    pub answer_is : answer ≡ answer_of step
-    pub slot_is : slot ≡ commit_bytes step.commit
+    pub takes : TakesTick rtu dnp short long old new t step
+    pub tells : TellsStep step answer slot status
 
   -- What has happened, by the status: the box has taken a tick, or there is a cause not to, and
   -- nothing has changed.
   abbrev pub StepsBy : Option Held → Option Held → ℕ → Answer → Answer → List ℕ → List ℕ
       → Status → Type 0
   StepsBy old new number answer_old answer_new slot_old slot_new Is.Done =
-      StepsOnce old new number answer_new slot_new
+      StepsOnce old new number answer_new slot_new Is.Done
+  StepsBy old new number answer_old answer_new slot_old slot_new Is.Commit =
+      StepsOnce old new number answer_new slot_new Is.Commit
   StepsBy old new number answer_old answer_new slot_old slot_new Is.BadArgument =
       IsAsItWas old new answer_old answer_new slot_old slot_new
       × ((tick_in number ≡ None) ⊎ (length slot_old ≢ SLOT_LEN))
-  StepsBy old new number answer_old answer_new slot_old slot_new Is.NoJournal = ⊥
-  StepsBy old new number answer_old answer_new slot_old slot_new Is.OtherLink = ⊥
-  StepsBy old new number answer_old answer_new slot_old slot_new Is.NoMemory = ⊥
-  StepsBy old new number answer_old answer_new slot_old slot_new Is.Full =
-      IsAsItWas old new answer_old answer_new slot_old slot_new × HoldsFull old
+  StepsBy old new number answer_old answer_new slot_old slot_new status =
+      IsAsItWas old new answer_old answer_new slot_old slot_new × TakesNoTick old status
 
-  -- Holds if the box in a handle has taken the first ticks of a run, and `sent` begins with what
-  -- leaves.
-  pub record TakesAt (old new : Option Held) (run : List Tick) (sent : List ℕ)
+  -- Holds if the box in a handle has taken the first ticks of a run, and `sent`, which has room for
+  -- 64 bytes, begins with what leaves.
+  pub record TakesAt (old new : Option Held) (run : List Tick) (sent_old sent_new : List ℕ)
       (sent_count result : ℕ) : Type 0 where
-    pub before : HeldBox
-    pub after : HeldBox
-    pub old_is : old ≡ Some (LineBox before)
-    pub new_is : new ≡ Some (LineBox after)
-    pub within : result ≤ length run
-    pub room : sent_count ≤ length sent
-    pub takes : TakesHeld rtu dnp short long before after (take result run)
-        (answered result (take sent_count sent))
+    pub takes : TakesFront rtu dnp short long old new run (take sent_count sent_new) result
+    pub room : 64 ≤ length sent_old
+    pub within : sent_count ≤ length sent_new
+    pub rest : drop sent_count sent_new ≡ drop sent_count sent_old
+
+  -- Holds if a call for runs has done so, or has taken nothing.
+  abbrev pub TakesBy : Option Held → Option Held → List Tick → List ℕ → List ℕ → ℕ → ℕ → Type 0
+  TakesBy old new run sent_old sent_new sent_count result =
+      TakesAt old new run sent_old sent_new sent_count result
+      ⊎ TakesNothing old new sent_old sent_new sent_count result

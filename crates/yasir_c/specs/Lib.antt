@@ -2,6 +2,8 @@ pub mod Kinds
 pub mod Statuses
 pub mod Answers
 pub mod Owning
+pub mod Withholding
 pub mod Holding
 pub mod Edge
 pub mod SpacerEdge
+pub mod Telling

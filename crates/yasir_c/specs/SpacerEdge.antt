@@ -1,31 +1,22 @@
 -- What the functions that C calls for a spacer do.
-use Rattle.std.specs.Prelude.{◌≡◌, ◌≢◌, ℕ, Option, Some, None}
-use Rattle.yasir_ticks.specs.declared.TheConstants.{MAX_TICKS}
+use Rattle.std.specs.Prelude.{◌≡◌, ◌≢◌, ℕ, ◌≤◌, ◌⊎◌, Option, Some, None}
 use Rattle.yasir_ticks.specs.declared.tick.Tick.{Tick}
 use Rattle.device_model.specs.declared.device.Device.{Ghosts as Device}
 use Rattle.device_model.specs.declared.rtu.RtuDevice.{RtuDevice}
 use Rattle.line_spacer.specs.declared.spacer.SpaceStep.{SpaceStep}
 use Rattle.dnp_link_frame.specs.declared.dnp.Dnp.{Dnp}
-use Rattle.any_spacer.specs.Held.{spacer_ticks, BeginsSpacer, StepsSpacer}
+use Rattle.any_spacer.specs.Held.{BeginsSpacer}
 use Rattle.any_spacer.specs.declared.any_spacer.SpacerKind.{SpacerKind}
 use Rattle.any_spacer.specs.declared.any_spacer.SpacerKind.TheVariants.{Rtu, RtuWide, Dnp3, Dnp3Wide}
 use Rattle.any_spacer.specs.declared.forgetful.ForgetfulDevice.{ForgetfulDevice}
 use Rattle.any_spacer.specs.declared.held_spacer.HeldSpacer.{HeldSpacer}
 use Rattle.yasir_c.specs.Answers.{tick_bytes, tick_in}
+use Rattle.yasir_c.specs.Holding.{HoldsOne, SpacesTick, SpacesNoTick}
 use Rattle.yasir_c.specs.declared.held.Held.{Held}
 use Rattle.yasir_c.specs.declared.held.Held.TheVariants.{Spacer}
 use Rattle.yasir_c.specs.declared.spaced.Spaced.{Spaced}
 use Rattle.yasir_c.specs.declared.status.Status.{Status}
 use Rattle.yasir_c.specs.declared.status.Status.TheVariants as Is
-
--- Holds if a handle holds a spacer.
-abbrev pub HoldsSpacer : Option Held → Type 0
-HoldsSpacer value = (held : HeldSpacer) × (value ≡ Some (Spacer held))
-
--- Holds if a handle holds a spacer that has taken as many ticks as a spacer can take.
-abbrev pub HoldsFullSpacer : Option Held → Type 0
-HoldsFullSpacer value =
-    (held : HeldSpacer) × (value ≡ Some (Spacer held)) × (spacer_ticks held ≡ MAX_TICKS)
 
 -- the numbers of a protocol and a profile by which C names a spacer
 abbrev pub spacer_numbers : SpacerKind → ℕ × ℕ
@@ -60,33 +51,33 @@ spaced_of step = record {
 
 -- The devices as which a spacer hears a line.
 module _ (rtu : Device RtuDevice) (dnp : Device (ForgetfulDevice Dnp)) where
-  -- Holds if a spacer begins, and the handle holds it.
-  pub record MakesSpacer (protocol profile room : ℕ) (new : Option Held) : Type 0 where
+  -- Holds if a spacer begins with room for a frame or more, and the handle, which held nothing,
+  -- holds it.
+  pub record MakesSpacer (protocol profile room : ℕ) (old new : Option Held) : Type 0 where
     pub held : HeldSpacer
     pub kind : SpacerKind
+    pub old_is : old ≡ None
     pub new_is : new ≡ Some (Spacer held)
     pub kind_is : (protocol, profile) ≡ spacer_numbers kind
+    pub some_room : 1 ≤ room
     pub begins : BeginsSpacer rtu dnp kind room held
 
   -- What has happened, by the status: the handle holds a spacer that begins, or there is a cause
-  -- for none, and the handle holds nothing.
-  abbrev pub MakesSpacerBy : ℕ → ℕ → ℕ → Option Held → Status → Type 0
-  MakesSpacerBy protocol profile room new Is.Done = MakesSpacer protocol profile room new
-  MakesSpacerBy protocol profile room new Is.BadArgument =
-      (new ≡ None) × NamesNoSpacer protocol profile
-  MakesSpacerBy protocol profile room new Is.NoMemory = new ≡ None
-  MakesSpacerBy protocol profile room new status = ⊥
+  -- for none, and the handle holds what it held.
+  abbrev pub MakesSpacerBy : ℕ → ℕ → ℕ → Option Held → Option Held → Status → Type 0
+  MakesSpacerBy protocol profile room old new Is.Done =
+      MakesSpacer protocol profile room old new
+  MakesSpacerBy protocol profile room old new Is.BadArgument =
+      (new ≡ old) × (NamesNoSpacer protocol profile ⊎ ((room ≡ 0) ⊎ HoldsOne old))
+  MakesSpacerBy protocol profile room old new Is.NoMemory = new ≡ old
+  MakesSpacerBy protocol profile room old new status = ⊥
 
-  -- Holds if the spacer in a handle has taken a tick, and what C reads is what its step returns.
+  -- Holds if the spacer in a handle has taken a tick, and C reads what its step returns.
   pub record SpacesOnce (old new : Option Held) (number : ℕ) (answer : Spaced) : Type 0 where
-    pub before : HeldSpacer
-    pub after : HeldSpacer
     pub t : Tick
     pub step : SpaceStep
-    pub old_is : old ≡ Some (Spacer before)
-    pub new_is : new ≡ Some (Spacer after)
     pub tick_is : tick_in number ≡ Some t
-    pub steps : StepsSpacer rtu dnp before after t step
+    pub takes : SpacesTick rtu dnp old new t step
     pub answer_is : answer ≡ spaced_of step
 
   -- What has happened, by the status: the spacer has taken a tick, or there is a cause not to, and
@@ -95,6 +86,5 @@ module _ (rtu : Device RtuDevice) (dnp : Device (ForgetfulDevice Dnp)) where
   SpacesBy old new number answer_old answer_new Is.Done = SpacesOnce old new number answer_new
   SpacesBy old new number answer_old answer_new Is.BadArgument =
       (new ≡ old) × (answer_new ≡ answer_old) × (tick_in number ≡ None)
-  SpacesBy old new number answer_old answer_new Is.Full =
-      (new ≡ old) × (answer_new ≡ answer_old) × HoldsFullSpacer old
-  SpacesBy old new number answer_old answer_new status = ⊥
+  SpacesBy old new number answer_old answer_new status =
+      (new ≡ old) × (answer_new ≡ answer_old) × SpacesNoTick old status

@@ -1,7 +1,7 @@
 //! What a step returns, as C reads it.
 ghost use Rattle.std.specs.Prelude.{◌≡◌};
-ghost use Rattle.yasir_c.specs.Answers.{answer_of, numbers_in, unsealed_number, refused_number};
-ghost use Rattle.yasir_c.specs.Answers.{dropped_number, commit_number, tick_bytes};
+ghost use Rattle.yasir_c.specs.Answers.{answer_of, asking, numbers_in, unsealed_number};
+ghost use Rattle.yasir_c.specs.Answers.{refused_number, dropped_number, slot_number, tick_bytes};
 
 use any_box::{AnyNote, Commit, HeldStep};
 use check_receiver::{CheckNote, DroppedWhy, RefusedWhy};
@@ -9,7 +9,7 @@ use seal_transmitter::{SealNote, UnsealedWhy};
 use yasir_io::Slot;
 use yasir_ticks::Tick;
 
-/// What a step returns. Its fields are those of `yasir_answer` in `yasir.h`, in that order.
+/// What C is told of a step. Its fields are those of `yasir_answer` in `yasir.h`, in that order.
 #[repr(C)]
 #[derive(Clone, Copy, Debug, PartialEq, Eq)]
 pub struct Answer {
@@ -23,7 +23,8 @@ pub struct Answer {
     pub is_byte: u8,
     /// The byte of the tick of the other line, or 0 if it is silent.
     pub byte: u8,
-    /// The slot that the caller must write: 1 is slot A, 2 is slot B, and 0 is none.
+    /// The slot that the caller must write while the rest of the answer is withheld: 1 is slot A, 2
+    /// is slot B, and 0 is none.
     pub commit: u8,
     /// The note: 0 none, 1 sealed, 2 unsealed, 3 passed, 4 refused, 5 dropped.
     pub note: u8,
@@ -123,15 +124,12 @@ fn dropped_number(why: DroppedWhy) -> u8
     }
 }
 
-fn commit_number(commit: &Option<Commit>) -> u8
-    ensures { result ≡ commit_number commit.now }
+fn slot_number(slot: Slot) -> u8
+    ensures { result ≡ slot_number slot }
 {
-    match commit {
-        None => 0,
-        Some(commit) => match commit.slot {
-            Slot::A => 1,
-            Slot::B => 2,
-        },
+    match slot {
+        Slot::A => 1,
+        Slot::B => 2,
     }
 }
 
@@ -146,7 +144,7 @@ pub(crate) fn tick_bytes(tick: Tick) -> (u8, u8)
 }
 
 impl Answer {
-    /// Returns what C reads of a step.
+    /// Returns the tick and the note of a step.
     pub(crate) fn of(step: &HeldStep) -> Answer
         ensures { result ≡ answer_of step.now }
     {
@@ -158,9 +156,26 @@ impl Answer {
             len: note.len,
             is_byte,
             byte,
-            commit: commit_number(&step.commit),
+            commit: 0,
             note: note.note,
             why: note.why,
+            unused: 0,
+        }
+    }
+
+    /// Returns which slot must be written, and nothing else.
+    pub(crate) fn asking(commit: &Commit) -> Answer
+        ensures { result ≡ asking commit.now }
+    {
+        Answer {
+            number: 0,
+            start: 0,
+            len: 0,
+            is_byte: 0,
+            byte: 0,
+            commit: slot_number(commit.slot),
+            note: 0,
+            why: 0,
             unused: 0,
         }
     }

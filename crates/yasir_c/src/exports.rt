@@ -1,20 +1,22 @@
 //! The functions that C calls for a box.
-ghost use Rattle.std.specs.Prelude.{◌≡◌, ◌+◌, ◌≤◌, length, take, drop, Some, None, map};
+ghost use Rattle.std.specs.Prelude.{◌≡◌, ◌+◌, ◌≤◌, length, take, drop, None, map};
 ghost use Rattle.yasir_ticks.specs.Ticks.{silent};
 ghost use Rattle.yasir_ticks.specs.TickRun.{run_ticks};
 ghost use Rattle.yasir_ticks.specs.declared.tick.Tick.TheVariants.{Byte};
-ghost use Rattle.yasir_c.specs.Answers.{tick_in, commit_bytes};
-ghost use Rattle.yasir_c.specs.Edge.{HoldsOne, HoldsBox, MakesBy, StepsBy, TakesAt, TellsFloor, InitsBy};
+ghost use Rattle.yasir_io.specs.declared.disk.TheConstants.{SLOT_LEN};
+ghost use Rattle.yasir_c.specs.Answers.{tick_in};
+ghost use Rattle.yasir_c.specs.Edge.{MakesBy, TellsStep, StepsBy, CommittedBy, TakesBy, InitsBy};
 ghost use Rattle.yasir_c.specs.Edge.{why_refused};
+ghost use Rattle.yasir_c.specs.Holding.{floor_told};
 ghost use Rattle.yasir_c.specs.Statuses.{Returns};
 
 use crate::answer::Answer;
 use crate::handle::{Handle, put_in, taken_out};
 use crate::held::Held;
 use crate::kind::KindNumbers;
-use crate::loose::Loose;
 use crate::status::Status;
-use any_box::{Commit, HeldBox};
+use crate::withholding::WithholdingBox;
+use any_box::{HeldBox, HeldStep};
 use burst_walk::RunBytes;
 use dnp_link_frame::Dnp;
 use hmac_tag::{HmacSha1, HmacSha256, Mac};
@@ -24,6 +26,9 @@ use sequence_journal::{LoadError, slot_of};
 use std::alloc::Global;
 use yasir_io::{SLOT_LEN, SlotBytes};
 use yasir_ticks::{Tick, TickRun};
+
+/// The version of these functions, which rises when one of them changes what it takes or returns.
+const VERSION: u32 = 2;
 
 /// The number of a silent tick. The numbers below it are those of bytes.
 const SILENT: u16 = 256;
@@ -51,6 +56,14 @@ fn why_not(error: &LoadError) -> Status
     }
 }
 
+/// Returns the version of these functions.
+#[unsafe(no_mangle)]
+pub extern "C" fn yasir_version() -> u32
+    ensures { result ≡ 2 }
+{
+    VERSION
+}
+
 // Makes a box, and puts it into a handle that holds nothing.
 pub(crate) fn make(
     alloc: Global,
@@ -59,14 +72,17 @@ pub(crate) fn make(
     key: &[u8],
     slots: &[u8],
 ) -> Status
-    requires { handle.old.value ≡ None }
     ensures { MakesBy ⟦<Rtu as LineRules>⟧ ⟦<Dnp as LineRules>⟧ ⟦<HmacSha1 as Mac>⟧
-        ⟦<HmacSha256 as Mac>⟧ kind.now key.now slots.now handle.new.value result }
+        ⟦<HmacSha256 as Mac>⟧ kind.now key.now slots.now handle.old.held.value
+        handle.new.held.value result }
 {
     let Some((kind, dir)) = kind.known() else {
         return Status::BadArgument;
     };
     if slots.len() != 2 * SLOT_LEN {
+        return Status::BadArgument;
+    }
+    if handle.holds_one() {
         return Status::BadArgument;
     }
     let a = slot_in(slots, 0);
@@ -75,7 +91,7 @@ pub(crate) fn make(
         Ok(held) => held,
         Err(error) => return why_not(&error),
     };
-    let Ok(held) = Box::new(alloc, Held::LineBox(held)) else {
+    let Ok(held) = Box::new(alloc, Held::LineBox(WithholdingBox::new(held))) else {
         return Status::NoMemory;
     };
     put_in(handle, held);
@@ -91,9 +107,9 @@ pub extern "C" fn yasir_new(
     key: &[u8],
     slots: &[u8],
 ) -> u8
-    requires { handle.old.value ≡ None }
     ensures { Returns (MakesBy ⟦<Rtu as LineRules>⟧ ⟦<Dnp as LineRules>⟧ ⟦<HmacSha1 as Mac>⟧
-        ⟦<HmacSha256 as Mac>⟧ kind.now key.now slots.now handle.new.value) result }
+        ⟦<HmacSha256 as Mac>⟧ kind.now key.now slots.now handle.old.held.value
+        handle.new.held.value) result }
 {
     make(alloc, handle, kind, key, slots).number()
 }
@@ -111,12 +127,22 @@ pub(crate) fn tick_in(number: u16) -> Option<Tick>
     None
 }
 
-fn bytes_owed(commit: &Option<Commit>) -> SlotBytes
-    ensures { result ≡ commit_bytes commit.now }
+// Tells C what a step returns, or only what must be written, if the step uses a number.
+fn told(step: &HeldStep, answer: &mut Answer, slot: &mut [u8]) -> Status
+    requires { length slot.old ≡ SLOT_LEN }
+    ensures { TellsStep step.now answer.new slot.new result }
 {
-    match commit {
-        None => [0; SLOT_LEN],
-        Some(commit) => commit.bytes,
+    match &step.commit {
+        None => {
+            *answer = Answer::of(step);
+            slot.copy_from_slice(&[0; SLOT_LEN]);
+            Status::Done
+        }
+        Some(commit) => {
+            *answer = Answer::asking(commit);
+            slot.copy_from_slice(&commit.bytes);
+            Status::Commit
+        }
     }
 }
 
@@ -128,11 +154,9 @@ pub(crate) fn step(
     answer: &mut Answer,
     slot: &mut [u8],
 ) -> Status
-    requires { HoldsBox handle.old.value }
-    ensures holds { HoldsBox handle.new.value }
-    ensures steps { StepsBy ⟦<Rtu as LineRules>⟧ ⟦<Dnp as LineRules>⟧ ⟦<HmacSha1 as Mac>⟧
-        ⟦<HmacSha256 as Mac>⟧ handle.old.value handle.new.value tick answer.old answer.new
-        slot.old slot.new result }
+    ensures { StepsBy ⟦<Rtu as LineRules>⟧ ⟦<Dnp as LineRules>⟧ ⟦<HmacSha1 as Mac>⟧
+        ⟦<HmacSha256 as Mac>⟧ handle.old.held.value handle.new.held.value tick answer.old
+        answer.new slot.old slot.new result }
 {
     let Some(tick) = tick_in(tick) else {
         return Status::BadArgument;
@@ -140,21 +164,19 @@ pub(crate) fn step(
     if slot.len() != SLOT_LEN {
         return Status::BadArgument;
     }
-    let mut held = taken_out(alloc, handle);
-    let step = match held.step(tick) {
-        Ok(step) => step,
-        Err(_) => {
-            put_in(handle, held);
-            return Status::Full;
-        }
+    let Some(mut held) = taken_out(alloc, handle) else {
+        return Status::Empty;
     };
+    let taken = held.step(tick);
     put_in(handle, held);
-    *answer = Answer::of(&step);
-    slot.copy_from_slice(&bytes_owed(&step.commit));
-    Status::Done
+    match taken {
+        Ok(step) => told(&step, answer, slot),
+        Err(status) => status,
+    }
 }
 
-/// Takes the next tick.
+/// Takes the next tick. If the step uses a number, C is told only what it must write, and the box
+/// withholds the rest until `yasir_committed`.
 #[unsafe(no_mangle)]
 pub extern "C" fn yasir_step(
     alloc: Global,
@@ -163,21 +185,54 @@ pub extern "C" fn yasir_step(
     answer: &mut Answer,
     slot: &mut [u8],
 ) -> u8
-    requires { HoldsBox handle.old.value }
-    ensures holds { HoldsBox handle.new.value }
-    ensures steps { Returns (StepsBy ⟦<Rtu as LineRules>⟧ ⟦<Dnp as LineRules>⟧ ⟦<HmacSha1 as Mac>⟧
-        ⟦<HmacSha256 as Mac>⟧ handle.old.value handle.new.value tick answer.old answer.new
-        slot.old slot.new) result }
+    ensures { Returns (StepsBy ⟦<Rtu as LineRules>⟧ ⟦<Dnp as LineRules>⟧ ⟦<HmacSha1 as Mac>⟧
+        ⟦<HmacSha256 as Mac>⟧ handle.old.held.value handle.new.held.value tick answer.old
+        answer.new slot.old slot.new) result }
 {
     step(alloc, handle, tick, answer, slot).number()
+}
+
+// Takes what C says of the number that it had to write, and returns what was withheld.
+pub(crate) fn committed(alloc: Global, handle: &mut Handle, ok: u8, answer: &mut Answer) -> Status
+    ensures { CommittedBy handle.old.held.value handle.new.held.value ok answer.old answer.new
+        result }
+{
+    let Some(mut held) = taken_out(alloc, handle) else {
+        return Status::Empty;
+    };
+    let withheld = held.committed(ok);
+    put_in(handle, held);
+    match withheld {
+        Ok(withheld) => {
+            *answer = withheld;
+            Status::Done
+        }
+        Err(status) => status,
+    }
+}
+
+/// Takes what C says of the number that it had to write: 1 if it is written and synced, and 0 if it
+/// couldn't be. Returns what was withheld, or stops the box.
+#[unsafe(no_mangle)]
+pub extern "C" fn yasir_committed(
+    alloc: Global,
+    handle: &mut Handle,
+    ok: u8,
+    answer: &mut Answer,
+) -> u8
+    ensures { Returns (CommittedBy handle.old.held.value handle.new.held.value ok answer.old
+        answer.new) result }
+{
+    committed(alloc, handle, ok, answer).number()
 }
 
 // Puts the bytes that leave in a run into the front of `sent`, and returns how many they are.
 fn put_sent(sent: &mut [u8], bytes: &RunBytes) -> usize
     requires { 64 ≤ length sent.old }
+    ensures count { result ≡ length bytes.now.items }
     ensures front { take result sent.new ≡ bytes.now.items }
+    ensures rest { drop result sent.new ≡ drop result sent.old }
     ensures within { result ≤ length sent.new }
-    ensures room { length sent.new ≡ length sent.old }
 {
     let count = bytes.len();
     sent[..count].copy_from_slice(bytes.as_slice());
@@ -193,18 +248,18 @@ fn take_run(
     sent: &mut [u8],
     sent_count: &mut usize,
 ) -> usize
-    requires { HoldsBox handle.old.value }
-    ensures holds { HoldsBox handle.new.value }
-    ensures takes { TakesAt ⟦<Rtu as LineRules>⟧ ⟦<Dnp as LineRules>⟧ ⟦<HmacSha1 as Mac>⟧
-        ⟦<HmacSha256 as Mac>⟧ handle.old.value handle.new.value (run_ticks run.entry)
-        sent.new sent_count.new result }
+    ensures { TakesBy ⟦<Rtu as LineRules>⟧ ⟦<Dnp as LineRules>⟧ ⟦<HmacSha1 as Mac>⟧
+        ⟦<HmacSha256 as Mac>⟧ handle.old.held.value handle.new.held.value (run_ticks run.entry)
+        sent.old sent.new sent_count.new result }
 {
     *sent_count = 0;
     if sent.len() < MAX_SENT {
         return 0;
     }
+    let Some(mut held) = taken_out(alloc, handle) else {
+        return 0;
+    };
     let mut bytes = RunBytes::new();
-    let mut held = taken_out(alloc, handle);
     let taken = held.take_alike(run, &mut bytes);
     put_in(handle, held);
     *sent_count = put_sent(sent, &bytes);
@@ -221,11 +276,9 @@ pub extern "C" fn yasir_take_bytes(
     sent: &mut [u8],
     sent_count: &mut usize,
 ) -> usize
-    requires { HoldsBox handle.old.value }
-    ensures holds { HoldsBox handle.new.value }
-    ensures takes { TakesAt ⟦<Rtu as LineRules>⟧ ⟦<Dnp as LineRules>⟧ ⟦<HmacSha1 as Mac>⟧
-        ⟦<HmacSha256 as Mac>⟧ handle.old.value handle.new.value (map Byte bytes.now)
-        sent.new sent_count.new result }
+    ensures { TakesBy ⟦<Rtu as LineRules>⟧ ⟦<Dnp as LineRules>⟧ ⟦<HmacSha1 as Mac>⟧
+        ⟦<HmacSha256 as Mac>⟧ handle.old.held.value handle.new.held.value (map Byte bytes.now)
+        sent.old sent.new sent_count.new result }
 {
     take_run(alloc, handle, TickRun::Bytes(bytes), sent, sent_count)
 }
@@ -240,33 +293,31 @@ pub extern "C" fn yasir_take_silence(
     sent: &mut [u8],
     sent_count: &mut usize,
 ) -> usize
-    requires { HoldsBox handle.old.value }
-    ensures holds { HoldsBox handle.new.value }
-    ensures takes { TakesAt ⟦<Rtu as LineRules>⟧ ⟦<Dnp as LineRules>⟧ ⟦<HmacSha1 as Mac>⟧
-        ⟦<HmacSha256 as Mac>⟧ handle.old.value handle.new.value (silent ticks)
-        sent.new sent_count.new result }
+    ensures { TakesBy ⟦<Rtu as LineRules>⟧ ⟦<Dnp as LineRules>⟧ ⟦<HmacSha1 as Mac>⟧
+        ⟦<HmacSha256 as Mac>⟧ handle.old.held.value handle.new.held.value (silent ticks)
+        sent.old sent.new sent_count.new result }
 {
     take_run(alloc, handle, TickRun::Silence(ticks), sent, sent_count)
 }
 
-/// Returns the last number that the box used.
+/// Returns the last number that the box used, or 0 if the handle holds no box.
 #[unsafe(no_mangle)]
 pub extern "C" fn yasir_floor(alloc: Global, handle: &mut Handle) -> u64
-    requires { HoldsBox handle.old.value }
-    ensures holds { HoldsBox handle.new.value }
-    ensures tells { TellsFloor handle.old.value handle.new.value result }
+    ensures kept { handle.new.held.value ≡ handle.old.held.value }
+    ensures tells { result ≡ floor_told handle.old.held.value }
 {
-    let held = taken_out(alloc, handle);
+    let Some(held) = taken_out(alloc, handle) else {
+        return 0;
+    };
     let floor = held.floor();
     put_in(handle, held);
     floor
 }
 
-/// Frees the box or the spacer.
+/// Frees the box or the spacer, if the handle holds one.
 #[unsafe(no_mangle)]
 pub extern "C" fn yasir_free(alloc: Global, handle: &mut Handle)
-    requires { HoldsOne handle.old.value }
-    ensures { handle.new.value ≡ None }
+    ensures { handle.new.held.value ≡ None }
 {
     let _held = taken_out(alloc, handle);
 }

@@ -1,89 +1,61 @@
 //! The handle that C holds.
-ghost use Rattle.std.specs.Prelude.{◌≡◌, Option, Some, None};
-ghost use Rattle.yasir_c.specs.declared.held.Held.{Held};
-ghost use Rattle.yasir_c.specs.Edge.{HoldsOne};
-ghost use Rattle.yasir_c.specs.Owning.{handle_owns};
+ghost use Rattle.std.specs.Prelude.{◌≡◌, Some, None, option_map, is_some};
+ghost use Rattle.yasir_c.specs.Owning.{number_held};
 
 use crate::held::Held;
 use crate::loose::Loose;
+use crate::owner::Owner;
 use std::alloc::Global;
-use std::marker::Model;
-use std::{mem, ptr};
+use std::mem;
 
-/// A pointer to a box or a spacer, or to nothing. C sees only the pointer.
+/// What C holds: a box, a spacer or nothing. C neither reads nor writes the fields, beyond setting
+/// all bytes to 0 at the start.
 #[repr(C)]
 #[derive(Drop)]
 pub struct Handle {
-    at: *mut u8,
-    /// What the handle holds, if it holds anything.
-    pub ghost value: { Option Held },
-}
-
-impl Model for Handle {
-    ghost also_owns = { λ h. handle_owns h.at h.value };
+    /// The box or the spacer, or nothing.
+    pub(crate) held: Owner,
+    // 1 if something is held, and 0 if nothing is
+    holds: u8,
+    ghost holds_is: { holds ≡ number_held held.value },
 }
 
 impl Handle {
-    /// Returns a handle that holds nothing. Its pointer is null.
+    /// Returns a handle that holds nothing, as C makes it: the pointer is null, and the number 0.
     pub(crate) fn empty() -> Handle
-        ensures { result.value ≡ None }
+        ensures { result.held.value ≡ None }
     {
         Handle {
-            at: ptr::null_mut(),
+            held: Owner::empty(),
+            holds: 0,
         }
     }
 
-    /// Returns a handle that holds this value.
-    pub(crate) fn of(loose: Loose<Held, Global>) -> Handle
-        ensures { result.value ≡ Some loose.value }
+    /// Returns whether the handle holds something.
+    pub(crate) fn holds_one(&self) -> bool
+        ensures { result ≡ is_some self.now.held.value }
     {
-        let Loose { at, alloc: _ } = loose;
-        Handle { at: at as *mut u8 }
-    }
-
-    /// Returns what the handle holds.
-    pub(crate) fn into_loose(self, alloc: Global) -> Loose<Held, Global>
-        requires { (held : Held) × (self.value ≡ Some held) }
-        ensures { self.value ≡ Some result.value }
-    {
-        let Handle { at } = self;
-        Loose {
-            at: at as *mut Held,
-            alloc,
-        }
+        self.holds != 0
     }
 }
 
-// Takes out what a handle holds, into a new handle. The old one then holds nothing.
-fn handed_out(handle: &mut Handle) -> Handle
-    ensures out { result.value ≡ handle.old.value }
-    ensures none { handle.new.value ≡ None }
+/// Takes out what a handle holds, if it holds something. The handle then holds nothing.
+pub(crate) fn taken_out(alloc: Global, handle: &mut Handle) -> Option<Box<Held, Global>>
+    ensures out { handle.old.held.value ≡ option_map (λ held. held.value) result }
+    ensures none { handle.new.held.value ≡ None }
 {
-    mem::replace(handle, Handle::empty())
-}
-
-// Returns what a handle holds.
-fn opened(alloc: Global, handle: Handle) -> Box<Held, Global>
-    requires { HoldsOne handle.value }
-    ensures { handle.value ≡ Some result.value }
-{
-    handle.into_loose(alloc).into_box()
-}
-
-/// Takes out what a handle holds. The handle then holds nothing.
-pub(crate) fn taken_out(alloc: Global, handle: &mut Handle) -> Box<Held, Global>
-    requires { HoldsOne handle.old.value }
-    ensures out { handle.old.value ≡ Some result.value }
-    ensures none { handle.new.value ≡ None }
-{
-    opened(alloc, handed_out(handle))
+    let Handle { held, holds } = mem::replace(handle, Handle::empty());
+    if holds == 0 {
+        return None;
+    }
+    Some(held.into_loose(alloc).into_box())
 }
 
 /// Puts a box or a spacer into a handle that holds nothing.
 pub(crate) fn put_in(handle: &mut Handle, held: Box<Held, Global>)
-    requires { handle.old.value ≡ None }
-    ensures { handle.new.value ≡ Some held.value }
+    requires { handle.old.held.value ≡ None }
+    ensures { handle.new.held.value ≡ Some held.value }
 {
-    let held = Handle::of(Loose::of(held));
-    *handle = held;
+    let held = Owner::of(Loose::of(held));
+    *handle = Handle { held, holds: 1 };
 }

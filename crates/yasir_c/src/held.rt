@@ -1,14 +1,13 @@
 //! What a handle holds.
-ghost use Rattle.std.specs.Prelude.{◌≡◌, ◌≤◌, IfOk, OnErr, length, take};
-ghost use Rattle.any_box.specs.Held.{floor_held};
-ghost use Rattle.any_box.specs.declared.held_box.HeldBox.{HeldBox};
-ghost use Rattle.any_spacer.specs.declared.held_spacer.HeldSpacer.{HeldSpacer};
-ghost use Rattle.burst_walk.specs.Answered.{answered};
+ghost use Rattle.std.specs.Prelude.{◌≡◌, IfOk, IfErr, Some};
 ghost use Rattle.yasir_ticks.specs.TickRun.{run_ticks};
-ghost use Rattle.yasir_c.specs.Holding.{IsBox, IsSpacer, StepsBox, IsFullBox, TakesByBox};
-ghost use Rattle.yasir_c.specs.Holding.{HasFloor, SpacesOrFull};
+ghost use Rattle.yasir_c.specs.Holding.{TakesTick, TakesNoTick, HandsOut, HandsNothing, TakesRun};
+ghost use Rattle.yasir_c.specs.Holding.{floor_told, SpacesTick, SpacesNoTick};
 
-use any_box::{Full, HeldBox, HeldStep};
+use crate::answer::Answer;
+use crate::status::Status;
+use crate::withholding::WithholdingBox;
+use any_box::HeldStep;
 use any_spacer::{ForgetfulDnp, HeldSpacer};
 use burst_walk::RunBytes;
 use device_model::{Device, RtuDevice};
@@ -23,64 +22,75 @@ use yasir_ticks::{Tick, TickRun};
 #[derive(Drop)]
 pub enum Held {
     /// A box of a link.
-    LineBox(HeldBox),
+    LineBox(WithholdingBox),
     /// A spacer.
     Spacer(HeldSpacer),
 }
 
 impl Held {
-    /// Takes the next tick with the box that is held.
-    pub(crate) fn step(&mut self, t: Tick) -> Result<HeldStep, Full>
-        requires { IsBox self.old }
-        ensures steps { IfOk result (StepsBox ⟦<Rtu as LineRules>⟧ ⟦<Dnp as LineRules>⟧
-            ⟦<HmacSha1 as Mac>⟧ ⟦<HmacSha256 as Mac>⟧ self.old self.new t) }
-        ensures full { OnErr result (IsFullBox self.old × (self.new ≡ self.old)) }
+    /// Takes the next tick with the box that is held. If the step uses a number, its answer is then
+    /// withheld.
+    pub(crate) fn step(&mut self, t: Tick) -> Result<HeldStep, Status>
+        ensures steps { IfOk result (TakesTick ⟦<Rtu as LineRules>⟧ ⟦<Dnp as LineRules>⟧
+            ⟦<HmacSha1 as Mac>⟧ ⟦<HmacSha256 as Mac>⟧ (Some self.old) (Some self.new) t) }
+        ensures kept { IfErr result (λ why. (self.new ≡ self.old)
+            × TakesNoTick (Some self.old) why) }
     {
         match self {
             Held::LineBox(line_box) => line_box.step(t),
-            // not reached
-            Held::Spacer(_) => Err(Full),
+            Held::Spacer(_) => Err(Status::Empty),
+        }
+    }
+
+    /// Returns the answer that the box withholds if C has confirmed the number (1), and stops the
+    /// box if C couldn't write it (0).
+    pub(crate) fn committed(&mut self, ok: u8) -> Result<Answer, Status>
+        ensures handed { IfOk result (λ answer. (ok ≡ 1)
+            × HandsOut (Some self.old) (Some self.new) answer) }
+        ensures kept { IfErr result (HandsNothing ok (Some self.old) (Some self.new)) }
+    {
+        match self {
+            Held::LineBox(line_box) => line_box.committed(ok),
+            Held::Spacer(_) => Err(Status::Empty),
         }
     }
 
     /// Takes the first of these ticks with the box that is held, as long as it returns silence for
     /// all of them or bytes for all of them, and returns how many.
     pub(crate) fn take_alike(&mut self, run: TickRun<'_>, sent: &mut RunBytes) -> usize
-        requires { IsBox self.old }
-        ensures within { result ≤ length (run_ticks run.entry) }
-        ensures takes { TakesByBox ⟦<Rtu as LineRules>⟧ ⟦<Dnp as LineRules>⟧
-            ⟦<HmacSha1 as Mac>⟧ ⟦<HmacSha256 as Mac>⟧ self.old self.new
-            (take result (run_ticks run.entry)) (answered result sent.new.items) }
+        ensures { TakesRun ⟦<Rtu as LineRules>⟧ ⟦<Dnp as LineRules>⟧ ⟦<HmacSha1 as Mac>⟧
+            ⟦<HmacSha256 as Mac>⟧ (Some self.old) (Some self.new) (run_ticks run.entry)
+            sent.new.items result }
     {
         match self {
             Held::LineBox(line_box) => line_box.take_alike(run, sent),
-            // not reached
-            Held::Spacer(_) => 0,
+            Held::Spacer(_) => {
+                sent.clear();
+                0
+            }
         }
     }
 
-    /// Returns the last number that the box that is held has used.
+    /// Returns the last number that the box that is held has used, or 0 if it is a spacer.
     pub(crate) fn floor(&self) -> u64
-        requires { IsBox self.now }
-        ensures { HasFloor self.now result }
+        ensures { result ≡ floor_told (Some self.now) }
     {
         match self {
             Held::LineBox(line_box) => line_box.floor(),
-            // not reached
             Held::Spacer(_) => 0,
         }
     }
 
     /// Takes the next tick with the spacer that is held.
-    pub(crate) fn space(&mut self, t: Tick) -> Option<SpaceStep>
-        requires { IsSpacer self.old }
-        ensures { SpacesOrFull ⟦<RtuDevice as Device>⟧ ⟦<ForgetfulDnp as Device>⟧ self.old self.new t
-            result }
+    pub(crate) fn space(&mut self, t: Tick) -> Result<SpaceStep, Status>
+        ensures steps { IfOk result (SpacesTick ⟦<RtuDevice as Device>⟧
+            ⟦<ForgetfulDnp as Device>⟧ (Some self.old) (Some self.new) t) }
+        ensures kept { IfErr result (λ why. (self.new ≡ self.old)
+            × SpacesNoTick (Some self.old) why) }
     {
         match self {
-            Held::Spacer(spacer) => spacer.step(t),
-            // not reached
-            Held::LineBox(_) => None,
+            Held::Spacer(spacer) => spacer.step(t).ok_or(Status::Full),
+            Held::LineBox(_) => Err(Status::Empty),
         }
     }
 }

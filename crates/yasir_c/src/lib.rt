@@ -3,9 +3,11 @@
 //!
 //! A step in C, after `yasir_new` has made the box:
 //!
-//!     yasir_step(&box, tick, &answer, slot, sizeof slot);
-//!     if (answer.commit != YASIR_NO_COMMIT) write_and_sync(answer.commit, slot);
-//!     send_tick(answer.is_byte, answer.byte);
+//!     uint8_t status = yasir_step(&box, tick, &answer, slot, sizeof slot);
+//!     if (status == YASIR_COMMIT) {
+//!         status = yasir_committed(&box, write_and_sync(answer.commit, slot), &answer);
+//!     }
+//!     if (status == YASIR_OK) send_tick(answer.is_byte, answer.byte);
 #![tactic(auto)]
 
 mod answer;
@@ -13,9 +15,12 @@ mod exports;
 mod handle;
 mod held;
 mod kind;
+mod laws;
 mod loose;
+mod owner;
 mod spaced;
 mod spacer_exports;
 mod status;
 #[cfg(test)]
 mod tests;
+mod withholding;

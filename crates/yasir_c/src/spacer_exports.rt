@@ -1,6 +1,5 @@
 //! The functions that C calls for a spacer.
-ghost use Rattle.std.specs.Prelude.{◌≡◌, None};
-ghost use Rattle.yasir_c.specs.SpacerEdge.{HoldsSpacer, NamesSpacer, MakesSpacerBy, SpacesBy};
+ghost use Rattle.yasir_c.specs.SpacerEdge.{NamesSpacer, MakesSpacerBy, SpacesBy};
 ghost use Rattle.yasir_c.specs.Statuses.{Returns};
 
 use crate::exports::tick_in;
@@ -33,13 +32,18 @@ pub(crate) fn make_spacer(
     profile: u8,
     room: u32,
 ) -> Status
-    requires { handle.old.value ≡ None }
     ensures { MakesSpacerBy ⟦<RtuDevice as Device>⟧ ⟦<ForgetfulDnp as Device>⟧ protocol profile room
-        handle.new.value result }
+        handle.old.held.value handle.new.held.value result }
 {
     let Some(kind) = kind_in(protocol, profile) else {
         return Status::BadArgument;
     };
+    if room == 0 {
+        return Status::BadArgument;
+    }
+    if handle.holds_one() {
+        return Status::BadArgument;
+    }
     let Ok(spacer) = HeldSpacer::new(alloc, kind, room as usize) else {
         return Status::NoMemory;
     };
@@ -59,31 +63,32 @@ pub extern "C" fn yasir_spacer_new(
     profile: u8,
     room: u32,
 ) -> u8
-    requires { handle.old.value ≡ None }
     ensures { Returns (MakesSpacerBy ⟦<RtuDevice as Device>⟧ ⟦<ForgetfulDnp as Device>⟧ protocol
-        profile room handle.new.value) result }
+        profile room handle.old.held.value handle.new.held.value) result }
 {
     make_spacer(alloc, handle, protocol, profile, room).number()
 }
 
 // Takes the next tick with the spacer in a handle.
 pub(crate) fn space(alloc: Global, handle: &mut Handle, tick: u16, answer: &mut Spaced) -> Status
-    requires { HoldsSpacer handle.old.value }
-    ensures holds { HoldsSpacer handle.new.value }
-    ensures steps { SpacesBy ⟦<RtuDevice as Device>⟧ ⟦<ForgetfulDnp as Device>⟧ handle.old.value
-        handle.new.value tick answer.old answer.new result }
+    ensures { SpacesBy ⟦<RtuDevice as Device>⟧ ⟦<ForgetfulDnp as Device>⟧ handle.old.held.value
+        handle.new.held.value tick answer.old answer.new result }
 {
     let Some(tick) = tick_in(tick) else {
         return Status::BadArgument;
     };
-    let mut held = taken_out(alloc, handle);
-    let step = held.space(tick);
-    put_in(handle, held);
-    let Some(step) = step else {
-        return Status::Full;
+    let Some(mut held) = taken_out(alloc, handle) else {
+        return Status::Empty;
     };
-    *answer = Spaced::of(&step);
-    Status::Done
+    let taken = held.space(tick);
+    put_in(handle, held);
+    match taken {
+        Ok(step) => {
+            *answer = Spaced::of(&step);
+            Status::Done
+        }
+        Err(status) => status,
+    }
 }
 
 /// Takes the next tick with a spacer.
@@ -94,10 +99,8 @@ pub extern "C" fn yasir_spacer_step(
     tick: u16,
     answer: &mut Spaced,
 ) -> u8
-    requires { HoldsSpacer handle.old.value }
-    ensures holds { HoldsSpacer handle.new.value }
-    ensures steps { Returns (SpacesBy ⟦<RtuDevice as Device>⟧ ⟦<ForgetfulDnp as Device>⟧
-        handle.old.value handle.new.value tick answer.old answer.new) result }
+    ensures { Returns (SpacesBy ⟦<RtuDevice as Device>⟧ ⟦<ForgetfulDnp as Device>⟧
+        handle.old.held.value handle.new.held.value tick answer.old answer.new) result }
 {
     space(alloc, handle, tick, answer).number()
 }

@@ -17,6 +17,14 @@ pub(crate) enum Status {
     NoMemory,
     /// The box or the spacer has taken `MAX_TICKS` ticks.
     Full,
+    /// A tick is taken, and its answer is withheld until C confirms a number.
+    Commit,
+    /// An earlier answer is still withheld.
+    Waiting,
+    /// A number couldn't be written, and the box returns nothing any more.
+    Stopped,
+    /// The handle doesn't hold what the call is for.
+    Empty,
 }
 
 impl Status {
@@ -31,6 +39,10 @@ impl Status {
             Status::OtherLink => 3,
             Status::NoMemory => 4,
             Status::Full => 5,
+            Status::Commit => 6,
+            Status::Waiting => 7,
+            Status::Stopped => 8,
+            Status::Empty => 9,
         }
     }
 }

@@ -1,14 +1,13 @@
 //! Tests of the calls of C: a packet through a transmitter and a receiver, and each status.
-ghost use Rattle.std.specs.Prelude.{IfOk, OnOk};
-ghost use Rattle.yasir_c.specs.Edge.{HoldsBox};
-
 use crate::answer::Answer;
 use crate::exports::{
-    begin, make, step, yasir_floor, yasir_free, yasir_init, yasir_new, yasir_step,
-    yasir_take_bytes, yasir_take_silence,
+    begin, make, step, yasir_committed, yasir_floor, yasir_free, yasir_init, yasir_new, yasir_step,
+    yasir_take_bytes, yasir_take_silence, yasir_version,
 };
 use crate::handle::Handle;
 use crate::kind::KindNumbers;
+use crate::spaced::Spaced;
+use crate::spacer_exports::{yasir_spacer_new, yasir_spacer_step};
 use crate::status::Status;
 use std::alloc::Global;
 use std::test::Fail;
@@ -54,10 +53,46 @@ const UNTOUCHED: Answer = Answer {
     unused: 9,
 };
 
+/// What C is told of the step that seals the request: slot B must be written.
+const ASKING: Answer = Answer {
+    number: 0,
+    start: 0,
+    len: 0,
+    is_byte: 0,
+    byte: 0,
+    commit: 2,
+    note: 0,
+    why: 0,
+    unused: 0,
+};
+
+/// What that step returns, once the number is written: the first byte of the trailer, and its note.
+const SEALED: Answer = Answer {
+    number: 1,
+    start: 0,
+    len: 8,
+    is_byte: 1,
+    byte: 0,
+    commit: 0,
+    note: 1,
+    why: 0,
+    unused: 0,
+};
+
+const NOTHING_SPACED: Spaced = Spaced {
+    lost_start: 9,
+    is_byte: 9,
+    byte: 9,
+    is_lost: 9,
+    unused: 9,
+};
+
+const SILENT: u16 = 256;
+
+const FRAME_AND_PAUSE: &[u16] = &[1, 3, 0, 0, 0, 0x0a, 0xc5, 0xcd, SILENT, SILENT, SILENT];
+
 // Returns a box over a new journal.
-fn made(alloc: Global, kind: &KindNumbers) -> Result<Handle, Fail>
-    ensures { IfOk result (λ handle. HoldsBox handle.value) }
-{
+fn made(alloc: Global, kind: &KindNumbers) -> Result<Handle, Fail> {
     let mut slots = [0; 2 * SLOT_LEN];
     let Status::Done = begin(kind, &mut slots[..SLOT_LEN]) else {
         return Err("no journal begins".into());
@@ -69,51 +104,67 @@ fn made(alloc: Global, kind: &KindNumbers) -> Result<Handle, Fail>
     }
 }
 
-// Gives a box these ticks, and returns the last step.
-fn step_all(alloc: Global, handle: &mut Handle, ticks: &[u16]) -> Result<(Answer, SlotBytes), Fail>
-    requires { HoldsBox handle.old.value }
-    ensures { OnOk result (HoldsBox handle.new.value) }
-{
-    let mut answer = UNTOUCHED;
-    let mut slot = [9; SLOT_LEN];
-    for tick in ticks {
+// Gives a transmitter the request, and the silence up to the step that seals it. Returns the slot
+// that must then be written.
+fn asked(alloc: Global, handle: &mut Handle) -> Result<SlotBytes, Fail> {
+    let (mut answer, mut slot) = (UNTOUCHED, [9; SLOT_LEN]);
+    for tick in FRAME_AND_PAUSE {
         let Status::Done = step(alloc, handle, *tick, &mut answer, &mut slot) else {
             return Err("a step is refused".into());
         };
     }
-    Ok((answer, slot))
+    let Status::Commit = step(alloc, handle, SILENT, &mut answer, &mut slot) else {
+        return Err("nothing is to be written".into());
+    };
+    match answer == ASKING {
+        true => Ok(slot),
+        false => Err("more is told than what must be written".into()),
+    }
 }
-
-const SILENT: u16 = 256;
-
-const FRAME_AND_PAUSE: &[u16] = &[1, 3, 0, 0, 0, 0x0a, 0xc5, 0xcd, SILENT, SILENT, SILENT];
 
 #[test]
 fn a_request_is_sealed(rt: HostRuntime) -> Result<(), Fail> {
     let alloc = rt.alloc();
     let mut handle = made(alloc, &SEALER)?;
-    let (answer, slot) = step_all(alloc, &mut handle, FRAME_AND_PAUSE)?;
-    assert_eq!(rt; (answer.note, answer.commit, answer.is_byte), (0, 0, 0));
-    assert_eq!(rt; slot, [0; SLOT_LEN]);
-    let (answer, slot) = step_all(alloc, &mut handle, &[SILENT])?;
-    let sealed = Answer {
-        number: 1,
-        start: 0,
-        len: 8,
-        is_byte: 1,
-        byte: 0,
-        commit: 2,
-        note: 1,
-        why: 0,
-        unused: 0,
-    };
-    assert_eq!(rt; answer, sealed);
-    assert_eq!(rt; slot, SLOT_OF_1);
+    assert_eq!(rt; asked(alloc, &mut handle)?, SLOT_OF_1);
     assert_eq!(rt; yasir_floor(alloc, &mut handle), 1);
+    let mut answer = UNTOUCHED;
+    assert_eq!(rt; yasir_committed(alloc, &mut handle, 2, &mut answer), 1);
+    assert_eq!(rt; answer, UNTOUCHED);
+    assert_eq!(rt; yasir_committed(alloc, &mut handle, 1, &mut answer), 0);
+    assert_eq!(rt; answer, SEALED);
+    assert_eq!(rt; yasir_committed(alloc, &mut handle, 1, &mut answer), 1);
     let (mut left, mut count) = ([9; 64], 9);
     let taken = yasir_take_silence(alloc, &mut handle, 13, &mut left, &mut count);
-    assert!(rt; taken > 0 && taken == count);
-    assert_eq!(rt; left.get(..count), TRAILER.get(1..1 + count.min(13)));
+    assert_eq!(rt; (taken, count), (13, 13));
+    assert_eq!(rt; left.get(..13), TRAILER.get(1..));
+    yasir_free(alloc, &mut handle);
+    assert_eq!(rt; yasir_version(), 2);
+    Ok(())
+}
+
+#[test]
+fn nothing_leaves_before_the_number_is_written(rt: HostRuntime) -> Result<(), Fail> {
+    let alloc = rt.alloc();
+    let mut handle = made(alloc, &SEALER)?;
+    let _asked = asked(alloc, &mut handle)?;
+    let (mut answer, mut slot) = (UNTOUCHED, [9; SLOT_LEN]);
+    let (mut left, mut count) = ([9; 64], 9);
+    for status in [7, 8] {
+        assert_eq!(rt;
+            yasir_step(alloc, &mut handle, SILENT, &mut answer, &mut slot),
+            status
+        );
+        assert_eq!(rt;
+            yasir_take_silence(alloc, &mut handle, 13, &mut left, &mut count),
+            0
+        );
+        assert_eq!(rt; count, 0);
+        assert_eq!(rt; yasir_committed(alloc, &mut handle, 0, &mut answer), 8);
+    }
+    assert_eq!(rt; yasir_committed(alloc, &mut handle, 1, &mut answer), 8);
+    assert_eq!(rt; (answer, slot, left), (UNTOUCHED, [9; SLOT_LEN], [9; 64]));
+    assert_eq!(rt; yasir_floor(alloc, &mut handle), 1);
     yasir_free(alloc, &mut handle);
     Ok(())
 }
@@ -142,6 +193,7 @@ fn no_box_is_made_without_its_journal(rt: HostRuntime) -> Result<(), Fail> {
     let blank = [0; 2 * SLOT_LEN];
     assert_eq!(rt; refused(alloc, &NO_KIND, &blank), 1);
     assert_eq!(rt; refused(alloc, &SEALER, &[0; SLOT_LEN]), 1);
+    assert_eq!(rt; refused(alloc, &SEALER, &[0; 2 * SLOT_LEN + 1]), 1);
     assert_eq!(rt; refused(alloc, &SEALER, &blank), 2);
     let other = KindNumbers {
         direction: 1,
@@ -176,6 +228,65 @@ fn a_wrong_call_changes_nothing(rt: HostRuntime) -> Result<(), Fail> {
         1
     );
     assert_eq!(rt; (answer, slot), (UNTOUCHED, [9; SLOT_LEN]));
+    let (mut left, mut count) = ([9; 63], 9);
+    assert_eq!(rt;
+        yasir_take_bytes(alloc, &mut handle, REQUEST, &mut left, &mut count),
+        0
+    );
+    assert_eq!(rt; (left, count), ([9; 63], 0));
+    let mut spaced = NOTHING_SPACED;
+    assert_eq!(rt;
+        yasir_spacer_step(alloc, &mut handle, SILENT, &mut spaced),
+        9
+    );
+    assert_eq!(rt; yasir_spacer_new(alloc, &mut handle, 1, 18, 4), 1);
+    assert_eq!(rt;
+        yasir_new(
+            alloc,
+            &mut handle,
+            &SEALER,
+            &KEY.to_be_bytes(),
+            &[0; 2 * SLOT_LEN]
+        ),
+        1
+    );
+    yasir_free(alloc, &mut handle);
+    Ok(())
+}
+
+#[test]
+fn only_a_box_is_asked_for_what_a_box_does(rt: HostRuntime) -> Result<(), Fail> {
+    let alloc = rt.alloc();
+    let mut handle = Handle::empty();
+    let (mut answer, mut slot, mut spaced) = (UNTOUCHED, [9; SLOT_LEN], NOTHING_SPACED);
+    let (mut left, mut count) = ([9; 64], 9);
+    yasir_free(alloc, &mut handle);
+    assert_eq!(rt;
+        yasir_spacer_step(alloc, &mut handle, SILENT, &mut spaced),
+        9
+    );
+    assert_eq!(rt; yasir_spacer_new(alloc, &mut handle, 1, 18, 0), 1);
+    for status in [0, 1] {
+        assert_eq!(rt;
+            yasir_step(alloc, &mut handle, SILENT, &mut answer, &mut slot),
+            9
+        );
+        assert_eq!(rt; yasir_committed(alloc, &mut handle, 1, &mut answer), 9);
+        assert_eq!(rt;
+            yasir_take_silence(alloc, &mut handle, 9, &mut left, &mut count),
+            0
+        );
+        assert_eq!(rt; yasir_floor(alloc, &mut handle), 0);
+        assert_eq!(rt; spaced, NOTHING_SPACED);
+        assert_eq!(rt; yasir_spacer_new(alloc, &mut handle, 1, 18, 4), status);
+    }
+    assert_eq!(rt; (answer, slot, count), (UNTOUCHED, [9; SLOT_LEN], 0));
+    assert_eq!(rt; yasir_spacer_step(alloc, &mut handle, 257, &mut spaced), 1);
+    assert_eq!(rt;
+        yasir_spacer_step(alloc, &mut handle, SILENT, &mut spaced),
+        0
+    );
+    assert_eq!(rt; (spaced.is_byte, spaced.is_lost), (0, 0));
     yasir_free(alloc, &mut handle);
     Ok(())
 }

@@ -94,7 +94,7 @@ impl<'a, R: OpensFiles> LazyFile<'a, R> {
 pub(crate) enum OwnFile<F> {
     /// It hasn't been opened.
     Closed,
-    /// It was opened, and nothing was done to it. It wasn't locked, or not synced after that.
+    /// It was opened. It wasn't locked, or not synced after that, and nothing else was done to it.
     Waiting(F),
     /// It was locked and then synced.
     Own(F),
@@ -144,7 +144,7 @@ where
         ensures name { self.new.name ≡ self.old.name }
     {
         self.open()?;
-        if let OwnFile::Waiting(file) = &self.file {
+        if let OwnFile::Waiting(file) = &mut self.file {
             file.try_lock()?;
             file.sync(true)?;
         }

@@ -1,0 +1,94 @@
+-- Calls that take no tick, and return no answer.
+use Rattle.any_spacer.specs.{Held.StepsOrFull, declared.forgetful.ForgetfulDevice.ForgetfulDevice}
+use Rattle.any_spacer.specs.declared.held_spacer.HeldSpacer.{HeldSpacer}
+use Rattle.device_model.specs.declared.{device.Device.Ghosts as Device, rtu.RtuDevice.RtuDevice}
+use Rattle.dnp_link_frame.specs.declared.dnp.Dnp.{Dnp}
+use Rattle.hmac_tag.specs.declared.{macs.HmacSha1.HmacSha1, macs.HmacSha256.HmacSha256}
+use Rattle.hmac_tag.specs.declared.tag.Mac.{Ghosts as Mac}
+use Rattle.line_rules.specs.declared.line_rules.LineRules.{Ghosts as LineRules}
+use Rattle.{line_spacer.specs.declared.spacer.SpaceStep.SpaceStep, std.proofs.Common.◌≡◌}
+use Rattle.rtu_frame.specs.declared.rtu.Rtu.{Rtu}
+use Rattle.std.proofs.Common.{◌∙◌, ℕ, List, IfOk, IfErr, refl, sym, ap}
+use Rattle.std.specs.Prelude.{Option, Some, None, ok_or}
+use Rattle.yasir_c.specs.Edge.{StepsBy, CommittedBy}
+use Rattle.yasir_c.specs.Holding.{HandsNothing, TakesNoTick, SpacesTick, SpacesNoTick}
+use Rattle.yasir_c.specs.{SpacerEdge.SpacesBy, declared.answer.Answer.Answer}
+use Rattle.yasir_c.specs.declared.held.Held.{Held, TheVariants.Spacer}
+use Rattle.yasir_c.specs.declared.{spaced.Spaced.Spaced, status.Status.Status}
+use Rattle.yasir_c.specs.declared.status.Status.TheVariants as Is
+use Rattle.yasir_ticks.specs.declared.tick.Tick.{Tick}
+
+-- no answer that was withheld is returned
+pub hands-nothing : (old new : Option Held) (ok : ℕ) (answer : Answer) (status : Status)
+    → HandsNothing ok old new status → CommittedBy old new ok answer answer status
+hands-nothing old new ok answer Is.Done why = absurd why
+hands-nothing old new ok answer Is.BadArgument why = (refl, why)
+hands-nothing old new ok answer Is.NoJournal why = (refl, why)
+hands-nothing old new ok answer Is.OtherLink why = (refl, why)
+hands-nothing old new ok answer Is.NoMemory why = (refl, why)
+hands-nothing old new ok answer Is.Full why = (refl, why)
+hands-nothing old new ok answer Is.Commit why = (refl, why)
+hands-nothing old new ok answer Is.Waiting why = (refl, why)
+hands-nothing old new ok answer Is.Stopped why = (refl, why)
+hands-nothing old new ok answer Is.Empty why = (refl, why)
+
+module _ (rtu : LineRules Rtu) (dnp : LineRules Dnp) (short : Mac HmacSha1)
+    (long : Mac HmacSha256) where
+  -- a box takes no tick
+  pub takes-none : (old new : Option Held) (number : ℕ) (answer : Answer) (slot : List ℕ)
+      (status : Status) → new ≡ old → TakesNoTick old status
+      → StepsBy rtu dnp short long old new number answer answer slot slot status
+  takes-none old new number answer slot Is.Done is why = absurd why
+  takes-none old new number answer slot Is.BadArgument is why = absurd why
+  takes-none old new number answer slot Is.NoJournal is why = absurd why
+  takes-none old new number answer slot Is.OtherLink is why = absurd why
+  takes-none old new number answer slot Is.NoMemory is why = absurd why
+  takes-none old new number answer slot Is.Full is why =
+      (record { box_is = is; answer_is = refl; slot_is = refl }, why)
+  takes-none old new number answer slot Is.Commit is why = absurd why
+  takes-none old new number answer slot Is.Waiting is why =
+      (record { box_is = is; answer_is = refl; slot_is = refl }, why)
+  takes-none old new number answer slot Is.Stopped is why =
+      (record { box_is = is; answer_is = refl; slot_is = refl }, why)
+  takes-none old new number answer slot Is.Empty is why =
+      (record { box_is = is; answer_is = refl; slot_is = refl }, why)
+
+module _ (rtu : Device RtuDevice) (dnp : Device (ForgetfulDevice Dnp)) where
+  -- a spacer takes no tick
+  pub spaces-none : (old new : Option Held) (number : ℕ) (answer : Spaced) (status : Status)
+      → new ≡ old → SpacesNoTick old status
+      → SpacesBy rtu dnp old new number answer answer status
+  spaces-none old new number answer Is.Done is why = absurd why
+  spaces-none old new number answer Is.BadArgument is why = absurd why
+  spaces-none old new number answer Is.NoJournal is why = absurd why
+  spaces-none old new number answer Is.OtherLink is why = absurd why
+  spaces-none old new number answer Is.NoMemory is why = absurd why
+  spaces-none old new number answer Is.Full is why = (is, refl, why)
+  spaces-none old new number answer Is.Commit is why = absurd why
+  spaces-none old new number answer Is.Waiting is why = absurd why
+  spaces-none old new number answer Is.Stopped is why = absurd why
+  spaces-none old new number answer Is.Empty is why = (is, refl, why)
+
+  -- a step of the spacer that is held
+  pub spaces : (old : Held) (before after : HeldSpacer) (t : Tick) (result : Option SpaceStep)
+      → old ≡ Spacer before → StepsOrFull rtu dnp before after t result
+      → IfOk (ok_or result Is.Full) (SpacesTick rtu dnp (Some old) (Some (Spacer after)) t)
+  spaces old before after t (Some step) is steps = record {
+    before = before;
+    after = after;
+    old_is = ap (λ h. Some h) is;
+    new_is = refl;
+    steps = steps;
+  }
+  spaces old before after t None is full = tt
+
+  pub spaces-full : (old : Held) (before after : HeldSpacer) (t : Tick)
+      (result : Option SpaceStep) → old ≡ Spacer before
+      → StepsOrFull rtu dnp before after t result
+      → IfErr (ok_or result Is.Full)
+      (λ why. (Spacer after ≡ old) × SpacesNoTick (Some old) why)
+  spaces-full old before after t (Some step) is steps = tt
+  spaces-full old before after t None is full = (
+    ap (λ s. Spacer s) full.1 ∙ sym is,
+    (before, ap (λ h. Some h) is, full.0),
+  )

@@ -1,0 +1,77 @@
+//! The law about all that C reads of a box.
+ghost use Rattle.std.specs.Prelude.{◌≡◌, ℕ, List, [], ◌∷◌, ◌++◌, Some, None, map, take};
+ghost use Rattle.yasir_ticks.specs.declared.tick.Tick.{Tick};
+ghost use Rattle.burst_walk.specs.Answered.{answered};
+ghost use Rattle.hmac_tag.specs.declared.dir.Dir.{Dir};
+ghost use Rattle.link_format.specs.Setup.{Setup, setup_of};
+ghost use Rattle.any_box.specs.Held.{floor_held, Begins};
+ghost use Rattle.any_box.specs.declared.held_box.HeldBox.{HeldBox};
+ghost use Rattle.any_box.specs.declared.held_box.HeldStep.{HeldStep};
+ghost use Rattle.any_box.specs.declared.kind.Kind.{Kind};
+ghost use Rattle.any_box.specs.declared.owed.Commit.{Commit};
+ghost use Rattle.yasir_c.specs.Answers.{answer_of};
+ghost use Rattle.yasir_c.specs.Holding.{TakesTick, TakesFront, HandsOut, Stops};
+ghost use Rattle.yasir_c.specs.Telling.{quiet, Tells};
+ghost use Rattle.yasir_c.specs.Withholding.{ready};
+ghost use Rattle.yasir_c.specs.declared.answer.Answer.{Answer};
+ghost use Rattle.yasir_c.specs.declared.held.Held.TheVariants.{LineBox};
+ghost use Rattle.yasir_c.specs.declared.withholding.WithholdingBox.{WithholdingBox};
+
+use dnp_link_frame::Dnp;
+use hmac_tag::{HmacSha1, HmacSha256, Mac};
+use line_rules::LineRules;
+use rtu_frame::Rtu;
+
+/// What C reads of a box in all, whatever it calls. *begins*: C has read nothing of a box that has
+/// taken no tick. *answers*: after a step that uses no number it has read the answer of the step
+/// too. *withholds*: after one that uses a number it has not. *hands*: if it says that the number
+/// is written, it has. *stops*: if it says that the number couldn't be written, it still has not.
+/// *runs*: after a run it has read the ticks that the box returned for it.
+pub fn all_answers_are_told()
+    ensures begins { (kind : Kind) (dir : Dir) (key a b : List ℕ) (held : HeldBox)
+        → Begins ⟦<Rtu as LineRules>⟧ ⟦<Dnp as LineRules>⟧ ⟦<HmacSha1 as Mac>⟧
+        ⟦<HmacSha256 as Mac>⟧ kind dir key a b held
+        → Tells ⟦<Rtu as LineRules>⟧ ⟦<Dnp as LineRules>⟧ ⟦<HmacSha1 as Mac>⟧
+        ⟦<HmacSha256 as Mac>⟧ kind (setup_of key dir (floor_held held)) (ready held) [] [] }
+    ensures answers { (kind : Kind) (setup : Setup) (old new : WithholdingBox) (line : List Tick)
+        (told : List Answer) (t : Tick) (step : HeldStep)
+        → Tells ⟦<Rtu as LineRules>⟧ ⟦<Dnp as LineRules>⟧ ⟦<HmacSha1 as Mac>⟧
+        ⟦<HmacSha256 as Mac>⟧ kind setup old line told
+        → TakesTick ⟦<Rtu as LineRules>⟧ ⟦<Dnp as LineRules>⟧ ⟦<HmacSha1 as Mac>⟧
+        ⟦<HmacSha256 as Mac>⟧ (Some (LineBox old)) (Some (LineBox new)) t step
+        → step.commit ≡ None
+        → Tells ⟦<Rtu as LineRules>⟧ ⟦<Dnp as LineRules>⟧ ⟦<HmacSha1 as Mac>⟧
+        ⟦<HmacSha256 as Mac>⟧ kind setup new (line ++ t ∷ []) (told ++ answer_of step ∷ []) }
+    ensures withholds { (kind : Kind) (setup : Setup) (old new : WithholdingBox) (line : List Tick)
+        (told : List Answer) (t : Tick) (step : HeldStep) (commit : Commit)
+        → Tells ⟦<Rtu as LineRules>⟧ ⟦<Dnp as LineRules>⟧ ⟦<HmacSha1 as Mac>⟧
+        ⟦<HmacSha256 as Mac>⟧ kind setup old line told
+        → TakesTick ⟦<Rtu as LineRules>⟧ ⟦<Dnp as LineRules>⟧ ⟦<HmacSha1 as Mac>⟧
+        ⟦<HmacSha256 as Mac>⟧ (Some (LineBox old)) (Some (LineBox new)) t step
+        → step.commit ≡ Some commit
+        → Tells ⟦<Rtu as LineRules>⟧ ⟦<Dnp as LineRules>⟧ ⟦<HmacSha1 as Mac>⟧
+        ⟦<HmacSha256 as Mac>⟧ kind setup new (line ++ t ∷ []) told }
+    ensures hands { (kind : Kind) (setup : Setup) (old new : WithholdingBox) (line : List Tick)
+        (told : List Answer) (answer : Answer)
+        → Tells ⟦<Rtu as LineRules>⟧ ⟦<Dnp as LineRules>⟧ ⟦<HmacSha1 as Mac>⟧
+        ⟦<HmacSha256 as Mac>⟧ kind setup old line told
+        → HandsOut (Some (LineBox old)) (Some (LineBox new)) answer
+        → Tells ⟦<Rtu as LineRules>⟧ ⟦<Dnp as LineRules>⟧ ⟦<HmacSha1 as Mac>⟧
+        ⟦<HmacSha256 as Mac>⟧ kind setup new line (told ++ answer ∷ []) }
+    ensures stops { (kind : Kind) (setup : Setup) (old new : WithholdingBox) (line : List Tick)
+        (told : List Answer)
+        → Tells ⟦<Rtu as LineRules>⟧ ⟦<Dnp as LineRules>⟧ ⟦<HmacSha1 as Mac>⟧
+        ⟦<HmacSha256 as Mac>⟧ kind setup old line told
+        → Stops (Some (LineBox old)) (Some (LineBox new))
+        → Tells ⟦<Rtu as LineRules>⟧ ⟦<Dnp as LineRules>⟧ ⟦<HmacSha1 as Mac>⟧
+        ⟦<HmacSha256 as Mac>⟧ kind setup new line told }
+    ensures runs { (kind : Kind) (setup : Setup) (old new : WithholdingBox) (line : List Tick)
+        (told : List Answer) (run : List Tick) (sent : List ℕ) (taken : ℕ)
+        → Tells ⟦<Rtu as LineRules>⟧ ⟦<Dnp as LineRules>⟧ ⟦<HmacSha1 as Mac>⟧
+        ⟦<HmacSha256 as Mac>⟧ kind setup old line told
+        → TakesFront ⟦<Rtu as LineRules>⟧ ⟦<Dnp as LineRules>⟧ ⟦<HmacSha1 as Mac>⟧
+        ⟦<HmacSha256 as Mac>⟧ (Some (LineBox old)) (Some (LineBox new)) run sent taken
+        → Tells ⟦<Rtu as LineRules>⟧ ⟦<Dnp as LineRules>⟧ ⟦<HmacSha1 as Mac>⟧
+        ⟦<HmacSha256 as Mac>⟧ kind setup new (line ++ take taken run)
+        (told ++ map (λ tick. quiet tick) (answered taken sent)) }
+{}
