@@ -1,15 +1,17 @@
-# try: builds the program without proving it, and runs one recorded session through it. Nothing is promised of that build.
+# try: builds the program without proving it, and runs one recorded session through it, or a capture of your own with
+#      CAPTURE=FILE RATE=9600x11 P=rtu. Nothing is promised of that build, which is kept in out/try/.
 # demo: proves the program crate by crate, runs it over a recorded exchange in both directions, and compares what it
 #       writes with examples/expected/; then it writes a page that shows the exchange, out/timeline.html. JOBS is the most
 #       crates that are proved side by side; without it, as many are as processors and memory allow.
 # test: runs the gate. It proves each crate, tries the wrong bodies, and runs the tests and the program.
 # check: runs the scripts that try the built program and are no part of the gate. LEVEL is quick, change or release.
 #        BEFORE is the last version, a program or a checkout with one: the level release counts the instructions of both.
+# reading: writes the page out/reading.md, with all definitions on which the headline rests, in order of use.
 # live: shows mbpoll reading registers through four boxes, under attack. It needs mbpoll, libmodbus and a C compiler.
-.PHONY: try demo test check live
+.PHONY: try demo test check reading live
 
 try:
-	@python3 scripts/try.py
+	@python3 scripts/try.py $(if $(CAPTURE),$(foreach name,CAPTURE RATE P START FRAMES,$(if $($(name)),"$(name)=$($(name))")))
 
 demo:
 	@python3 scripts/demo.py $(JOBS)
@@ -19,6 +21,9 @@ test:
 
 check:
 	@python3 scripts/check.py $(LEVEL) $(if $(BEFORE),--before $(BEFORE))
+
+reading:
+	@python3 scripts/reading.py
 
 live:
 	@python3 scripts/live.py

@@ -54,7 +54,9 @@ uint32_t yasir_version(void);
 /* A handle: it holds a box, a spacer, or nothing. It is {0} if it holds nothing. A caller sets it to
  * {0} once, and neither reads nor writes its fields after that.
  *
- * The memory that a handle holds, and the stack that a call needs, are in docs/C_LIBRARY.md. */
+ * On x86-64 a box is one block of 1,024 bytes. A spacer is one of these, and two more blocks with 300
+ * bytes for each frame that may wait. A call for a box needs up to 6,100 bytes of stack, and one for a
+ * spacer up to 1,000. These sizes were measured by scripts/clib_sizes.py, and aren't proved. */
 typedef struct { void *box; uint8_t holds; } yasir_handle;
 
 /* The bytes of one slot and of both, and the room in bytes that `sent` of the calls for runs must

@@ -3,7 +3,6 @@
 ghost use Rattle.std.specs.Prelude.{◌≡◌, ℕ, ◌+◌, ◌<◌, ◌≤◌, length, IfOk, OnOk, None, Some};
 ghost use Rattle.yasir_io.specs.Steady.{steady_slots};
 ghost use Rattle.yasir_ticks.specs.TickRun.{run_ticks};
-ghost use Rattle.link_box.specs.Links.{AreLinks};
 ghost use Rattle.link_box.specs.Stepping.{ServesLink};
 ghost use Rattle.yasir_ticks.specs.declared.TheConstants.{MAX_TICKS};
 
@@ -11,7 +10,7 @@ use crate::fresh::{FreshJournal, fresh_disk, load_fresh};
 use crate::over_boxes::{KEY, run_ends};
 use crate::packets::{self, DNP_PACKET, LINKS, Link, RTU_PACKET, packet_of};
 use crate::receiver_runs::{Burst, NO_BURST, alike, front_with, link_of, part_at};
-use crate::texts::repeated;
+use crate::texts::{add_times, repeated};
 use box_command::LineBox;
 use burst_walk::RunBytes;
 use check_receiver::Checker;
@@ -69,7 +68,6 @@ impl<B: LineBox> Journaled<B> {
     // A box that has taken no tick, over a journal with floor 0.
     fn new() -> Result<Journaled<B>, Fail>
         requires widths { B.widths_fit }
-        requires links { AreLinks B.link_in }
         ensures taken { IfOk result (λ value. B.taken value.line_box ≡ 0) }
         ensures able { IfOk result (λ value. ServesLink (B.link_of value.line_box) value.journal
             (Some (steady_slots value.disk))) }
@@ -256,7 +254,6 @@ fn takes_journaled<B: LineBox>(
     most: usize,
 ) -> Result<(), Fail>
     requires widths { B.widths_fit }
-    requires links { AreLinks B.link_in }
 {
     let line_box: Journaled<B> = Journaled::new()?;
     takes(rt, alloc, line_box, ticks, most)
@@ -433,6 +430,25 @@ fn bursts_that_do_not_pass_take_few_turns(rt: HostRuntime) -> Result<(), Fail> {
     Ok(())
 }
 
+// The header of the longest DNP3 frame, which has 282 more bytes.
+const LONGEST_HEADER: &[u8] = b"\x05\x64\xFF\xC4\x01\x00\x00\x04\x27\x27";
+
+// The 282 bytes of the fill leave in runs of up to 64.
+const TURNS_OF_A_FILL: usize = 5;
+
+// A frame that is cut off behind its header is refused, and what it lacks leaves as a fill.
+#[test]
+fn the_fill_of_a_frame_takes_few_turns(rt: HostRuntime) -> Result<(), Fail> {
+    let alloc = rt.alloc();
+    let most = TURNS_OF_A_PACKET + TURNS_OF_A_FILL;
+    for link in [Link::Dnp, Link::WideDnp] {
+        let mut line = LONGEST_HEADER.to_vec(alloc)?;
+        add_times(&mut line, b".", 350)?;
+        checks(&rt, alloc, link, line.as_slice(), most)?;
+    }
+    Ok(())
+}
+
 type ShownSealer<R> = SealedFrames<R, HmacSha1, 2, SteadySlots>;
 
 type ShownChecker<R> = ShownFrames<Checker<R, HmacSha1, 2, 18>, R, SteadySlots>;
@@ -465,7 +481,6 @@ fn waits<X: Turning>(rt: &impl Abort, mut line_box: X) -> Result<(), Fail>
 // Checks that a box of `seal` or `check` takes a run of silence at once.
 fn waits_journaled<B: LineBox>(rt: &impl Abort) -> Result<(), Fail>
     requires widths { B.widths_fit }
-    requires links { AreLinks B.link_in }
 {
     let line_box: Journaled<B> = Journaled::new()?;
     waits(rt, line_box)
