@@ -5,8 +5,9 @@
 
 Each session is drawn from SEED (1): the line of a device with some frames, its link, and the line of an honest receiver, with
 either protocol, profile and direction, a key of its own, and floors up to the greatest number. The deeds in DEEDS take turns, and
-one of them is done to each session. The program must write the line that model.py makes of the same recordings, and the model's
-verdict must be one that the deed allows: a tag that an insider forged is always named, and an honest receiver never differs. Then
+one of them is done to each session. The program must write the text that model.py makes of the same recordings and end with its
+status, and the model's verdict must be one that the deed allows: a tag that an insider forged is always named, and an honest
+receiver never differs. A mistake of the person who audits (MISTAKES, the table of docs/AUDIT.md) must have one of its answers. Then
 the same is done with programs that are made wrong, each in one way (WRONG).
 
 It ends with 0 only if all agree, every verdict was seen, and each wrong program was told from the right one. It is no part of the
@@ -15,12 +16,12 @@ gate.
 import collections, functools, os, random, re, subprocess, sys, tempfile
 
 import built, model
-from model import LIMIT, PAUSE, Y18, Y24, Dnp3, Rtu
+from model import LIMIT, PAUSE, Y18, Y24, Dnp3, Rtu, frame_or_none
 
 Session = collections.namedtuple("Session", "proto profile key direction floors device link received sent")
 
-CLEAN, FORGED, DIFFERS = "clean", "forged", "differs"
-KINDS = (CLEAN, FORGED, DIFFERS)
+CLEAN, FORGED, DIFFERS, EMPTY = "clean", "forged", "differs", "empty"
+KINDS = (CLEAN, FORGED, DIFFERS, EMPTY)
 
 
 def some_frame(proto, chance):
@@ -238,6 +239,11 @@ def begin_late(session, chance):
     return session._replace(device=session.device[start + len(frame):])
 
 
+def end_early(session, chance):
+    """The device's recording ends before its last frame."""
+    return session._replace(device=session.device[:session.sent[-1][1]])
+
+
 def silence(session, chance):
     return session._replace(**{name: [None] * chance.choice([0, 1, 50, 1000]) for name in ("device", "link", "received")})
 
@@ -261,10 +267,6 @@ def other_key(session, chance):
 
 def lose_a_list(session, chance):
     return session._replace(**{chance.choice(["device", "link", "received"]): []})
-
-
-def exchange(session, chance):
-    return session._replace(link=session.received, received=session.link)
 
 
 # What is done, and the verdicts that may result from it.
@@ -297,11 +299,132 @@ DEEDS = {
     "floors: the receiver's too low": (low_receiver_floor, CLEAN),
     "first list: a frame missing": (miss_a_frame, FORGED),
     "first list: begins too late": (begin_late, FORGED),
+    "first list: ends too soon": (end_early, FORGED),
     "key: that of another line": (other_key, DIFFERS),
-    "silence alone": (silence, CLEAN),
+    "silence alone": (silence, EMPTY),
     "noise alone": (noise,) + KINDS,
     "a list missing": (lose_a_list,) + KINDS,
-    "second and third exchanged": (exchange,) + KINDS,
+}
+
+
+# ---- mistakes of the person who audits a session to which nothing was done
+
+def in_order(*names):
+    """The recordings in another order, or one of them more than once."""
+    return lambda session, chance: session._replace(**dict(zip(("device", "link", "received"), (getattr(session, name) for name in names))))
+
+
+def wrong_direction(session, chance):
+    return session._replace(direction=1 - session.direction)
+
+
+def wrong_profile(session, chance):
+    return session._replace(profile=Y24 if session.profile is Y18 else Y18)
+
+
+def wrong_protocol(session, chance):
+    return session._replace(proto=Dnp3 if session.proto is Rtu else Rtu)
+
+
+def floors_of(sender, receiver):
+    """Floors that are this much too high, or too low where the number is negative."""
+    def change(session, chance):
+        while session.floors[1] < 3:
+            session = some_session(chance)
+        return session._replace(floors=(session.floors[0] + sender, session.floors[1] + receiver))
+    return change
+
+
+def receiver_above_all(session, chance):
+    return session._replace(floors=(session.floors[0], session.sent[-1][0]))
+
+
+def receiver_above_the_first(session, chance):
+    return session._replace(floors=(session.floors[0], session.sent[0][0]))
+
+
+def third_later(session, chance):
+    return session._replace(received=[None] * chance.choice([1, 2, 30]) + session.received)
+
+
+def third_earlier(session, chance):
+    return session._replace(received=session.received[1:])
+
+
+def third_silent(session, chance):
+    return session._replace(received=[None] * len(session.received))
+
+
+def second_silent(session, chance):
+    return session._replace(link=[None] * len(session.link))
+
+
+def behind_a_spacer(session, chance):
+    return session._replace(received=model.space(session.proto, session.received, session.profile)[0])
+
+
+def of_another_day(session, chance):
+    """The device's line of another session, with the same floors."""
+    other = some_session(chance)
+    while other.proto is not session.proto or [frame for _, _, frame in other.sent][0] == session.sent[0][2]:
+        other = some_session(chance)
+    return session._replace(device=other.device)
+
+
+ALL_READ = r"sealed (\d+) passed \1 read \1\n"
+LATER = r"audit differs 0 %sexpected at \d+ (\w+)\nfound at \d+ \2\n" % ALL_READ
+NONE_PASSED = r"audit differs 0 sealed \d+ passed 0 read [1-9]\d*\nexpected none\nfound at \d+ \w+\n"
+NOTHING_CAME = r"audit clean sealed [1-9]\d* passed 0 read 0\n"
+ENDS_SOON = r"audit differs (\d+) sealed \d+ passed \d+ read \1\nexpected at \d+ \w+\nfound none\n"
+
+
+def first_is_forged(text, session):
+    return re.fullmatch("audit forged %d at %d %s" % (session.sent[0][0], session.sent[0][1], ALL_READ), text)
+
+
+def second_is_expected(text, session):
+    """The second frame of the session was expected, and the first one was found, which comes earlier."""
+    (_, first, frame), (_, second, other) = session.sent[:2]
+    lines = [frame_or_none("expected", (second + session.profile.delay, other)), frame_or_none("found", (first + session.profile.delay, frame))]
+    return re.fullmatch(r"audit differs 0 sealed \d+ passed \d+ read \d+\n%s" % "".join(lines), text)
+
+
+def found_later(text, session):
+    ticks = re.findall(r" at (\d+) ", text)
+    return re.fullmatch(LATER, text) and int(ticks[0]) < int(ticks[1])
+
+
+def found_earlier(text, session):
+    ticks = re.findall(r" at (\d+) ", text)
+    return re.fullmatch(LATER, text) and int(ticks[0]) > int(ticks[1])
+
+# What is done, and the answers that it may have: an expression over the whole output, or a function of it and the session.
+MISTAKES = {
+    "mistake: first and second swapped": (in_order("link", "device", "received"), NONE_PASSED),
+    "mistake: second and third swapped": (in_order("device", "received", "link"), NOTHING_CAME, NONE_PASSED),
+    "mistake: first and third swapped": (in_order("received", "link", "device"), found_earlier),
+    "mistake: the link first": (in_order("link", "received", "device"), NONE_PASSED),
+    "mistake: the link last": (in_order("received", "device", "link"), NOTHING_CAME, NONE_PASSED),
+    "mistake: the first three times": (in_order("device", "device", "device"), NONE_PASSED),
+    "mistake: the link three times": (in_order("link", "link", "link"), r"audit forged \d+ at \d+ sealed 0 passed [1-9]\d* read \d+\n"),
+    "mistake: the third three times": (in_order("received", "received", "received"), NONE_PASSED),
+    "mistake: another key": (other_key, NONE_PASSED),
+    "mistake: the other direction": (wrong_direction, NONE_PASSED),
+    "mistake: the other profile": (wrong_profile, NONE_PASSED),
+    "mistake: the other protocol": (wrong_protocol, r"audit empty sealed 0 passed 0 read 0\n"),
+    "mistake: F too high": (floors_of(1, 0), first_is_forged),
+    "mistake: F too low": (floors_of(-1, 0), first_is_forged),
+    "mistake: G above all numbers": (receiver_above_all, NONE_PASSED),
+    "mistake: G above the first number": (receiver_above_the_first, second_is_expected),
+    "mistake: G a little too low": (floors_of(0, -1), r"audit clean %s" % ALL_READ),
+    "mistake: the third begins earlier": (third_later, found_later),
+    "mistake: the third begins a tick later": (third_earlier, found_earlier),
+    "mistake: the third silent": (third_silent, r"audit differs 0 sealed (\d+) passed \1 read 0\nexpected at \d+ \w+\nfound none\n"),
+    "mistake: the second silent": (second_silent, NONE_PASSED),
+    "mistake: second and third silent": (lambda session, chance: second_silent(third_silent(session, chance), chance), NOTHING_CAME),
+    "mistake: the third behind a spacer": (behind_a_spacer, found_later),
+    "mistake: the third ends too soon": (on_received(cut_short), ENDS_SOON),
+    "mistake: the first of another day": (of_another_day, r"audit forged \d+ at \d+ sealed \d+ passed (\d+) read \1\n"),
 }
 
 
@@ -314,6 +437,11 @@ def lists_of(session):
     return [session.device, session.link, session.received]
 
 
+def answer_of(text, status):
+    """A text and a status as one text."""
+    return "%sstatus %d\n" % (text, status)
+
+
 class Program:
     """The program that is tried. A wrong one of WRONG changes its words, its lists or its line."""
 
@@ -321,12 +449,12 @@ class Program:
         self.path, self.key_file = path, os.path.join(folder, "key")
 
     def run(self, session):
-        """What it writes. A status other than the one that is due, or a line in the log, is added to this text."""
+        """What it writes, with the log and the status behind it."""
         with open(self.key_file, "w") as file:
             file.write(session.key.hex())
         text = "%\n".join(map(model.canonical, self.lists(lists_of(session))))
         ran = subprocess.run([self.path] + self.words(words_of(session, self.key_file)), input=text, capture_output=True, text=True)
-        return self.line(ran.stdout) + ran.stderr + ("" if ran.returncode == 0 else "status %d" % ran.returncode)
+        return self.line(answer_of(ran.stdout + ran.stderr, ran.returncode))
 
     def words(self, words):
         return words
@@ -351,9 +479,14 @@ def one_more(pattern):
     return lambda line: re.sub(pattern, lambda found: found[1] + str(int(found[2]) + 1), line)
 
 
+def as_clean(line):
+    """The answer with the same counts, but clean."""
+    return answer_of("audit clean " + re.search(r"sealed .*\n", line)[0], 0)
+
+
 def counts_for_numbers(line):
-    """The line of a program that only compares counts, and so doesn't see that a frame that passed wasn't read."""
-    return "audit clean sealed 2 passed 2 read 2\n" if line.startswith("audit differs") else line
+    """The answer of a program that only compares counts, and so doesn't see that a frame that passed wasn't read."""
+    return as_clean(line) if line.startswith("audit differs") else line
 
 
 def sealed_in(session):
@@ -367,7 +500,7 @@ def passed_in(session):
 def counted(session):
     """The line of a clean verdict, whatever is in the lists."""
     read = model.reads(session.proto, session.received)
-    return "audit clean sealed %d passed %d read %d\n" % (len(sealed_in(session)), len(passed_in(session)), len(read))
+    return answer_of("audit clean sealed %d passed %d read %d\n" % (len(sealed_in(session)), len(passed_in(session)), len(read)), 0)
 
 
 class ByNumberAlone(Program):
@@ -394,21 +527,29 @@ class LongerIsClean(Program):
 
     def run(self, session):
         line = super().run(session)
-        return counted(session) if line == "audit differs %d\n" % len(passed_in(session)) else line
+        return counted(session) if line.startswith("audit differs %d " % len(passed_in(session))) else line
 
 
 WRONG = {
     "differences counted from 1": wrong(line=one_more(r"(differs )(\d+)")),
     "floors swapped": wrong(words=lambda words: words[:4] + words[:3:-1]),
     "floors taken for 0": wrong(words=lambda words: words[:4] + ["0", "0"]),
-    "forged called clean": wrong(line=lambda line: "audit clean sealed 1 passed 1 read 1\n" if "forged" in line else line),
-    "forged called different": wrong(line=lambda line: "audit differs 0\n" if "forged" in line else line),
+    "forged called clean": wrong(line=lambda line: as_clean(line) if "forged" in line else line),
+    "forged called different": wrong(line=lambda line: re.sub("forged \\d+ at \\d+", "differs 0", line)),
+    "empty called clean": wrong(line=lambda line: as_clean(line) if "empty" in line else line),
+    "nothing passed called empty": wrong(line=lambda line: re.sub("clean (.* passed 0 read 0\n)", r"empty \1", line)),
+    "each verdict with status 0": wrong(line=lambda line: re.sub(r"status 1[456]\n", "status 0\n", line)),
+    "differences with the status of forged": wrong(line=lambda line: line.replace("status 15", "status 14")),
+    "expected and found exchanged": wrong(line=lambda line: re.sub(r"expected (.*)\nfound (.*)\n", r"expected \2\nfound \1\n", line)),
+    "the frame behind the one that was found": wrong(line=lambda line: line.replace("found at", "found none\nfound at")),
+    "expected in the tick of the link": wrong(line=lambda line: re.sub(r"(expected at )(\d+)", lambda found: found[1] + str(int(found[2]) - 18), line)),
     "differences not seen": wrong(line=counts_for_numbers),
     "forged told by the number alone": ByNumberAlone,
     "forged told by the frame alone": ByFrameAlone,
     "frames after the last one not seen": LongerIsClean,
     "the tick of a forged frame a tick late": wrong(line=one_more(r"(forged \d+ at )(\d+)")),
     "one too many read": wrong(line=one_more(r"(read )(\d+)")),
+    "counts of a clean verdict alone": wrong(line=lambda line: re.sub(r"((?:forged|differs) .*?) sealed .*\n", r"\1\n", line)),
     "sealed and passed exchanged": wrong(line=lambda line: re.sub(r"sealed (\d+) passed (\d+)", r"sealed \2 passed \1", line)),
     "the third list cut to the second's length": wrong(lists=lambda lists: lists[:2] + [lists[2][:len(lists[1])]]),
     "the first list taken for the second": wrong(lists=lambda lists: [lists[1], lists[1], lists[2]]),
@@ -418,22 +559,32 @@ WRONG = {
 }
 
 
+ALL = {**DEEDS, **MISTAKES}
+
+
+def is_allowed(answer, name, text, session):
+    """Whether an answer that a deed may have is this one: its kind alone, or for a mistake all of it."""
+    if callable(answer):
+        return answer(text, session)
+    return re.fullmatch(answer, text if name in MISTAKES else text.split()[1])
+
+
 def disagreements(program, sessions, seed, first_only=False):
     """The places where program, model and deed disagree, in words, and how often each deed led to each verdict."""
     chance, seen, found = random.Random(seed), collections.Counter(), []
-    deeds = list(DEEDS)
     for turn in range(sessions):
-        name = deeds[turn % len(deeds)]
-        deed, *allowed = DEEDS[name]
+        name = list(ALL)[turn % len(ALL)]
+        deed, *allowed = ALL[name]
         session = deed(some_session(chance), chance)
-        wanted = model.audit(session.proto, session.key, session.direction, session.floors, *lists_of(session), session.profile)
-        kind, wrote = wanted.split()[1], program.run(session)
+        text, status = model.audit(session.proto, session.key, session.direction, session.floors, *lists_of(session), session.profile)
+        kind, wanted, wrote = text.split()[1], answer_of(text, status), program.run(session)
         seen[name, kind] += 1
-        if kind not in allowed:
-            found.append("%s: the model says `%s`, which can't come of it" % (name, wanted))
-        if wrote != wanted + "\n":
+        if not any(is_allowed(answer, name, text, session) for answer in allowed):
+            found.append("%s: the model says `%s`, which can't come of it" % (name, text.strip()))
+        if wrote != wanted:
             found.append("%s: the program says `%s` and the model `%s`, of `%s` and the lists\n%s" % (
-                name, wrote.strip(), wanted, " ".join(words_of(session, "KEY")), "%\n".join(map(model.canonical, lists_of(session)))))
+                name, wrote.strip(), wanted.strip(), " ".join(words_of(session, "KEY")),
+                "%\n".join(map(model.canonical, lists_of(session)))))
         if found and first_only:
             break
     return found, seen
@@ -442,7 +593,7 @@ def disagreements(program, sessions, seed, first_only=False):
 def compare(path, sessions, seed, folder):
     found, seen = disagreements(Program(path, folder), sessions, seed)
     print("%-40s%s" % ("%d sessions, seed %d" % (sessions, seed), "".join("%9s" % kind for kind in KINDS)))
-    for name in DEEDS:
+    for name in ALL:
         print(("%-40s%s" % (name, "".join("%9s" % (seen[name, kind] or "") for kind in KINDS))).rstrip())
     sums = [sum(count for (_, kind), count in seen.items() if kind == each) for each in KINDS]
     print("%-40s%s" % ("all of them", "".join("%9d" % count for count in sums)))
@@ -454,7 +605,7 @@ def compare(path, sessions, seed, folder):
 def try_wrong_ones(path, seed, folder):
     missed = 0
     for name, made in WRONG.items():
-        found, seen = disagreements(made(path, folder), 20 * len(DEEDS), seed, first_only=True)
+        found, seen = disagreements(made(path, folder), 20 * len(ALL), seed, first_only=True)
         missed += not found
         said = "told after %3d sessions: %s" % (sum(seen.values()), found[0].split("\n")[0].split(", of `")[0]) if found else "NOT TOLD"
         print("%-43s %s" % (name, said))
@@ -463,7 +614,7 @@ def try_wrong_ones(path, seed, folder):
 
 
 def main(words):
-    sessions = int(words[0]) if words else 660
+    sessions = int(words[0]) if words else 1120
     path = built.program(words, 1)
     seed = int(words[2]) if len(words) > 2 else 1
     with tempfile.TemporaryDirectory(prefix="audit.") as folder:

@@ -11,7 +11,7 @@ import difflib, os, subprocess, sys, tempfile, threading, time
 import timeline
 from killed import old_slot_of
 from lanes import Lanes, run_in
-from model import canonical, ticks_of
+from model import AUDIT_STATUS, canonical, ticks_of
 from prove import crates_below, lines_of, prove_all, room_here
 
 ROOT = os.path.dirname(os.path.dirname(os.path.abspath(__file__)))
@@ -244,26 +244,26 @@ def show_whole_line(folder):
     return same and other
 
 
-def show_audit(name, words, what, lists, folder):
-    """Shows the verdict on three recordings of one session."""
+def show_audit(name, words, verdict, what, lists, folder):
+    """Shows the answer of an audit of three recordings of one session, which must have this verdict."""
     print("== %s\n" % what)
     session = joined(folder, name + ".lists.ticks", *(example(part + ".ticks") for part in lists))
     command, protocol, direction, *floors = words.split()
-    verdict, _ = run([command, protocol, direction, os.path.join(EXAMPLES, "key.txt")] + floors, session)
+    answer, _ = run([command, protocol, direction, os.path.join(EXAMPLES, "key.txt")] + floors, session, AUDIT_STATUS[verdict])
     heading = "%s: the recordings %s" % (words, ", ".join("examples/%s.ticks" % part for part in lists))
-    return show(heading, verdict, name + ".verdict.txt")
+    return show(heading, answer, name + ".verdict.txt")
 
 
 def show_incident(folder):
     """Shows the verdicts of an audit."""
     words, sent, link = "audit rtu ab 41 41", "incident", "incident_link"
-    same = show_audit("incident", words, "An incident: did the device read a frame that wasn't sealed?",
+    same = show_audit("incident", words, "clean", "An incident: did the device read a frame that wasn't sealed?",
                       (sent, link, "incident_received"), folder)
-    same &= show_audit("incident_short_line", words, "The same, but somebody wrote to the line behind the receiver, too",
+    same &= show_audit("incident_short_line", words, "differs", "The same, but somebody wrote to the line behind the receiver, too",
                        (sent, link, "incident_short_line"), folder)
-    same &= show_audit("incident_insider", words, "The same, but somebody who has the key wrote to the link, too",
+    same &= show_audit("incident_insider", words, "forged", "The same, but somebody who has the key wrote to the link, too",
                        (sent, "incident_insider_link", "incident_insider_received"), folder)
-    return same & show_audit("outstation_altered", "audit dnp3 ab 0 0", "The outstation, of whose frames the attacker has kept two off",
+    return same & show_audit("outstation_altered", "audit dnp3 ab 0 0", "clean", "The outstation, of whose frames the attacker has kept two off",
                              ("outstation", "outstation_altered", "expected/outstation_altered.received"), folder)
 
 

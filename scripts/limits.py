@@ -13,7 +13,7 @@ import os, subprocess, sys, tempfile
 
 import built
 from killed import KEY, slot_of
-from model import PAUSE, Dnp3, Rtu, Y18, trailer
+from model import AUDIT_STATUS, PAUSE, Dnp3, Rtu, Y18, trailer
 
 TICKS, BYTES = 16_777_216, 268_435_456
 FRAMES = {"rtu": b"01030000000ac5cd", "dnp3": b"056405c001000004e921"}
@@ -96,7 +96,8 @@ def main():
             kinds = [("nothing is read", [], "")] if name in ("init", "vectors", "help", "version", "trial") else inputs(proto, MARKS.get(name, 0))
             for kind, parts, fault in kinds:
                 status, seconds, last = run(program, words, parts, folder)
-                right = status == (10 if fault else 0) and (last == fault or not fault)
+                whole = AUDIT_STATUS.values() if name == "audit" else (0,)
+                right = status in ((10,) if fault else whole) and (last == fault or not fault)
                 wrong += not right
                 print("%-24s %-30s status %2d %6.2f s  %s%s" % (words, kind, status, seconds, last, "" if right else "  WRONG"), flush=True)
             if name in ("replay", "audit"):

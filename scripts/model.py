@@ -320,19 +320,34 @@ def forged_of(sealed, passed):
     return [entry for entry in passed if (entry[0], bytes(entry[2])) not in known]
 
 
+AUDIT_STATUS = {"clean": 0, "forged": 14, "differs": 15, "empty": 16}
+
+
+def frame_or_none(word, frame):
+    """The line of a frame that should have been read or was, or of none."""
+    return "%s none\n" % word if frame is None else "%s at %d %s\n" % (word, frame[0], bytes(frame[1]).hex())
+
+
 def audit(proto, key, direction, floors, line, link, received, profile=Y18):
-    """The verdict on three recordings, as `audit` writes it. It compares what was sealed from the sender's floor on, what passed from
-    the receiver's floor on, and what the device reads from the third recording."""
+    """The verdict on three recordings, as `audit` writes it, and the exit status. It compares what was sealed from the sender's floor
+    on, what passed from the receiver's floor on, and what the device reads from the third recording."""
     sealed = seal(proto, key, direction, floors[0], line, profile)[3]
     passed = check(proto, key, direction, floors[1], link, profile)[3]
     read, forged = reads(proto, received), forged_of(sealed, passed)
-    if forged:
-        return "audit forged %d at %d" % forged[0][:2]
     late = [(start + profile.delay, frame) for _, start, frame in passed]
-    for place, (one, other) in enumerate(itertools.zip_longest(late, read)):
-        if one != other:
-            return "audit differs %d" % place
-    return "audit clean sealed %d passed %d read %d" % (len(sealed), len(passed), len(read))
+    places = [place for place, (one, other) in enumerate(itertools.zip_longest(late, read)) if one != other]
+    found, frames = "clean", ""
+    if not (sealed or passed or read):
+        found = "empty"
+    elif forged:
+        found = "forged %d at %d" % forged[0][:2]
+    elif places:
+        place = places[0]
+        found = "differs %d" % place
+        frames = "".join(frame_or_none(word, frames[place] if place < len(frames) else None)
+                         for word, frames in (("expected", late), ("found", read)))
+    text = "audit %s sealed %d passed %d read %d\n%s" % (found, len(sealed), len(passed), len(read), frames)
+    return text, AUDIT_STATUS[found.split()[0]]
 
 
 def canonical(line):

@@ -19,7 +19,7 @@ from model import LIMIT, PAUSE, Y18, Y24, Dnp3, Rtu
 
 # The words in notes and printed lines by which runs are counted.
 WORDS = ("sealed", "unsealed", "passed", "refused", "dropped", "read", "forged", "early", "form", "spent", "trailer", "number", "tag",
-         "busy", "head", "lost", "clean", "differs")
+         "busy", "head", "lost", "clean", "differs", "empty")
 
 # The commands that keep no journal, those of them that take two recordings and a floor of 0, and those without a key.
 NO_JOURNAL, TWO_LINES, NO_KEY = ("read", "space", "replay", "duplex", "audit"), ("replay", "duplex"), ("read", "space")
@@ -125,7 +125,8 @@ def expected(proto, profile, command, key, direction, lines, floor):
         sent, received, notes = model.duplex(proto, key, direction, lines[0], lines[1], profile)
         return 0, model.canonical(sent) + "%\n" + model.canonical(received), notes, floor
     if command == "audit":
-        return 0, model.audit(proto, key, direction, (floor, floor), lines[0], lines[1], lines[2], profile) + "\n", [], floor
+        text, status = model.audit(proto, key, direction, (floor, floor), lines[0], lines[1], lines[2], profile)
+        return status, text, [], floor
     if command == "space":
         spaced, lost, _ = model.space(proto, lines[0], profile)
         return 0, model.canonical(spaced), lost, floor

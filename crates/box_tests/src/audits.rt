@@ -3,7 +3,7 @@ ghost use Rattle.std.specs.Prelude.{◌≤◌, length, IfOk};
 ghost use Rattle.sequence_journal.specs.declared.numbers.TheConstants.{LIMIT};
 ghost use Rattle.session_audit.specs.Sessions.{IsSession, max_recorded};
 
-use session_audit::{Dir, Session, Verdict, audit};
+use session_audit::{Counts, Dir, Finding, ReadFrame, Session, audit};
 use std::alloc::Global;
 use std::process::Abort;
 use std::test::Fail;
@@ -116,6 +116,84 @@ struct Recorded<'a> {
     received: &'a [Part<'a>],
 }
 
+/// A frame that is read, or that should be: the tick of its first byte, and its bytes.
+#[derive(Clone, Copy)]
+struct Frame {
+    start: u64,
+    bytes: &'static [u8],
+}
+
+/// What an audit should find.
+#[derive(Clone, Copy)]
+enum Wanted {
+    Empty,
+    Clean,
+    Forged {
+        number: u64,
+        start: u64,
+    },
+    Differs {
+        place: u64,
+        expected: Option<Frame>,
+        found: Option<Frame>,
+    },
+}
+
+// Whether this is the frame that is wanted, or there is none and none is wanted.
+fn is_frame(frame: &Option<ReadFrame>, wanted: Option<Frame>) -> bool {
+    match (frame, wanted) {
+        (None, None) => true,
+        (Some(frame), Some(wanted)) => {
+            frame.start() == wanted.start && frame.bytes() == wanted.bytes
+        }
+        _ => false,
+    }
+}
+
+// Whether this is what should be found.
+fn is_finding(finding: &Finding, wanted: Wanted) -> bool {
+    match (finding, wanted) {
+        (Finding::Empty, Wanted::Empty) => true,
+        (Finding::Clean, Wanted::Clean) => true,
+        (
+            Finding::Forged { number, start },
+            Wanted::Forged {
+                number: other,
+                start: tick,
+            },
+        ) => { *number == other && *start == tick }
+        (
+            Finding::Differs(difference),
+            Wanted::Differs {
+                place,
+                expected,
+                found,
+            },
+        ) => {
+            difference.place == place
+                && is_frame(&difference.expected, expected)
+                && is_frame(&difference.found, found)
+        }
+        _ => false,
+    }
+}
+
+// How many frames were sealed, have passed and were read.
+fn counts(sealed: u32, passed: u32, read: u32) -> Counts {
+    Counts {
+        sealed,
+        passed,
+        read,
+    }
+}
+
+/// The verdict that is wanted.
+#[derive(Clone, Copy)]
+struct Verdict {
+    counts: Counts,
+    finding: Wanted,
+}
+
 // Checks that an audit of these recordings returns this verdict.
 fn finds(
     rt: &impl Abort,
@@ -137,7 +215,10 @@ fn finds(
         received.as_slice(),
     );
     match found {
-        Ok(found) => assert_eq!(rt; found, verdict),
+        Ok(found) => {
+            assert_eq!(rt; found.counts, verdict.counts);
+            assert!(rt; is_finding(&found.finding, verdict.finding));
+        }
         Err(_) => return Err(Fail::from("no memory")),
     }
     Ok(())
@@ -164,10 +245,9 @@ fn an_untouched_link_is_clean(rt: HostRuntime) -> Result<(), Fail> {
         link: PACKET_1,
         received: GOT,
     };
-    let clean = Verdict::Clean {
-        sealed: 1,
-        passed: 1,
-        read: 1,
+    let clean = Verdict {
+        counts: counts(1, 1, 1),
+        finding: Wanted::Clean,
     };
     finds(&rt, rt.alloc(), session_of(Link::Rtu, 0, 0), all, clean)
 }
@@ -180,13 +260,18 @@ fn a_spoiled_frame_differs_at_place_0(rt: HostRuntime) -> Result<(), Fail> {
         link: PACKET_1,
         received: REFUSED,
     };
-    finds(
-        &rt,
-        rt.alloc(),
-        session_of(Link::Rtu, 0, 0),
-        all,
-        Verdict::Differs { place: 0 },
-    )
+    let differs = Verdict {
+        counts: counts(1, 1, 0),
+        finding: Wanted::Differs {
+            place: 0,
+            expected: Some(Frame {
+                start: 18,
+                bytes: READ_TEN_REGISTERS,
+            }),
+            found: None,
+        },
+    };
+    finds(&rt, rt.alloc(), session_of(Link::Rtu, 0, 0), all, differs)
 }
 
 // Nothing was sealed, and yet a packet passed.
@@ -197,9 +282,12 @@ fn a_packet_of_no_frame_is_forged(rt: HostRuntime) -> Result<(), Fail> {
         link: PACKET_1,
         received: GOT,
     };
-    let forged = Verdict::Forged {
-        number: 1,
-        start: 0,
+    let forged = Verdict {
+        counts: counts(0, 1, 1),
+        finding: Wanted::Forged {
+            number: 1,
+            start: 0,
+        },
     };
     finds(&rt, rt.alloc(), session_of(Link::Rtu, 0, 0), all, forged)
 }
@@ -218,9 +306,12 @@ fn a_number_alone_does_not_tell(rt: HostRuntime) -> Result<(), Fail> {
         ],
         received: &[Silence(25), Bytes(READ_ONE_REGISTER), Silence(10)],
     };
-    let forged = Verdict::Forged {
-        number: 1,
-        start: 7,
+    let forged = Verdict {
+        counts: counts(1, 1, 1),
+        finding: Wanted::Forged {
+            number: 1,
+            start: 7,
+        },
     };
     finds(&rt, rt.alloc(), session_of(Link::Rtu, 0, 0), all, forged)
 }
@@ -251,6 +342,20 @@ struct Received {
     verdict: Verdict,
 }
 
+// Two frames were sealed, have passed and were read.
+const TWICE: Counts = Counts {
+    sealed: 2,
+    passed: 2,
+    read: 2,
+};
+
+// The second frame, as it should be read: it starts on the link in tick 40, and 18 ticks later it
+// leaves the receiver.
+const SECOND: Option<Frame> = Some(Frame {
+    start: 58,
+    bytes: READ_ONE_REGISTER,
+});
+
 const RECEIVED: [Received; 4] = [
     Received {
         line: &[
@@ -259,16 +364,22 @@ const RECEIVED: [Received; 4] = [
             Silence(32),
             Bytes(READ_ONE_REGISTER),
         ],
-        verdict: Verdict::Clean {
-            sealed: 2,
-            passed: 2,
-            read: 2,
+        verdict: Verdict {
+            counts: TWICE,
+            finding: Wanted::Clean,
         },
     },
     // Only the first frame.
     Received {
         line: &[Silence(18), Bytes(READ_TEN_REGISTERS), Silence(50)],
-        verdict: Verdict::Differs { place: 1 },
+        verdict: Verdict {
+            counts: Counts { read: 1, ..TWICE },
+            finding: Wanted::Differs {
+                place: 1,
+                expected: SECOND,
+                found: None,
+            },
+        },
     },
     // The second frame comes a tick late.
     Received {
@@ -278,7 +389,17 @@ const RECEIVED: [Received; 4] = [
             Silence(33),
             Bytes(READ_ONE_REGISTER),
         ],
-        verdict: Verdict::Differs { place: 1 },
+        verdict: Verdict {
+            counts: TWICE,
+            finding: Wanted::Differs {
+                place: 1,
+                expected: SECOND,
+                found: Some(Frame {
+                    start: 59,
+                    bytes: READ_ONE_REGISTER,
+                }),
+            },
+        },
     },
     // Both frames and one more.
     Received {
@@ -290,7 +411,17 @@ const RECEIVED: [Received; 4] = [
             Silence(4),
             Bytes(READ_ONE_REGISTER),
         ],
-        verdict: Verdict::Differs { place: 2 },
+        verdict: Verdict {
+            counts: Counts { read: 3, ..TWICE },
+            finding: Wanted::Differs {
+                place: 2,
+                expected: None,
+                found: Some(Frame {
+                    start: 70,
+                    bytes: READ_ONE_REGISTER,
+                }),
+            },
+        },
     },
 ];
 
@@ -306,7 +437,7 @@ fn finds_received(rt: &impl Abort, alloc: Global, row: &Received) -> Result<(), 
 }
 
 // Two frames passed. If the device read only the first one, both and one more, or the second one a
-// tick late, the verdict has the first place that differs.
+// tick late, the verdict has the first place that differs, and both frames there.
 #[test]
 fn places_are_counted_from_0(rt: HostRuntime) -> Result<(), Fail> {
     for row in &RECEIVED {
@@ -323,12 +454,26 @@ fn a_lost_packet_is_clean(rt: HostRuntime) -> Result<(), Fail> {
         link: &[Silence(90)],
         received: &[Silence(400)],
     };
-    let clean = Verdict::Clean {
-        sealed: 1,
-        passed: 0,
-        read: 0,
+    let clean = Verdict {
+        counts: counts(1, 0, 0),
+        finding: Wanted::Clean,
     };
     finds(&rt, rt.alloc(), session_of(Link::Rtu, 0, 0), all, clean)
+}
+
+// In silence alone no frame is sealed, passed or read, which is no clean session.
+#[test]
+fn silence_alone_is_empty(rt: HostRuntime) -> Result<(), Fail> {
+    let all = Recorded {
+        device: &[Silence(40)],
+        link: &[Silence(90)],
+        received: &[],
+    };
+    let empty = Verdict {
+        counts: counts(0, 0, 0),
+        finding: Wanted::Empty,
+    };
+    finds(&rt, rt.alloc(), session_of(Link::Rtu, 0, 0), all, empty)
 }
 
 // Both boxes go on from their floors. Number 6 is sealed after floor 5. It passes after floor 2,
@@ -346,18 +491,30 @@ fn numbers_go_on_from_the_floors(rt: HostRuntime) -> Result<(), Fail> {
         ],
         received: GOT,
     };
-    let clean = Verdict::Clean {
-        sealed: 1,
-        passed: 1,
-        read: 1,
+    let clean = Verdict {
+        counts: counts(1, 1, 1),
+        finding: Wanted::Clean,
     };
     finds(&rt, rt.alloc(), session_of(Link::Rtu, 5, 2), all, clean)?;
-    let forged = Verdict::Forged {
-        number: 6,
-        start: 0,
+    let forged = Verdict {
+        counts: counts(1, 1, 1),
+        finding: Wanted::Forged {
+            number: 6,
+            start: 0,
+        },
     };
     finds(&rt, rt.alloc(), session_of(Link::Rtu, 2, 5), all, forged)?;
-    let read = Verdict::Differs { place: 0 };
+    let read = Verdict {
+        counts: counts(1, 0, 1),
+        finding: Wanted::Differs {
+            place: 0,
+            expected: None,
+            found: Some(Frame {
+                start: 18,
+                bytes: READ_TEN_REGISTERS,
+            }),
+        },
+    };
     finds(&rt, rt.alloc(), session_of(Link::Rtu, 5, 6), all, read)
 }
 
@@ -418,10 +575,9 @@ const CLEAN_SESSIONS: [CleanSession; 3] = [
 // read.
 fn is_clean(rt: &impl Abort, alloc: Global, row: &CleanSession) -> Result<(), Fail> {
     let floor = u64::from(row.floor);
-    let clean = Verdict::Clean {
-        sealed: 1,
-        passed: 1,
-        read: 1,
+    let clean = Verdict {
+        counts: counts(1, 1, 1),
+        finding: Wanted::Clean,
     };
     let session = session_of(row.link, floor, floor);
     finds(rt, alloc, session, row.recorded, clean)

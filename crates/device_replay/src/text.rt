@@ -24,8 +24,9 @@ pub fn write_frame_line<const CAP: usize>(
     requires room { length text.old.items + 678 ≤ CAP }
     requires words { length words.now ≤ 8 }
     requires frame { length bytes.now ≤ 292 }
-    ensures { text.new.items ≡ text.old.items
+    ensures line { text.new.items ≡ text.old.items
         ++ frame_line_of words.now (record { start = start; frame = bytes.now }) }
+    ensures short { length text.new.items ≤ length text.old.items + 614 }
 {
     text.append(words);
     append_decimal(text, start);

@@ -18,7 +18,7 @@ use Rattle.line_stamps.specs.declared.{capture.CaptureByte.CaptureByte, timing.T
 use Rattle.replay_status.proofs.{FlushLaws.flushes_after, Logging.sinks_after}
 use Rattle.replay_status.specs.{Causes.SinkCause, Flushes.FlushesAtEnd}
 use Rattle.replay_status.specs.Statuses.{fault_line as status_line}
-use Rattle.yasir_io.specs.Flushed.{NoneFlushed, IsNotFlushed}
+use Rattle.yasir_io.specs.Flushed.{IsNotFlushed}
 use Rattle.yasir_io.specs.declared.sink.Sink.{Ghosts as Sink}
 use Rattle.line_capture.specs.declared.collect.CaptureEnd.TheVariants as ends
 use Rattle.line_capture.specs.declared.{collect.Kept.Kept, input.ReadEnd.ReadEnd}
@@ -103,7 +103,7 @@ causes_after out0 out1 log0 log1 log2 (outcomes.Unplaced w place why) h rises al
 
 -- ---- flushes
 
--- Done and WriteFault have no fault line, and the one of any other outcome isn't flushed.
+-- Done, Unclean and WriteFault have no fault line, and the one of any other outcome isn't flushed.
 pub flushes_with_line : {O L : Type 0} (o : Sink O) (l : Sink L) (out0 out1 : O) (log0 log1 log2 : L)
     (outcome : Outcome) → FlushesAtEnd o l out0 out1 log0 log1 (status_in outcome)
     → ((status : Status) → outcome ≡ Ended status → status_line status ≡ [] → log2 ≡ log1)
@@ -114,16 +114,6 @@ flushes_with_line o l out0 out1 log0 log1 log2 (BadCapture bad) h alike none =
     record { out = h.out; log = none ∙ h.log }
 flushes_with_line o l out0 out1 log0 log1 log2 (outcomes.Unplaced w place why) h alike none =
     record { out = h.out; log = none ∙ h.log }
-
--- A run without a flush may end with any outcome but Done.
-pub none_at_end : {O L : Type 0} (o : Sink O) (l : Sink L) (out0 out1 : O) (log0 log1 : L)
-    (outcome : Outcome) → (outcome ≡ Ended statuses.Done → ⊥)
-    → NoneFlushed o l out0 out1 log0 log1 → FlushesAtEnd o l out0 out1 log0 log1 (status_in outcome)
-none_at_end o l out0 out1 log0 log1 (Ended statuses.Done) other none = absurd (other refl)
-none_at_end o l out0 out1 log0 log1 (Ended statuses.WriteFault) other none = inl none
-none_at_end o l out0 out1 log0 log1 (Ended status) other none = none
-none_at_end o l out0 out1 log0 log1 (BadCapture bad) other none = none
-none_at_end o l out0 out1 log0 log1 (outcomes.Unplaced w place why) other none = none
 
 module _ (taking : Taking) (k : Kept) (read : ReadEnd) (end : CaptureEnd) (before now : Held)
     (a b : LineEnd)

@@ -125,9 +125,6 @@ module _ {K P D : Type 0} (k : Source K) (p : Port P) (d : SlotDisk D) where
         → BoxDiskCause (d.faults before.disk) (d.faults after.disk) end
         → (end ≡ status.WriteFault → ⊥) → end ≡ status.Done
     lives_done status.Done lives disk no_write = refl
-    lives_done status.Usage lives disk no_write = absurd lives.runs
-    lives_done (status.HasJournal floor) lives disk no_write = absurd lives.runs
-    lives_done status.NoMemory lives disk no_write = absurd lives.runs
     lives_done (status.BadTicks bad) lives disk no_write =
         let line = lives.runs in
         absurd (live_not_refused _ _ rest (p.left before.port) (p.left after.port) right.line
@@ -149,6 +146,7 @@ module _ {K P D : Type 0} (k : Source K) (p : Port P) (d : SlotDisk D) where
         absurd (no_journal_refused right.journal a b directed lives.runs.0)
     lives_done (status.WrongLink slot) lives disk no_write =
         absurd (wrong_link_refused right.journal slot lives.runs.0)
+    lives_done end lives disk no_write = absurd lives.runs
 
   module _ (key_before key_after : K) (before after : Around P D) (noted : P) (end : Status)
       (calm : IsCalm k p d key_before key_after before after)

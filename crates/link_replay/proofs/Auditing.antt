@@ -5,18 +5,31 @@ use Rattle.link_verdicts.specs.Checking.{passed}
 use Rattle.link_words.specs.Links.{rules_of, link_profile_of, delay_of}
 use Rattle.link_words.specs.declared.words.Profile.{Profile, TheVariants.Y18, TheVariants.Y24}
 use Rattle.link_words.specs.declared.words.Proto.{Proto, TheVariants.Rtu, TheVariants.Dnp3}
-use Rattle.{recordings_replay.specs.Recorded.PrintsItems, replay_lists.specs.Listed.link_rest}
-use Rattle.replay_status.specs.{Endings.status_of, declared.status.Status.TheVariants.NoMemory}
+use Rattle.link_replay.specs.AuditCommand.{AuditsItems, PrintsFinding, finding_status, verdict_in}
+use Rattle.link_replay.specs.AuditCommand.{verdict_text}
+use Rattle.link_replay.specs.declared.commands.audit.Audited.{Audited}
+use Rattle.{recordings_replay.specs.Recorded.IsRecordedWith, replay_lists.specs.Listed.link_rest}
+use Rattle.replay_status.specs.{Causes.InputCause, Causes.SinkCause, Endings.status_of}
+use Rattle.replay_status.specs.{Flushes.FlushesAtEnd, PrintsText.PrintsText}
+use Rattle.replay_status.specs.declared.status.Status.{Status}
+use Rattle.replay_status.specs.declared.status.Status.TheVariants as statuses
+use Rattle.replay_status.specs.declared.status.Status.TheVariants.{Done, NoMemory, WriteFault}
+use Rattle.replay_status.specs.declared.status.Unclean.{Unclean}
 use Rattle.seal_judgements.specs.Sealing.{sealed}
 use Rattle.sequence_journal.specs.declared.numbers.TheConstants.{LIMIT}
 use Rattle.session_audit.{proofs.Auditing.kind-so, specs.AuditedInput.FindsNone}
 use Rattle.session_audit.specs.Sessions.{sent_setup, got_setup, verdict_of, verdict_with}
 use Rattle.session_audit.specs.Verdicts.{verdict_on}
 use Rattle.session_audit.specs.declared.{session.Session.Session, verdict.Verdict.Verdict}
-use Rattle.std.proofs.Common.{◌≡◌, ◌⊎◌, ℕ, List, ◌++◌, Option, true, false, inl, inr, refl}
+use Rattle.session_audit.specs.declared.verdict.Finding.{Finding}
+use Rattle.session_audit.specs.declared.verdict.Finding.TheVariants.{Empty, Forged, Differs, Clean}
+use Rattle.std.proofs.Common.{◌≡◌, ◌⊎◌, ◌∙◌, ℕ, List, ◌++◌, Option, true, false, inl, inr, refl}
+use Rattle.std.proofs.Common.{subst, sym}
 use Rattle.std.proofs.{Common.arith, lemmas.Bool.eq-eqb, lemmas.Bool.ne_eqb}
+use Rattle.std.specs.Io.KnownBytes.{append_known}
 use Rattle.tick_drive.specs.declared.{consumer.Stop.Stop, end.End.End, end.End.TheVariants.Whole}
 use Rattle.tick_drive.specs.declared.end.End.TheVariants.{Refused, TooLong, ReadFault, Stopped}
+use Rattle.yasir_io.specs.declared.sink.Sink.{Ghosts as Sink}
 use Rattle.yasir_ticks.specs.Ticks.{Item, silent}
 use Rattle.yasir_ticks.specs.declared.{TheConstants.T3_5_TICKS, tick.Tick.Tick}
 
@@ -63,15 +76,92 @@ verdict-is Dnp3 Y24 session label delay device link received =
     (ne_eqb session.label 1 (λ is. omega (arith, is, label)))
     (ne_eqb session.profile 18 (λ is. omega (arith, is, delay))) refl
 
+-- ---- the status of what was found
+
+-- The status of what was found is `Done` or `Unclean`.
+finding-known : (finding : Finding)
+    → (finding_status finding ≡ Done) ⊎ ((verdict : Unclean)
+    × (finding_status finding ≡ statuses.Unclean verdict))
+finding-known Empty = inr (_, refl)
+finding-known (Forged number start) = inr (_, refl)
+finding-known (Differs difference) = inr (_, refl)
+finding-known Clean = inl refl
+
+-- After an output that is written and flushed, the status may be that of any finding.
+module _ (finding : Finding) where
+  of-finding : (P : Status → Type 0) → P Done → ((verdict : Unclean) → P (statuses.Unclean verdict))
+      → P (finding_status finding)
+  of-finding P done unclean = elim (finding-known finding) [
+    | inl is ↦ subst P (sym is) done
+    | inr is ↦ subst P (sym is.1) (unclean is.0)
+  ]
+
+  pub finding-sinks : (out0 out1 log0 log1 : ℕ) → SinkCause out0 out1 log0 log1 Done
+      → SinkCause out0 out1 log0 log1 (finding_status finding)
+  finding-sinks out0 out1 log0 log1 sinks =
+      of-finding (SinkCause out0 out1 log0 log1) sinks (λ verdict. sinks)
+
+  pub finding-flushes : {O L : Type 0} (o : Sink O) (l : Sink L) (out0 out1 : O) (log0 log1 : L)
+      → FlushesAtEnd o l out0 out1 log0 log1 Done
+      → FlushesAtEnd o l out0 out1 log0 log1 (finding_status finding)
+  finding-flushes o l out0 out1 log0 log1 flushes =
+      of-finding (FlushesAtEnd o l out0 out1 log0 log1) flushes (λ verdict. flushes)
+
+module _ (text : List ℕ) (before now : Option (List ℕ)) (finding : Finding) where
+  pub finding-printed : now ≡ append_known before text
+      → PrintsFinding text before now finding (finding_status finding)
+  finding-printed is =
+      let P : Status → Type 0 = λ status. status ≡ finding_status finding
+      → PrintsFinding text before now finding status in
+      of-finding finding P (λ same. (same, is)) (λ verdict same. (same, is)) refl
+
+  -- If the status isn't `Done`, a write or a flush has failed.
+  pub front-printed : (status : Status) → (status ≡ Done) ⊎ (status ≡ WriteFault)
+      → (status ≡ Done → ⊥) → PrintsText text before now status
+      → PrintsFinding text before now finding status
+  front-printed status (inl done) other is = absurd (other done)
+  front-printed status (inr fault) other is =
+      subst (PrintsFinding text before now finding) (sym fault)
+      (subst (PrintsText text before now) fault is)
+
+  -- The input isn't a cause of the status of a verdict that was printed.
+  pub input-of-verdict : (in_before in_now : ℕ) (status : Status)
+      → PrintsFinding text before now finding status → in_now ≡ in_before
+      → InputCause in_before in_now status
+  input-of-verdict in_before in_now statuses.ReadFault is same = elim (finding-known finding) [
+    | inl done ↦ let never = is.0 ∙ done in cc
+    | inr unclean ↦ let never = is.0 ∙ unclean.1 in cc
+  ]
+  input-of-verdict in_before in_now WriteFault is same = omega (arith, same)
+  input-of-verdict in_before in_now status is same = same
+
+-- If the input was three recordings, and the text of the verdict on them was printed or broken off,
+-- the status says so.
+module _ (asked : Audited) (key : List ℕ) (in_before in_now out_before out_now : Option (List ℕ))
+    (items : List Item) (recorded : IsRecordedWith 2 in_before in_now items) where
+  pub audits-so : (status : Status)
+      → PrintsFinding (verdict_text (verdict_in asked key items)) out_before out_now
+      (verdict_in asked key items).finding status
+      → AuditsItems asked key in_before in_now out_before out_now status
+  audits-so Done is =
+      record { items = items; recorded = recorded; printed = is.1; status_is = is.0 }
+  audits-so (statuses.Unclean verdict) is =
+      record { items = items; recorded = recorded; printed = is.1; status_is = is.0 }
+  audits-so WriteFault got = record { items = items; recorded = recorded; printed = got }
+  audits-so status is = elim (finding-known (verdict_in asked key items).finding) [
+    | inl done ↦ let never = is.0 ∙ done in cc
+    | inr unclean ↦ let never = is.0 ∙ unclean.1 in cc
+  ]
+
 -- ---- an input that didn't end well
 
-module _ (verdict_on_three : List Tick → List Tick → List Tick → Verdict)
-    (text_of : List Item → List ℕ) (in_before in_now out_before out_now : Option (List ℕ))
+module _ (verdict_on_three : List Tick → List Tick → List Tick → Verdict) (asked : Audited)
+    (key : List ℕ) (in_before in_now out_before out_now : Option (List ℕ))
     (same : out_now ≡ out_before) where
   -- If the consumer stopped and nothing was printed, the status NoMemory says so.
   pub stopped-nothing : (end : End) (stop : Stop) → end ≡ Stopped stop
       → FindsNone verdict_on_three in_before in_now end
-      → PrintsItems 2 0 text_of in_before in_now out_before out_now NoMemory
+      → AuditsItems asked key in_before in_now out_before out_now NoMemory
   stopped-nothing (Stopped stop) other is none =
       record { items = none.items; takes = none.takes; out = same }
   stopped-nothing Whole other is none = cc
@@ -83,7 +173,7 @@ module _ (verdict_on_three : List Tick → List Tick → List Tick → Verdict)
   -- that end says so.
   pub nothing-printed : (end : End) → ((stop : Stop) → end ≡ Stopped stop → ⊥)
       → FindsNone verdict_on_three in_before in_now end
-      → PrintsItems 2 0 text_of in_before in_now out_before out_now (status_of end)
+      → AuditsItems asked key in_before in_now out_before out_now (status_of end)
   nothing-printed Whole other none = absurd (none.other refl)
   nothing-printed (Refused bad) other none =
       record { items = none.items; takes = none.takes; out = same }

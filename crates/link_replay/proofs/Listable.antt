@@ -1,19 +1,25 @@
 -- If a key and a text with its marks are right and nothing outside fails, the status of a run over
--- recordings is `Done` or `NoMemory`.
-use Rattle.{box_command.specs.LinkBoxes.seal_rest, hmac_tag.specs.declared.dir.Dir.Dir}
+-- recordings is `Done` or `NoMemory`, and that of an audit is the status of its verdict or
+-- `NoMemory`.
+use Rattle.{box_command.proofs.Replayable.whole_key_met, box_command.specs.LinkBoxes.seal_rest}
+use Rattle.hmac_tag.specs.declared.dir.Dir.{Dir}
 use Rattle.link_replay.proofs.KeyedRuns.{EndsAs, keyed_done}
-use Rattle.link_replay.specs.AuditCommand.{Audits, audited_line}
+use Rattle.link_replay.specs.AuditCommand.{AuditsItems, EndsWithVerdict, PrintsVerdict, verdict_in}
+use Rattle.link_replay.specs.AuditCommand.{verdict_text}
 use Rattle.link_replay.specs.ReplayCommand.{Replays, ReplaysWith, IsListable, replay_listing}
 use Rattle.link_replay.specs.declared.commands.audit.Audited.{Audited}
 use Rattle.link_words.specs.declared.words.{Profile.Profile, Proto.Proto}
 use Rattle.recordings_replay.{proofs.Keying.keyed-so, specs.Keyed.ReadsKeyFirst}
+use Rattle.recordings_replay.specs.Keyed.{RunsWithKey}
 use Rattle.recordings_replay.specs.{Keyed.LeavesAll, Recorded.PrintsItems, Recorded.lines_of}
 use Rattle.replay_lists.specs.Listed.{link_rest}
+use Rattle.{replay_status.proofs.Readable.all_of_told, tick_drive.specs.Input.max_bytes}
 use Rattle.replay_status.specs.Causes.{ReadsCause, SinkCause, NoneRose}
 use Rattle.replay_status.specs.{Outside.Outside, declared.status.Status.Status}
 use Rattle.replay_status.specs.declared.status.Status.TheVariants.{Done, BadTicks, ReadFault}
 use Rattle.replay_status.specs.declared.status.Status.TheVariants.{WriteFault, TooLong, NoMemory}
-use Rattle.std.proofs.Common.{◌≡◌, ◌⊎◌, ℕ, List}
+use Rattle.replay_status.specs.declared.status.Status.TheVariants.{Unclean}
+use Rattle.std.proofs.Common.{◌≡◌, ◌⊎◌, ◌∙◌, ◌≤◌, ℕ, List, length, Some, inl, inr, ap, subst, sym}
 use Rattle.yasir_io.specs.declared.{disk.SlotDisk.Ghosts as SlotDisk, sink.Sink.Ghosts as Sink}
 use Rattle.{yasir_io.specs.declared.source.Source.Ghosts as Source, yasir_ticks.specs.Ticks.Item}
 
@@ -91,12 +97,73 @@ module _ {K S O L D : Type 0} (k : Source K) (s : Source S) (o : Sink O) (l : Si
         (replays-lines proto profile dir before after status) h.lists)
         reads sinks
 
-    pub auditable_done : (asked : Audited)
-        → IsListable 2 (k.left before.key) (s.left before.input) → (status : Status)
-        → Audits k s o l asked before after status
+  -- ---- an audit
+
+  module _ (asked : Audited) (before after : Outside K S O L D)
+      (right : IsListable 2 (k.left before.key) (s.left before.input)) where
+    abbrev Printed : List ℕ → Status → Type 0
+    Printed key status = PrintsVerdict asked key (s.left before.input) (s.left after.input)
+        (o.held before.out) (o.held after.out) status
+
+    abbrev Keyed : Status → Type 0
+    Keyed status = RunsWithKey k before.key after.key
+        (λ key. AuditsItems asked key (s.left before.input) (s.left after.input)
+        (o.held before.out) (o.held after.out))
+        (LeavesAll before.input after.input before.out after.out before.log after.log) status
+
+    -- An audit that has printed a verdict ends with the status of the verdict on what it was given.
+    verdict_ends : (status : Status) (h : Keyed status) → Printed h.key status
+        → EndsWithVerdict asked (k.left before.key) (s.left before.input) status
+    verdict_ends status h printed =
+        let key : right.key.text ≡ h.text = whole_key_met right.key h.text (k.left after.key) h.met in
+        let recorded = printed.recorded in
+        let input : right.input.text ≡ recorded.text = all_of_told right.input.text recorded.text
+        (s.left after.input) (sym right.input.told ∙ recorded.met.met.came) recorded.met.at_end in (
+          record {
+            key = record {
+              text = h.text;
+              key = h.key;
+              is = right.key.is ∙ ap (λ t. Some t) key;
+              right = h.right;
+            };
+            input = record {
+              text = recorded.text;
+              items = printed.items;
+              told = right.input.told ∙ ap (λ t. Some t) input;
+              right = recorded.right;
+              few_ticks = recorded.few;
+              few_bytes = subst (λ t. length t ≤ max_bytes) input right.input.few_bytes;
+            };
+          },
+          printed.status_is,
+        )
+
+    pub auditable_done : NoneRose (k.faults before.key) (k.faults after.key)
+        (s.faults before.input)
+        (s.faults after.input) (o.faults before.out) (o.faults after.out) (l.faults before.log)
+        (l.faults after.log) (d.faults before.disk) (d.faults after.disk)
+        → (status : Status)
+        → ReadsKeyFirst k before.key after.key
+        (λ key. AuditsItems asked key (s.left before.input) (s.left after.input)
+        (o.held before.out) (o.held after.out))
+        (LeavesAll before.input after.input before.out after.out before.log after.log) status
         → ReadsCause (k.faults before.key) (k.faults after.key) (s.faults before.input)
         (s.faults after.input) status
         → SinkCause (o.faults before.out) (o.faults after.out) (l.faults before.log)
-        (l.faults after.log) status → (status ≡ Done) ⊎ (status ≡ NoMemory)
-    auditable_done asked right status h reads sinks = over_done 2 0 (audited_line asked) before
-        after right calm status h.prints reads sinks
+        (l.faults after.log) status
+        → EndsWithVerdict asked (k.left before.key) (s.left before.input) status
+        ⊎ (status ≡ NoMemory)
+    auditable_done calm Done h reads sinks = inl (verdict_ends Done h h.does)
+    auditable_done calm (Unclean verdict) h reads sinks =
+        inl (verdict_ends (Unclean verdict) h h.does)
+    auditable_done calm status h reads sinks =
+        let printed = keyed-so k before.key after.key
+        (λ key. AuditsItems asked key (s.left before.input) (s.left after.input)
+        (o.held before.out) (o.held after.out))
+        (λ key. PrintsItems 2 0 (λ items. verdict_text (verdict_in asked key items))
+        (s.left before.input) (s.left after.input) (o.held before.out) (o.held after.out))
+        (LeavesAll before.input after.input before.out after.out before.log after.log) status
+        (λ key is. is) h in
+        let ends = over_done 2 0 (λ key items. verdict_text (verdict_in asked key items)) before
+        after right calm status printed reads sinks in
+        elim ends [ inl is ↦ cc | inr is ↦ inr is ]

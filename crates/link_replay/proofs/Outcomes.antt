@@ -1,5 +1,5 @@
 -- If words ask for a command, all that it is given is right and nothing outside fails, it ends
--- well: its status is `Done`, or for some commands `NoMemory`.
+-- well: its status is `Done`, or for an audit that of its verdict, or for some commands `NoMemory`.
 use Rattle.box_command.proofs.Replayable.{replayable_done}
 use Rattle.box_command.specs.LinkBoxes.{seal_boxed, seal_rest, check_boxed, check_rest}
 use Rattle.{device_replay.proofs.Readable.readable_done, link_replay.proofs.Duplexed.duplex_done}
@@ -109,7 +109,7 @@ module _ {K S O L D : Type 0} (k : Source K) (s : Source S) (o : Sink O) (l : Si
   pub asked_done : (asked : Option Command) (before after : Outside K S O L D) (status : Status)
       → MayDo k s o l d asked before → IsCalm k s o l d before after
       → Does k s o l d asked before after status → HasCauses k s o l d asked before after status
-      → EndsWell asked status
+      → EndsWell k s o l d asked before status
   asked_done None before after status may calm does causes = absurd may
   asked_done (Some (Init proto profile dir)) before after status may calm does causes =
       journal_done _ _ _ _ _ _ _ _ _ _ calm _ _ _ _ _ status may does.journal causes.streams.sinks
@@ -120,7 +120,7 @@ module _ {K S O L D : Type 0} (k : Source K) (s : Source S) (o : Sink O) (l : Si
   asked_done (Some Vectors) before after status may calm does causes =
       text_done _ _ _ _ _ _ _ _ _ _ calm _ _ _ status does.printed causes.streams.sinks
   asked_done (Some Help) before after status may calm does causes =
-      text_done _ _ _ _ _ _ _ _ _ _ calm _ _ _ status does.printed causes.streams.sinks
+      text_done _ _ _ _ _ _ _ _ _ _ calm _ _ _ status does.1.printed causes.streams.sinks
   asked_done (Some Version) before after status may calm does causes =
       text_done _ _ _ _ _ _ _ _ _ _ calm _ _ _ status does.printed causes.streams.sinks
   asked_done (Some (Seal proto profile dir)) before after status may calm does causes =
@@ -140,8 +140,8 @@ module _ {K S O L D : Type 0} (k : Source K) (s : Source S) (o : Sink O) (l : Si
       listable_done k s o l d before after calm proto profile dir may status does
       causes.streams.reads causes.streams.sinks
   asked_done (Some (Audit proto profile dir sent got)) before after status may calm does causes =
-      auditable_done k s o l d before after calm (audited proto profile dir sent got) may status
-      does causes.streams.reads causes.streams.sinks
+      auditable_done k s o l d (audited proto profile dir sent got) before after may calm status
+      does.prints causes.streams.reads causes.streams.sinks
   asked_done (Some (Duplex proto profile dir)) before after status may calm does causes =
       duplex_done k s o l d proto profile dir before after may calm status does
       causes.streams.reads causes.streams.sinks

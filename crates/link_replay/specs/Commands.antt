@@ -20,7 +20,7 @@ use Rattle.link_replay.specs.CheckCommand.{Checks}
 use Rattle.link_replay.specs.ReplayCommand.{Replays, IsListable}
 use Rattle.link_replay.specs.TrialCommand.{Tries}
 use Rattle.link_replay.specs.SpaceCommand.{Spaces}
-use Rattle.link_replay.specs.AuditCommand.{Audits, audited}
+use Rattle.link_replay.specs.AuditCommand.{Audits, EndsWithVerdict, audited}
 use Rattle.link_replay.specs.DuplexCommand.{Duplexes}
 use Rattle.link_replay.specs.AboutCommands.{Helps, TellsVersion}
 use Rattle.replay_status.specs.declared.status.Status.{Status}
@@ -29,16 +29,6 @@ use Rattle.link_replay.specs.declared.words.Command.{Command}
 use Rattle.link_replay.specs.declared.words.Command.TheVariants.{Init, Read, Vectors, Seal, Check}
 use Rattle.link_replay.specs.declared.words.Command.TheVariants.{Replay, Trial, Space}
 use Rattle.link_replay.specs.declared.words.Command.TheVariants.{Audit, Duplex, Help, Version}
-
--- How a command may end if all that it is given is right and nothing outside fails. Only `replay`,
--- `space`, `audit` and `duplex` take memory, and there may be none for them.
-abbrev pub EndsWell : Option Command → Status → Type 0
-EndsWell (Some (Replay proto profile dir)) status = (status ≡ Done) ⊎ (status ≡ NoMemory)
-EndsWell (Some (Space proto profile)) status = (status ≡ Done) ⊎ (status ≡ NoMemory)
-EndsWell (Some (Audit proto profile dir sent got)) status =
-    (status ≡ Done) ⊎ (status ≡ NoMemory)
-EndsWell (Some (Duplex proto profile dir)) status = (status ≡ Done) ⊎ (status ≡ NoMemory)
-EndsWell asked status = status ≡ Done
 
 -- What a crash may leave of the disk, at any moment of the run or at its end.
 abbrev pub KeepsDisk : {D : Type 0} → SlotDisk D → Option Command → D → D → Type 0
@@ -109,6 +99,18 @@ module _ {K S O L D : Type 0} (k : Source K) (s : Source S) (o : Sink O) (l : Si
   MayDo (Some Help) before = Unit {0}
   MayDo (Some Version) before = Unit {0}
 
+  -- How a command may end if all that it is given is right and nothing outside fails. Only
+  -- `replay`, `space`, `audit` and `duplex` take memory, and there may be none for them. An audit
+  -- ends with the status of its verdict on the recordings that it was given.
+  abbrev pub EndsWell : Option Command → Outside K S O L D → Status → Type 0
+  EndsWell (Some (Replay proto profile dir)) before status = (status ≡ Done) ⊎ (status ≡ NoMemory)
+  EndsWell (Some (Space proto profile)) before status = (status ≡ Done) ⊎ (status ≡ NoMemory)
+  EndsWell (Some (Audit proto profile dir sent got)) before status =
+      EndsWithVerdict (audited proto profile dir sent got) (k.left before.key)
+      (s.left before.input) status ⊎ (status ≡ NoMemory)
+  EndsWell (Some (Duplex proto profile dir)) before status = (status ≡ Done) ⊎ (status ≡ NoMemory)
+  EndsWell asked before status = status ≡ Done
+
   -- Holds if nothing outside failed.
   abbrev pub IsCalm : Outside K S O L D → Outside K S O L D → Type 0
   IsCalm before after = NoneRose (k.faults before.key) (k.faults after.key)
@@ -133,7 +135,8 @@ module _ {K S O L D : Type 0} (k : Source K) (s : Source S) (o : Sink O) (l : Si
       × DiskCause (d.faults before.disk) (d.faults after.disk) status
 
   -- For each status, which counts of faults rose, and which flushes were made. Both sinks are
-  -- flushed on the way to Done, once each, after all that was written, and nowhere else.
+  -- flushed on the way to Done and to Unclean, once each, after all that was written, and nowhere
+  -- else.
   pub record HasCauses (asked : Option Command) (before after : Outside K S O L D)
       (status : Status) : Type 0 where
     pub streams : HasStreamCauses k s o l before after status

@@ -62,7 +62,7 @@ module _ {R F D S O L : Type 0}
     pub done : MayDo k s o l d asked (with_files before key_before disk_before)
         → IsCalm k s o l d (with_files before key_before disk_before)
         (with_files after key_after disk_after)
-        → EndsWell asked status
+        → EndsWell k s o l d asked (with_files before key_before disk_before) status
     pub causes : HasCauses k s o l d asked (with_files before key_before disk_before)
         (with_files after key_after disk_after) status
 

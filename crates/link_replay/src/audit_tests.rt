@@ -1,8 +1,9 @@
-//! Audits: each verdict, words that ask for no audit, and inputs that aren't three recordings.
+//! Audits: each verdict with its status, words that ask for no audit, and inputs that aren't three
+//! recordings.
 use crate::running::{Ends, KEY, ended, has_key, plan, run_words, words_of};
 use crate::tests::run_over_text;
 use crate::{Command, Dir, Profile, Proto, read_words};
-use replay_status::Status;
+use replay_status::{Status, Unclean};
 use std::alloc::Global;
 use std::process::Abort;
 use std::test::Fail;
@@ -44,14 +45,30 @@ const REFUSED: Row = Row {
     ..CLEAN
 };
 
-const ROWS: [Row; 14] = [
+const ROWS: [Row; 16] = [
     CLEAN,
+    // three recordings in which nothing is
+    Row {
+        text: b"%\n%\n",
+        status: Status::Unclean(Unclean::Empty),
+        out: b"audit empty sealed 0 passed 0 read 0\n",
+        ..CLEAN
+    },
+    // the session of the first row, audited as one of DNP3
+    Row {
+        words: "audit dnp3 ab key 0 0",
+        status: Status::Unclean(Unclean::Empty),
+        out: b"audit empty sealed 0 passed 0 read 0\n",
+        ..CLEAN
+    },
     // the bytes on the receiving device's line aren't a frame, since their CRC is wrong
     Row {
         text: b"+01030000000ac5cd\n-40\n%\n\
           +01030000000ac5cd\n-3\n+0001014c5b8d33c6d29a347013b0\n-47\n%\n\
           +01030000000ac5cc\n",
-        out: b"audit differs 0\n",
+        status: Status::Unclean(Unclean::Differs),
+        out: b"audit differs 0 sealed 1 passed 1 read 0\n\
+          expected at 18 01030000000ac5cd\nfound none\n",
         ..CLEAN
     },
     // the device's line is silent, so no frame was sealed
@@ -59,7 +76,8 @@ const ROWS: [Row; 14] = [
         text: b"-48\n%\n\
           +01030000000ac5cd\n-3\n+0001014c5b8d33c6d29a347013b0\n-47\n%\n\
           -18\n+01030000000ac5cd\n-366\n",
-        out: b"audit forged 1 at 0\n",
+        status: Status::Unclean(Unclean::Forged),
+        out: b"audit forged 1 at 0 sealed 0 passed 1 read 1\n",
         ..CLEAN
     },
     // another frame with the number of the one that was sealed
@@ -67,7 +85,8 @@ const ROWS: [Row; 14] = [
         text: b"+01030000000ac5cd\n-40\n%\n\
           +010300000001840a\n-3\n+0001ec3beb0f43a9c825b948c840\n-47\n%\n\
           -18\n+010300000001840a\n-366\n",
-        out: b"audit forged 1 at 0\n",
+        status: Status::Unclean(Unclean::Forged),
+        out: b"audit forged 1 at 0 sealed 1 passed 1 read 1\n",
         ..CLEAN
     },
     // the second frame that was read isn't the second one that passed
@@ -76,7 +95,9 @@ const ROWS: [Row; 14] = [
           +01030000000ac5cd\n-3\n+0001014c5b8d33c6d29a347013b0\n-75\n\
           +010300000001840a\n-3\n+0002ee5b1d1d6fc159af2411aeb5\n-75\n%\n\
           -18\n+01030000000ac5cd\n-92\n+01030000000ac5cd\n-366\n",
-        out: b"audit differs 1\n",
+        status: Status::Unclean(Unclean::Differs),
+        out: b"audit differs 1 sealed 2 passed 2 read 2\n\
+          expected at 118 010300000001840a\nfound at 118 01030000000ac5cd\n",
         ..CLEAN
     },
     // one frame more was read than passed
@@ -84,14 +105,18 @@ const ROWS: [Row; 14] = [
         text: b"+01030000000ac5cd\n-40\n%\n\
           +01030000000ac5cd\n-3\n+0001014c5b8d33c6d29a347013b0\n-47\n%\n\
           -18\n+01030000000ac5cd\n-92\n+01030000000ac5cd\n",
-        out: b"audit differs 1\n",
+        status: Status::Unclean(Unclean::Differs),
+        out: b"audit differs 1 sealed 1 passed 1 read 2\n\
+          expected none\nfound at 118 01030000000ac5cd\n",
         ..CLEAN
     },
     // one frame fewer was read than passed
     Row {
         text: b"+01030000000ac5cd\n-40\n%\n\
           +01030000000ac5cd\n-3\n+0001014c5b8d33c6d29a347013b0\n-47\n%\n",
-        out: b"audit differs 0\n",
+        status: Status::Unclean(Unclean::Differs),
+        out: b"audit differs 0 sealed 1 passed 1 read 0\n\
+          expected at 18 01030000000ac5cd\nfound none\n",
         ..CLEAN
     },
     // both boxes have floor 5
@@ -108,7 +133,8 @@ const ROWS: [Row; 14] = [
         text: b"+01030000000ac5cd\n-40\n%\n\
           +01030000000ac5cd\n-3\n+0006bffa8bcd3f6ad232de11820a\n-47\n%\n\
           -18\n+01030000000ac5cd\n-366\n",
-        out: b"audit forged 6 at 0\n",
+        status: Status::Unclean(Unclean::Forged),
+        out: b"audit forged 6 at 0 sealed 1 passed 1 read 1\n",
         ..CLEAN
     },
     Row {

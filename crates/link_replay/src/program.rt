@@ -124,14 +124,17 @@ pub fn run<K: Source, S: Source, O: Sink, L: Sink, D: SlotDisk>(
     ensures any_moment { (asked : Option Command) → Asks (map string_bytes words.now) asked
         → KeepsDisk D.SlotDisk asked disk.old disk.new }
 
-    // If all that the command is given is right and nothing outside fails, the command is done.
-    // Only `replay`, `space`, `audit` and `duplex` may end for lack of memory instead.
+    // If all that the command is given is right and nothing outside fails, the command is done, and
+    // an audit ends with the status of its verdict. Only `replay`, `space`, `audit` and `duplex` may
+    // end for lack of memory instead.
     ensures done { (asked : Option Command) → Asks (map string_bytes words.now) asked
         → MayDo K.Source S.Source O.Sink L.Sink D.SlotDisk asked
         (outside key.old input.old out.old log.old disk.old)
         → IsCalm K.Source S.Source O.Sink L.Sink D.SlotDisk
         (outside key.old input.old out.old log.old disk.old)
-        (outside key.new input.new out.new log.new disk.new) → EndsWell asked result }
+        (outside key.new input.new out.new log.new disk.new)
+        → EndsWell K.Source S.Source O.Sink L.Sink D.SlotDisk asked
+        (outside key.old input.old out.old log.old disk.old) result }
 
     // The causes of the status: which counts of faults rose, and which flushes were made.
     ensures causes { (asked : Option Command) → Asks (map string_bytes words.now) asked

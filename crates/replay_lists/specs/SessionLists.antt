@@ -1,5 +1,5 @@
 -- What is kept of three recordings of a session, and what is found of the third.
-use Rattle.std.specs.Prelude.{◌≡◌, ℕ, zero, suc, ◌+◌, ◌≤◌, List, [], ◌++◌, ⊤}
+use Rattle.std.specs.Prelude.{◌≡◌, ℕ, zero, suc, ◌+◌, ◌^◌, ◌<◌, ◌≤◌, List, [], ◌++◌, All, ⊤}
 use Rattle.yasir_ticks.specs.Ticks.{Item, marks_in, silent}
 use Rattle.yasir_ticks.specs.declared.tick.Tick.{Tick}
 use Rattle.link_format.specs.Setup.{Setup}
@@ -61,6 +61,17 @@ module _ {S C V : Type 0} (s : FrameBox S) (c : FrameBox C) (v : Device V) where
     pub passes : KeepsFrames c lists.checker lists.passed setups.got link
     pub reads : Compares v lists.device lists.read (expected_of setups link) received
     pub timing_is : lists.timing ≡ setups.timing
+
+  -- Holds if the lists are those of some recordings, and each frame that passed, read as late as
+  -- the receiver is, starts at a tick below 2 ^ 64.
+  pub record AreReadInTime (lists : SessionLists S C V) : Type 0 where
+    pub setups : Setups
+    pub device : List Tick
+    pub link : List Tick
+    pub received : List Tick
+    pub has : HasSession lists setups device link received
+    pub in_time : All (λ f. setups.timing.late + f.start < 2 ^ 64)
+        ((c.numbering setups.got).frames link)
 
   -- The boxes and the device have taken these items, each its own part. After a third mark the
   -- device hears ticks that belong to none of the three parts, and nothing is said of what it

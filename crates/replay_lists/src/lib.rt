@@ -9,7 +9,7 @@
 //!
 //!     let mut lists = SessionLists::<S, C, RtuDevice>::new(alloc, &key, dir, floors, timing);
 //!     match list_session(&mut lists, &mut input) {
-//!         End::Whole => judge(lists.sealed(), lists.passed(), lists.read()),
+//!         End::Whole => judge(lists.sealed(), lists.passed(), lists.difference()),
 //!         end => refuse(end),
 //!     }
 #![tactic(auto)]
@@ -21,16 +21,18 @@ mod fronts;
 mod hearing;
 mod lines;
 mod places;
+mod read_frame;
 mod recordings;
 mod replay_lists;
 mod session_lists;
 mod sessions;
 
 pub use burst_walk::RunBytes;
-pub use comparison::Comparison;
+pub use comparison::Difference;
 pub use frame_box::{FrameBox, FrameStep, Numbered};
 pub use frame_list::FrameList;
 pub use places::is_at_its_number;
+pub use read_frame::ReadFrame;
 pub use recordings::{LINK_REST, list_recordings};
 pub use replay_lists::ReplayLists;
 pub use session_lists::{Floors, SessionLists, Timing};

@@ -11,14 +11,14 @@ ghost use Rattle.sequence_journal.specs.declared.numbers.TheConstants.{LIMIT};
 ghost use Rattle.yasir_ticks.specs.Ticks.Item.{mark};
 ghost use Rattle.tick_drive.specs.Consumers.{Gives, GivesFirst};
 ghost use Rattle.tick_lists.specs.declared.tick_lists.Place.TheVariants.{First, Second};
-ghost use Rattle.replay_lists.specs.Comparison.{Found};
+ghost use Rattle.replay_lists.specs.Comparison.{difference_of};
 ghost use Rattle.replay_lists.specs.FrameBox.{kept_frames};
 ghost use Rattle.replay_lists.specs.FrameList.{Holds, list_len};
-ghost use Rattle.replay_lists.specs.SessionLists.{Setups, HasSession, IsOpen, parting};
-ghost use Rattle.replay_lists.specs.SessionLists.{session_taken, all_rests, expected_of};
+ghost use Rattle.replay_lists.specs.SessionLists.{Setups, HasSession, IsOpen, AreReadInTime};
+ghost use Rattle.replay_lists.specs.SessionLists.{session_taken, all_rests, expected_of, parting};
 ghost use Rattle.replay_lists.specs.SessionListed.{MayListSession};
 
-use crate::comparison::{Comparison, Passed};
+use crate::comparison::{Comparison, Difference, Passed};
 use crate::frame_box::{FrameBox, Numbered};
 use crate::frame_list::FrameList;
 use crate::fronts::{hear_front, take_front};
@@ -60,8 +60,8 @@ pub struct Timing {
 /// Takes three recordings of a session that two marks separate. The line of the device that sends
 /// goes to a transmitter `S`, the link goes to a receiver `C`, and a device `V` hears the line of
 /// the device that receives. The frames that are sealed and passed are kept. A frame that is read
-/// is compared with the one that has passed at its place, and isn't kept. No tick is kept, and
-/// nothing is written.
+/// is compared with the one that has passed at its place, and only the first one that isn't the
+/// same is kept. No tick is kept, and nothing is written.
 #[derive(Drop)]
 pub struct SessionLists<S, C, V> {
     sealer: S,
@@ -159,16 +159,27 @@ impl<S: FrameBox, C: FrameBox, V: Device + Drop> SessionLists<S, C, V> {
         &self.passed
     }
 
-    /// How the frames that were read compare with those that have passed.
-    pub fn read(&self) -> Comparison
+    /// How many frames were read.
+    pub fn read_count(&self) -> u64
         ensures few { IsOpen S.FrameBox C.FrameBox V.Device self.now
-            → result.read ≤ session_taken S.FrameBox C.FrameBox V.Device self.now }
-        ensures found { (setups : Setups) (device link received : List Tick)
+            → result ≤ session_taken S.FrameBox C.FrameBox V.Device self.now }
+        ensures count { (setups : Setups) (device link received : List Tick)
             → HasSession S.FrameBox C.FrameBox V.Device self.now setups device link received
-            → Found result (expected_of S.FrameBox C.FrameBox V.Device setups link)
+            → result ≡ length (V.reads received) }
+    {
+        self.read.read()
+    }
+
+    /// Returns the first difference between the frames that have passed, each as late as the
+    /// receiver is, and the frames that were read. `None` if there is no difference.
+    pub fn difference(&self) -> Option<Difference>
+        requires { AreReadInTime S.FrameBox C.FrameBox V.Device self.now }
+        ensures { (setups : Setups) (device link received : List Tick)
+            → HasSession S.FrameBox C.FrameBox V.Device self.now setups device link received
+            → result ≡ difference_of (expected_of S.FrameBox C.FrameBox V.Device setups link)
             (V.reads received) }
     {
-        self.read
+        self.read.difference(self.timing.late, &self.passed)
     }
 
     /// Takes three recordings from memory, and the link's silence after the link.

@@ -6,24 +6,30 @@ use Rattle.link_format.specs.{Profile.delay, Y18.y18, Y24.y24}
 use Rattle.receiver_laws.proofs.Accounting.{sealed-rise, rising-accounted}
 use Rattle.receiver_laws.proofs.Headline.{all-stay, bytes-delivered, passed-sealed}
 use Rattle.receiver_laws.proofs.Rising.{have_passed}
-use Rattle.receiver_laws.specs.Accounted.{forged, is_among, pairs_of, IsSubsequence}
+use Rattle.receiver_laws.specs.Accounted.{forged, is_among, pair_of, pairs_of, IsSubsequence}
 use Rattle.receiver_laws.specs.{Accounted.IsAccountedFor, AllLeft.ReadsAllThatPassed}
 use Rattle.receiver_laws.specs.{Headline.bytes_read, Headline.bytes_sealed, Reading.delivered}
 use Rattle.replay_lists.proofs.Comparing.{none-before}
 use Rattle.replay_lists.specs.Comparison.{is_same_read, first_difference, read_later}
+use Rattle.replay_lists.specs.Comparison.{difference_at, difference_of}
+use Rattle.replay_lists.specs.declared.comparison.Difference.{Difference}
 use Rattle.rtu_frame.specs.Rules.{rtu_rules}
 use Rattle.sequence_journal.specs.{Uptimes.RiseFrom, declared.numbers.TheConstants.LIMIT}
 use Rattle.session_audit.specs.{AuditedInput.AuditsInput, Clean.IsClean, Sessions.LinkKind}
 use Rattle.session_audit.specs.Sessions.{link_profile_of, kind_of, sent_profile, got_profile}
 use Rattle.session_audit.specs.Sessions.{sealed_in, passed_in, read_in, line_received, verdict_with}
-use Rattle.session_audit.specs.{Sessions.verdict_of, Verdicts.verdict_by}
+use Rattle.session_audit.specs.{Sessions.verdict_of, Verdicts.finding_by}
+use Rattle.session_audit.specs.Verdicts.{are_none, counts_of}
 use Rattle.session_audit.specs.declared.{session.Session.Session, verdict.Verdict.Verdict}
-use Rattle.session_audit.specs.declared.verdict.Verdict.TheVariants.{Clean, Differs}
-use Rattle.std.proofs.Common.{◌≡◌, ◌≢◌, ◌∙◌, ℕ, suc, ◌==◌, Bool, true, List, [], ◌∷◌}
+use Rattle.session_audit.specs.declared.verdict.Counts.{Counts}
+use Rattle.session_audit.specs.declared.verdict.Finding.TheVariants.{Clean, Differs}
+use Rattle.std.proofs.Common.{◌≡◌, ◌≢◌, ◌∙◌, ◌≤◌, ◌&&◌, ℕ, suc, ◌==◌, Bool, true, false, List, []}
+use Rattle.std.proofs.Common.{◌∷◌, arith}
 use Rattle.std.proofs.Common.{length, map, bytes_eq, Option, Some, None, option_map, refl, sym, ap}
 use Rattle.std.proofs.Common.{subst, ⊎_elim, Result, if◌then◌else◌}
 use Rattle.std.proofs.lemmas.Bool.{cases_Bool, and_parts, and_from, eqb-true, eq-eqb, cond-true}
 use Rattle.std.proofs.lemmas.{Bool.cond-false, Bool.cond_both, Slice.Eq.bytes_eq-Decides}
+use Rattle.std.proofs.lemmas.List.{length-map}
 use Rattle.{std.specs.Prelude.IfOk, tick_drive.specs.declared.end.End.End}
 use Rattle.yasir_ticks.specs.{declared.tick.Tick.Tick}
 
@@ -62,86 +68,116 @@ differs-nowhere (f ∷ x) = cond-true _ _ _ (read-itself f) ∙ ap (option_map s
 
 -- ---- verdicts
 
--- What must hold for a clean verdict: no frame is forged, there is no difference, and the counts
--- are those of the lists.
-record Cleans (frames : List NumberedFrame) (place : Option ℕ) (a b c sealed passed read : ℕ) :
+-- What must hold for a clean verdict: there is a frame, no frame is forged, and there is no
+-- difference.
+record Cleans (none : Bool) (frames : List NumberedFrame) (difference : Option Difference) :
     Type 0 where
+  pub some : none ≡ false
   pub unforged : frames ≡ []
-  pub same : place ≡ None
-  pub sealed_is : sealed ≡ a
-  pub passed_is : passed ≡ b
-  pub read_is : read ≡ c
+  pub same : difference ≡ None
 
-clean-by : (frames : List NumberedFrame) (place : Option ℕ) (a b c sealed passed read : ℕ)
-    → verdict_by frames place (Clean a b c) ≡ Clean sealed passed read
-    → Cleans frames place a b c sealed passed read
-clean-by [] None a b c sealed passed read is = record {
-  unforged = refl;
-  same = refl;
-  sealed_is = cc;
-  passed_is = cc;
-  read_is = cc;
-}
-clean-by [] (Some place) a b c sealed passed read is = cc
-clean-by (f ∷ frames) place a b c sealed passed read is = cc
+clean-by : (none : Bool) (frames : List NumberedFrame) (difference : Option Difference)
+    → finding_by none frames difference ≡ Clean → Cleans none frames difference
+clean-by true frames difference is = cc
+clean-by false [] None is = record { some = refl; unforged = refl; same = refl }
+clean-by false [] (Some difference) is = cc
+clean-by false (f ∷ frames) difference is = cc
 
-never-by : (frames : List NumberedFrame) (place : Option ℕ) (a b c i : ℕ) → place ≡ None
-    → verdict_by frames place (Clean a b c) ≢ Differs i
-never-by [] None a b c i none = λ is. cc
-never-by [] (Some place) a b c i none = λ is. cc
-never-by (f ∷ frames) place a b c i none = λ is. cc
+never-by : (none : Bool) (frames : List NumberedFrame) (difference : Option Difference)
+    (d : Difference) → difference ≡ None → finding_by none frames difference ≢ Differs d
+never-by true frames difference d nowhere = λ is. cc
+never-by false [] None d nowhere = λ is. cc
+never-by false [] (Some difference) d nowhere = λ is. cc
+never-by false (f ∷ frames) difference d nowhere = λ is. cc
+
+none-mapped : {A B : Type 0} (f : A → B) (o : Option A) → option_map f o ≡ None → o ≡ None
+none-mapped f None none = refl
+none-mapped f (Some x) none = cc
+
+-- If there is some frame, the frames that passed are among those that were sealed, and as many were
+-- read as passed, some frame was sealed.
+shorter : {A : Type 0} {x y : List A} → IsSubsequence x y → length x ≤ length y
+shorter IsSubsequence.none = omega arith
+shorter (IsSubsequence.skip rest) = let few = shorter rest in omega (arith, few)
+shorter (IsSubsequence.keep rest) = let few = shorter rest in omega (arith, few)
+
+some-sealed : (counts : Counts) → are_none counts ≡ false → counts.passed ≤ counts.sealed
+    → counts.read ≡ counts.passed → 1 ≤ counts.sealed
+some-sealed counts some few same = ⊎_elim
+    (λ none.
+    let sealed : counts.sealed ≡ 0 = eqb-true counts.sealed 0 none in
+    let passed : counts.passed ≡ 0 = omega (arith, sealed, few) in
+    let read : counts.read ≡ 0 = omega (arith, passed, same) in
+    let all : are_none counts ≡ true =
+    and_from (counts.sealed == 0 && counts.passed == 0) (counts.read == 0)
+    (and_from (counts.sealed == 0) (counts.passed == 0) none (eq-eqb counts.passed 0 passed))
+    (eq-eqb counts.read 0 read) in
+    let never : true ≡ false = sym all ∙ some in cc)
+    (λ other. let n : counts.sealed ≢ 0 = λ is. (let never : true ≡ false =
+    sym (eq-eqb counts.sealed 0 is) ∙ other in cc) in omega (arith, n))
+    (cases_Bool (counts.sealed == 0))
 
 -- ---- a session
 
 module _ (kind : LinkKind) (session : Session) where
-  pub clean-says : IsLawful kind.rules → (device link received : List Tick)
-      → (sealed_ones passed_ones read_ones : ℕ)
-      → verdict_with kind session device link received ≡ Clean sealed_ones passed_ones read_ones
-      → IsClean kind session device link received sealed_ones passed_ones read_ones
-  clean-says lawful device link received sealed_ones passed_ones read_ones is =
+  pub clean-says : IsLawful kind.rules → (device link received : List Tick) (counts : Counts)
+      → verdict_with kind session device link received ≡ record { counts = counts; finding = Clean }
+      → IsClean kind session device link received counts
+  clean-says lawful device link received counts is =
       let late : ℕ = delay (got_profile kind session) in
       let S : List NumberedFrame = sealed_in kind session device in
       let P : List NumberedFrame = passed_in kind session link in
       let X : List FrameRead = read_in kind session received in
-      let parts = clean-by (forged S P) (first_difference (map (read_later late) P) X) (length S)
-      (length P) (length X) sealed_ones passed_ones read_ones is in
+      let E : List FrameRead = map (read_later late) P in
+      let counted : counts_of S P X ≡ counts = ap (λ v. v.counts) is in
+      let parts = clean-by (are_none (counts_of S P X)) (forged S P) (difference_of E X)
+      (ap (λ v. v.finding) is) in
+      let nowhere : first_difference E X ≡ None =
+      none-mapped (difference_at E X) (first_difference E X) parts.same in
       let sealing : RiseFrom session.sent_floor (numbers_of S) =
       sealed-rise (sent_profile kind session) kind.rules lawful session.sent_floor _ in
       let passing : RiseFrom session.got_floor (numbers_of P) =
       (have_passed (got_profile kind session) kind.rules lawful session.got_floor _).rise in
       let accounted : IsAccountedFor session.sent_floor session.got_floor S P =
       rising-accounted session.sent_floor session.got_floor S P sealing passing in
-      let reads : map (read_later late) P ≡ X =
-      no-difference (map (read_later late) P) X parts.same in
+      let reads : E ≡ X = no-difference E X nowhere in
       let bytes : bytes_sealed P ≡ bytes_read X =
       sym (bytes-delivered (got_profile kind session) P) ∙ ap (λ l. bytes_read l) reads in
+      let among : IsSubsequence (pairs_of P) (pairs_of S) =
+      subst (λ l. IsSubsequence (pairs_of l) (pairs_of S))
+      (all-stay (λ f. is_among S f) P parts.unforged) accounted.subsequence in
+      let few : length P ≤ length S =
+      subst (λ n. n ≤ length S) (length-map P pair_of)
+      (subst (λ n. length (pairs_of P) ≤ n) (length-map S pair_of) (shorter among)) in
+      let long : length X ≡ length P = ap length (sym reads) ∙ length-map P (read_later late) in
       record {
         read_what_passed = sym reads;
-        passed_what_was_sealed = subst (λ l. IsSubsequence (pairs_of l) (pairs_of S))
-            (all-stay (λ f. is_among S f) P parts.unforged) accounted.subsequence;
+        passed_what_was_sealed = among;
         read_what_was_sealed = subst (λ l. IsSubsequence l (bytes_sealed S)) bytes
             (passed-sealed session.sent_floor session.got_floor S P accounted parts.unforged);
         sealed_rise = sealing;
         passed_rise = passing;
-        sealed_count = parts.sealed_is;
-        passed_count = parts.passed_is;
-        read_count = parts.read_is;
+        some_sealed = subst (λ (c : Counts). 1 ≤ c.sealed) counted
+            (some-sealed (counts_of S P X) parts.some few long);
+        sealed_count = ap (λ (c : Counts). c.sealed) (sym counted);
+        passed_count = ap (λ (c : Counts). c.passed) (sym counted);
+        read_count = ap (λ (c : Counts). c.read) (sym counted);
       }
 
-  pub never-differs : (device link : List Tick) (place : ℕ)
+  pub never-differs : (device link : List Tick) (difference : Difference)
       → ReadsAllThatPassed kind.rules kind.reads (got_profile kind session) session.got_floor link
       320 4
-      → verdict_with kind session device link (line_received kind session link) ≢ Differs place
-  never-differs device link place reads =
+      → (verdict_with kind session device link (line_received kind session link)).finding
+      ≢ Differs difference
+  never-differs device link difference reads =
       let profile = got_profile kind session in
       let P : List NumberedFrame = passed_in kind session link in
       let X : List FrameRead = read_in kind session (line_received kind session link) in
-      let none : first_difference (map (delivered profile) P) X ≡ None =
-      ap (λ l. first_difference (map (delivered profile) P) l) reads
-      ∙ differs-nowhere (map (delivered profile) P) in
-      never-by (forged (sealed_in kind session device) P)
-      (first_difference (map (delivered profile) P) X) (length (sealed_in kind session device))
-      (length P) (length X) place none
+      let E : List FrameRead = map (delivered profile) P in
+      let none : difference_of E X ≡ None = ap (option_map (difference_at E X))
+      (ap (λ l. first_difference E l) reads ∙ differs-nowhere E) in
+      never-by (are_none (counts_of (sealed_in kind session device) P X))
+      (forged (sealed_in kind session device) P) (difference_of E X) difference none
 
 -- What holds for both protocols with both profiles holds for each session.
 pub each-kind : (P : LinkKind → Type 0)

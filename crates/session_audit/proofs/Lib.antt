@@ -6,4 +6,6 @@ pub mod Showing
 pub mod Auditing
 pub mod Judged
 pub mod SealedAlike
+pub mod Starts
+pub mod Parts
 mod Worked

@@ -1,7 +1,8 @@
 -- Verdicts on small lists of frames, computed.
 use Rattle.{device_model.specs.Frames.FrameRead, link_format.specs.NumberedFrame.NumberedFrame}
 use Rattle.{replay_lists.specs.Comparison.first_difference, session_audit.specs.Verdicts.verdict_on}
-use Rattle.session_audit.specs.declared.verdict.Verdict.TheVariants.{Clean, Forged, Differs}
+use Rattle.session_audit.specs.declared.verdict.{Finding.Finding, Verdict.Verdict}
+use Rattle.session_audit.specs.declared.verdict.Finding.TheVariants.{Empty, Clean, Forged, Differs}
 use Rattle.std.proofs.Common.{◌≡◌, ℕ, List, [], ◌∷◌, Some, None, refl}
 
 abbrev frame : ℕ → ℕ → List ℕ → NumberedFrame
@@ -32,30 +33,60 @@ one-read-less : first_difference (read 18 (1 ∷ []) ∷ read 40 (2 ∷ []) ∷ 
     (read 18 (1 ∷ []) ∷ []) ≡ Some 1
 one-read-less = refl
 
+-- a verdict with these counts
+abbrev verdict : ℕ → ℕ → ℕ → Finding → Verdict
+verdict sealed_ones passed_ones read_ones finding = record {
+  counts = record { sealed = sealed_ones; passed = passed_ones; read = read_ones };
+  finding = finding;
+}
+
+-- nothing was sealed, passed or read
+empty : verdict_on 18 [] [] [] ≡ verdict 0 0 0 Empty
+empty = refl
+
+-- One frame was read, so the session isn't empty.
+only-read : verdict_on 18 [] [] (read 7 (5 ∷ []) ∷ [])
+    ≡ verdict 0 0 1 (Differs (record { place = 0; expected = None; found = Some (read 7 (5 ∷ [])) }))
+only-read = refl
+
 -- two frames were sealed, and the second one passed and was read
 clean : verdict_on 18 (frame 1 0 (5 ∷ []) ∷ frame 2 30 (6 ∷ []) ∷ []) (frame 2 30 (6 ∷ []) ∷ [])
-    (read 48 (6 ∷ []) ∷ []) ≡ Clean 2 1 1
+    (read 48 (6 ∷ []) ∷ []) ≡ verdict 2 1 1 Clean
 clean = refl
+
+-- a frame was sealed, and none passed
+lost : verdict_on 18 (frame 1 0 (5 ∷ []) ∷ []) [] [] ≡ verdict 1 0 0 Clean
+lost = refl
 
 -- The frame starts at another tick of the link than of the line, which makes no difference to the
 -- verdict.
 moved : verdict_on 18 (frame 1 0 (5 ∷ []) ∷ []) (frame 1 70 (5 ∷ []) ∷ []) (read 88 (5 ∷ []) ∷ [])
-    ≡ Clean 1 1 1
+    ≡ verdict 1 1 1 Clean
 moved = refl
 
 -- Each of two frames passed with the number of the other one. The verdict names the first of them,
 -- and not the difference between the frames read and those that passed.
 exchanged : verdict_on 18 (frame 1 0 (5 ∷ []) ∷ frame 2 30 (6 ∷ []) ∷ [])
-    (frame 1 0 (6 ∷ []) ∷ frame 2 30 (5 ∷ []) ∷ []) [] ≡ Forged 1 0
+    (frame 1 0 (6 ∷ []) ∷ frame 2 30 (5 ∷ []) ∷ []) [] ≡ verdict 2 2 0 (Forged 1 0)
 exchanged = refl
 
 -- A forged frame is named even if it isn't the first frame that passed.
 second-forged : verdict_on 18 (frame 6 0 (5 ∷ []) ∷ [])
-    (frame 6 0 (5 ∷ []) ∷ frame 7 31 (5 ∷ []) ∷ []) [] ≡ Forged 7 31
+    (frame 6 0 (5 ∷ []) ∷ frame 7 31 (5 ∷ []) ∷ []) [] ≡ verdict 1 2 0 (Forged 7 31)
 second-forged = refl
 
 -- The device read the frame in the tick at which it starts on the link, and not as late as the
 -- receiver is.
 too-early : verdict_on 24 (frame 1 3 (5 ∷ []) ∷ []) (frame 1 3 (5 ∷ []) ∷ []) (read 3 (5 ∷ []) ∷ [])
-    ≡ Differs 0
+    ≡ verdict 1 1 1 (Differs (record {
+      place = 0;
+      expected = Some (read 27 (5 ∷ []));
+      found = Some (read 3 (5 ∷ []));
+    }))
 too-early = refl
+
+-- The second frame passed and wasn't read.
+unread : verdict_on 18 (frame 1 0 (5 ∷ []) ∷ frame 2 30 (6 ∷ []) ∷ [])
+    (frame 1 0 (5 ∷ []) ∷ frame 2 30 (6 ∷ []) ∷ []) (read 18 (5 ∷ []) ∷ [])
+    ≡ verdict 2 2 1 (Differs (record { place = 1; expected = Some (read 48 (6 ∷ [])); found = None }))
+unread = refl

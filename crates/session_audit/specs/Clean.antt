@@ -1,5 +1,5 @@
 -- What a clean verdict says of three recordings.
-use Rattle.std.specs.Prelude.{◌≡◌, ℕ, List, length, map}
+use Rattle.std.specs.Prelude.{◌≡◌, ◌≤◌, List, length, map}
 use Rattle.yasir_ticks.specs.declared.tick.Tick.{Tick}
 use Rattle.sequence_journal.specs.Uptimes.{RiseFrom}
 use Rattle.link_format.specs.NumberedFrame.{numbers_of}
@@ -9,14 +9,15 @@ use Rattle.receiver_laws.specs.Headline.{bytes_read, bytes_sealed}
 use Rattle.replay_lists.specs.Comparison.{read_later}
 use Rattle.session_audit.specs.Sessions.{LinkKind, got_profile, sealed_in, passed_in, read_in}
 use Rattle.session_audit.specs.declared.session.Session.{Session}
+use Rattle.session_audit.specs.declared.verdict.Counts.{Counts}
 
 -- Holds if the frames that were read are those that passed, each as late as the receiver is, and
 -- the frames that passed are, with their numbers, a subsequence of those that were sealed. So the
 -- frames that were read are a subsequence of them too. On both sides the numbers rise from the
--- floor, so each is used at most once. The counts are those of the sealed, the passed and the read
--- frames.
+-- floor, so each is used at most once. At least one frame was sealed. The counts are those of the
+-- sealed, the passed and the read frames.
 pub record IsClean (kind : LinkKind) (session : Session) (device link received : List Tick)
-    (sealed_ones passed_ones read_ones : ℕ) : Type 0 where
+    (counts : Counts) : Type 0 where
   pub read_what_passed : read_in kind session received
       ≡ map (read_later (delay (got_profile kind session))) (passed_in kind session link)
   pub passed_what_was_sealed : IsSubsequence (pairs_of (passed_in kind session link))
@@ -25,6 +26,7 @@ pub record IsClean (kind : LinkKind) (session : Session) (device link received :
       (bytes_sealed (sealed_in kind session device))
   pub sealed_rise : RiseFrom session.sent_floor (numbers_of (sealed_in kind session device))
   pub passed_rise : RiseFrom session.got_floor (numbers_of (passed_in kind session link))
-  pub sealed_count : sealed_ones ≡ length (sealed_in kind session device)
-  pub passed_count : passed_ones ≡ length (passed_in kind session link)
-  pub read_count : read_ones ≡ length (read_in kind session received)
+  pub some_sealed : 1 ≤ counts.sealed
+  pub sealed_count : counts.sealed ≡ length (sealed_in kind session device)
+  pub passed_count : counts.passed ≡ length (passed_in kind session link)
+  pub read_count : counts.read ≡ length (read_in kind session received)

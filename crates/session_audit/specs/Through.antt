@@ -1,5 +1,5 @@
 -- The verdict on three recordings by boxes and a device, and the lists that it is made from.
-use Rattle.std.specs.Prelude.{ℕ, ◌+◌, ◌<◌, ◌^◌, List, ◌++◌}
+use Rattle.std.specs.Prelude.{ℕ, ◌+◌, ◌<◌, ◌^◌, List, ◌++◌, length}
 use Rattle.yasir_ticks.specs.Ticks.{silent}
 use Rattle.yasir_ticks.specs.declared.TheConstants.{T3_5_TICKS}
 use Rattle.yasir_ticks.specs.declared.tick.Tick.{Tick}
@@ -50,10 +50,13 @@ module _ {S C V : Type 0} (s : FrameBox S) (c : FrameBox C) (v : Device V)
     pub able : IsOpen s c v lists
     pub few : session_taken s c v lists < 2 ^ 32
 
-  -- Holds if the lists are those of some recordings of the session.
+  -- Holds if the lists are those of some recordings of the session, the receiver is fewer than 256
+  -- ticks late, and the link with its silence has fewer than 2 ^ 32 ticks.
   pub record HasTakenSome (lists : SessionLists S C V) : Type 0 where
     pub late : ℕ
     pub device : List Tick
     pub link : List Tick
     pub received : List Tick
     pub taken : HasTaken late lists device link received
+    pub soon : late < 2 ^ 8
+    pub short : length (link ++ silent link_rest) < 2 ^ 32

@@ -1,23 +1,46 @@
 -- The verdict of an audit on what was sealed, what passed, and what was read.
-use Rattle.std.specs.Prelude.{ℕ, List, [], ◌∷◌, length, Option, Some, None}
+use Rattle.std.specs.Prelude.{ℕ, ◌==◌, ◌&&◌, Bool, true, false, List, [], ◌∷◌, length, Option}
+use Rattle.std.specs.Prelude.{Some, None}
 use Rattle.device_model.specs.Frames.{FrameRead}
 use Rattle.link_format.specs.NumberedFrame.{NumberedFrame}
 use Rattle.receiver_laws.specs.Accounted.{forged}
-use Rattle.replay_lists.specs.Comparison.{expected_reads, first_difference}
+use Rattle.replay_lists.specs.Comparison.{expected_reads, difference_of}
+use Rattle.replay_lists.specs.declared.comparison.Difference.{Difference}
+use Rattle.session_audit.specs.declared.verdict.Counts.{Counts}
+use Rattle.session_audit.specs.declared.verdict.Finding.{Finding}
+use Rattle.session_audit.specs.declared.verdict.Finding.TheVariants.{Empty, Forged, Differs, Clean}
 use Rattle.session_audit.specs.declared.verdict.Verdict.{Verdict}
-use Rattle.session_audit.specs.declared.verdict.Verdict.TheVariants.{Clean, Forged, Differs}
 
--- The verdict by the forged frames, the place of the first difference, and the clean verdict:
--- `Forged` with the first forged frame if there is one, otherwise `Differs` with the place if there
--- is one, and otherwise the clean verdict.
-abbrev pub verdict_by : List NumberedFrame → Option ℕ → Verdict → Verdict
-verdict_by (f ∷ more) place clean = Forged f.number f.start
-verdict_by [] (Some place) clean = Differs place
-verdict_by [] None clean = clean
+-- how many frames were sealed, passed and read
+abbrev pub counts_of : List NumberedFrame → List NumberedFrame → List FrameRead → Counts
+counts_of sealed_ones passed_ones reads = record {
+  sealed = length sealed_ones;
+  passed = length passed_ones;
+  read = length reads;
+}
+
+-- whether no frame was sealed, passed or read
+abbrev pub are_none : Counts → Bool
+are_none counts = counts.sealed == 0 && counts.passed == 0 && counts.read == 0
+
+-- What is found: `Empty` if there is no frame at all, otherwise `Forged` with the first forged frame
+-- if there is one, otherwise `Differs` with the difference if there is one, and otherwise `Clean`.
+abbrev pub finding_by : Bool → List NumberedFrame → Option Difference → Finding
+finding_by true frames difference = Empty
+finding_by false (f ∷ more) difference = Forged f.number f.start
+finding_by false [] (Some difference) = Differs difference
+finding_by false [] None = Clean
+
+-- what is found of the frames that were sealed, passed and read, if the receiver is `late` ticks
+-- late
+abbrev pub finding_on : ℕ → List NumberedFrame → List NumberedFrame → List FrameRead → Finding
+finding_on late sealed_ones passed_ones reads =
+    finding_by (are_none (counts_of sealed_ones passed_ones reads))
+    (forged sealed_ones passed_ones) (difference_of (expected_reads late passed_ones) reads)
 
 -- the verdict on the frames that were sealed, passed and read, if the receiver is `late` ticks late
 abbrev pub verdict_on : ℕ → List NumberedFrame → List NumberedFrame → List FrameRead → Verdict
-verdict_on late sealed_ones passed_ones reads =
-    verdict_by (forged sealed_ones passed_ones)
-    (first_difference (expected_reads late passed_ones) reads)
-    (Clean (length sealed_ones) (length passed_ones) (length reads))
+verdict_on late sealed_ones passed_ones reads = record {
+  counts = counts_of sealed_ones passed_ones reads;
+  finding = finding_on late sealed_ones passed_ones reads;
+}

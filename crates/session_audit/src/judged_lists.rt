@@ -1,5 +1,5 @@
 //! The lists that an audit makes of the recordings of a session, and the verdict on them.
-ghost use Rattle.std.specs.Prelude.{◌≡◌, ℕ, List, []};
+ghost use Rattle.std.specs.Prelude.{◌≡◌, ◌≤◌, ℕ, List, [], All, length};
 ghost use Rattle.yasir_ticks.specs.declared.tick.Tick.{Tick};
 ghost use Rattle.link_format.specs.NumberedFrame.{AreNumberedFrom};
 ghost use Rattle.link_format.specs.Setup.{Setup};
@@ -58,6 +58,8 @@ pub(crate) fn judge_lists<S: FrameBox, C: FrameBox, V: Device + Drop>(
     requires taken { HasTakenSome S.FrameBox C.FrameBox V.Device session.now lists.now }
     requires in_turn { (setup : Setup) (line : List Tick)
         → AreNumberedFrom setup.floor ((S.numbering setup).frames line) }
+    requires in_time { (setup : Setup) (line : List Tick)
+        → All (λ f. f.start ≤ length line) ((C.numbering setup).frames line) }
     ensures { (late : ℕ) (device link received : List Tick)
         → HasTaken S.FrameBox C.FrameBox V.Device session.now late lists.now device link received
         → result
@@ -67,6 +69,7 @@ pub(crate) fn judge_lists<S: FrameBox, C: FrameBox, V: Device + Drop>(
         session.sent_floor,
         lists.sealed(),
         lists.passed(),
-        lists.read(),
+        lists.read_count(),
+        lists.difference(),
     )
 }

@@ -1,16 +1,16 @@
 //! The verdict on lists of frames.
-ghost use Rattle.std.specs.Prelude.{◌≡◌, ℕ, List};
+ghost use Rattle.std.specs.Prelude.{◌≡◌, ℕ, List, length};
 ghost use Rattle.device_model.specs.Frames.{FrameRead};
 ghost use Rattle.link_format.specs.NumberedFrame.{NumberedFrame, AreNumberedFrom};
 ghost use Rattle.receiver_laws.specs.Accounted.{forged};
-ghost use Rattle.replay_lists.specs.Comparison.{Found, expected_reads};
+ghost use Rattle.replay_lists.specs.Comparison.{difference_of, expected_reads};
 ghost use Rattle.replay_lists.specs.FrameBox.{kept_frames};
 ghost use Rattle.replay_lists.specs.FrameList.{Holds, IsWhole};
-ghost use Rattle.session_audit.specs.Judging.{first_head, AreShort, IsFound};
-ghost use Rattle.session_audit.specs.Verdicts.{verdict_on};
+ghost use Rattle.session_audit.specs.Judging.{first_head, AreShort};
+ghost use Rattle.session_audit.specs.Verdicts.{counts_of, finding_on, verdict_on};
 
-use crate::Verdict;
-use replay_lists::{Comparison, FrameList, Numbered, is_at_its_number};
+use crate::{Counts, Finding, Verdict};
+use replay_lists::{Difference, FrameList, Numbered, is_at_its_number};
 
 // Returns number and start of the first frame that passed and wasn't sealed with its number. The
 // sealed frames must be numbered one after the other, from `floor + 1` on.
@@ -35,38 +35,66 @@ fn first_forged(
     None
 }
 
-/// Returns the verdict on the frames that were sealed and those that passed. What was read is given
-/// as its comparison with what passed. The sealed frames must be numbered one after the other, from
-/// `floor + 1` on.
-pub(crate) fn judge(
+// Returns what is found of the frames that were sealed and those that passed. How many there are of
+// each is given as `counts`, and what was read as its first difference from what passed.
+fn find(
     floor: u64,
     sealed: &FrameList<Numbered>,
     passed: &FrameList<Numbered>,
-    read: Comparison,
-) -> Verdict
+    counts: Counts,
+    difference: Option<Difference>,
+) -> Finding
     requires sealed { IsWhole sealed.now }
     requires passed { IsWhole passed.now }
-    requires found { IsFound read }
-    requires short { AreShort sealed.now passed.now read }
     ensures { (late : ℕ) (sealed_ones passed_ones : List NumberedFrame) (reads : List FrameRead)
         → Holds sealed.now (kept_frames sealed_ones) → Holds passed.now (kept_frames passed_ones)
-        → Found read (expected_reads late passed_ones) reads → AreNumberedFrom floor sealed_ones
-        → result ≡ verdict_on late sealed_ones passed_ones reads }
+        → counts ≡ counts_of sealed_ones passed_ones reads
+        → difference ≡ difference_of (expected_reads late passed_ones) reads
+        → AreNumberedFrom floor sealed_ones
+        → result ≡ finding_on late sealed_ones passed_ones reads }
 {
+    if counts.sealed == 0 && counts.passed == 0 && counts.read == 0 {
+        return Finding::Empty;
+    }
     if let Some(head) = first_forged(floor, sealed, passed) {
-        return Verdict::Forged {
+        return Finding::Forged {
             number: head.number,
             start: head.start,
         };
     }
-    if let Some(place) = read.difference(passed) {
-        return Verdict::Differs {
-            place: place as u32,
-        };
+    match difference {
+        Some(difference) => Finding::Differs(difference),
+        None => Finding::Clean,
     }
-    Verdict::Clean {
+}
+
+/// Returns the verdict on the frames that were sealed and those that passed. What was read is given
+/// as the count of its frames and its first difference from what passed. The sealed frames must be
+/// numbered one after the other, from `floor + 1` on.
+pub(crate) fn judge(
+    floor: u64,
+    sealed: &FrameList<Numbered>,
+    passed: &FrameList<Numbered>,
+    read: u64,
+    difference: Option<Difference>,
+) -> Verdict
+    requires sealed { IsWhole sealed.now }
+    requires passed { IsWhole passed.now }
+    requires short { AreShort sealed.now passed.now read }
+    ensures { (late : ℕ) (sealed_ones passed_ones : List NumberedFrame) (reads : List FrameRead)
+        → Holds sealed.now (kept_frames sealed_ones) → Holds passed.now (kept_frames passed_ones)
+        → read ≡ length reads
+        → difference ≡ difference_of (expected_reads late passed_ones) reads
+        → AreNumberedFrom floor sealed_ones
+        → result ≡ verdict_on late sealed_ones passed_ones reads }
+{
+    let counts = Counts {
         sealed: sealed.len() as u32,
         passed: passed.len() as u32,
-        read: read.read() as u32,
+        read: read as u32,
+    };
+    Verdict {
+        counts,
+        finding: find(floor, sealed, passed, counts, difference),
     }
 }

@@ -1,11 +1,13 @@
 //! Laws of the audit's definitions: what a clean verdict means, and what it never says wrongly.
-ghost use Rattle.std.specs.Prelude.{◌≡◌, ◌≢◌, ℕ, List};
+ghost use Rattle.std.specs.Prelude.{◌≡◌, ◌≢◌, List};
 ghost use Rattle.yasir_ticks.specs.Ticks.{AreTicks};
 ghost use Rattle.yasir_ticks.specs.declared.tick.Tick.{Tick};
 ghost use Rattle.session_audit.specs.Clean.{IsClean};
 ghost use Rattle.session_audit.specs.Sessions.{kind_of, line_received, verdict_of};
 ghost use Rattle.session_audit.specs.declared.session.Session.{Session};
-ghost use Rattle.session_audit.specs.declared.verdict.Verdict.TheVariants.{Clean, Differs};
+ghost use Rattle.session_audit.specs.declared.verdict.Counts.{Counts};
+ghost use Rattle.session_audit.specs.declared.verdict.Finding.TheVariants.{Clean, Differs};
+ghost use Rattle.replay_lists.specs.declared.comparison.Difference.{Difference};
 
 use dnp_link_frame::Dnp;
 use receiver_laws::{recorded_line_reads_all_that_passed, stated_profiles_are_fit};
@@ -14,13 +16,12 @@ use rtu_frame::Rtu;
 /// A law of the audit's definitions, for each session and any three lists of ticks, whoever made
 /// them: if the verdict is clean, the frames read from the third list are, in order, a subsequence
 /// of the frames sealed from the first, and each number is used at most once. They are the frames
-/// that passed from the second list, each as late as the receiver is.
+/// that passed from the second list, each as late as the receiver is. At least one frame was
+/// sealed.
 pub fn clean_recordings_have_only_sealed_frames()
-    ensures { (session : Session) (device link received : List Tick)
-        (sealed_ones passed_ones read_ones : ℕ)
-        → verdict_of session device link received ≡ Clean sealed_ones passed_ones read_ones
-        → IsClean (kind_of session) session device link received sealed_ones passed_ones
-        read_ones }
+    ensures { (session : Session) (device link received : List Tick) (counts : Counts)
+        → verdict_of session device link received ≡ record { counts = counts; finding = Clean }
+        → IsClean (kind_of session) session device link received counts }
 {}
 
 /// A law of the audit's definitions, for each session, line of a device and link: if the third
@@ -28,9 +29,10 @@ pub fn clean_recordings_have_only_sealed_frames()
 /// verdict is never `Differs`. So if a verdict is `Differs`, the third recording isn't this
 /// receiver's line for this link, or it ends too early.
 pub fn own_line_of_a_receiver_never_differs()
-    ensures { (session : Session) (device link : List Tick) → AreTicks link → (place : ℕ)
-        → verdict_of session device link (line_received (kind_of session) session link)
-        ≢ Differs place }
+    ensures { (session : Session) (device link : List Tick) → AreTicks link
+        → (difference : Difference)
+        → (verdict_of session device link (line_received (kind_of session) session link)).finding
+        ≢ Differs difference }
 {
     recorded_line_reads_all_that_passed();
     stated_profiles_are_fit::<Rtu>();

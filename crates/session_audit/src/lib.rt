@@ -10,10 +10,11 @@
 //!     let session = Session {
 //!         label: 1, profile: 18, dir: Dir::Ab, key: &key, sent_floor: 0, got_floor: 0,
 //!     };
-//!     match audit(alloc, &session, &device, &link, &received)? {
-//!         Verdict::Clean { .. } => {}
-//!         Verdict::Forged { number, start } => alarm(number, start),
-//!         Verdict::Differs { place } => alarm_at(place),
+//!     match audit(alloc, &session, &device, &link, &received)?.finding {
+//!         Finding::Clean => {}
+//!         Finding::Empty => ask_for_other_recordings(),
+//!         Finding::Forged { number, start } => alarm(number, start),
+//!         Finding::Differs(difference) => alarm_at(difference.place),
 //!     }
 #![tactic(auto)]
 
@@ -41,9 +42,9 @@ pub use laws::{clean_recordings_have_only_sealed_frames, own_line_of_a_receiver_
 pub use noting_box::NotingBox;
 pub use over_input::audit_input;
 pub use over_recordings::audit;
-pub use replay_lists::NoMemory;
+pub use replay_lists::{Difference, NoMemory, ReadFrame};
 pub use sealed_frames::SealedFrames;
 pub use session::Session;
 pub use shown_frames::ShownFrames;
 pub use steady_disk::SteadyDisk;
-pub use verdict::Verdict;
+pub use verdict::{Counts, Finding, Verdict};

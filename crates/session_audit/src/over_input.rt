@@ -1,5 +1,5 @@
 //! The audit over three recordings in one input, of which no tick is kept.
-ghost use Rattle.std.specs.Prelude.{List};
+ghost use Rattle.std.specs.Prelude.{◌≤◌, List, All, length};
 ghost use Rattle.yasir_ticks.specs.declared.tick.Tick.{Tick};
 ghost use Rattle.tick_drive.specs.Input.{IsReadCause, is_read_answer};
 ghost use Rattle.link_format.specs.NumberedFrame.{AreNumberedFrom};
@@ -30,6 +30,8 @@ fn audit_input_by<S: FrameBox, C: FrameBox, V: Device + Drop, I: Source>(
     requires session { IsSession session.now }
     requires in_turn { (setup : Setup) (line : List Tick)
         → AreNumberedFrom setup.floor ((S.numbering setup).frames line) }
+    requires in_time { (setup : Setup) (line : List Tick)
+        → All (λ f. f.start ≤ length line) ((C.numbering setup).frames line) }
     ensures audits { AuditsInput
         (verdict_through S.FrameBox C.FrameBox V.Device session.now late)
         (I.left input.old) (I.left input.new) result }

@@ -1,5 +1,5 @@
 //! The audit over three lists of ticks.
-ghost use Rattle.std.specs.Prelude.{◌≡◌, List, IfOk};
+ghost use Rattle.std.specs.Prelude.{◌≡◌, ◌≤◌, List, IfOk, All, length};
 ghost use Rattle.yasir_ticks.specs.declared.tick.Tick.{Tick};
 ghost use Rattle.link_format.specs.NumberedFrame.{AreNumberedFrom};
 ghost use Rattle.link_format.specs.Setup.{Setup};
@@ -36,6 +36,8 @@ fn audit_by<S: FrameBox, C: FrameBox, V: Device + Drop>(
     requires recordings { AreRecordings lines.device.now lines.link.now lines.received.now }
     requires in_turn { (setup : Setup) (line : List Tick)
         → AreNumberedFrom setup.floor ((S.numbering setup).frames line) }
+    requires in_time { (setup : Setup) (line : List Tick)
+        → All (λ f. f.start ≤ length line) ((C.numbering setup).frames line) }
     ensures { IfOk result (λ verdict. verdict
         ≡ verdict_through S.FrameBox C.FrameBox V.Device session.now late lines.entry.device.now
         lines.entry.link.now lines.entry.received.now) }

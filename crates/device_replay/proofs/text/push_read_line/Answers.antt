@@ -7,7 +7,7 @@ pub returns-in-Ok-clause-ok : goal.returns-in-Ok-clause-ok
 returns-in-Ok-clause-ok g c = λ held before waits.
     let line = frame_line (record { start = c.args.start; frame = c.args.bytes.now }) in
     subst (λ w. Buffered held (g.O.Sink.held c.make_room.new.sink) w (before ++ line))
-    (sym c.write_frame_line.ensures)
+    (sym c.write_frame_line.ensures.line)
     (more_waits held _ _ before line (c.in-Ok.ensures.ok held before waits))
 
 pub returns-in-Err-clause-err : goal.returns-in-Err-clause-err

@@ -57,7 +57,8 @@ returns-clause-done g c = λ asked asks may calm.
     let right = subst (λ a. MayDo g.K.Source g.S.Source g.O.Sink g.L.Sink g.D.SlotDisk a before)
     (sym same) may in
     let mid = outside ends.0 ends.1.0 ends.1.1.0 ends.1.1.1.0 ends.1.1.1.1.0 in
-    subst (λ a. EndsWell a c.answer-status.result) same
+    subst (λ a. EndsWell g.K.Source g.S.Source g.O.Sink g.L.Sink g.D.SlotDisk a before
+    c.answer-status.result) same
     (asked_done g.K.Source g.S.Source g.O.Sink g.L.Sink g.D.SlotDisk c.asked_by-asked.result before
     mid c.answer-status.result right
     (calm_before g.K.Source g.S.Source g.O.Sink g.L.Sink g.D.SlotDisk before after

@@ -1,5 +1,25 @@
-use Rattle.{session_audit.specs.Through.setups_of, std.proofs.Common.arith}
+use Rattle.link_format.specs.NumberedFrame.{NumberedFrame}
+use Rattle.{replay_lists.specs.Listed.link_rest, session_audit.specs.Through.setups_of}
+use Rattle.std.proofs.Common.{◌+◌, ◌^◌, ◌<◌, ◌≤◌, ◌++◌, arith, length}
+use Rattle.std.proofs.lemmas.List.Elements.{All-weaker}
+use Rattle.yasir_ticks.specs.Ticks.{silent}
 use Rattle.session_audit.proofs.judged_lists.judge_lists.Goals as goal
+
+pub difference-requires : goal.difference-requires
+difference-requires g c =
+    let some = c.requires.taken in record {
+      setups = setups_of some.late c.args.session.now;
+      device = _;
+      link = _;
+      received = _;
+      has = some.taken.has;
+      in_time = All-weaker
+          (λ (f : NumberedFrame). f.start ≤ length (some.link ++ silent link_rest))
+          (λ (f : NumberedFrame). some.late + f.start < 2 ^ 64)
+          (λ (f : NumberedFrame) within. omega (arith, within, some.soon, some.short)) _
+          (c.requires.in_time (setups_of some.late c.args.session.now).got
+          (some.link ++ silent link_rest));
+    }
 
 pub judge-requires-clause-sealed : goal.judge-requires-clause-sealed
 judge-requires-clause-sealed g c =
@@ -9,19 +29,12 @@ pub judge-requires-clause-passed : goal.judge-requires-clause-passed
 judge-requires-clause-passed g c =
     (c.passed.ensures.frames _ _ _ _ c.requires.taken.taken.has).whole
 
-pub judge-requires-clause-found : goal.judge-requires-clause-found
-judge-requires-clause-found g c = record {
-  expected = _;
-  reads = _;
-  found = c.read.ensures.found _ _ _ _ c.requires.taken.taken.has;
-}
-
 pub judge-requires-clause-short : goal.judge-requires-clause-short
 judge-requires-clause-short g c =
     let taken = c.requires.taken.taken in record {
       sealed_ones = omega (arith, taken.few, c.sealed.ensures.few taken.able);
       passed_ones = omega (arith, taken.few, c.passed.ensures.few taken.able);
-      read_ones = omega (arith, taken.few, c.read.ensures.few taken.able);
+      read_ones = omega (arith, taken.few, c.read_count.ensures.few taken.able);
     }
 
 pub returns : goal.returns
@@ -29,5 +42,6 @@ returns g c = λ late device link received taken.
     c.judge.ensures late _ _ _
     (c.sealed.ensures.frames (setups_of late c.args.session.now) _ _ _ taken.has)
     (c.passed.ensures.frames (setups_of late c.args.session.now) _ _ _ taken.has)
-    (c.read.ensures.found (setups_of late c.args.session.now) _ _ _ taken.has)
+    (c.read_count.ensures.count (setups_of late c.args.session.now) _ _ _ taken.has)
+    (c.difference.ensures (setups_of late c.args.session.now) _ _ _ taken.has)
     (c.requires.in_turn (setups_of late c.args.session.now).sent _)

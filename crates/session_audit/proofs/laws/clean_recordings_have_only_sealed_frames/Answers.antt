@@ -4,7 +4,7 @@ use Rattle.session_audit.{proofs.Auditing.each-kind, specs.Sessions.kind_of}
 use Rattle.session_audit.proofs.laws.clean_recordings_have_only_sealed_frames.Goals as goal
 
 pub returns : goal.returns
-returns c = λ session device link received sealed_ones passed_ones read_ones is.
+returns c = λ session device link received counts is.
     clean-says (kind_of session) session
     (each-kind (λ kind. IsLawful kind.rules) rtu_lawful rtu_lawful dnp_lawful dnp_lawful session)
-    device link received sealed_ones passed_ones read_ones is
+    device link received counts is

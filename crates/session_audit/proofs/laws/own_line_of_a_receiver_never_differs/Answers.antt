@@ -6,14 +6,14 @@ use Rattle.std.proofs.Common.{arith}
 use Rattle.session_audit.proofs.laws.own_line_of_a_receiver_never_differs.Goals as goal
 
 pub returns : goal.returns
-returns c = λ session device link ticks place.
+returns c = λ session device link ticks difference.
     let reads = c.recorded_line_reads_all_that_passed.ensures in
     let rtu = c.stated_profiles_are_fit.ensures in
     let dnp = c.stated_profiles_are_fit-2.ensures in
     let setup = got_setup session in
     let P : LinkKind → Type 0 = λ kind. ReadsAllThatPassed kind.rules kind.reads
     (got_profile kind session) session.got_floor link 320 4 in
-    never-differs (kind_of session) session device link place
+    never-differs (kind_of session) session device link difference
     (each-kind P
     (reads.rtu _ (rtu.y18 1 LIMIT setup).timely session.got_floor link ticks 320 4 (omega arith)
     (omega arith))

@@ -1,7 +1,7 @@
 use Rattle.dnp_link_frame.specs.{Rules.dnp_rules, RulesLaws.dnp_lawful}
 use Rattle.rtu_frame.specs.Rules.{rtu_rules, rtu_lawful}
 use Rattle.seal_judgements.proofs.Numbers.{sealed-numbered}
-use Rattle.session_audit.proofs.Auditing.{audited-so}
+use Rattle.session_audit.proofs.{Auditing.audited-so, Starts.passed-starts}
 use Rattle.std.proofs.{Common.true, Common.false, lemmas.Bool.eq-eqb, lemmas.Bool.ne_eqb}
 use Rattle.session_audit.proofs.over_input.audit_input.Goals as goal
 
@@ -20,6 +20,22 @@ audit_input_by-requires-in-false-true-clause-in_turn g c = λ setup line.
 pub audit_input_by-requires-in-false-false-clause-in_turn : goal.audit_input_by-requires-in-false-false-clause-in_turn
 audit_input_by-requires-in-false-false-clause-in_turn g c = λ setup line.
     sealed-numbered _ dnp_rules dnp_lawful setup.floor line
+
+pub audit_input_by-requires-clause-in_time : goal.audit_input_by-requires-clause-in_time
+audit_input_by-requires-clause-in_time g c = λ setup line.
+    passed-starts _ rtu_rules setup.floor line
+
+pub audit_input_by-requires-in-true-false-clause-in_time : goal.audit_input_by-requires-in-true-false-clause-in_time
+audit_input_by-requires-in-true-false-clause-in_time g c = λ setup line.
+    passed-starts _ rtu_rules setup.floor line
+
+pub audit_input_by-requires-in-false-true-clause-in_time : goal.audit_input_by-requires-in-false-true-clause-in_time
+audit_input_by-requires-in-false-true-clause-in_time g c = λ setup line.
+    passed-starts _ dnp_rules setup.floor line
+
+pub audit_input_by-requires-in-false-false-clause-in_time : goal.audit_input_by-requires-in-false-false-clause-in_time
+audit_input_by-requires-in-false-false-clause-in_time g c = λ setup line.
+    passed-starts _ dnp_rules setup.floor line
 
 pub returns-in-true-true-clause-audits : goal.returns-in-true-true-clause-audits
 returns-in-true-true-clause-audits g c = audited-so c.args.session.now _ _ _ true true

@@ -1,9 +1,17 @@
+use Rattle.{replay_lists.specs.Listed.link_rest, session_audit.proofs.Parts.part-short}
 use Rattle.session_audit.specs.Through.{setups_of}
+use Rattle.std.proofs.{Common.arith, Common.length-append, lemmas.List.length-replicate}
+use Rattle.{tick_lists.specs.Parts.part, yasir_ticks.specs.Ticks.silent}
+use Rattle.yasir_ticks.specs.declared.tick.Tick.TheVariants.{Silent}
 use Rattle.session_audit.proofs.over_input.audit_input_by.Goals as goal
 
 pub judge_lists-requires-clause-taken : goal.judge_lists-requires-clause-taken
 judge_lists-requires-clause-taken g c =
-    let lists = c.in-Whole.ensures.listed.lists in record {
+    let listed = c.in-Whole.ensures.listed in
+    let lists = listed.lists in
+    let few = part-short 1 listed.takes.told in
+    let long = length-append (part 1 listed.takes.told) (silent link_rest) in
+    let rest = length-replicate link_rest Silent in record {
       late = c.args.late;
       device = _;
       link = _;
@@ -13,6 +21,8 @@ judge_lists-requires-clause-taken g c =
         able = lists.able;
         few = lists.few;
       };
+      soon = omega arith;
+      short = omega (arith, few, long, rest, listed.takes.few);
     }
 
 pub returns-clause-audits : goal.returns-clause-audits

@@ -1,6 +1,7 @@
 use Rattle.dnp_link_frame.specs.{Rules.dnp_rules, RulesLaws.dnp_lawful}
 use Rattle.rtu_frame.specs.Rules.{rtu_rules, rtu_lawful}
 use Rattle.{seal_judgements.proofs.Numbers.sealed-numbered, session_audit.proofs.Auditing.judged-so}
+use Rattle.session_audit.proofs.Starts.{passed-starts}
 use Rattle.std.proofs.{Common.true, Common.false, lemmas.Bool.eq-eqb, lemmas.Bool.ne_eqb}
 use Rattle.session_audit.proofs.over_recordings.audit.Goals as goal
 
@@ -15,6 +16,22 @@ audit_by-requires-in-false-true-clause-in_turn c = λ setup line. sealed-numbere
 
 pub audit_by-requires-in-false-false-clause-in_turn : goal.audit_by-requires-in-false-false-clause-in_turn
 audit_by-requires-in-false-false-clause-in_turn c = λ setup line. sealed-numbered _ dnp_rules dnp_lawful setup.floor line
+
+pub audit_by-requires-clause-in_time : goal.audit_by-requires-clause-in_time
+audit_by-requires-clause-in_time c = λ setup line.
+    passed-starts _ rtu_rules setup.floor line
+
+pub audit_by-requires-in-true-false-clause-in_time : goal.audit_by-requires-in-true-false-clause-in_time
+audit_by-requires-in-true-false-clause-in_time c = λ setup line.
+    passed-starts _ rtu_rules setup.floor line
+
+pub audit_by-requires-in-false-true-clause-in_time : goal.audit_by-requires-in-false-true-clause-in_time
+audit_by-requires-in-false-true-clause-in_time c = λ setup line.
+    passed-starts _ dnp_rules setup.floor line
+
+pub audit_by-requires-in-false-false-clause-in_time : goal.audit_by-requires-in-false-false-clause-in_time
+audit_by-requires-in-false-false-clause-in_time c = λ setup line.
+    passed-starts _ dnp_rules setup.floor line
 
 pub returns-in-true-true : goal.returns-in-true-true
 returns-in-true-true c = judged-so c.args.session.now c.args.device.now c.args.link.now

@@ -1,4 +1,6 @@
-use Rattle.{session_audit.specs.Through.setups_of, std.proofs.Common.arith}
+use Rattle.{replay_lists.specs.Listed.link_rest, session_audit.specs.Through.setups_of}
+use Rattle.std.proofs.{Common.arith, Common.length-append, lemmas.List.length-replicate}
+use Rattle.yasir_ticks.specs.{Ticks.silent, declared.tick.Tick.TheVariants.Silent}
 use Rattle.session_audit.proofs.over_recordings.audit_by.Goals as goal
 
 pub list_lines-requires-clause-short : goal.list_lines-requires-clause-short
@@ -11,7 +13,9 @@ list_lines-requires-clause-short g c = omega (
 
 pub judge_lists-requires-clause-taken : goal.judge_lists-requires-clause-taken
 judge_lists-requires-clause-taken g c =
-    let lists = c.in-Ok.ensures in record {
+    let lists = c.in-Ok.ensures in
+    let long = length-append c.args.lines.link.now (silent link_rest) in
+    let rest = length-replicate link_rest Silent in record {
       late = c.args.late;
       device = _;
       link = _;
@@ -21,6 +25,8 @@ judge_lists-requires-clause-taken g c =
         able = lists.able;
         few = lists.few;
       };
+      soon = omega arith;
+      short = omega (arith, long, rest, c.requires.recordings.link_len);
     }
 
 pub returns-in-Ok : goal.returns-in-Ok

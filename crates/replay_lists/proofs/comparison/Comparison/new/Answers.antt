@@ -6,4 +6,5 @@ pub returns-clause-found : goal.returns-clause-found
 returns-clause-found c = λ expected. record {
   count = refl;
   place = sym (unexpected-none expected);
+  frame = tt;
 }

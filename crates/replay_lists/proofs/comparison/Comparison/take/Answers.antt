@@ -17,4 +17,4 @@ pub returns-clause-found : goal.returns-clause-found
 returns-clause-found c = λ passed_ones reads holds found.
     found-next c.args.self.now _ (expected_reads c.args.passed.late passed_ones) reads _
     c.is_next.result c.in-None.is refl (c.is_next.ensures passed_ones holds)
-    (rw c.if-is_next.false refl) found
+    (rw (c.if-is_next.false, c.new-frame.ensures) refl) found
