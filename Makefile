@@ -5,8 +5,9 @@
 # test: runs the gate. It proves each crate, tries the wrong bodies, and runs the tests and the program.
 # check: runs the scripts that try the built program and are no part of the gate. LEVEL is quick, change or release.
 #        BEFORE is the last version, a program or a checkout with one: the level release counts the instructions of both.
+# reading: writes the page out/reading.md, with all definitions on which the headline rests, in order of use.
 # live: shows mbpoll reading registers through four boxes, under attack. It needs mbpoll, libmodbus and a C compiler.
-.PHONY: try demo test check live
+.PHONY: try demo test check reading live
 
 try:
 	@python3 scripts/try.py
@@ -19,6 +20,9 @@ test:
 
 check:
 	@python3 scripts/check.py $(LEVEL) $(if $(BEFORE),--before $(BEFORE))
+
+reading:
+	@python3 scripts/reading.py
 
 live:
 	@python3 scripts/live.py

@@ -29,42 +29,39 @@ enum { MS = 1000000, ROOM = 1 << 14 };
 /* How many frames may wait in the guard. */
 enum { WAITING = 4 };
 
-/* Bytes on their way, each with the time at which it came or must leave. `lost` counts the bytes for
- * which there was no room. */
-typedef struct { uint8_t byte[ROOM]; nanos at[ROOM]; size_t first, count; uint64_t lost; } queue;
+/* Bytes on their way, each with the time at which it came or must leave. */
+typedef struct { uint8_t byte[ROOM]; nanos at[ROOM]; size_t first, count; } queue;
 
 /* A recording of ticks, as tick text. */
 typedef struct { FILE *file; uint64_t silent; int bytes; } tape;
 
 /* One direction: the port that is read, the box, and the port that is written. */
 typedef struct {
-    const char *name;
     yasir_handle box;
     journal kept;
     queue in, out;
     int from, to;
-    uint64_t ticks;
     int silents;      /* silent ticks taken since the last byte, or 0 */
     nanos last_came;  /* when the last byte taken came */
     int snaps;        /* 1 on the link: a gap of two to six ticks counts as three, those before a trailer */
     int snapped;      /* 1 after such a gap in this burst: a packet has one, so any other is jitter */
-    yasir_handle guard; /* holds a spacer, or nothing with -G and in the outgoing direction */
     tape took, gave;  /* recordings of the line that the box takes, and of the one that it returns */
 } way;
 
 static struct {
     const char *device, *link, *key, *sent, *got, *record;
-    int baud, stop, make, guarded, quiet;
+    int baud, stop, make, quiet;
     char parity;
     double hold_ms, playout_ms;
     yasir_kind kind;
-} opt = {.baud = 9600, .stop = 1, .parity = 'e', .guarded = 1, .hold_ms = 20, .playout_ms = 25,
+} opt = {.baud = 9600, .stop = 1, .parity = 'e', .hold_ms = 20, .playout_ms = 25,
          .kind = {0, YASIR_RTU, YASIR_Y18, YASIR_AB}};
 
 static pthread_mutex_t lock = PTHREAD_MUTEX_INITIALIZER;
-static volatile sig_atomic_t stopping, failed;
+static volatile sig_atomic_t stopping, failed, untaped;
 static nanos tick_len, started, slowest_sync;
-static way outgoing = {.name = "sealed"}, incoming = {.name = "checked", .snaps = 1};
+static way outgoing, incoming = {.snaps = 1};
+static yasir_handle guard; /* the spacer between the receiver and the device */
 
 static nanos now(void)
 {
@@ -73,21 +70,25 @@ static nanos now(void)
     return (nanos)t.tv_sec * 1000000000 + t.tv_nsec;
 }
 
+/* Ends the daemon after a line on standard error, if it isn't ending already. */
+static void fail_with(const char *what, const char *why)
+{
+    if (!stopping) fprintf(stderr, "bridge: %s: %s\n", what, why);
+    failed = 1, stopping = 1;
+}
+
+static void fail(const char *what) { fail_with(what, strerror(errno)); }
+
+/* Without the byte for which there is no room, the bytes before and after it could be a frame. */
 static void push(queue *q, uint8_t byte, nanos at)
 {
-    if (q->count == ROOM) { q->lost++; return; }
+    if (q->count == ROOM) { fail_with("a port is too slow", "too many bytes wait"); return; }
     q->byte[(q->first + q->count) % ROOM] = byte;
     q->at[(q->first + q->count) % ROOM] = at;
     q->count++;
 }
 
 static void drop_first(queue *q) { q->first = (q->first + 1) % ROOM, q->count--; }
-
-static void fail(const char *what)
-{
-    if (!stopping) fprintf(stderr, "bridge: %s: %s\n", what, strerror(errno));
-    failed = 1, stopping = 1;
-}
 
 /* ---- the thread that moves bytes */
 
@@ -155,25 +156,36 @@ static void *move_bytes(void *unused)
 
 /* ---- the thread that takes ticks */
 
+/* Says that a recording can't be written, and goes on without it. */
+static void lose_tape(tape *t)
+{
+    fprintf(stderr, "bridge: a recording can't be written, and ends here: %s\n", strerror(errno));
+    if (t->file) fclose(t->file);
+    t->file = NULL, untaped = 1;
+}
+
 static void record(tape *t, uint16_t tick)
 {
     if (!t->file) return;
     if (tick == YASIR_SILENT) {
         if (t->bytes > 0) fputc('\n', t->file), t->bytes = 0;
         if (++t->silent == 1000000) fprintf(t->file, "-1000000\n"), t->silent = 0;
-        return;
+    } else {
+        if (t->silent > 0) fprintf(t->file, "-%" PRIu64 "\n", t->silent), t->silent = 0;
+        fprintf(t->file, t->bytes == 0 ? "+%02x" : "%02x", tick);
+        if (++t->bytes == 32) fputc('\n', t->file), t->bytes = 0;
     }
-    if (t->silent > 0) fprintf(t->file, "-%" PRIu64 "\n", t->silent), t->silent = 0;
-    fprintf(t->file, t->bytes == 0 ? "+%02x" : "%02x", tick);
-    if (++t->bytes == 32) fputc('\n', t->file), t->bytes = 0;
+    if (ferror(t->file)) lose_tape(t);
 }
 
 static void end_tape(tape *t)
 {
-    if (!t->file) return;
-    if (t->silent > 0) fprintf(t->file, "-%" PRIu64, t->silent);
-    fputc('\n', t->file);
-    if (fclose(t->file) != 0) perror("bridge: a recording");
+    FILE *file = t->file;
+    if (!file) return;
+    if (t->silent > 0) fprintf(file, "-%" PRIu64, t->silent);
+    fputc('\n', file);
+    t->file = NULL;
+    if (fclose(file) != 0) lose_tape(t);
 }
 
 static void open_tape(tape *t, const char *name)
@@ -213,6 +225,11 @@ static uint16_t next_tick(way *w, nanos at)
     return tick;
 }
 
+static void end_line(void)
+{
+    if (fflush(stdout) != 0) fail("a note");
+}
+
 /* Prints the line of a note, if there is one, as link_replay does. */
 static void note_line(const yasir_answer *a)
 {
@@ -226,19 +243,19 @@ static void note_line(const yasir_answer *a)
         printf("%s at %" PRIu64 " %s\n", a->note == YASIR_UNSEALED ? "unsealed" : a->note == YASIR_REFUSED
                ? "refused" : "dropped", a->start, a->note == YASIR_UNSEALED ? unsealed[a->why]
                : a->note == YASIR_REFUSED ? refused[a->why] : dropped[a->why]);
-    fflush(stdout);
+    end_line();
 }
 
+/* Queues what a box returns for a tick: on the way to the device, what the guard makes of it. */
 static void leave(way *w, int is_byte, uint8_t byte, nanos at)
 {
-    if (w->guard.box) {
+    if (w == &incoming) {
         yasir_spaced spaced;
-        if (yasir_spacer_step(&w->guard, is_byte ? byte : YASIR_SILENT, &spaced) != YASIR_OK) {
-            fprintf(stderr, "bridge: the guard takes no more ticks\n");
-            failed = 1, stopping = 1;
+        if (yasir_spacer_step(&guard, is_byte ? byte : YASIR_SILENT, &spaced) != YASIR_OK) {
+            fail_with("the guard", "it takes no more ticks");
             return;
         }
-        if (spaced.is_lost && !opt.quiet) printf("lost at %" PRIu64 "\n", spaced.lost_start), fflush(stdout);
+        if (spaced.is_lost && !opt.quiet) printf("lost at %" PRIu64 "\n", spaced.lost_start), end_line();
         is_byte = spaced.is_byte, byte = spaced.byte;
     }
     if (!is_byte) return;
@@ -247,32 +264,36 @@ static void leave(way *w, int is_byte, uint8_t byte, nanos at)
     pthread_mutex_unlock(&lock);
 }
 
+/* Puts the number of a step on the disk, and asks the box for what it withholds until then. */
+static uint8_t commit(way *w, yasir_answer *answer, const uint8_t *slot)
+{
+    nanos took = now();
+    if (journal_commit(&w->kept, answer->commit, slot) != 0) {
+        fail("commit (restart the machine before the next run, as docs/JOURNAL.md says)");
+        return yasir_committed(&w->box, 0, answer);
+    }
+    took = now() - took;
+    if (took > slowest_sync) {
+        slowest_sync = took;
+        if (took > (nanos)(opt.playout_ms * MS))
+            fprintf(stderr, "bridge: a sync took %.1f ms, more than the playout of %.1f ms: the frame "
+                    "is late and will be refused; give a longer -D\n", (double)took / 1e6, opt.playout_ms);
+    }
+    return yasir_committed(&w->box, 1, answer);
+}
+
 static void take_tick(way *w, nanos at)
 {
     yasir_answer answer;
     uint8_t slot[YASIR_SLOT_LEN];
     uint16_t tick = next_tick(w, at);
-    if (yasir_step(&w->box, tick, &answer, slot, sizeof slot) != YASIR_OK) {
-        fprintf(stderr, "bridge: the box takes no more ticks\n");
-        failed = 1, stopping = 1;
-        return;
-    }
-    w->ticks++;
-    if (answer.commit) {
-        nanos before = now();
-        if (journal_commit(&w->kept, answer.commit, slot) != 0) { fail("commit"); return; }
-        before = now() - before;
-        if (before > slowest_sync) {
-            slowest_sync = before;
-            if (before > (nanos)(opt.playout_ms * MS))
-                fprintf(stderr, "bridge: a sync took %.1f ms, more than the playout of %.1f ms: the frame "
-                        "is late and will be refused; give a longer -D\n", before / 1e6, opt.playout_ms);
-        }
-    }
+    uint8_t status = yasir_step(&w->box, tick, &answer, slot, sizeof slot);
+    if (status == YASIR_COMMIT) status = commit(w, &answer, slot);
+    if (status != YASIR_OK) { fail_with("a box", "it takes no more ticks"); return; }
     note_line(&answer);
     record(&w->took, tick);
     record(&w->gave, answer.is_byte ? answer.byte : YASIR_SILENT);
-    leave(w, answer.is_byte, answer.byte, at);
+    if (!stopping) leave(w, answer.is_byte, answer.byte, at);
 }
 
 static void take_ticks(void)
@@ -335,7 +356,6 @@ static void usage(FILE *to)
           "  -S 1|2    stop bits (1)\n"
           "  -H MS     hold: how long the first byte of a burst waits for those after it (20)\n"
           "  -D MS     playout: how long what leaves waits for a sync of the disk (25)\n"
-          "  -G        no guard: what the receiver lets leave goes to the device as it is\n"
           "  -q        print no line for each note\n"
           "  -w NAME   record the ticks of both lines into NAME.device.ticks, NAME.sent.ticks,\n"
           "            NAME.came.ticks and NAME.received.ticks\n"
@@ -351,13 +371,21 @@ static int one_of(const char *word, const char *const *words)
     exit(2);
 }
 
+/* Returns the number that a word is, from 0 to a million, or -1. */
+static double number(const char *word)
+{
+    char *end;
+    double value = strtod(word, &end);
+    return end == word || *end != 0 || !(value >= 0 && value <= 1e6) ? -1 : value;
+}
+
 static void read_options(int argc, char **argv)
 {
     static const struct option longs[] = {{"help", no_argument, NULL, 'h'}, {0}};
     static const char *const dirs[] = {"ab", "ba", NULL}, *const kinds[] = {"rtu", "dnp3", "rtu24", "dnp24", NULL},
         *const parities[] = {"none", "even", "odd", NULL};
     int c, i;
-    while ((c = getopt_long(argc, argv, "k:s:r:id:p:b:P:S:H:D:Gqw:h", longs, NULL)) != -1) switch (c) {
+    while ((c = getopt_long(argc, argv, "k:s:r:id:p:b:P:S:H:D:qw:h", longs, NULL)) != -1) switch (c) {
     case 'k': opt.key = optarg; break;
     case 's': opt.sent = optarg; break;
     case 'r': opt.got = optarg; break;
@@ -367,12 +395,11 @@ static void read_options(int argc, char **argv)
         i = one_of(optarg, kinds);
         opt.kind.protocol = i % 2 ? YASIR_DNP3 : YASIR_RTU, opt.kind.profile = i / 2 ? YASIR_Y24 : YASIR_Y18;
         break;
-    case 'b': opt.baud = atoi(optarg); break;
+    case 'b': opt.baud = (int)number(optarg); break;
     case 'P': opt.parity = parities[one_of(optarg, parities)][0]; break;
-    case 'S': opt.stop = atoi(optarg); break;
-    case 'H': opt.hold_ms = atof(optarg); break;
-    case 'D': opt.playout_ms = atof(optarg); break;
-    case 'G': opt.guarded = 0; break;
+    case 'S': opt.stop = (int)number(optarg); break;
+    case 'H': opt.hold_ms = number(optarg); break;
+    case 'D': opt.playout_ms = number(optarg); break;
     case 'q': opt.quiet = 1; break;
     case 'w': opt.record = optarg; break;
     case 'h': usage(stdout); exit(0);
@@ -389,15 +416,17 @@ static void read_options(int argc, char **argv)
 
 static void make_box(way *w, uint8_t part, uint8_t direction, const char *path, const uint8_t *key, size_t key_len)
 {
-    static const char *const why[] = {"", "no such box", "no slot holds a number (-i makes a journal)",
-                                      "the journal is another link's", "no memory"};
+    static const uint8_t none[sizeof w->kept.slots];
+    const char *why[] = {"", "there is no such box", "isn't a journal, or is damaged: docs/JOURNAL.md says what to do",
+                         "is another link's", "there is no memory"};
     yasir_kind kind = opt.kind;
     uint8_t status;
     kind.part = part, kind.direction = direction;
     if (journal_open(&w->kept, path, opt.make, &kind) != 0) exit(3);
+    if (memcmp(w->kept.slots, none, sizeof none) == 0) why[YASIR_NO_JOURNAL] = "holds nothing but zeros";
     status = yasir_new(&w->box, &kind, key, key_len, w->kept.slots, sizeof w->kept.slots);
     if (status != YASIR_OK) {
-        fprintf(stderr, "bridge: %s: %s\n", path, why[status < 5 ? status : 1]);
+        fprintf(stderr, "journal %s: %s\n", path, why[status < 5 ? status : 1]);
         exit(3);
     }
 }
@@ -422,7 +451,7 @@ static void try_disk(way *w, const yasir_kind *kind)
     }
     if (slowest > (nanos)(opt.playout_ms * MS / 2))
         fprintf(stderr, "bridge: this disk took %.1f ms to sync: a playout of %.1f ms is short at %d baud\n",
-                slowest / 1e6, opt.playout_ms, opt.baud);
+                (double)slowest / 1e6, opt.playout_ms, opt.baud);
 }
 
 static void stop(int signal) { (void)signal; stopping = 1; }
@@ -430,26 +459,29 @@ static void stop(int signal) { (void)signal; stopping = 1; }
 int main(int argc, char **argv)
 {
     uint8_t key[64];
-    size_t key_len;
+    size_t place;
+    int device, link, key_len;
     pthread_t mover;
-    int device, link;
     struct sigaction action = {.sa_handler = stop};
+    if (take_places() != 0) { perror("bridge: /"); return 4; }
     read_options(argc, argv);
-    key_len = key_read(opt.key, key);
-    if (key_len == 0) { fprintf(stderr, "bridge: %s: no key\n", opt.key); return 3; }
-    make_box(&outgoing, YASIR_SEALER, opt.kind.direction, opt.sent, key, key_len);
-    make_box(&incoming, YASIR_CHECKER, !opt.kind.direction, opt.got, key, key_len);
+    key_len = key_read(opt.key, key, &place);
+    if (key_len < 0) { fprintf(stderr, "bridge: %s: it can't be read\n", opt.key); return 3; }
+    if (key_len == 0) { fprintf(stderr, "bridge: %s: it is no key, from byte %zu on\n", opt.key, place); return 3; }
+    make_box(&outgoing, YASIR_SEALER, opt.kind.direction, opt.sent, key, (size_t)key_len);
+    make_box(&incoming, YASIR_CHECKER, !opt.kind.direction, opt.got, key, (size_t)key_len);
     try_disk(&outgoing, &opt.kind);
     device = open_port(opt.device), link = open_port(opt.link);
     outgoing.from = incoming.to = device;
     outgoing.to = incoming.from = link;
-    if (opt.guarded && yasir_spacer_new(&incoming.guard, opt.kind.protocol, opt.kind.profile, WAITING) != YASIR_OK) {
+    if (yasir_spacer_new(&guard, opt.kind.protocol, opt.kind.profile, WAITING) != YASIR_OK) {
         fprintf(stderr, "bridge: no memory\n");
         return 4;
     }
     open_tape(&outgoing.took, "device"), open_tape(&outgoing.gave, "sent");
     open_tape(&incoming.took, "came"), open_tape(&incoming.gave, "received");
     tick_len = (nanos)((1 + 8 + (opt.parity != 'n') + opt.stop) * 1e9 / opt.baud);
+    signal(SIGPIPE, SIG_IGN);
     sigaction(SIGINT, &action, NULL), sigaction(SIGTERM, &action, NULL), sigaction(SIGHUP, &action, NULL);
     started = now();
     outgoing.last_came = incoming.last_came = started - 1000000000;
@@ -458,10 +490,9 @@ int main(int argc, char **argv)
     take_ticks();
     pthread_join(mover, NULL);
     end_tape(&outgoing.took), end_tape(&outgoing.gave), end_tape(&incoming.took), end_tape(&incoming.gave);
-    fprintf(stderr, "bridge: sealed to number %" PRIu64 ", received to number %" PRIu64 ", slowest sync %.1f ms, "
-            "bytes lost for want of room %" PRIu64 "\n", yasir_floor(&outgoing.box), yasir_floor(&incoming.box),
-            slowest_sync / 1e6, outgoing.in.lost + outgoing.out.lost + incoming.in.lost + incoming.out.lost);
-    yasir_free(&outgoing.box), yasir_free(&incoming.box);
-    if (incoming.guard.box) yasir_free(&incoming.guard);
-    return failed ? 4 : 0;
+    if (!failed)
+        fprintf(stderr, "bridge: sealed to number %" PRIu64 ", received to number %" PRIu64 ", slowest sync %.1f ms\n",
+                yasir_floor(&outgoing.box), yasir_floor(&incoming.box), (double)slowest_sync / 1e6);
+    yasir_free(&outgoing.box), yasir_free(&incoming.box), yasir_free(&guard);
+    return failed || untaped ? 4 : 0;
 }

@@ -6,14 +6,15 @@
 It needs a C compiler (CC, or cc if CC isn't set), and libmodbus for bridge/out/server. The library is proved first, and isn't
 built if a proof fails. The exit status is 0 if all was built, and 2 if something isn't installed or can't be built, which is named.
 """
-import os, shutil, subprocess, sys
+import os, shutil, subprocess, sys, time
 
 ROOT = os.path.dirname(os.path.dirname(os.path.abspath(__file__)))
 BRIDGE = os.path.join(ROOT, "bridge")
 OUT = os.path.join(BRIDGE, "out")
 CRATE = os.path.join(ROOT, "crates", "yasir_c")
 LIBRARY = os.path.join(CRATE, "out", "libyasir_c.a")
-FLAGS = ["-std=gnu11", "-O2", "-Wall", "-Wextra"]
+PROVED = os.path.join(OUT, "proved")  # an empty file that is as old as the last proof that ended well
+FLAGS = ["-std=gnu11", "-O2", "-Wall", "-Wextra", "-Wconversion"]
 PROGRAMS = {
     "filter": (["filter.c", "journal.c"], []),
     "bridge": (["bridge.c", "journal.c"], ["-pthread"]),
@@ -45,25 +46,41 @@ def kit():
     return os.path.dirname(ran(["rt", "doc"]).strip())
 
 
+def newest():
+    """When a source of a crate was changed last."""
+    paths = [os.path.join(ROOT, "crates.txt")]
+    for folder, folders, files in os.walk(os.path.join(ROOT, "crates")):
+        folders[:] = [name for name in folders if name not in ("out", "must-fail")]
+        paths += [os.path.join(folder, name) for name in files]
+    return max(map(os.path.getmtime, paths))
+
+
+def is_proved():
+    """Whether nothing has changed since the last proof that ended well."""
+    built = os.path.exists(PROVED) and os.path.exists(LIBRARY)
+    return built and max(newest(), os.path.getmtime(LIBRARY)) <= os.path.getmtime(PROVED)
+
+
 def library():
     """Proves and builds the library and the crates that it uses, as far as they have changed."""
     allocator = os.path.join(kit(), "c", "liblibc_c.a")
-    if not library.built:
+    if not is_proved():
         print("bridge_build: proves and builds crates/yasir_c and all that it uses: many minutes the first time", file=sys.stderr)
+        begun = time.time()
         ran(["rt", "lib"], cwd=CRATE)
-        library.built = True
+        os.makedirs(OUT, exist_ok=True)
+        if newest() < begun:
+            open(PROVED, "w").close()
     return [LIBRARY, allocator]
 
 
-library.built = False
-
-
-def build(name):
-    """Builds a program of bridge/, and returns its path."""
+def build(name, path=None, more=()):
+    """Builds a program of bridge/, and returns its path: the one that is given, or the one in bridge/out/. `more` is further words for
+    the compiler."""
     os.makedirs(OUT, exist_ok=True)
-    sources, more = PROGRAMS[name]
-    path = os.path.join(OUT, name)
-    ran([compiler(), *FLAGS, "-I", BRIDGE, *(os.path.join(BRIDGE, source) for source in sources), *library(), *more, "-o", path])
+    sources, words = PROGRAMS[name]
+    path = path or os.path.join(OUT, name)
+    ran([compiler(), *FLAGS, "-I", BRIDGE, *(os.path.join(BRIDGE, source) for source in sources), *more, *library(), *words, "-o", path])
     return path
 
 

@@ -1,14 +1,15 @@
 #!/usr/bin/env python3
-"""Runs `link_replay` with any of standard input, output and error closed, and checks what the run leaves.
+"""Runs `link_replay` and `link_live` with any of standard input, output and error closed, and checks what each run leaves.
 
-    python3 scripts/closed_streams.py [PROGRAM]
+    python3 scripts/closed_streams.py [PROGRAM] [LIVE]
 
 A file that a program opens gets the lowest file descriptor that is free. So if a stream is closed, a file of the run could
 take its place: a note would be written into the journal, or the key would be read as the input. Each command must end with
 status 5 if it needs its input and this is closed, and with status 6 if it must write and can't. The key must stay as it was,
 and the journal as it was or as a right run leaves it. What is in an open stream must be the front of what a right run writes,
 perhaps followed by a fault line. It ends with 1 if a run leaves anything else. It is no part of the gate: which descriptor a
-file gets is the system's choice.
+file gets is the system's choice. PROGRAM is crates/link_replay/out/link_replay and LIVE, a link_live, is
+crates/link_live/out/link_live unless they are given.
 """
 import itertools, os, subprocess, sys, tempfile
 
@@ -35,6 +36,9 @@ COMMANDS = [
     ("version", NEW, (1,)),
     ("trial rtu 7 3", NEW, (1,)),
 ]
+
+# The commands of `link_live`.
+LIVE_COMMANDS = COMMANDS[:2]
 
 
 def bytes_of(path):
@@ -91,29 +95,44 @@ def look_at(words, before, closed, right, seen, status):
     return faults
 
 
-def main():
-    program = built.program(sys.argv, 1)
+def texts(replay):
+    """The input of each command, other than the request, by a `link_replay`."""
+    link = replay.run("seal rtu ab KEY JOURNAL", REQUEST, NEW, ())[1]
+    received = replay.run("check rtu ab KEY JOURNAL", link, NEW, ())[1]
+    lists = {"check": [link], "replay": [REQUEST, link], "duplex": [REQUEST, link], "audit": [REQUEST, link, received]}
+    return {command: b"%\n".join(parts) for command, parts in lists.items()}
+
+
+def try_all(runs, name, commands, inputs):
+    """Runs each command with each choice of closed streams. Returns how many runs were made, and how many commands were wrong."""
     wrong = runs_made = 0
+    for words, before, needed in commands:
+        text = inputs.get(words.split()[0], REQUEST)
+        right, ends = runs.run(words, text, before, ()), []
+        wrong_here = right[0] != (11 if words.startswith("init") and before else 0)
+        for closed in itertools.chain.from_iterable(itertools.combinations(range(3), n) for n in range(4)):
+            seen, status = runs.run(words, text, before, closed), wanted(right[0], needed, closed)
+            faults = look_at(words, before, closed, right, seen, status)
+            runs_made += 1
+            ends.append("%s: %d" % ("".join(map(str, closed)) or "none", seen[0]))
+            for fault in faults:
+                print("wrong: %s %s with %s closed: %s" % (name, words, closed, fault))
+            wrong_here += bool(faults)
+        journal = "no journal" if before is None else "journal"
+        print("%-11s %-26s %s  closed and status  %s" % (name, words, journal, ", ".join(ends)))
+        wrong += wrong_here
+    return runs_made, wrong
+
+
+def main():
+    program, live = built.program(sys.argv, 1), built.program(sys.argv, 2, "link_live")
     with tempfile.TemporaryDirectory() as folder:
-        runs = Runs(program, folder)
-        link = runs.run("seal rtu ab KEY JOURNAL", REQUEST, NEW, ())[1]
-        received = runs.run("check rtu ab KEY JOURNAL", link, NEW, ())[1]
-        for words, before, needed in COMMANDS:
-            lists = {"check": [link], "replay": [REQUEST, link], "duplex": [REQUEST, link], "audit": [REQUEST, link, received]}
-            text = b"%\n".join(lists.get(words.split()[0], [REQUEST]))
-            right, ends = runs.run(words, text, before, ()), []
-            wrong_here = right[0] != (11 if words.startswith("init") and before else 0)
-            for closed in itertools.chain.from_iterable(itertools.combinations(range(3), n) for n in range(4)):
-                seen, status = runs.run(words, text, before, closed), wanted(right[0], needed, closed)
-                faults = look_at(words, before, closed, right, seen, status)
-                runs_made += 1
-                ends.append("%s: %d" % ("".join(map(str, closed)) or "none", seen[0]))
-                for fault in faults:
-                    print("wrong: %s with %s closed: %s" % (words, closed, fault))
-                wrong_here += bool(faults)
-            print("%-26s %s  closed and status  %s" % (words, "no journal" if before is None else "journal", ", ".join(ends)))
-            wrong += wrong_here
-    print("%d runs, %d wrong" % (runs_made, wrong))
+        replay = Runs(program, folder)
+        inputs = texts(replay)
+        tried = [try_all(replay, "link_replay", COMMANDS, inputs),
+                 try_all(Runs(live, folder), "link_live", LIVE_COMMANDS, inputs)]
+    wrong = sum(wrong for _, wrong in tried)
+    print("%d runs, %d wrong" % (sum(made for made, _ in tried), wrong))
     sys.exit(wrong > 0)
 
 

@@ -11,6 +11,7 @@ import difflib, os, subprocess, sys, tempfile, threading, time
 import timeline
 from killed import old_slot_of
 from lanes import Lanes, run_in
+from model import canonical, ticks_of
 from prove import crates_below, lines_of, prove_all, room_here
 
 ROOT = os.path.dirname(os.path.dirname(os.path.abspath(__file__)))
@@ -143,6 +144,27 @@ def show_guarded(name, folder):
     return same
 
 
+def silent_between(line, first, last):
+    """The text of a line, with silence in the ticks from the first one to the last one."""
+    ticks = ticks_of(line)
+    return canonical(ticks[:first] + [None] * (last + 1 - first) + ticks[last + 1:])
+
+
+def show_deaf(name, protocol, what, answer, folder):
+    """Shows the receiver over a link, and what a device reads of its line that answers, and doesn't listen, in these ticks: from the
+    first one to the last one."""
+    same = show_altered(name, protocol, what, "device", folder)
+    heard = os.path.join(folder, name + ".heard.ticks")
+    with open(os.path.join(folder, name + ".received.ticks")) as line, open(heard, "w") as written:
+        written.write(silent_between(line.read(), *answer))
+    acts = run(["read", protocol], heard)[0]
+    same &= show("read %s: the frames that it reads if it answers in ticks %d to %d, and doesn't listen meanwhile" % ((protocol,) + answer),
+                 acts, name + ".deaf_acts.txt")
+    print("A device that listens while it answers reads the first frame alone. One that doesn't misses the first byte of the burst, and acts")
+    print("on %s too, though that burst was refused. The receiver alone doesn't protect it (docs/DEVICES.md).\n" % acts.split()[-1])
+    return same
+
+
 def show_session(name, protocol, line, link, what, folder):
     """Shows both boxes over a line and a link at once: what was sealed, passed and read, and what passed and was never sealed."""
     print("== %s\n" % what)
@@ -246,10 +268,10 @@ def show_incident(folder):
 
 
 def session_of(protocol, title, side, altered):
-    """The words for timeline.py by which it shows a line and its link as an attacker left it, from texts that the program has
-    just written."""
+    """The words for timeline.py by which it shows a line from the control centre and its link as an attacker left it, from texts
+    that the program has just written."""
     expected = lambda name: os.path.join(EXAMPLES, "expected", name)
-    return [protocol, "title=" + title,
+    return [protocol, "title=" + title, "title.device=the control centre's line", "title.received=the line to the device",
             "device=" + os.path.join(EXAMPLES, side + ".ticks"), "sent=" + expected(side + ".link.ticks"),
             "came=" + os.path.join(EXAMPLES, altered + ".ticks"), "received=" + expected(altered + ".received.ticks"),
             "notes=" + expected(side + ".notes.txt"), "notes=" + expected(altered + ".verdicts.txt"),
@@ -276,6 +298,8 @@ def main():
         same &= show_side("outstation", "dnp3", "ab", "From the control centre to a DNP3 outstation", "outstation", folder)
         same &= show_altered("outstation_altered", "dnp3", "This link again", "outstation", folder)
         same &= show_guarded("byte_behind", folder)
+        same &= show_deaf("deaf_device", "rtu", "A link with a byte and a frame directly after it", (41, 47), folder)
+        same &= show_deaf("deaf_outstation", "dnp3", "A link with a frame inside a longer one", (40, 49), folder)
         same &= show_wrong_link(folder)
         same &= show_taken_over(folder)
         same &= show_sessions(folder)

@@ -4,7 +4,7 @@
     python3 scripts/live.py [SECONDS]
 
 The line is mbpoll - bridge - attacker - bridge - server, over pseudo-terminals at 9,600 baud with even parity, with both directions
-sealed and the guard on. mbpoll writes a register and reads all ten, while the attacker does ten sorts of things in turn, for at least
+sealed. mbpoll writes a register and reads all ten, while the attacker does ten sorts of things in turn, for at least
 SECONDS seconds (40 if not given). The value that the attacker tries to get into a register is never one that mbpoll writes.
 
 The exit status is 0 only if polls were answered, each sort of attack was done at least once, no attack changed a register, and the
@@ -141,14 +141,34 @@ def second_session(folder, programs, old, seconds, see):
         print("      %s" % last_line(session.text(end)))
 
 
+def notes_of(folder, end, words):
+    """The path of a file with the notes that begin with one of these words, of those that a bridge wrote."""
+    path = os.path.join(folder, "%s.%s.notes" % (end, words[0]))
+    with open(os.path.join(folder, end + ".log")) as log, open(path, "w") as notes:
+        notes.writelines(line for line in log if line.split(" ")[0] in words)
+    return path
+
+
+def drawn(folder, title, near, far):
+    """The words for timeline.py by which it shows the direction from the bridge `near` to the bridge `far`: the lines and the notes of
+    what the first one sealed, and of what the second one took from the link."""
+    (one, sender), (other, device) = near, far
+    ends = {"device": one, "sent": one, "came": other, "received": other}
+    lanes = [(lane, os.path.join(folder, "%s.%s.ticks" % (end, lane))) for lane, end in ends.items()]
+    notes = notes_of(folder, one, ("sealed", "unsealed")), notes_of(folder, other, ("passed", "refused", "dropped"))
+    return ["rtu", "title=" + title, "title.device=the line from " + sender, "title.received=the line to " + device,
+            *("%s=%s" % lane for lane in lanes), *("notes=" + path for path in notes)]
+
+
 def draw(folder, see):
-    """Writes the picture of the second session."""
+    """Writes the picture of the second session, with both directions."""
     os.makedirs(os.path.dirname(PAGE), exist_ok=True)
-    lanes = ["device=" + os.path.join(folder, "a.device.ticks"), "sent=" + os.path.join(folder, "a.sent.ticks"),
-             "came=" + os.path.join(folder, "b.came.ticks"), "received=" + os.path.join(folder, "b.received.ticks")]
-    page = subprocess.run([sys.executable, os.path.join(ROOT, "scripts", "timeline.py"), PAGE, "rtu", *lanes, "title=make live"],
-                          capture_output=True, text=True)
-    see(page.returncode == 0, "the picture of the session: %s%s" % (PAGE, page.stderr))
+    mbpoll, server = ("a", "mbpoll"), ("b", "the server")
+    sessions = drawn(folder, "make live: requests", mbpoll, server) + drawn(folder, "make live: replies", server, mbpoll)
+    page = subprocess.run([sys.executable, os.path.join(ROOT, "scripts", "timeline.py"), PAGE, *sessions], capture_output=True, text=True)
+    paths = [word.split("=", 1)[1] for word in sessions if word.startswith("notes=")]
+    counts = [sum(1 for _ in open(path)) for path in paths]
+    see(page.returncode == 0 and all(counts), "the picture of the session, with %d notes: %s%s" % (sum(counts), PAGE, page.stderr))
 
 
 def main():

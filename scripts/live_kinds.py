@@ -4,7 +4,7 @@
     python3 scripts/live_kinds.py [KIND..] [BAUD..]
 
 KIND is rtu, dnp3, rtu24 or dnp24, and BAUD is 9600 or 115200. Without them all kinds and rates are run. As in live.py, the line of
-each is a master, a bridge, an attacker, a bridge and a device, over pseudo-terminals, with the guard on. The device counts bytes: it
+each is a master, a bridge, an attacker, a bridge and a device, over pseudo-terminals. The device counts bytes: it
 takes as many as a request has, and acts on them at once. In a first session nobody attacks. In a second one, with the same journals,
 ten sorts of things are done to the requests.
 

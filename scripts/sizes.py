@@ -1,5 +1,6 @@
 #!/usr/bin/env python3
-"""Prints how many lines of definitions, code, contracts, proofs and tests each crate has.
+"""Prints how many lines of definitions, code, contracts, proofs and tests each crate has, what the headline rests on, and how far
+names, protocols and profiles reach.
 
     python3 scripts/sizes.py
 
@@ -12,20 +13,41 @@ It counts the lines that are neither blank nor only a comment:
     proofs        of proofs/
     edits         wrong bodies in must-fail/ (files)
 
-The last line has the definitions of this repository on which the headline can depend: those of its own file, and of all files of
-specs/ that it imports, directly or through others. Lines that import aren't counted there.
+Under the table are these counts:
+
+    what the headline rests on     the definitions that its record uses, those that these use, and so on, as scripts/definitions.py
+                                   finds them: a definition is a record, a data type or a function of specs/. Imports and `module`
+                                   lines aren't counted, nor are types and constants of src/ and words of the toolchain. Then the
+                                   same for the record of `replay` with all statuses, and for those of all commands. For comparison,
+                                   whole files: the headline's, and all that it imports, directly or through others
+    names in two or more crates    the names of definitions and stated laws of specs/ that are defined in more than one crate, and the
+                                   lines of all of their definitions but the longest of each name
+    a third protocol               the files outside dnp_link_frame with a line that has `dnp` in a word, in any case
+    a third profile                the files outside link_format and hmac_tag with a line that has `y24`, `rtu24`, `dnp24`, or the MAC
+                                   `HmacSha256` in a word, in any case and with or without `_`
+
+The last two leave out comments and tests, and tell files of src/, of specs/ and of proofs/ apart.
 """
 import collections, glob, os, re, sys
+
+from definitions import Spec, Specs, counts_of, rests_on
 
 ROOT = os.path.dirname(os.path.dirname(os.path.abspath(__file__)))
 COLUMNS = ("code", "contracts", "tests", "definitions", "proofs", "edits")
 CLAUSE = re.compile(r"(pub )?(requires|ensures|ghost)\b")
 TESTS = ("base_tests", "edge_tests", "device_tests", "capture_tests", "box_tests", "replay_tests")
 HEADLINE = os.path.join("link_replay", "specs", "ReplayCommand.antt")
+RECORDS = (("the headline rests on", Spec("link_replay", "ReplayCommand", "Headline")),
+           ("with all statuses of `replay` it is", Spec("link_replay", "ReplayCommand", "Replays")),
+           ("with all commands it is", Spec("link_replay", "Commands", "Does")))
+PARTS = (("src", "rt"), ("specs", "antt"), ("proofs", "antt"))
+# What names a protocol or a profile as a third one would be named, and the crates that are its own.
+THIRD = (("DNP3, as a third protocol would be,", re.compile(r"dnp", re.I), ("dnp_link_frame",)),
+         ("y24, as a third profile would be,", re.compile(r"y24|rtu24|dnp24|hmac_?sha_?256", re.I), ("link_format", "hmac_tag")))
 
 
 def lines_of(path):
-    with open(path) as file:
+    with open(path, encoding="utf-8") as file:
         return file.read().splitlines()
 
 
@@ -86,8 +108,8 @@ def sizes_of(crate):
     return found
 
 
-def rests_on(first):
-    """The files of specs/ on which the definitions of a file depend, and the file itself."""
+def brought_in(first):
+    """A file of specs/, and all files of specs/ that it imports, directly or through others."""
     found, left = set(), [first]
     while left:
         path = left.pop()
@@ -105,6 +127,52 @@ def definitions_in(path):
     return sum(not re.match(r"(unfoldable )?(pub )?use ", line) for line in lines)
 
 
+def files_of(crate, part, ending):
+    return glob.glob(os.path.join(ROOT, "crates", crate, part, "**", "*." + ending), recursive=True)
+
+
+def names_in_many(specs, crates):
+    """How many names are defined in two or more crates, and how many lines their definitions have beside the longest of each name."""
+    sizes, where = collections.defaultdict(list), collections.defaultdict(set)
+    for crate in crates:
+        for path in files_of(crate, "specs", "antt"):
+            module = os.path.relpath(path, os.path.join(ROOT, "crates", crate, "specs"))[:-len(".antt")].replace(os.sep, ".")
+            file = specs.file(crate, module)
+            for name, item in file.items.items():
+                sizes[name].append(file.size_of(item))
+                where[name].add(crate)
+    many = [name for name in sizes if len(where[name]) > 1]
+    return len(many), sum(sum(sizes[name]) - max(sizes[name]) for name in many)
+
+
+def files_that_name(crates, pattern, own):
+    """How many files of src/, specs/ and proofs/ outside these crates have a word with the pattern, outside comments and tests."""
+    found = []
+    for part, ending in PARTS:
+        found.append(0)
+        for crate in crates:
+            if crate in own or crate in TESTS:
+                continue
+            tests = test_files(os.path.join(ROOT, "crates", crate, "src"))
+            for path in files_of(crate, part, ending):
+                if path not in tests:
+                    found[-1] += any(pattern.search(line) for line in lines_of(path) if counts(line))
+    return found
+
+
+def print_reach(specs, crates):
+    """Prints on what the headline rests, and how far names, protocols and profiles reach."""
+    for what, record in RECORDS:
+        found = counts_of(specs, rests_on(specs, record))
+        print("%s %d definitions, %d lines, in %d files" % (what, found["definitions"], found["lines"], found["files"]))
+    files = brought_in(HEADLINE)
+    print("with whole files it is %d lines, in %d files" % (sum(map(definitions_in, files)), len(files)))
+    print("names in two or more crates: %d, with %d lines beside the longest of each" % names_in_many(specs, crates))
+    for what, pattern, own in THIRD:
+        found = tuple(files_that_name(crates, pattern, own))
+        print("%s is named outside its crates in %d files of src/, %d of specs/, %d of proofs/" % ((what,) + found))
+
+
 def main():
     named = (line.split("#")[0] for line in lines_of(os.path.join(ROOT, "crates.txt")))
     crates = [line.split(":")[0].split()[0] for line in named if line.strip()]
@@ -116,8 +184,8 @@ def main():
         whole += sizes
         print(row % ((crate,) + tuple(sizes[column] for column in COLUMNS)))
     print(row % (("all",) + tuple(whole[column] for column in COLUMNS)))
-    files = rests_on(HEADLINE)
-    print("\nthe headline rests on at most %d lines of definitions, in %d files" % (sum(map(definitions_in, files)), len(files)))
+    print()
+    print_reach(Specs(), crates)
     print("lines of proof for a line of code: %.1f; of definitions and contracts: %.1f"
           % (whole["proofs"] / whole["code"], (whole["definitions"] + whole["contracts"]) / whole["code"]))
 

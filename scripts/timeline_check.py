@@ -3,14 +3,14 @@
 
     python3 scripts/timeline_check.py [PART..] [picture=FILE]
 
-PART is one of example, outstation, words, altered, joined, replayed, malformed, escaped, dropped and load. Without one all
-are run. What a page must say is taken from the texts themselves, from examples/, and from the model (model.py), never from the
+PART is one of example, outstation, words, values, altered, joined, replayed, own, clock, small, collisions, malformed, escaped,
+dropped and load. Without one all are run. What a page must say is taken from the texts themselves, from examples/, and from the model (model.py), never from the
 page's own code. `load` makes a session of 100,000 frames, which must be shown within 3 s of processor time. `picture=FILE` writes
 the picture of docs/TIMELINE.md.
 It installs nothing: without a Chromium nothing is tested, and the status is 2. It is 0 only if all parts that were asked for
 are as they must be. It is no part of the gate.
 """
-import math, os, random, re, subprocess, sys, tempfile, time
+import datetime, json, math, os, random, re, subprocess, sys, tempfile, time
 
 import browser, model
 from model import Y18, Y24, Dnp3, Rtu
@@ -159,6 +159,19 @@ class Page:
             word, tick = note.split()[0], int(re.search(r" at (\d+)", note).group(1))
             if word not in without:
                 self.checked.true("%r on %s" % (note, TITLES[lane]), note in self.hover(lane, tick + shift))
+
+    def pills(self):
+        """What stands above the bursts: for each pill its lane, place, width, text, and how many notes it stands for."""
+        return json.loads(self.see("document.getElementById('lanes').dataset.pills"))
+
+    def outside(self, lane):
+        """What of a lane's cells isn't in view: in words, or "" if they are all in the window and in the part of it that has lanes."""
+        top, low, *limits = self.see(
+            "(() => {const lane = document.querySelector('[data-lane=%s]').getBoundingClientRect(),"
+            "stage = document.getElementById('stage').getBoundingClientRect();"
+            "return [lane.top + 30, lane.top + 62, stage.top, stage.bottom, 0, window.innerHeight];})()" % lane)
+        inside = limits[0] <= top and low <= limits[1] and limits[2] <= top and low <= limits[3]
+        return "" if inside else "cells from %d to %d, lanes from %d to %d, window to %d" % (top, low, limits[0], limits[1], limits[3])
 
     def troubles(self):
         """The ticks of the places of trouble, from the first one on, in the order in which the key n goes through them."""
@@ -390,6 +403,130 @@ def test_words(page):
             page.checked.true("%s of %s: %r" % (row, bytes(frame).hex(), shown), row in shown)
 
 
+def test_values(page):
+    """Checks that decoded values are found: registers, coils, values, addresses and lengths, and no codes and times."""
+    checked = page.checked
+    bodies = ["01060102ffff", "0105010aff00", "010304ffff0102", "011000100002040007ffff", "010300070002"]
+    frames = [list(bytes.fromhex(body)) for body in bodies]
+    line = [tick for frame in frames for tick in frame + list(Rtu.end(frame)) + [None] * 40]
+    page.make("rtu", "device=" + write(page, "values", model.canonical(line)))
+    # Words are found one behind the other, and the first letters of a word are enough. 65535 is ffff, 258 is 0102 and 266 is 010a. Nothing has 6 as a value: there it is a function's code.
+    for query, count in (("=65535", 3), ("65535", 3), ("=258", 2), ("=266", 1), ("=7", 2), ("=16", 1), ("=6", 0), ("register 258", 2),
+                         ("values 65535", 2), ("values 7 65535", 1), ("=1", 5), ("=655", 0)):
+        checked.equal("search for %s" % query, page.search(query), "1 of %d" % count if count else "nothing found")
+    page.search("values 65535")
+    checked.true("what a reply brings: %r" % page.details(), "values 65535 258" in page.details())
+    page.make(*words_of("dnp3", "Outstation", DNP_FILES, DNP_NOTES))
+    # In examples/outstation.ticks the first header, c0 from 0400 to 0001, and others go from 1024 to 1.
+    checked.true("an address", page.search("=1024").startswith("1 of "))
+    checked.equal("a control octet is none", page.search("=40"), "nothing found")
+
+
+def test_own(page):
+    """Checks lanes with names of their own, and names for the others."""
+    checked = page.checked
+    requests, replies = open(example("captures/modbus.ticks")).read().split("%\n")
+    page.make("rtu", "--lane", "requests,replies=" + example("captures/modbus.ticks"), "--lane", "all=" + write(page, "one", requests))
+    names = "[...document.querySelectorAll('[data-lane]')].map((lane) => lane.textContent)"
+    checked.equal("names", page.see(names), ["requests", "replies", "all"])
+    checked.equal("messages", page.messages(), [])
+    for index, (name, text) in enumerate((("requests", requests), ("replies", replies), ("all", requests))):
+        for tick, byte in enumerate(model.ticks_of(text)):
+            if byte is not None:
+                said = page.hover("own%d" % index, tick)
+                checked.equal("the lane %s at %d" % (name, tick), said[0], name)
+                checked.true("the byte at %d: %r" % (tick, said), any(row.startswith("%02x · byte " % byte) for row in said))
+    checked.equal("nothing is in trouble", page.text("place"), "none")
+    page.make(*words_of("rtu", "Requests", RTU_FILES, RTU_NOTES), "title.device=from the master", "title.received=to the device")
+    shown = [name.split("before")[0].split("after")[0] for name in page.see(names)]
+    checked.equal("names of the other lanes", shown, ["from the master", TITLES["sent"], TITLES["came"], "to the device"])
+    checked.equal("under the mouse", page.hover("received", 18)[0], "to the device")
+    page.make("rtu", "--lane", "one,two=" + write(page, "single", "+01\n"))
+    checked.true("a file with one line: %r" % page.messages(), "single: no line % is there, so two isn't shown." in page.messages())
+    for words in (["rtu", "--lane", "x"], ["rtu", "--lane"], ["rtu", "--lane", "a,b,c=" + example("altered.ticks")], ["rtu", "start=noon", "device=" + RTU_FILES["device"]],
+                  ["rtu", "title.sent=x"], ["rtu", "title.both=x", "device=" + RTU_FILES["device"]]):
+        wrong = subprocess.run([sys.executable, os.path.join(SCRIPTS, "timeline.py"), os.path.join(page.folder, "no.html"), *words],
+                               capture_output=True, text=True)
+        checked.true("%s is refused in words: %r" % (words[1:], wrong.stderr),
+                     wrong.returncode == 1 and wrong.stderr.startswith("timeline: ") and "Traceback" not in wrong.stderr)
+
+
+def test_clock(page):
+    """Checks the time of day, if a session has a start: in the page and on its axis; and a remark."""
+    checked, start = page.checked, datetime.datetime(2026, 11, 30, 23, 59, 59, 900000)
+    page.make(*words_of("rtu", "Requests", RTU_FILES, RTU_NOTES), "start=2026-11-30T23:59:59.9+01:00", "remark=Said of it <b>.")
+    for tick in (0, 7, 100, 171, 300):
+        time = start + datetime.timedelta(seconds=tick * 11 / 9600)
+        wanted = "%s.%03d+01:00" % (time.strftime("%Y-%m-%d %H:%M:%S"), round(time.microsecond / 1000))
+        checked.equal("the time of day at %d" % tick, page.hover("came", tick)[-1], "tick %d · %.1f ms · %s" % (tick, tick * 11 / 9.6, wanted))
+    page.search("@100")
+    checked.true("and on the right: %r" % page.details(), any("2026-12-01 00:00:00.015+01:00, for " in row for row in page.details()))
+    checked.equal("the remark", page.text("remark"), "Said of it <b>.")
+
+
+SIZES = ((800, 600), (1400, 800))
+
+
+def test_small(page):
+    """Checks at two sizes that each place of trouble and each match of a search comes into view, and that the page needs no scrolling."""
+    checked = page.checked
+    for width, height in SIZES:
+        page.window.size(width, height)
+        page.make(*words_of("rtu", "Requests, as an attacker left the link", RTU_FILES, RTU_NOTES))
+        whole = page.see("document.documentElement.scrollHeight <= window.innerHeight && document.documentElement.scrollWidth <= window.innerWidth")
+        checked.true("the page is no larger than %d by %d" % (width, height), whole)
+        lanes, queries = set(), ["refused tag"] * 6 + ["sealed"] * 4
+        for step in range(11 + len(queries)):
+            if step < 11:
+                page.window.key("n")
+            else:
+                page.search(queries[step - 11])
+            lane = next(lane for lane in TITLES if page.details()[0].startswith(TITLES[lane]))
+            lanes.add(lane)
+            checked.equal("%s at %d by %d" % (page.details()[0], width, height), page.outside(lane), "")
+        checked.equal("lanes that were looked at", lanes, set(TITLES))
+
+
+def test_collisions(page):
+    """Checks at two sizes that with all ticks in view each note is in some pill, that no pills overlap, and what a pill of several says."""
+    checked, count = page.checked, 60
+    notes = {"device": 5, "sent": 4, "came": 8, "received": 7}
+    line = "".join("+010300000001840a\n-%d\n" % (30 if number % 3 else 200) for number in range(count))
+    ticks, told, tick = model.ticks_of(line), [], 0
+    for number, (start, _) in enumerate(model.bursts(ticks)):
+        told.append("unsealed at %d early" % start if number % 4 == 3 else "sealed %d at %d len 8" % (number + 1, start))
+    many = ["rtu", "device=" + write(page, "many", line), "notes=" + write(page, "told", "\n".join(told) + "\n")]
+    for width, height in SIZES:
+        page.window.size(width, height)
+        page.make(*words_of("rtu", "Requests", RTU_FILES, RTU_NOTES))
+        page.window.key("0")
+        look_at_pills(page, notes, width)
+        found = next(pill for pill in page.pills() if pill["lane"] == "came" and pill["count"] == 2)
+        left, top = page.see("(() => {const c = document.getElementById('lanes').getBoundingClientRect(),"
+                             "l = document.querySelector('[data-lane=came]').getBoundingClientRect(); return [c.left, l.top];})()")
+        page.window.mouse("mouseMoved", left + found["x"] + 5, top + 16)
+        said = page.see("[...document.getElementById('tip').children].map((row) => row.textContent)")
+        checked.equal("what a pill of two notes stands for", [row.split(",")[0] for row in said],
+                      [TITLES["came"] + ": refused 1", "@250 refused trailer", "@264 dropped busy"])
+        page.window.click(left + found["x"] + 5, top + 16)
+        checked.equal("a click shows each of them", [pill["count"] for pill in page.pills() if pill["lane"] == "came" and "busy" in pill["text"]], [1])
+        page.make(*many)
+        look_at_pills(page, {"device": count}, width)
+        texts = " ".join(pill["text"] for pill in page.pills())
+        checked.true("counts by word: %r" % texts, "sealed 2, unsealed 1" in texts or "sealed 3" in texts or re.search(r"\b[2-9]\b", texts))
+
+
+def look_at_pills(page, notes, width):
+    """Checks how many notes the pills of each lane stand for, and that they are in view, one beside the other."""
+    left, right = page.see("(() => {const c = document.getElementById('lanes').getBoundingClientRect(); return [c.left, c.right];})()")
+    for lane, count in notes.items():
+        pills = [pill for pill in page.pills() if pill["lane"] == lane]
+        page.checked.equal("notes of %s at a width of %d" % (lane, width), sum(pill["count"] for pill in pills), count)
+        ends = [pill["x"] + pill["wide"] for pill in pills]
+        page.checked.true("pills of %s don't overlap: %r" % (lane, pills), all(end <= other["x"] for end, other in zip(ends, pills[1:])))
+        page.checked.true("pills of %s are in view: %r" % (lane, pills), pills[0]["x"] >= 0 and ends[-1] <= right - left)
+
+
 def write(page, name, text):
     path = os.path.join(page.folder, name)
     with open(path, "w") as file:
@@ -596,8 +733,9 @@ def take_picture(page, path):
     page.window.picture(path)
 
 
-PARTS = {"example": test_example, "outstation": test_outstation, "words": test_words, "altered": test_altered, "joined": test_joined,
-         "replayed": test_replayed, "malformed": test_malformed,
+PARTS = {"example": test_example, "outstation": test_outstation, "words": test_words, "values": test_values, "altered": test_altered,
+         "joined": test_joined, "replayed": test_replayed, "own": test_own, "clock": test_clock, "small": test_small,
+         "collisions": test_collisions, "malformed": test_malformed,
          "escaped": test_escaped, "dropped": test_dropped, "load": test_load}
 
 

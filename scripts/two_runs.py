@@ -12,6 +12,7 @@ the system.
 import os, re, subprocess, sys, tempfile, threading, time
 
 import built
+from journal_calls import open_files
 from killed import KEY, floor_of
 
 PROGRAM = built.program(sys.argv, 1)
@@ -19,15 +20,6 @@ SECONDS = float(sys.argv[2]) if len(sys.argv) > 2 else 10
 RACERS, FRAMES = 8, 20
 FRAME = b"+01030000000ac5cd\n-40\n"
 REFUSED = (7, b"", b"fault: journal\n")
-
-
-def open_files(process):
-    """The paths of the files that a process has open, or no paths if they can't be seen."""
-    try:
-        places = "/proc/%d/fd" % process
-        return [os.readlink(os.path.join(places, place)) for place in os.listdir(places)]
-    except OSError:
-        return []
 
 
 class Journal:

@@ -83,13 +83,22 @@ function wordWords(session, lane, burst) {
   return lines;
 }
 
-function whenWords(tick, rate) {
-  return said(`tick ${tick} · ${timeWords((tick * rate.bits) / rate.baud)}`, "faint");
+/** When a tick begins: the time since tick 0, and the date and time of day if the session has a
+ * start. */
+function timesOf(session, tick, rate) {
+  const seconds = (tick * rate.bits) / rate.baud;
+  if (!session.start) return timeWords(seconds);
+  const { date, time, zone } = clockWords(session.start, seconds);
+  return `${timeWords(seconds)} · ${date} ${time}${zone}`;
+}
+
+function whenWords(session, tick, rate) {
+  return said(`tick ${tick} · ${timesOf(session, tick, rate)}`, "faint");
 }
 
 /** What is said of a silent tick. */
 function describeSilence(session, lane, tick, rate) {
-  const line = session.lanes[lane], lines = [said(LANE_TITLES[lane], "title")];
+  const line = session.lanes[lane], lines = [said(session.titles[lane], "title")];
   const burst = line.burstBefore(tick);
   if (burst >= 0 && tick < line.end(burst)) lines.push(...noteWords(session, lane, burst));
   const left = lane === "came" && session.comparison ? leftIn(session, tick) : -1;
@@ -99,7 +108,7 @@ function describeSilence(session, lane, tick, rate) {
   const to = next < line.at.length ? line.at[next] - 1 : line.ticks - 1;
   if (tick < line.ticks) lines.push(said(`silent from ${from} to ${to}, ${to - from + 1} ticks`));
   else lines.push(said("the recording has ended"));
-  return lines.concat(whenWords(tick, rate));
+  return lines.concat(whenWords(session, tick, rate));
 }
 
 /** The byte that left and is missing in a silent tick of the link as it came, or -1. */
@@ -121,14 +130,24 @@ function describeTick(session, lane, tick, rate) {
   const burst = line.burstOf(place), within = place - line.first[burst];
   const frame = session.frameOf(lane, burst);
   return [
-    said(LANE_TITLES[lane], "title"),
+    said(session.titles[lane], "title"),
     ...noteWords(session, lane, burst),
     ...changeWords(session, lane, burst, within),
     said(`${hexOf(line.bytes[place])} · ${partWords(session, lane, burst, within)}`, "code"),
     ...frameWords(frame, session.protocol).map((text) => said(text)),
     said(crcWords(frame, session.protocol)),
-    whenWords(tick, rate),
+    whenWords(session, tick, rate),
   ].filter((row) => row.text !== "");
+}
+
+/** What is said of a pill that stands for several notes. */
+function describePill(session, pill, most = 12) {
+  const { lane, notes } = pill, rows = notes.slice(0, most).map(({ burst, words, level }) => {
+    const kind = level === 2 ? "bad" : level === 1 ? "link" : "";
+    return said(`@${session.lanes[lane].start(burst)} ${words.join(", ")}`, kind);
+  });
+  if (notes.length > most) rows.push(said(`and ${notes.length - most} more`, "faint"));
+  return [said(`${session.titles[lane]}: ${countsText(notes)}`, "title"), ...rows];
 }
 
 /** All that there is to say of a burst. */
@@ -137,14 +156,14 @@ function describeBurst(session, lane, burst, rate) {
   const frame = session.frameOf(lane, burst), start = line.start(burst);
   const span = line.end(burst) - start + 1;
   const lines = [
-    said(`${LANE_TITLES[lane]}, ticks ${start} to ${line.end(burst)}`, "title"),
+    said(`${session.titles[lane]}, ticks ${start} to ${line.end(burst)}`, "title"),
     ...noteWords(session, lane, burst),
   ];
   if (note) lines.push(said(meaningOf(note, session.protocol), "faint"));
   lines.push(...frameWords(frame, session.protocol).map((text) => said(text)));
   lines.push(said(crcWords(frame, session.protocol)), ...wordWords(session, lane, burst));
-  const time = (ticks) => timeWords((ticks * rate.bits) / rate.baud);
-  lines.push(said(`${time(start)}, for ${time(span)}`, "faint"));
+  const long = timeWords((span * rate.bits) / rate.baud);
+  lines.push(said(`${timesOf(session, start, rate)}, for ${long}`, "faint"));
   return lines.filter((row) => row.text !== "");
 }
 
@@ -199,28 +218,35 @@ function hasWords(text, words) {
   return new RegExp(`(^|[^a-z0-9])${escaped.join(".*[^a-z0-9]")}`, "i").test(text);
 }
 
-/** What a search finds, in the order of ticks: `@TICK`, `#NUMBER`, hex, a number, or words. */
+/** Whether the words of a frame have this number: an address, a register, a coil, a count, a length
+ * or a value. Codes stand in brackets, in hex, and are no such numbers. */
+function hasValue(frame, protocol, digits) {
+  const text = frameWords(frame, protocol).join("; ").replace(/\([^)]*\)/g, "");
+  return new RegExp(`(^|[^0-9a-z.])${digits}([^0-9a-z.]|$)`, "i").test(text);
+}
+
+/** What a search finds, in the order of ticks: `@TICK`, `#NUMBER`, `=VALUE`, hex, a number, or
+ * words. */
 function search(session, query) {
   const text = query.trim().toLowerCase(), digits = text.replace(/\s+/g, "");
   if (text === "") return [];
   if (/^@\d+$/.test(digits)) return placeOf(session, Number(digits.slice(1)));
-  const found = [];
   const byNumber = /^#?\d+$/.test(digits) ? Number(digits.replace("#", "")) : -1;
-  if (byNumber >= 0) {
-    found.push(...findBursts(session, (lane, burst) => {
-      const note = session.noteOf(lane, burst);
-      return note !== undefined && note.number === byNumber;
-    }));
-  }
+  const isByValue = /^=?(0|[1-9]\d*)$/.test(text), value = text.replace("=", "");
+  const found = byNumber < 0 && !isByValue ? [] : findBursts(session, (lane, burst) => {
+    const note = session.noteOf(lane, burst);
+    if (byNumber >= 0 && note !== undefined && note.number === byNumber) return true;
+    return isByValue && hasValue(session.frameOf(lane, burst), session.protocol, value);
+  });
   if (/^([0-9a-f]{2})+$/.test(digits)) {
     const wanted = digits.match(/../g).map((pair) => parseInt(pair, 16));
     for (const lane of session.shown) found.push(...findBytes(session, lane, wanted));
-  } else if (byNumber < 0) {
+  } else if (byNumber < 0 && !isByValue) {
     const words = text.split(/\s+/);
     const isWanted = (lane, burst) => hasWords(wordsOf(session, lane, burst), words);
     found.push(...findBursts(session, isWanted));
   }
-  return found.sort((a, b) => a.tick - b.tick || LANES.indexOf(a.lane) - LANES.indexOf(b.lane));
+  return session.inOrder(found);
 }
 
 /** A tick as a place: the burst of the first lane that has one there, or the tick alone. */

@@ -4,6 +4,9 @@
 const AXIS = 40, PILL = 18, CELL_TOP = 30, CELL = 32, MOST_SCALE = 44;
 // The least width of a tick, in pixels, at which its byte is written.
 const READABLE = 15;
+// The least width from one pill to the next, which has room for a sign and a count, and the part of
+// it that lies between them.
+const LEAST_PILL = 60, GAP = 4;
 const PART_COLOURS = ["frame", "word", "tag", "noframe", "other", "fill"];
 // More bytes than this in view are painted as a density.
 const MOST_BYTES = 24000;
@@ -42,6 +45,29 @@ function roundStep(least) {
   }
 }
 
+/** What a pill says of some notes: the first of these texts for which there is room. Of one note
+ * they are all that is to be said, the note, its first word, and nothing but a sign. Of several they
+ * are all that is to be said, how many there are of each first word, and how many there are. */
+function notesText(notes, hasRoom) {
+  if (notes.length === 1) {
+    const [{ words }] = notes;
+    return [words.join(", "), words[0], words[0].split(" ")[0]].find(hasRoom) || "";
+  }
+  const all = notes.map(({ words }) => words.join(", ")).join(" | ");
+  const texts = [countsText(notes), String(notes.length)];
+  return (notes.length <= 3 ? [all, ...texts] : texts).find(hasRoom) || texts[1];
+}
+
+/** How many notes there are of each first word. */
+function countsText(notes) {
+  const counts = new Map();
+  for (const { words } of notes) {
+    const [word] = words[0].split(" ");
+    counts.set(word, (counts.get(word) || 0) + 1);
+  }
+  return [...counts].map(([word, count]) => `${word} ${count}`).join(", ");
+}
+
 class Painter {
   constructor(canvas) {
     this.canvas = canvas;
@@ -51,6 +77,7 @@ class Painter {
     this.rate = { baud: 9600, bits: 11 };
     this.hover = null;
     this.chosen = null;
+    this.pills = [];
     this.setFound([]);
     this.refresh();
   }
@@ -103,6 +130,7 @@ class Painter {
     this.width = fitted.width;
     this.height = fitted.height;
     this.pen = context;
+    this.pills = [];
     context.fillStyle = this.colours.panel;
     context.fillRect(0, 0, this.width, this.height);
     if (!this.session) return;
@@ -136,7 +164,7 @@ class Painter {
       pen.fillStyle = colours.ink;
       pen.fillText(String(tick), x + 5, 12);
       pen.fillStyle = colours.muted;
-      pen.fillText(timeWords((tick * rate.bits) / rate.baud), x + 5, 28);
+      pen.fillText(this.timeAt((tick * rate.bits) / rate.baud), x + 5, 28);
     }
     for (const lane of this.session.shown) {
       const y = Math.round(this.laneTop(lane)) + 0.5;
@@ -146,6 +174,12 @@ class Painter {
       pen.lineTo(this.width, y);
       pen.stroke();
     }
+  }
+  /** What the axis says of a time: the time of day if the session has a start, or else the time
+   * since tick 0. */
+  timeAt(seconds) {
+    const { start } = this.session;
+    return start ? clockWords(start, seconds).time : timeWords(seconds);
   }
   /** Where bytes are many: how much of each pixel's ticks they fill, and where trouble is. */
   paintDensity(lane) {
@@ -322,40 +356,51 @@ class Painter {
     pen.lineWidth = 2;
     pen.strokeRect(x - 2, top - 2, Math.max(3, wide) + 3, CELL + 4);
   }
-  /** The notes above the bursts: those of trouble first, the others where there is room. */
+  /** The notes above the bursts. Those that would lie on one another share one pill, and each pill
+   * says as much as there is room for up to the next one. */
   paintPills(lane, pills) {
-    const { pen, session } = this, taken = [], y = this.laneTop(lane) + 7;
+    const { pen } = this, y = this.laneTop(lane) + 7;
     pen.font = "12px system-ui, sans-serif";
-    const levels = session.levels[lane];
-    for (const wanted of [2, 1, 0]) {
-      for (const pill of pills) {
-        if (levels[pill.burst] !== wanted) continue;
-        const text = session.labelOf(lane, pill.burst).join(", ");
-        if (text === "") continue;
-        const wide = pen.measureText(text).width + 24;
-        const whole = Math.min(pill.x, this.width - wide - 2);
-        const x = [whole, pill.x].map((each) => Math.max(2, each))
-          .find((each) => this.takeRoom(taken, each, wide));
-        if (x === undefined) {
-          if (wanted > 0) this.paintDot(pill.x, y + PILL - 5, wanted);
-          continue;
-        }
-        this.paintPill(x, y, wide, text, wanted, session.noteOf(lane, pill.burst));
-      }
+    const groups = this.groupPills(lane, pills), edge = this.width - 2;
+    let free = 2;
+    groups.forEach(({ left, notes }, index) => {
+      const isLast = index + 1 === groups.length;
+      const room = isLast ? edge - free : groups[index + 1].left - GAP - left;
+      const text = notesText(notes, (words) => this.pillWidth(words) <= room);
+      const wide = this.pillWidth(text), x = Math.max(free, Math.min(left, edge - wide));
+      const level = Math.max(...notes.map((each) => each.level));
+      const worst = notes.find((each) => each.level === level);
+      this.paintPill(x, y, wide, text, level, worst.note);
+      this.pills.push({ lane, x, wide, text, notes });
+      free = x + wide + GAP;
+    });
+  }
+  /** Puts the notes of bursts into groups: one that begins less than the least width of a pill
+   * behind the first one of a group belongs to it. */
+  groupPills(lane, pills) {
+    const { session } = this, groups = [];
+    for (const { burst, x } of pills) {
+      const words = session.labelOf(lane, burst), last = groups[groups.length - 1];
+      if (words.length === 0) continue;
+      const left = Math.max(2, Math.min(x, this.width - LEAST_PILL));
+      const level = session.levels[lane][burst];
+      const note = { burst, words, level, note: session.noteOf(lane, burst) };
+      if (last && left < last.left + LEAST_PILL) last.notes.push(note);
+      else groups.push({ left, notes: [note] });
     }
+    return groups;
   }
-  /** Takes room for a note from x on, if no other one has it. */
-  takeRoom(taken, x, wide) {
-    const index = lowerBound(taken.map((other) => other.x), x);
-    const before = taken[index - 1], after = taken[index];
-    if (before && before.x + before.wide + 4 > x) return false;
-    if (after && x + wide + 4 > after.x) return false;
-    taken.splice(index, 0, { x, wide });
-    return true;
+  /** The pill at a place of the canvas, if it stands for several notes. */
+  pillAt(x, y) {
+    const isOn = (pill) => {
+      const top = this.laneTop(pill.lane) + 7;
+      return pill.notes.length > 1 && x >= pill.x && x < pill.x + pill.wide
+        && y >= top && y < top + PILL;
+    };
+    return this.pills.find(isOn);
   }
-  paintDot(x, y, level) {
-    this.pen.fillStyle = level === 2 ? this.colours.bad : this.colours.altered;
-    this.pen.fillRect(x, y, 3, 5);
+  pillWidth(text) {
+    return text === "" ? 22 : this.pen.measureText(text).width + 24;
   }
   paintPill(x, y, wide, text, level, note) {
     const { pen, colours } = this;

@@ -8,7 +8,9 @@ function showTip(page, event) {
   const tick = Math.floor(painter.tickAt(event.clientX - box.left));
   if (!lane || tick < 0 || tick >= painter.session.ticks) return hideTip(page);
   painter.hover = { lane, tick: nearest(painter, lane, event.clientX - box.left) };
-  const lines = describeTick(painter.session, lane, painter.hover.tick, painter.rate);
+  const pill = painter.pillAt(event.clientX - box.left, event.clientY - box.top);
+  const lines = pill ? describePill(painter.session, pill)
+    : describeTick(painter.session, lane, painter.hover.tick, painter.rate);
   tip.replaceChildren(...lines.map((row) => element("div", `said ${row.kind}`, row.text)));
   tip.hidden = false;
   const right = event.clientX + 18 + tip.offsetWidth > window.innerWidth;
@@ -74,9 +76,14 @@ function listenToMouse(page) {
   }, { passive: false });
 }
 
-/** Keeps the burst that was clicked. */
+/** Keeps the burst that was clicked, or zooms in on those of a pill that stands for several. */
 function keepAt(page, event) {
   const { painter } = page, box = painter.canvas.getBoundingClientRect();
+  const pill = painter.pillAt(event.clientX - box.left, event.clientY - box.top);
+  if (pill) {
+    const at = painter.session.lanes[pill.lane], last = pill.notes[pill.notes.length - 1];
+    return page.show(at.start(pill.notes[0].burst), at.end(last.burst) + 1, pill.lane);
+  }
   const lane = painter.laneAt(event.clientY - box.top);
   if (!lane) return;
   const tick = nearest(painter, lane, event.clientX - box.left), line = painter.session.lanes[lane];

@@ -78,15 +78,16 @@ class Page {
   /** Reads the texts of the session anew, and makes its lines and notes. */
   build() {
     this.messages = [];
-    const lanes = {}, notes = [];
-    for (const text of this.current.texts) this.take(text, lanes, notes);
-    const hasLine = LANES.some((lane) => lanes[lane]);
+    const lanes = {}, notes = [], titles = { ...this.current.titles };
+    for (const text of this.current.texts) this.take(text, lanes, notes, titles);
+    const hasLine = Object.keys(lanes).length > 0;
     const word = PROTOCOLS[this.current.protocol] ? this.current.protocol : guessProtocol(lanes);
-    const session = hasLine ? new Session(word, lanes, notes) : null;
+    const session = hasLine ? new Session(word, lanes, notes, titles) : null;
     if (!hasLine && this.current.texts.length > 0) {
       this.message("No line is here: notes alone can't be shown.");
     }
     this.setRate(this.current.rate || { baud: 9600, bits: PROTOCOLS[word].dnp ? 10 : 11 });
+    if (session) session.start = this.current.start;
     byId("protocol").value = word;
     if (session) this.tellStrays(session.strays);
     this.painter.session = session;
@@ -103,8 +104,8 @@ class Page {
     const more = `${strays.length - 5} more notes that fit no burst.`;
     this.message(`${more} Do these texts belong together?`);
   }
-  /** Reads one text into the lanes and notes. */
-  take(text, lanes, notes) {
+  /** Reads one text into the lanes and notes, and the names of lanes of its own into the titles. */
+  take(text, lanes, notes, titles) {
     if (text.lane === "none") return;
     if (text.lane === "notes") {
       return this.takeNotes(text, notes);
@@ -114,14 +115,31 @@ class Page {
       this.message(`${text.name}: line ${fault.row} ${fault.cause} (${CAUSES[fault.cause]}). `
         + "The lines before it are shown.");
     }
-    const homes = text.lane === "both" ? ["device", "came"] : [text.lane];
+    const homes = this.homesOf(text, lanes, lines, titles);
     if (lines.length > homes.length) {
       this.message(`${text.name}: what stands behind the mark isn't shown.`);
+    }
+    if (text.lane === "own" && lines.length < homes.length) {
+      this.message(`${text.name}: no line % is there, so ${text.names[1]} isn't shown.`);
     }
     homes.forEach((lane, index) => {
       if (!lines[index]) return;
       if (!lanes[lane]) lanes[lane] = lines[index];
       else this.message(`${text.name}: ${LANE_TITLES[lane]} has another text; this isn't shown.`);
+    });
+  }
+  /** The lanes of a text's lines. Lines of their own get new lanes, with their names or the file's
+   * name. */
+  homesOf(text, lanes, lines, titles) {
+    if (text.lane === "both") return ["device", "came"];
+    if (text.lane !== "own") return [text.lane];
+    const own = (_, index) => (index ? `${text.name}, behind the %` : text.name);
+    const names = text.names || lines.map(own);
+    const first = Object.keys(lanes).length;
+    return names.map((name, index) => {
+      const lane = `own${first + index}`;
+      titles[lane] = name;
+      return lane;
     });
   }
   takeNotes(text, notes) {
@@ -146,6 +164,7 @@ class Page {
     byId("empty").hidden = session !== null;
     document.body.classList.toggle("without", session === null);
     byId("messages").replaceChildren(...this.messages.map((text) => element("p", "", text)));
+    byId("remark").textContent = this.current.remark || "";
     this.tellCounts();
     this.tellTexts();
     this.tellLabels();
@@ -177,7 +196,8 @@ class Page {
   }
   tellTexts() {
     const choices = [...LANES.map((lane) => [lane, LANE_TITLES[lane]]),
-      ["both", "the device's line, % and the link"], ["notes", "notes"], ["none", "not shown"]];
+      ["both", "the device's line, % and the link"], ["own", "a line of its own"],
+      ["notes", "notes"], ["none", "not shown"]];
     byId("texts").replaceChildren(...this.current.texts.map((text) => {
       const row = element("div"), select = element("select");
       row.append(element("span", "", text.name), select);
@@ -199,9 +219,10 @@ class Page {
       came: "before the receiver", received: `after the receiver, ${delay} ticks later`,
     };
     byId("labels").replaceChildren(...(session ? session.shown : []).map((lane) => {
-      const label = element("div", "", LANE_TITLES[lane]);
+      const label = element("div", "", session.titles[lane]);
       label.dataset.lane = lane;
-      label.append(element("small", "", own[lane]));
+      label.title = session.titles[lane];
+      label.append(element("small", "", own[lane] || ""));
       return label;
     }));
   }
@@ -224,7 +245,7 @@ class Page {
     row.style.top = `${index * ROW}px`;
     row.append(element("i", session.levels[lane][burst] === 1 ? "link" : ""),
       element("b", "", `@${trouble.tick}`), session.labelOf(lane, burst).join(", "));
-    row.title = LANE_TITLES[lane];
+    row.title = session.titles[lane];
     row.addEventListener("click", () => this.goToTrouble(index));
     return row;
   }
@@ -239,7 +260,7 @@ class Page {
       box.scrollTop = Math.max(0, top - box.clientHeight / 2);
     }
     this.keep(lane, burst);
-    this.show(session.lanes[lane].start(burst), session.lanes[lane].end(burst) + 1);
+    this.show(session.lanes[lane].start(burst), session.lanes[lane].end(burst) + 1, lane);
     this.tellTroubles();
   }
   /** The next place of trouble behind the one of now, the burst that is kept, or the left edge of
@@ -303,10 +324,10 @@ class Page {
     this.tellTroubles();
     byId("found").textContent = `${this.found.index + 1} of ${list.length}`;
     if (place.burst >= 0) this.keep(place.lane, place.burst);
-    this.show(place.tick, place.end + 1);
+    this.show(place.tick, place.end + 1, place.lane);
   }
-  /** Brings ticks into view, and zooms in where their bytes couldn't be read. */
-  show(from, to) {
+  /** Brings ticks of a lane into view, and zooms in where their bytes couldn't be read. */
+  show(from, to, lane) {
     const { painter } = this, room = painter.width;
     const fitting = Math.min(22, (0.8 * room) / (to - from + 8));
     const wide = (to - from) * painter.scale;
@@ -315,6 +336,14 @@ class Page {
     }
     painter.from = from - Math.max(6, (0.3 * room) / painter.scale - 0.3 * (to - from));
     this.paint();
+    this.scrollTo(lane);
+  }
+  /** Scrolls so far that a lane is in view where the lanes are higher than the window. */
+  scrollTo(lane) {
+    const stage = byId("stage"), top = this.painter.laneTop(lane);
+    const low = top + this.painter.laneHeight() - stage.clientHeight;
+    if (low > stage.scrollTop) stage.scrollTop = low;
+    if (top < stage.scrollTop) stage.scrollTop = top;
   }
   least() {
     return this.painter.width / (this.painter.session.span * 1.06 + 2);
@@ -359,6 +388,8 @@ class Page {
     const { canvas } = painter;
     canvas.dataset.from = String(painter.from);
     canvas.dataset.scale = String(painter.scale);
+    canvas.dataset.pills = JSON.stringify(painter.pills
+      .map(({ lane, x, wide, text, notes }) => ({ lane, x, wide, text, count: notes.length })));
     const high = painter.laneHeight();
     canvas.style.minHeight = `${AXIS + 84 * session.shown.length}px`;
     for (const label of byId("labels").children) {

@@ -1,6 +1,7 @@
 "use strict";
-// A session: up to four lines, their notes, and the places of trouble.
+// A session: its lines, their notes, and the places of trouble.
 
+// The lanes that boxes read and write. A line that no box reads or writes has a lane of its own.
 const LANES = ["device", "sent", "came", "received"];
 const LANE_TITLES = {
   device: "the device's line", sent: "the link as sent",
@@ -26,7 +27,7 @@ function isFrame(bytes, protocol) {
 
 /** The protocol and profile that the lines look like. */
 function guessProtocol(lanes) {
-  const line = LANES.map((lane) => lanes[lane]).find((found) => found && found.bursts > 0);
+  const line = Object.values(lanes).find((found) => found.bursts > 0);
   if (!line) return "rtu";
   let dnp = 0;
   const looked = Math.min(line.bursts, 200);
@@ -51,11 +52,14 @@ function trailers(link, protocol) {
 }
 
 class Session {
-  constructor(word, lanes, notes) {
+  /** `titles` are the names of lanes; one that isn't named there has its usual name. */
+  constructor(word, lanes, notes, titles = {}) {
     this.word = word;
     this.protocol = PROTOCOLS[word];
     this.lanes = lanes;
-    this.shown = LANES.filter((lane) => lanes[lane]);
+    this.titles = { ...LANE_TITLES, ...titles };
+    const own = Object.keys(lanes).filter((lane) => !LANES.includes(lane));
+    this.shown = LANES.filter((lane) => lanes[lane]).concat(own);
     this.ticks = Math.max(1, ...this.shown.map((lane) => lanes[lane].ticks));
     // The ticks up to the last byte of all lines; behind it is silence that the boxes added.
     const ends = this.shown.map((lane) => lanes[lane]).filter((line) => line.bursts > 0)
@@ -84,7 +88,7 @@ class Session {
     const isFree = (note.word === "read" && this.protocol.dnp)
       || (note.why === "early" && lane === "sent");
     if (burst < 0 && !isFree) {
-      this.strays.push(`${note.text}: no burst of ${LANE_TITLES[lane]} begins there`);
+      this.strays.push(`${note.text}: no burst of ${this.titles[lane]} begins there`);
     }
     notes.set(note.tick, note);
     this.count(note.word, 1);
@@ -104,8 +108,10 @@ class Session {
   count(word, by) {
     this.counts.set(word, (this.counts.get(word) || 0) + by);
   }
-  /** The note of a burst: of `seal` on the first two lanes, of `check` on the others. */
+  /** The note of a burst: of `seal` on the first two lanes, of `check` on the next two, and none on
+   * those that no box reads or writes. */
   noteOf(lane, burst) {
+    if (!LANES.includes(lane)) return undefined;
     const start = this.lanes[lane].start(burst);
     if (lane === "device" || lane === "sent") return this.sealAt.get(start);
     return this.checkAt.get(lane === "came" ? start : start - this.protocol.delay);
@@ -148,7 +154,7 @@ class Session {
     const bytes = line.bytes.subarray(from, from + (isFilled ? parts.length : live));
     parts.fill(isFrame(bytes, this.protocol) ? FRAME : NO_FRAME, 0, live);
     parts.fill(isFilled ? FILL : OTHER, live);
-    if (lane === "device" || lane === "received") return parts;
+    if (lane !== "sent" && lane !== "came") return parts;
     const tick = line.at[from + live - 1] + CUT, length = this.protocol.word + this.protocol.tag;
     for (let place = live, byte = 0; place < parts.length && byte < length; place++, byte++) {
       if (line.at[from + place] !== tick + byte) break;
@@ -231,6 +237,11 @@ class Session {
       }
       this.levels[lane] = levels;
     }
-    return found.sort((a, b) => a.tick - b.tick || LANES.indexOf(a.lane) - LANES.indexOf(b.lane));
+    return this.inOrder(found);
+  }
+  /** Sorts places by their ticks, and those of one tick by their lanes. */
+  inOrder(places) {
+    const { shown } = this;
+    return places.sort((a, b) => a.tick - b.tick || shown.indexOf(a.lane) - shown.indexOf(b.lane));
   }
 }

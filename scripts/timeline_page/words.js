@@ -107,8 +107,8 @@ function roomFor(bytes, protocol) {
   return bytes.length >= 3 && bytes[2] >= 5 ? dnpSize(bytes[2]) : 292;
 }
 
-/** The function of a Modbus RTU frame, and what a request or reply of it asks, as far as its length
- * tells. */
+/** The function of a Modbus RTU frame, what it asks and which registers it brings, as far as its
+ * length tells. */
 function modbusWords(bytes) {
   if (bytes.length < 2) return [];
   const address = bytes[0] === 0 ? "to all devices" : `device ${bytes[0]}`;
@@ -119,16 +119,32 @@ function modbusWords(bytes) {
     const why = MODBUS_EXCEPTIONS[bytes[2]] || `code ${bytes[2]}`;
     return [`${address}: ${name}`, bytes.length > 4 ? `exception: ${why}` : "exception"];
   }
-  const lines = [`${address}: ${name}`];
-  if (bytes.length !== 8) return lines;
-  if (code >= 1 && code <= 4 && bytes[2] !== 3) {
-    lines.push(`from ${pair(2)} on, ${pair(4)} of them`);
-  } else if (code === 5) {
-    const states = { 0xff00: "on", 0: "off" };
-    lines.push(`coil ${pair(2)}: ${states[pair(4)] || pair(4)}`);
-  } else if (code === 6) lines.push(`register ${pair(2)}: ${pair(4)}`);
-  else if (code === 15 || code === 16) lines.push(`from ${pair(2)} on, ${pair(4)} of them`);
-  return lines;
+  const asked = askedWords(bytes, code, pair);
+  return [`${address}: ${name}`, ...asked, ...registerWords(bytes, code, pair)];
+}
+
+/** What a request of eight bytes asks, what a reply of eight bytes confirms, and where a request
+ * that brings many values writes them. */
+function askedWords(bytes, code, pair) {
+  const isWriteOfMany = (code === 15 || code === 16) && bytes.length === 9 + bytes[6];
+  const many = [`from ${pair(2)} on, ${pair(4)} of them`];
+  if (isWriteOfMany) return many;
+  if (bytes.length !== 8) return [];
+  const states = { 0xff00: "on", 0: "off" };
+  if (code === 5) return [`coil ${pair(2)}: ${states[pair(4)] || pair(4)}`];
+  if (code === 6) return [`register ${pair(2)}: ${pair(4)}`];
+  return code === 15 || code === 16 || (code >= 1 && code <= 4 && bytes[2] !== 3) ? many : [];
+}
+
+/** The registers that a reply brings, or that a request writes: a count of bytes, and two bytes for
+ * each. */
+function registerWords(bytes, code, pair) {
+  const count = code === 3 || code === 4 ? 2 : code === 16 ? 6 : -1;
+  const isRight = count > 0 && bytes.length === count + 3 + bytes[count];
+  if (!isRight || bytes[count] === 0 || bytes[count] % 2 === 1) return [];
+  const values = [], end = count + 1 + bytes[count];
+  for (let place = count + 1; place < end; place += 2) values.push(pair(place));
+  return [`${values.length === 1 ? "value" : "values"} ${values.join(" ")}`];
 }
 
 /** The header of a DNP3 frame, and the function of its application layer where it begins one. */
@@ -177,4 +193,11 @@ function timeWords(seconds) {
   const rest = `${(seconds - 60 * minutes).toFixed(2)} s`;
   if (minutes < 60) return `${minutes} min ${rest}`;
   return `${Math.floor(minutes / 60)} h ${minutes % 60} min ${rest}`;
+}
+
+/** The time of day at so many seconds after a start, to the millisecond, as a clock shows it that
+ * is set to the start. */
+function clockWords(start, seconds) {
+  const shown = new Date(Math.round(start.milliseconds + 1000 * seconds)).toISOString();
+  return { date: shown.slice(0, 10), time: shown.slice(11, 23), zone: start.zone };
 }

@@ -26,13 +26,13 @@ pub struct Kind {
 }
 
 impl Kind {
-    ghost use Rattle.sequence_journal.specs.Links.{IsLink};
+    ghost use Rattle.sequence_journal.specs.Links.{HasDirection};
     ghost use Rattle.any_box.specs.Kinds.{link_for};
 
     /// Returns the link of a box of this kind in a direction, as its journal names it.
     pub fn link(self, dir: Dir) -> LinkId
         ensures link { result ≡ link_for self dir }
-        ensures known { IsLink result }
+        ensures known { HasDirection result }
     {
         link_of(self.proto, self.profile, dir)
     }

@@ -12,7 +12,7 @@ use Rattle.replay_status.specs.declared.status.Status.TheVariants.{Done, Usage, 
 use Rattle.replay_status.specs.declared.status.Status.TheVariants.{WriteFault, JournalFault}
 use Rattle.replay_status.specs.declared.status.Status.TheVariants.{TooLong, HasJournal, BadKey}
 use Rattle.replay_status.specs.declared.status.Status.TheVariants.{BadJournal, WrongLink, NoMemory}
-use Rattle.sequence_journal.{proofs.SlotLemmas.no_own_floor, specs.Links.IsLink}
+use Rattle.sequence_journal.{proofs.SlotLemmas.no_own_floor, specs.Links.HasDirection}
 use Rattle.sequence_journal.specs.Loading.{FindsNone, FindsOther}
 use Rattle.sequence_journal.specs.Slots.{own_floor, any_floor, old_floor, any_number_held, greater}
 use Rattle.sequence_journal.specs.Slots.{floor_by, floor_of, place_of_greater, wrong_by}
@@ -67,7 +67,7 @@ no_key_refused given met now place read none =
 
 -- Slots that have a floor for the link aren't refused.
 module _ {link : LinkId} {told : Option Slots} (given : HoldsJournal link told) where
-  pub no_journal_refused : (a b : List ℕ) → IsLink link → FindsNone told a b → ⊥
+  pub no_journal_refused : (a b : List ℕ) → HasDirection link → FindsNone told a b → ⊥
   no_journal_refused a b right found =
       let finds : FindsNone (Some given.slots) a b =
       subst (λ t. FindsNone t a b) given.is found in
@@ -92,7 +92,7 @@ module _ {link : LinkId} {told : Option Slots} (given : HoldsJournal link told) 
       cc
 
 module _ {K S O L D : Type 0} (k : Source K) (s : Source S) (o : Sink O) (l : Sink L)
-    (d : SlotDisk D) (boxed : Setup → Boxed) (link : LinkId) (is_link : IsLink link)
+    (d : SlotDisk D) (boxed : Setup → Boxed) (link : LinkId) (directed : HasDirection link)
     (dir : Dir) (rest : ℕ) (before after : Outside K S O L D)
     (right : IsReplayable link (k.left before.key) (d.told before.disk) (s.left before.input))
     (calm : NoneRose (k.faults before.key) (k.faults after.key) (s.faults before.input)
@@ -128,6 +128,6 @@ module _ {K S O L D : Type 0} (k : Source K) (s : Source S) (o : Sink O) (l : Si
   replayable_done (BadKey place) h reads disk sinks =
       absurd (no_key_refused right.key h.text (k.left after.key) place h.met h.refused)
   replayable_done (BadJournal a b) h reads disk sinks =
-      absurd (no_journal_refused right.journal a b is_link h.runs.0)
+      absurd (no_journal_refused right.journal a b directed h.runs.0)
   replayable_done (WrongLink slot) h reads disk sinks =
       absurd (wrong_link_refused right.journal slot h.runs.0)

@@ -13,7 +13,7 @@ use Rattle.replay_status.specs.declared.status.Status.TheVariants.{TooLong, HasJ
 use Rattle.replay_status.specs.declared.status.Status.TheVariants.{BadJournal, WrongLink, NoMemory}
 use Rattle.sequence_journal.proofs.{LoadLemmas.while_loading, SlotLemmas.at_some}
 use Rattle.sequence_journal.proofs.{SlotLemmas.no_own_floor, UptimeLaws.ends-loading}
-use Rattle.sequence_journal.specs.{Journal.AreSameBut, Links.IsLink, Loading.IsOld}
+use Rattle.sequence_journal.specs.{Journal.AreSameBut, Links.HasDirection, Loading.IsOld}
 use Rattle.sequence_journal.specs.Slots.{any_floor, old_floor, floor_by, floor_of}
 use Rattle.sequence_journal.specs.declared.link.LinkId.{LinkId}
 use Rattle.std.proofs.Common.{◌≡◌, ◌∙◌, ◌⊎◌, ℕ, List, Option, Some, None, inl, inr, refl, sym, ap}
@@ -30,7 +30,7 @@ floor-told : (link : LinkId) (floor : ℕ) (told : Option Slots) (begins : Slots
 floor-told link floor told begins is has = subst (λ t. ToldFloor link floor t) is has
 
 -- the floor of a journal that isn't taken over yet
-floor-of-old : (link : LinkId) (n : ℕ) (slots : Slots) → IsLink link → IsOld n slots
+floor-of-old : (link : LinkId) (n : ℕ) (slots : Slots) → HasDirection link → IsOld n slots
     → floor_of link slots ≡ Some n
 floor-of-old link n slots right is_old =
     ap (λ o. floor_by o (any_floor slots) (old_floor slots))
@@ -38,7 +38,7 @@ floor-of-old link n slots right is_old =
     ∙ ap (λ o. floor_by None o (old_floor slots)) is_old.none ∙ is_old.number
 
 module _ {S O L D : Type 0} (s : Source S) (o : Sink O) (l : Sink L) (d : SlotDisk D)
-    (link : LinkId) (right : IsLink link) (box : ℕ → Boxed) (rest : ℕ)
+    (link : LinkId) (right : HasDirection link) (box : ℕ → Boxed) (rest : ℕ)
     (before after : Around S O L D) (begins image : Slots)
     (told : d.told before.disk ≡ Some begins)
     (one : OneImage (d.told before.disk) (d.may_leave before.disk))
@@ -112,7 +112,7 @@ module _ {S O L D : Type 0} (s : Source S) (o : Sink O) (l : Sink L) (d : SlotDi
 
 module _ {K S O L D : Type 0} (k : Source K) (s : Source S) (o : Sink O) (l : Sink L)
     (d : SlotDisk D)
-    (boxed : Setup → Boxed) (link : LinkId) (right : IsLink link) (dir : Dir) (rest : ℕ)
+    (boxed : Setup → Boxed) (link : LinkId) (right : HasDirection link) (dir : Dir) (rest : ℕ)
     (before after : Outside K S O L D)
     (begins image : Slots) (told : d.told before.disk ≡ Some begins)
     (one : OneImage (d.told before.disk) (d.may_leave before.disk))

@@ -4,7 +4,6 @@ ghost use Rattle.yasir_ticks.specs.Ticks.{silent};
 ghost use Rattle.yasir_ticks.specs.TickRun.{run_ticks, run_items};
 ghost use Rattle.yasir_ticks.specs.declared.TheConstants.{MAX_TICKS};
 ghost use Rattle.link_format.specs.Setup.{setup_of};
-ghost use Rattle.link_box.specs.Links.{AreLinks};
 ghost use Rattle.box_pair.specs.Directions.{opposite_of};
 ghost use Rattle.box_command.specs.KeptBox.{ticks_kept};
 ghost use Rattle.box_command.specs.BothBoxes.{keeping, KeepsBoth, AreSteady, both_taken};
@@ -32,8 +31,6 @@ impl<S: LineBox, C: LineBox> BothBoxes<S, C> {
     pub(crate) fn new(alloc: Global, key: &[u8], outgoing: Dir) -> BothBoxes<S, C>
         requires outgoing { S.widths_fit }
         requires incoming { C.widths_fit }
-        requires outgoing_links { AreLinks S.link_in }
-        requires incoming_links { AreLinks C.link_in }
         ensures none { both_taken S.LinkBox S.line_of C.LinkBox C.line_of result ≡ 0 }
         ensures steady { AreSteady S.LinkBox S.line_of C.LinkBox C.line_of result }
         ensures unmarked { result.marked ≡ false }

@@ -6,7 +6,7 @@ ghost use Rattle.tick_drive.specs.Drive.{answer_of};
 ghost use Rattle.box_command.specs.LinkBoxed.{boxed_of};
 ghost use Rattle.box_command.specs.ReplaysBox.{around_of, boxed_with, RunsBox, ReplaysBox};
 ghost use Rattle.box_command.specs.ReplaysBox.{KeepsFloorThroughout, BoxDiskCause};
-ghost use Rattle.sequence_journal.specs.Links.{IsLink};
+ghost use Rattle.sequence_journal.specs.Links.{HasDirection};
 ghost use Rattle.replay_status.specs.Causes.{InputCause, SinkCause};
 ghost use Rattle.replay_status.specs.Flushes.{FlushesAtEnd};
 ghost use Rattle.replay_status.specs.Ends.{outside_before, outside_after};
@@ -42,7 +42,7 @@ fn replay_keyed<B: LineBox, K: Source, S: Source, O: Sink, L: Sink, D: SlotDisk>
     ends: Ends<K, S, O, L, D>,
 ) -> Status
     requires widths { B.widths_fit }
-    requires link { IsLink link.now }
+    requires link { HasDirection link.now }
     requires of_box { link.now ≡ B.link_in dir }
     ensures runs { RunsBox S.Source O.Sink L.Sink D.SlotDisk link.now
         (boxed_with (boxed_of B.walking B.line_of) key.now dir) rest (around_of (outside_before ends.entry))
@@ -101,7 +101,7 @@ pub fn replay_box<B: LineBox, K: Source, S: Source, O: Sink, L: Sink, D: SlotDis
     ends: Ends<K, S, O, L, D>,
 ) -> Status
     requires widths { B.widths_fit }
-    requires link { IsLink link.now }
+    requires link { HasDirection link.now }
     requires of_box { link.now ≡ B.link_in dir }
     ensures replays { ReplaysBox K.Source S.Source O.Sink L.Sink D.SlotDisk
         (boxed_of B.walking B.line_of) link.now dir rest (outside_before ends.entry) (outside_after ends.exit) result }

@@ -10,9 +10,8 @@ ghost use Rattle.yasir_ticks.specs.declared.TheConstants.{MAX_TICKS};
 ghost use Rattle.burst_walk.specs.Answers.{note_in};
 ghost use Rattle.link_format.specs.Setup.{Setup, setup_of};
 ghost use Rattle.sequence_journal.specs.Journal.{journal_link, journal_floor, Fits};
-ghost use Rattle.sequence_journal.specs.Links.{IsLink};
+ghost use Rattle.sequence_journal.specs.Links.{HasDirection};
 ghost use Rattle.sequence_journal.specs.Slots.{greatest};
-ghost use Rattle.link_box.specs.Links.{AreLinks};
 ghost use Rattle.replay_lists.specs.FrameList.{Kept, Holds, IsWhole};
 ghost use Rattle.box_command.specs.TimedLines.{timed_lines};
 ghost use Rattle.box_command.specs.KeptBox.{timed_of, ticks_kept, AreTextsOf, KeepsLine, IsSteady};
@@ -57,7 +56,7 @@ pub(crate) struct KeptTexts {
 // Returns a new journal of this link, on a disk whose slots hold no number.
 fn new_journal(disk: &mut SteadySlots, link: &LinkId) -> Journal
     requires none { greatest (steady_slots disk.old) ≡ None }
-    requires link { IsLink link.now }
+    requires link { HasDirection link.now }
     ensures of_link { journal_link result ≡ link.now }
     ensures fits { Fits result (Some (steady_slots disk.new)) }
     ensures floor { journal_floor result ≡ 0 }
@@ -88,7 +87,6 @@ impl<B: LineBox> KeptBox<B> {
     /// Returns a box that has taken no tick.
     pub(crate) fn new(alloc: Global, key: &[u8], dir: Dir) -> KeptBox<B>
         requires widths { B.widths_fit }
-        requires links { AreLinks B.link_in }
         ensures none { ticks_kept result ≡ 0 }
         ensures steady { IsSteady B.LinkBox B.line_of result }
         ensures keeps { KeepsLine B.LinkBox B.line_of result (setup_of key.now dir 0) [] }

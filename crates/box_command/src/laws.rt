@@ -4,7 +4,7 @@ ghost use Rattle.yasir_io.specs.Disks.{Slots, OneImage};
 ghost use Rattle.hmac_tag.specs.declared.dir.Dir.{Dir};
 ghost use Rattle.link_format.specs.Setup.{Setup};
 ghost use Rattle.sequence_journal.specs.declared.link.LinkId.{LinkId};
-ghost use Rattle.sequence_journal.specs.Links.{IsLink};
+ghost use Rattle.sequence_journal.specs.Links.{HasDirection};
 ghost use Rattle.replay_status.specs.Outside.{Outside};
 ghost use Rattle.replay_status.specs.declared.status.Status.{Status};
 ghost use Rattle.box_command.specs.Boxes.{Boxed};
@@ -22,7 +22,7 @@ use yasir_io::{Sink, SlotDisk, Source};
 pub fn runs_are_uptimes<K: Source, S: Source, O: Sink, L: Sink, D: SlotDisk>()
     ensures { (boxed : Setup → Boxed) (link : LinkId) (dir : Dir) (rest : ℕ)
         (before after : Outside K S O L D) (status : Status) (begins image : Slots)
-        → IsLink link
+        → HasDirection link
         → ReplaysBox K.Source S.Source O.Sink L.Sink D.SlotDisk boxed link dir rest before after
         status
         → D.told before.disk ≡ Some begins

@@ -9,7 +9,6 @@ ghost use Rattle.yasir_ticks.specs.declared.TheConstants.{MAX_TICKS};
 ghost use Rattle.tick_drive.specs.Input.{IsReadCause, is_read_answer, max_ticks};
 ghost use Rattle.replay_status.specs.Causes.{SinkCause};
 ghost use Rattle.replay_status.specs.Flushes.{FlushesAtEnd};
-ghost use Rattle.link_box.specs.Links.{AreLinks};
 ghost use Rattle.box_command.specs.KeptBox.{timed_of};
 ghost use Rattle.box_command.specs.BothBoxes.{Setups, AreSteady, KeepsBoth, both_taken};
 ghost use Rattle.box_command.specs.Recording.{both_rest, steps_of, both_texts, both_with, both_lines};
@@ -97,8 +96,6 @@ pub fn record_both<S: LineBox, C: LineBox, I: Source>(
 ) -> Result<Recorded, End>
     requires outgoing { S.widths_fit }
     requires incoming { C.widths_fit }
-    requires outgoing_links { AreLinks S.link_in }
-    requires incoming_links { AreLinks C.link_in }
     ensures records { RecordsBoth (both_with (timed_of S.walking S.line_of)
         (timed_of C.walking C.line_of) key.now outgoing) (I.left input.old) (I.left input.new)
         result }

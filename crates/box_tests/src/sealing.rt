@@ -2,7 +2,7 @@
 ghost use Rattle.std.specs.Prelude.{◌≡◌, ◌<◌, length};
 ghost use Rattle.link_box.specs.Links.{link_by};
 ghost use Rattle.sequence_journal.specs.Journal.{journal_link, Fits};
-ghost use Rattle.sequence_journal.specs.Links.{IsLink};
+ghost use Rattle.sequence_journal.specs.Links.{HasDirection};
 ghost use Rattle.seal_transmitter.specs.Stands.{direction_of, ticks_taken};
 
 use dnp_link_frame::Dnp;
@@ -47,11 +47,12 @@ fn steps<R: LineRules, M: Mac, D: SlotDisk, const B: usize>(
     Ok(steps)
 }
 
-const KEY: u128 = 0x000102030405060708090a0b0c0d0e0f;
+/// The key of these tests.
+pub(crate) const KEY: u128 = 0x000102030405060708090a0b0c0d0e0f;
 
 // Returns slots with number 0x10202 for this link.
 fn slots_of(served: &LinkId) -> SteadySlots
-    requires { IsLink served.now }
+    requires { HasDirection served.now }
 {
     SteadySlots::new(slot_of(0x10202, served), [0; 24])
 }

@@ -424,6 +424,30 @@ fn runs_are_taken_at_once(rt: HostRuntime) -> Result<(), Fail> {
     take_resets::<ForgetfulSpacer>(&rt, rt.alloc())
 }
 
+// Takes a reset, a run of silence that is shorter, and more silence than it takes to send it.
+// Returns how many calls each of the two runs of silence took.
+fn take_in_parts<B: Spaces>(spacer: &mut B, line: &mut Vec<Tick>) -> Result<(u32, u32), AllocError>
+    requires { B.taken spacer.old ≡ 0 }
+{
+    let _ = take_all(spacer, TickRun::Bytes(RESET_LINK), line)?;
+    let front = take_all(spacer, TickRun::Silence(3), line)?;
+    let rest = take_all(spacer, TickRun::Silence(47), line)?;
+    Ok((front, rest))
+}
+
+const RESET_AND_SILENCE: &[Part] = &[Silence(10), Bytes(RESET_LINK), Silence(40)];
+
+// Each of the two runs has its part of the frame in one call. The silence after the frame takes two
+// more: the gap, and what follows it.
+#[test]
+fn the_rest_of_a_frame_is_sent_at_once(rt: HostRuntime) -> Result<(), Fail> {
+    let mut spacer = DnpSpacer::new(rt.alloc(), 64)?;
+    let mut line = Vec::new(rt.alloc());
+    assert_eq!(rt; take_in_parts(&mut spacer, &mut line)?, (1, 3));
+    assert!(rt; are_ticks_of(rt.alloc(), line.as_slice(), RESET_AND_SILENCE)?);
+    Ok(())
+}
+
 const LONG_SILENCE: &[Part] = &[Silence(900)];
 
 // Checks that silence passes in one run.

@@ -2,10 +2,10 @@
 //! synced.
 use crate::one_file::{Folder, OneFile, PATH, ROOM, file_of};
 use std::alloc::Global;
-use std::rt::Files;
 use std::test::Fail;
 use yasir_io::{
-    Durable, Failed, FileSlots, FileSource, Lock, Slot, SlotBytes, SlotDisk, SlotFile, Source,
+    Durable, Failed, FileSlots, FileSource, Lock, OpensFiles, Slot, SlotBytes, SlotDisk, SlotFile,
+    Source,
 };
 
 fn name(alloc: Global) -> Result<Option<String>, Fail> {
@@ -71,10 +71,11 @@ const READS: [Reads; 13] = [
     (32, 88, 0, 1, (Some(16), Some(16), Some(0), Some(0))),
     (19, 7, 0, 1, (Some(16), Some(3), Some(0), Some(0))),
     (0, 88, 0, 1, (Some(0), Some(0), Some(0), Some(0))),
-    // In turn, these fail: the opening, the lock and the first sync. The file isn't open then.
+    // In turn, these fail: the opening, the lock and the first sync. The next call tries again: it
+    // opens the file only if it isn't open.
     (80, 88, 1, 1, (None, Some(16), Some(24), Some(24))),
-    (80, 88, 2, 2, (None, Some(16), Some(24), Some(24))),
-    (80, 88, 3, 2, (None, Some(16), Some(24), Some(24))),
+    (80, 88, 2, 1, (None, Some(16), Some(24), Some(24))),
+    (80, 88, 3, 1, (None, Some(16), Some(24), Some(24))),
     // In turn, these fail: the seek for the first slot, the second of the reads for it, the read
     // for the next slot, and the seek for the last one.
     (80, 88, 4, 1, (None, Some(16), Some(24), Some(24))),
@@ -120,8 +121,8 @@ const WRITES: [Writes; 9] = [
     // In turn, these fail: the opening, the lock, the first sync, the seek, the write, and the sync
     // after it.
     (88, 1, false, true, 1, 2),
-    (88, 2, false, true, 2, 2),
-    (88, 3, false, true, 2, 2),
+    (88, 2, false, true, 1, 2),
+    (88, 3, false, true, 1, 2),
     (88, 4, false, true, 1, 2),
     (88, 5, false, true, 1, 2),
     (88, 6, true, false, 1, 1),
@@ -235,25 +236,18 @@ enum Act {
 }
 
 // Acts one after the other, and how many calls on the file each takes. The first one also opens,
-// locks and syncs the file. A write of a slot is a seek and a write. But if slot B is written after
-// slot A, with nothing but a sync between them, no seek is needed.
-const ACTS: [(Act, u32); 16] = [
+// locks and syncs the file. A read or a write of a slot is a seek, and then a read or a write.
+const ACTS: [(Act, u32); 10] = [
     (Act::Write(Slot::A), 5),
-    (Act::Write(Slot::B), 1),
-    (Act::Write(Slot::A), 2),
-    (Act::Sync, 1),
-    (Act::Write(Slot::B), 1),
+    (Act::Write(Slot::B), 2),
     (Act::Sync, 1),
     (Act::Write(Slot::B), 2),
     (Act::Write(Slot::A), 2),
     (Act::Write(Slot::A), 2),
     (Act::Read(Slot::A), 2),
     (Act::Write(Slot::B), 2),
-    (Act::Write(Slot::A), 2),
     (Act::ReadOld(Slot::B), 2),
     (Act::Write(Slot::B), 2),
-    (Act::Write(Slot::A), 2),
-    (Act::Write(Slot::B), 1),
 ];
 
 // Whether this act is done. A write is of bytes `mark`.
@@ -301,7 +295,7 @@ fn are_done(disk: &mut FileSlots<'_, Folder<'_>>, file: &OneFile) -> bool {
 }
 
 #[test]
-fn slot_b_follows_slot_a_without_a_seek(rt: HostRuntime) -> Result<(), Fail> {
+fn each_slot_is_written_at_its_place(rt: HostRuntime) -> Result<(), Fail> {
     let path = name(rt.alloc())?;
     let file = file_of(88, 88, 0);
     let folder = Folder(&file);
@@ -315,13 +309,13 @@ fn slot_b_follows_slot_a_without_a_seek(rt: HostRuntime) -> Result<(), Fail> {
 type Faults = (u32, (bool, bool, bool), u32);
 
 const FAULTS: [Faults; 5] = [
-    (0, (true, true, true), 8),
+    (0, (true, true, true), 9),
     // In turn, these fail: the seek to slot A, its write, and the first and the second write of
     // slot B.
     (4, (false, true, true), 8),
     (5, (false, true, true), 9),
-    (6, (true, false, true), 8),
-    (8, (true, true, false), 8),
+    (7, (true, false, true), 9),
+    (9, (true, true, false), 9),
 ];
 
 // A slot, the byte that is written to all of it, and whether this is done.
@@ -365,7 +359,7 @@ fn goes_on(path: Option<String>, row: &Faults) -> bool {
 }
 
 #[test]
-fn a_fault_is_followed_by_a_seek(rt: HostRuntime) -> Result<(), Fail> {
+fn a_fault_is_followed_by_a_write_at_its_place(rt: HostRuntime) -> Result<(), Fail> {
     for row in &FAULTS {
         assert!(rt; goes_on(name(rt.alloc())?, row));
     }
@@ -394,7 +388,7 @@ fn is_cut_short(
 }
 
 #[test]
-fn a_write_cut_short_is_followed_by_a_seek(rt: HostRuntime) -> Result<(), Fail> {
+fn a_write_cut_short_is_followed_by_one_at_its_place(rt: HostRuntime) -> Result<(), Fail> {
     let path = name(rt.alloc())?;
     let file = file_of(88, 23, 0);
     let folder = Folder(&file);
@@ -424,7 +418,7 @@ fn a_longer_file_is_synced_whole_in_the_end(rt: HostRuntime) -> Result<(), Fail>
 }
 
 /// Whether each call on a disk fails. The write is of bytes `byte`.
-pub fn all_fail<R: Files>(disk: &mut FileSlots<'_, R>, byte: u8) -> bool
+pub fn all_fail<R: OpensFiles>(disk: &mut FileSlots<'_, R>, byte: u8) -> bool
 where
     R::File: Lock + Durable,
 {

@@ -2,7 +2,7 @@
 ghost use Rattle.std.specs.Prelude.{◌≡◌, ◌+◌, ◌≤◌, ℕ, [], ◌∷◌, List, Some, IfSome};
 ghost use Rattle.yasir_io.specs.Disks.{Slots, OneImage};
 ghost use Rattle.sequence_journal.specs.Journal.{Fits};
-ghost use Rattle.sequence_journal.specs.Links.{IsLink};
+ghost use Rattle.sequence_journal.specs.Links.{HasDirection};
 ghost use Rattle.sequence_journal.specs.Slots.{floor_of};
 ghost use Rattle.sequence_journal.specs.Uptimes.{Step, answered, EndsInside, IsIdle, AreUptimes};
 
@@ -36,7 +36,20 @@ fn bytes_of(words: &[u64; 3]) -> [u8; 24] {
     bytes
 }
 
-const HELD: [(u64, LinkId, [u64; 3]); 4] = [
+// Links of a third protocol, and with profiles that the program doesn't have.
+const THIRD_AB_20: LinkId = LinkId {
+    label: 3,
+    dir: 0,
+    profile: 20,
+};
+
+const LAST_BA_0: LinkId = LinkId {
+    label: 255,
+    dir: 1,
+    profile: 0,
+};
+
+const HELD: [(u64, LinkId, [u64; 3]); 6] = [
     (0, RTU_AB, [0, 0x01001202_ffffffff, 0xffffffff_feffedfd]),
     (6, RTU_AB, [6, 0x01001202_ffffffff, 0xfffffff9_feffedfd]),
     (
@@ -49,12 +62,22 @@ const HELD: [(u64, LinkId, [u64; 3]); 4] = [
         RTU_AB,
         [0xffff_ffffffff, 0x01001202_ffff0000, 0x00000000_feffedfd],
     ),
+    (
+        5,
+        THIRD_AB_20,
+        [5, 0x03001402_ffffffff, 0xfffffffa_fcffebfd],
+    ),
+    (
+        65_536,
+        LAST_BA_0,
+        [65_536, 0xff010002_ffffffff, 0xfffeffff_00fefffd],
+    ),
 ];
 
 // Whether a slot is that of a number for this link.
 fn holds_number(n: u64, link: &LinkId, slot: &[u8; 24]) -> bool {
     n <= LIMIT
-        && link.is_known()
+        && link.has_direction()
         && slot_of(n, link) == *slot
         && number_in(slot, link) == Some(n)
         && link_in(slot) == Some((n, *link))
@@ -67,7 +90,7 @@ fn holds_none_for_other(link: &LinkId, slot: &[u8; 24]) -> bool {
         _ => 18,
     };
     let other = LinkId { profile, ..*link };
-    other.is_known() && number_in(slot, &other).is_none()
+    other.has_direction() && number_in(slot, &other).is_none()
 }
 
 // Whether a slot holds the number of a row, for its link alone.
@@ -85,9 +108,9 @@ fn a_slot_holds_a_number_for_a_link(rt: HostRuntime) {
 }
 
 // Slots that hold no number: nothing written, no complement, a complement that is wrong in its
-// first bit, one that is wrong in its last bit, a number above the limit, a version of 1, a label
-// of 3, a direction of 2 and a profile of 20.
-const NONE_HELD: [[u64; 3]; 9] = [
+// first bit, one that is wrong in its last bit, a number above the limit, a version of 1, and a
+// direction of 2.
+const NONE_HELD: [[u64; 3]; 7] = [
     [0, 0, 0],
     [0x1111111111111111, 0x1111111111111111, 0x1111111111111111],
     [5, 0x01001202_7fffffff, 0xfffffffa_feffedfd],
@@ -98,9 +121,7 @@ const NONE_HELD: [[u64; 3]; 9] = [
         0xffffffff_feffedfd,
     ],
     [5, 0x01001201_ffffffff, 0xfffffffa_feffedfe],
-    [5, 0x03001202_ffffffff, 0xfffffffa_fcffedfd],
     [5, 0x01021202_ffffffff, 0xfffffffa_fefdedfd],
-    [5, 0x01001402_ffffffff, 0xfffffffa_feffebfd],
 ];
 
 // Whether the slot with these words holds no number, for whatever link.
@@ -372,6 +393,14 @@ fn other_disks_are_refused(rt: HostRuntime) -> Result<(), Fail> {
     Ok(())
 }
 
+#[test]
+fn a_slot_of_a_third_protocol_is_another_links(rt: HostRuntime) -> Result<(), Fail> {
+    let slot = slot_of(5, &THIRD_AB_20);
+    let mut disk = disk_with(rt.alloc(), ([0; 16], [0; 16], slot, [0; 24]), 0)?;
+    assert!(rt; refusal(&mut disk) == Some(LoadError::WrongLink { slot }));
+    Ok(())
+}
+
 // Which call fails, whether the commit is done, what slot B then has, and the floor that a later
 // run loads.
 type CommitRow = (u32, bool, Content, u64);
@@ -507,7 +536,7 @@ fn a_new_journal_stands_at_zero(rt: HostRuntime) -> Result<(), Fail> {
 // An uptime that commits the next number, and ends inside the commit of the one after it, whose
 // result nobody hears. Returns the first of the two numbers.
 fn answer_one<D: SlotDisk>(disk: &mut D, link: &LinkId) -> Option<u64>
-    requires { IsLink link.now }
+    requires { HasDirection link.now }
     ensures next { IfSome result (λ n. (begins : Slots) (floor : ℕ) → D.told disk.old ≡ Some begins
         → floor_of link.now begins ≡ Some floor → n ≡ floor + 1) }
     ensures ends { IfSome result (λ n. (begins : Slots) (floor : ℕ) → D.told disk.old ≡ Some begins
@@ -532,7 +561,7 @@ fn answer_one<D: SlotDisk>(disk: &mut D, link: &LinkId) -> Option<u64>
 
 // An uptime that ends inside its load, whose result nobody hears.
 fn answer_none<D: SlotDisk>(disk: &mut D, link: &LinkId)
-    requires { IsLink link.now }
+    requires { HasDirection link.now }
     ensures idle { (begins image : Slots) (floor : ℕ) → D.told disk.old ≡ Some begins
         → floor_of link.now begins ≡ Some floor → OneImage (D.told disk.old) (D.may_leave disk.old)
         → D.left_since disk.new (D.moment disk.old) image → IsIdle link.now begins [] image }
@@ -542,7 +571,7 @@ fn answer_none<D: SlotDisk>(disk: &mut D, link: &LinkId)
 
 // Two uptimes as in `answer_one`. The second one begins on an image that the first one left.
 fn answer_twice<D: SlotDisk>(first: &mut D, second: &mut D, link: &LinkId) -> Option<(u64, u64)>
-    requires { IsLink link.now }
+    requires { HasDirection link.now }
     ensures are_uptimes { IfSome result (λ n. (begins image last : Slots) (floor : ℕ)
         → D.told first.old ≡ Some begins → floor_of link.now begins ≡ Some floor
         → OneImage (D.told first.old) (D.may_leave first.old)

@@ -6,7 +6,7 @@ use std::cell::Cell;
 use std::fs::{Metadata, OpenFile, OpenOptions};
 use std::io::{self, ErrorKind, Read, Seek, SeekFrom, Write};
 use std::rt::Files;
-use yasir_io::{Durable, Lock};
+use yasir_io::{Durable, Lock, OpensFiles};
 
 /// How many bytes the file has room for.
 pub const ROOM: usize = 88;
@@ -105,9 +105,9 @@ impl Drop for Opened<'_> {
 }
 
 impl Lock for Opened<'_> {
-    fn try_lock(&self) -> io::Result<()> {
+    fn try_lock(&mut self) -> io::Result<()> {
         self.file.begin()?;
-        if self.file.locked.get() {
+        if self.file.locked.get() && !self.has_lock.get() {
             return Err(ErrorKind::WouldBlock.into());
         }
         self.file.locked.set(true);
@@ -209,6 +209,12 @@ impl OpenFile for Opened<'_> {
         self.file.data_syncs.set(count);
         self.file.unsynced.set(self.file.longer.get());
         Ok(())
+    }
+}
+
+impl<'a> OpensFiles for Folder<'a> {
+    fn open_at(&self, how: &OpenOptions, path: &str) -> io::Result<Opened<'a>> {
+        how.open(self, path)
     }
 }
 

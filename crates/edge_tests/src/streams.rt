@@ -263,6 +263,10 @@ impl TellsLeft for &mut Outside {
 }
 
 impl TellsHeld for &mut Outside {
+    fn flush_out(&mut self) -> io::Result<()> {
+        self.flush()
+    }
+
     ghost knows_held = { λ old new known. known };
 }
 

@@ -3,7 +3,6 @@ ghost use Rattle.std.specs.Prelude.{◌≡◌, ◌≤◌, [], length, IfOk, IfEr
 ghost use Rattle.yasir_ticks.specs.declared.TheConstants.{MAX_TICKS};
 ghost use Rattle.yasir_io.specs.Causes.{Rose};
 ghost use Rattle.link_format.specs.Setup.{Setup, setup_of};
-ghost use Rattle.link_box.specs.Links.{AreLinks};
 ghost use Rattle.link_box.specs.Stepping.{ServesLink};
 ghost use Rattle.link_box.specs.Walking.{other_line};
 ghost use Rattle.sequence_journal.specs.Journal.{journal_floor};
@@ -77,7 +76,6 @@ fn through<X: LinkBox>(
     line: &[Tick],
 ) -> Result<Vec<Tick>, NotCarried>
     requires widths { X.widths_fit }
-    requires links { AreLinks X.link_in }
     requires room { length line.now ≤ MAX_TICKS }
     ensures long { IfOk result (λ other. length other.items ≡ length line.now) }
     ensures other { IfOk result (λ other. other.items

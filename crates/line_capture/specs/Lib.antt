@@ -11,4 +11,5 @@ pub mod Gives
 pub mod Able
 pub mod TakenAgain
 pub mod Programs
+pub mod Endings
 pub mod Collecting

@@ -26,33 +26,21 @@ pub use input::{Input, MAX_INPUT_BYTES, ReadEnd, read_input};
 pub use laws::what_was_given_is_taken;
 pub use outcome::{Outcome, log_outcome};
 pub use placing::{LineEnd, LineStop, MAX_LINE_TICKS, count_overlaps, write_line};
-pub use program::{run, words_after_name};
+pub use program::{run, run_over_args};
 pub use reader::FormReader;
 pub use records::{MAX_RECORD_BYTES, RecordForm, recorded};
+pub use replay_status::NOT_GIVEN;
 use std::process::ExitCode;
 pub use take::{Taking, take};
 pub use words::{Command, GiveForm, TakeForm, Usage, Ways, read_words};
 use yasir_io::{StderrSink, StdinSource, StdoutSink};
 
-/// The exit status of a run that got no words from its runtime: nothing is done.
-const NOT_GIVEN: u8 = 13;
-
-/// The exit status of a run that had no memory for its words.
-const NO_MEMORY: u8 = 9;
-
 fn main(rt: HostRuntime) -> ExitCode {
-    let Ok(args) = std::env::args(&rt) else {
-        return ExitCode::from(NOT_GIVEN);
-    };
-    let Ok(words) = words_after_name(rt.alloc(), args) else {
-        return ExitCode::from(NO_MEMORY);
-    };
-    let outcome = run(
+    ExitCode::from(run_over_args(
         rt.alloc(),
-        words.as_slice(),
+        std::env::args(&rt),
         &mut StdinSource::new(rt.stdin()),
         &mut StdoutSink::new(rt.stdout()),
         &mut StderrSink::new(rt.stderr()),
-    );
-    ExitCode::from(outcome.exit_status())
+    ))
 }

@@ -1,13 +1,14 @@
 //! A run of the program: its words, and what they ask for.
-ghost use Rattle.std.specs.Prelude.{◌≡◌, ◌↔◌, ◌≤◌, None, map, IfOk, drop};
-ghost use Rattle.std.specs.Vec.Iter.{into_iter_items};
+ghost use Rattle.std.specs.Prelude.{◌≡◌, ◌↔◌, ◌≤◌, None, map, IfOk, IsErr};
 ghost use Rattle.std.specs.String.{string_bytes};
 ghost use Rattle.yasir_io.specs.Causes.{Rose};
 ghost use Rattle.replay_status.specs.Causes.{SinkCause};
 ghost use Rattle.replay_status.specs.Flushes.{FlushesAtEnd};
+ghost use Rattle.replay_status.specs.Given.{words_after};
 ghost use Rattle.replay_status.specs.declared.status.Status.{Status};
 ghost use Rattle.line_capture.specs.Formats.{format_of};
 ghost use Rattle.line_capture.specs.Programs.{outside, Runs, Answers, RunCauses};
+ghost use Rattle.line_capture.specs.Endings.{EndsOverArgs};
 ghost use Rattle.line_capture.specs.Outcomes.{status_in};
 ghost use Rattle.line_capture.specs.Inputs.{told};
 ghost use Rattle.line_capture.specs.Takes.{Takes, held};
@@ -21,17 +22,11 @@ use crate::words::{Command, TakeForm, Usage, read_words};
 use capture_pcap::PcapReader;
 use capture_rows::{Logic2Reader, SigrokReader};
 use capture_text::TextReader;
-use replay_status::Status;
+use replay_status::{NOT_GIVEN, Status, words_after_name};
 use std::alloc::{AllocError, Global};
 use std::env::Args;
+use std::io;
 use yasir_io::{Sink, Source};
-
-/// Returns the words after the program's name.
-pub fn words_after_name(alloc: Global, args: Args) -> Result<Vec<String>, AllocError>
-    ensures { IfOk result (λ words. words.items ≡ drop 1 (into_iter_items args)) }
-{
-    args.skip(1).collect(alloc)
-}
 
 // Takes a capture of this form.
 fn take_form<S: Source, O: Sink, L: Sink>(
@@ -127,4 +122,31 @@ pub fn run<S: Source, O: Sink, L: Sink>(
     let outcome = answer(alloc, words, input, out, log);
     log_outcome(log, &outcome);
     outcome
+}
+
+/// Runs the program with the words after the first argument, which is its name. Returns the exit
+/// status.
+pub fn run_over_args<S: Source, O: Sink, L: Sink>(
+    alloc: Global,
+    args: io::Result<Args>,
+    input: &mut S,
+    out: &mut O,
+    log: &mut L,
+) -> u8
+    // If the runtime gives no words, nothing is done.
+    ensures no_words { IsErr args → result ≡ 13 }
+    ensures untouched { IsErr args
+        → outside input.new out.new log.new ≡ outside input.old out.old log.old }
+
+    // What was done, and the exit status.
+    ensures ends { IfOk args (λ given. EndsOverArgs S.Source O.Sink L.Sink (words_after given)
+        (outside input.old out.old log.old) (outside input.new out.new log.new) result) }
+{
+    let Ok(args) = args else {
+        return NOT_GIVEN;
+    };
+    match words_after_name(alloc, args) {
+        Ok(words) => run(alloc, words.as_slice(), input, out, log).exit_status(),
+        Err(AllocError) => Status::NoMemory.exit_status(),
+    }
 }

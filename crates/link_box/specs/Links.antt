@@ -1,10 +1,7 @@
 -- The link of a box.
 use Rattle.std.specs.Prelude.{ℕ, ◌+◌}
 use Rattle.line_rules.specs.declared.line_rules.LineRules.{Ghosts as LineRules}
-use Rattle.hmac_tag.specs.declared.dir.Dir.{Dir}
-use Rattle.hmac_tag.specs.declared.dir.Dir.TheVariants.{Ab, Ba}
 use Rattle.hmac_tag.specs.declared.tag.Mac.{Ghosts as Mac}
-use Rattle.sequence_journal.specs.Links.{IsLink}
 use Rattle.sequence_journal.specs.declared.link.LinkId.{LinkId}
 
 -- The link of a box, as its journals name it, for the rules of a protocol, a MAC, words of this
@@ -17,8 +14,3 @@ link_by proto macs word_len direction = record {
   dir = direction;
   profile = 4 + word_len + macs.TAG;
 }
-
--- Holds if journals can be made for the links of both directions.
-pub record AreLinks (link_in : Dir → LinkId) : Type 0 where
-  pub ab : IsLink (link_in Ab)
-  pub ba : IsLink (link_in Ba)

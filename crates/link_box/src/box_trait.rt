@@ -7,6 +7,7 @@ ghost use Rattle.burst_walk.specs.Answered.{answered};
 ghost use Rattle.hmac_tag.specs.declared.dir.Dir.{Dir};
 ghost use Rattle.link_format.specs.Setup.{Setup, setup_of};
 ghost use Rattle.sequence_journal.specs.declared.link.LinkId.{LinkId};
+ghost use Rattle.sequence_journal.specs.Links.{HasDirection};
 ghost use Rattle.sequence_journal.specs.Journal.{journal_floor};
 ghost use Rattle.link_box.specs.Walking.{Walking};
 ghost use Rattle.link_box.specs.Stepping.{MayStep, Steps, FailsStep, KeepsJournal};
@@ -44,10 +45,12 @@ pub trait LinkBox: Drop {
     /// The link of a box, by its direction.
     ghost link_in: { Dir → LinkId };
 
-    /// Returns the link of a box of this direction, which its journal serves.
+    /// Returns the link of a box of this direction. The box's journal must serve it, and journals
+    /// can, whatever the rules and the widths of the box are.
     fn link(dir: Dir) -> LinkId
         requires { widths_fit }
-        ensures { result ≡ link_in dir };
+        ensures value { result ≡ link_in dir }
+        ensures right { HasDirection result };
 
     /// Returns a box that has taken no tick, for a key of any length and a direction.
     fn new(key: &[u8], dir: Dir) -> Self

@@ -2,7 +2,7 @@
 -- nothing outside fails, the status is Done.
 use Rattle.{hmac_tag.specs.declared.dir.Dir.Dir, link_format.specs.Setup.Setup}
 use Rattle.replay_status.specs.{Statuses.fault_line, declared.status.Status.Status}
-use Rattle.sequence_journal.specs.{Links.IsLink, declared.link.LinkId.LinkId}
+use Rattle.sequence_journal.specs.{Links.HasDirection, declared.link.LinkId.LinkId}
 use Rattle.std.proofs.Common.{◌≡◌, ◌∙◌, ℕ, ◌+◌, List, [], ◌∷◌, ◌++◌, length, Option, Some, None}
 use Rattle.std.proofs.Common.{inl, inr, refl, sym, ap, subst, arith, append_assoc, length-append}
 use Rattle.std.specs.Io.KnownBytes.{prepend_known, IsAtEnd}
@@ -114,8 +114,8 @@ module _ (Heard : List Tick → Type 0) (Halts : Stop → List Tick → Type 0) 
 
 module _ {K P D : Type 0} (k : Source K) (p : Port P) (d : SlotDisk D) where
   -- If all that a box is given is right and no count of faults rose, the status is Done.
-  module _ (boxed : Setup → Boxed) (link : LinkId) (is_link : IsLink link) (dir : Dir) (rest : ℕ)
-      (key_before key_after : K) (before after : Around P D)
+  module _ (boxed : Setup → Boxed) (link : LinkId) (directed : HasDirection link) (dir : Dir)
+      (rest : ℕ) (key_before key_after : K) (before after : Around P D)
       (right : IsLivable link (k.left key_before) (d.told before.disk) (p.left before.port))
       (key_calm : ¬ Rose (k.faults key_before) (k.faults key_after))
       (read_calm : ¬ Rose (p.read_faults before.port) (p.read_faults after.port))
@@ -146,7 +146,7 @@ module _ {K P D : Type 0} (k : Source K) (p : Port P) (d : SlotDisk D) where
         absurd (no_key_refused right.key lives.text (k.left key_after) place lives.met
         lives.refused)
     lives_done (status.BadJournal a b) lives disk no_write =
-        absurd (no_journal_refused right.journal a b is_link lives.runs.0)
+        absurd (no_journal_refused right.journal a b directed lives.runs.0)
     lives_done (status.WrongLink slot) lives disk no_write =
         absurd (wrong_link_refused right.journal slot lives.runs.0)
 

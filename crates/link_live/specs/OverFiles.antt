@@ -1,8 +1,5 @@
 -- The program over a file system: which files are its key and its journal, and how it ends.
 use Rattle.std.specs.Prelude.{◌≡◌, ◌↔◌, ◌⊎◌, ℕ, List, Option, None}
-use Rattle.std.specs.declared.io.Read.{Ghosts as Read}
-use Rattle.std.specs.declared.io.Write.{Ghosts as Write}
-use Rattle.std.specs.declared.io.Seek.{Ghosts as Seek}
 use Rattle.yasir_io.specs.declared.source.Source.{Ghosts as Source}
 use Rattle.yasir_io.specs.declared.disk.SlotDisk.{Ghosts as SlotDisk}
 use Rattle.yasir_io.specs.declared.files.FileSource.{FileSource}
@@ -19,17 +16,17 @@ use Rattle.link_live.specs.LiveCommand.{around}
 use Rattle.link_live.specs.Programs.{Runs, KeepsDisk}
 use Rattle.link_live.specs.Words.{key_place, journal_place, word_in}
 
-module _ {R F D P : Type 0} {read : Read F} {write : Write F} {seek : Seek F} {in_dir : Read D}
+module _ {R F D P : Type 0}
     (k : Source (FileSource R F D)) (p : Port P)
-    (d : SlotDisk (FileSlots R F D read write seek in_dir)) where
+    (d : SlotDisk (FileSlots R F D)) where
   -- Holds if the program runs over the files whose paths are among its words, and does what the
   -- words ask for.
   pub record RunsOverFiles (words : List (List ℕ)) (asked : Option Command) (before after : P)
       (status : Status) : Type 0 where
     pub key_before : FileSource R F D
     pub key_after : FileSource R F D
-    pub disk_before : FileSlots R F D read write seek in_dir
-    pub disk_after : FileSlots R F D read write seek in_dir
+    pub disk_before : FileSlots R F D
+    pub disk_after : FileSlots R F D
     pub key : IsKeyFile (word_in words asked key_place) key_before
     pub journal : IsJournalFile (word_in words asked journal_place) Standing disk_before
     pub usage : (status ≡ Usage) ↔ (asked ≡ None)

@@ -1,6 +1,5 @@
 //! The calls of a port, in their order, while a live line is driven through either box.
 ghost use Rattle.std.specs.Prelude.{None};
-ghost use Rattle.link_box.specs.Links.{AreLinks};
 ghost use Rattle.live_port.specs.History.{untold};
 
 use crate::live_box::LiveBox;
@@ -71,7 +70,6 @@ impl<'a> Port for ToldPort<'a> {
 /// Returns the calls of a port whose pieces and then `rest` silent ticks are driven through a box.
 fn driven<X: LineBox>(pieces: &[&[u8]], rest: u32) -> Result<(ArrayVec<u8, 256>, End), Fail>
     requires widths { X.widths_fit }
-    requires links { AreLinks X.link_in }
 {
     let served = X::link(Dir::Ab);
     let mut disk = SteadySlots::new(slot_of(0, &served), [0; 24]);

@@ -1,7 +1,7 @@
 //! The command of a box on a live line: it reads the key, loads the journal, and drives the line
 //! through the box as it comes.
 ghost use Rattle.std.specs.Prelude.{◌≡◌, ◌≤◌};
-ghost use Rattle.sequence_journal.specs.Links.{IsLink};
+ghost use Rattle.sequence_journal.specs.Links.{HasDirection};
 ghost use Rattle.box_command.specs.LinkBoxed.{boxed_of};
 ghost use Rattle.box_command.specs.ReplaysBox.{boxed_with, KeepsFloorThroughout, BoxDiskCause};
 ghost use Rattle.link_live.specs.LiveCommand.{around, RunsLine, LivesBox, PortCauses};
@@ -34,7 +34,7 @@ fn live_keyed<B: LineBox, P: Port, D: SlotDisk>(
     disk: &mut D,
 ) -> Status
     requires widths { B.widths_fit }
-    requires link { IsLink of.now.link }
+    requires link { HasDirection of.now.link }
     requires of_box { of.now.link ≡ B.link_in of.now.dir }
     ensures runs { RunsLine P.Port D.SlotDisk of.now.link
         (boxed_with (boxed_of B.walking B.line_of) key.now of.now.dir) of.now.rest
@@ -63,7 +63,7 @@ pub fn live_line<B: LineBox, K: Source, P: Port, D: SlotDisk>(
     disk: &mut D,
 ) -> Status
     requires widths { B.widths_fit }
-    requires link { IsLink of.now.link }
+    requires link { HasDirection of.now.link }
     requires of_box { of.now.link ≡ B.link_in of.now.dir }
     ensures lives { LivesBox K.Source P.Port D.SlotDisk (boxed_of B.walking B.line_of) of.now.link
         of.now.dir of.now.rest key.old key.new (around port.old disk.old)

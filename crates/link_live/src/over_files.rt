@@ -14,8 +14,7 @@ use replay_status::{NOT_GIVEN, Status, take_places, words_after_name};
 use std::alloc::AllocError;
 use std::env::Args;
 use std::io;
-use std::rt::Files;
-use yasir_io::{Durable, FileSlots, FileSource, Lock, SlotDisk, SlotFile, Source};
+use yasir_io::{Durable, FileSlots, FileSource, Lock, OpensFiles, SlotDisk, SlotFile, Source};
 
 /// The place, counted from 0, of the word that is the path of the key's file.
 const KEY_PLACE: usize = 3;
@@ -47,7 +46,10 @@ fn path_at(words: &[String], place: usize) -> Result<Option<String>, AllocError>
 }
 
 // Returns the file of the key.
-fn key_file<'a, R: Files>(files: &'a R, words: &[String]) -> Result<FileSource<'a, R>, AllocError>
+fn key_file<'a, R: OpensFiles>(
+    files: &'a R,
+    words: &[String],
+) -> Result<FileSource<'a, R>, AllocError>
     ensures { IfOk result (λ key. (asked : Option Command) → Asks (map string_bytes words.now) asked
         → IsKeyFile (word_in (map string_bytes words.now) asked key_place) key) }
 {
@@ -55,7 +57,7 @@ fn key_file<'a, R: Files>(files: &'a R, words: &[String]) -> Result<FileSource<'
 }
 
 // Returns the file of the journal, which must exist already.
-fn journal_file<'a, R: Files>(
+fn journal_file<'a, R: OpensFiles>(
     files: &'a R,
     words: &[String],
 ) -> Result<FileSlots<'a, R>, AllocError>
@@ -71,7 +73,7 @@ where
 }
 
 // Runs the program with these words.
-fn run_words<'a, R: Files + AllocGlobal, P: Port>(
+fn run_words<'a, R: OpensFiles + AllocGlobal, P: Port>(
     system: &'a R,
     words: &[String],
     port: &mut P,
@@ -91,7 +93,7 @@ where
 
 /// Runs the program with the words after the first argument, which is its name. The key and the
 /// journal are files of this system. Returns the exit status.
-pub fn run_over_files<'a, R: Files + AllocGlobal, P: Port>(
+pub fn run_over_files<'a, R: OpensFiles + AllocGlobal, P: Port>(
     system: &'a R,
     args: io::Result<Args>,
     port: &mut P,

@@ -1,8 +1,5 @@
 -- The program over a file system: which files are its key and its journal, and how it ends.
 use Rattle.std.specs.Prelude.{◌≡◌, ◌↔◌, ◌⊎◌, ℕ, List, Option, Some, None}
-use Rattle.std.specs.declared.io.Read.{Ghosts as Read}
-use Rattle.std.specs.declared.io.Write.{Ghosts as Write}
-use Rattle.std.specs.declared.io.Seek.{Ghosts as Seek}
 use Rattle.yasir_io.specs.declared.source.Source.{Ghosts as Source}
 use Rattle.yasir_io.specs.declared.sink.Sink.{Ghosts as Sink}
 use Rattle.yasir_io.specs.declared.disk.SlotDisk.{Ghosts as SlotDisk}
@@ -46,17 +43,17 @@ streams input out log = record { input = input; out = out; log = log }
 abbrev pub with_files : {K S O L D : Type 0} → Streams S O L → K → D → Outside K S O L D
 with_files ends key disk = outside key ends.input ends.out ends.log disk
 
-module _ {R F D S O L : Type 0} {read : Read F} {write : Write F} {seek : Seek F} {in_dir : Read D}
+module _ {R F D S O L : Type 0}
     (k : Source (FileSource R F D)) (s : Source S) (o : Sink O) (l : Sink L)
-    (d : SlotDisk (FileSlots R F D read write seek in_dir)) where
+    (d : SlotDisk (FileSlots R F D)) where
   -- Holds if the program runs over the files whose paths are among its words, and does what the
   -- words ask for.
   pub record RunsOverFiles (words : List (List ℕ)) (asked : Option Command)
       (before after : Streams S O L) (status : Status) : Type 0 where
     pub key_before : FileSource R F D
     pub key_after : FileSource R F D
-    pub disk_before : FileSlots R F D read write seek in_dir
-    pub disk_after : FileSlots R F D read write seek in_dir
+    pub disk_before : FileSlots R F D
+    pub disk_after : FileSlots R F D
     pub key : IsKeyFile (path_in key_place words asked) key_before
     pub journal : IsJournalFile (path_in journal_place words asked) (journal_kind asked) disk_before
     pub usage : (status ≡ Usage) ↔ (asked ≡ None)

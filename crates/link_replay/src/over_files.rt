@@ -13,8 +13,9 @@ use replay_status::{NOT_GIVEN, Status, take_places, words_after_name};
 use std::alloc::AllocError;
 use std::env::Args;
 use std::io;
-use std::rt::Files;
-use yasir_io::{Durable, FileSlots, FileSource, Lock, Sink, SlotDisk, SlotFile, Source};
+use yasir_io::{
+    Durable, FileSlots, FileSource, Lock, OpensFiles, Sink, SlotDisk, SlotFile, Source,
+};
 
 // Returns a copy of the word at this place, or `None` if there is no such word.
 fn path_at(words: &[String], place: Option<usize>) -> Result<Option<String>, AllocError>
@@ -31,7 +32,10 @@ fn path_at(words: &[String], place: Option<usize>) -> Result<Option<String>, All
 }
 
 // Returns the file of the key.
-fn key_file<'a, R: Files>(files: &'a R, words: &[String]) -> Result<FileSource<'a, R>, AllocError>
+fn key_file<'a, R: OpensFiles>(
+    files: &'a R,
+    words: &[String],
+) -> Result<FileSource<'a, R>, AllocError>
     ensures { IfOk result (λ key. (asked : Option Command) → Asks (map string_bytes words.now) asked
         → IsKeyFile (path_in key_place (map string_bytes words.now) asked) key) }
 {
@@ -52,7 +56,7 @@ fn kind_of(words: &[String]) -> SlotFile
 }
 
 // Returns the file of the journal.
-fn journal_file<'a, R: Files>(
+fn journal_file<'a, R: OpensFiles>(
     files: &'a R,
     words: &[String],
 ) -> Result<FileSlots<'a, R>, AllocError>
@@ -68,7 +72,7 @@ where
 }
 
 // Runs the program with these words.
-fn run_words<'a, R: Files + AllocGlobal, S: Source, O: Sink, L: Sink>(
+fn run_words<'a, R: OpensFiles + AllocGlobal, S: Source, O: Sink, L: Sink>(
     system: &'a R,
     words: &[String],
     input: &mut S,
@@ -92,7 +96,7 @@ where
 
 /// Runs the program with the words after the first argument, which is its name. The key and the
 /// journal are files of this system. Returns the exit status.
-pub fn run_over_files<'a, R: Files + AllocGlobal, S: Source, O: Sink, L: Sink>(
+pub fn run_over_files<'a, R: OpensFiles + AllocGlobal, S: Source, O: Sink, L: Sink>(
     system: &'a R,
     args: io::Result<Args>,
     input: &mut S,

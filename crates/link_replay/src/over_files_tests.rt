@@ -13,7 +13,7 @@ use std::io::{self, ErrorKind, Read, Seek, SeekFrom, Write};
 use std::process::Abort;
 use std::rt::Files;
 use std::test::Fail;
-use yasir_io::{Durable, Lock, MemSink, MemSource, Plan};
+use yasir_io::{Durable, Lock, MemSink, MemSource, OpensFiles, Plan};
 
 const ROOM: usize = 80;
 
@@ -241,7 +241,7 @@ impl OpenFile for Opened<'_> {
 }
 
 impl Lock for Opened<'_> {
-    fn try_lock(&self) -> io::Result<()> {
+    fn try_lock(&mut self) -> io::Result<()> {
         Ok(())
     }
 }
@@ -252,6 +252,12 @@ impl Durable for Opened<'_> {
             return self.sync_all();
         }
         self.sync_data()
+    }
+}
+
+impl<'a> OpensFiles for Folder<'a> {
+    fn open_at(&self, how: &OpenOptions, path: &str) -> io::Result<Opened<'a>> {
+        how.open(self, path)
     }
 }
 

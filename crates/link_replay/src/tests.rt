@@ -41,7 +41,7 @@ const RTU_AB: LinkId = LinkId {
 /// Returns a slot that holds this number for a link, or a slot that holds no number.
 pub fn slot_at(number: Option<u64>, link: &LinkId) -> [u8; 24] {
     match number {
-        Some(n) if n <= LIMIT && link.is_known() => slot_of(n, link),
+        Some(n) if n <= LIMIT && link.has_direction() => slot_of(n, link),
         _ => NO_NUMBER,
     }
 }

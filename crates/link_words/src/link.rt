@@ -1,7 +1,7 @@
 //! The link of a protocol, a profile and a direction, and the parts that make up a protocol and a
 //! profile.
 ghost use Rattle.std.specs.Prelude.{◌≡◌};
-ghost use Rattle.sequence_journal.specs.Links.{IsLink};
+ghost use Rattle.sequence_journal.specs.Links.{HasDirection};
 ghost use Rattle.link_words.specs.Links.{link_of};
 
 use crate::{Profile, Proto};
@@ -62,7 +62,7 @@ macro_rules! link_by {
 /// Returns the link of a protocol, a profile and a direction, as its journals name it.
 pub fn link_of(proto: Proto, profile: Profile, dir: Dir) -> LinkId
     ensures link { result ≡ link_of proto profile dir }
-    ensures right { IsLink result }
+    ensures right { HasDirection result }
 {
     let dir = match dir {
         Dir::Ab => 0,

@@ -25,7 +25,7 @@ use Rattle.receiver_laws.proofs.{Packing.packet-length, Parting.same-front, Send
 use Rattle.receiver_laws.proofs.Standing.{AreOn, bursts-on, live-parts, byte_ticks}
 use Rattle.receiver_laws.proofs.Standing.{bytes_in-byte_ticks, shape-kept}
 use Rattle.receiver_laws.specs.{Accounted.forged, Fitting.IsFit}
-use Rattle.receiver_laws.specs.Reflected.{with_tags, TagsMatch, IsReflected}
+use Rattle.receiver_laws.specs.Reflected.{with_tags, numbered_as, TagsMatch, IsReflected}
 use Rattle.receiver_laws.specs.Standing.{StandsOn, numbered_frame}
 use Rattle.seal_judgements.proofs.Numbers.{frames_in as sealed_frames}
 use Rattle.seal_judgements.specs.Sealing.{SealState, Judgement, judged, state_by, forwarded}
@@ -394,13 +394,14 @@ module _ (profile : Profile) (other : ℕ → List ℕ → List ℕ) (rules : Ru
   none-of P [] never are = refl
   none-of P (a ∷ x) never are = absurd (never a (are 0 a (omega arith)))
 
-  pub nothing-passes : ((sealed_number number : ℕ) (frame : List ℕ)
-      → TagsMatch profile other sealed_number number frame → ⊥)
+  pub nothing-passes : ((f : NumberedFrame) (number : ℕ) → Contains all f
+      → TagsMatch profile other f.number number f.frame → ⊥)
       → passed (with_tags profile other) rules check_floor link ≡ []
   nothing-passes never =
       none-of (λ f. IsReflected profile other link all f)
       (passed (with_tags profile other) rules check_floor link)
-      (λ f is. never is.number f.number f.frame is.match_tags) reflected-passed
+      (λ f is. never (numbered_as is.number f) f.number is.is_sealed is.match_tags)
+      reflected-passed
 
 -- ---- nothing sealed
 

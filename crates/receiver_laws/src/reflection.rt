@@ -1,5 +1,5 @@
 //! The law that a link which is sent back the way it came passes nothing.
-ghost use Rattle.std.specs.Prelude.{◌≡◌, ◌≢◌, ℕ, List, [], All};
+ghost use Rattle.std.specs.Prelude.{◌≡◌, ◌≢◌, ℕ, List, [], All, Contains};
 ghost use Rattle.yasir_ticks.specs.declared.tick.Tick.{Tick};
 ghost use Rattle.hmac_tag.specs.Tag.{tag_text};
 ghost use Rattle.link_format.specs.NumberedFrame.{NumberedFrame};
@@ -28,9 +28,9 @@ pub fn reflected_links_pass_nothing<R: LineRules>()
         (passed (with_tags profile other) R.rules check_floor
         (link_line profile R.rules seal_floor line)) }
     ensures nothing { (profile : Profile) (other : ℕ → List ℕ → List ℕ) → IsFit profile R.rules
-        → ((sealed_number number : ℕ) (frame : List ℕ)
-        → ¬ TagsMatch profile other sealed_number number frame)
         → (seal_floor check_floor : ℕ) (line : List Tick)
+        → ((f : NumberedFrame) (number : ℕ) → Contains (sealed profile R.rules seal_floor line) f
+        → ¬ TagsMatch profile other f.number number f.frame)
         → passed (with_tags profile other) R.rules check_floor
         (link_line profile R.rules seal_floor line) ≡ [] }
     ensures texts_differ { (label direction other number other_number : ℕ)

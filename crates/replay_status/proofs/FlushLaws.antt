@@ -6,7 +6,7 @@ use Rattle.yasir_io.specs.{Flushing.one_more, declared.sink.Sink.Ghosts as Sink}
 use Rattle.tick_drive.specs.declared.consumer.Stop.TheVariants as stops
 use Rattle.replay_status.specs.{Endings.status_of, Flushes.FlushesAtEnd, Statuses.fault_line}
 use Rattle.replay_status.specs.declared.status.Status.{Status}
-use Rattle.replay_status.specs.declared.status.Status.TheVariants.{Done, WriteFault}
+use Rattle.replay_status.specs.declared.status.Status.TheVariants.{Done, WriteFault, Unclean}
 use Rattle.tick_drive.specs.declared.end.End.{End, TheVariants.Whole}
 use Rattle.tick_drive.specs.declared.end.End.TheVariants.{Refused, TooLong, ReadFault, Stopped}
 
@@ -27,6 +27,10 @@ module _ {O L : Type 0} (o : Sink O) (l : Sink L) where
       → (status : Status) → FlushesAtEnd o l out1 out2 log1 log2 status
       → FlushesAtEnd o l out0 out2 log0 log2 status
   flushes_of_whole out0 out1 out2 log0 log1 log2 none calm Done h = record {
+    out = flushed_then o out0 out1 out2 none.out h.out;
+    log = flushed_then l log0 log1 log2 none.log h.log;
+  }
+  flushes_of_whole out0 out1 out2 log0 log1 log2 none calm (Unclean verdict) h = record {
     out = flushed_then o out0 out1 out2 none.out h.out;
     log = flushed_then l log0 log1 log2 none.log h.log;
   }
@@ -51,14 +55,16 @@ module _ {O L : Type 0} (o : Sink O) (l : Sink L) where
   flushes_of_end out0 out1 log0 log1 (Stopped stops.NoMemory) partial none = none
   flushes_of_end out0 out1 log0 log1 (Stopped stops.WriteFault) partial none = inl none
 
-  -- The fault line after a command isn't flushed, so the flushes still fit the status. `Done` and
-  -- `WriteFault` have no fault line.
+  -- The fault line after a command isn't flushed, so the flushes still fit the status. `Done`,
+  -- `Unclean` and `WriteFault` have no fault line.
   pub flushes_after : (out0 out1 : O) (log0 log1 log2 : L) (status : Status)
       → FlushesAtEnd o l out0 out1 log0 log1 status
       → (fault_line status ≡ [] → log2 ≡ log1) → IsNotFlushed l log1 log2
       → FlushesAtEnd o l out0 out1 log0 log2 status
   flushes_after out0 out1 log0 log1 log2 Done h same not_flushed =
       subst (λ log. FlushesAtEnd o l out0 out1 log0 log Done) (sym (same refl)) h
+  flushes_after out0 out1 log0 log1 log2 (Unclean verdict) h same not_flushed =
+      subst (λ log. FlushesAtEnd o l out0 out1 log0 log (Unclean verdict)) (sym (same refl)) h
   flushes_after out0 out1 log0 log1 log2 WriteFault h same not_flushed =
       subst (λ log. FlushesAtEnd o l out0 out1 log0 log WriteFault) (sym (same refl)) h
   flushes_after out0 out1 log0 log1 log2 status h same not_flushed =

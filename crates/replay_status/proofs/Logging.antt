@@ -1,7 +1,7 @@
 -- The fault line that follows what a command has written to the log, and the sinks' counts with it.
 use Rattle.replay_status.specs.Causes.{SinkCause, GotLine, LogsFault}
 use Rattle.replay_status.specs.{Statuses.fault_line, declared.status.Status.Status}
-use Rattle.replay_status.specs.declared.status.Status.TheVariants.{Done, WriteFault}
+use Rattle.replay_status.specs.declared.status.Status.TheVariants.{Done, WriteFault, Unclean}
 use Rattle.std.proofs.Common.{◌≡◌, ◌∙◌, ℕ, ◌≤◌, List, [], Option, inl, inr, refl, sym, subst, arith}
 use Rattle.yasir_io.specs.Causes.{Rose}
 
@@ -22,6 +22,7 @@ pub logs-from : (out0 out1 before mid after : ℕ) (held_before held_now : Optio
     → SinkCause out0 out1 before mid status → LogsFault held_before held_now mid after status
     → LogsFault held_before held_now before after status
 logs-from out0 out1 before mid after held_before held_now Done sinks logs = logs
+logs-from out0 out1 before mid after held_before held_now (Unclean verdict) sinks logs = logs
 logs-from out0 out1 before mid after held_before held_now WriteFault sinks logs = logs
 logs-from out0 out1 before mid after held_before held_now status sinks logs =
     line-from held_before held_now before mid after _ sinks.1 logs
@@ -33,6 +34,8 @@ pub sinks_after : (out_before out_now log_before log_mid log_now : ℕ) (status 
     → (fault_line status ≡ [] → log_now ≡ log_mid)
     → SinkCause out_before out_now log_before log_now status
 sinks_after out_before out_now log_before log_mid log_now Done h rises same = (h.0, same refl ∙ h.1)
+sinks_after out_before out_now log_before log_mid log_now (Unclean verdict) h rises same =
+    (h.0, same refl ∙ h.1)
 sinks_after out_before out_now log_before log_mid log_now WriteFault h rises same = elim h [
   | inl out ↦ inl out
   | inr log ↦ inr (subst (Rose log_before) (sym (same refl)) log)

@@ -7,7 +7,7 @@ use Rattle.yasir_io.specs.Output.{GotPrefix}
 use Rattle.replay_status.specs.Statuses.{fault_line}
 use Rattle.replay_status.specs.declared.status.Status.{Status}
 use Rattle.replay_status.specs.declared.status.Status.TheVariants.{Done, ReadFault, WriteFault}
-use Rattle.replay_status.specs.declared.status.Status.TheVariants.{JournalFault}
+use Rattle.replay_status.specs.declared.status.Status.TheVariants.{JournalFault, Unclean}
 
 -- Holds if the input's count rose when a read failed, and is as it was otherwise. A write may have
 -- failed after a failed read, and then the count may have risen too.
@@ -37,6 +37,8 @@ DiskCause before now status = now ≡ before
 abbrev pub SinkCause : ℕ → ℕ → ℕ → ℕ → Status → Type 0
 SinkCause out_before out_now log_before log_now Done = (out_now ≡ out_before)
     × (log_now ≡ log_before)
+SinkCause out_before out_now log_before log_now (Unclean verdict) = (out_now ≡ out_before)
+    × (log_now ≡ log_before)
 SinkCause out_before out_now log_before log_now WriteFault = Rose out_before out_now
     ⊎ Rose log_before log_now
 SinkCause out_before out_now log_before log_now status = (out_now ≡ out_before)
@@ -50,6 +52,7 @@ GotLine before now faults_before faults_now line =
 -- Holds if the log has got the fault line of a refusal, and nothing else.
 abbrev pub LogsFault : Option (List ℕ) → Option (List ℕ) → ℕ → ℕ → Status → Type 0
 LogsFault before now faults_before faults_now Done = now ≡ before
+LogsFault before now faults_before faults_now (Unclean verdict) = now ≡ before
 LogsFault before now faults_before faults_now WriteFault = now ≡ before
 LogsFault before now faults_before faults_now status =
     GotLine before now faults_before faults_now (fault_line status)

@@ -1,10 +1,10 @@
--- When the two sinks are flushed: on the way to `Done`, and nowhere else.
+-- When the two sinks are flushed: on the way to `Done` or `Unclean`, and nowhere else.
 use Rattle.std.specs.Prelude.{◌⊎◌}
 use Rattle.yasir_io.specs.Causes.{Rose}
 use Rattle.yasir_io.specs.Flushed.{IsFlushed, IsNotFlushed, NoneFlushed}
 use Rattle.yasir_io.specs.declared.sink.Sink.{Ghosts as Sink}
 use Rattle.replay_status.specs.declared.status.Status.{Status}
-use Rattle.replay_status.specs.declared.status.Status.TheVariants.{Done, WriteFault}
+use Rattle.replay_status.specs.declared.status.Status.TheVariants.{Done, WriteFault, Unclean}
 
 module _ {O L : Type 0} (o : Sink O) (l : Sink L) (out_before out_now : O) (log_before log_now : L)
   where
@@ -22,5 +22,6 @@ module _ {O L : Type 0} (o : Sink O) (l : Sink L) (out_before out_now : O) (log_
     -- Holds if the sinks were flushed as this status says.
     abbrev pub FlushesAtEnd : Status → Type 0
     FlushesAtEnd Done = BothFlushed
+    FlushesAtEnd (Unclean verdict) = BothFlushed
     FlushesAtEnd WriteFault = NoneFlushed o l out_before out_now log_before log_now ⊎ LogNotFlushed
     FlushesAtEnd status = NoneFlushed o l out_before out_now log_before log_now

@@ -5,13 +5,11 @@ use Rattle.std.specs.String.{string_bytes}
 use Rattle.std.specs.Vec.Iter.{into_iter_items}
 use Rattle.std.specs.declared.string.String.{String}
 use Rattle.std.specs.declared.alloc.Global.{Global}
-use Rattle.std.specs.declared.io.Read.{Ghosts as Read}
-use Rattle.std.specs.declared.io.Write.{Ghosts as Write}
-use Rattle.std.specs.declared.io.Seek.{Ghosts as Seek}
 use Rattle.std.specs.declared.vec.IntoIter.{IntoIter}
 use Rattle.yasir_io.specs.declared.files.FileSource.{FileSource}
 use Rattle.yasir_io.specs.declared.files.FileSlots.{FileSlots}
 use Rattle.yasir_io.specs.declared.files.SlotFile.{SlotFile}
+use Rattle.yasir_io.specs.declared.lazy_file.OwnFile.TheVariants.{Closed}
 use Rattle.yasir_io.specs.Edge.{file_of, file_path, file_options, file_faults}
 use Rattle.yasir_io.specs.Edge.{slots_file, slots_path, slots_kind, slots_options, slots_faults}
 use Rattle.yasir_io.specs.SlotFiles.{for_reading, for_slots}
@@ -31,11 +29,10 @@ pub record IsKeyFile {R F D : Type 0} (bytes : Option (List ℕ)) (source : File
 
 -- Holds if the disk is the file at this path, this is what is expected of it, and no call on it has
 -- been made.
-pub record IsJournalFile {R F D : Type 0} {read : Read F} {write : Write F} {seek : Seek F}
-    {in_dir : Read D} (bytes : Option (List ℕ)) (expected : SlotFile)
-    (disk : FileSlots R F D read write seek in_dir) : Type 0 where
+pub record IsJournalFile {R F D : Type 0} (bytes : Option (List ℕ)) (expected : SlotFile)
+    (disk : FileSlots R F D) : Type 0 where
   pub path : option_map string_bytes (slots_path disk) ≡ bytes
-  pub closed : slots_file disk ≡ None
+  pub closed : slots_file disk ≡ Closed
   pub options : slots_options disk ≡ for_slots expected
   pub kind : slots_kind disk ≡ expected
   pub faults : slots_faults disk ≡ 0

@@ -11,6 +11,8 @@ use Rattle.replay_status.specs.declared.status.Status.TheVariants.{Done, Usage, 
 use Rattle.replay_status.specs.declared.status.Status.TheVariants.{WriteFault, JournalFault}
 use Rattle.replay_status.specs.declared.status.Status.TheVariants.{TooLong, HasJournal, BadKey}
 use Rattle.replay_status.specs.declared.status.Status.TheVariants.{BadJournal, WrongLink, NoMemory}
+use Rattle.replay_status.specs.declared.status.Status.TheVariants.{Unclean}
+use Rattle.replay_status.specs.declared.status.Unclean.TheVariants.{Forged, Differs, Empty}
 
 abbrev pub exit_status_of : Status → ℕ
 exit_status_of Done = 0
@@ -25,6 +27,9 @@ exit_status_of (BadKey place) = 3
 exit_status_of (BadJournal a b) = 8
 exit_status_of (WrongLink slot) = 12
 exit_status_of NoMemory = 9
+exit_status_of (Unclean Forged) = 14
+exit_status_of (Unclean Differs) = 15
+exit_status_of (Unclean Empty) = 16
 
 abbrev pub fault_word : TickFault → List ℕ
 fault_word Char = codes "char"
@@ -38,7 +43,8 @@ abbrev pub unit_word : TooMuch → List ℕ
 unit_word Ticks = codes " ticks"
 unit_word Bytes = codes " bytes"
 
--- the line that is written last to the log; none after `Done`, nor after a write that failed
+-- the line that is written last to the log; none after `Done` or `Unclean`, nor after a write that
+-- failed
 abbrev pub fault_line : Status → List ℕ
 fault_line Done = []
 fault_line Usage = codes "fault: usage\n"
@@ -50,6 +56,7 @@ fault_line (TooLong what count) = codes "fault: too long " ++ decimal count ++ u
     ++ codes "\n"
 fault_line JournalFault = codes "fault: journal\n"
 fault_line NoMemory = codes "fault: memory\n"
+fault_line (Unclean verdict) = []
 fault_line (HasJournal floor) = codes "fault: journal stands at " ++ decimal floor ++ codes "\n"
 fault_line (BadKey place) = codes "fault: key at " ++ decimal place ++ codes "\n"
 fault_line (BadJournal a b) = codes "fault: bad journal " ++ encode_lower a ++ codes " "

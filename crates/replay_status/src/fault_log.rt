@@ -114,7 +114,7 @@ pub fn fault_line(status: &Status) -> Line
     ensures { result.items ≡ fault_line status.now }
 {
     match status {
-        Status::Done | Status::WriteFault => Line::new(),
+        Status::Done | Status::WriteFault | Status::Unclean(_) => Line::new(),
         Status::Usage => fixed_line(b"fault: usage\n"),
         Status::ReadFault => fixed_line(b"fault: read\n"),
         Status::JournalFault => fixed_line(b"fault: journal\n"),

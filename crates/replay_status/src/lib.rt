@@ -20,6 +20,6 @@ pub use ending::{flush_both, print_text, status_of};
 pub use ends::Ends;
 pub use fault_log::{fault_line, write_fault};
 pub use given::{NOT_GIVEN, take_places, words_after_name};
-pub use status::Status;
+pub use status::{Status, Unclean};
 pub use text::{Line, push_decimal};
 pub use waiting::{append_decimal, append_digits};

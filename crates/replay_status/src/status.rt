@@ -5,6 +5,17 @@ use tick_drive::TooMuch;
 use yasir_io::SlotBytes;
 use yasir_ticks::BadTicks;
 
+/// A verdict of an audit that isn't clean.
+#[derive(Clone, Copy, Debug, PartialEq, Eq)]
+pub enum Unclean {
+    /// A frame passed that wasn't sealed with its number.
+    Forged,
+    /// The frames that were read aren't those that passed.
+    Differs,
+    /// No frame was sealed, passed or read.
+    Empty,
+}
+
 /// How a run of the program ended.
 #[derive(Clone, Copy, Debug, PartialEq, Eq)]
 pub enum Status {
@@ -35,6 +46,8 @@ pub enum Status {
     WrongLink { slot: SlotBytes },
     /// There was no memory for what is kept of the input.
     NoMemory,
+    /// All of the output is written, and the verdict in it isn't clean.
+    Unclean(Unclean),
 }
 
 impl Status {
@@ -57,6 +70,9 @@ impl Status {
             Status::BadJournal { .. } => 8,
             Status::WrongLink { .. } => 12,
             Status::NoMemory => 9,
+            Status::Unclean(Unclean::Forged) => 14,
+            Status::Unclean(Unclean::Differs) => 15,
+            Status::Unclean(Unclean::Empty) => 16,
         }
     }
 }

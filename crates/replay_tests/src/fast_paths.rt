@@ -3,7 +3,6 @@
 ghost use Rattle.std.specs.Prelude.{◌≡◌, ℕ, ◌+◌, ◌<◌, ◌≤◌, length, IfOk, OnOk, None, Some};
 ghost use Rattle.yasir_io.specs.Steady.{steady_slots};
 ghost use Rattle.yasir_ticks.specs.TickRun.{run_ticks};
-ghost use Rattle.link_box.specs.Links.{AreLinks};
 ghost use Rattle.link_box.specs.Stepping.{ServesLink};
 ghost use Rattle.yasir_ticks.specs.declared.TheConstants.{MAX_TICKS};
 
@@ -69,7 +68,6 @@ impl<B: LineBox> Journaled<B> {
     // A box that has taken no tick, over a journal with floor 0.
     fn new() -> Result<Journaled<B>, Fail>
         requires widths { B.widths_fit }
-        requires links { AreLinks B.link_in }
         ensures taken { IfOk result (λ value. B.taken value.line_box ≡ 0) }
         ensures able { IfOk result (λ value. ServesLink (B.link_of value.line_box) value.journal
             (Some (steady_slots value.disk))) }
@@ -256,7 +254,6 @@ fn takes_journaled<B: LineBox>(
     most: usize,
 ) -> Result<(), Fail>
     requires widths { B.widths_fit }
-    requires links { AreLinks B.link_in }
 {
     let line_box: Journaled<B> = Journaled::new()?;
     takes(rt, alloc, line_box, ticks, most)
@@ -465,7 +462,6 @@ fn waits<X: Turning>(rt: &impl Abort, mut line_box: X) -> Result<(), Fail>
 // Checks that a box of `seal` or `check` takes a run of silence at once.
 fn waits_journaled<B: LineBox>(rt: &impl Abort) -> Result<(), Fail>
     requires widths { B.widths_fit }
-    requires links { AreLinks B.link_in }
 {
     let line_box: Journaled<B> = Journaled::new()?;
     waits(rt, line_box)

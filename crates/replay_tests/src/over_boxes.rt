@@ -1,7 +1,6 @@
 //! Runs of `seal` and `check` over ends in memory, for the tests of this crate.
 ghost use Rattle.std.specs.Prelude.{◌≡◌};
-ghost use Rattle.link_box.specs.Links.{AreLinks};
-ghost use Rattle.sequence_journal.specs.Links.{IsLink};
+ghost use Rattle.sequence_journal.specs.Links.{HasDirection};
 
 use crate::outside::{Failing, STEADY, plan, sinks, source};
 use crate::reading::has_read;
@@ -64,7 +63,7 @@ pub enum BoxKind {
 
 // The link of a box in a direction.
 fn link_of(kind: BoxKind, dir: Dir) -> LinkId
-    ensures { IsLink result }
+    ensures { HasDirection result }
 {
     let (label, profile) = match kind {
         BoxKind::SealRtu | BoxKind::CheckRtu => (1, 18),
@@ -85,7 +84,7 @@ fn link_of(kind: BoxKind, dir: Dir) -> LinkId
 
 /// The bytes of a slot that holds this for a link.
 pub fn slot_at(held: Held, link: &LinkId) -> [u8; 24]
-    requires { IsLink link.now }
+    requires { HasDirection link.now }
 {
     match held {
         Held::Number(n) => slot_of(n.min(LIMIT), link),
@@ -99,7 +98,7 @@ const BLANK: [u8; 16] = [0; 16];
 // A disk whose slots A and B hold this for a link, and whose old slots are blank. Call `fail`
 // fails.
 fn disk_of(alloc: Global, slots: Numbers, link: &LinkId, fail: u32) -> Result<MemSlots, NoMemory>
-    requires { IsLink link.now }
+    requires { HasDirection link.now }
 {
     let (a, b) = slots;
     let (a, b) = (slot_at(a, link), slot_at(b, link));
@@ -157,7 +156,6 @@ pub fn run_ends<B: LineBox, K: Source, S: Source, O: Sink, L: Sink, D: SlotDisk>
     ends: Ends<K, S, O, L, D>,
 ) -> Status
     requires widths { B.widths_fit }
-    requires links { AreLinks B.link_in }
 {
     let link = B::link(dir);
     replay_box::<B, K, S, O, L, D>(&link, dir, rest, ends)
@@ -172,7 +170,6 @@ fn replay_by<B: LineBox>(
     disk: MemSlots,
 ) -> Result<Ran, Fail>
     requires widths { B.widths_fit }
-    requires links { AreLinks B.link_in }
 {
     let failing = given.failing;
     let (mut out, mut log) = sinks(alloc, (8000, 40000), 512, failing)?;
@@ -313,7 +310,7 @@ pub fn has_passed<D: Device + Drop>(
 
 // The floor that a later run loads from these slots.
 fn floor_of(a: [u8; 24], b: [u8; 24], link: &LinkId) -> Option<u64>
-    requires { IsLink link.now }
+    requires { HasDirection link.now }
 {
     let mut disk = SteadySlots::new(a, b);
     match Journal::load(&mut disk, link) {
@@ -348,7 +345,7 @@ const TORN: [u8; 24] = [0x11; 24];
 
 // Checks that a later run loads this floor from these slots.
 fn has_floor(rt: &impl Abort, a: [u8; 24], b: [u8; 24], link: &LinkId, floor: u64)
-    requires { IsLink link.now }
+    requires { HasDirection link.now }
 {
     assert!(rt; floor_of(a, b, link) == Some(floor));
 }
@@ -356,7 +353,7 @@ fn has_floor(rt: &impl Abort, a: [u8; 24], b: [u8; 24], link: &LinkId, floor: u6
 // Checks that a later run loads this floor. If a sync failed, the slot that was written may be
 // torn, and the floor before it is loaded.
 fn loads(rt: &impl Abort, disk: &MemSlots, link: &LinkId, call: u32, floor: u64)
-    requires { IsLink link.now }
+    requires { HasDirection link.now }
 {
     let (a, b) = (disk.slot(Slot::A), disk.slot(Slot::B));
     has_floor(rt, a, b, link, floor);

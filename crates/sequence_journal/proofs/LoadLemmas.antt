@@ -1,9 +1,9 @@
 -- Lemmas on loading a journal, and on what a crash leaves while a journal is taken over.
-use Rattle.sequence_journal.specs.{Journal.journal_floor, Journal.HasFloorAtLeast, Links.IsLink}
+use Rattle.sequence_journal.specs.{Journal.journal_floor, Journal.HasFloorAtLeast, Links.HasDirection}
 use Rattle.sequence_journal.specs.Loading.{AreRead, IsOld, MayBegin, MayLeaveLoading, KeepsLoadable}
 use Rattle.sequence_journal.specs.Loading.{LeavesLoaded, IsLoaded, MayTakeOver, RefusesLoad}
 use Rattle.sequence_journal.specs.Slots.{number_held, any_number_held, greater, place_of_greater}
-use Rattle.sequence_journal.specs.Slots.{link_held, old_number_held, old_slot_bytes, own_floor}
+use Rattle.sequence_journal.specs.Slots.{link_held, slot_bytes, old_number_held, old_slot_bytes, own_floor}
 use Rattle.sequence_journal.specs.Slots.{any_floor, old_floor, greatest, floor_by, floor_of}
 use Rattle.sequence_journal.specs.Slots.{wrong_by, wrong_slot}
 use Rattle.sequence_journal.specs.declared.journal.{Journal.Journal, LoadError.LoadError}
@@ -22,11 +22,11 @@ pub blank_holds_none : greatest (record {
   b = replicate SLOT_LEN 0;
   old = blank_old;
 }) ≡ None
-unfolding link_held old_number_held old_slot_bytes
+unfolding link_held number_held slot_bytes old_number_held old_slot_bytes
 blank_holds_none = refl
 
 -- if no slot holds a number, a journal may begin at 0
-pub may_begin_anew : (link : LinkId) (told : Option Slots) (read : Slots) → IsLink link
+pub may_begin_anew : (link : LinkId) (told : Option Slots) (read : Slots) → HasDirection link
     → AreRead told read → greatest read ≡ None → IfSome told (MayBegin link 0)
 may_begin_anew link told read right are none =
     let both = neither (any_floor read) (old_floor read) none in
@@ -52,7 +52,7 @@ by_what_it_holds link n slots c None None is_old floor wrong =
 -- the slots of an old journal with slot A torn, by the number that slot A then holds for the link,
 -- and for any link
 torn_old : (link : LinkId) (n : ℕ) (slots : Slots) (bytes : List ℕ) (own any : Option ℕ)
-    → IsLink link → IsOld n slots → number_held link bytes ≡ own → any_number_held bytes ≡ any
+    → HasDirection link → IsOld n slots → number_held link bytes ≡ own → any_number_held bytes ≡ any
     → KeepsLoadable link slots n (with_slot slots A bytes)
 torn_old link n slots bytes own any right is_old own_is any_is =
     let none = neither (any_number_held slots.a) (any_number_held slots.b) is_old.none in
@@ -75,7 +75,7 @@ torn_old link n slots bytes own any right is_old own_is any_is =
     ∙ ap (wrong_by (greater own None)) place_c in
     by_what_it_holds link n slots c own any is_old floor_c wrong_c
 
-old_number : (link : LinkId) (slots : Slots) (floor n : ℕ) → IsLink link → IsOld n slots
+old_number : (link : LinkId) (slots : Slots) (floor n : ℕ) → HasDirection link → IsOld n slots
     → floor_of link slots ≡ Some floor → n ≡ floor
 old_number link slots floor n right is_old floor_is =
     let stands : floor_of link slots ≡ Some n =
@@ -86,7 +86,7 @@ old_number link slots floor n right is_old floor_is =
 
 -- what a crash leaves of a journal while it is being loaded
 pub while_loading : (link : LinkId) (slots : Slots) (floor : ℕ) (told : Option Slots)
-    (images : Slots → Type 0) → IsLink link → told ≡ Some slots → OneImage told images
+    (images : Slots → Type 0) → HasDirection link → told ≡ Some slots → OneImage told images
     → floor_of link slots ≡ Some floor → (c : Slots) → MayLeaveLoading told images c
     → KeepsLoadable link slots floor c
 while_loading link slots floor told images right is synced floor_is c (inl image) =
@@ -151,7 +151,7 @@ no_floor_of_others link slots place wrong =
     (any_number_held slots.a) (any_number_held slots.b) place wrong refl
 
 -- if no slot holds a number, there is no floor
-no_floor_of_none : (link : LinkId) (slots : Slots) → IsLink link → any_floor slots ≡ None
+no_floor_of_none : (link : LinkId) (slots : Slots) → HasDirection link → any_floor slots ≡ None
     → old_floor slots ≡ None → floor_of link slots ≡ None
 no_floor_of_none link slots right none none_old =
     ap (λ o. floor_by o (any_floor slots) (old_floor slots)) (no_own_floor link slots right none)
@@ -159,7 +159,7 @@ no_floor_of_none link slots right none none_old =
 
 -- if slots have a floor, only a fault refuses to load it
 pub refused_for_a_fault : (link : LinkId) (slots : Slots) (n : ℕ) (new : Option Slots)
-    (before now : ℕ) (error : LoadError) → IsLink link → HasFloorAtLeast link n slots
+    (before now : ℕ) (error : LoadError) → HasDirection link → HasFloorAtLeast link n slots
     → RefusesLoad link (Some slots) new before now error → Rose before now
 refused_for_a_fault link slots n new before now Load.Fault right from refuses = refuses.0
 refused_for_a_fault link slots n new before now (Load.Bad a b) right from refuses =

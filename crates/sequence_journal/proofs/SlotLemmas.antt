@@ -2,7 +2,7 @@
 use Rattle.byteorder.specs.{Endian.big_bytes, Endian.big_number, Numbers.big_number-reads_back}
 use Rattle.sequence_journal.proofs.FloorLaws.{floor_is_held, floor_beside}
 use Rattle.sequence_journal.specs.Journal.{IsEitherFloor, MaySet, told_with}
-use Rattle.sequence_journal.specs.{Links.is_link, Links.IsLink, Links.link_bytes, Loading.MayBegin}
+use Rattle.sequence_journal.specs.{Links.has_direction, Links.HasDirection, Links.link_bytes, Loading.MayBegin}
 use Rattle.sequence_journal.specs.Slots.{slot_bytes, old_slot_bytes, held_by, number_held}
 use Rattle.sequence_journal.specs.Slots.{link_named, link_held, any_number_held, greater, own_floor}
 use Rattle.sequence_journal.specs.Slots.{any_floor, old_floor, floor_of, floor_slot}
@@ -77,11 +77,11 @@ unfolding number_held
 slot_of_held link slot n is = made_of_held (λ n. slot_bytes n link) slot n is
 
 -- what a slot holds for a link, it holds for no other
-pub link_is_held : (link : LinkId) (slot : List ℕ) (n : ℕ) → IsLink link
+pub link_is_held : (link : LinkId) (slot : List ℕ) (n : ℕ) → HasDirection link
     → number_held link slot ≡ Some n → link_held slot ≡ Some (n, link)
 unfolding link_held
 link_is_held link slot n right is =
-    let by_link : LinkId → Option (ℕ × LinkId) = λ l. if is_link l
+    let by_link : LinkId → Option (ℕ × LinkId) = λ l. if has_direction l
     then option_map (λ n. (n, l)) (number_held l slot) else None in
     let by_truth : Bool → Option (ℕ × LinkId) = λ b. if b
     then option_map (λ n. (n, link)) (number_held link slot) else None in
@@ -89,13 +89,13 @@ link_is_held link slot n right is =
     ∙ ap (option_map (λ n. (n, link))) is
 
 -- the slot of a number for a link holds both
-pub link_holds : (n : ℕ) (link : LinkId) (slot : List ℕ) → n ≤ LIMIT → IsLink link
+pub link_holds : (n : ℕ) (link : LinkId) (slot : List ℕ) → n ≤ LIMIT → HasDirection link
     → slot ≡ slot_bytes n link → link_held slot ≡ Some (n, link)
 link_holds n link slot within right is =
     link_is_held link slot n right (ap (number_held link) is ∙ held n link within)
 
 -- a slot that holds no number for any link holds none for this one
-pub none_of_own : (link : LinkId) (slot : List ℕ) → IsLink link → any_number_held slot ≡ None
+pub none_of_own : (link : LinkId) (slot : List ℕ) → HasDirection link → any_number_held slot ≡ None
     → number_held link slot ≡ None
 none_of_own link slot right none =
     let P : Option ℕ → Type 0 = λ o. number_held link slot ≡ o → o ≡ None in
@@ -114,7 +114,7 @@ neither (Some a) None is = cc
 neither (Some a) (Some b) is = cc
 
 -- slots that hold no number for any link hold none for this one
-pub no_own_floor : (link : LinkId) (slots : Slots) → IsLink link → any_floor slots ≡ None
+pub no_own_floor : (link : LinkId) (slots : Slots) → HasDirection link → any_floor slots ≡ None
     → own_floor link slots ≡ None
 no_own_floor link slots right none =
     let both = neither (any_number_held slots.a) (any_number_held slots.b) none in

@@ -8,7 +8,7 @@ use Rattle.yasir_io.specs.declared.disk.Slot.TheVariants.{A, B}
 use Rattle.yasir_io.specs.Disks.{Slots}
 use Rattle.sequence_journal.specs.declared.numbers.TheConstants.{LIMIT}
 use Rattle.sequence_journal.specs.declared.link.LinkId.{LinkId}
-use Rattle.sequence_journal.specs.Links.{is_link, link_bytes}
+use Rattle.sequence_journal.specs.Links.{has_direction, link_bytes}
 
 -- these bytes, and then the complement of each
 abbrev pub with_complement : List ℕ → List ℕ
@@ -50,7 +50,7 @@ link_named slot = record {
 unfoldable pub link_held : List ℕ → Option (ℕ × LinkId)
 link_held slot =
     let link = link_named slot in
-    if is_link link then option_map (λ n. (n, link)) (number_held link slot) else None
+    if has_direction link then option_map (λ n. (n, link)) (number_held link slot) else None
 
 -- the number that a slot holds, for whatever link
 abbrev pub any_number_held : List ℕ → Option ℕ

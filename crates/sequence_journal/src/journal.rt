@@ -2,7 +2,7 @@
 //! it.
 ghost use Rattle.std.specs.Prelude.{◌≤◌};
 ghost use Rattle.sequence_journal.specs.declared.numbers.TheConstants.{LIMIT};
-ghost use Rattle.sequence_journal.specs.Links.{IsLink};
+ghost use Rattle.sequence_journal.specs.Links.{HasDirection};
 
 use crate::link::LinkId;
 use crate::numbers::{LIMIT, slot_of};
@@ -50,7 +50,7 @@ pub struct Journal {
     kept: Slot,
     broken: bool,
     ghost within: { floor ≤ LIMIT },
-    ghost serves: { IsLink link },
+    ghost serves: { HasDirection link },
 }
 
 impl Journal {
@@ -59,7 +59,7 @@ impl Journal {
     ghost use Rattle.yasir_io.specs.declared.disk.Slot.TheVariants.{A, B};
     ghost use Rattle.yasir_io.specs.Causes.{HasCause};
     ghost use Rattle.yasir_io.specs.Disks.{Slots, NoMore, OneImage, LeavesOnly};
-    ghost use Rattle.sequence_journal.specs.Links.{IsLink};
+    ghost use Rattle.sequence_journal.specs.Links.{HasDirection};
     ghost use Rattle.sequence_journal.specs.Slots.{slot_bytes, greatest, floor_of};
     ghost use Rattle.sequence_journal.specs.Journal.{journal_link, journal_floor, kept_slot};
     ghost use Rattle.sequence_journal.specs.Journal.{is_broken, Fits, IsKept, IsBut, HasFloorFrom};
@@ -72,7 +72,7 @@ impl Journal {
     /// Makes a new journal of a link, at floor 0 and in slot A, if no slot holds a number and no
     /// old slot does.
     pub fn init<D: SlotDisk>(disk: &mut D, link: &LinkId) -> Result<Journal, InitError>
-        requires link { IsLink link.now }
+        requires link { HasDirection link.now }
 
         ensures fits { IfOk result (λ journal. Fits journal (D.told disk.new)) }
         ensures link_is { IfOk result (λ journal. journal_link journal ≡ link.now) }
@@ -111,7 +111,7 @@ impl Journal {
 
     // Begins a journal of a link, at floor `n` and in slot A.
     fn begin<D: SlotDisk>(disk: &mut D, link: &LinkId, n: u64) -> Result<Journal, Failed>
-        requires link { IsLink link.now }
+        requires link { HasDirection link.now }
         requires within { n ≤ LIMIT }
         requires free { IfSome (D.told disk.old) (MayBegin link.now n) }
 
@@ -140,7 +140,7 @@ impl Journal {
     /// taken over: their greatest number is written into slot A and synced. Otherwise nothing is
     /// written.
     pub fn load<D: SlotDisk>(disk: &mut D, link: &LinkId) -> Result<Journal, LoadError>
-        requires link { IsLink link.now }
+        requires link { HasDirection link.now }
 
         ensures fits { IfOk result (λ journal. Fits journal (D.told disk.new)) }
         ensures loaded { IfOk result (IsLoaded link.now (D.told disk.old) (D.told disk.new)

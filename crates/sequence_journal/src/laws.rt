@@ -8,7 +8,7 @@ ghost use Rattle.sequence_journal.specs.Slots.{floor_of};
 ghost use Rattle.sequence_journal.specs.FailedCalls.{AreWhole, HaveFailedCalls, last_disk};
 ghost use Rattle.sequence_journal.specs.Journal.{HasFloorAtLeast};
 ghost use Rattle.sequence_journal.specs.Loading.{KeepsLoadable, RefusesLoad};
-ghost use Rattle.sequence_journal.specs.Links.{IsLink};
+ghost use Rattle.sequence_journal.specs.Links.{HasDirection};
 ghost use Rattle.sequence_journal.specs.declared.journal.LoadError.{LoadError};
 ghost use Rattle.yasir_io.specs.Causes.{Rose};
 ghost use Rattle.sequence_journal.specs.Uptimes.{RiseFrom, IsUptime, IsIdle, HasNoFloorBelow};
@@ -54,7 +54,7 @@ pub fn idle_uptimes_are_one()
 /// gives `Bad` or `WrongLink`. So after a journal was loaded, no load over what is left of it does.
 pub fn floor_is_refused_for_a_fault_alone()
     ensures { (link : LinkId) (slots : Slots) (n : ℕ) (after : Option Slots) (before now : ℕ)
-        (error : LoadError) → IsLink link → HasFloorAtLeast link n slots
+        (error : LoadError) → HasDirection link → HasFloorAtLeast link n slots
         → RefusesLoad link (Some slots) after before now error → Rose before now }
 {}
 

@@ -1,22 +1,23 @@
 //! The link that a journal serves.
 ghost use Rattle.std.specs.Prelude.{◌≡◌};
-ghost use Rattle.sequence_journal.specs.Links.{is_link, IsLink};
+ghost use Rattle.sequence_journal.specs.Links.{has_direction, HasDirection};
 
 /// The link that a journal serves, as a slot names it.
 #[derive(Clone, Copy, Debug, PartialEq, Eq)]
 pub struct LinkId {
-    /// 1 for Modbus RTU, 2 for DNP3.
+    /// The label of the protocol: 1 for Modbus RTU, 2 for DNP3, and any other byte for another one.
     pub label: u8,
-    /// 0 for the direction `ab`, 1 for `ba`.
+    /// The number of the direction: 0 for `ab`, 1 for `ba`.
     pub dir: u8,
-    /// The number of the profile, 18 or 24.
+    /// The number of the profile, which is the receiver's delay in ticks: 18 or 24 in this
+    /// repository, and any other byte for other words and tags.
     pub profile: u8,
 }
 
 impl LinkId {
     /// Returns a link for a journal that no file keeps.
     pub fn of_no_file() -> LinkId
-        ensures { IsLink result }
+        ensures { HasDirection result }
     {
         LinkId {
             label: 1,
@@ -25,10 +26,10 @@ impl LinkId {
         }
     }
 
-    /// Whether there is such a link.
-    pub fn is_known(&self) -> bool
-        ensures { result ≡ is_link self.now }
+    /// Whether there is a direction with its number: it is 0 or 1. Then journals can serve the link.
+    pub fn has_direction(&self) -> bool
+        ensures { result ≡ has_direction self.now }
     {
-        matches!(self.label, 1 | 2) && matches!(self.dir, 0 | 1) && matches!(self.profile, 18 | 24)
+        matches!(self.dir, 0 | 1)
     }
 }

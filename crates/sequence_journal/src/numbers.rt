@@ -3,7 +3,7 @@ ghost use Rattle.std.specs.Prelude.{◌≡◌, ◌≤◌, ◌<◌, ◌-◌, ◌^
 ghost use Rattle.std.specs.Prelude.{IfNone};
 ghost use Rattle.sequence_journal.specs.Numbers.{IsLeastWith, full_of};
 ghost use Rattle.sequence_journal.specs.declared.link.LinkId.{LinkId};
-ghost use Rattle.sequence_journal.specs.Links.{IsLink};
+ghost use Rattle.sequence_journal.specs.Links.{HasDirection};
 ghost use Rattle.sequence_journal.specs.Slots.{slot_bytes, old_slot_bytes, number_held, link_held};
 ghost use Rattle.sequence_journal.specs.Slots.{old_number_held, with_complement};
 
@@ -30,7 +30,7 @@ pub const LIMIT: u64 = 281_474_976_710_655;
 #[tactic(auto, unfolding(crate::specs::Slots::slot_bytes))]
 pub fn slot_of(n: u64, link: &LinkId) -> SlotBytes
     requires within { n ≤ LIMIT }
-    requires link { IsLink link.now }
+    requires link { HasDirection link.now }
     ensures { result ≡ slot_bytes n link.now }
 {
     let mut half = [
@@ -65,7 +65,7 @@ fn completed(half: [u8; HALF]) -> SlotBytes
 /// to the limit for this link.
 #[tactic(auto, unfolding(crate::specs::Slots::number_held))]
 pub fn number_in(slot: &SlotBytes, link: &LinkId) -> Option<u64>
-    requires link { IsLink link.now }
+    requires link { HasDirection link.now }
     ensures value { result ≡ number_held link.now slot.now }
     ensures within { IfSome result (λ n. n ≤ LIMIT) }
     ensures found { IfSome result (λ n. slot.now ≡ slot_bytes n link.now) }
@@ -80,13 +80,14 @@ pub fn number_in(slot: &SlotBytes, link: &LinkId) -> Option<u64>
 }
 
 /// Returns the number that a slot holds, and the link for which it holds it, or `None` if it isn't
-/// the slot of a number up to the limit for some link.
+/// the slot of a number up to the limit for some link. The link's label and profile may be any
+/// bytes, and its direction is 0 or 1.
 #[tactic(auto, unfolding(crate::specs::Slots::link_held))]
 pub fn link_in(slot: &SlotBytes) -> Option<(u64, LinkId)>
     ensures value { result ≡ link_held slot.now }
     ensures within { IfSome result (λ held. held.0 ≤ LIMIT) }
-    ensures found { IfSome result (λ held. IsLink held.1 × (slot.now ≡ slot_bytes held.0 held.1)) }
-    ensures only { (n : ℕ) (link : LinkId) → n ≤ LIMIT → IsLink link → slot.now ≡ slot_bytes n link
+    ensures found { IfSome result (λ held. HasDirection held.1 × (slot.now ≡ slot_bytes held.0 held.1)) }
+    ensures only { (n : ℕ) (link : LinkId) → n ≤ LIMIT → HasDirection link → slot.now ≡ slot_bytes n link
         → result ≡ Some (n, link) }
 {
     let link = LinkId {
@@ -94,7 +95,7 @@ pub fn link_in(slot: &SlotBytes) -> Option<(u64, LinkId)>
         dir: slot[9],
         profile: slot[10],
     };
-    if !link.is_known() {
+    if !link.has_direction() {
         return None;
     }
     let n = number_in(slot, &link)?;

@@ -37,7 +37,7 @@ pub(crate) enum Standing {
 impl AllSlots {
     ghost use Rattle.std.specs.Prelude.{◌≡◌};
     ghost use Rattle.yasir_io.specs.Disks.{slot_in};
-    ghost use Rattle.sequence_journal.specs.Links.{IsLink};
+    ghost use Rattle.sequence_journal.specs.Links.{HasDirection};
     ghost use Rattle.sequence_journal.specs.Slots.{number_held, old_number_held, any_number_held};
     ghost use Rattle.sequence_journal.specs.Slots.{greatest};
     ghost use Rattle.sequence_journal.specs.Loading.{slots_read, StandsAs, IsGreaterOf};
@@ -53,7 +53,7 @@ impl AllSlots {
 
     // Returns the greatest number for a link, and the slot that holds it.
     fn own(&self, link: &LinkId) -> Option<(u64, Slot)>
-        requires { IsLink link.now }
+        requires { HasDirection link.now }
         ensures { IsGreaterOf (number_held link.now self.now.a) (number_held link.now self.now.b)
             result }
     {
@@ -76,7 +76,7 @@ impl AllSlots {
     }
 
     pub(crate) fn standing(&self, link: &LinkId) -> Standing
-        requires { IsLink link.now }
+        requires { HasDirection link.now }
         ensures { StandsAs link.now (slots_read self.now) result }
     {
         let old = self.old();

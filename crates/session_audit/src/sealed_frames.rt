@@ -1,7 +1,5 @@
 //! The frames that a transmitter seals, if its tags aren't needed.
 ghost use Rattle.std.specs.Prelude.{◌≤◌};
-ghost use Rattle.hmac_tag.specs.Tag.{direction_number};
-ghost use Rattle.link_box.specs.Links.{AreLinks, link_by};
 ghost use Rattle.link_format.specs.Profile.{IsWordLen};
 ghost use Rattle.session_audit.specs.NoTags.{sealed_numbering, untagged};
 
@@ -33,8 +31,7 @@ impl<R: LineRules, M: Mac, const B: usize, K: SteadyDisk> FrameBox for SealedFra
 
     ghost numbering = { sealed_numbering R.LineRules M.Mac (untagged M.Mac) B };
 
-    ghost widths_fit = { IsWordLen B × (R.MAX ≤ 292)
-        × AreLinks (λ dir. link_by R.LineRules M.Mac B (direction_number dir)) };
+    ghost widths_fit = { IsWordLen B × (R.MAX ≤ 292) };
 
     ghost shown = { λ value.
         ⟦<ShownFrames<Sealer<R, Untagged<M>, B>, R, K> as FrameBox>⟧.shown value.shown };

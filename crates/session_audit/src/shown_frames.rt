@@ -1,6 +1,5 @@
 //! A box over a journal of its own, with the bytes of the frames that it numbers.
 ghost use Rattle.std.specs.Prelude.{◌≡◌, ◌≤◌, take};
-ghost use Rattle.link_box.specs.Links.{AreLinks};
 ghost use Rattle.session_audit.specs.FramesOf.{told_by};
 ghost use Rattle.session_audit.specs.ShownFrames.{ShowsFrames, IsSteady, numbering_of};
 
@@ -48,7 +47,7 @@ impl<R: LineRules, X: NotingBox<R>, K: SteadyDisk> FrameBox for ShownFrames<X, R
 
     ghost numbering = { numbering_of X.walking };
 
-    ghost widths_fit = { X.widths_fit × (R.MAX ≤ 292) × AreLinks X.link_in };
+    ghost widths_fit = { X.widths_fit × (R.MAX ≤ 292) };
 
     ghost shown = { λ value. take value.live value.burst.bytes.items };
 

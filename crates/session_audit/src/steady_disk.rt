@@ -1,7 +1,7 @@
 //! A disk that never fails, with a journal that begins at a stated floor.
 ghost use Rattle.std.specs.Prelude.{◌≡◌, ◌≤◌, None, IsSomeAnd};
 ghost use Rattle.sequence_journal.specs.Journal.{Fits, journal_link, journal_floor};
-ghost use Rattle.sequence_journal.specs.Links.{IsLink};
+ghost use Rattle.sequence_journal.specs.Links.{HasDirection};
 ghost use Rattle.sequence_journal.specs.Slots.{greatest};
 ghost use Rattle.sequence_journal.specs.declared.numbers.TheConstants.{LIMIT};
 
@@ -32,7 +32,7 @@ impl SteadyDisk for SteadySlots {
 pub(crate) fn journal_at<K: SteadyDisk>(disk: &mut K, link: &LinkId, floor: u64) -> Journal
     requires blank { IsSomeAnd (K.told disk.old) (λ slots. greatest slots ≡ None) }
     requires within { floor ≤ LIMIT }
-    requires link { IsLink link.now }
+    requires link { HasDirection link.now }
     ensures of_link { journal_link result ≡ link.now }
     ensures fits { Fits result (K.told disk.new) }
     ensures floor { journal_floor result ≡ floor }

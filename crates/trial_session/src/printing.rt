@@ -1,6 +1,5 @@
 //! The line that is printed of a session.
 ghost use Rattle.std.specs.Prelude.{◌≡◌, ◌+◌, ◌<◌, ◌≤◌, ◌++◌, length};
-ghost use Rattle.link_box.specs.Links.{AreLinks};
 ghost use Rattle.trial_session.specs.Summaries.{session_summary};
 ghost use Rattle.trial_session.specs.TrialLine.{worded, trial_line};
 
@@ -53,8 +52,6 @@ pub fn session_line<R: DrawnFrames, S: CountingBox, C: CountingBox, V: Device + 
     requires few { behind ≤ 64 }
     requires sealing { S.widths_fit }
     requires checking { C.widths_fit }
-    requires sealing_links { AreLinks S.link_in }
-    requires checking_links { AreLinks C.link_in }
     ensures { result.items ≡ trial_line name.now seed count
         (session_summary R.drawing behind S.counting C.counting V.reads seed count) }
 {

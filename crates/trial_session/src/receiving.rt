@@ -37,12 +37,10 @@ impl<C: CountingBox, V: Device + Drop> Receiving<C, V> {
     ghost use Rattle.trial_session.specs.Links.{link_sent};
     ghost use Rattle.trial_session.specs.Sides.{MayReceive, HasReceived};
     ghost use Rattle.trial_session.specs.Sides.{MayGoOnReceiving, IsReceiving};
-    ghost use Rattle.link_box.specs.Links.{AreLinks};
 
     /// A receiver and a device, neither of which has taken a tick.
     pub fn new() -> Receiving<C, V>
         requires widths { C.widths_fit }
-        requires links { AreLinks C.link_in }
         ensures able { MayReceive C.LinkBox V.Device result }
         ensures taken { C.taken result.checking.line_box ≡ 0 }
         ensures received { HasReceived C.LinkBox C.counting V.Device result [] }

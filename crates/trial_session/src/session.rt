@@ -1,6 +1,5 @@
 //! A session: drawn frames go through the transmitter, the link, the receiver and the device.
 ghost use Rattle.std.specs.Prelude.{◌≡◌, ◌+◌, ◌%◌, ◌<◌, ◌≤◌};
-ghost use Rattle.link_box.specs.Links.{AreLinks};
 ghost use Rattle.trial_session.specs.Alterations.{alteration_of};
 ghost use Rattle.trial_session.specs.Draws.{draw_state, state_after, nth_drawn};
 ghost use Rattle.trial_session.specs.Summaries.{session_summary};
@@ -54,8 +53,6 @@ impl<S: CountingBox, C: CountingBox, V: Device + Drop> Session<S, C, V> {
     fn new(seed: u32) -> Session<S, C, V>
         requires sealing { S.widths_fit }
         requires checking { C.widths_fit }
-        requires sealing_links { AreLinks S.link_in }
-        requires checking_links { AreLinks C.link_in }
         ensures able { MayGoOn S.LinkBox C.LinkBox V.Device result 0 }
         ensures run { (drawing : Drawing) (behind : ℕ)
             → HasRun S.LinkBox S.counting C.LinkBox C.counting V.Device drawing behind result
@@ -127,8 +124,6 @@ pub fn try_session<R: DrawnFrames, S: CountingBox, C: CountingBox, V: Device + D
     requires few { behind ≤ 64 }
     requires sealing { S.widths_fit }
     requires checking { C.widths_fit }
-    requires sealing_links { AreLinks S.link_in }
-    requires checking_links { AreLinks C.link_in }
     ensures { result
         ≡ session_summary R.drawing behind S.counting C.counting V.reads seed count }
 {

@@ -38,12 +38,10 @@ impl<X: CountingBox> Side<X> {
     ghost use Rattle.trial_session.specs.Counting.{CountsNothing};
     ghost use Rattle.trial_session.specs.Sides.{MayTake, HasTaken, HasSent, HasPassed};
     ghost use Rattle.burst_walk.specs.Answered.{answered};
-    ghost use Rattle.link_box.specs.Links.{AreLinks};
 
     /// A new box over a new journal.
     pub fn new() -> Side<X>
         requires widths { X.widths_fit }
-        requires links { AreLinks X.link_in }
         ensures able { MayTake X.LinkBox result }
         ensures taken { X.taken result.line_box ≡ 0 }
         ensures counts { HasTaken X.LinkBox X.counting result [] }

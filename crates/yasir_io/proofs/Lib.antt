@@ -3,6 +3,5 @@ pub mod FlushLaws
 pub mod Images
 pub mod Moments
 pub mod OutputLemmas
-pub mod Places
 pub mod Telling
 pub mod TextRooms

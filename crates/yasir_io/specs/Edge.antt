@@ -6,12 +6,10 @@ use Rattle.yasir_io.specs.declared.edge.WriterSink.{WriterSink}
 use Rattle.yasir_io.specs.declared.files.FileSource.{FileSource}
 use Rattle.yasir_io.specs.declared.files.FileSlots.{FileSlots}
 use Rattle.yasir_io.specs.declared.files.SlotFile.{SlotFile}
+use Rattle.yasir_io.specs.declared.lazy_file.OwnFile.{OwnFile}
 use Rattle.std.specs.declared.fs.OpenOptions.{OpenOptions}
 use Rattle.std.specs.declared.string.String.{String}
 use Rattle.std.specs.declared.alloc.Global.{Global}
-use Rattle.std.specs.declared.io.Read.{Ghosts as Read}
-use Rattle.std.specs.declared.io.Write.{Ghosts as Write}
-use Rattle.std.specs.declared.io.Seek.{Ghosts as Seek}
 
 -- the reader of a source
 abbrev pub reader_of : {I : Type 0} → StdinSource I → I
@@ -43,41 +41,40 @@ file_of source = source.file.file
 
 -- the path of the file, if it has one
 abbrev pub file_path : {R F D : Type 0} → FileSource R F D → Option (String Global)
-file_path source = source.file.path
+file_path source = source.file.name.path
 
 -- how the file is opened
 abbrev pub file_options : {R F D : Type 0} → FileSource R F D → OpenOptions
-file_options source = source.file.options
+file_options source = source.file.name.options
 
 -- how often a read of the file has failed
 abbrev pub file_faults : {R F D : Type 0} → FileSource R F D → ℕ
 file_faults source = source.faults.count
 
-module _ {R F D : Type 0} {read : Read F} {write : Write F} {seek : Seek F} {in_dir : Read D} where
-  -- the file of slots, if it is open
-  abbrev pub slots_file : FileSlots R F D read write seek in_dir → Option F
-  slots_file disk = disk.file.lazy.file
+-- the file of slots: closed, waiting to be taken, or the run's own
+abbrev pub slots_file : {R F D : Type 0} → FileSlots R F D → OwnFile F
+slots_file disk = disk.file.file
 
-  -- the path of the file of slots, if it has one
-  abbrev pub slots_path : FileSlots R F D read write seek in_dir → Option (String Global)
-  slots_path disk = disk.file.lazy.path
+-- the path of the file of slots, if it has one
+abbrev pub slots_path : {R F D : Type 0} → FileSlots R F D → Option (String Global)
+slots_path disk = disk.file.name.path
 
-  -- what is expected of the file of slots
-  abbrev pub slots_kind : FileSlots R F D read write seek in_dir → SlotFile
-  slots_kind disk = disk.kind
+-- what is expected of the file of slots
+abbrev pub slots_kind : {R F D : Type 0} → FileSlots R F D → SlotFile
+slots_kind disk = disk.kind
 
-  -- how the file of slots is opened
-  abbrev pub slots_options : FileSlots R F D read write seek in_dir → OpenOptions
-  slots_options disk = disk.file.lazy.options
+-- how the file of slots is opened
+abbrev pub slots_options : {R F D : Type 0} → FileSlots R F D → OpenOptions
+slots_options disk = disk.file.name.options
 
-  -- how far writes reach into the file of slots: the end of the last slot that one was begun to
-  abbrev pub slots_written : FileSlots R F D read write seek in_dir → ℕ
-  slots_written disk = disk.reach.written
+-- how far writes reach into the file of slots: the end of the last slot that one was begun to
+abbrev pub slots_written : {R F D : Type 0} → FileSlots R F D → ℕ
+slots_written disk = disk.reach.written
 
-  -- how far the writes had reached when the file of slots was last synced
-  abbrev pub slots_synced : FileSlots R F D read write seek in_dir → ℕ
-  slots_synced disk = disk.reach.synced
+-- how far the writes had reached when the file of slots was last synced
+abbrev pub slots_synced : {R F D : Type 0} → FileSlots R F D → ℕ
+slots_synced disk = disk.reach.synced
 
-  -- how often a call on the file of slots has failed
-  abbrev pub slots_faults : FileSlots R F D read write seek in_dir → ℕ
-  slots_faults disk = disk.faults.count
+-- how often a call on the file of slots has failed
+abbrev pub slots_faults : {R F D : Type 0} → FileSlots R F D → ℕ
+slots_faults disk = disk.faults.count

@@ -8,6 +8,7 @@ pub mod MemSink
 pub mod MemSlots
 pub mod MemSlotsLaws
 pub mod MemSource
+pub mod Opening
 pub mod Output
 pub mod Pieces
 pub mod SlotFiles

@@ -1,6 +1,6 @@
 -- Slots in a file, old ones and new: where each of them is, and how it is read and written there.
 use Rattle.std.specs.Prelude.{◌≡◌, ℕ, ◌+◌, ◌-◌, ◌<◌, List, ◌++◌, length, replicate, Bool, true, false}
-use Rattle.std.specs.Prelude.{Option, Some, None, IfSome, Result, IsErr, ⊤}
+use Rattle.std.specs.Prelude.{Some, IfSome}
 use Rattle.std.specs.Io.KnownBytes.{Appends, Consumes, Keeps, IsAtEnd}
 use Rattle.std.specs.Fs.{new_options, with_read, with_write, with_create}
 use Rattle.std.specs.declared.fs.OpenOptions.{OpenOptions}
@@ -44,23 +44,6 @@ slot_end slot = slot_place slot + SLOT_LEN
 abbrev pub slots_end : ℕ
 slots_end = 80
 
--- Holds if a call does P to a file. If no file is open, the call opens one that has `Begins` and
--- does P to it, or it fails. A file that is open stays open.
-abbrev pub OnOpen : {F T E : Type 0} → (F → Type 0) → Option F → Option F → Result T E
-    → (F → F → Type 0) → Type 0
-OnOpen Begins None None result P = IsErr result
-OnOpen {F = F} Begins None (Some g) result P = (f : F) × Begins f × P f g
-OnOpen Begins (Some f) None result P = ⊥
-OnOpen Begins (Some f) (Some g) result P = P f g
-
--- Holds for any file: nothing is known of how it begins.
-abbrev pub AnyStart : {F : Type 0} → F → Type 0
-AnyStart f = ⊤
-
--- Holds of a file as a run opens it for itself: its lock was taken, and all of it was synced.
-abbrev pub BeginsAlone : {F : Type 0} → (F → Type 0) → (F → Bool → Type 0) → F → Type 0
-BeginsAlone Taken Synced f = Taken f × Synced f true
-
 -- Holds if a file whose position is known is moved to a place, and its bytes stay.
 pub record MovesTo {F : Type 0} (seek : Seek F) (place : ℕ) (old new : F) : Type 0 where
   pub position : IfSome (seek.stream_position old) (λ _. seek.stream_position new ≡ Some place)
@@ -92,44 +75,11 @@ abbrev pub ReadsSlot : {F : Type 0} → Seek F → Read F → Slot → F → F �
 ReadsSlot seek read slot old new bytes =
     ReadsAt seek read SLOT_LEN (slot_place slot) old new bytes
 
--- Holds if a file was moved to a place, and bytes were written to it from there on, one after the
--- other, up to `place`.
-pub record IsWrittenUpTo {F : Type 0} (seek : Seek F) (write : Write F) (place : ℕ) (now : F) :
-    Type 0 where
-  pub start : ℕ
-  pub before : F
-  pub moved : F
-  pub bytes : List ℕ
-  pub moves : MovesTo seek start before moved
-  pub writes : Appends (write.contents moved) (write.contents now) bytes
-  pub reach : start + length bytes ≡ place
-
--- Holds if a file is at this place: it was written up to there, and nothing else was done to it
--- since.
-abbrev pub IsAt : {F : Type 0} → Seek F → Write F → ℕ → F → Type 0
-IsAt seek write place now = ∥ IsWrittenUpTo seek write place now ∥₁
-
--- Holds if a file is at the place that `at` names, if it names one.
-abbrev pub StandsAs : {F : Type 0} → Seek F → Write F → Option ℕ → F → Type 0
-StandsAs seek write at f = (place : ℕ) → at ≡ Some place → IsAt seek write place f
-
--- Holds if a file that may be open is at the place that `at` names. If it names one, the file is
--- open.
-abbrev pub StandsIn : {F : Type 0} → Seek F → Write F → Option ℕ → Option F → Type 0
-StandsIn {F = F} seek write at file = (place : ℕ) → at ≡ Some place
-    → ∥ ((f : F) × (file ≡ Some f) × IsWrittenUpTo seek write place f) ∥₁
-
--- How a file gets to a place: it is moved there, or is there already and stays as it is.
-pub data StandsAt {F : Type 0} (seek : Seek F) (write : Write F) (place : ℕ) (old new : F) : Type 0
-  where
-    Moves : MovesTo seek place old new → StandsAt seek write place old new
-    Stays : IsAt seek write place old → new ≡ old → StandsAt seek write place old new
-
 -- Holds if a slot is written, from its place on, and all of it.
 pub record WritesSlot {F : Type 0} (seek : Seek F) (write : Write F) (slot : Slot) (old new : F)
     (bytes : List ℕ) : Type 0 where
   pub between : F
-  pub stands : StandsAt seek write (slot_place slot) old between
+  pub moves : MovesTo seek (slot_place slot) old between
   pub writes : Appends (write.contents between) (write.contents new) bytes
 
 -- Holds if a slot of a new file is written. Before that all bytes up to the end of the slots are

@@ -1,6 +1,8 @@
 //! The edge of the program: the runtime's readers and writers. What they move is told as far as
 //! they tell it themselves. Their faults are counted.
-ghost use Rattle.std.specs.Prelude.{◌≡◌};
+ghost use Rattle.std.specs.Prelude.{◌≡◌, OnOk, OnErr};
+ghost use Rattle.yasir_io.specs.Causes.{HasCause};
+ghost use Rattle.yasir_io.specs.Flushing.{IsCounted};
 
 use crate::faults::Faults;
 use crate::flushes::Flushes;
@@ -106,8 +108,17 @@ impl<W: TellsHeld + Drop> Sink for WriterSink<W> {
         }
     }
 
-    fn flush(&mut self) -> Result<(), Failed> {
-        match self.writer.flush() {
+    /// Flushes the writer.
+    fn flush(&mut self) -> Result<(), Failed>
+        ensures same { W.contents (writer_of self.new) ≡ W.contents (writer_of self.old) }
+        ensures flushed { OnOk result (W.flushed (writer_of self.new)) }
+        ensures cause { HasCause (writer_faults self.old) (writer_faults self.new) result }
+        ensures counted { IsCounted (writer_flushes self.old) (writer_flushes self.new)
+            (writer_unflushed self.new) result }
+        ensures err_as_it_was { OnErr result
+            (writer_unflushed self.new ≡ writer_unflushed self.old) }
+    {
+        match self.writer.flush_out() {
             Ok(()) => {
                 self.flushes.add();
                 Ok(())

@@ -7,14 +7,13 @@ ghost use Rattle.yasir_io.specs.Edge.{file_of, file_path, file_options, file_fau
 ghost use Rattle.yasir_io.specs.Edge.{slots_file, slots_path, slots_kind, slots_options};
 ghost use Rattle.yasir_io.specs.Edge.{slots_faults, slots_written, slots_synced};
 ghost use Rattle.yasir_io.specs.SlotFiles.{for_reading, for_slots, is_made, slot_end};
-ghost use Rattle.yasir_io.specs.SlotFiles.{OnOpen, AnyStart, BeginsAlone, ReadsOld, ReadsSlot};
-ghost use Rattle.yasir_io.specs.SlotFiles.{WritesIn};
+ghost use Rattle.yasir_io.specs.SlotFiles.{ReadsOld, ReadsSlot, WritesIn};
+ghost use Rattle.yasir_io.specs.Opening.{OnOpen, OnOwn};
 
 use crate::faults::Faults;
-use crate::lazy_file::{LazyFile, PlacedFile, end_of, old_place_of, place_of};
-use crate::{Durable, Failed, Lock, OldSlotBytes, Slot, SlotBytes, SlotDisk, Source};
+use crate::lazy_file::{LazyFile, OwnFile, SlotsInFile, end_of, old_place_of, place_of};
+use crate::{Durable, Failed, Lock, OldSlotBytes, OpensFiles, Slot, SlotBytes, SlotDisk, Source};
 use std::fs::OpenOptions;
-use std::rt::Files;
 
 /// What is expected of the file of a disk.
 #[derive(Clone, Copy, Debug, PartialEq, Eq)]
@@ -83,12 +82,12 @@ impl Reach {
 
 /// A file as a source. It is a fault if there is no path, or if the file can't be opened.
 #[derive(Drop)]
-pub struct FileSource<'a, R: Files> {
+pub struct FileSource<'a, R: OpensFiles> {
     file: LazyFile<'a, R>,
     faults: Faults,
 }
 
-impl<'a, R: Files> FileSource<'a, R> {
+impl<'a, R: OpensFiles> FileSource<'a, R> {
     /// Returns a source of the file at a path. The file isn't opened yet.
     pub fn new(rt: &'a R, path: Option<String>) -> FileSource<'a, R>
         ensures faults { file_faults result ≡ 0 }
@@ -105,16 +104,18 @@ impl<'a, R: Files> FileSource<'a, R> {
     }
 }
 
-impl<'a, R: Files> Source for FileSource<'a, R> {
+impl<'a, R: OpensFiles> Source for FileSource<'a, R> {
     ghost left = { λ _. None };
 
     ghost faults = { λ source. file_faults source };
 
     fn read(&mut self, buf: &mut [u8]) -> Result<usize, Failed>
         ensures within { IfOk result (λ n. n ≤ length buf.new) }
-        ensures reads { OnOpen AnyStart (file_of self.old) (file_of self.new) result
+        ensures reads { OnOpen R.opened R.refused (file_options self.old) (file_path self.old)
+            (file_of self.old) (file_of self.new) result
             (λ f g. ReadConsumes (R.File.remaining f) (R.File.remaining g) result buf.new) }
         ensures options { file_options self.new ≡ file_options self.old }
+        ensures path { file_path self.new ≡ file_path self.old }
         ensures cause { HasCause (file_faults self.old) (file_faults self.new) result }
     {
         match self.file.read(buf) {
@@ -131,21 +132,21 @@ impl<'a, R: Files> Source for FileSource<'a, R> {
 ///
 /// The file is locked from the first call that opens it until the disk is dropped.
 #[derive(Drop)]
-pub struct FileSlots<'a, R: Files> {
-    file: PlacedFile<'a, R>,
+pub struct FileSlots<'a, R: OpensFiles> {
+    file: SlotsInFile<'a, R>,
     kind: SlotFile,
     reach: Reach,
     faults: Faults,
 }
 
-impl<'a, R: Files> FileSlots<'a, R>
+impl<'a, R: OpensFiles> FileSlots<'a, R>
 where
     R::File: Lock + Durable,
 {
     /// Returns a disk in the file at a path. The file isn't opened yet.
     pub fn new(rt: &'a R, path: Option<String>, kind: SlotFile) -> FileSlots<'a, R>
         ensures faults { slots_faults result ≡ 0 }
-        ensures closed { slots_file result ≡ None }
+        ensures closed { slots_file result ≡ OwnFile.Closed }
         ensures path { slots_path result ≡ path }
         ensures options { slots_options result ≡ for_slots kind }
         ensures kind { slots_kind result ≡ kind }
@@ -155,7 +156,7 @@ where
         let mut options = OpenOptions::new();
         options.read(true).write(true).create(kind.is_made());
         FileSlots {
-            file: PlacedFile::new(rt, path, options),
+            file: SlotsInFile::new(rt, path, options),
             kind,
             reach: Reach::none(),
             faults: Faults::none(),
@@ -163,7 +164,7 @@ where
     }
 }
 
-impl<'a, R: Files> SlotDisk for FileSlots<'a, R>
+impl<'a, R: OpensFiles> SlotDisk for FileSlots<'a, R>
 where
     R::File: Lock + Durable,
 {
@@ -184,10 +185,12 @@ where
     ghost only_now = { λ disk c image. image };
 
     fn read_old(&mut self, slot: Slot) -> Result<OldSlotBytes, Failed>
-        ensures reads { OnOpen (BeginsAlone R.File.taken R.File.synced) (slots_file self.old)
+        ensures reads { OnOwn R.opened R.refused R.File.taken R.File.synced
+            (slots_options self.old) (slots_path self.old) (slots_file self.old)
             (slots_file self.new) result
             (λ f g. IfOk result (ReadsOld R.File.Seek R.File.Read slot f g)) }
         ensures options { slots_options self.new ≡ slots_options self.old }
+        ensures path { slots_path self.new ≡ slots_path self.old }
         ensures kind { slots_kind self.new ≡ slots_kind self.old }
         ensures written { slots_written self.new ≡ slots_written self.old }
         ensures synced { slots_synced self.new ≡ slots_synced self.old }
@@ -200,10 +203,12 @@ where
     }
 
     fn read_slot(&mut self, slot: Slot) -> Result<SlotBytes, Failed>
-        ensures reads { OnOpen (BeginsAlone R.File.taken R.File.synced) (slots_file self.old)
+        ensures reads { OnOwn R.opened R.refused R.File.taken R.File.synced
+            (slots_options self.old) (slots_path self.old) (slots_file self.old)
             (slots_file self.new) result
             (λ f g. IfOk result (ReadsSlot R.File.Seek R.File.Read slot f g)) }
         ensures options { slots_options self.new ≡ slots_options self.old }
+        ensures path { slots_path self.new ≡ slots_path self.old }
         ensures kind { slots_kind self.new ≡ slots_kind self.old }
         ensures written { slots_written self.new ≡ slots_written self.old }
         ensures synced { slots_synced self.new ≡ slots_synced self.old }
@@ -217,11 +222,13 @@ where
 
     /// From its first write on, a new file counts as one that exists.
     fn write_slot(&mut self, slot: Slot, bytes: &SlotBytes) -> Result<(), Failed>
-        ensures writes { OnOpen (BeginsAlone R.File.taken R.File.synced) (slots_file self.old)
+        ensures writes { OnOwn R.opened R.refused R.File.taken R.File.synced
+            (slots_options self.old) (slots_path self.old) (slots_file self.old)
             (slots_file self.new) result
             (λ f g. OnOk result (WritesIn R.File.Seek R.File.Read R.File.Write
             (slots_kind self.old) slot f g bytes.now)) }
         ensures options { slots_options self.new ≡ slots_options self.old }
+        ensures path { slots_path self.new ≡ slots_path self.old }
         ensures stands { OnOk result (slots_kind self.new ≡ SlotFile.Standing) }
         ensures kind { OnErr result (slots_kind self.new ≡ slots_kind self.old) }
         ensures written { slots_written self.new ≡ max (slots_written self.old) (slot_end slot) }
@@ -241,11 +248,13 @@ where
     /// Syncs the whole file if a write may have made it longer, and otherwise only what is needed
     /// to read its bytes.
     fn sync(&mut self) -> Result<(), Failed>
-        ensures file { OnOpen (BeginsAlone R.File.taken R.File.synced) (slots_file self.old)
+        ensures file { OnOwn R.opened R.refused R.File.taken R.File.synced
+            (slots_options self.old) (slots_path self.old) (slots_file self.old)
             (slots_file self.new) result
             (λ f g. (g ≡ f) × OnOk result (R.File.synced g
             (nat_lt (slots_synced self.old) (slots_written self.old)))) }
         ensures options { slots_options self.new ≡ slots_options self.old }
+        ensures path { slots_path self.new ≡ slots_path self.old }
         ensures kind { slots_kind self.new ≡ slots_kind self.old }
         ensures written { slots_written self.new ≡ slots_written self.old }
         ensures synced { OnOk result (slots_synced self.new ≡ slots_written self.old) }

@@ -1,71 +1,85 @@
 //! A file opened at the first call that needs it, and slots that are read and written in it.
-ghost use Rattle.std.specs.Prelude.{◌≡◌, ◌<◌, ◌≤◌, length, take, Some, None, IsSome, OnOk, OnErr};
+ghost use Rattle.std.specs.Prelude.{◌≡◌, ◌<◌, ◌≤◌, length, take, None, IsSome, IsOk, OnOk, OnErr};
 ghost use Rattle.std.specs.Prelude.{IfOk, IfSome, replicate};
 ghost use Rattle.std.specs.Io.{ReadsAtMost};
 ghost use Rattle.std.specs.Io.KnownBytes.{Appends, Consumes, IsAtEnd, ReadConsumes};
+ghost use Rattle.yasir_io.specs.Opening.{IsOpened, IsRefused, OnOpen, OpensOnce, OnOwn};
 ghost use Rattle.yasir_io.specs.SlotFiles.{old_place, slot_place, slot_end, slots_end};
-ghost use Rattle.yasir_io.specs.SlotFiles.{OnOpen, AnyStart, BeginsAlone, MovesTo, ReadsNext};
-ghost use Rattle.yasir_io.specs.SlotFiles.{ReadsAt};
-ghost use Rattle.yasir_io.specs.SlotFiles.{IsAt, StandsAs, StandsAt, StandsIn};
+ghost use Rattle.yasir_io.specs.SlotFiles.{MovesTo, ReadsNext, ReadsAt};
 ghost use Rattle.yasir_io.specs.SlotFiles.{WritesSlot, WritesFirst, WritesIn};
 
 use crate::files::SlotFile;
-use crate::{Durable, Lock, SLOT_LEN, Slot, SlotBytes};
+use crate::{Durable, Lock, OpensFiles, SLOT_LEN, Slot, SlotBytes};
 use std::fs::OpenOptions;
 use std::io::{self, Read, Seek, SeekFrom, Write};
-use std::rt::Files;
+use std::mem;
 
 /// How many bytes of a file the slots take, old ones and new.
 const SLOTS_END: usize = 80;
 
-/// A file that is opened at the first call that needs it.
+/// Where a file is, and how it is opened.
 #[derive(Drop)]
-pub(crate) struct LazyFile<'a, R: Files> {
+pub(crate) struct NamedFile<'a, R: OpensFiles> {
     rt: &'a R,
     path: Option<String>,
     options: OpenOptions,
+}
+
+impl<'a, R: OpensFiles> NamedFile<'a, R> {
+    // Opens the file.
+    fn open(&self) -> io::Result<R::File>
+        ensures opened { IfOk result (IsOpened R.opened self.now.options self.now.path) }
+        ensures refused { OnErr result (IsRefused R.refused self.now.options self.now.path) }
+    {
+        match &self.path {
+            Some(path) => self.rt.open_at(&self.options, path.as_str()),
+            None => Err(io::ErrorKind::NotFound.into()),
+        }
+    }
+}
+
+/// A file that is opened at the first call that needs it.
+#[derive(Drop)]
+pub(crate) struct LazyFile<'a, R: OpensFiles> {
+    name: NamedFile<'a, R>,
     file: Option<R::File>,
 }
 
-impl<'a, R: Files> LazyFile<'a, R> {
+impl<'a, R: OpensFiles> LazyFile<'a, R> {
     pub(crate) fn new(rt: &'a R, path: Option<String>, options: OpenOptions) -> LazyFile<'a, R>
-        ensures path { result.path ≡ path }
-        ensures options { result.options ≡ options }
+        ensures path { result.name.path ≡ path }
+        ensures options { result.name.options ≡ options }
         ensures closed { result.file ≡ None }
     {
         LazyFile {
-            rt,
-            path,
-            options,
+            name: NamedFile { rt, path, options },
             file: None,
         }
-    }
-
-    // Opens the file and returns it.
-    fn opened(&self) -> io::Result<R::File> {
-        let path = self.path.as_ref().ok_or(io::ErrorKind::NotFound)?;
-        self.options.open(self.rt, path.as_str())
     }
 
     // Opens the file, unless it is open.
     #[inline(always)]
     fn open(&mut self) -> io::Result<()>
-        ensures opened { OnOk result (IsSome self.new.file) }
-        ensures closed { OnErr result (self.new.file ≡ self.old.file) }
+        ensures ready { OnOk result (IsSome self.new.file) }
+        ensures opens { self.old.file ≡ None → OnOk result (IfSome self.new.file
+            (IsOpened R.opened self.old.name.options self.old.name.path)) }
+        ensures refused { OnErr result ((self.new.file ≡ None)
+            × IsRefused R.refused self.old.name.options self.old.name.path) }
         ensures same { IsSome self.old.file → self.new.file ≡ self.old.file }
-        ensures options { self.new.options ≡ self.old.options }
+        ensures name { self.new.name ≡ self.old.name }
     {
         if self.file.is_none() {
-            self.file = Some(self.opened()?);
+            self.file = Some(self.name.open()?);
         }
         Ok(())
     }
 
     pub(crate) fn read(&mut self, buf: &mut [u8]) -> io::Result<usize>
         ensures within { ReadsAtMost result buf.new }
-        ensures reads { OnOpen AnyStart self.old.file self.new.file result
+        ensures reads { OnOpen R.opened R.refused self.old.name.options self.old.name.path
+            self.old.file self.new.file result
             (λ f g. ReadConsumes (R.File.remaining f) (R.File.remaining g) result buf.new) }
-        ensures options { self.new.options ≡ self.old.options }
+        ensures name { self.new.name ≡ self.old.name }
     {
         self.open()?;
         match &mut self.file {
@@ -75,62 +89,82 @@ impl<'a, R: Files> LazyFile<'a, R> {
     }
 }
 
-/// A file of slots that is opened at the first call that needs it, and its position.
+/// A file that a run takes for itself before it reads or writes it.
 #[derive(Drop)]
-pub(crate) struct PlacedFile<'a, R: Files> {
-    lazy: LazyFile<'a, R>,
-    // The position after the last call on the file, if that was a write without a fault.
-    at: Option<u64>,
-    ghost stands: { StandsIn R.File.Seek R.File.Write at lazy.file },
+pub(crate) enum OwnFile<F> {
+    /// It hasn't been opened.
+    Closed,
+    /// It was opened. It wasn't locked, or not synced after that, and nothing else was done to it.
+    Waiting(F),
+    /// It was locked and then synced.
+    Own(F),
 }
 
-impl<'a, R: Files> PlacedFile<'a, R>
+/// A file of slots that is opened, locked and synced at the first call that needs it.
+#[derive(Drop)]
+pub(crate) struct SlotsInFile<'a, R: OpensFiles> {
+    name: NamedFile<'a, R>,
+    file: OwnFile<R::File>,
+}
+
+impl<'a, R: OpensFiles> SlotsInFile<'a, R>
 where
     R::File: Lock + Durable,
 {
-    pub(crate) fn new(rt: &'a R, path: Option<String>, options: OpenOptions) -> PlacedFile<'a, R>
-        ensures path { result.lazy.path ≡ path }
-        ensures options { result.lazy.options ≡ options }
-        ensures closed { result.lazy.file ≡ None }
+    pub(crate) fn new(rt: &'a R, path: Option<String>, options: OpenOptions) -> SlotsInFile<'a, R>
+        ensures path { result.name.path ≡ path }
+        ensures options { result.name.options ≡ options }
+        ensures closed { result.file ≡ OwnFile.Closed }
     {
-        PlacedFile {
-            lazy: LazyFile::new(rt, path, options),
-            at: None,
+        SlotsInFile {
+            name: NamedFile { rt, path, options },
+            file: OwnFile::Closed,
         }
     }
 
-    // Opens the file for this run only, unless it is open. A run that was killed may have left
-    // writes that no sync has confirmed. They are synced before anything is read, since this run
-    // goes on from what it reads.
-    #[inline(always)]
-    fn open_alone(&mut self) -> io::Result<()>
-        ensures opened { OnOk result (IsSome self.new.lazy.file) }
-        ensures closed { OnErr result (self.new.lazy.file ≡ self.old.lazy.file) }
-        ensures same { IsSome self.old.lazy.file → self.new.lazy.file ≡ self.old.lazy.file }
-        ensures alone { OnOk result (self.old.lazy.file ≡ None
-            → IfSome self.new.lazy.file (BeginsAlone R.File.taken R.File.synced)) }
-        ensures options { self.new.lazy.options ≡ self.old.lazy.options }
+    // Opens the file, unless it was opened.
+    fn open(&mut self) -> io::Result<()>
+        ensures opens { OpensOnce R.opened R.refused self.old.name.options self.old.name.path
+            self.old.file self.new.file result }
+        ensures name { self.new.name ≡ self.old.name }
     {
-        if self.lazy.file.is_none() {
-            let file = self.lazy.opened()?;
-            file.try_lock()?;
-            file.sync(true)?;
-            self.lazy.file = Some(file);
+        if let OwnFile::Closed = &self.file {
+            self.file = OwnFile::Waiting(self.name.open()?);
         }
         Ok(())
     }
 
-    pub(crate) fn read_at<const N: usize>(&mut self, place: u64) -> io::Result<[u8; N]>
-        ensures reads { OnOpen (BeginsAlone R.File.taken R.File.synced) self.old.lazy.file
-            self.new.lazy.file result
-            (λ f g. IfOk result (ReadsAt R.File.Seek R.File.Read N place f g)) }
-        ensures options { self.new.lazy.options ≡ self.old.lazy.options }
+    // Takes the file for this run only, unless the run has it. A run that was killed may have left
+    // writes that no sync has confirmed. They are synced before anything is read, since this run
+    // goes on from what it reads.
+    fn own(&mut self) -> io::Result<()>
+        ensures owns { OnOwn R.opened R.refused R.File.taken R.File.synced
+            self.old.name.options self.old.name.path self.old.file self.new.file result
+            (λ f g. (g ≡ f) × IsOk result) }
+        ensures name { self.new.name ≡ self.old.name }
     {
-        self.open_alone()?;
-        self.at = None;
-        match &mut self.lazy.file {
-            Some(file) => read_at(file, place),
-            None => Err(io::ErrorKind::NotFound.into()),
+        self.open()?;
+        if let OwnFile::Waiting(file) = &mut self.file {
+            file.try_lock()?;
+            file.sync(true)?;
+        }
+        self.file = match mem::replace(&mut self.file, OwnFile::Closed) {
+            OwnFile::Waiting(file) => OwnFile::Own(file),
+            file => file,
+        };
+        Ok(())
+    }
+
+    pub(crate) fn read_at<const N: usize>(&mut self, place: u64) -> io::Result<[u8; N]>
+        ensures reads { OnOwn R.opened R.refused R.File.taken R.File.synced
+            self.old.name.options self.old.name.path self.old.file self.new.file result
+            (λ f g. IfOk result (ReadsAt R.File.Seek R.File.Read N place f g)) }
+        ensures name { self.new.name ≡ self.old.name }
+    {
+        self.own()?;
+        match &mut self.file {
+            OwnFile::Own(file) => read_at(file, place),
+            _ => Err(io::ErrorKind::NotFound.into()),
         }
     }
 
@@ -140,31 +174,29 @@ where
         slot: Slot,
         bytes: &SlotBytes,
     ) -> io::Result<()>
-        ensures writes { OnOpen (BeginsAlone R.File.taken R.File.synced) self.old.lazy.file
-            self.new.lazy.file result
+        ensures writes { OnOwn R.opened R.refused R.File.taken R.File.synced
+            self.old.name.options self.old.name.path self.old.file self.new.file result
             (λ f g. OnOk result (WritesIn R.File.Seek R.File.Read R.File.Write kind slot f g
             bytes.now)) }
-        ensures options { self.new.lazy.options ≡ self.old.lazy.options }
+        ensures name { self.new.name ≡ self.old.name }
     {
-        self.open_alone()?;
-        let at = self.at.take();
-        match &mut self.lazy.file {
-            Some(file) => write_in(file, kind, at, slot, bytes)?,
-            None => return Err(io::ErrorKind::NotFound.into()),
+        self.own()?;
+        match &mut self.file {
+            OwnFile::Own(file) => write_in(file, kind, slot, bytes),
+            _ => Err(io::ErrorKind::NotFound.into()),
         }
-        self.at = Some(end_of(slot));
-        Ok(())
     }
 
     pub(crate) fn sync(&mut self, whole: bool) -> io::Result<()>
-        ensures file { OnOpen (BeginsAlone R.File.taken R.File.synced) self.old.lazy.file
-            self.new.lazy.file result (λ f g. (g ≡ f) × OnOk result (R.File.synced g whole)) }
-        ensures options { self.new.lazy.options ≡ self.old.lazy.options }
+        ensures file { OnOwn R.opened R.refused R.File.taken R.File.synced
+            self.old.name.options self.old.name.path self.old.file self.new.file result
+            (λ f g. (g ≡ f) × OnOk result (R.File.synced g whole)) }
+        ensures name { self.new.name ≡ self.old.name }
     {
-        self.open_alone()?;
-        match &self.lazy.file {
-            Some(file) => file.sync(whole),
-            None => Err(io::ErrorKind::NotFound.into()),
+        self.own()?;
+        match &self.file {
+            OwnFile::Own(file) => file.sync(whole),
+            _ => Err(io::ErrorKind::NotFound.into()),
         }
     }
 }
@@ -250,29 +282,10 @@ fn write_next<F: Write>(file: &mut F, bytes: &SlotBytes) -> io::Result<()>
     Ok(())
 }
 
-// Moves a file to a place, unless it is already there, as `at` may say.
-fn stand_at<F: Write + Seek>(file: &mut F, at: Option<u64>, place: u64) -> io::Result<()>
-    requires at { StandsAs F.Seek F.Write at file.old }
-    ensures moves { OnOk result (StandsAt F.Seek F.Write place file.old file.new) }
-    ensures at { OnOk result (IsAt F.Seek F.Write place file.new) }
+fn write_at<F: Write + Seek>(file: &mut F, slot: Slot, bytes: &SlotBytes) -> io::Result<()>
+    ensures { OnOk result (WritesSlot F.Seek F.Write slot file.old file.new bytes.now) }
 {
-    if at == Some(place) {
-        return Ok(());
-    }
-    move_to(file, place)
-}
-
-fn write_at<F: Write + Seek>(
-    file: &mut F,
-    at: Option<u64>,
-    slot: Slot,
-    bytes: &SlotBytes,
-) -> io::Result<()>
-    requires at { StandsAs F.Seek F.Write at file.old }
-    ensures writes { OnOk result (WritesSlot F.Seek F.Write slot file.old file.new bytes.now) }
-    ensures stands { OnOk result (IsAt F.Seek F.Write (slot_end slot) file.new) }
-{
-    stand_at(file, at, place_of(slot))?;
+    move_to(file, place_of(slot))?;
     write_next(file, bytes)
 }
 
@@ -293,28 +306,23 @@ fn write_first<F: Read + Write + Seek>(
     slot: Slot,
     bytes: &SlotBytes,
 ) -> io::Result<()>
-    ensures writes { OnOk result
-        (WritesFirst F.Seek F.Read F.Write slot file.old file.new bytes.now) }
-    ensures stands { OnOk result (IsAt F.Seek F.Write (slot_end slot) file.new) }
+    ensures { OnOk result (WritesFirst F.Seek F.Read F.Write slot file.old file.new bytes.now) }
 {
     expect_zeros(file)?;
-    write_at(file, None, slot, bytes)
+    write_at(file, slot, bytes)
 }
 
 fn write_in<F: Read + Write + Seek>(
     file: &mut F,
     kind: SlotFile,
-    at: Option<u64>,
     slot: Slot,
     bytes: &SlotBytes,
 ) -> io::Result<()>
-    requires at { StandsAs F.Seek F.Write at file.old }
-    ensures writes { OnOk result
+    ensures { OnOk result
         (WritesIn F.Seek F.Read F.Write kind slot file.old file.new bytes.now) }
-    ensures stands { OnOk result (IsAt F.Seek F.Write (slot_end slot) file.new) }
 {
     match kind {
-        SlotFile::Standing => write_at(file, at, slot, bytes),
+        SlotFile::Standing => write_at(file, slot, bytes),
         SlotFile::New => write_first(file, slot, bytes),
     }
 }

@@ -1,23 +1,24 @@
 //! The lock that a run takes on its journal's file, and the syncs of this file.
-ghost use Rattle.std.specs.Prelude.{⊤, Bool, OnOk};
+ghost use Rattle.std.specs.Prelude.{◌≡◌, ⊤, Bool, OnOk, OnErr};
 
 use std::fs::File;
 use std::io;
 
 /// A file that a run can take for itself.
 pub trait Lock {
-    /// What is known of a file after its lock was taken. By default nothing is.
-    ghost taken: { Self → Type 0 } = { λ _. ⊤ };
+    /// What is known of a file before and after its lock was taken. By default nothing is.
+    ghost taken: { Self → Self → Type 0 } = { λ _ _. ⊤ };
 
-    /// Takes the file for this run only. It is an error if another run holds it, or if the file
-    /// system gives no lock. The system releases the lock with the last handle of the file, even if
-    /// the process is killed.
-    fn try_lock(&self) -> io::Result<()>
-        ensures { OnOk result (taken self.now) };
+    /// Takes the file for this run only. A handle that holds the file may take it again. It is an
+    /// error if another run holds it, or if the file system gives no lock. The system releases the
+    /// lock with the last handle of the file, even if the process is killed.
+    fn try_lock(&mut self) -> io::Result<()>
+        ensures taken { OnOk result (taken self.old self.new) }
+        ensures untaken { OnErr result (self.new ≡ self.old) };
 }
 
 impl Lock for File {
-    fn try_lock(&self) -> io::Result<()> {
+    fn try_lock(&mut self) -> io::Result<()> {
         Ok(File::try_lock(self)?)
     }
 }

@@ -1,7 +1,6 @@
 //! How often the loops over a text call a box: each run is handed over whole, so that a line of the
 //! text costs only a few calls. No contract says so.
 ghost use Rattle.std.specs.Prelude.{◌≡◌};
-ghost use Rattle.link_box.specs.Links.{AreLinks};
 
 use super::BoxLines;
 use crate::counted_box::{Calls, Counted};
@@ -27,7 +26,6 @@ const TEXT: &[u8] = b"+000102030405060708090a0b0c0d0e0f101112131415161718191a1b1
 // Returns how often a box is called while the text is driven into it.
 fn calls_of<X: LineBox>(alloc: Global) -> Result<Calls, Fail>
     requires widths { X.widths_fit }
-    requires links { AreLinks X.link_in }
 {
     let served = X::link(Dir::Ab);
     let mut disk = SteadySlots::new(slot_of(0, &served), [0; 24]);

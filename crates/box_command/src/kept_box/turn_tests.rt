@@ -2,7 +2,6 @@
 //! bursts in runs, so that they cost only a few calls however long they are. No contract says so.
 ghost use Rattle.std.specs.Prelude.{◌≡◌, ◌+◌, ◌≤◌, length, OnOk};
 ghost use Rattle.yasir_ticks.specs.declared.TheConstants.{MAX_TICKS};
-ghost use Rattle.link_box.specs.Links.{AreLinks};
 ghost use Rattle.box_command.specs.KeptBox.{IsSteady, ticks_kept};
 
 use super::KeptBox;
@@ -50,7 +49,6 @@ const BURST: [u8; 500] = [0x41; 500];
 // Returns how often a box is called when it takes the burst and the two silences.
 fn calls_of<X: LineBox>(alloc: Global) -> Result<Calls, Fail>
     requires widths { X.widths_fit }
-    requires links { AreLinks X.link_in }
 {
     let mut kept: KeptBox<Counted<X>> = KeptBox::new(alloc, &[0; 16], Dir::Ab);
     take_silence(&mut kept, 1_000_000)?;

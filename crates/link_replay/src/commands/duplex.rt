@@ -4,7 +4,6 @@ ghost use Rattle.replay_status.specs.Causes.{InputCause, SinkCause};
 ghost use Rattle.replay_status.specs.Ends.{outside_before, outside_after};
 ghost use Rattle.replay_status.specs.Flushes.{FlushesAtEnd};
 ghost use Rattle.replay_status.specs.StreamCauses.{HasStreamCauses};
-ghost use Rattle.link_box.specs.Links.{AreLinks};
 ghost use Rattle.box_command.specs.KeptBox.{timed_of};
 ghost use Rattle.box_command.specs.Recording.{both_with};
 ghost use Rattle.link_replay.specs.declared.words.Command.TheVariants.{Duplex};
@@ -32,8 +31,6 @@ fn duplex_keyed<S: LineBox, C: LineBox, K: Source, I: Source, O: Sink, L: Sink, 
 ) -> Status
     requires outgoing { S.widths_fit }
     requires incoming { C.widths_fit }
-    requires outgoing_links { AreLinks S.link_in }
-    requires incoming_links { AreLinks C.link_in }
     ensures duplexes { DuplexesWith (both_with (timed_of S.walking S.line_of)
         (timed_of C.walking C.line_of) key.now dir)
         (I.left ends.entry.input.now) (I.left (outside_after ends.exit).input)
@@ -70,8 +67,6 @@ fn duplex_with<S: LineBox, C: LineBox, K: Source, I: Source, O: Sink, L: Sink, D
 ) -> Status
     requires outgoing { S.widths_fit }
     requires incoming { C.widths_fit }
-    requires outgoing_links { AreLinks S.link_in }
-    requires incoming_links { AreLinks C.link_in }
     ensures duplexes { DuplexesKeyed K.Source I.Source O.Sink L.Sink
         (both_in (timed_of S.walking S.line_of) (timed_of C.walking C.line_of) dir)
         (outside_before ends.entry) (outside_after ends.exit) result }

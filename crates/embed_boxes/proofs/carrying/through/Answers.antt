@@ -1,6 +1,6 @@
-use Rattle.{link_box.proofs.KnownLinks.known, link_format.specs.Setup.setup_of}
+use Rattle.{link_format.specs.Setup.setup_of}
 use Rattle.sequence_journal.proofs.LoadLemmas.{blank_holds_none}
-use Rattle.sequence_journal.specs.{Journal.RefusesInit, Links.IsLink, Slots.greatest}
+use Rattle.sequence_journal.specs.{Journal.RefusesInit, Slots.greatest}
 use Rattle.sequence_journal.specs.declared.journal.InitError.{InitError}
 use Rattle.sequence_journal.specs.declared.journal.InitError.TheVariants.{Fault, Stands}
 use Rattle.sequence_journal.specs.declared.link.LinkId.{LinkId}
@@ -15,12 +15,6 @@ nothing-refuses link slots told Fault none refused = omega (arith, refused.0)
 nothing-refuses link slots told (Stands floor) none refused =
     let both : None ≡ Some floor = sym none ∙ refused.0 in
     cc
-
-pub init-requires : goal.init-requires
-init-requires g c = record {
-  link = subst IsLink (sym c.link-link.ensures)
-      (known g.X.LinkBox.link_in c.requires.links c.args.dir);
-}
 
 pub returns-in-Ok-pass_line-clause-other : goal.returns-in-Ok-pass_line-clause-other
 returns-in-Ok-pass_line-clause-other g c =

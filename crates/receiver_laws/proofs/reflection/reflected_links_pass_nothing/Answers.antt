@@ -8,7 +8,7 @@ returns-clause-reflected g c = λ profile other fit seal_floor check_floor line.
     g.R.LineRules.framed fit seal_floor check_floor line
 
 pub returns-clause-nothing : goal.returns-clause-nothing
-returns-clause-nothing g c = λ profile other fit never seal_floor check_floor line.
+returns-clause-nothing g c = λ profile other fit seal_floor check_floor line never.
     nothing-passes profile other g.R.LineRules.rules g.R.LineRules.lawful g.R.LineRules.headed
     g.R.LineRules.framed fit seal_floor check_floor line never
 

@@ -2,9 +2,9 @@ use Rattle.sequence_journal.{proofs.SlotLemmas.link_holds, specs.Slots.link_held
 use Rattle.std.proofs.Common.{◌≡◌, ◌∙◌, None, Some, rules}
 use Rattle.sequence_journal.proofs.numbers.link_in.Goals as goal
 
-pub returns-then-not-is_known-clause-only : goal.returns-then-not-is_known-clause-only
+pub returns-then-not-has_direction-clause-only : goal.returns-then-not-has_direction-clause-only
 unfolding link_held
-returns-then-not-is_known-clause-only c n link within right is =
+returns-then-not-has_direction-clause-only c n link within right is =
     let none : None ≡ link_held c.args.slot.now = search rules in
     none ∙ link_holds n link c.args.slot.now within right is
 

@@ -1,13 +1,8 @@
-use Rattle.{box_command.proofs.Kept.keeps-none, link_box.proofs.KnownLinks.known}
-use Rattle.{link_format.specs.Setup.setup_of}
+use Rattle.{box_command.proofs.Kept.keeps-none, link_format.specs.Setup.setup_of}
 use Rattle.sequence_journal.proofs.LoadLemmas.{blank_holds_none}
-use Rattle.sequence_journal.specs.{Links.IsLink, Slots.greatest}
+use Rattle.sequence_journal.specs.Slots.{greatest}
 use Rattle.std.proofs.Common.{◌∙◌, ap, subst, sym, refl, []}
 use Rattle.box_command.proofs.kept_box.KeptBox.new.Goals as goal
-
-pub new_journal-journal-requires-clause-link : goal.new_journal-journal-requires-clause-link
-new_journal-journal-requires-clause-link g c = subst IsLink (sym c.link-link.ensures)
-    (known g.B.LinkBox.link_in c.requires.links c.args.dir)
 
 pub new_journal-journal-requires-clause-none : goal.new_journal-journal-requires-clause-none
 new_journal-journal-requires-clause-none g c = ap greatest c.new-disk.ensures ∙ blank_holds_none

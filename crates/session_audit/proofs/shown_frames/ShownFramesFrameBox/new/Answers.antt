@@ -1,13 +1,8 @@
-use Rattle.{link_box.proofs.KnownLinks.known, link_format.specs.Setup.setup_of}
-use Rattle.sequence_journal.specs.{Journal.journal_floor, Links.IsLink}
+use Rattle.{link_format.specs.Setup.setup_of, sequence_journal.specs.Journal.journal_floor}
 use Rattle.session_audit.proofs.Starting.{no-note, no-tick}
 use Rattle.session_audit.specs.FramesOf.{frames_among}
 use Rattle.std.proofs.Common.{ap, subst, sym, []}
 use Rattle.session_audit.proofs.shown_frames.ShownFramesFrameBox.new.Goals as goal
-
-pub journal_at-journal-requires-clause-link : goal.journal_at-journal-requires-clause-link
-journal_at-journal-requires-clause-link g c = subst IsLink (sym c.link-link.ensures)
-    (known g.X.LinkBox.link_in c.requires.widths.2 c.args.dir)
 
 pub returns-clause-stands : goal.returns-clause-stands
 returns-clause-stands g c = record {

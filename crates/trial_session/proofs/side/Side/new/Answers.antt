@@ -1,13 +1,8 @@
 use Rattle.sequence_journal.proofs.LoadLemmas.{blank_holds_none}
-use Rattle.sequence_journal.specs.{Journal.journal_floor, Links.IsLink, Slots.greatest}
+use Rattle.sequence_journal.specs.{Journal.journal_floor, Slots.greatest}
 use Rattle.std.proofs.Common.{◌∙◌, [], ap, replicate, subst, sym}
 use Rattle.trial_session.proofs.{Counting.counts-nothing, Starting.is-made, Starting.floor-of}
 use Rattle.trial_session.proofs.side.Side.new.Goals as goal
-
-pub init-requires : goal.init-requires
-init-requires g c = record {
-  link = subst IsLink (sym c.link-link.ensures) c.requires.links.ab;
-}
 
 pub unwrap-journal-requires : goal.unwrap-journal-requires
 unwrap-journal-requires g c =
