@@ -1,4 +1,5 @@
-# try: builds the program without proving it, and runs one recorded session through it. Nothing is promised of that build.
+# try: builds the program without proving it, and runs one recorded session through it, or a capture of your own with
+#      CAPTURE=FILE RATE=9600x11 P=rtu. Nothing is promised of that build, which is kept in out/try/.
 # demo: proves the program crate by crate, runs it over a recorded exchange in both directions, and compares what it
 #       writes with examples/expected/; then it writes a page that shows the exchange, out/timeline.html. JOBS is the most
 #       crates that are proved side by side; without it, as many are as processors and memory allow.
@@ -10,7 +11,7 @@
 .PHONY: try demo test check reading live
 
 try:
-	@python3 scripts/try.py
+	@python3 scripts/try.py $(if $(CAPTURE),$(foreach name,CAPTURE RATE P START FRAMES,$(if $($(name)),"$(name)=$($(name))")))
 
 demo:
 	@python3 scripts/demo.py $(JOBS)

@@ -54,7 +54,9 @@ uint32_t yasir_version(void);
 /* A handle: it holds a box, a spacer, or nothing. It is {0} if it holds nothing. A caller sets it to
  * {0} once, and neither reads nor writes its fields after that.
  *
- * The memory that a handle holds, and the stack that a call needs, are in docs/C_LIBRARY.md. */
+ * On x86-64 a box is one block of 1,024 bytes. A spacer is one of these, and two more blocks with 300
+ * bytes for each frame that may wait. A call for a box needs up to 6,100 bytes of stack, and one for a
+ * spacer up to 1,000. These sizes were measured by scripts/clib_sizes.py, and aren't proved. */
 typedef struct { void *box; uint8_t holds; } yasir_handle;
 
 /* The bytes of one slot and of both, and the room in bytes that `sent` of the calls for runs must
@@ -149,7 +151,8 @@ uint8_t yasir_step(yasir_handle *handle, uint16_t tick, yasir_answer *answer, ui
  * Returns YASIR_OK if `ok` is 1: `answer` has the tick and the note that were withheld, with
  * YASIR_NO_COMMIT, and the box takes the next tick. Returns YASIR_STOPPED if `ok` is 0: `answer` is
  * unchanged, what was withheld is never returned, and from then on yasir_step and yasir_committed
- * return YASIR_STOPPED and the calls for runs take nothing. The next start loads the journal again.
+ * return YASIR_STOPPED, unless an argument is bad, and the calls for runs take nothing. The next start
+ * loads the journal again.
  *
  * Otherwise it returns YASIR_BAD_ARGUMENT (`ok` is above 1, or nothing is withheld) or YASIR_EMPTY
  * (the handle holds no box), and box and answer are unchanged. */

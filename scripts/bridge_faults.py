@@ -234,6 +234,15 @@ def recordings(tried):
         tried.see(status == 4 and b"recording" in log and numbers(out) == [1], "the recording %s on a full disk: %d, %r" % (name, status, log))
 
 
+    os.symlink("/dev/full", tried.path("rec.device.ticks"))
+    daemon = Daemon(tried, "sent", "-b", "230400", "-w", tried.path("rec"))
+    daemon.send(daemon.device, (0, bytes(3000)))
+    daemon.gather(0.7)
+    told = tried.bytes("log")
+    status, _, log = daemon.end()
+    tried.see(status == 4 and b"recording" in told and log.count(b"recording") == 1, "a long recording on a full disk, told while it runs: %d, %r" % (status, log))
+
+
 def pauses(tried):
     """The pause before a trailer is right, or too long."""
     for pause, right in ((PAUSE, True), (20, False)):

@@ -21,7 +21,7 @@ ROOT = os.path.dirname(os.path.dirname(os.path.abspath(__file__)))
 LOGS = os.path.join(ROOT, "out", "check")
 LEVELS = ("quick", "change", "release")
 MEMORY = "/dev/shm"
-TOOLS = ("cc", "valgrind", "mbpoll", "tshark", "text2pcap", "editcap", "sigrok-cli")
+TOOLS = ("cc", "nm", "valgrind", "mbpoll", "tshark", "text2pcap", "editcap", "sigrok-cli")
 LIBRARY = os.path.join(ROOT, "crates", "yasir_c", "out", "libyasir_c.a")
 
 # A script, what it needs, and its words at each level, or None if the level doesn't run it. PROGRAM, LIVE, BEFORE and MEMORY are
@@ -36,24 +36,27 @@ def same(*words):
 CHECKS = [
     Check("prove_check", (), *same()),
     Check("docs_check", (), *same()),
+    Check("reading", (), *same()),
     Check("refusals", (), *same()),
     Check("docs_commands", ("program",), *same("PROGRAM")),
     Check("trial_model", ("program",), *same("compare", "PROGRAM")),
     Check("random_lines", ("program",), ["200", "PROGRAM"], ["2000", "PROGRAM", "2"], ["20000", "PROGRAM", "3"]),
     Check("audit", ("program",), ["330", "PROGRAM"], ["3300", "PROGRAM", "2"], ["13200", "PROGRAM", "3"]),
     Check("duplex", ("program",), ["150", "PROGRAM"], ["1500", "PROGRAM", "2"], ["6000", "PROGRAM", "3"]),
+    Check("try_check", ("program", "line_capture"), *same("PROGRAM")),
     Check("closed_streams", ("program", "link_live"), *same("PROGRAM", "LIVE")),
     Check("init_over", ("program",), *same("PROGRAM")),
     Check("live_pipe", ("program", "link_live"), *same("LIVE", "PROGRAM")),
     Check("two_runs", ("program",), ["PROGRAM", "2"], ["PROGRAM", "10"], ["PROGRAM", "60"]),
     Check("taken_over", ("program", "cc"), *same("PROGRAM")),
+    Check("inlined", ("program", "nm"), None, ["PROGRAM"], ["PROGRAM"]),
     Check("killed_seal", ("program", "memory"), None, ["40", "PROGRAM", "MEMORY"], ["400", "PROGRAM", "MEMORY"]),
     Check("killed_check", ("program", "memory"), None, ["40", "PROGRAM", "MEMORY"], ["400", "PROGRAM", "MEMORY"]),
     Check("refused_memory", ("program", "cc"), None, ["PROGRAM"], ["PROGRAM"]),
     Check("guard", ("program", "libmodbus"), None, ["PROGRAM"], ["PROGRAM", "2000", "2"]),
     Check("clib_check", ("program", "library", "cc"), None, ["PROGRAM", "10000"], ["PROGRAM"]),
     Check("clib_spacer", ("library", "cc"), None, ["2000"], ["20000", "2"]),
-    Check("journal_faults", ("program", "library", "cc"), *same("PROGRAM")),
+    Check("journal_faults", ("program", "library", "cc"), *same("PROGRAM", "LIVE")),
     Check("filter_words", ("program", "library", "cc"), ["PROGRAM"], ["PROGRAM", "1000", "2"], ["PROGRAM", "10000", "3"]),
     Check("bridge_faults", ("program", "library", "cc"), None, ["PROGRAM"], ["PROGRAM"]),
     Check("live", ("library", "libmodbus", "mbpoll"), None, None, []),

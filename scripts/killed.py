@@ -28,12 +28,17 @@ def held(slots, made):
     return [number for number, slot in numbers if number <= LIMIT and slot == made(number)]
 
 
+def holds_any(slot):
+    """Whether a slot holds a number for a link of any label and profile, whose direction is 0 or 1."""
+    return slot == completed(slot[:12]) and slot[9] < 2 and slot[11] == 2 and int.from_bytes(slot[:8], "big") <= LIMIT
+
+
 def floor_of(path, link=("rtu", "ab")):
     """The number that a run of this link loads from the file, or None if it loads none."""
     data = open(path, "rb").read().ljust(80, b"\0")
     new, old = (data[32:56], data[56:80]), held((data[:16], data[16:32]), old_slot_of)
     own = held(new, lambda number: slot_of(number, link))
-    if not own and any(held(new, lambda number: slot_of(number, other)) for other in LINKS):
+    if not own and any(map(holds_any, new)):
         return None
     return max(own + old, default=None)
 

@@ -13,9 +13,11 @@ at a call, and writes down which calls a run makes. It ends with 1 if a run does
 import os, random, re, subprocess, sys, tempfile
 
 import built
-from killed import KEY, LINKS, floor_of, old_slot_of, slot_of
+from killed import KEY, LINKS, completed, floor_of, old_slot_of, slot_of
 
 LINK, OTHER = ("rtu", "ab"), ("dnp24", "ba")
+# The labels and the profiles of links that no words of the program name.
+UNKNOWN = [(3, 18), (1, 20), (2, 0), (255, 255)]
 FRAME = b"+01030000000ac5cd\n-40\n"
 OLD, BLANK, BLANK_OLD, TORN = old_slot_of(5), bytes(24), bytes(16), b"\x11" * 24
 ZERO_OLD = "dd if=/dev/zero of=%s bs=1 count=32 conv=notrunc"
@@ -148,7 +150,12 @@ def every_link(runs):
                 status, log = runs.run(command, link, b"")
                 right = (0, b"") if link == own else (12, b"fault: wrong link %s\n" % slot_of(7, own).hex().encode())
                 runs.see((status, log) == right and runs.bytes() == before, "%s %s over %s: status %d, %r" % (command, link, own, status, log))
-    print("%d runs over journals of %d links" % (2 * len(LINKS) ** 2, len(LINKS)))
+        for label, profile in UNKNOWN:
+            slot = completed((7).to_bytes(8, "big") + bytes([label, 0, profile, 2]))
+            runs.put(BLANK_OLD, BLANK_OLD, slot)
+            end = runs.run(command, LINK, b"")
+            runs.see(end == (12, b"fault: wrong link %s\n" % slot.hex().encode()), "%s over %d %d: %r" % (command, label, profile, end))
+    print("%d runs over journals of %d links, and %d over those of others" % (2 * len(LINKS) ** 2, len(LINKS), 2 * len(UNKNOWN)))
 
 
 def other_slots(runs):

@@ -410,8 +410,9 @@ def test_values(page):
     frames = [list(bytes.fromhex(body)) for body in bodies]
     line = [tick for frame in frames for tick in frame + list(Rtu.end(frame)) + [None] * 40]
     page.make("rtu", "device=" + write(page, "values", model.canonical(line)))
-    # Words are found one behind the other, and the first letters of a word are enough. 65535 is ffff, 258 is 0102 and 266 is 010a. Nothing has 6 as a value: there it is a function's code.
-    for query, count in (("=65535", 3), ("65535", 3), ("=258", 2), ("=266", 1), ("=7", 2), ("=16", 1), ("=6", 0), ("register 258", 2),
+    # Words are found one behind the other, and the first letters of a word are enough. The code of write multiple registers is 10 in
+    # hex. 65535 is ffff, 258 is 0102 and 266 is 010a. Nothing has 6 as a value: there it is a function's code.
+    for query, count in (("=65535", 3), ("65535", 3), ("=258", 2), ("=266", 1), ("=7", 2), ("=16", 1), ("=6", 0), ("=10", 0), ("register 258", 2),
                          ("values 65535", 2), ("values 7 65535", 1), ("=1", 5), ("=655", 0)):
         checked.equal("search for %s" % query, page.search(query), "1 of %d" % count if count else "nothing found")
     page.search("values 65535")
@@ -472,19 +473,21 @@ def test_small(page):
     checked = page.checked
     for width, height in SIZES:
         page.window.size(width, height)
-        page.make(*words_of("rtu", "Requests, as an attacker left the link", RTU_FILES, RTU_NOTES))
+        page.make(*words_of("rtu", "Requests, as an attacker left the link", RTU_FILES, RTU_NOTES), "--lane", "one more=" + RTU_FILES["device"],
+                  "--lane", "the last=" + RTU_FILES["came"], "remark=More lanes than there is room for.")
         whole = page.see("document.documentElement.scrollHeight <= window.innerHeight && document.documentElement.scrollWidth <= window.innerWidth")
         checked.true("the page is no larger than %d by %d" % (width, height), whole)
-        lanes, queries = set(), ["refused tag"] * 6 + ["sealed"] * 4
+        lanes, queries = set(), ["refused tag"] * 6 + ["sealed"] * 4 + ["c5cd"] * 14
+        names = dict(TITLES, own4="one more", own5="the last")
         for step in range(11 + len(queries)):
             if step < 11:
                 page.window.key("n")
             else:
                 page.search(queries[step - 11])
-            lane = next(lane for lane in TITLES if page.details()[0].startswith(TITLES[lane]))
+            lane = next(lane for lane in names if page.details()[0].startswith(names[lane] + ", "))
             lanes.add(lane)
             checked.equal("%s at %d by %d" % (page.details()[0], width, height), page.outside(lane), "")
-        checked.equal("lanes that were looked at", lanes, set(TITLES))
+        checked.equal("lanes that were looked at", lanes, set(names))
 
 
 def test_collisions(page):

@@ -46,8 +46,9 @@ function roundStep(least) {
 }
 
 /** What a pill says of some notes: the first of these texts for which there is room. Of one note
- * they are all that is to be said, the note, its first word, and nothing but a sign. Of several they
- * are all that is to be said, how many there are of each first word, and how many there are. */
+ * they are all that is to be said, the note, its first word, and nothing but a sign. Of several
+ * they are all that is to be said (of at most three), how many there are of each first word, and
+ * how many there are. */
 function notesText(notes, hasRoom) {
   if (notes.length === 1) {
     const [{ words }] = notes;

@@ -1,2 +1,1 @@
 mod OneDirection
-mod PassedRuns

@@ -8,7 +8,6 @@ use sequence_journal::{Journal, JournalFault};
 use yasir_io::SlotDisk;
 use yasir_ticks::Tick;
 
-
 /// In which direction a number wasn't committed.
 #[derive(Clone, Copy, Debug, PartialEq, Eq)]
 pub enum DuplexFault {

@@ -9,7 +9,6 @@ use std::test::Fail;
 use yasir_io::{MemSlots, Plan, SlotDisk, SteadySlots};
 use yasir_ticks::{Tick, TickRun};
 
-
 /// The duplex box of Modbus RTU with profile y18.
 type RtuDuplex = Duplex<Rtu, HmacSha1, 2, 18>;
 

@@ -7,7 +7,6 @@ use Rattle.yasir_io.specs.declared.files.FileSlots.{FileSlots}
 use Rattle.yasir_io.specs.declared.files.SlotFile.TheVariants.{Standing}
 use Rattle.replay_status.specs.Given.{IsKeyFile, IsJournalFile}
 use Rattle.replay_status.specs.Statuses.{exit_status_of}
-use Rattle.replay_status.specs.declared.given.TheConstants.{NOT_GIVEN}
 use Rattle.replay_status.specs.declared.status.Status.{Status}
 use Rattle.replay_status.specs.declared.status.Status.TheVariants.{Usage, NoMemory}
 use Rattle.live_port.specs.declared.port.Port.{Ghosts as Port}
@@ -41,4 +40,4 @@ module _ {R F D P : Type 0}
   EndsOverFiles words asked before after exit_status =
       ((status : Status) × (exit_status ≡ exit_status_of status)
       × RunsOverFiles words asked before after status)
-      ⊎ ((after ≡ before) × ((exit_status ≡ NOT_GIVEN) ⊎ (exit_status ≡ exit_status_of NoMemory)))
+      ⊎ ((after ≡ before) × ((exit_status ≡ 13) ⊎ (exit_status ≡ exit_status_of NoMemory)))

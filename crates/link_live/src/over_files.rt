@@ -101,7 +101,7 @@ pub fn run_over_files<'a, R: OpensFiles + AllocGlobal, P: Port>(
 where
     R::File: Lock + Durable,
     // If the runtime gives no words, nothing is done.
-    ensures no_words { IsErr args → result ≡ NOT_GIVEN }
+    ensures no_words { IsErr args → result ≡ 13 }
     ensures untouched { IsErr args → port.new ≡ port.old }
 
     // What was done, and the exit status, for each command that the words may ask for.

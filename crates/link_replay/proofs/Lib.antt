@@ -10,3 +10,4 @@ pub mod Trials
 pub mod Numbers
 pub mod Paths
 pub mod Auditing
+pub mod HelpPage

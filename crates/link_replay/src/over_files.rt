@@ -106,7 +106,7 @@ pub fn run_over_files<'a, R: OpensFiles + AllocGlobal, S: Source, O: Sink, L: Si
 where
     R::File: Lock + Durable,
     // If the runtime gives no words, nothing is done.
-    ensures no_words { IsErr args → result ≡ NOT_GIVEN }
+    ensures no_words { IsErr args → result ≡ 13 }
     ensures untouched { IsErr args
         → streams input.new out.new log.new ≡ streams input.old out.old log.old }
 

@@ -10,7 +10,7 @@ use crate::fresh::{FreshJournal, fresh_disk, load_fresh};
 use crate::over_boxes::{KEY, run_ends};
 use crate::packets::{self, DNP_PACKET, LINKS, Link, RTU_PACKET, packet_of};
 use crate::receiver_runs::{Burst, NO_BURST, alike, front_with, link_of, part_at};
-use crate::texts::repeated;
+use crate::texts::{add_times, repeated};
 use box_command::LineBox;
 use burst_walk::RunBytes;
 use check_receiver::Checker;
@@ -426,6 +426,25 @@ fn bursts_that_do_not_pass_take_few_turns(rt: HostRuntime) -> Result<(), Fail> {
         checks_frame(&rt, rt.alloc(), link, NO_BURST, TURNS_OF_A_PACKET)?;
         let soon = Burst { pause: 4, count: 4 };
         checks_frame(&rt, rt.alloc(), link, soon, TURNS_OF_A_PACKET + 2)?;
+    }
+    Ok(())
+}
+
+// The header of the longest DNP3 frame, which has 282 more bytes.
+const LONGEST_HEADER: &[u8] = b"\x05\x64\xFF\xC4\x01\x00\x00\x04\x27\x27";
+
+// The 282 bytes of the fill leave in runs of up to 64.
+const TURNS_OF_A_FILL: usize = 5;
+
+// A frame that is cut off behind its header is refused, and what it lacks leaves as a fill.
+#[test]
+fn the_fill_of_a_frame_takes_few_turns(rt: HostRuntime) -> Result<(), Fail> {
+    let alloc = rt.alloc();
+    let most = TURNS_OF_A_PACKET + TURNS_OF_A_FILL;
+    for link in [Link::Dnp, Link::WideDnp] {
+        let mut line = LONGEST_HEADER.to_vec(alloc)?;
+        add_times(&mut line, b".", 350)?;
+        checks(&rt, alloc, link, line.as_slice(), most)?;
     }
     Ok(())
 }

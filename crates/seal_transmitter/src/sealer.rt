@@ -12,7 +12,6 @@ use sequence_journal::{Journal, JournalFault, LIMIT};
 use yasir_io::SlotDisk;
 use yasir_ticks::{LineBytes, MAX_TICKS, T3_5_TICKS, Tick};
 
-
 /// The transmitter, by the rules `R` of a protocol, with words of `B` bytes and tags by `M`. It
 /// forwards the live bytes of each burst that isn't early, each in its own tick. After a burst that
 /// it seals, it sends a trailer: the low bytes of the number, and the tag.

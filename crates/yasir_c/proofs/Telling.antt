@@ -1,12 +1,14 @@
 -- All that C reads of a box is what the definition of the box says.
-use Rattle.std.proofs.Common.{◌≡◌, ◌∙◌, ℕ, ◌+◌, List, [], ◌∷◌, ◌++◌, suc, length, map, take, refl, sym, ap, subst, arith}
-use Rattle.std.proofs.Common.{append_assoc}
+use Rattle.std.proofs.Common.{◌≡◌, ◌∙◌, ℕ, ◌+◌, List, [], ◌∷◌, ◌++◌, suc, length, map, take}
+use Rattle.std.proofs.Common.{refl, sym, ap, subst, arith, append_assoc}
 use Rattle.std.proofs.lemmas.List.{append-nil, map-append, length-map}
 use Rattle.{std.specs.Prelude.Option}
 use Rattle.std.specs.Prelude.{Some, None, nat_eq, if◌then◌else◌}
-use Rattle.any_box.specs.{Boxes.kind_of, Boxes.definition_of, Boxes.definition_by, Boxes.StandsAt, Noting.Definition}
+use Rattle.any_box.specs.Boxes.{kind_of, definition_of, definition_by, StandsAt}
+use Rattle.any_box.specs.Noting.{Definition}
 use Rattle.any_box.specs.Held.{floor_held, Begins, Holds, StepsHeld}
-use Rattle.any_box.specs.declared.any_note.AnyNote.{AnyNote, TheVariants.OfSealer, TheVariants.OfChecker}
+use Rattle.any_box.specs.declared.any_note.AnyNote.{AnyNote}
+use Rattle.any_box.specs.declared.any_note.AnyNote.TheVariants.{OfSealer, OfChecker}
 use Rattle.any_box.specs.declared.{held_box.HeldBox.HeldBox, held_box.HeldStep.HeldStep}
 use Rattle.any_box.specs.declared.{kind.Kind.Kind, owed.Commit.Commit}
 use Rattle.any_box.specs.declared.kind.Part.{Part, TheVariants.Sealer, TheVariants.Checker}
@@ -30,7 +32,8 @@ use Rattle.rtu_frame.specs.declared.rtu.Rtu.{Rtu}
 use Rattle.seal_judgements.specs.declared.note.SealNote.TheVariants.{Sealed, Unsealed}
 use Rattle.yasir_c.specs.Answers.{answer_of, numbers_in, tick_bytes}
 use Rattle.yasir_c.specs.Holding.{TakesTick, TakesFront, HandsOut, Stops}
-use Rattle.yasir_c.specs.Telling.{tick_told, note_told, notes_told, quiet, AreAnswers, HasTold, Tells}
+use Rattle.yasir_c.specs.Telling.{tick_told, note_told, notes_told, quiet}
+use Rattle.yasir_c.specs.Telling.{AreAnswers, HasTold, Tells}
 use Rattle.yasir_c.specs.Withholding.{ready, readiness_after}
 use Rattle.yasir_c.specs.declared.answer.{Answer.Answer, NoteNumbers.NoteNumbers}
 use Rattle.yasir_c.specs.declared.held.Held.{Held, TheVariants.LineBox, TheVariants.Spacer}
@@ -217,7 +220,8 @@ module _ (rtu : LineRules Rtu) (dnp : LineRules Dnp) (short : Mac HmacSha1)
         kind_is = has.kind_is;
         holds = has.holds;
         told = subst (λ r. HasTold (made kind) setup (line ++ t ∷ []) r
-            (some ++ answer_of step ∷ [])) (sym (readiness-is new t step old None takes is)) has.are;
+            (some ++ answer_of step ∷ []))
+            (sym (readiness-is new t step old None takes is)) has.are;
       }
 
   pub tells-less : (kind : Kind) (setup : Setup) (old new : WithholdingBox) (line : List Tick)
@@ -314,5 +318,8 @@ module _ (rtu : LineRules Rtu) (dnp : LineRules Dnp) (short : Mac HmacSha1)
       record {
         kind_is = begins.kind_is;
         holds = begins.holds;
-        told = record { ticks_are = sym (no-other kind setup); notes_are = sym (ap told (no-notes kind.part kind.proto kind.profile setup)) };
+        told = record {
+          ticks_are = sym (no-other kind setup);
+          notes_are = sym (ap told (no-notes kind.part kind.proto kind.profile setup));
+        };
       }

@@ -101,8 +101,8 @@ TellsStep step answer slot Is.Commit = (commit : Commit) × (step.commit ≡ Som
     × (answer ≡ asking commit) × (slot ≡ commit.bytes)
 TellsStep step answer slot status = ⊥
 
--- What has happened, by the status: the answer that was withheld is returned, or the box is stopped,
--- or there is a cause to return none, and nothing has changed.
+-- What has happened, by the status: the answer that was withheld is returned, or the box is
+-- stopped, or there is a cause to return none, and nothing has changed.
 abbrev pub CommittedBy : Option Held → Option Held → ℕ → Answer → Answer → Status → Type 0
 CommittedBy old new ok answer_old answer_new Is.Done = (ok ≡ 1) × HandsOut old new answer_new
 CommittedBy old new ok answer_old answer_new status =

@@ -51,8 +51,8 @@ spaced_of step = record {
 
 -- The devices as which a spacer hears a line.
 module _ (rtu : Device RtuDevice) (dnp : Device (ForgetfulDevice Dnp)) where
-  -- Holds if a spacer begins with room for a frame or more, and the handle, which held nothing, holds
-  -- it.
+  -- Holds if a spacer begins with room for a frame or more, and the handle, which held nothing,
+  -- holds it.
   pub record MakesSpacer (protocol profile room : ℕ) (old new : Option Held) : Type 0 where
     pub held : HeldSpacer
     pub kind : SpacerKind

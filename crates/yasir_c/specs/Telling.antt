@@ -1,5 +1,5 @@
--- What C has read of a box in all: the answers to all ticks that the box has taken, but for one that is
--- withheld.
+-- What C has read of a box in all: the answers to all ticks that the box has taken, but for one that
+-- is withheld.
 use Rattle.std.specs.Prelude.{◌≡◌, ℕ, ◌+◌, List, [], ◌∷◌, ◌++◌, map, Some, None}
 use Rattle.std.specs.Prelude.{nat_eq, if◌then◌else◌}
 use Rattle.yasir_ticks.specs.declared.tick.Tick.{Tick}
@@ -50,8 +50,8 @@ abbrev pub quiet : Tick → Answer
 quiet tick = answer_of (record { tick = tick; note = None; commit = None })
 
 -- Holds if these are the answers of a box to a line, one for each tick: the other line that the
--- definition of the box makes of it, and its notes, each in the answer to the tick into whose step it
--- falls.
+-- definition of the box makes of it, and its notes, each in the answer to the tick into whose step
+-- it falls.
 pub record AreAnswers (made : Definition) (setup : Setup) (line : List Tick)
     (answers : List Answer) : Type 0 where
   pub ticks_are : map tick_told answers ≡ made.other setup line

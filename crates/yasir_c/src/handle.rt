@@ -8,8 +8,8 @@ use crate::owner::Owner;
 use std::alloc::Global;
 use std::mem;
 
-/// What C holds: a box, a spacer or nothing. C neither reads nor writes the fields, beyond setting all
-/// bytes to 0 at the start.
+/// What C holds: a box, a spacer or nothing. C neither reads nor writes the fields, beyond setting
+/// all bytes to 0 at the start.
 #[repr(C)]
 #[derive(Drop)]
 pub struct Handle {
@@ -21,7 +21,7 @@ pub struct Handle {
 }
 
 impl Handle {
-    /// Returns a handle that holds nothing, as C makes it: its pointer is null, and its number is 0.
+    /// Returns a handle that holds nothing, as C makes it: the pointer is null, and the number 0.
     pub(crate) fn empty() -> Handle
         ensures { result.held.value ≡ None }
     {

@@ -42,8 +42,8 @@ impl Held {
         }
     }
 
-    /// Returns the answer that the box withholds if C has confirmed the number (1), and stops the box
-    /// if C couldn't write it (0).
+    /// Returns the answer that the box withholds if C has confirmed the number (1), and stops the
+    /// box if C couldn't write it (0).
     pub(crate) fn committed(&mut self, ok: u8) -> Result<Answer, Status>
         ensures handed { IfOk result (λ answer. (ok ≡ 1)
             × HandsOut (Some self.old) (Some self.new) answer) }

@@ -24,9 +24,9 @@ use rtu_frame::Rtu;
 
 /// What C reads of a box in all, whatever it calls. *begins*: C has read nothing of a box that has
 /// taken no tick. *answers*: after a step that uses no number it has read the answer of the step
-/// too. *withholds*: after one that uses a number it has not. *hands*: if it says that the number is
-/// written, it has. *stops*: if it says that the number couldn't be written, it never does. *runs*:
-/// after a run it has read the ticks that the box returned for it.
+/// too. *withholds*: after one that uses a number it has not. *hands*: if it says that the number
+/// is written, it has. *stops*: if it says that the number couldn't be written, it still has not.
+/// *runs*: after a run it has read the ticks that the box returned for it.
 pub fn all_answers_are_told()
     ensures begins { (kind : Kind) (dir : Dir) (key a b : List ℕ) (held : HeldBox)
         → Begins ⟦<Rtu as LineRules>⟧ ⟦<Dnp as LineRules>⟧ ⟦<HmacSha1 as Mac>⟧

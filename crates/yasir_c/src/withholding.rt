@@ -67,8 +67,8 @@ impl WithholdingBox {
         Ok(step)
     }
 
-    /// Returns the withheld answer if C has confirmed the number (1), and stops the box if C couldn't
-    /// write it (0).
+    /// Returns the withheld answer if C has confirmed the number (1), and stops the box if C
+    /// couldn't write it (0).
     pub(crate) fn committed(&mut self, ok: u8) -> Result<Answer, Status>
         ensures handed { IfOk result (λ answer. (ok ≡ 1)
             × HandsOut (Some (LineBox self.old)) (Some (LineBox self.new)) answer) }

@@ -51,6 +51,7 @@ docs/USAGE.md has the texts, the statuses, and more examples.
 ";
 
 /// Prints the page that lists the program's words.
+#[tactic(auto, using(crate::proofs::HelpPage::page_names_commands))]
 pub fn print_help<K: Source, S: Source, O: Sink, L: Sink, D: SlotDisk>(
     ends: Ends<K, S, O, L, D>,
 ) -> Status

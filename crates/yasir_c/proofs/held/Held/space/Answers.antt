@@ -6,7 +6,8 @@ use Rattle.yasir_c.proofs.held.Held.space.Goals as goal
 
 pub returns-in-Spacer-clause-steps : goal.returns-in-Spacer-clause-steps
 returns-in-Spacer-clause-steps c =
-    subst (λ r. IfOk r (SpacesTick _ _ (Some c.args.self.now) (Some (Spacer c.step.new.self)) c.args.t))
+    subst (λ r. IfOk r
+    (SpacesTick _ _ (Some c.args.self.now) (Some (Spacer c.step.new.self)) c.args.t))
     (sym c.ok_or.ensures.value)
     (spaces _ _ c.args.self.now c.in-Spacer.spacer c.step.new.self c.args.t c.step.result
     c.in-Spacer.is c.step.ensures)
