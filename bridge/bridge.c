@@ -82,7 +82,10 @@ static void fail(const char *what) { fail_with(what, strerror(errno)); }
 /* Without the byte for which there is no room, the bytes before and after it could be a frame. */
 static void push(queue *q, uint8_t byte, nanos at)
 {
-    if (q->count == ROOM) { fail_with("a port is too slow", "too many bytes wait"); return; }
+    if (q->count == ROOM) {
+        fail_with("too many bytes wait", "a port brings more than its rate, or takes less");
+        return;
+    }
     q->byte[(q->first + q->count) % ROOM] = byte;
     q->at[(q->first + q->count) % ROOM] = at;
     q->count++;
@@ -466,8 +469,11 @@ int main(int argc, char **argv)
     if (take_places() != 0) { perror("bridge: /"); return 4; }
     read_options(argc, argv);
     key_len = key_read(opt.key, key, &place);
-    if (key_len < 0) { fprintf(stderr, "bridge: %s: it can't be read\n", opt.key); return 3; }
-    if (key_len == 0) { fprintf(stderr, "bridge: %s: it is no key, from byte %zu on\n", opt.key, place); return 3; }
+    if (key_len <= 0) {
+        if (key_len < 0) fprintf(stderr, "bridge: %s: it can't be read\n", opt.key);
+        else fprintf(stderr, "bridge: %s: it is no key, from byte %zu on\n", opt.key, place);
+        return 3;
+    }
     make_box(&outgoing, YASIR_SEALER, opt.kind.direction, opt.sent, key, (size_t)key_len);
     make_box(&incoming, YASIR_CHECKER, !opt.kind.direction, opt.got, key, (size_t)key_len);
     try_disk(&outgoing, &opt.kind);

@@ -7,7 +7,7 @@
 #include <sys/file.h>
 #include <unistd.h>
 
-enum { OLD_LEN = 16, FIRST = 2 * OLD_LEN, FILE_LEN = FIRST + 2 * YASIR_SLOT_LEN };
+enum { OLD_LEN = 16, FIRST = 2 * OLD_LEN, FILE_LEN = FIRST + YASIR_SLOTS_LEN };
 
 int take_places(void)
 {

@@ -12,7 +12,7 @@
 int take_places(void);
 
 /* An open journal: its file, and slot A and then slot B as they were when it was opened. */
-typedef struct { int file; uint8_t slots[2 * YASIR_SLOT_LEN]; } journal;
+typedef struct { int file; uint8_t slots[YASIR_SLOTS_LEN]; } journal;
 
 /* Opens, locks and syncs the journal at `path`, and reads its slots. If `make` is 1 and the file is
  * missing or empty, makes a new journal for the link of this box first. Returns 0, or -1 after a line

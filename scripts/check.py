@@ -56,7 +56,7 @@ CHECKS = [
     Check("guard", ("program", "libmodbus"), None, ["PROGRAM"], ["PROGRAM", "2000", "2"]),
     Check("clib_check", ("program", "library", "cc"), None, ["PROGRAM", "10000"], ["PROGRAM"]),
     Check("clib_spacer", ("library", "cc"), None, ["2000"], ["20000", "2"]),
-    Check("journal_faults", ("program", "library", "cc"), *same("PROGRAM")),
+    Check("journal_faults", ("program", "library", "cc"), *same("PROGRAM", "LIVE")),
     Check("filter_words", ("program", "library", "cc"), ["PROGRAM"], ["PROGRAM", "1000", "2"], ["PROGRAM", "10000", "3"]),
     Check("bridge_faults", ("program", "library", "cc"), None, ["PROGRAM"], ["PROGRAM"]),
     Check("live", ("library", "libmodbus", "mbpoll"), None, None, []),

@@ -1,10 +1,10 @@
 #!/usr/bin/env python3
 """Makes the calls of the C programs on their journals and keys fail, and compares them with `link_replay`.
 
-    python3 scripts/journal_faults.py [PROGRAM]
+    python3 scripts/journal_faults.py [PROGRAM [LIVE]]
 
-PROGRAM is a link_replay, crates/link_replay/out/link_replay unless it is given. It and bridge/out/filter seal and check three frames.
-Each call on the journal fails in turn, a write also after some bytes: no number may be noted that the journal doesn't hold, the slot that
+PROGRAM is a link_replay and LIVE a link_live, those in crates/*/out unless they are given; without a link_live the rest is done. They and
+bridge/out/filter seal and check three frames. Each call on the journal fails in turn, a write also after some bytes: no number may be noted that the journal doesn't hold, the slot that
 keeps the last number must stay, and the next run must go on above all numbers that were noted. Each number must be synced before its
 note. A second run over a journal must be refused, whichever program it is. Journals of all kinds are given to filter, and to
 bridge/out/bridge with and without -i: only a missing or empty file may be made a journal, and nobody may be told to make a damaged one
@@ -29,7 +29,8 @@ DIGITS = "0123456789abcdefFEDCBA9876543210" * 5
 
 
 class Tried:
-    def __init__(self, folder, program):
+    def __init__(self, folder, program, live):
+        self.live = [] if built.lacking(live, "link_live") else [live]
         self.program, self.filter, self.bridge = program, bridge_build.build("filter"), bridge_build.build("bridge")
         self.key, self.journal, self.got = (os.path.join(folder, name) for name in ("key.txt", "journal", "got"))
         self.calls, self.made, self.wrong = Calls(folder, self.journal), 0, 0
@@ -133,12 +134,14 @@ def moved_on(tried, command, text):
 
 
 def faults(tried):
-    """Lets the calls of runs of filter and PROGRAM fail in turn."""
+    """Lets the calls of runs of each program fail in turn."""
     text = LINE
     for command in ("seal", "check"):
         other = in_order(tried, command, text)
         for content in KEPT.values():
             ends = [each_fails(tried, program, command, text, content) for program in (tried.filter, tried.program)]
+            for live in tried.live:
+                each_fails(tried, live, command, text, content)
             tried.see(ends[0] == ends[1], "%s: after a failed commit filter writes something else than PROGRAM: %r" % (command, ends))
         moved_on(tried, command, text)
         text = other
@@ -146,7 +149,8 @@ def faults(tried):
 
 def second_runs(tried):
     """Holds a journal by one program, and gives it to each."""
-    for holder in (tried.filter, tried.program):
+    programs = [tried.filter, tried.program, *tried.live]
+    for holder in programs:
         tried.put(tried.journal, STANDING)
         first = subprocess.Popen(tried.words("seal", holder), stdin=subprocess.PIPE, stdout=subprocess.PIPE, stderr=subprocess.PIPE,
                                  env=tried.calls.around())
@@ -155,7 +159,7 @@ def second_runs(tried):
             time.sleep(0.002)
         time.sleep(0.05)
         what = "while %s waits" % os.path.basename(holder)
-        for program in (tried.filter, tried.program):
+        for program in programs:
             done = subprocess.run(tried.words("seal", program), input=LINE, capture_output=True)
             tried.see((done.returncode, done.stdout) == (7, b"") and tried.bytes() == STANDING, "%s, %s: %r" % (what, program, done))
         done = subprocess.run([tried.bridge, "-k", tried.key, "-s", tried.journal, "-r", tried.got, NO_PORT, NO_PORT], capture_output=True)
@@ -246,7 +250,8 @@ def keys(tried):
 def main():
     program = built.program(sys.argv, 1)
     with tempfile.TemporaryDirectory(dir="/dev/shm" if os.path.isdir("/dev/shm") else None) as folder:
-        tried = Tried(folder, program)
+        tried = Tried(folder, program, sys.argv[2] if len(sys.argv) > 2 else built.path_of("link_live"))
+        print("with link_live" if tried.live else "without link_live")
         for part in (faults, second_runs, other_files, disk_tried, keys):
             before, begun = tried.made, time.monotonic()
             part(tried)

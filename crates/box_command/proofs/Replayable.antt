@@ -8,10 +8,10 @@ use Rattle.link_format.specs.Setup.{Setup}
 use Rattle.replay_status.proofs.Readable.{met_of_told, all_of_told, not_refused, not_too_long}
 use Rattle.replay_status.specs.Causes.{ReadsCause, SinkCause, NoneRose}
 use Rattle.replay_status.specs.{Outside.Outside, declared.status.Status.Status}
-use Rattle.replay_status.specs.declared.status.Status.TheVariants.{Done, Usage, BadTicks, ReadFault}
+use Rattle.replay_status.specs.declared.status.Status.TheVariants.{Done, BadTicks, ReadFault}
 use Rattle.replay_status.specs.declared.status.Status.TheVariants.{WriteFault, JournalFault}
-use Rattle.replay_status.specs.declared.status.Status.TheVariants.{TooLong, HasJournal, BadKey}
-use Rattle.replay_status.specs.declared.status.Status.TheVariants.{BadJournal, WrongLink, NoMemory}
+use Rattle.replay_status.specs.declared.status.Status.TheVariants.{TooLong, BadKey, BadJournal}
+use Rattle.replay_status.specs.declared.status.Status.TheVariants.{WrongLink}
 use Rattle.sequence_journal.{proofs.SlotLemmas.no_own_floor, specs.Links.HasDirection}
 use Rattle.sequence_journal.specs.Loading.{FindsNone, FindsOther}
 use Rattle.sequence_journal.specs.Slots.{own_floor, any_floor, old_floor, any_number_held, greater}
@@ -44,18 +44,14 @@ other_link_has_no_floor None any old None (Some b) place wrong is = rw is refl
 other_link_has_no_floor None any old (Some a) None place wrong is = rw is refl
 other_link_has_no_floor None any old (Some a) (Some b) place wrong is = rw is refl
 
--- a right key isn't refused
-pub no_key_refused : {told : Option (List ℕ)} (given : HasKey told) (met : List ℕ)
-    (now : Option (List ℕ)) (place : ℕ) → IsKeyMet told now met → IsNoKey met place → ⊥
-no_key_refused given met now place read none =
+-- a right key text is met whole
+pub whole_key_met : {told : Option (List ℕ)} (given : HasKey told) (met : List ℕ)
+    (now : Option (List ℕ)) → IsKeyMet told now met → given.text ≡ met
+whole_key_met given met now read =
     let is : IsKeyMet (Some given.text) now met =
     subst (λ left. IsKeyMet left now met) given.is read in
     elim is.whole [
-      | inl ended ↦ none.none (
-        given.key,
-        subst (λ t. IsKeyText t given.key) (all_of_told given.text met now is.met ended)
-            given.right,
-      )
+      | inl ended ↦ all_of_told given.text met now is.met ended
       | inr long ↦
           let rest = met_of_told given.text met now is.met in
           let all : length given.text ≡ length met + length rest.0 =
@@ -64,6 +60,14 @@ no_key_refused given met now place read none =
           key_text_short given.text given.key given.right in
           absurd (omega (arith, long, all, short))
     ]
+
+-- a right key isn't refused
+pub no_key_refused : {told : Option (List ℕ)} (given : HasKey told) (met : List ℕ)
+    (now : Option (List ℕ)) (place : ℕ) → IsKeyMet told now met → IsNoKey met place → ⊥
+no_key_refused given met now place read none = none.none (
+  given.key,
+  subst (λ t. IsKeyText t given.key) (whole_key_met given met now read) given.right,
+)
 
 -- Slots that have a floor for the link aren't refused.
 module _ {link : LinkId} {told : Option Slots} (given : HoldsJournal link told) where
@@ -107,9 +111,6 @@ module _ {K S O L D : Type 0} (k : Source K) (s : Source S) (o : Sink O) (l : Si
       → SinkCause (o.faults before.out) (o.faults after.out) (l.faults before.log)
       (l.faults after.log) status → status ≡ Done
   replayable_done Done h reads disk sinks = refl
-  replayable_done Usage h reads disk sinks = absurd h.runs
-  replayable_done (HasJournal floor) h reads disk sinks = absurd h.runs
-  replayable_done NoMemory h reads disk sinks = absurd h.runs
   replayable_done (BadTicks bad) h reads disk sinks =
       absurd (not_refused rest (s.left before.input) (s.left after.input) h.runs.items right.input
       bad h.runs.takes)
@@ -131,3 +132,4 @@ module _ {K S O L D : Type 0} (k : Source K) (s : Source S) (o : Sink O) (l : Si
       absurd (no_journal_refused right.journal a b directed h.runs.0)
   replayable_done (WrongLink slot) h reads disk sinks =
       absurd (wrong_link_refused right.journal slot h.runs.0)
+  replayable_done status h reads disk sinks = absurd h.runs

@@ -7,10 +7,10 @@ use Rattle.box_command.specs.ReplaysBox.{ReplaysBox}
 use Rattle.box_command.specs.Uptimes.{WasUptime, WasTakenOver, TookLine, IsUptimeOrNone}
 use Rattle.{hmac_tag.specs.declared.dir.Dir.Dir, link_format.specs.Setup.Setup}
 use Rattle.replay_status.specs.{Outside.Outside, declared.status.Status.Status}
-use Rattle.replay_status.specs.declared.status.Status.TheVariants.{Done, Usage, BadTicks, ReadFault}
+use Rattle.replay_status.specs.declared.status.Status.TheVariants.{Done, BadTicks, ReadFault}
 use Rattle.replay_status.specs.declared.status.Status.TheVariants.{WriteFault, JournalFault}
-use Rattle.replay_status.specs.declared.status.Status.TheVariants.{TooLong, HasJournal, BadKey}
-use Rattle.replay_status.specs.declared.status.Status.TheVariants.{BadJournal, WrongLink, NoMemory}
+use Rattle.replay_status.specs.declared.status.Status.TheVariants.{TooLong, BadKey, BadJournal}
+use Rattle.replay_status.specs.declared.status.Status.TheVariants.{WrongLink}
 use Rattle.sequence_journal.proofs.{LoadLemmas.while_loading, SlotLemmas.at_some}
 use Rattle.sequence_journal.proofs.{SlotLemmas.no_own_floor, UptimeLaws.ends-loading}
 use Rattle.sequence_journal.specs.{Journal.AreSameBut, Links.HasDirection, Loading.IsOld}
@@ -105,10 +105,7 @@ module _ {S O L D : Type 0} (s : Source S) (o : Sink O) (l : Sink L) (d : SlotDi
   run-is WriteFault h = inl (was h.floor _ h.floor_before h.uptime, refl)
   run-is (BadJournal a b) h = inr (inl (looked h.1))
   run-is (WrongLink slot) h = inr (inl (looked h.1))
-  run-is Usage h = absurd h
-  run-is (HasJournal floor) h = absurd h
-  run-is (BadKey place) h = absurd h
-  run-is NoMemory h = absurd h
+  run-is status h = absurd h
 
 module _ {K S O L D : Type 0} (k : Source K) (s : Source S) (o : Sink O) (l : Sink L)
     (d : SlotDisk D)
@@ -141,13 +138,4 @@ module _ {K S O L D : Type 0} (k : Source K) (s : Source S) (o : Sink O) (l : Si
   uptime-or-none (BadKey place) h = inr (inl (untouched h.same))
   uptime-or-none ReadFault (inl h) = inr (inl (untouched h.same))
   uptime-or-none ReadFault (inr ran) = keyed ReadFault ran
-  uptime-or-none Done ran = keyed Done ran
-  uptime-or-none Usage ran = keyed Usage ran
-  uptime-or-none (BadTicks bad) ran = keyed (BadTicks bad) ran
-  uptime-or-none WriteFault ran = keyed WriteFault ran
-  uptime-or-none JournalFault ran = keyed JournalFault ran
-  uptime-or-none (TooLong what count) ran = keyed (TooLong what count) ran
-  uptime-or-none (HasJournal floor) ran = keyed (HasJournal floor) ran
-  uptime-or-none (BadJournal a b) ran = keyed (BadJournal a b) ran
-  uptime-or-none (WrongLink slot) ran = keyed (WrongLink slot) ran
-  uptime-or-none NoMemory ran = keyed NoMemory ran
+  uptime-or-none status ran = keyed status ran

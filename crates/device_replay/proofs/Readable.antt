@@ -4,10 +4,8 @@ use Rattle.device_replay.specs.PrintsFrames.{PrintsFrames, read_rest}
 use Rattle.replay_status.proofs.Readable.{not_refused, not_too_long}
 use Rattle.replay_status.specs.Causes.{InputCause, SinkCause, NoneRose}
 use Rattle.replay_status.specs.{Readable.IsReadable, declared.status.Status.Status}
-use Rattle.replay_status.specs.declared.status.Status.TheVariants.{Done, Usage, BadTicks, ReadFault}
-use Rattle.replay_status.specs.declared.status.Status.TheVariants.{WriteFault, JournalFault}
-use Rattle.replay_status.specs.declared.status.Status.TheVariants.{TooLong, HasJournal, BadKey}
-use Rattle.replay_status.specs.declared.status.Status.TheVariants.{BadJournal, WrongLink, NoMemory}
+use Rattle.replay_status.specs.declared.status.Status.TheVariants.{Done, BadTicks, ReadFault}
+use Rattle.replay_status.specs.declared.status.Status.TheVariants.{WriteFault, TooLong}
 use Rattle.std.proofs.Common.{◌≡◌, ℕ, inl, inr, List, Option, refl}
 use Rattle.yasir_ticks.specs.declared.tick.Tick.{Tick}
 
@@ -25,10 +23,4 @@ module _ (reads : List Tick → List FrameRead) (before now out_before out_now :
   readable_done ReadFault h input sinks = absurd (calm.input input.0)
   readable_done WriteFault h input sinks =
       elim sinks [ inl out ↦ absurd (calm.out out) | inr log ↦ absurd (calm.log log) ]
-  readable_done Usage h input sinks = absurd h
-  readable_done JournalFault h input sinks = absurd h
-  readable_done NoMemory h input sinks = absurd h
-  readable_done (HasJournal floor) h input sinks = absurd h
-  readable_done (BadKey place) h input sinks = absurd h
-  readable_done (BadJournal a b) h input sinks = absurd h
-  readable_done (WrongLink slot) h input sinks = absurd h
+  readable_done status h input sinks = absurd h

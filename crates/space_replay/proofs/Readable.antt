@@ -3,10 +3,8 @@ use Rattle.line_texts.specs.Sending.{LineAndNotes, SinkTexts}
 use Rattle.replay_status.proofs.Readable.{not_refused, not_too_long}
 use Rattle.replay_status.specs.Causes.{InputCause, SinkCause, NoneRose}
 use Rattle.replay_status.specs.{Readable.IsReadable, declared.status.Status.Status}
-use Rattle.replay_status.specs.declared.status.Status.TheVariants.{Done, Usage, BadTicks, ReadFault}
-use Rattle.replay_status.specs.declared.status.Status.TheVariants.{WriteFault, JournalFault}
-use Rattle.replay_status.specs.declared.status.Status.TheVariants.{TooLong, HasJournal, BadKey}
-use Rattle.replay_status.specs.declared.status.Status.TheVariants.{BadJournal, WrongLink, NoMemory}
+use Rattle.replay_status.specs.declared.status.Status.TheVariants.{Done, BadTicks, ReadFault}
+use Rattle.replay_status.specs.declared.status.Status.TheVariants.{WriteFault, TooLong, NoMemory}
 use Rattle.space_replay.specs.SpacesLine.{SpacesLine, space_rest}
 use Rattle.std.proofs.Common.{◌≡◌, ◌⊎◌, ℕ, inl, inr, List, Option, refl}
 
@@ -25,9 +23,4 @@ module _ (made : LineAndNotes) (before now : Option (List ℕ)) (held_before hel
   spaced_done ReadFault h input sinks = absurd (calm.input input.0)
   spaced_done WriteFault h input sinks =
       elim sinks [ inl out ↦ absurd (calm.out out) | inr log ↦ absurd (calm.log log) ]
-  spaced_done Usage h input sinks = absurd h
-  spaced_done JournalFault h input sinks = absurd h
-  spaced_done (HasJournal floor) h input sinks = absurd h
-  spaced_done (BadKey place) h input sinks = absurd h
-  spaced_done (BadJournal a b) h input sinks = absurd h
-  spaced_done (WrongLink slot) h input sinks = absurd h
+  spaced_done status h input sinks = absurd h
