@@ -151,7 +151,8 @@ uint8_t yasir_step(yasir_handle *handle, uint16_t tick, yasir_answer *answer, ui
  * Returns YASIR_OK if `ok` is 1: `answer` has the tick and the note that were withheld, with
  * YASIR_NO_COMMIT, and the box takes the next tick. Returns YASIR_STOPPED if `ok` is 0: `answer` is
  * unchanged, what was withheld is never returned, and from then on yasir_step and yasir_committed
- * return YASIR_STOPPED and the calls for runs take nothing. The next start loads the journal again.
+ * return YASIR_STOPPED, unless an argument is bad, and the calls for runs take nothing. The next start
+ * loads the journal again.
  *
  * Otherwise it returns YASIR_BAD_ARGUMENT (`ok` is above 1, or nothing is withheld) or YASIR_EMPTY
  * (the handle holds no box), and box and answer are unchanged. */

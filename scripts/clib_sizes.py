@@ -6,8 +6,8 @@
 A C program counts what the library takes by malloc, and makes all calls on a stack that it has filled with a pattern: the deepest
 byte that is changed is the stack that they need, less what a thread that makes no call needs. A transmitter seals a short and a
 long frame, a receiver takes what was sealed, and a spacer with room for four frames takes the same frames. What malloc and free
-themselves need is counted, too. The exit status is 0 if everything was measured, and 2 if there is no C compiler or a call returned
-a status that it must not. It is no part of the gate.
+themselves need is counted, too; what the dynamic linker needs at the first call of each isn't. The exit status is 0 if everything
+was measured, and 2 if there is no C compiler or a call returned a status that it must not. It is no part of the gate.
 """
 import os, sys, tempfile
 
@@ -164,7 +164,7 @@ def main():
         with open(main_c, "w") as file:
             file.write(PROGRAM)
         bridge_build.ran([bridge_build.compiler(), *bridge_build.FLAGS, "-I", bridge_build.BRIDGE, main_c, *bridge_build.library(),
-                          "-pthread", "-Wl,--wrap=malloc", "-o", path])
+                          "-pthread", "-Wl,--wrap=malloc,-z,now", "-o", path])
         print(bridge_build.ran([path]), end="")
 
 

@@ -27,7 +27,8 @@ int main(int count, char **words) {
     yasir_handle spacer = {0};
     yasir_spaced spaced;
     int low, high;
-    if (count != 4 || yasir_spacer_new(&spacer, atoi(words[1]), atoi(words[2]), atoi(words[3])) != YASIR_OK) return 1;
+    if (count != 4 || yasir_version() != YASIR_VERSION) return 1;
+    if (yasir_spacer_new(&spacer, atoi(words[1]), atoi(words[2]), atoi(words[3])) != YASIR_OK) return 1;
     while ((low = getchar()) != EOF && (high = getchar()) != EOF) {
         uint16_t tick;
         if (yasir_spacer_step(&spacer, (uint16_t)(low + 256 * high), &spaced) != YASIR_OK || spaced.unused) return 1;

@@ -10,7 +10,8 @@ the check fails too, and says nothing of the contract. `rt must-fail` prints one
 on a later one.
 
 Without a word it tries nothing. It lists each wrong body of which a function has lost a name that a proof of this function cites:
-a call, a variable or a case. With `check` it checks each wrong body by `rt check`, in a copy of the checkout, and reads all that
+a call, a variable, a case, a number that something is compared with, or a call whose result has a name. What else changes the names
+of steps, such as a `return` that is gone, it doesn't see. With `check` it checks each wrong body by `rt check`, in a copy of the checkout, and reads all that
 the check says. It lists a wrong body if no promise is among what failed, or if it is still proved. Each NAME is a crate whose
 folder out/ has what `rt check` proved; without a NAME all such crates are tried, one after the other, 10 seconds or more for each
 wrong body. What a check says goes into out/refusals/NAME/EDIT.log. With `logs` it reads such logs. It ends with 1 if it lists a
@@ -24,6 +25,9 @@ LOGS = os.path.join(ROOT, "out", "refusals")
 FUNCTION = re.compile(r"^[ \t]*(?:pub(?:\([a-z]+\))? )?(?:const )?fn\s+(\w+)", re.M)
 # The names that a proof cites of a function's steps and goals.
 CITED = re.compile(r"\b(?:[cg]|goal)\.[\w.\-]+")
+COMPARED = re.compile(r"(?:eq|ne|lt|le|gt|ge)(\d+)")
+# A name that gets a value, and the value.
+BOUND = re.compile(r"\blet (?:mut )?(\w+) = ([^;]*);")
 # These are also names of the two cases of an `if`.
 CASES = {"true", "false"}
 # The place of an error or a note, which begins what is said of it. Lines that belong to it follow, with two blanks in front.
@@ -64,10 +68,30 @@ def parts(text):
     return [(name, start, end) for (name, start), end in zip(starts, ends)]
 
 
+def last_call(value):
+    """The name of the call that makes this value, or nothing if none does."""
+    deep = 0
+    for place in range(len(value) - 1, -1, -1):
+        deep += {")": 1, "(": -1}.get(value[place], 0)
+        if deep == 0:
+            found = re.search(r"(\w+)$", value[:place])
+            return found.group(1) if found and value[place] == "(" else ""
+    return ""
+
+
 def names_in(text, function):
-    """The names in all functions of a file that have this name, without comments."""
+    """The names in all functions of a file that have this name, without comments. A number that something is compared with is one:
+    the names of an `if` and of its goals end with it. So is a call whose result gets a name: its step has the names of both."""
     bodies = [text[start:end] for name, start, end in parts(text) if name == function]
-    return set(re.findall(r"[A-Za-z_]\w*", re.sub(r"//.*", "", "".join(bodies))))
+    code = re.sub(r"//.*", "", "".join(bodies))
+    steps = {"%s-%s" % (last_call(value), name) for name, value in BOUND.findall(code)}
+    return set(re.findall(r"[A-Za-z_]\w*", code)) | set(re.findall(r"[=<>] (\d+)\b", code)) | steps
+
+
+def tokens(cited):
+    """The names and compared numbers of which the name of a step or goal is made: `if-ok-eq0` has `if`, `ok` and `0`."""
+    words = re.split(r"[.\-]", cited)
+    return set(words) | {found.group(1) for found in map(COMPARED.fullmatch, words) if found} | set(cited.split("."))
 
 
 def lost_names(path, crate):
@@ -82,7 +106,7 @@ def lost_names(path, crate):
         gone = names_in(firsts[file], function) - names_in(lasts[file], function) - CASES
         for proof in glob.glob(os.path.join(crate, "proofs", "**", function, "*.antt"), recursive=True):
             for cited in CITED.findall(text_of(proof)):
-                lost |= gone & set(re.split(r"[.\-]", cited))
+                lost |= gone & tokens(cited)
     return sorted(lost)
 
 

@@ -1,4 +1,5 @@
-//! Tests of the transmitter, of a box of any kind, and of the audit.
+//! Tests of the transmitter, of boxes of links that the program doesn't have, of a box of any kind,
+//! and of the audit.
 //!
 //! They are proved apart from the crates that they test, since a crate with tests is proved twice.
 #![tactic(auto)]
@@ -11,3 +12,7 @@ mod held_boxes;
 mod seal_runs;
 #[cfg(test)]
 mod sealing;
+#[cfg(test)]
+mod third_links;
+#[cfg(test)]
+mod third_rules;

@@ -5,12 +5,10 @@ ghost use Rattle.sequence_journal.specs.Journal.{journal_link, Fits};
 ghost use Rattle.sequence_journal.specs.Links.{HasDirection};
 ghost use Rattle.seal_transmitter.specs.Stands.{direction_of, ticks_taken};
 
-use dnp_link_frame::Dnp;
 use hmac_tag::{HmacSha1, HmacSha256, Mac};
 use line_rules::{FourBytes, LineRules};
 use link_box::LinkBox;
-use rtu_frame::Rtu;
-use seal_transmitter::{BoxStep, Dir, RoomTelling, SealNote, Sealer, UnsealedWhy};
+use seal_transmitter::{BoxStep, Dir, SealNote, Sealer, UnsealedWhy};
 use sequence_journal::{Journal, LinkId, slot_of};
 use std::alloc::Global;
 use std::test::Fail;
@@ -159,25 +157,6 @@ fn a_word_may_have_four_bytes(rt: HostRuntime) -> Result<(), Fail> {
     let line: &[u8] = b"\x01\x02\x03\x00..........................\x05\x06\x07\x00....";
     let steps = wide_steps(rt.alloc(), line)?;
     assert!(rt; are_ticks(steps.as_slice(), WIDE_LINK));
-    Ok(())
-}
-
-// A whole header of the longest frame of DNP3, which has 292 bytes. Its CRC is by the standard's
-// polynomial, bit by bit.
-const LONGEST_HEADER: &[u8] = b"\x05\x64\xFF\xC4\x01\x00\x00\x04\x27\x27";
-
-// In Modbus RTU a frame has room for 256 bytes, whatever they are. In DNP3 no room is sure before a
-// header.
-#[test]
-fn the_room_that_is_left_is_told(rt: HostRuntime) -> Result<(), Fail> {
-    let mut rtu = Rtu::fresh();
-    assert_eq!(rt; rtu.room_left(), 256);
-    rtu.take_some(b"\x01\x03\x00");
-    assert_eq!(rt; rtu.room_left(), 253);
-    let mut dnp = Dnp::fresh();
-    assert_eq!(rt; dnp.room_left(), 0);
-    dnp.take_some(LONGEST_HEADER);
-    assert_eq!(rt; dnp.room_left(), 282);
     Ok(())
 }
 
