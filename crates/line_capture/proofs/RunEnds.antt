@@ -1,5 +1,5 @@
 -- How runs of `take` end.
-use Rattle.std.proofs.Common.{◌≡◌, ◌∙◌, ℕ, ◌⊎◌, inl, inr, Bool, false, Option, refl, sym, ap, subst}
+use Rattle.std.proofs.Common.{◌≡◌, ◌∙◌, ℕ, ◌⊎◌, inl, inr, Bool, Option, refl, sym, ap, subst}
 use Rattle.std.proofs.Common.{List, min, ◌+◌, ◌-◌, ◌^◌, ◌≤◌, [], arith}
 use Rattle.{std.specs.Io.KnownBytes.append_known, yasir_io.specs.Output.GotPrefix}
 use Rattle.line_stamps.specs.declared.capture.Way.TheVariants as way
@@ -8,7 +8,8 @@ use Rattle.replay_status.specs.declared.status.Status.TheVariants as statuses
 use Rattle.line_capture.specs.{Captures.Collects, Formats.Format, Inputs.Told, Outcomes.status_in}
 use Rattle.line_capture.specs.Placed.{CountsOverlaps}
 use Rattle.line_capture.specs.Takes.{Held, stop_outcome, read_outcome, or_else, outcome_of}
-use Rattle.line_capture.specs.Takes.{WritesTaken, TakesRead, Takes, is_write_fault, HasOutcome}
+use Rattle.line_capture.specs.Takes.{WritesTaken, TakesRead, Takes}
+use Rattle.line_capture.specs.Takes.{HasOutcome}
 use Rattle.line_capture.specs.Takes.{timing_for, counts_line, WrittenLines, WrittenFront, is_whole}
 use Rattle.line_capture.specs.Takes.HasOutcome.{same, flush_failed}
 use Rattle.line_capture.specs.Takes.Takes.{no_memory as no_room, read as was_read}
@@ -18,7 +19,7 @@ use Rattle.line_stamps.specs.declared.{capture.CaptureByte.CaptureByte, timing.T
 use Rattle.replay_status.proofs.{FlushLaws.flushes_after, Logging.sinks_after}
 use Rattle.replay_status.specs.{Causes.SinkCause, Flushes.FlushesAtEnd}
 use Rattle.replay_status.specs.Statuses.{fault_line as status_line}
-use Rattle.yasir_io.specs.Flushed.{IsNotFlushed}
+use Rattle.{yasir_io.specs.Flushed.IsNotFlushed}
 use Rattle.yasir_io.specs.declared.sink.Sink.{Ghosts as Sink}
 use Rattle.line_capture.specs.declared.collect.CaptureEnd.TheVariants as ends
 use Rattle.line_capture.specs.declared.{collect.Kept.Kept, input.ReadEnd.ReadEnd}
@@ -36,34 +37,29 @@ use Rattle.line_capture.specs.declared.take.Taking.{Taking}
 -- what is true of each outcome of what was read and placed
 record IsOfCapture (read : ReadEnd) (outcome : Outcome) : Type 0 where
   no_usage : outcome ≡ Ended statuses.Usage → ⊥
-  no_write : is_write_fault outcome ≡ false
   read_fault : outcome ≡ Ended statuses.ReadFault → read ≡ Failed
 
 of_read : (read : ReadEnd) → IsOfCapture read (read_outcome read)
-of_read Whole = record { no_usage = λ is. cc; no_write = refl; read_fault = λ is. cc }
-of_read Failed = record { no_usage = λ is. cc; no_write = refl; read_fault = λ is. refl }
-of_read TooLong = record { no_usage = λ is. cc; no_write = refl; read_fault = λ is. cc }
+of_read Whole = record { no_usage = λ is. cc; read_fault = λ is. cc }
+of_read Failed = record { no_usage = λ is. cc; read_fault = λ is. refl }
+of_read TooLong = record { no_usage = λ is. cc; read_fault = λ is. cc }
 
 of_stop : (read : ReadEnd) (w : _) (placed : ℕ) (stop : LineStop) (other : Outcome)
     → IsOfCapture read other → IsOfCapture read (or_else (stop_outcome w placed stop) other)
 of_stop read w placed stops.AllPlaced other is = is
 of_stop read w placed (stops.Unplaced why) other is =
-    record { no_usage = λ is. cc; no_write = refl; read_fault = λ is. cc }
+    record { no_usage = λ is. cc; read_fault = λ is. cc }
 of_stop read w placed (stops.TooLong count) other is =
-    record { no_usage = λ is. cc; no_write = refl; read_fault = λ is. cc }
+    record { no_usage = λ is. cc; read_fault = λ is. cc }
 
 of_capture : (read : ReadEnd) (end : CaptureEnd) (a b : LineEnd)
     → IsOfCapture read (outcome_of read end a b)
 of_capture read (ends.Bad bad) a b =
-    record { no_usage = λ is. cc; no_write = refl; read_fault = λ is. cc }
+    record { no_usage = λ is. cc; read_fault = λ is. cc }
 of_capture read ends.Whole a b = of_stop read way.A a.placed a.stop _
     (of_stop read way.B b.placed b.stop _ (of_read read))
 of_capture read ends.Open a b = of_stop read way.A a.placed a.stop _
     (of_stop read way.B b.placed b.stop _ (of_read read))
-
-pub no_write_fault : (read : ReadEnd) (end : CaptureEnd) (a b : LineEnd)
-    → is_write_fault (outcome_of read end a b) ≡ false
-no_write_fault read end a b = (of_capture read end a b).no_write
 
 -- ---- the end of a run
 
@@ -72,15 +68,6 @@ pub flushed : (status : Status) → (status ≡ statuses.Done) ⊎ (status ≡ s
     → HasOutcome (Ended statuses.Done) (Ended status)
 flushed status (inl done) = same (ap Ended done)
 flushed status (inr fault) = flush_failed refl (ap Ended fault)
-
--- If no count of faults rose, the causes are right for each outcome but WriteFault.
-pub calm : (out log : ℕ) (outcome : Outcome) → is_write_fault outcome ≡ false
-    → SinkCause out out log log (status_in outcome)
-calm out log (Ended statuses.Done) none = (refl, refl)
-calm out log (Ended statuses.WriteFault) none = cc
-calm out log (Ended status) none = (refl, omega arith)
-calm out log (BadCapture bad) none = (refl, omega arith)
-calm out log (outcomes.Unplaced w place why) none = (refl, omega arith)
 
 -- If no earlier call had a fault, the causes of the later calls are those of all calls.
 pub sinks_then : (out0 out1 out2 log0 log1 log2 : ℕ) (status : Status) → out1 ≡ out0 → log1 ≡ log0

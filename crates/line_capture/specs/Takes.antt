@@ -252,6 +252,16 @@ abbrev pub is_write_fault : Outcome → Bool
 is_write_fault (Ended statuses.WriteFault) = true
 is_write_fault outcome = false
 
+-- whether a run did all
+abbrev pub is_done : Outcome → Bool
+is_done (Ended statuses.Done) = true
+is_done outcome = false
+
+-- whether a run ended with the verdict of an audit, as no run over a capture does
+abbrev pub is_verdict : Outcome → Bool
+is_verdict (Ended (statuses.Unclean verdict)) = true
+is_verdict outcome = false
+
 -- Holds if the run ends with this outcome, or the outcome was Done and a flush failed.
 pub data HasOutcome (outcome result : Outcome) : Type 0 where
   same : result ≡ outcome → HasOutcome outcome result

@@ -13,7 +13,8 @@ ghost use Rattle.line_capture.specs.Inputs.{told};
 ghost use Rattle.line_capture.specs.Outcomes.{status_in};
 ghost use Rattle.line_capture.specs.Takes.{WritesLines, origin_of, line_outcome, read_outcome};
 ghost use Rattle.line_capture.specs.Takes.{outcome_of, counts_line, held, WritesTaken, TakesRead};
-ghost use Rattle.line_capture.specs.Takes.{Takes, is_write_fault, HasOutcome, mark_of, timing_for};
+ghost use Rattle.line_capture.specs.Takes.{Takes, is_write_fault, is_done, is_verdict, HasOutcome};
+ghost use Rattle.line_capture.specs.Takes.{mark_of, timing_for};
 ghost use Rattle.line_capture.specs.Takes.{is_whole};
 ghost use Rattle.line_capture.specs.declared.outcome.Outcome.{Outcome};
 
@@ -180,9 +181,16 @@ fn counts_line(overlaps: u64, end: CaptureEnd, kept: &Kept) -> Line
     line
 }
 
+fn is_done(outcome: &Outcome) -> bool
+    ensures { result ≡ is_done outcome.now }
+{
+    matches!(outcome, Outcome::Ended(Status::Done))
+}
+
 // Ends a run whose lines were written. If it is done, both sinks are flushed first.
 fn end_run<O: Sink, L: Sink>(outcome: Outcome, out: &mut O, log: &mut L) -> Outcome
-    requires { is_write_fault outcome ≡ false }
+    requires no_fault { is_write_fault outcome ≡ false }
+    requires no_verdict { is_verdict outcome ≡ false }
     ensures outcome { HasOutcome outcome result }
     ensures out { O.held out.new ≡ O.held out.old }
     ensures log { L.held log.new ≡ L.held log.old }
@@ -190,10 +198,10 @@ fn end_run<O: Sink, L: Sink>(outcome: Outcome, out: &mut O, log: &mut L) -> Outc
         (L.faults log.new) (status_in result) }
     ensures flushes { FlushesAtEnd O.Sink L.Sink out.old out.new log.old log.new (status_in result) }
 {
-    match outcome {
-        Outcome::Ended(Status::Done) => Outcome::Ended(flush_both(out, log)),
-        _ => outcome,
+    if is_done(&outcome) {
+        return Outcome::Ended(flush_both(out, log));
     }
+    outcome
 }
 
 // Writes what was kept of a capture, and what was counted.
