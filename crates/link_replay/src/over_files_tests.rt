@@ -142,7 +142,7 @@ impl Disk {
 }
 
 #[derive(Drop)]
-struct Folder<'a>(&'a Disk);
+struct Folder<'a>(&'a Disk, Global);
 
 // A handle, either of a file with a place in it or of the root.
 struct Opened<'a> {
@@ -258,6 +258,14 @@ impl Durable for Opened<'_> {
 impl<'a> OpensFiles for Folder<'a> {
     fn open_at(&self, how: &OpenOptions, path: &str) -> io::Result<Opened<'a>> {
         how.open(self, path)
+    }
+}
+
+impl Alloc for Folder<'_> {
+    type A = Global;
+
+    fn alloc(&self) -> Global {
+        self.1
     }
 }
 
@@ -454,7 +462,7 @@ fn run_into(
     mut out: MemSink,
     mut log: MemSink,
 ) -> Ended {
-    let system = (Folder(disk), alloc);
+    let system = Folder(disk, alloc);
     let mut input = MemSource::new(REQUEST, 512, Plan::new());
     let exit_status = run_over_files(&system, args, &mut input, &mut out, &mut log);
     Ended {
