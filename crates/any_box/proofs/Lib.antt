@@ -5,3 +5,4 @@ mod Loaded
 mod Taking
 mod Arms
 mod Written
+mod SpacerArms

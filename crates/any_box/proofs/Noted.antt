@@ -1,7 +1,7 @@
 -- The notes of one of the boxes as notes of any box.
 use Rattle.any_box.specs.Noting.{defined_by, StepsOn, TakesOn}
 use Rattle.any_box.specs.declared.any_note.AnyNote.{AnyNote}
-use Rattle.burst_walk.specs.{Answers.told_notes, Answers.note_in, Walk.Noted}
+use Rattle.frame_ending.specs.{Answers.told_notes, Answers.note_in, Walk.Noted}
 use Rattle.link_box.specs.{Runs.TakesRun, Stepping.Steps, Walking.Walking, Walking.full_notes}
 use Rattle.link_format.specs.Setup.{Setup}
 use Rattle.std.proofs.Common.{◌≡◌, ◌∙◌, ℕ, List, [], ◌∷◌, ◌++◌, length, map, refl, sym, ap}

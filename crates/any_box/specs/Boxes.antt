@@ -25,10 +25,10 @@ use Rattle.any_box.specs.Noting.{Definition, defined_by, StepsOn, TakesOn}
 use Rattle.any_box.specs.declared.kind.Kind.{Kind}
 use Rattle.any_box.specs.declared.kind.Part.{Part}
 use Rattle.any_box.specs.declared.kind.Part.TheVariants.{Sealer, Checker}
-use Rattle.link_words.specs.declared.words.Proto.{Proto}
-use Rattle.link_words.specs.declared.words.Proto.TheVariants as Of
-use Rattle.link_words.specs.declared.words.Profile.{Profile}
-use Rattle.link_words.specs.declared.words.Profile.TheVariants.{Y18, Y24}
+use Rattle.command_ends.specs.declared.words.Proto.{Proto}
+use Rattle.command_ends.specs.declared.words.Proto.TheVariants as Of
+use Rattle.command_ends.specs.declared.words.Profile.{Profile}
+use Rattle.command_ends.specs.declared.words.Profile.TheVariants.{Y18, Y24}
 
 -- which of the eight a box is
 abbrev pub kind_of : AnyBox → Kind

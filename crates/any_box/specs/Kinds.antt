@@ -1,7 +1,7 @@
 -- Which of the eight boxes a box is, and the link of its journal.
 use Rattle.hmac_tag.specs.declared.dir.Dir.{Dir}
 use Rattle.sequence_journal.specs.declared.link.LinkId.{LinkId}
-use Rattle.link_words.specs.Links.{link_of}
+use Rattle.command_ends.specs.Links.{link_of}
 use Rattle.any_box.specs.declared.kind.Kind.{Kind}
 
 -- the link of a box of this kind in a direction

@@ -4,3 +4,5 @@ pub mod Commits
 pub mod Noting
 pub mod Boxes
 pub mod Held
+pub mod Spacers
+pub mod HeldSpacers

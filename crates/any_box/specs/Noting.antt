@@ -2,8 +2,8 @@
 -- the line.
 use Rattle.std.specs.Prelude.{◌≡◌, ℕ, List, [], ◌∷◌, ◌++◌, length, Option}
 use Rattle.yasir_ticks.specs.declared.tick.Tick.{Tick}
-use Rattle.burst_walk.specs.Answers.{told_notes, note_in}
-use Rattle.burst_walk.specs.Walk.{Noted}
+use Rattle.frame_ending.specs.Answers.{told_notes, note_in}
+use Rattle.frame_ending.specs.Walk.{Noted}
 use Rattle.link_format.specs.Setup.{Setup}
 use Rattle.link_box.specs.Walking.{Walking, full_notes, other_line, number_after}
 use Rattle.any_box.specs.declared.any_note.AnyNote.{AnyNote}

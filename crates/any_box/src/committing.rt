@@ -2,7 +2,7 @@
 ghost use Rattle.std.specs.Prelude.{◌≡◌, ◌+◌, ◌≤◌, length, take, Some, option_map};
 ghost use Rattle.yasir_io.specs.Steady.{steady_slots};
 ghost use Rattle.yasir_ticks.specs.TickRun.{run_ticks};
-ghost use Rattle.burst_walk.specs.Answered.{answered};
+ghost use Rattle.frame_ending.specs.Answered.{answered};
 ghost use Rattle.sequence_journal.specs.Journal.{journal_link, journal_floor, Fits};
 ghost use Rattle.link_box.specs.Stepping.{MayStep, Steps};
 ghost use Rattle.any_box.specs.Commits.{CommitsOneOrNone};
@@ -11,8 +11,8 @@ ghost use Rattle.any_box.specs.declared.any_note.AnyNote.{AnyNote};
 ghost use Rattle.any_box.specs.declared.any_note.AnyNote.TheVariants.{OfSealer, OfChecker};
 
 use crate::any_note::AnyNote;
-use burst_walk::{BoxStep, RunBytes};
 use check_receiver::{CheckNote, Checker};
+use frame_ending::{BoxStep, RunBytes};
 use hmac_tag::Mac;
 use line_rules::LineRules;
 use link_box::{LinkBox, take_alike};

@@ -12,8 +12,8 @@ use crate::any_box::AnyBox;
 use crate::any_note::AnyNote;
 use crate::kind::Kind;
 use crate::owed::Commit;
-use burst_walk::RunBytes;
 use dnp_link_frame::Dnp;
+use frame_ending::RunBytes;
 use hmac_tag::{Dir, HmacSha1, HmacSha256, Mac};
 use line_rules::LineRules;
 use rtu_frame::Rtu;
@@ -58,7 +58,7 @@ pub struct HeldBox {
 impl HeldBox {
     ghost use Rattle.std.specs.Prelude.{◌≡◌, ◌≤◌, IfOk, IfErr, OnErr, length, take, Some};
     ghost use Rattle.yasir_ticks.specs.TickRun.{run_ticks};
-    ghost use Rattle.burst_walk.specs.Answered.{answered};
+    ghost use Rattle.frame_ending.specs.Answered.{answered};
     ghost use Rattle.sequence_journal.specs.Loading.{RefusesLoad};
     ghost use Rattle.any_box.specs.Kinds.{link_for};
     ghost use Rattle.any_box.specs.Held.{slots_given, floor_held, ticks_held, Begins};

@@ -1,8 +1,8 @@
 //! Which of the eight boxes a box is.
 ghost use Rattle.std.specs.Prelude.{◌≡◌};
 
+use command_ends::{Profile, Proto, link_of};
 use hmac_tag::Dir;
-use link_words::{Profile, Proto, link_of};
 use sequence_journal::LinkId;
 
 /// Which end of a link a box is.

@@ -10,20 +10,38 @@
 //!         write_and_sync(commit.slot, &commit.bytes)?;
 //!     }
 //!     send(step.tick);
+//!
+//! The spacers of a live line as one type: for Modbus RTU or DNP3, and for either profile. Behind a
+//! receiver a spacer is a guard: whatever the device behind it makes of bytes and silence, all that
+//! the device is given is whole frames that have passed, and silence.
+//!
+//! A spacer behind the receiver of a Modbus RTU line, with room for four frames that wait:
+//!
+//!     let mut spacer = HeldSpacer::new(alloc, SpacerKind::Rtu, 4)?;
+//!     let Some(step) = spacer.step(received) else {
+//!         return Err(Full);
+//!     };
+//!     send_to_device(step.tick);
 #![tactic(auto)]
 
 mod any_box;
 mod any_note;
+mod any_spacer;
 mod committing;
+mod forgetful;
 mod held_box;
+mod held_spacer;
 mod kind;
 mod laws;
 mod owed;
 
 pub use any_box::AnyBox;
 pub use any_note::AnyNote;
+pub use any_spacer::{AnySpacer, SpacerKind};
+pub use command_ends::{Profile, Proto};
+pub use forgetful::{ForgetfulDevice, ForgetfulDnp};
 pub use held_box::{Full, HeldBox, HeldStep};
+pub use held_spacer::HeldSpacer;
 pub use kind::{Kind, Part};
 pub use laws::writes_keep_the_floor;
-pub use link_words::{Profile, Proto};
 pub use owed::Commit;

@@ -1,8 +1,8 @@
 //! Tests of the eight boxes: a packet of each link through its transmitter and its receiver, what
 //! the caller must write, and slots that hold no journal.
 use any_box::{AnyNote, Commit, HeldBox, HeldStep, Kind, Part, Profile, Proto};
-use burst_walk::RunBytes;
 use check_receiver::{CheckNote, RefusedWhy};
+use frame_ending::RunBytes;
 use hmac_tag::Dir;
 use seal_transmitter::SealNote;
 use sequence_journal::{LoadError, slot_of};

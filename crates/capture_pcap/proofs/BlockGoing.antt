@@ -1,5 +1,5 @@
 -- How a pcapng file goes on to its end from each place of its reader.
-use Rattle.byte_walk.specs.{Fields.before_field, Walks.walk}
+use Rattle.line_stamps.specs.{Fields.before_field, Walks.walk}
 use Rattle.byteorder.specs.Endian.{big_bytes, little_bytes}
 use Rattle.byteorder.specs.Numbers.{big_number-reads_back, little_number-reads_back}
 use Rattle.byteorder.specs.Numbers.{length-bytes_high_first, length-bytes_low_first}

@@ -1,5 +1,5 @@
 -- Where a reader gets to over the blocks of a right pcapng file.
-use Rattle.byte_walk.{proofs.FieldLaws.single_walk, specs.Walks.walk}
+use Rattle.line_stamps.{proofs.FieldLaws.single_walk, specs.Walks.walk}
 use Rattle.capture_pcap.specs.BlockStep.{Stepped, unread_or_end, is_size, after_order, after_kind}
 use Rattle.capture_pcap.specs.BlockStep.{after_options, next_option_at, over_fields, after_option}
 use Rattle.capture_pcap.specs.BlockStep.{after_value, after_captured, after_original}

@@ -1,6 +1,6 @@
 -- What a packet so far is at each place of its reader, and after one more field or byte.
-use Rattle.byte_walk.proofs.{FieldLaws.field_walk, FieldLaws.single_walk, WalkLaws.walk-join}
-use Rattle.byte_walk.specs.{Fields.Spot, Fields.before_field, Fields.spot_step, Walks.walk}
+use Rattle.line_stamps.proofs.{FieldLaws.field_walk, FieldLaws.single_walk, WalkLaws.walk-join}
+use Rattle.line_stamps.specs.{Fields.Spot, Fields.before_field, Fields.spot_step, Walks.walk}
 use Rattle.capture_pcap.specs.BodyStep.{takes_data, data_of, body_event, body_field_at}
 use Rattle.capture_pcap.specs.BodyStep.{body_byte_at, body_or}
 use Rattle.capture_pcap.specs.Record.{IsRecord, event_way, seen_byte, seen_bytes, seen_data}

@@ -1,6 +1,6 @@
 -- Before each field and each byte, a file can still go on to a right end.
-use Rattle.byte_walk.proofs.WalkLaws.{walk-join, Apart, apart_none, apart_heads, PartsFrom}
-use Rattle.byte_walk.specs.{Fields.before_field, Walks.GoesOnFrom}
+use Rattle.line_stamps.proofs.WalkLaws.{walk-join, Apart, apart_none, apart_heads, PartsFrom}
+use Rattle.line_stamps.specs.{Fields.before_field, Walks.GoesOnFrom}
 use Rattle.capture_pcap.proofs.{Bodies.data_walk, Walked.Walks, Walked.one_field}
 use Rattle.capture_pcap.specs.BodyStep.{takes_data, has_more, data_of, body_or, body_field_at}
 use Rattle.capture_pcap.specs.{BodyStep.body_byte_at, Pcap.IsCapture}

@@ -1,5 +1,5 @@
 -- How a file goes on to its end from each stage of its reader.
-use Rattle.byte_walk.specs.{Fields.before_field, Walks.walk}
+use Rattle.line_stamps.specs.{Fields.before_field, Walks.walk}
 use Rattle.capture_pcap.proofs.BlockGoing.{on_block}
 use Rattle.capture_pcap.proofs.Bodies.{AtBody, AtBody.seconds as rtac_seconds}
 use Rattle.capture_pcap.proofs.Bodies.AtBody.{fraction as rtac_fraction, event, payload}

@@ -1,8 +1,8 @@
 -- The reader reads pcap files exactly.
-use Rattle.byte_walk.proofs.FieldLaws.{ReachedSpot, reached_spot}
-use Rattle.byte_walk.proofs.WalkLaws.{walk-more, reads_begins, reads_none, reads_each, reads_open}
-use Rattle.byte_walk.specs.Fields.{Spot, before_field, at_spot, RefusesField, AreFieldsSoFar}
-use Rattle.byte_walk.specs.Walks.{walk, ReadsFormat, Begins, BeginsNone}
+use Rattle.line_stamps.proofs.FieldLaws.{ReachedSpot, reached_spot}
+use Rattle.line_stamps.proofs.WalkLaws.{walk-more, reads_begins, reads_none, reads_each, reads_open}
+use Rattle.line_stamps.specs.Fields.{Spot, before_field, at_spot, RefusesField, AreFieldsSoFar}
+use Rattle.line_stamps.specs.Walks.{walk, ReadsFormat, Begins, BeginsNone}
 use Rattle.capture_pcap.proofs.Stages.{AtStage, Moves, field_goes, byte_goes, field_cause}
 use Rattle.capture_pcap.proofs.Stages.{byte_taken}
 use Rattle.capture_pcap.proofs.Stages.AtStage.{magic, free, link, seconds, fraction, captured}

@@ -1,5 +1,5 @@
 -- What a file so far is at each stage of its reader, and after one more field or byte.
-use Rattle.byte_walk.specs.{Fields.before_field, Walks.walk}
+use Rattle.line_stamps.specs.{Fields.before_field, Walks.walk}
 use Rattle.capture_pcap.specs.BlockStep.{block_field_at, block_byte_at}
 use Rattle.capture_pcap.specs.BlockStep.{takes_bytes as block_takes_bytes}
 use Rattle.capture_pcap.specs.Blocks.{section_kind, AreBlocks.nothing as no_block}

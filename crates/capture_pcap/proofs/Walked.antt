@@ -1,6 +1,6 @@
 -- Walks that begin and end before a field or a byte.
-use Rattle.byte_walk.proofs.{FieldLaws.field_walk, WalkLaws.walk-join}
-use Rattle.byte_walk.specs.{Fields.before_field, Walks.walk}
+use Rattle.line_stamps.proofs.{FieldLaws.field_walk, WalkLaws.walk-join}
+use Rattle.line_stamps.specs.{Fields.before_field, Walks.walk}
 use Rattle.capture_pcap.specs.PcapStep.{takes_bytes, field_at, byte_at, step_at}
 use Rattle.capture_pcap.specs.declared.stage.Stage.{Stage}
 use Rattle.line_stamps.specs.declared.seen.Seen.{Seen}

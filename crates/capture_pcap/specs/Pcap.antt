@@ -1,8 +1,8 @@
 -- A pcap file of link type 250, RTAC serial: a header of 24 bytes, and packets, each after a header
 -- of 16 bytes (draft-ietf-opsawg-pcap).
 use Rattle.std.specs.Prelude.{◌≡◌, ℕ, ◌+◌, ◌*◌, ◌<◌, List, [], ◌∷◌, ◌++◌, length, false, Ok, Err}
-use Rattle.byte_walk.specs.Walks.{walk}
-use Rattle.byte_walk.specs.Fields.{before_field}
+use Rattle.line_stamps.specs.Walks.{walk}
+use Rattle.line_stamps.specs.Fields.{before_field}
 use Rattle.capture_pcap.specs.Words.{number, nanoseconds}
 use Rattle.capture_pcap.specs.Record.{IsRecord}
 use Rattle.capture_pcap.specs.Blocks.{IsPcapng, section_kind}

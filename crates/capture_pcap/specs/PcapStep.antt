@@ -3,7 +3,7 @@
 use Rattle.std.specs.Prelude.{◌≡◌, ℕ, ◌+◌, ◌*◌, ◌-◌, ◌==◌, ◌&&◌, nat_lt, nat_le, Bool, true, false}
 use Rattle.std.specs.Prelude.{if◌then◌else◌, List, Option, None, Result, Ok, Err}
 use Rattle.std.specs.Prelude.{length}
-use Rattle.byte_walk.specs.Fields.{Spot, spot_step}
+use Rattle.line_stamps.specs.Fields.{Spot, spot_step}
 use Rattle.capture_pcap.specs.Words.{number, nanoseconds, is_field}
 use Rattle.capture_pcap.specs.BodyStep.{Next, body_field_at, body_byte_at, takes_data, has_more}
 use Rattle.capture_pcap.specs.BodyStep.{body_or}

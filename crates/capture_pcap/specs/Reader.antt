@@ -1,8 +1,8 @@
 -- What a reader of a pcap file has taken, and what it refuses.
 use Rattle.std.specs.Prelude.{◌≡◌, ℕ, List, length, Option, Some, None, Result, Ok}
 use Rattle.std.specs.Prelude.{Err, ◌+◌}
-use Rattle.byte_walk.specs.Walks.{walk}
-use Rattle.byte_walk.specs.Fields.{Spot, before_field, RefusesField}
+use Rattle.line_stamps.specs.Walks.{walk}
+use Rattle.line_stamps.specs.Fields.{Spot, before_field, RefusesField}
 use Rattle.capture_pcap.specs.Pcap.{IsCapture, IsCause}
 use Rattle.capture_pcap.specs.PcapStep.{step_at}
 use Rattle.line_stamps.specs.declared.seen.Seen.{Seen}

@@ -27,8 +27,8 @@ pub struct PcapReader {
 }
 
 impl PcapReader {
-    ghost use Rattle.byte_walk.specs.Walks.{Begins, BeginsNone};
-    ghost use Rattle.byte_walk.specs.Fields.{RefusesField, AreFieldsSoFar, before_field, Spot};
+    ghost use Rattle.line_stamps.specs.Walks.{Begins, BeginsNone};
+    ghost use Rattle.line_stamps.specs.Fields.{RefusesField, AreFieldsSoFar, before_field, Spot};
     ghost use Rattle.capture_pcap.specs.Pcap.{IsCapture, IsCause};
     ghost use Rattle.capture_pcap.specs.PcapStep.{step_at, may_end_at};
     ghost use Rattle.capture_pcap.specs.Reader.{StandsFor, HasRefused, bytes_taken, spot_of};
@@ -165,7 +165,7 @@ impl PcapReader {
 }
 
 impl CaptureReader for PcapReader {
-    ghost use Rattle.byte_walk.specs.Fields.{AreFieldsSoFar};
+    ghost use Rattle.line_stamps.specs.Fields.{AreFieldsSoFar};
     ghost use Rattle.capture_pcap.specs.Pcap.{IsCapture};
     ghost use Rattle.capture_pcap.specs.Reader.{StandsFor, Refuses, HasRefused};
     ghost use Rattle.capture_pcap.specs.Reader.{bytes_taken as taken_by};

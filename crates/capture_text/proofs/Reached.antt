@@ -1,5 +1,5 @@
 -- What a text so far is if its reader has come to a place.
-use Rattle.byte_walk.{proofs.WalkLaws.walk_keeps, specs.Walks.walk}
+use Rattle.line_stamps.{proofs.WalkLaws.walk_keeps, specs.Walks.walk}
 use Rattle.capture_text.proofs.LineFacts.{all_more}
 use Rattle.capture_text.proofs.Places.{At, Goes, Ends, GoesOn, step_goes, end_goes, EndGoes}
 use Rattle.capture_text.proofs.Places.At.{start, in_comment, whole, after_point, fraction}

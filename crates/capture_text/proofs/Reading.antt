@@ -1,7 +1,7 @@
 -- The reader reads text captures exactly.
-use Rattle.byte_walk.proofs.WalkLaws.{walk-cons, walk-more, reads_begins, reads_none, reads_open}
-use Rattle.byte_walk.proofs.WalkLaws.{Apart, apart_none, apart_heads, PartsFrom}
-use Rattle.byte_walk.specs.Walks.{walk, ReadsFormat, GoesOnFrom, Begins, BeginsNone}
+use Rattle.line_stamps.proofs.WalkLaws.{walk-cons, walk-more, reads_begins, reads_none, reads_open}
+use Rattle.line_stamps.proofs.WalkLaws.{Apart, apart_none, apart_heads, PartsFrom}
+use Rattle.line_stamps.specs.Walks.{walk, ReadsFormat, GoesOnFrom, Begins, BeginsNone}
 use Rattle.capture_text.proofs.Places.{At, At.start, At.in_comment, At.whole, At.after_point}
 use Rattle.capture_text.proofs.Places.At.{fraction, after_blank, pairs, half, after_return}
 use Rattle.capture_text.proofs.Reached.{reached, reached_end, reached_cause, reached_open}

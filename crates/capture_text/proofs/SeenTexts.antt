@@ -1,5 +1,5 @@
 -- A text capture as a list of items, one for each of its bytes.
-use Rattle.byte_walk.specs.Walks.{HaveFirst, Begins, BeginsNone}
+use Rattle.line_stamps.specs.Walks.{HaveFirst, Begins, BeginsNone}
 use Rattle.capture_text.specs.{CaptureText.IsTextCapture, Reader.IsSeenText}
 use Rattle.line_stamps.specs.declared.capture.CaptureByte.{CaptureByte}
 use Rattle.line_stamps.specs.declared.seen.Seen.{Seen, TheVariants.Byte, TheVariants.Event}

@@ -1,6 +1,6 @@
 -- The places to which the lines of a right text bring its reader.
-use Rattle.byte_walk.proofs.WalkLaws.{walk-join, walk-more, walk-cons}
-use Rattle.{byte_walk.specs.Walks.walk, capture_text.proofs.LineFacts.counts_after}
+use Rattle.line_stamps.proofs.WalkLaws.{walk-join, walk-more, walk-cons}
+use Rattle.{line_stamps.specs.Walks.walk, capture_text.proofs.LineFacts.counts_after}
 use Rattle.capture_text.specs.CaptureText.{point, is_blank, with_point, IsTime, ArePairs}
 use Rattle.capture_text.specs.CaptureText.{fraction_value, nanoseconds, stays_in_line, IsContent}
 use Rattle.capture_text.specs.CaptureText.{IsLine, AreLines, IsTextCapture, IsRecord, recorded}

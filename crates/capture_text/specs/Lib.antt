@@ -2,3 +2,15 @@ pub mod CaptureText
 pub mod TextStep
 pub mod Reader
 pub mod Writing
+pub mod Parts
+pub mod Decimals
+pub mod Names
+pub mod Logic2
+pub mod Sigrok
+pub mod Rows
+pub mod RowReader
+pub mod Levels
+pub mod Changes
+pub mod Dump
+pub mod Writer
+pub mod Looks

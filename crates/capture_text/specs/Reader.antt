@@ -1,7 +1,7 @@
 -- What a reader of a text capture represents.
 use Rattle.std.specs.Prelude.{◌≡◌, ℕ, ◌+◌, List, length, map, Option, Some, None, Ok}
 use Rattle.line_stamps.specs.declared.capture.CaptureByte.{CaptureByte}
-use Rattle.byte_walk.specs.Walks.{walk, Begins}
+use Rattle.line_stamps.specs.Walks.{walk, Begins}
 use Rattle.line_stamps.specs.declared.seen.Seen.{Seen}
 use Rattle.line_stamps.specs.declared.seen.Seen.TheVariants.{Byte}
 use Rattle.capture_text.specs.CaptureText.{lines_ended, IsTextCapture, IsCause}

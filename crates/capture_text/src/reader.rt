@@ -37,7 +37,7 @@ fn seen(byte: Option<CaptureByte>) -> Option<Seen>
 
 impl TextReader {
     ghost use Rattle.line_stamps.specs.declared.capture.CaptureByte.{CaptureByte};
-    ghost use Rattle.byte_walk.specs.Walks.{Begins, BeginsNone};
+    ghost use Rattle.line_stamps.specs.Walks.{Begins, BeginsNone};
     ghost use Rattle.capture_text.specs.CaptureText.{IsTextCapture, IsCause, lines_ended};
     ghost use Rattle.capture_text.specs.Reader.{StandsFor, HasRefused, bytes_taken, IsPlaceOf};
     ghost use Rattle.capture_text.specs.declared.fault.BadText.{BadText};
@@ -146,7 +146,7 @@ impl TextReader {
 impl CaptureReader for TextReader {
     ghost use Rattle.capture_text.specs.Reader.{IsSeenText, HasSeen, Refuses, HasRefused};
     ghost use Rattle.capture_text.specs.Reader.{bytes_taken as taken_by};
-    ghost use Rattle.byte_walk.specs.Walks.{Begins};
+    ghost use Rattle.line_stamps.specs.Walks.{Begins};
 
     type Refusal = BadText;
 

@@ -1,7 +1,7 @@
 -- A burst that begins in a run of bytes.
-use Rattle.burst_walk.proofs.Runs.{run-joined, run-tick}
-use Rattle.burst_walk.specs.{Answered.answered, Answers.AnswersTick as AnswersTickOf, Walk.Walker}
-use Rattle.burst_walk.specs.declared.box_step.BoxStep.{BoxStep}
+use Rattle.frame_ending.proofs.BurstRuns.{run-joined, run-tick}
+use Rattle.frame_ending.specs.{Answered.answered, Answers.AnswersTick as AnswersTickOf, Walk.Walker}
+use Rattle.frame_ending.specs.declared.box_step.BoxStep.{BoxStep}
 use Rattle.check_receiver.proofs.Heads.{head-is-good, head-is-bad, head-isn't-short}
 use Rattle.check_receiver.specs.Runs.{HasTakenRun, IsFront, KeepsHeader}
 use Rattle.check_receiver.specs.{Stands.StandsAt, Stands.HasTaken, declared.checker.Checker.Checker}
@@ -14,8 +14,9 @@ use Rattle.line_rules.specs.Rules.{Rules, head_of}
 use Rattle.line_rules.specs.declared.head.Head.TheVariants.{Good, Bad}
 use Rattle.line_rules.specs.declared.line_rules.LineRules.{Ghosts as LineRules}
 use Rattle.link_format.specs.{Profile.profile_of, Setup.Setup}
-use Rattle.link_verdicts.specs.Checking.{FullNote, checker, at_floor, brief_note}
-use Rattle.link_verdicts.specs.{Verdicts.CheckState, declared.note.CheckNote.CheckNote}
+use Rattle.link_walks.specs.Checking.{FullNote, checker, at_floor, brief_note}
+use Rattle.link_walks.specs.Verdicts.{CheckState}
+use Rattle.link_walks.specs.declared.check_note.CheckNote.{CheckNote}
 use Rattle.sequence_journal.specs.declared.numbers.TheConstants.{LIMIT}
 use Rattle.std.proofs.Common.{◌≡◌, ◌∙◌, ◌⊎◌, ℕ, zero, suc, ◌+◌, ◌<◌, ◌≤◌, ◌==◌, true, List, [], ◌∷◌}
 use Rattle.std.proofs.Common.{◌++◌, length, take, drop, get_or, map, refl, sym, ap, subst, arith}

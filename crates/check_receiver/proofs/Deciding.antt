@@ -1,5 +1,5 @@
 -- The verdict on a burst with a whole trailer.
-use Rattle.burst_walk.specs.{Causal.going_on, declared.box_step.BoxStep.BoxStep}
+use Rattle.frame_ending.specs.{Causal.going_on, declared.box_step.BoxStep.BoxStep}
 use Rattle.check_receiver.proofs.Hearing.{Hears, hears-whole, next-last, whole-long, whole-trailer}
 use Rattle.check_receiver.proofs.Hearing.{refuse-taken, pass-taken, passes-with}
 use Rattle.check_receiver.specs.{Between.IsWhole, Between.verdict_told, Checkings.PassesWith}
@@ -12,9 +12,11 @@ use Rattle.frame_ending.specs.Stands.{StandsFor as CutStandsFor, ticks_taken as 
 use Rattle.{hmac_tag.specs.declared.tag.Mac.Ghosts as Mac, line_rules.specs.Rules.Rules}
 use Rattle.line_rules.specs.{Rules.lacking_of, declared.line_rules.LineRules.Ghosts as LineRules}
 use Rattle.link_format.specs.{Profile.Profile, Profile.profile_of, Setup.Setup}
-use Rattle.link_verdicts.specs.{Holding.trailer_so_far, Verdicts.trailer_of, Verdicts.whole_verdict}
-use Rattle.link_verdicts.specs.declared.note.CheckNote.{CheckNote, TheVariants.Passed}
-use Rattle.link_verdicts.specs.declared.note.{CheckNote.TheVariants.Refused, RefusedWhy.RefusedWhy}
+use Rattle.link_walks.specs.{Holding.trailer_so_far, Verdicts.trailer_of, Verdicts.whole_verdict}
+use Rattle.link_walks.specs.declared.check_note.CheckNote.{CheckNote}
+use Rattle.link_walks.specs.declared.check_note.CheckNote.TheVariants.{Passed}
+use Rattle.link_walks.specs.declared.check_note.CheckNote.TheVariants.{Refused}
+use Rattle.link_walks.specs.declared.check_note.RefusedWhy.{RefusedWhy}
 use Rattle.sequence_journal.specs.declared.numbers.TheConstants.{LIMIT}
 use Rattle.std.proofs.Common.{◌≡◌, ◌∙◌, ℕ, ◌+◌, ◌≤◌, List, [], ◌∷◌, ◌++◌, length, sym, ap, subst}
 use Rattle.std.proofs.Common.{Some, Result, Ok, Err, true}

@@ -1,6 +1,6 @@
 -- A burst is dropped for its header: nothing of it leaves.
-use Rattle.burst_walk.specs.Causal.{MayGoOn, going_on}
-use Rattle.burst_walk.specs.{HasCome.HasCome, declared.box_step.BoxStep.BoxStep}
+use Rattle.frame_ending.specs.Causal.{MayGoOn, going_on}
+use Rattle.frame_ending.specs.{HasCome.HasCome, declared.box_step.BoxStep.BoxStep}
 use Rattle.check_receiver.proofs.Heads.{head-is-bad, head-isn't-short}
 use Rattle.check_receiver.proofs.Machine.{flow, still-unowed, ring-waits, assembled}
 use Rattle.check_receiver.proofs.OpenBursts.{timely, open-walks}
@@ -16,16 +16,17 @@ use Rattle.line_rules.specs.{Rules.Rules, Rules.head_of, RulesLaws.IsLawful, Rul
 use Rattle.line_rules.specs.declared.head.Head.TheVariants.{Bad}
 use Rattle.line_rules.specs.declared.line_rules.LineRules.{Ghosts as LineRules}
 use Rattle.link_format.specs.{Profile.Profile, Profile.profile_of, Profile.IsWordLen, Setup.Setup}
-use Rattle.link_verdicts.proofs.Judging.{head-short, checked-short, checked-bad}
-use Rattle.link_verdicts.proofs.Opened.{last_of-more, opens-of, may-of, unowed-of, silently, joined}
-use Rattle.link_verdicts.proofs.Opened.{joined-last, still}
-use Rattle.link_verdicts.proofs.{Opening.short-same, Opening.come-rests, Resting.rest-drops}
-use Rattle.link_verdicts.proofs.Settling.{is_over, open-bytes, open-end, long-header}
-use Rattle.link_verdicts.specs.Checking.{checker, at_floor, head_tick, note_tick}
-use Rattle.link_verdicts.specs.Holding.{Rests}
-use Rattle.link_verdicts.specs.Verdicts.{CheckState, checked, Verdict.dropped as dropped_for}
-use Rattle.link_verdicts.specs.declared.note.CheckNote.{CheckNote, TheVariants.Dropped}
-use Rattle.link_verdicts.specs.declared.note.DroppedWhy.TheVariants.{Head as NoHead}
+use Rattle.link_walks.proofs.Judging.{head-short, checked-short, checked-bad}
+use Rattle.link_walks.proofs.Opened.{last_of-more, opens-of, may-of, unowed-of, silently, joined}
+use Rattle.link_walks.proofs.Opened.{joined-last, still}
+use Rattle.link_walks.proofs.{Opening.short-same, Opening.come-rests, Resting.rest-drops}
+use Rattle.link_walks.proofs.Settling.{is_over, open-bytes, open-end, long-header}
+use Rattle.link_walks.specs.Checking.{checker, at_floor, head_tick, note_tick}
+use Rattle.link_walks.specs.Holding.{Rests}
+use Rattle.link_walks.specs.Verdicts.{CheckState, checked, Verdict.dropped as dropped_for}
+use Rattle.link_walks.specs.declared.check_note.CheckNote.{CheckNote}
+use Rattle.link_walks.specs.declared.check_note.CheckNote.TheVariants.{Dropped}
+use Rattle.link_walks.specs.declared.check_note.DroppedWhy.TheVariants.{Head as NoHead}
 use Rattle.sequence_journal.specs.declared.numbers.TheConstants.{LIMIT}
 use Rattle.spoiler.specs.Outlet.{StandsFor as OutletStandsFor, owed_by}
 use Rattle.std.proofs.Common.{◌≡◌, ◌∙◌, ℕ, ◌+◌, ◌-◌, ◌<◌, ◌≤◌, true, false, List, [], ◌∷◌, ◌++◌}

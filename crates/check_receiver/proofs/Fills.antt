@@ -1,5 +1,5 @@
 -- The bytes of a fill, which leave while ticks come that begin no burst.
-use Rattle.burst_walk.specs.{Answered.answered, declared.box_step.BoxStep.BoxStep}
+use Rattle.frame_ending.specs.{Answered.answered, declared.box_step.BoxStep.BoxStep}
 use Rattle.check_receiver.proofs.{Beginnings.one-taken, Resting.rest-taken}
 use Rattle.check_receiver.specs.Between.{IsBetween}
 use Rattle.check_receiver.specs.Phases.{is_open, passes_in, settled}
@@ -11,8 +11,9 @@ use Rattle.frame_ending.specs.{Cuts.cut_of, SoFar.quiet_so_far, Stands.StandsFor
 use Rattle.frame_ending.specs.declared.{burst_cut.BurstCut.BurstCut, cut.Cut.Cut}
 use Rattle.hmac_tag.specs.declared.tag.Mac.{Ghosts as Mac}
 use Rattle.line_rules.specs.{Rules.Rules, declared.line_rules.LineRules.Ghosts as LineRules}
-use Rattle.{link_format.specs.Setup.Setup, link_verdicts.specs.Turns.HasTurned}
-use Rattle.link_verdicts.specs.{Turns.tick_or_silence, declared.note.CheckNote.CheckNote}
+use Rattle.{link_format.specs.Setup.Setup, link_walks.specs.Turns.HasTurned}
+use Rattle.link_walks.specs.Turns.{tick_or_silence}
+use Rattle.link_walks.specs.declared.check_note.CheckNote.{CheckNote}
 use Rattle.spoiler.specs.Outlet.{filled, owed_by}
 use Rattle.std.proofs.Common.{◌≡◌, ◌∙◌, ℕ, zero, suc, ◌<◌, ◌==◌, false, List, [], ◌∷◌, ◌++◌, length}
 use Rattle.std.proofs.Common.{get_or, map, refl, sym, ap, subst, arith, None, ⊎_elim, Bool, nat_lt}

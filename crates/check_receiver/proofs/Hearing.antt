@@ -1,6 +1,6 @@
 -- A byte that isn't live comes, of the burst whose verdict is open.
-use Rattle.burst_walk.proofs.Coming.{notes-step, note-now}
-use Rattle.burst_walk.specs.{Causal.going_on, Walk.Noted, declared.box_step.BoxStep.BoxStep}
+use Rattle.frame_ending.proofs.Coming.{notes-step, note-now}
+use Rattle.frame_ending.specs.{Causal.going_on, Walk.Noted, declared.box_step.BoxStep.BoxStep}
 use Rattle.check_receiver.proofs.Machine.{waiting-some, ring-waits, assembled}
 use Rattle.check_receiver.proofs.OpenBursts.{open-walks, Moved, moved}
 use Rattle.check_receiver.{proofs.Settled.open-stays, specs.Phases.is_open, specs.Phases.passes_in}
@@ -20,20 +20,22 @@ use Rattle.hmac_tag.specs.{Tag.direction_number, declared.tag.Mac.Ghosts as Mac}
 use Rattle.line_rules.specs.Rules.{Rules, lacking_of}
 use Rattle.line_rules.specs.declared.line_rules.LineRules.{Ghosts as LineRules}
 use Rattle.link_format.specs.Profile.{Profile, profile_of, IsWordLen, delay, pause_len, trailer_len}
-use Rattle.{link_format.specs.Setup.Setup, link_verdicts.proofs.Opened.IsOpen}
-use Rattle.link_verdicts.proofs.Opened.{opens-of, may-of, long-of, more-of, unowed-of, bytes-of}
-use Rattle.link_verdicts.proofs.Opened.{bytes-next, trailer-long as grown, goes-as, joined}
-use Rattle.link_verdicts.proofs.Opened.{joined-last, extra-end, extra-bytes, extra-adds, extra-goes}
-use Rattle.link_verdicts.proofs.Opened.{extra-breaks, whole-checked, whole-tick, whole-refuses}
-use Rattle.link_verdicts.proofs.{Opened.whole-passes, Opening.length-silent, Resting.causal}
-use Rattle.link_verdicts.{proofs.Settling.after-long, specs.Checking.FullNote}
-use Rattle.link_verdicts.specs.Checking.{checker, at_floor, check_notes, note_by, note_tick}
-use Rattle.link_verdicts.specs.{Checking.FullNote.passed_note, Emissions.owed, Going.Goes}
-use Rattle.link_verdicts.specs.{Holding.trailer_so_far, Verdicts.CheckState, Verdicts.after_live}
-use Rattle.link_verdicts.specs.Verdicts.{checked, trailer_of, whole_verdict, Verdict.passed_with}
-use Rattle.link_verdicts.specs.{Verdicts.Verdict.refused, declared.note.CheckNote.CheckNote}
-use Rattle.link_verdicts.specs.declared.note.CheckNote.TheVariants.{Passed, Refused}
-use Rattle.link_verdicts.specs.declared.note.RefusedWhy.{RefusedWhy, TheVariants.Trailer}
+use Rattle.{link_format.specs.Setup.Setup, link_walks.proofs.Opened.IsOpen}
+use Rattle.link_walks.proofs.Opened.{opens-of, may-of, long-of, more-of, unowed-of, bytes-of}
+use Rattle.link_walks.proofs.Opened.{bytes-next, trailer-long as grown, goes-as, joined}
+use Rattle.link_walks.proofs.Opened.{joined-last, extra-end, extra-bytes, extra-adds, extra-goes}
+use Rattle.link_walks.proofs.Opened.{extra-breaks, whole-checked, whole-tick, whole-refuses}
+use Rattle.link_walks.proofs.{Opened.whole-passes, Opening.length-silent, Resting.causal}
+use Rattle.link_walks.{proofs.Settling.after-long, specs.Checking.FullNote}
+use Rattle.link_walks.specs.Checking.{checker, at_floor, check_notes, note_by, note_tick}
+use Rattle.link_walks.specs.{Checking.FullNote.passed_note, Emissions.owed, Going.Goes}
+use Rattle.link_walks.specs.{Holding.trailer_so_far, Verdicts.CheckState, Verdicts.after_live}
+use Rattle.link_walks.specs.Verdicts.{checked, trailer_of, whole_verdict, Verdict.passed_with}
+use Rattle.link_walks.specs.Verdicts.Verdict.{refused}
+use Rattle.link_walks.specs.declared.check_note.CheckNote.{CheckNote}
+use Rattle.link_walks.specs.declared.check_note.CheckNote.TheVariants.{Passed, Refused}
+use Rattle.link_walks.specs.declared.check_note.RefusedWhy.{RefusedWhy}
+use Rattle.link_walks.specs.declared.check_note.RefusedWhy.TheVariants.{Trailer}
 use Rattle.sequence_journal.specs.declared.numbers.TheConstants.{LIMIT}
 use Rattle.spoiler.{proofs.Standing.stands-unowed, specs.Outlet.Refuses, specs.Outlet.owed_by}
 use Rattle.std.proofs.Common.{◌≡◌, ◌∙◌, ℕ, ◌+◌, ◌-◌, ◌<◌, ◌≤◌, ◌==◌, Bool, true, false, List, []}

@@ -1,5 +1,6 @@
 -- The bytes that leave in a run of ticks.
-use Rattle.burst_walk.{proofs.Runs.run-none, specs.Answered.answered}
+use Rattle.frame_ending.proofs.BurstRuns.{run-none}
+use Rattle.frame_ending.specs.Answered.{answered}
 use Rattle.check_receiver.specs.Runs.{HasTakenRun, IsFront}
 use Rattle.check_receiver.specs.{Stands.StandsAt, declared.checker.Checker.Checker}
 use Rattle.delay_ring.proofs.Marks.{ticks-length}
@@ -10,7 +11,7 @@ use Rattle.frame_ending.specs.declared.burst_cut.BurstCut.{BurstCut}
 use Rattle.hmac_tag.specs.declared.tag.Mac.{Ghosts as Mac}
 use Rattle.line_rules.specs.declared.line_rules.LineRules.{Ghosts as LineRules}
 use Rattle.link_format.specs.{Profile.profile_of, Setup.Setup}
-use Rattle.link_verdicts.specs.Checking.{checker, at_floor, brief_note}
+use Rattle.link_walks.specs.Checking.{checker, at_floor, brief_note}
 use Rattle.sequence_journal.specs.declared.numbers.TheConstants.{LIMIT}
 use Rattle.std.proofs.Common.{◌≡◌, ◌∙◌, ℕ, zero, suc, ◌+◌, ◌<◌, ◌≤◌, false, List, [], ◌∷◌, ◌++◌}
 use Rattle.std.proofs.Common.{length, take, map, refl, sym, ap, subst, arith, nat_lt, ⊎_elim, ◌-◌}

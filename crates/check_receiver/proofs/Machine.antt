@@ -1,5 +1,5 @@
 -- How the parts of a receiver fit together after a step.
-use Rattle.burst_walk.specs.{Answers.AnswersTick, declared.box_step.BoxStep.BoxStep}
+use Rattle.frame_ending.specs.{Answers.AnswersTick, declared.box_step.BoxStep.BoxStep}
 use Rattle.check_receiver.proofs.Settled.{IsIn, settles, StaysIdle}
 use Rattle.check_receiver.specs.{Phases.is_open, Phases.passes_in, Stands.MacHolds, Stands.HasTaken}
 use Rattle.check_receiver.specs.{Turning.Turned, declared.checker.Checker.Checker}
@@ -8,10 +8,13 @@ use Rattle.frame_ending.specs.Stands.{StandsFor as CutStandsFor}
 use Rattle.hmac_tag.specs.{Tag.direction_number, declared.tag.Mac.Ghosts as Mac}
 use Rattle.line_rules.specs.declared.line_rules.LineRules.{Ghosts as LineRules}
 use Rattle.link_format.specs.{Profile.Profile, Profile.profile_of, Profile.IsWordLen, Setup.Setup}
-use Rattle.link_verdicts.proofs.{Flow.Flows, Flow.flows, Numbers.walked-number, Rings.ring-first}
-use Rattle.link_verdicts.{proofs.Rings.ring-silent, specs.Checking.checker, specs.Checking.at_floor}
-use Rattle.link_verdicts.specs.{Checking.brief_note, Going.Goes, Leaving.is_none, Turns.HasTurned}
-use Rattle.link_verdicts.specs.{Verdicts.CheckState, declared.note.CheckNote.CheckNote}
+use Rattle.link_walks.proofs.Flow.{Flows, flows}
+use Rattle.link_walks.proofs.CheckNumbers.{walked-number}
+use Rattle.link_walks.proofs.Rings.{ring-first}
+use Rattle.link_walks.{proofs.Rings.ring-silent, specs.Checking.checker, specs.Checking.at_floor}
+use Rattle.link_walks.specs.{Checking.brief_note, Going.Goes, Leaving.is_none, Turns.HasTurned}
+use Rattle.link_walks.specs.Verdicts.{CheckState}
+use Rattle.link_walks.specs.declared.check_note.CheckNote.{CheckNote}
 use Rattle.sequence_journal.specs.declared.numbers.TheConstants.{LIMIT}
 use Rattle.spoiler.specs.Outlet.{StandsFor as OutletStandsFor, Refuses, owed_by}
 use Rattle.std.proofs.Common.{◌≡◌, ◌∙◌, ℕ, ◌+◌, ◌-◌, ◌<◌, ◌≤◌, ◌==◌, true, false, List, [], ◌∷◌}

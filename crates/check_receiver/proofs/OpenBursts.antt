@@ -6,8 +6,8 @@ use Rattle.delay_ring.specs.{DelayRing.ring_ticks, declared.delay_ring.DelayRing
 use Rattle.hmac_tag.specs.declared.tag.Mac.{Ghosts as Mac}
 use Rattle.line_rules.specs.declared.line_rules.LineRules.{Ghosts as LineRules}
 use Rattle.link_format.specs.{Profile.profile_of, Setup.Setup}
-use Rattle.link_verdicts.proofs.{Flow.flows, Opened.IsOpen, Opening.leaves-front, Rings.ring-first}
-use Rattle.link_verdicts.specs.{Holding.HasWalked, Leaving.leaves, Timely.IsTimely, Turns.HasTurned}
+use Rattle.link_walks.proofs.{Flow.flows, Opened.IsOpen, Opening.leaves-front, Rings.ring-first}
+use Rattle.link_walks.specs.{Holding.HasWalked, Leaving.leaves, Timely.IsTimely, Turns.HasTurned}
 use Rattle.sequence_journal.specs.declared.numbers.TheConstants.{LIMIT}
 use Rattle.spoiler.specs.Outlet.{StandsFor as OutletStandsFor, owed_by, refused_by}
 use Rattle.spoiler.specs.declared.outlet.Outlet.{Outlet}

@@ -1,6 +1,6 @@
 -- A tick that begins no burst comes while no verdict is open.
-use Rattle.burst_walk.proofs.Coming.{RunsOn, closed-or-runs_on, come-runs_on, come-silent}
-use Rattle.burst_walk.specs.{HasCome.HasCome, declared.box_step.BoxStep.BoxStep}
+use Rattle.frame_ending.proofs.Coming.{RunsOn, closed-or-runs_on, come-runs_on, come-silent}
+use Rattle.frame_ending.specs.{HasCome.HasCome, declared.box_step.BoxStep.BoxStep}
 use Rattle.check_receiver.proofs.Machine.{waiting-none, until-last, flow, still-unowed, ring-waits}
 use Rattle.check_receiver.proofs.{Machine.assembled, Settled.left-stays}
 use Rattle.check_receiver.specs.Phases.{is_open, passes_in}
@@ -12,10 +12,10 @@ use Rattle.frame_ending.specs.declared.cut.Cut.{Cut, TheVariants.Live, TheVarian
 use Rattle.{hmac_tag.specs.declared.tag.Mac.Ghosts as Mac, line_rules.specs.Rules.Rules}
 use Rattle.line_rules.specs.{RulesLaws.IsLawful, declared.line_rules.LineRules.Ghosts as LineRules}
 use Rattle.link_format.specs.{Profile.Profile, Profile.profile_of, Setup.Setup}
-use Rattle.link_verdicts.proofs.Resting.{causal, rest-goes, knows-more}
-use Rattle.link_verdicts.specs.Checking.{checker, at_floor}
-use Rattle.link_verdicts.specs.{Holding.HasWalked, Timely.IsTimely, Verdicts.CheckState}
-use Rattle.link_verdicts.specs.declared.note.CheckNote.{CheckNote}
+use Rattle.link_walks.proofs.Resting.{causal, rest-goes, knows-more}
+use Rattle.link_walks.specs.Checking.{checker, at_floor}
+use Rattle.link_walks.specs.{Holding.HasWalked, Timely.IsTimely, Verdicts.CheckState}
+use Rattle.link_walks.specs.declared.check_note.CheckNote.{CheckNote}
 use Rattle.sequence_journal.specs.declared.numbers.TheConstants.{LIMIT}
 use Rattle.spoiler.specs.Outlet.{Refuses, owed_by}
 use Rattle.std.proofs.Common.{◌≡◌, ◌∙◌, ◌⊎◌, ⊎_elim, ℕ, ◌-◌, false, List, [], ◌∷◌, ◌++◌, length}

@@ -1,5 +1,5 @@
 -- The receiver after a run of ticks.
-use Rattle.{burst_walk.specs.Answered.answered, check_receiver.proofs.Lending.ring-whole}
+use Rattle.{frame_ending.specs.Answered.answered, check_receiver.proofs.Lending.ring-whole}
 use Rattle.check_receiver.proofs.{LiveRuns.LiveRun, LiveRuns.live-run, Machine.waiting-none}
 use Rattle.check_receiver.proofs.{Machine.waiting-some, OpenBursts.timely, OpenBursts.open-walks}
 use Rattle.check_receiver.proofs.{PauseRuns.pause-run, RestRuns.idle-run, RestRuns.flow-run}
@@ -21,11 +21,11 @@ use Rattle.line_rules.specs.Rules.{Rules, head_of}
 use Rattle.line_rules.specs.declared.head.Head.TheVariants.{Good, Short}
 use Rattle.line_rules.specs.declared.line_rules.LineRules.{Ghosts as LineRules}
 use Rattle.link_format.specs.{Profile.Profile, Profile.profile_of, Profile.delay, Setup.Setup}
-use Rattle.link_verdicts.proofs.{Judging.head-short, Opened.IsOpen}
-use Rattle.link_verdicts.proofs.Opened.{last-of, may-of, long-of, unowed-of, bare-of, trailer-long}
-use Rattle.link_verdicts.proofs.{Opened.nothing-after, Settling.after-long}
-use Rattle.link_verdicts.specs.{Holding.HasWalked, Holding.trailer_so_far, Timely.IsTimely}
-use Rattle.link_verdicts.specs.Verdicts.{CheckState, after_live}
+use Rattle.link_walks.proofs.{Judging.head-short, Opened.IsOpen}
+use Rattle.link_walks.proofs.Opened.{last-of, may-of, long-of, unowed-of, bare-of, trailer-long}
+use Rattle.link_walks.proofs.{Opened.nothing-after, Settling.after-long}
+use Rattle.link_walks.specs.{Holding.HasWalked, Holding.trailer_so_far, Timely.IsTimely}
+use Rattle.link_walks.specs.Verdicts.{CheckState, after_live}
 use Rattle.sequence_journal.specs.declared.numbers.TheConstants.{LIMIT}
 use Rattle.spoiler.{proofs.Standing.stands-unowed, specs.Outlet.Refuses, specs.Outlet.owed_by}
 use Rattle.std.proofs.Common.{◌≡◌, ◌∙◌, ℕ, ◌+◌, ◌-◌, ◌<◌, ◌≤◌, Bool, true, false, List, [], ◌∷◌}

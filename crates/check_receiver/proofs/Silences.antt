@@ -1,5 +1,5 @@
 -- A silent tick comes.
-use Rattle.burst_walk.specs.declared.box_step.BoxStep.{BoxStep}
+use Rattle.frame_ending.specs.declared.box_step.BoxStep.{BoxStep}
 use Rattle.check_receiver.proofs.{Machine.ring-waits, Machine.assembled, OpenBursts.open-walks}
 use Rattle.check_receiver.{proofs.OpenBursts.moved, specs.Between.IsBetween, specs.Stands.MacHolds}
 use Rattle.check_receiver.{proofs.Settled.open-stays, specs.Phases.is_open, specs.Phases.passes_in}
@@ -11,11 +11,12 @@ use Rattle.frame_ending.specs.SoFar.{start_in, start_so_far, live_bytes_in, live
 use Rattle.{frame_ending.specs.declared.cut.Cut.Cut, hmac_tag.specs.declared.tag.Mac.Ghosts as Mac}
 use Rattle.line_rules.specs.{Rules.lacking_of, declared.line_rules.LineRules.Ghosts as LineRules}
 use Rattle.link_format.specs.{Profile.Profile, Profile.profile_of, Profile.delay, Setup.Setup}
-use Rattle.link_verdicts.proofs.Opened.{opens-of, last-of, long-of, more-of, unowed-of, bytes-of}
-use Rattle.link_verdicts.proofs.Opened.{goes-as, bytes-next, silent-goes, silent-breaks}
-use Rattle.link_verdicts.specs.Emissions.{owed}
-use Rattle.link_verdicts.specs.declared.note.CheckNote.{CheckNote, TheVariants.Refused}
-use Rattle.link_verdicts.specs.declared.note.RefusedWhy.TheVariants.{Trailer}
+use Rattle.link_walks.proofs.Opened.{opens-of, last-of, long-of, more-of, unowed-of, bytes-of}
+use Rattle.link_walks.proofs.Opened.{goes-as, bytes-next, silent-goes, silent-breaks}
+use Rattle.link_walks.specs.Emissions.{owed}
+use Rattle.link_walks.specs.declared.check_note.CheckNote.{CheckNote}
+use Rattle.link_walks.specs.declared.check_note.CheckNote.TheVariants.{Refused}
+use Rattle.link_walks.specs.declared.check_note.RefusedWhy.TheVariants.{Trailer}
 use Rattle.sequence_journal.specs.declared.numbers.TheConstants.{LIMIT}
 use Rattle.spoiler.{proofs.Standing.stands-unowed, specs.Outlet.Refuses, specs.Outlet.owed_by}
 use Rattle.std.proofs.Common.{◌≡◌, ◌∙◌, ℕ, ◌+◌, ◌<◌, ◌≤◌, true, false, List, [], ◌∷◌, ◌++◌}

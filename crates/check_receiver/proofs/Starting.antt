@@ -1,6 +1,6 @@
 -- The first byte of a burst comes.
-use Rattle.burst_walk.proofs.Coming.{closed-or-runs_on, come-alone, waiting-may}
-use Rattle.burst_walk.specs.{HasCome.HasCome, declared.box_step.BoxStep.BoxStep}
+use Rattle.frame_ending.proofs.Coming.{closed-or-runs_on, come-alone, waiting-may}
+use Rattle.frame_ending.specs.{HasCome.HasCome, declared.box_step.BoxStep.BoxStep}
 use Rattle.check_receiver.proofs.{Beginnings.ring-still, Dropping.drops}
 use Rattle.check_receiver.proofs.Heads.{head-is-bad, head-isn't-short}
 use Rattle.check_receiver.proofs.Machine.{until-last, flow, still-unowed, ring-waits, assembled}
@@ -19,18 +19,19 @@ use Rattle.{hmac_tag.specs.declared.tag.Mac.Ghosts as Mac, line_rules.specs.Rule
 use Rattle.line_rules.specs.{Rules.head_of, RulesLaws.IsLawful, declared.head.Head.TheVariants.Bad}
 use Rattle.line_rules.specs.declared.line_rules.LineRules.{Ghosts as LineRules}
 use Rattle.link_format.specs.{Profile.Profile, Profile.profile_of, Profile.delay, Setup.Setup}
-use Rattle.link_verdicts.proofs.Beginning.{rests-none, live-none, begun-end, begun-seen}
-use Rattle.link_verdicts.proofs.{Beginning.opens-begun, Judging.head-bad, Judging.checked-busy}
-use Rattle.link_verdicts.proofs.{Judging.checked-bad, Opened.nothing-after, Opened.last_of-more}
-use Rattle.link_verdicts.proofs.Opening.{open-goes, length-silent}
-use Rattle.link_verdicts.proofs.Resting.{causal, rest-drops, knows-more}
-use Rattle.link_verdicts.proofs.{Rings.ring-first, Rings.ring-begun, Settling.after-long}
-use Rattle.link_verdicts.specs.Checking.{checker, at_floor, head_tick, note_tick}
-use Rattle.link_verdicts.specs.Holding.{HasWalked, Opens, trailer_so_far}
-use Rattle.link_verdicts.specs.{Timely.IsTimely, Turns.HasTurned, Turns.tick_or_silence}
-use Rattle.link_verdicts.specs.Verdicts.{CheckState, after_live, Verdict.dropped as dropped_for}
-use Rattle.link_verdicts.specs.declared.note.CheckNote.{CheckNote, TheVariants.Dropped}
-use Rattle.link_verdicts.specs.declared.note.DroppedWhy.TheVariants.{Busy, Head as NoHead}
+use Rattle.link_walks.proofs.Beginning.{rests-none, live-none, begun-end, begun-seen}
+use Rattle.link_walks.proofs.{Beginning.opens-begun, Judging.head-bad, Judging.checked-busy}
+use Rattle.link_walks.proofs.{Judging.checked-bad, Opened.nothing-after, Opened.last_of-more}
+use Rattle.link_walks.proofs.Opening.{open-goes, length-silent}
+use Rattle.link_walks.proofs.Resting.{causal, rest-drops, knows-more}
+use Rattle.link_walks.proofs.{Rings.ring-first, Rings.ring-begun, Settling.after-long}
+use Rattle.link_walks.specs.Checking.{checker, at_floor, head_tick, note_tick}
+use Rattle.link_walks.specs.Holding.{HasWalked, Opens, trailer_so_far}
+use Rattle.link_walks.specs.{Timely.IsTimely, Turns.HasTurned, Turns.tick_or_silence}
+use Rattle.link_walks.specs.Verdicts.{CheckState, after_live, Verdict.dropped as dropped_for}
+use Rattle.link_walks.specs.declared.check_note.CheckNote.{CheckNote}
+use Rattle.link_walks.specs.declared.check_note.CheckNote.TheVariants.{Dropped}
+use Rattle.link_walks.specs.declared.check_note.DroppedWhy.TheVariants.{Busy, Head as NoHead}
 use Rattle.sequence_journal.specs.declared.numbers.TheConstants.{LIMIT}
 use Rattle.spoiler.proofs.Standing.{stands-unowed}
 use Rattle.spoiler.specs.Outlet.{StandsFor as OutletStandsFor, Refuses, owed_by, filled}

@@ -1,5 +1,5 @@
 -- A byte of a trailer comes, and is kept.
-use Rattle.burst_walk.specs.{Causal.going_on, declared.box_step.BoxStep.BoxStep}
+use Rattle.frame_ending.specs.{Causal.going_on, declared.box_step.BoxStep.BoxStep}
 use Rattle.check_receiver.proofs.Hearing.{Hears, hears-between, next-last, until-long, until-some}
 use Rattle.check_receiver.proofs.Hearing.{mac_holds, next-mac_holds, trailer-long, trailer-taken}
 use Rattle.check_receiver.specs.{Arrivals.bytes_come, Between.IsBetween, Between.IsWhole}
@@ -9,7 +9,8 @@ use Rattle.frame_ending.specs.{LiveBytes.live_end, declared.cut.Cut.TheVariants.
 use Rattle.hmac_tag.specs.declared.tag.Mac.{Ghosts as Mac}
 use Rattle.line_rules.specs.{Rules.Rules, declared.line_rules.LineRules.Ghosts as LineRules}
 use Rattle.link_format.specs.{Profile.pause_len, Setup.Setup}
-use Rattle.{link_verdicts.specs.declared.note.CheckNote.CheckNote, std.proofs.Common.◌≡◌}
+use Rattle.link_walks.specs.declared.check_note.CheckNote.{CheckNote}
+use Rattle.std.proofs.Common.{◌≡◌}
 use Rattle.std.proofs.Common.{ℕ, ◌+◌, ◌<◌, ◌≤◌, true, List, [], ◌∷◌, ◌++◌, length, ap, subst, arith}
 use Rattle.{std.proofs.Common.None, std.proofs.Common.⊎_elim, yasir_ticks.specs.Bursts.Burst}
 use Rattle.yasir_ticks.specs.declared.tick.Tick.{Tick, TheVariants.Silent}

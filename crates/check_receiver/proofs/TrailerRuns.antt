@@ -1,13 +1,13 @@
 -- Runs of bytes of the trailer of the burst whose verdict is open.
-use Rattle.burst_walk.specs.Causal.{going_on}
+use Rattle.frame_ending.specs.Causal.{going_on}
 use Rattle.check_receiver.proofs.RunTicks.{RunsTo, runs-none, runs-first}
 use Rattle.frame_ending.specs.Cuts.{cut_of, cuts_after}
 use Rattle.frame_ending.specs.LiveBytes.{live_bytes, live_end}
 use Rattle.frame_ending.specs.declared.cut.Cut.TheVariants.{Extra, Quiet}
 use Rattle.line_rules.specs.{Rules.Rules, declared.line_rules.LineRules.Ghosts as LineRules}
 use Rattle.link_format.specs.Profile.{Profile, delay}
-use Rattle.link_verdicts.proofs.Opened.{IsOpen, extra-goes, extra-end, extra-bytes, extra-adds}
-use Rattle.link_verdicts.specs.{Holding.trailer_so_far, Verdicts.CheckState}
+use Rattle.link_walks.proofs.Opened.{IsOpen, extra-goes, extra-end, extra-bytes, extra-adds}
+use Rattle.link_walks.specs.{Holding.trailer_so_far, Verdicts.CheckState}
 use Rattle.std.proofs.Common.{◌≡◌, ◌∙◌, ℕ, ◌+◌, ◌<◌, ◌≤◌, false, List, [], ◌∷◌, ◌++◌, map}
 use Rattle.std.proofs.Common.{length, length-append, take, drop, get_or, refl, sym, ap, subst}
 use Rattle.std.proofs.Common.{arith, append_assoc, Some}

@@ -6,10 +6,10 @@ use Rattle.frame_ending.specs.SoFar.{last_burst, live_bytes_in, live_bytes_so_fa
 use Rattle.{hmac_tag.specs.declared.tag.Mac.Ghosts as Mac, line_rules.specs.Rules.Rules}
 use Rattle.line_rules.specs.{Rules.is_frame_of, declared.line_rules.LineRules.Ghosts as LineRules}
 use Rattle.link_format.specs.{Profile.Profile, Profile.profile_of, Setup.Setup}
-use Rattle.link_verdicts.{proofs.Passing.number-within, specs.Holding.trailer_so_far}
-use Rattle.link_verdicts.specs.Verdicts.{number_of, tag_in, verdict_by_number, whole_verdict}
-use Rattle.link_verdicts.specs.Verdicts.Verdict.{passed_with, refused}
-use Rattle.link_verdicts.specs.declared.note.RefusedWhy.TheVariants.{Tag, Number}
+use Rattle.link_walks.{proofs.Passing.number-within, specs.Holding.trailer_so_far}
+use Rattle.link_walks.specs.Verdicts.{number_of, tag_in, verdict_by_number, whole_verdict}
+use Rattle.link_walks.specs.Verdicts.Verdict.{passed_with, refused}
+use Rattle.link_walks.specs.declared.check_note.RefusedWhy.TheVariants.{Tag, Number}
 use Rattle.sequence_journal.specs.{Numbers.full_of, declared.numbers.TheConstants.LIMIT}
 use Rattle.std.proofs.Common.{◌≡◌, ◌∙◌, ℕ, ◌+◌, ◌^◌, ◌<◌, ◌≤◌, Bool, true, false, List, ◌∷◌, ◌++◌}
 use Rattle.std.proofs.Common.{length, drop, sym, ap, arith, Option, Some, None, bytes_eq}

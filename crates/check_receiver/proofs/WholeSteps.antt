@@ -1,6 +1,6 @@
 -- A whole step of a receiver: first the value that cuts the link takes the tick, and one step less
 -- is left until the last live byte leaves; then everything else takes the tick.
-use Rattle.burst_walk.specs.declared.box_step.BoxStep.{BoxStep}
+use Rattle.frame_ending.specs.declared.box_step.BoxStep.{BoxStep}
 use Rattle.check_receiver.specs.{Between.IsBetween, Between.IsSilence, Checkings.PassesWith}
 use Rattle.check_receiver.specs.{Stands.StandsAt, Stands.HasTaken, declared.checker.Checker.Checker}
 use Rattle.frame_ending.proofs.Running.{closed-tick, passing-byte}
@@ -11,7 +11,7 @@ use Rattle.frame_ending.specs.declared.cut.Cut.TheVariants.{Live, Extra, Pause, 
 use Rattle.hmac_tag.specs.declared.tag.Mac.{Ghosts as Mac}
 use Rattle.line_rules.specs.{Rules.Rules, declared.line_rules.LineRules.Ghosts as LineRules}
 use Rattle.link_format.specs.{Profile.profile_of, Setup.Setup}
-use Rattle.link_verdicts.specs.declared.note.CheckNote.{CheckNote}
+use Rattle.link_walks.specs.declared.check_note.CheckNote.{CheckNote}
 use Rattle.sequence_journal.specs.declared.journal.JournalFault.{JournalFault}
 use Rattle.sequence_journal.specs.declared.numbers.TheConstants.{LIMIT}
 use Rattle.std.proofs.Common.{◌≡◌, ◌∙◌, ◌⊎◌, ⊎_elim, ℕ, ◌-◌, List, [], ◌∷◌, ◌++◌, refl, sym, subst}

@@ -15,11 +15,11 @@ use Rattle.yasir_ticks.specs.Bursts.{Burst}
 use Rattle.frame_ending.specs.SoFar.{last_burst}
 use Rattle.link_format.specs.Profile.{IsWordLen}
 use Rattle.link_format.specs.Setup.{Setup}
-use Rattle.link_verdicts.specs.declared.note.CheckNote.{CheckNote}
-use Rattle.link_verdicts.specs.declared.note.CheckNote.TheVariants.{Passed, Refused, Dropped}
-use Rattle.link_verdicts.specs.declared.note.RefusedWhy.{RefusedWhy}
-use Rattle.link_verdicts.specs.Verdicts.{Verdict}
-use Rattle.link_verdicts.specs.Verdicts.Verdict.{passed_with, refused}
+use Rattle.link_walks.specs.declared.check_note.CheckNote.{CheckNote}
+use Rattle.link_walks.specs.declared.check_note.CheckNote.TheVariants.{Passed, Refused, Dropped}
+use Rattle.link_walks.specs.declared.check_note.RefusedWhy.{RefusedWhy}
+use Rattle.link_walks.specs.Verdicts.{Verdict}
+use Rattle.link_walks.specs.Verdicts.Verdict.{passed_with, refused}
 use Rattle.check_receiver.specs.Stands.{MacHolds, Walks}
 use Rattle.check_receiver.specs.Phases.{LeftIn, is_open, passes_in}
 use Rattle.spoiler.specs.Outlet.{owed_by}

@@ -6,17 +6,17 @@ use Rattle.yasir_io.specs.Causes.{HasCause}
 use Rattle.yasir_io.specs.Disks.{LeavesOnly}
 use Rattle.yasir_io.specs.declared.disk.SlotDisk.{Ghosts as SlotDisk}
 use Rattle.line_rules.specs.Rules.{Rules}
-use Rattle.burst_walk.specs.Answers.{AnswersTick as AnswersTickOf}
+use Rattle.frame_ending.specs.Answers.{AnswersTick as AnswersTickOf}
 use Rattle.link_format.specs.Profile.{Profile}
 use Rattle.sequence_journal.specs.declared.journal.Journal.{Journal}
 use Rattle.sequence_journal.specs.declared.journal.JournalFault.{JournalFault}
 use Rattle.sequence_journal.specs.Commits.{HasCommitted, HasFailed}
 use Rattle.sequence_journal.specs.Journal.{journal_link, Fits, IsCrashSafe, HasFloorFrom}
-use Rattle.link_verdicts.specs.Checking.{checker, at_floor, check_notes, brief_note}
-use Rattle.link_verdicts.specs.Checking.FullNote.{passed_note}
-use Rattle.link_verdicts.specs.declared.note.CheckNote.{CheckNote}
-use Rattle.link_verdicts.specs.declared.note.CheckNote.TheVariants.{Passed, Refused, Dropped}
-use Rattle.burst_walk.specs.declared.box_step.BoxStep.{BoxStep}
+use Rattle.link_walks.specs.Checking.{checker, at_floor, check_notes, brief_note}
+use Rattle.link_walks.specs.Checking.FullNote.{passed_note}
+use Rattle.link_walks.specs.declared.check_note.CheckNote.{CheckNote}
+use Rattle.link_walks.specs.declared.check_note.CheckNote.TheVariants.{Passed, Refused, Dropped}
+use Rattle.frame_ending.specs.declared.box_step.BoxStep.{BoxStep}
 
 -- Holds if the step for the tick `t`, after the ticks `line` of the link, returns the tick of the
 -- device's line and the note that the definitions add.

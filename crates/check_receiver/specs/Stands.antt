@@ -19,15 +19,15 @@ use Rattle.link_format.specs.Setup.{Setup}
 use Rattle.sequence_journal.specs.declared.journal.Journal.{Journal}
 use Rattle.sequence_journal.specs.declared.numbers.TheConstants.{LIMIT}
 use Rattle.sequence_journal.specs.Journal.{journal_floor}
-use Rattle.link_verdicts.specs.Checking.{passed}
+use Rattle.link_walks.specs.Checking.{passed}
 use Rattle.check_receiver.specs.Arrivals.{bytes_come}
 use Rattle.check_receiver.specs.Phases.{LeftIn, is_open, passes_in}
 use Rattle.check_receiver.specs.Checkings.{AnswersTick}
-use Rattle.link_verdicts.specs.Holding.{HasWalked, trailer_so_far}
+use Rattle.link_walks.specs.Holding.{HasWalked, trailer_so_far}
 use Rattle.check_receiver.specs.declared.arriving.Arriving.{Arriving}
 use Rattle.check_receiver.specs.declared.checker.Checker.{Checker}
-use Rattle.burst_walk.specs.declared.box_step.BoxStep.{BoxStep}
-use Rattle.link_verdicts.specs.declared.note.CheckNote.{CheckNote}
+use Rattle.frame_ending.specs.declared.box_step.BoxStep.{BoxStep}
+use Rattle.link_walks.specs.declared.check_note.CheckNote.{CheckNote}
 
 module _ {R M : Type 0} (proto : LineRules R) (macs : Mac M) where
   -- Holds if the MAC has taken the live bytes of the burst `d`, whose verdict is open, and the

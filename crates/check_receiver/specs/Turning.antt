@@ -11,7 +11,7 @@ use Rattle.frame_ending.specs.SoFar.{live_bytes_so_far}
 use Rattle.frame_ending.specs.Stands.{StandsFor as CutStandsFor}
 use Rattle.spoiler.specs.Outlet.{StandsFor as OutletStandsFor, Refuses, owed_by}
 use Rattle.spoiler.specs.declared.outlet.Outlet.{Outlet}
-use Rattle.link_verdicts.specs.Turns.{HasTurned}
+use Rattle.link_walks.specs.Turns.{HasTurned}
 use Rattle.check_receiver.specs.Phases.{passes_in, settled}
 use Rattle.check_receiver.specs.declared.checker.Checker.{Checker}
 use Rattle.check_receiver.specs.declared.phase.Phase.TheVariants.{Idle, Leaving}

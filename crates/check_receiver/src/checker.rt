@@ -1,12 +1,11 @@
 //! The receiver: its parts, and its calls for a tick and for a run of ticks.
 use crate::arriving::Arriving;
 use crate::phase::Phase;
-use burst_walk::{BoxStep, RunBytes};
 use delay_ring::DelayRing;
-use frame_ending::{BurstCut, Cut};
+use frame_ending::{BoxStep, BurstCut, Cut, RunBytes};
 use hmac_tag::{Dir, Mac};
 use line_rules::{Head, LineRules};
-use link_verdicts::CheckNote;
+use link_walks::CheckNote;
 use sequence_journal::{Journal, JournalFault, LIMIT};
 use spoiler::Outlet;
 use yasir_io::SlotDisk;
@@ -69,11 +68,11 @@ impl<R: LineRules, M: Mac, const B: usize, const D: usize> Checker<R, M, B, D> {
     ghost use Rattle.std.specs.Prelude.{length, map, take, drop, slice_index_or};
     ghost use Rattle.delay_ring.specs.DelayRing.{ring_ticks};
     ghost use Rattle.spoiler.specs.Outlet.{StandsFor as OutletStandsFor};
-    ghost use Rattle.link_verdicts.specs.Turns.{HasTurned};
+    ghost use Rattle.link_walks.specs.Turns.{HasTurned};
     ghost use Rattle.check_receiver.specs.Phases.{passes_in};
     ghost use Rattle.yasir_ticks.specs.Ticks.{silent};
     ghost use Rattle.line_rules.specs.declared.head.Head.TheVariants.{Good};
-    ghost use Rattle.burst_walk.specs.Answered.{answered};
+    ghost use Rattle.frame_ending.specs.Answered.{answered};
     ghost use Rattle.check_receiver.specs.Stands.{StandsAt, direction_of};
     ghost use Rattle.check_receiver.specs.Runs.{HasTakenRun};
 

@@ -17,8 +17,8 @@ mod laws;
 mod phase;
 mod runs;
 
-pub use burst_walk::{BoxStep, RunBytes};
 pub use checker::Checker;
+pub use frame_ending::{BoxStep, RunBytes};
 pub use hmac_tag::Dir;
 pub use laws::steps_are_of_an_uptime;
-pub use link_verdicts::{CheckNote, DroppedWhy, RefusedWhy};
+pub use link_walks::{CheckNote, DroppedWhy, RefusedWhy};

@@ -13,9 +13,8 @@ ghost use Rattle.frame_ending.specs.declared.cut.Cut.TheVariants.{Start};
 ghost use Rattle.line_rules.specs.Rules.{head_of};
 ghost use Rattle.line_rules.specs.declared.head.Head.TheVariants.{Good};
 
-use burst_walk::RunBytes;
 use delay_ring::DelayRing;
-use frame_ending::BurstCut;
+use frame_ending::{BurstCut, RunBytes};
 use line_rules::{Head, LineRules};
 
 /// Takes these bytes, one in each tick, as long as they begin no burst and are alike: all live, or

@@ -8,8 +8,8 @@ use Rattle.link_format.specs.Profile.{Profile}
 use Rattle.link_format.specs.Setup.{setup_of}
 use Rattle.link_format.specs.Y18.{y18}
 use Rattle.sequence_journal.specs.declared.numbers.TheConstants.{LIMIT}
-use Rattle.seal_judgements.specs.Sealing.{link_line}
-use Rattle.link_verdicts.specs.Checking.{received_line}
+use Rattle.link_walks.specs.Sealing.{link_line}
+use Rattle.link_walks.specs.Checking.{received_line}
 use Rattle.receiver_laws.specs.Untouched.{IsUntouched}
 
 -- the profile y18 for Modbus RTU with this key, on the way from a to b

@@ -10,3 +10,11 @@ pub mod Cutting
 pub mod Passing
 pub mod Runs
 pub mod Rows
+pub mod Spread
+pub mod Emissions
+pub mod Walks
+pub mod Longer
+pub mod Coming
+pub mod BurstRuns
+pub mod LaidBursts
+pub mod BurstRows

@@ -3,3 +3,11 @@ pub mod SoFar
 pub mod Cuts
 pub mod Divided
 pub mod Stands
+pub mod Answered
+pub mod Laid
+pub mod Walk
+pub mod Causal
+pub mod Longer
+pub mod HasCome
+pub mod Answers
+pub mod Runs

@@ -4,11 +4,11 @@ use Rattle.std.proofs.Common.{Some, refl, sym, ap, subst, arith, length-append, 
 use Rattle.tick_drive.specs.{Input.max_bytes, declared.end.End.End}
 use Rattle.yasir_io.specs.Causes.{Rose}
 use Rattle.tick_drive.specs.declared.end.End.TheVariants as drive_ends
-use Rattle.replay_status.specs.{Causes.SinkCause, PrintsText.PrintsText, Readable.IsReadableWith}
-use Rattle.{replay_status.specs.declared.status.Status.Status, tick_lists.specs.Listing.EndsBefore}
-use Rattle.replay_status.specs.declared.status.Status.TheVariants as statuses
+use Rattle.command_ends.specs.{Causes.SinkCause, PrintsText.PrintsText, Readable.IsReadableWith}
+use Rattle.{command_ends.specs.declared.status.Status.Status, session_lists.specs.Listing.EndsBefore}
+use Rattle.command_ends.specs.declared.status.Status.TheVariants as statuses
 use Rattle.line_stamps.specs.declared.capture.CaptureByte.{CaptureByte}
-use Rattle.replay_status.proofs.Readable.{all_of_told, met_of_told, not_refused, not_too_long}
+use Rattle.command_ends.proofs.Readable.{all_of_told, met_of_told, not_refused, not_too_long}
 use Rattle.line_stamps.specs.declared.capture.Way.TheVariants as way
 use Rattle.line_capture.specs.Able.{IsTakeable, IsGivable, IsPlacedWhole, timing_of_items, EndsWell}
 use Rattle.line_capture.specs.Captures.{NoError, is_error, HoldsItems, Collects, way_bytes}

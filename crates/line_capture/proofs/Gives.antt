@@ -8,11 +8,11 @@ use Rattle.tick_drive.specs.declared.end.End.{End}
 use Rattle.yasir_ticks.specs.{Characters.line_feed, Characters.percent_sign, TickText.IsTickText}
 use Rattle.yasir_ticks.specs.Ticks.{Item, ticks_in, Item.tick, Item.mark}
 use Rattle.tick_drive.specs.declared.end.End.TheVariants as ends
-use Rattle.replay_status.{proofs.Readable.all_of_told, specs.Causes.SinkCause}
-use Rattle.replay_status.specs.{PrintsText.PrintsText, declared.status.Status.Status}
-use Rattle.tick_lists.specs.{Listing.KeepsWhole, Parts.part, TickLists.ticks_first}
-use Rattle.tick_lists.specs.{TickLists.ticks_second, declared.tick_lists.TickLists.TickLists}
-use Rattle.replay_status.specs.declared.status.Status.TheVariants as statuses
+use Rattle.command_ends.{proofs.Readable.all_of_told, specs.Causes.SinkCause}
+use Rattle.command_ends.specs.{PrintsText.PrintsText, declared.status.Status.Status}
+use Rattle.session_lists.specs.{Listing.KeepsWhole, Parts.part, TickLists.ticks_first}
+use Rattle.session_lists.specs.{TickLists.ticks_second, declared.tick_lists.TickLists.TickLists}
+use Rattle.command_ends.specs.declared.status.Status.TheVariants as statuses
 use Rattle.line_capture.specs.Gives.{has_mark_behind, marks_for, AreLinesOf, end_status, GivesFile}
 use Rattle.line_capture.specs.Gives.{GivesRead, Gives}
 use Rattle.line_capture.specs.Gives.Gives.{no_memory as no_room, read as was_read}

@@ -6,10 +6,10 @@ use Rattle.line_stamps.specs.declared.capture.Way.TheVariants.{A, B}
 use Rattle.line_stamps.specs.declared.{rate.Rate.Rate, seen.Seen.TheVariants.Byte}
 use Rattle.std.proofs.Common.{◌≡◌, ◌∙◌, ℕ, zero, suc, ◌≤◌, List, [], ◌∷◌, length, map, Some, refl}
 use Rattle.std.proofs.Common.{sym, ap, subst}
-use Rattle.{tick_lists.specs.Parts.part, yasir_ticks.proofs.TextTicks.text-ticks}
+use Rattle.{session_lists.specs.Parts.part, yasir_ticks.proofs.TextTicks.text-ticks}
 use Rattle.yasir_ticks.specs.Ticks.{Item, ticks_in, marks_in, AreTicks, Item.tick, Item.mark}
 use Rattle.yasir_ticks.specs.declared.tick.Tick.{Tick}
-use Rattle.replay_status.specs.declared.status.Status.TheVariants as statuses
+use Rattle.command_ends.specs.declared.status.Status.TheVariants as statuses
 use Rattle.line_capture.specs.{Formats.format_of, Gives.AreLinesOf, Gives.IsGiven, Gives.marks_for}
 use Rattle.line_capture.specs.Inputs.{Told}
 use Rattle.line_capture.specs.Records.{LineRecord, AreRecords, records_of}

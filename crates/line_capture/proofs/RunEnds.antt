@@ -3,8 +3,8 @@ use Rattle.std.proofs.Common.{◌≡◌, ◌∙◌, ℕ, ◌⊎◌, inl, inr, Bo
 use Rattle.std.proofs.Common.{List, min, ◌+◌, ◌-◌, ◌^◌, ◌≤◌, [], arith}
 use Rattle.{std.specs.Io.KnownBytes.append_known, yasir_io.specs.Output.GotPrefix}
 use Rattle.line_stamps.specs.declared.capture.Way.TheVariants as way
-use Rattle.replay_status.specs.declared.status.Status.{Status}
-use Rattle.replay_status.specs.declared.status.Status.TheVariants as statuses
+use Rattle.command_ends.specs.declared.status.Status.{Status}
+use Rattle.command_ends.specs.declared.status.Status.TheVariants as statuses
 use Rattle.line_capture.specs.{Captures.Collects, Formats.Format, Inputs.Told, Outcomes.status_in}
 use Rattle.line_capture.specs.Placed.{CountsOverlaps}
 use Rattle.line_capture.specs.Takes.{Held, stop_outcome, read_outcome, or_else, outcome_of}
@@ -16,9 +16,9 @@ use Rattle.line_capture.specs.Takes.Takes.{no_memory as no_room, read as was_rea
 use Rattle.line_capture.specs.Takes.{TakesRead.no_memory, TakesRead.kept, WritesTaken.written}
 use Rattle.line_capture.specs.{Takes.WritesTaken.failed, declared.collect.CaptureEnd.CaptureEnd}
 use Rattle.line_stamps.specs.declared.{capture.CaptureByte.CaptureByte, timing.Timing.Timing}
-use Rattle.replay_status.proofs.{FlushLaws.flushes_after, Logging.sinks_after}
-use Rattle.replay_status.specs.{Causes.SinkCause, Flushes.FlushesAtEnd}
-use Rattle.replay_status.specs.Statuses.{fault_line as status_line}
+use Rattle.command_ends.proofs.{FlushLaws.flushes_after, Logging.sinks_after}
+use Rattle.command_ends.specs.{Causes.SinkCause, Flushes.FlushesAtEnd}
+use Rattle.command_ends.specs.Statuses.{fault_line as status_line}
 use Rattle.{yasir_io.specs.Flushed.IsNotFlushed}
 use Rattle.yasir_io.specs.declared.sink.Sink.{Ghosts as Sink}
 use Rattle.line_capture.specs.declared.collect.CaptureEnd.TheVariants as ends

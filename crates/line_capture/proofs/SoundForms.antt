@@ -1,12 +1,14 @@
 -- A file that is refused isn't a capture, and a capture has no other items than its own.
-use Rattle.byte_walk.specs.{Fields.before_field, Walks.walk}
+use Rattle.line_stamps.specs.{Fields.before_field, Walks.walk}
 use Rattle.capture_pcap.proofs.Reading.{reads_pcap}
 use Rattle.capture_pcap.specs.{Pcap.IsCapture, PcapStep.step_at as pcap_step}
 use Rattle.capture_pcap.specs.declared.stage.Stage.TheVariants.{Magic}
-use Rattle.capture_rows.{proofs.RowLaws.reads_rows, specs.Logic2.logic2_row}
-use Rattle.capture_rows.specs.{Logic2.logic2_name, Rows.IsExport, Rows.first_state}
-use Rattle.capture_rows.specs.{Rows.step_at as row_step, Sigrok.trace_row, Sigrok.trace_name}
-use Rattle.capture_rows.specs.declared.{fault.RowFault.RowFault, row.Row.Row, row.Stage.Stage}
+use Rattle.capture_text.{proofs.RowLaws.reads_rows, specs.Logic2.logic2_row}
+use Rattle.capture_text.specs.{Logic2.logic2_name, Rows.IsExport, Rows.first_state}
+use Rattle.capture_text.specs.{Rows.step_at as row_step, Sigrok.trace_row, Sigrok.trace_name}
+use Rattle.capture_text.specs.declared.row_fault.RowFault.{RowFault}
+use Rattle.capture_text.specs.declared.row.Row.{Row}
+use Rattle.capture_text.specs.declared.row.Stage.{Stage}
 use Rattle.capture_text.{proofs.Reading.reads_text, specs.CaptureText.IsTextCapture}
 use Rattle.capture_text.specs.{Reader.IsSeenText, TextStep.step_at as text_step}
 use Rattle.capture_text.specs.declared.place.Place.TheVariants.{Start}

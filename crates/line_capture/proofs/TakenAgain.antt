@@ -13,7 +13,7 @@ use Rattle.line_stamps.specs.declared.capture.Way.TheVariants as way
 use Rattle.line_stamps.proofs.GivenLines.{given-line, given-free}
 use Rattle.line_stamps.specs.declared.{rate.Rate.Rate, seen.Seen.Seen, seen.Seen.TheVariants.Byte}
 use Rattle.line_stamps.specs.declared.timing.Timing.{Timing}
-use Rattle.replay_status.specs.declared.status.Status.TheVariants as statuses
+use Rattle.command_ends.specs.declared.status.Status.TheVariants as statuses
 use Rattle.line_capture.specs.Captures.{Collects, HoldsItems, way_bytes}
 use Rattle.line_capture.specs.{Formats.Format, Inputs.Told, Inputs.ReadsInput, Placed.StopsAt}
 use Rattle.line_capture.specs.Records.{LineRecord, AreRecords, records_of}
@@ -25,7 +25,7 @@ use Rattle.line_capture.specs.Takes.TakesRead.{no_memory, kept as was_kept}
 use Rattle.line_capture.specs.Takes.WritesTaken.{written, failed}
 use Rattle.line_capture.specs.declared.bad_capture.BadCapture.{BadCapture as BadCaptureOf}
 use Rattle.line_capture.specs.declared.collect.CaptureEnd.{CaptureEnd}
-use Rattle.replay_status.proofs.Readable.{all_of_told}
+use Rattle.command_ends.proofs.Readable.{all_of_told}
 use Rattle.line_capture.specs.declared.collect.CaptureEnd.TheVariants as ends
 use Rattle.line_capture.specs.declared.{collect.Kept.Kept, input.ReadEnd.ReadEnd}
 use Rattle.line_capture.specs.declared.input.ReadEnd.TheVariants.{Whole, Failed, TooLong}

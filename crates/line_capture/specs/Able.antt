@@ -1,8 +1,8 @@
 -- Which inputs are right for a run, so that nothing refuses them.
 use Rattle.std.specs.Prelude.{◌≡◌, ◌⊎◌, ℕ, ◌≤◌, List, [], ◌∷◌, length, Option, Some, None, Ok}
 use Rattle.tick_drive.specs.Input.{max_ticks, max_bytes}
-use Rattle.replay_status.specs.Readable.{IsReadableWith}
-use Rattle.replay_status.specs.declared.status.Status.TheVariants.{Done, NoMemory}
+use Rattle.command_ends.specs.Readable.{IsReadableWith}
+use Rattle.command_ends.specs.declared.status.Status.TheVariants.{Done, NoMemory}
 use Rattle.line_stamps.specs.Places.{Spot, spot_of, line_of}
 use Rattle.line_stamps.specs.Placing.{answer_at}
 use Rattle.line_stamps.specs.declared.capture.CaptureByte.{CaptureByte}

@@ -1,17 +1,17 @@
 -- The forms of captures: which files are captures, with which bytes of the line and events, and why
 -- others are refused.
 use Rattle.std.specs.Prelude.{ℕ, Bool, true, false, List, [], ◌∷◌, ◌++◌, Some, None, Result}
-use Rattle.byte_walk.specs.Fields.{AreFieldsSoFar}
-use Rattle.byte_walk.specs.Walks.{Begins, BeginsNone}
+use Rattle.line_stamps.specs.Fields.{AreFieldsSoFar}
+use Rattle.line_stamps.specs.Walks.{Begins, BeginsNone}
 use Rattle.capture_pcap.specs.Pcap.{IsCapture}
 use Rattle.capture_pcap.specs.Reader.{Refuses as RefusesPacket}
-use Rattle.capture_rows.specs.Logic2.{logic2_row, logic2_name}
-use Rattle.capture_rows.specs.Reader.{Refuses as RefusesRow}
-use Rattle.capture_rows.specs.Rows.{IsExport, AreRowsSoFar}
-use Rattle.capture_rows.specs.Sigrok.{trace_row, trace_name}
-use Rattle.capture_rows.specs.declared.fault.RowFault.{RowFault}
-use Rattle.capture_rows.specs.declared.row.Row.{Row}
-use Rattle.capture_rows.specs.declared.row.Stage.{Stage}
+use Rattle.capture_text.specs.Logic2.{logic2_row, logic2_name}
+use Rattle.capture_text.specs.RowReader.{Refuses as RefusesRow}
+use Rattle.capture_text.specs.Rows.{IsExport, AreRowsSoFar}
+use Rattle.capture_text.specs.Sigrok.{trace_row, trace_name}
+use Rattle.capture_text.specs.declared.row_fault.RowFault.{RowFault}
+use Rattle.capture_text.specs.declared.row.Row.{Row}
+use Rattle.capture_text.specs.declared.row.Stage.{Stage}
 use Rattle.capture_text.specs.Reader.{IsSeenText, Refuses}
 use Rattle.line_stamps.specs.declared.seen.Seen.{Seen}
 use Rattle.line_capture.specs.declared.bad_capture.BadCapture.{BadCapture}

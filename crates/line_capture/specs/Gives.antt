@@ -9,13 +9,13 @@ use Rattle.tick_drive.specs.Input.{AreFew}
 use Rattle.tick_drive.specs.declared.end.End.{End}
 use Rattle.tick_drive.specs.declared.end.End.TheVariants.{Refused, ReadFault, Stopped}
 use Rattle.tick_drive.specs.declared.end.End.TheVariants as ends
-use Rattle.tick_lists.specs.Listing.{EndsBefore}
-use Rattle.tick_lists.specs.Parts.{part}
-use Rattle.replay_status.specs.PrintsText.{PrintsText}
-use Rattle.replay_status.specs.declared.status.Status.{Status}
-use Rattle.replay_status.specs.declared.status.Status.TheVariants as statuses
+use Rattle.session_lists.specs.Listing.{EndsBefore}
+use Rattle.session_lists.specs.Parts.{part}
+use Rattle.command_ends.specs.PrintsText.{PrintsText}
+use Rattle.command_ends.specs.declared.status.Status.{Status}
+use Rattle.command_ends.specs.declared.status.Status.TheVariants as statuses
 use Rattle.line_stamps.specs.declared.rate.Rate.{Rate}
-use Rattle.capture_vcd.specs.Dump.{dump_text, wires_for}
+use Rattle.capture_text.specs.Dump.{dump_text, wires_for}
 use Rattle.line_capture.specs.Inputs.{Told, IsRead}
 use Rattle.line_capture.specs.Records.{IsRecorded}
 use Rattle.line_capture.specs.Takes.{Held, HasNoMemory, read_outcome}

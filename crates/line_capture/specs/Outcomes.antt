@@ -5,14 +5,14 @@ use Rattle.line_stamps.specs.declared.placer.Unplaced.{Unplaced}
 use Rattle.line_stamps.specs.declared.placer.Unplaced.TheVariants.{Early, Overlap, Late}
 use Rattle.capture_pcap.specs.declared.fault.PcapFault.{PcapFault}
 use Rattle.capture_pcap.specs.declared.fault.PcapFault.TheVariants as pcap
-use Rattle.capture_rows.specs.declared.fault.RowFault.{RowFault}
-use Rattle.capture_rows.specs.declared.fault.RowFault.TheVariants as rows
+use Rattle.capture_text.specs.declared.row_fault.RowFault.{RowFault}
+use Rattle.capture_text.specs.declared.row_fault.RowFault.TheVariants as rows
 use Rattle.capture_text.specs.declared.fault.TextFault.{TextFault}
 use Rattle.capture_text.specs.declared.fault.TextFault.TheVariants as text
-use Rattle.replay_status.specs.Causes.{GotLine, LogsFault}
-use Rattle.replay_status.specs.Statuses.{exit_status_of as status_exit, fault_line as status_line}
-use Rattle.replay_status.specs.declared.status.Status.{Status}
-use Rattle.replay_status.specs.declared.status.Status.TheVariants.{Usage}
+use Rattle.command_ends.specs.Causes.{GotLine, LogsFault}
+use Rattle.command_ends.specs.Statuses.{exit_status_of as status_exit, fault_line as status_line}
+use Rattle.command_ends.specs.declared.status.Status.{Status}
+use Rattle.command_ends.specs.declared.status.Status.TheVariants.{Usage}
 use Rattle.line_capture.specs.declared.bad_capture.BadCapture.TheVariants.{Text, Pcap, Rows, ByteError}
 use Rattle.line_capture.specs.declared.outcome.Outcome.{Outcome}
 use Rattle.line_capture.specs.declared.outcome.Outcome.TheVariants as outcomes

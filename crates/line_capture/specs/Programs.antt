@@ -3,9 +3,9 @@ use Rattle.std.specs.Prelude.{◌≡◌, ℕ, ◌≤◌, List, Option, Some, Non
 use Rattle.yasir_io.specs.Causes.{Rose}
 use Rattle.yasir_io.specs.declared.source.Source.{Ghosts as Source}
 use Rattle.yasir_io.specs.declared.sink.Sink.{Ghosts as Sink}
-use Rattle.replay_status.specs.Causes.{SinkCause}
-use Rattle.replay_status.specs.Flushes.{FlushesAtEnd}
-use Rattle.replay_status.specs.declared.status.Status.TheVariants as statuses
+use Rattle.command_ends.specs.Causes.{SinkCause}
+use Rattle.command_ends.specs.Flushes.{FlushesAtEnd}
+use Rattle.command_ends.specs.declared.status.Status.TheVariants as statuses
 use Rattle.line_capture.specs.Formats.{format_of}
 use Rattle.line_capture.specs.Gives.{Gives}
 use Rattle.line_capture.specs.Able.{MayDo, EndsWell}

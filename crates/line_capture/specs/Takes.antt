@@ -13,7 +13,7 @@ use Rattle.line_stamps.specs.declared.capture.Way.{Way}
 use Rattle.line_stamps.specs.declared.capture.Way.TheVariants as way
 use Rattle.line_stamps.specs.declared.timing.Timing.{Timing}
 use Rattle.line_stamps.specs.Places.{line_of}
-use Rattle.replay_status.specs.declared.status.Status.TheVariants as statuses
+use Rattle.command_ends.specs.declared.status.Status.TheVariants as statuses
 use Rattle.line_capture.specs.Captures.{Collects}
 use Rattle.line_capture.specs.Formats.{Format}
 use Rattle.line_capture.specs.Inputs.{Told, IsRead}

@@ -1,8 +1,7 @@
 //! Why a capture is refused.
 
 use capture_pcap::BadPcap;
-use capture_rows::BadRow;
-use capture_text::BadText;
+use capture_text::{BadRow, BadText};
 
 /// A refusal of a capture, with its place.
 #[derive(Clone, Copy, Debug, PartialEq, Eq)]

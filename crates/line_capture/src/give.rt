@@ -1,11 +1,11 @@
 //! The command `give`: tick text as a capture.
 ghost use Rattle.std.specs.Prelude.{◌≡◌, ◌≤◌, length, IfOk};
 ghost use Rattle.yasir_io.specs.Causes.{Rose};
-ghost use Rattle.capture_vcd.specs.Dump.{dump_text, wires_for};
+ghost use Rattle.capture_text.specs.Dump.{dump_text, wires_for};
 ghost use Rattle.tick_drive.specs.Input.{max_bytes, max_ticks};
-ghost use Rattle.replay_status.specs.Causes.{SinkCause};
-ghost use Rattle.replay_status.specs.Flushes.{FlushesAtEnd};
-ghost use Rattle.replay_status.specs.declared.status.Status.{Status};
+ghost use Rattle.command_ends.specs.Causes.{SinkCause};
+ghost use Rattle.command_ends.specs.Flushes.{FlushesAtEnd};
+ghost use Rattle.command_ends.specs.declared.status.Status.{Status};
 ghost use Rattle.line_capture.specs.Gives.{has_mark, marks_for, IsGiven, Gives, GivesFile, GivesRead};
 ghost use Rattle.line_capture.specs.Gives.{end_status};
 ghost use Rattle.line_capture.specs.Inputs.{told};
@@ -19,12 +19,12 @@ use crate::outcome::Outcome;
 use crate::records::{RecordForm, recorded};
 use crate::take::read_outcome;
 use crate::words::GiveForm;
-use capture_vcd::dump;
+use capture_text::dump;
+use command_ends::{Status, print_text};
 use line_stamps::Rate;
-use replay_status::{Status, print_text};
+use session_lists::list_ticks;
 use std::alloc::Global;
 use tick_drive::End;
-use tick_lists::list_ticks;
 use yasir_io::{NoMemory, Sink, Source, SteadySource};
 use yasir_ticks::Tick;
 

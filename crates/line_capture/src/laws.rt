@@ -2,8 +2,8 @@
 ghost use Rattle.std.specs.Prelude.{◌≡◌, ◌≤◌, List, ℕ, Some, length};
 ghost use Rattle.yasir_ticks.specs.declared.tick.Tick.{Tick};
 ghost use Rattle.line_stamps.specs.declared.rate.Rate.{Rate};
-ghost use Rattle.replay_status.specs.declared.status.Status.{Status};
-ghost use Rattle.replay_status.specs.declared.status.Status.TheVariants.{Done};
+ghost use Rattle.command_ends.specs.declared.status.Status.{Status};
+ghost use Rattle.command_ends.specs.declared.status.Status.TheVariants.{Done};
 ghost use Rattle.tick_drive.specs.Input.{max_bytes};
 ghost use Rattle.line_capture.specs.Able.{IsTakeable};
 ghost use Rattle.line_capture.specs.Formats.{format_of};

@@ -21,6 +21,7 @@ mod words;
 
 pub use bad_capture::BadCapture;
 pub use collect::{CaptureEnd, Collected, Kept, collect};
+pub use command_ends::NOT_GIVEN;
 pub use give::{Giving, give};
 pub use input::{Input, MAX_INPUT_BYTES, ReadEnd, read_input};
 pub use laws::what_was_given_is_taken;
@@ -29,7 +30,6 @@ pub use placing::{LineEnd, LineStop, MAX_LINE_TICKS, count_overlaps, write_line}
 pub use program::{run, run_over_args};
 pub use reader::FormReader;
 pub use records::{MAX_RECORD_BYTES, RecordForm, recorded};
-pub use replay_status::NOT_GIVEN;
 use std::process::ExitCode;
 pub use take::{Taking, take};
 pub use words::{Command, GiveForm, TakeForm, Usage, Ways, read_words};

@@ -1,16 +1,15 @@
 //! How a run ends: its exit status and its fault line.
 ghost use Rattle.std.specs.Prelude.{◌≡◌, ◌≤◌, ◌+◌, [], ◌++◌, ◌∷◌, length, codes, decimal};
-ghost use Rattle.replay_status.specs.Statuses.{fault_line as status_line};
-ghost use Rattle.replay_status.specs.declared.status.Status.{Status};
+ghost use Rattle.command_ends.specs.Statuses.{fault_line as status_line};
+ghost use Rattle.command_ends.specs.declared.status.Status.{Status};
 ghost use Rattle.line_capture.specs.Outcomes.{exit_status_of, fault_line, text_word, pcap_word, rows_word};
 ghost use Rattle.line_capture.specs.Outcomes.{unplaced_word, LogsOutcome};
 
 use crate::bad_capture::BadCapture;
 use capture_pcap::PcapFault;
-use capture_rows::RowFault;
-use capture_text::TextFault;
+use capture_text::{RowFault, TextFault};
+use command_ends::{Line, Status, push_decimal, write_fault};
 use line_stamps::{Unplaced, Way};
-use replay_status::{Line, Status, push_decimal, write_fault};
 use yasir_io::{Sink, write_all};
 
 /// How a run of the program ended.

@@ -7,8 +7,7 @@ ghost use Rattle.line_capture.specs.Formats.{Format};
 
 use crate::bad_capture::BadCapture;
 use capture_pcap::PcapReader;
-use capture_rows::{RowForm, RowReader};
-use capture_text::TextReader;
+use capture_text::{RowForm, RowReader, TextReader};
 use line_stamps::{CaptureReader, Seen};
 
 /// A reader of captures of one form. Its refusals are returned as `BadCapture`, whatever the form
@@ -127,7 +126,7 @@ impl FormReader for PcapReader {
 
 impl<F: RowForm> FormReader for RowReader<F> {
     ghost use Rattle.line_capture.specs.Formats.{rows_format};
-    ghost use Rattle.capture_rows.specs.Reader.{StandsFor, bytes_taken};
+    ghost use Rattle.capture_text.specs.RowReader.{StandsFor, bytes_taken};
 
     ghost format = { rows_format F.row_at F.name_of F.error_follows };
 

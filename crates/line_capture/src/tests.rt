@@ -3,8 +3,8 @@
 //! were written by hand, or by the model in `scripts/capture_model.py`.
 
 use crate::*;
+use command_ends::Status;
 use line_stamps::{Unplaced, Way};
-use replay_status::Status;
 use std::alloc::{AllocError, Global};
 use std::process::Abort;
 use std::test::Fail;

@@ -1,6 +1,6 @@
 -- What happens to the frames of a line when the line goes on.
-use Rattle.burst_walk.proofs.Emissions.{tick_at-none, tick_at-front, tick_at-before, laid-more}
-use Rattle.burst_walk.{proofs.Emissions.laid-same, specs.Laid.tick_at, specs.Laid.laid}
+use Rattle.frame_ending.proofs.Emissions.{tick_at-none, tick_at-front, tick_at-before, laid-more}
+use Rattle.frame_ending.{proofs.Emissions.laid-same, specs.Laid.tick_at, specs.Laid.laid}
 use Rattle.device_model.specs.Frames.{FrameRead}
 use Rattle.line_spacer.proofs.Sending.{waiting-count, frame-waits}
 use Rattle.line_spacer.specs.Arrivals.{Arrival, arriving, gained, arrivals_behind, arrivals}

@@ -1,7 +1,7 @@
 -- What is made of small lines of DNP3, computed: of a reset of a link that is sent twice without
 -- silence in between, and of three resets if only one may wait. Also what is made of a reset with
 -- silence inside it, for a device that forgets what it has taken at 18 silent ticks in a row.
-use Rattle.burst_walk.specs.Laid.{tick_at}
+use Rattle.frame_ending.specs.Laid.{tick_at}
 use Rattle.device_model.specs.{DnpReads.dnp_reads, Hunt.hunt, HuntFamily.dnp_family_reads}
 use Rattle.dnp_link_frame.proofs.Rows.{reset_link}
 use Rattle.dnp_link_frame.specs.Blocks.{begins_right, is_good_header, end_in_crcs, is_frame}

@@ -1,5 +1,5 @@
 -- Ticks whose answers a spacer owes: what is heard of them, and what it makes of the first of them.
-use Rattle.burst_walk.{proofs.Emissions.laid-same, specs.Laid.laid, specs.Laid.tick_at}
+use Rattle.frame_ending.{proofs.Emissions.laid-same, specs.Laid.laid, specs.Laid.tick_at}
 use Rattle.device_model.specs.{Frames.FrameRead, declared.device.Device.Ghosts as Device}
 use Rattle.line_spacer.proofs.Runs.{IsQuiet, spaced-run}
 use Rattle.line_spacer.specs.{Arrivals.arriving, Owing.ArePending, Owing.Owes, Owing.still_read}

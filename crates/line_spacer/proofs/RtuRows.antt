@@ -1,6 +1,6 @@
 -- What is made of two queries of Modbus RTU with only as much silence between them as ends the
 -- first one, computed.
-use Rattle.burst_walk.specs.Laid.{tick_at}
+use Rattle.frame_ending.specs.Laid.{tick_at}
 use Rattle.device_model.specs.RtuReads.{has_silence, rtu_reads}
 use Rattle.{line_rules.specs.Endings.ends_in_check, line_spacer.proofs.Sending.on_line}
 use Rattle.line_spacer.specs.{Arrivals.arrivals_behind, Spacing.take_in, Spacing.spaced_line}

@@ -1,6 +1,6 @@
 -- A run of ticks of a spacer, by the fields of the spacer: the bytes of a frame in a room, how many
 -- of them have been sent, and whether the frame is still to begin.
-use Rattle.{burst_walk.specs.Answered.answered, line_spacer.proofs.Runs.bytes-leave}
+use Rattle.{frame_ending.specs.Answered.answered, line_spacer.proofs.Runs.bytes-leave}
 use Rattle.line_spacer.{proofs.Runs.silence-leaves, proofs.Runs.frame-leaves, specs.Runs.SendsRun}
 use Rattle.line_spacer.specs.Stands.{HasSent, unsent_of, with_next, rest_behind, tick_of}
 use Rattle.std.proofs.Common.{◌≡◌, ◌∙◌, ℕ, ◌+◌, ◌-◌, ◌<◌, ◌≤◌, List, [], ◌∷◌, length, take}

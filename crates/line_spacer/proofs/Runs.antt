@@ -1,6 +1,6 @@
 -- A run of ticks: what leaves in it, and what is read at its end.
-use Rattle.burst_walk.proofs.Emissions.{laid-more, laid-same}
-use Rattle.burst_walk.specs.{Answered.answered, Laid.tick_at, Laid.laid}
+use Rattle.frame_ending.proofs.Emissions.{laid-more, laid-same}
+use Rattle.frame_ending.specs.{Answered.answered, Laid.tick_at, Laid.laid}
 use Rattle.device_model.specs.Frames.{FrameRead}
 use Rattle.line_spacer.proofs.Arriving.{arrivals-append, drop-front}
 use Rattle.line_spacer.proofs.Sending.{on_line, byte-sent, rest-passes, nothing-sent, frame-begins}

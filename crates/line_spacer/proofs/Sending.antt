@@ -1,7 +1,7 @@
 -- What a spacer does in a tick: it goes on with the frame that has begun, rests after it, has
 -- nothing to send, or begins with the next frame.
-use Rattle.burst_walk.proofs.Emissions.{tick_at-none, tick_at-front, tick_at-before, tick_at-from}
-use Rattle.burst_walk.specs.Laid.{tick_at}
+use Rattle.frame_ending.proofs.Emissions.{tick_at-none, tick_at-front, tick_at-before, tick_at-from}
+use Rattle.frame_ending.specs.Laid.{tick_at}
 use Rattle.line_spacer.specs.Spacing.{count_from, free_from, sent_from}
 use Rattle.line_spacer.specs.Stands.{tick_of, HaveBegun, AreDue, HasSent, Sends, rest_behind}
 use Rattle.std.proofs.Common.{◌≡◌, ◌∙◌, ℕ, suc, ◌+◌, ◌-◌, ◌<◌, ◌≤◌, List, [], ◌∷◌, ◌++◌, length}

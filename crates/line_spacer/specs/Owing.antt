@@ -1,7 +1,7 @@
 -- A spacer that has heard more of its line than it has answered.
 use Rattle.std.specs.Prelude.{◌≡◌, ℕ, ◌+◌, ◌-◌, ◌<◌, List, [], ◌∷◌, ◌++◌, length, take}
 use Rattle.yasir_ticks.specs.declared.tick.Tick.{Tick}
-use Rattle.burst_walk.specs.Laid.{tick_at}
+use Rattle.frame_ending.specs.Laid.{tick_at}
 use Rattle.device_model.specs.Frames.{FrameRead}
 use Rattle.device_model.specs.declared.device.Device.{Ghosts as Device}
 use Rattle.line_spacer.specs.Spacing.{Spaced, spaced, accepted_of, lost_of}

@@ -3,7 +3,7 @@
 use Rattle.std.specs.Prelude.{◌≡◌, ℕ, ◌+◌, ◌<◌, ◌≤◌, List, [], ◌++◌, length, max, true, false}
 use Rattle.yasir_ticks.specs.Bursts.{Burst}
 use Rattle.yasir_ticks.specs.declared.tick.Tick.{Tick}
-use Rattle.burst_walk.specs.Laid.{laid}
+use Rattle.frame_ending.specs.Laid.{laid}
 use Rattle.line_spacer.specs.Stands.{HasSent, unsent_of, frame_at, frames_waiting}
 use Rattle.line_spacer.specs.declared.spacer.Spacer.{Spacer}
 

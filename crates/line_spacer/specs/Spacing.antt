@@ -7,7 +7,7 @@ use Rattle.std.specs.List.{filter}
 use Rattle.yasir_ticks.specs.Bursts.{Burst, end_of}
 use Rattle.yasir_ticks.specs.declared.tick.Tick.{Tick}
 use Rattle.yasir_ticks.specs.declared.tick.Tick.TheVariants.{Byte}
-use Rattle.burst_walk.specs.Laid.{laid}
+use Rattle.frame_ending.specs.Laid.{laid}
 use Rattle.device_model.specs.Frames.{FrameRead}
 use Rattle.line_spacer.specs.Arrivals.{Arrival, arrivals}
 

@@ -72,7 +72,7 @@ impl<V: Device, const GAP: usize> Spacer<V, GAP> {
     ghost use Rattle.std.specs.Prelude.{ℕ, ◌+◌, ◌^◌, List, [], ◌∷◌, ◌++◌, length};
     ghost use Rattle.std.specs.Prelude.{IfOk, ◌-◌, take, drop, Some, true, false};
     ghost use Rattle.yasir_ticks.specs.TickRun.{run_ticks};
-    ghost use Rattle.burst_walk.specs.Answered.{answered};
+    ghost use Rattle.frame_ending.specs.Answered.{answered};
     ghost use Rattle.line_spacer.specs.Runs.{IsMade, StaysAlike, SendsRunBy};
     ghost use Rattle.line_spacer.specs.Owing.{Owes, still_read, busy_ticks};
     ghost use Rattle.yasir_ticks.specs.Bursts.{Burst};

@@ -6,3 +6,5 @@ pub mod RoundingLaws
 pub mod Clocks
 mod GivenTicks
 pub mod GivenLines
+pub mod WalkLaws
+pub mod FieldLaws

@@ -4,3 +4,5 @@ pub mod Placing
 pub mod RateWords
 pub mod Giving
 pub mod Clock
+pub mod Walks
+pub mod Fields

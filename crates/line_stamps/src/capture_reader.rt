@@ -8,7 +8,7 @@ pub trait CaptureReader: Drop {
     ghost use Rattle.std.specs.Prelude.{◌≡◌, ℕ, ◌+◌, ◌<◌, List, [], ◌∷◌, ◌++◌, Option, Some, None};
     ghost use Rattle.std.specs.Prelude.{Err, OnOk, IfOk, IfErr};
     ghost use Rattle.std.specs.Option.{option_to_list};
-    ghost use Rattle.byte_walk.specs.Walks.{BeginsNone};
+    ghost use Rattle.line_stamps.specs.Walks.{BeginsNone};
     ghost use Rattle.line_stamps.specs.declared.seen.Seen.{Seen};
     ghost use Rattle.line_stamps.specs.declared.TheConstants.{MAX_BYTES};
 

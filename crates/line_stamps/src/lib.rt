@@ -9,8 +9,17 @@
 //!         let mut placer = Placer::new(Timing { rate, spacing: Spacing::ByTime, origin: 0 });
 //!         let silent_ticks = placer.place(byte)?;
 //!     }
+//!
+//! Readers that take a format byte by byte: where such a reader gets to over a whole list of bytes,
+//! what it gives, and what must be shown for it to read a format exactly.
+//!
+//! `walks_in_pieces` is a law, for places, items and faults that are numbers. A function whose
+//! proof needs the law calls it. The call does nothing when it runs:
+//!
+//!     walks_in_pieces();
 #![tactic(auto)]
 
+mod byte_walk;
 mod capture;
 mod capture_reader;
 mod giving;
@@ -24,6 +33,7 @@ mod seen;
 mod tests;
 mod timing;
 
+pub use byte_walk::walks_in_pieces;
 pub use capture::{CaptureByte, Way};
 pub use capture_reader::CaptureReader;
 pub use giving::tick_start;

@@ -4,7 +4,7 @@ ghost use Rattle.yasir_ticks.specs.Ticks.{silent};
 ghost use Rattle.yasir_ticks.specs.TickRun.{run_ticks};
 ghost use Rattle.yasir_ticks.specs.declared.tick.Tick.TheVariants.{Byte};
 ghost use Rattle.yasir_ticks.specs.declared.tick_run.TickRun.TheVariants.{Bytes, Silence};
-ghost use Rattle.burst_walk.specs.Answered.{answered};
+ghost use Rattle.frame_ending.specs.Answered.{answered};
 ghost use Rattle.line_texts.specs.Runs.{TakesRun};
 ghost use Rattle.line_texts.specs.Texts.{writing, Pushes, PushesSome};
 ghost use Rattle.line_texts.specs.Writer.{Completes};

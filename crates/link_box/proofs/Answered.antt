@@ -1,5 +1,5 @@
 -- Runs of the other line, as a box lends their bytes.
-use Rattle.{burst_walk.specs.Answered.answered, std.proofs.Common.◌≡◌}
+use Rattle.{frame_ending.specs.Answered.answered, std.proofs.Common.◌≡◌}
 use Rattle.std.proofs.Common.{◌∙◌, ℕ, ◌≤◌, List, [], ◌∷◌, length, map, take, refl, sym, ap, arith}
 use Rattle.std.proofs.lemmas.List.{length-take, length-take-le, take-map, take-replicate, take-take}
 use Rattle.yasir_ticks.specs.{TickRun.run_ticks, Ticks.silent}

@@ -1,7 +1,7 @@
 -- A run of ticks that a box takes at once.
 use Rattle.std.specs.Prelude.{ℕ, List, ◌++◌}
 use Rattle.yasir_ticks.specs.declared.tick.Tick.{Tick}
-use Rattle.burst_walk.specs.Runs.{AnswersRun}
+use Rattle.frame_ending.specs.Runs.{AnswersRun}
 use Rattle.link_format.specs.Setup.{Setup}
 use Rattle.link_box.specs.Walking.{Walking}
 

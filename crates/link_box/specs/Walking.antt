@@ -2,7 +2,7 @@
 use Rattle.std.specs.Prelude.{ℕ, List, Option}
 use Rattle.std.specs.List.{filter_map}
 use Rattle.yasir_ticks.specs.declared.tick.Tick.{Tick}
-use Rattle.burst_walk.specs.Walk.{Walker, Noted, notes_of, line_of}
+use Rattle.frame_ending.specs.Walk.{Walker, Noted, notes_of, line_of}
 use Rattle.link_format.specs.NumberedFrame.{NumberedFrame, last_number}
 use Rattle.link_format.specs.Setup.{Setup}
 

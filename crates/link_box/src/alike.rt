@@ -1,11 +1,11 @@
 //! How a box takes a run of ticks by either of its calls for runs.
 ghost use Rattle.std.specs.Prelude.{◌≡◌, ◌+◌, ◌≤◌, [], ◌∷◌, length, take};
 ghost use Rattle.yasir_ticks.specs.TickRun.{run_ticks};
-ghost use Rattle.burst_walk.specs.Answered.{answered};
+ghost use Rattle.frame_ending.specs.Answered.{answered};
 ghost use Rattle.link_box.specs.Runs.{TakesRun};
 
 use crate::LinkBox;
-use burst_walk::RunBytes;
+use frame_ending::RunBytes;
 use yasir_ticks::{MAX_TICKS, TickRun};
 
 /// The most bytes that are forwarded at once: as many as `RunBytes` has room for.

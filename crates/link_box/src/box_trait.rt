@@ -3,7 +3,7 @@
 ghost use Rattle.std.specs.Prelude.{◌≡◌, ℕ, ◌+◌, ◌≤◌, List, [], length, take, OnOk, OnErr, IfOk};
 ghost use Rattle.yasir_ticks.specs.TickRun.{run_ticks};
 ghost use Rattle.yasir_ticks.specs.declared.tick.Tick.{Tick};
-ghost use Rattle.burst_walk.specs.Answered.{answered};
+ghost use Rattle.frame_ending.specs.Answered.{answered};
 ghost use Rattle.hmac_tag.specs.declared.dir.Dir.{Dir};
 ghost use Rattle.link_format.specs.Setup.{Setup, setup_of};
 ghost use Rattle.sequence_journal.specs.declared.link.LinkId.{LinkId};
@@ -13,7 +13,7 @@ ghost use Rattle.link_box.specs.Walking.{Walking};
 ghost use Rattle.link_box.specs.Stepping.{MayStep, Steps, FailsStep, KeepsJournal};
 ghost use Rattle.link_box.specs.Runs.{TakesRun};
 
-use burst_walk::{BoxStep, RunBytes};
+use frame_ending::{BoxStep, RunBytes};
 use hmac_tag::Dir;
 use sequence_journal::{Journal, JournalFault, LinkId};
 use yasir_io::SlotDisk;

@@ -1,7 +1,7 @@
 -- If a box is given a right key, a journal that holds a number for its link and a right text, and
 -- nothing outside fails, the status is Done.
 use Rattle.{hmac_tag.specs.declared.dir.Dir.Dir, link_format.specs.Setup.Setup}
-use Rattle.replay_status.specs.{Statuses.fault_line, declared.status.Status.Status}
+use Rattle.command_ends.specs.{Statuses.fault_line, declared.status.Status.Status}
 use Rattle.sequence_journal.specs.{Links.HasDirection, declared.link.LinkId.LinkId}
 use Rattle.std.proofs.Common.{◌≡◌, ◌∙◌, ℕ, ◌+◌, List, [], ◌∷◌, ◌++◌, length, Option, Some, None}
 use Rattle.std.proofs.Common.{inl, inr, refl, sym, ap, subst, arith, append_assoc, length-append}
@@ -14,18 +14,18 @@ use Rattle.yasir_io.specs.declared.source.Source.{Ghosts as Source}
 use Rattle.yasir_ticks.proofs.TextLaws.{ended_items-begin, IsTickText-one}
 use Rattle.yasir_ticks.specs.{TickText.IsTickText, TickText.ended_items, Ticks.ticks_in}
 use Rattle.yasir_ticks.specs.declared.{fault.BadTicks.BadTicks, tick.Tick.Tick}
-use Rattle.replay_status.specs.declared.status.Status.TheVariants as status
-use Rattle.box_command.proofs.Replayable.{no_key_refused, no_journal_refused, wrong_link_refused}
-use Rattle.box_command.specs.{Boxes.Boxed, LinkBoxes.seal_boxed, LinkBoxes.seal_rest}
-use Rattle.box_command.specs.{LinkBoxes.check_boxed, LinkBoxes.check_rest, ReplaysBox.BoxDiskCause}
+use Rattle.command_ends.specs.declared.status.Status.TheVariants as status
+use Rattle.line_commands.proofs.Replayable.{no_key_refused, no_journal_refused, wrong_link_refused}
+use Rattle.line_commands.specs.{Boxes.Boxed, LinkBoxes.seal_boxed, LinkBoxes.seal_rest}
+use Rattle.line_commands.specs.{LinkBoxes.check_boxed, LinkBoxes.check_rest, ReplaysBox.BoxDiskCause}
 use Rattle.link_live.specs.Able.{IsLiveText, IsLivable, MayDo, IsCalm}
 use Rattle.link_live.specs.FaultText.{TellsFault}
 use Rattle.link_live.specs.LiveCommand.{Around, around, LivesBox, PortCauses}
 use Rattle.link_live.specs.{Programs.Does, TextEnds.HasTooManyTicks, TextEnds.HasTooManyBytes}
 use Rattle.link_live.specs.{TextEnds.EndsText, Words.served}
 use Rattle.link_live.specs.declared.words.Command.{Command, TheVariants.Seal, TheVariants.Check}
-use Rattle.{link_words.proofs.Links.link-right, live_port.specs.declared.port.Port.Ghosts as Port}
-use Rattle.replay_status.proofs.Readable.{met_of_told, all_of_told}
+use Rattle.{command_ends.proofs.Links.link-right, line_commands.specs.declared.port.Port.Ghosts as Port}
+use Rattle.command_ends.proofs.Readable.{met_of_told, all_of_told}
 
 -- A text that was read from an input that holds a right text.
 module _ (Heard : List Tick → Type 0) (Halts : Stop → List Tick → Type 0) (rest : ℕ)

@@ -1,9 +1,9 @@
 -- Words ask for at most one command.
 use Rattle.link_live.specs.Words.{IsCommand, Asks}
 use Rattle.link_live.specs.declared.words.Command.{Command, TheVariants.Seal, TheVariants.Check}
-use Rattle.{link_live.specs.declared.words.Linked.Linked, link_words.proofs.Telling.is_word}
-use Rattle.link_words.proofs.Telling.{proto_by, profile_by, dir_by, proto-by, profile-by, dir-by}
-use Rattle.link_words.specs.Words.{dir_word, link_word}
+use Rattle.{link_live.specs.declared.words.Linked.Linked, command_ends.proofs.Telling.is_word}
+use Rattle.command_ends.proofs.Telling.{proto_by, profile_by, dir_by, proto-by, profile-by, dir-by}
+use Rattle.command_ends.specs.Words.{dir_word, link_word}
 use Rattle.std.proofs.Common.{◌≡◌, ◌∙◌, ℕ, zero, suc, ◌+◌, ◌*◌, Bool, List, [], ◌∷◌, Option, Some}
 use Rattle.std.proofs.Common.{None, cond, nat_eq, refl, sym, ap}
 use Rattle.std.specs.Prelude.{codes}

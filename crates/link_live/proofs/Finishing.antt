@@ -7,9 +7,9 @@ use Rattle.link_live.specs.LiveLine.{Live, outside_of, read_further, LiveGoes, S
 use Rattle.link_live.specs.LiveLine.{HeardAt, TakenAt, LastAt, Given, HoldsBack, GiveAnswer}
 use Rattle.link_live.specs.LiveLine.{HearsAll, HearAnswer, HaltsAt, EndsAt, Finishes, Drives}
 use Rattle.link_live.specs.TextEnds.{EndsText}
-use Rattle.live_port.proofs.Reading.{read_begins}
-use Rattle.live_port.specs.Lines.{HasRead, FinishAnswer as TextAnswer, IsOfText}
-use Rattle.live_port.specs.declared.{lines.LineReader.LineReader, port.Port.Ghosts as Port}
+use Rattle.line_commands.proofs.Reading.{read_begins}
+use Rattle.line_commands.specs.Lines.{HasRead, FinishAnswer as TextAnswer, IsOfText}
+use Rattle.line_commands.specs.declared.{lines.LineReader.LineReader, port.Port.Ghosts as Port}
 use Rattle.std.proofs.Common.{◌≡◌, ◌∙◌, ◌⊎◌, ℕ, ◌+◌, ◌<◌, ◌≤◌, List, [], ◌∷◌, ◌++◌, length, Option}
 use Rattle.std.proofs.Common.{Ok, Err, true, false, refl, sym, ap, subst, inl, inr, arith}
 use Rattle.std.proofs.Common.{append_assoc, length-append}

@@ -5,9 +5,9 @@ use Rattle.link_live.specs.FilteringLaws.{images_none, images_then, outputs_none
 use Rattle.link_live.specs.LiveLine.{Live, outside_of, read_further, IsReady, LiveGoes, HeardAt}
 use Rattle.link_live.specs.LiveLine.{TakenAt, EndsAt, Given, HoldsBack, StopsHearing, TakesBytes}
 use Rattle.link_live.specs.LiveLine.{EndsInBytes, TakesFirst, GiveAnswer}
-use Rattle.live_port.proofs.Reading.{read_begins}
-use Rattle.live_port.specs.Lines.{HasRead, ReadsLine, FeedAnswer, IsOfText}
-use Rattle.live_port.specs.declared.{lines.LineReader.LineReader, port.Port.Ghosts as Port}
+use Rattle.line_commands.proofs.Reading.{read_begins}
+use Rattle.line_commands.specs.Lines.{HasRead, ReadsLine, FeedAnswer, IsOfText}
+use Rattle.line_commands.specs.declared.{lines.LineReader.LineReader, port.Port.Ghosts as Port}
 use Rattle.std.proofs.Common.{inl, ◌≡◌, ◌∙◌, ℕ, suc, ◌+◌, ◌-◌, ◌<◌, ◌≤◌, List, [], ◌∷◌, ◌++◌}
 use Rattle.std.proofs.Common.{length, take, drop, get_or, Option, Result, Ok, Err, true, false}
 use Rattle.std.proofs.Common.{refl, sym, ap, subst, arith, append-nil, append_assoc, drop-cons}

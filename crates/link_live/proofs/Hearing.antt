@@ -1,5 +1,5 @@
 -- What a box has heard of a line if one read more was made.
-use Rattle.{key_text.proofs.KeyLemmas.prepend_known-twice, line_texts.specs.Sending.LineAndNotes}
+use Rattle.{command_ends.proofs.KeyLemmas.prepend_known-twice, line_texts.specs.Sending.LineAndNotes}
 use Rattle.link_box.specs.declared.box_trait.LinkBox.{Ghosts as LinkBox}
 use Rattle.link_live.proofs.Heard.{goes_none, goes_of_text, goes_then, takes_none}
 use Rattle.link_live.specs.Filtering.{LiveOrigin, KeepsImages, made_at}
@@ -8,9 +8,9 @@ use Rattle.link_live.specs.LiveLine.{Live, live_of, outside_of, read_further, Is
 use Rattle.link_live.specs.LiveLine.{TakenAt, EndsAt, TakesBytes, EndsInBytes, Hears, HearsAll}
 use Rattle.link_live.specs.LiveLine.{FailsToHear, EndsHearing, HearAnswer}
 use Rattle.link_live.specs.declared.live_box.TheConstants.{MAX_LIVE_BYTES}
-use Rattle.live_port.proofs.Reading.{read_begins}
-use Rattle.live_port.specs.{History.History, Order.Handed, declared.lines.LineReader.LineReader}
-use Rattle.live_port.specs.declared.port.{Output.Output, Port.Ghosts as Port}
+use Rattle.line_commands.proofs.Reading.{read_begins}
+use Rattle.line_commands.specs.{History.History, Order.Handed, declared.lines.LineReader.LineReader}
+use Rattle.line_commands.specs.declared.port.{Output.Output, Port.Ghosts as Port}
 use Rattle.std.proofs.Common.{inr, ◌≡◌, ◌∙◌, ℕ, ◌+◌, ◌<◌, ◌≤◌, List, [], ◌∷◌, ◌++◌, length, Option}
 use Rattle.std.proofs.Common.{Some, None, Ok, Err, true, false, refl, sym, ap, subst, arith}
 use Rattle.std.proofs.Common.{append-nil, append_assoc, length-append}

@@ -1,5 +1,5 @@
 -- What the status of a run says of it, from how its box was driven over a live line.
-use Rattle.{burst_walk.specs.Causal.IsCausal, hmac_tag.specs.declared.dir.Dir.Dir}
+use Rattle.{frame_ending.specs.Causal.IsCausal, hmac_tag.specs.declared.dir.Dir.Dir}
 use Rattle.link_box.specs.{Walking.frames_of, declared.box_trait.LinkBox.Ghosts as LinkBox}
 use Rattle.link_format.specs.{NumberedFrame.numbers_of, Setup.Setup, Setup.setup_of}
 use Rattle.sequence_journal.specs.Journal.{journal_link, journal_floor, HasFloorAtLeast, Fits}
@@ -13,16 +13,16 @@ use Rattle.yasir_io.specs.{Causes.Rose, Disks.Slots, Disks.OneImage, Disks.Leave
 use Rattle.yasir_io.specs.declared.disk.SlotDisk.{Ghosts as SlotDisk}
 use Rattle.yasir_ticks.specs.{Ticks.ticks_in, Ticks.Item.tick, declared.tick.Tick.Tick}
 use Rattle.tick_drive.specs.declared.consumer.Stop.TheVariants as stops
-use Rattle.box_command.proofs.Floors.{told_before, keeps_floor, keeps_from_load, keeps_throughout}
-use Rattle.box_command.proofs.Walking.{walk-boxed}
-use Rattle.box_command.specs.{BoxLines.ToldFloor, Boxes.Boxed, Boxes.IsBoxed, LinkBoxed.boxed_of}
-use Rattle.box_command.specs.ReplaysBox.{boxed_with, KeepsFloor, LeavesUptime, KeepsFloorThroughout}
+use Rattle.line_commands.proofs.Floors.{told_before, keeps_floor, keeps_from_load, keeps_throughout}
+use Rattle.line_commands.proofs.Walking.{walk-boxed}
+use Rattle.line_commands.specs.{BoxLines.ToldFloor, Boxes.Boxed, Boxes.IsBoxed, LinkBoxed.boxed_of}
+use Rattle.line_commands.specs.ReplaysBox.{boxed_with, KeepsFloor, LeavesUptime, KeepsFloorThroughout}
 use Rattle.link_live.proofs.TextEndsLaws.{text_by}
 use Rattle.link_live.specs.{Filtering.LiveOrigin, Filtering.Filters, LiveCommand.Around}
 use Rattle.link_live.specs.LiveCommand.{around, Carries, HaltsBox, EndsLine, RunsLine, PortCauses}
 use Rattle.link_live.specs.LiveLine.{Live, LiveGoes, HeardAt, HaltsAt, Drives}
-use Rattle.live_port.specs.{History.History, declared.port.Port.Ghosts as Port}
-use Rattle.{replay_status.specs.Endings.status_of, tick_drive.proofs.ItemLaws.ticks_in-append}
+use Rattle.line_commands.specs.{History.History, declared.port.Port.Ghosts as Port}
+use Rattle.{command_ends.specs.Endings.status_of, tick_drive.proofs.ItemLaws.ticks_in-append}
 use Rattle.tick_drive.specs.declared.end.End.{End, TheVariants.Whole}
 use Rattle.tick_drive.specs.declared.end.End.TheVariants.{Refused, TooLong, ReadFault, Stopped}
 

@@ -1,10 +1,10 @@
 -- A filter has taken some ticks and handed on what the box makes of them, or was stopped.
-use Rattle.box_command.proofs.{AnsweredRuns.run_noted, AnsweredRuns.step_noted, Begun.one_more}
-use Rattle.box_command.proofs.Walking.{run-answers, step-answers, step-fails}
-use Rattle.box_command.specs.{BoxLines.ToldFloor, Boxes.AnswersBoxRun, Boxes.FailsBox}
-use Rattle.box_command.specs.{Boxes.line_of_note, LinkBoxed.boxed_of, Sending.made_by}
-use Rattle.burst_walk.proofs.Runs.{run-none}
-use Rattle.burst_walk.specs.{Causal.IsCausal, declared.box_step.BoxStep.BoxStep}
+use Rattle.line_commands.proofs.{AnsweredRuns.run_noted, AnsweredRuns.step_noted, Begun.one_more}
+use Rattle.line_commands.proofs.Walking.{run-answers, step-answers, step-fails}
+use Rattle.line_commands.specs.{BoxLines.ToldFloor, Boxes.AnswersBoxRun, Boxes.FailsBox}
+use Rattle.line_commands.specs.{Boxes.line_of_note, LinkBoxed.boxed_of, Sending.made_by}
+use Rattle.frame_ending.proofs.BurstRuns.{run-none}
+use Rattle.frame_ending.specs.{Causal.IsCausal, declared.box_step.BoxStep.BoxStep}
 use Rattle.{line_texts.specs.Sending.AnswersNoted, link_box.specs.Runs.HasTakenRun}
 use Rattle.link_box.specs.{Runs.TakesRun, Stepping.HasStepped, Stepping.Steps, Stepping.FailsStep}
 use Rattle.link_box.specs.{Stepping.KeepsJournal, Stepping.ServesLink, Walking.frames_of}
@@ -13,8 +13,8 @@ use Rattle.link_format.specs.{NumberedFrame.numbers_of, Setup.Setup}
 use Rattle.link_live.specs.Filtering.{Outside, LiveOrigin, Filters, KeepsImages, PortCause}
 use Rattle.link_live.specs.Filtering.{filtering, made_at, box_at}
 use Rattle.link_live.specs.FilteringLaws.{images_none, port_none}
-use Rattle.live_port.specs.Order.{Handed, HandedFronts}
-use Rattle.live_port.specs.{Sent.Hands, Sent.WritesCause, declared.port.Port.Ghosts as Port}
+use Rattle.line_commands.specs.Order.{Handed, HandedFronts}
+use Rattle.line_commands.specs.{Sent.Hands, Sent.WritesCause, declared.port.Port.Ghosts as Port}
 use Rattle.sequence_journal.specs.{Journal.journal_link, Journal.journal_floor, Uptimes.RiseFrom}
 use Rattle.sequence_journal.specs.declared.journal.{Journal.Journal, JournalFault.JournalFault}
 use Rattle.std.proofs.Common.{◌≡◌, ◌∙◌, ℕ, ◌+◌, ◌-◌, ◌<◌, ◌≤◌, List, [], ◌∷◌, ◌++◌, length, take}

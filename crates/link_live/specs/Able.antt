@@ -7,9 +7,9 @@ use Rattle.yasir_io.specs.declared.disk.SlotDisk.{Ghosts as SlotDisk}
 use Rattle.yasir_ticks.specs.Ticks.{Item, ticks_in}
 use Rattle.yasir_ticks.specs.TickText.{IsTickText, ended_items}
 use Rattle.sequence_journal.specs.declared.link.LinkId.{LinkId}
-use Rattle.box_command.specs.Given.{HasKey, HoldsJournal}
-use Rattle.live_port.specs.declared.port.Output.{Output}
-use Rattle.live_port.specs.declared.port.Port.{Ghosts as Port}
+use Rattle.line_commands.specs.Given.{HasKey, HoldsJournal}
+use Rattle.line_commands.specs.declared.port.Output.{Output}
+use Rattle.line_commands.specs.declared.port.Port.{Ghosts as Port}
 use Rattle.link_live.specs.declared.live_box.TheConstants.{MAX_LIVE_TICKS, MAX_LIVE_BYTES}
 use Rattle.link_live.specs.LiveCommand.{Around}
 use Rattle.link_live.specs.Words.{served}

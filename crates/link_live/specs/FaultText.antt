@@ -1,11 +1,11 @@
 -- The fault line of a status in the log of a port.
 use Rattle.std.specs.Prelude.{◌≡◌, ◌≢◌, ◌⊎◌, [], Result}
 use Rattle.yasir_io.specs.declared.Failed.{Failed}
-use Rattle.replay_status.specs.Statuses.{fault_line}
-use Rattle.replay_status.specs.declared.status.Status.{Status}
-use Rattle.live_port.specs.Sent.{Sends}
-use Rattle.live_port.specs.declared.port.Output.TheVariants.{Log}
-use Rattle.live_port.specs.declared.port.Port.{Ghosts as Port}
+use Rattle.command_ends.specs.Statuses.{fault_line}
+use Rattle.command_ends.specs.declared.status.Status.{Status}
+use Rattle.line_commands.specs.Sent.{Sends}
+use Rattle.line_commands.specs.declared.port.Output.TheVariants.{Log}
+use Rattle.line_commands.specs.declared.port.Port.{Ghosts as Port}
 
 -- Holds if the status has no fault line and nothing was done, or if it has one and that line was
 -- written to the log and flushed. If a call failed, the log has got a front of the line.

@@ -19,14 +19,14 @@ use Rattle.tick_drive.specs.declared.consumer.Stop.{Stop}
 use Rattle.tick_drive.specs.declared.consumer.Stop.TheVariants.{WriteFault, JournalFault}
 use Rattle.tick_drive.specs.declared.consumer.Stop.TheVariants.{NoMemory}
 use Rattle.line_texts.specs.Sending.{LineAndNotes}
-use Rattle.box_command.specs.Boxes.{Boxed, FailsBox}
-use Rattle.box_command.specs.BoxLines.{ToldFloor}
-use Rattle.box_command.specs.LinkBoxed.{boxed_of}
-use Rattle.box_command.specs.Sending.{made_by}
-use Rattle.live_port.specs.History.{History}
-use Rattle.live_port.specs.Order.{Handed, HandedFronts}
-use Rattle.live_port.specs.declared.port.Output.{Output}
-use Rattle.live_port.specs.declared.port.Port.{Ghosts as Port}
+use Rattle.line_commands.specs.Boxes.{Boxed, FailsBox}
+use Rattle.line_commands.specs.BoxLines.{ToldFloor}
+use Rattle.line_commands.specs.LinkBoxed.{boxed_of}
+use Rattle.line_commands.specs.Sending.{made_by}
+use Rattle.line_commands.specs.History.{History}
+use Rattle.line_commands.specs.Order.{Handed, HandedFronts}
+use Rattle.line_commands.specs.declared.port.Output.{Output}
+use Rattle.line_commands.specs.declared.port.Port.{Ghosts as Port}
 use Rattle.link_live.specs.declared.filter.Filter.{Filter}
 
 -- how the history began, what was read since, the link of the box's journal, and the setup of the

@@ -11,8 +11,8 @@ use Rattle.sequence_journal.specs.Journal.{HasFloorFrom}
 use Rattle.link_box.specs.declared.box_trait.LinkBox.{Ghosts as LinkBox}
 use Rattle.tick_drive.specs.Consumers.{IsNoneDone, AreJoined, is_journal_fault, is_write_fault}
 use Rattle.tick_drive.proofs.Causes.{disk_none, disk_then}
-use Rattle.box_command.specs.BoxLinesLaws.{floor_from_later}
-use Rattle.live_port.specs.declared.port.Port.{Ghosts as Port}
+use Rattle.line_commands.specs.BoxLinesLaws.{floor_from_later}
+use Rattle.line_commands.specs.declared.port.Port.{Ghosts as Port}
 use Rattle.link_live.specs.Filtering.{Outside, KeepsImages, OutputCause, PortCause, filtering}
 
 module _ {P : Type 0} (p : Port P) where

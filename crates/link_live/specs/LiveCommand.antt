@@ -16,19 +16,19 @@ use Rattle.tick_drive.specs.declared.consumer.Stop.TheVariants as stops
 use Rattle.tick_drive.specs.declared.end.End.{End}
 use Rattle.tick_drive.specs.declared.end.End.TheVariants.{Whole, Refused, Stopped}
 use Rattle.tick_drive.specs.declared.end.End.TheVariants as ends
-use Rattle.key_text.specs.KeyText.{IsKeyMet, IsKeyText, IsNoKey, IsCutShort}
-use Rattle.replay_status.specs.declared.status.Status.{Status}
-use Rattle.replay_status.specs.declared.status.Status.TheVariants.{Done, BadTicks, ReadFault}
-use Rattle.replay_status.specs.declared.status.Status.TheVariants.{WriteFault, JournalFault}
-use Rattle.replay_status.specs.declared.status.Status.TheVariants.{TooLong, BadKey, BadJournal}
-use Rattle.replay_status.specs.declared.status.Status.TheVariants.{WrongLink}
-use Rattle.box_command.specs.Boxes.{Boxed, FailsBox}
-use Rattle.box_command.specs.BoxLines.{ToldFloor}
-use Rattle.box_command.specs.ReplaysBox.{boxed_with, KeepsFloor, LeavesUptime, KeepsFloorFromLoad}
-use Rattle.box_command.specs.Sending.{made_by}
-use Rattle.live_port.specs.Order.{Handed, HandedFronts}
-use Rattle.live_port.specs.declared.port.Output.{Output}
-use Rattle.live_port.specs.declared.port.Port.{Ghosts as Port}
+use Rattle.command_ends.specs.KeyText.{IsKeyMet, IsKeyText, IsNoKey, IsCutShort}
+use Rattle.command_ends.specs.declared.status.Status.{Status}
+use Rattle.command_ends.specs.declared.status.Status.TheVariants.{Done, BadTicks, ReadFault}
+use Rattle.command_ends.specs.declared.status.Status.TheVariants.{WriteFault, JournalFault}
+use Rattle.command_ends.specs.declared.status.Status.TheVariants.{TooLong, BadKey, BadJournal}
+use Rattle.command_ends.specs.declared.status.Status.TheVariants.{WrongLink}
+use Rattle.line_commands.specs.Boxes.{Boxed, FailsBox}
+use Rattle.line_commands.specs.BoxLines.{ToldFloor}
+use Rattle.line_commands.specs.ReplaysBox.{boxed_with, KeepsFloor, LeavesUptime, KeepsFloorFromLoad}
+use Rattle.line_commands.specs.Sending.{made_by}
+use Rattle.line_commands.specs.Order.{Handed, HandedFronts}
+use Rattle.line_commands.specs.declared.port.Output.{Output}
+use Rattle.line_commands.specs.declared.port.Port.{Ghosts as Port}
 use Rattle.link_live.specs.TextEnds.{EndsText}
 
 -- what a run is handed besides the key: the port of the line, and the journal's disk

@@ -17,10 +17,10 @@ use Rattle.tick_drive.specs.declared.end.End.{End}
 use Rattle.tick_drive.specs.declared.end.End.TheVariants.{Whole, TooLong, ReadFault}
 use Rattle.tick_drive.specs.declared.end.End.TheVariants.{Stopped}
 use Rattle.tick_drive.specs.declared.end.TooMuch.TheVariants.{Ticks}
-use Rattle.live_port.specs.History.{History}
-use Rattle.live_port.specs.Lines.{HasRead}
-use Rattle.live_port.specs.declared.lines.LineReader.{LineReader}
-use Rattle.live_port.specs.declared.port.Port.{Ghosts as Port}
+use Rattle.line_commands.specs.History.{History}
+use Rattle.line_commands.specs.Lines.{HasRead}
+use Rattle.line_commands.specs.declared.lines.LineReader.{LineReader}
+use Rattle.line_commands.specs.declared.port.Port.{Ghosts as Port}
 use Rattle.link_live.specs.Filtering.{Outside, outside, LiveOrigin, Filters, StopsFilter}
 use Rattle.link_live.specs.Filtering.{KeepsImages, OutputCause, filtering}
 use Rattle.link_live.specs.declared.filter.Filter.{Filter}

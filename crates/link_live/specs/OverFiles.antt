@@ -5,11 +5,11 @@ use Rattle.yasir_io.specs.declared.disk.SlotDisk.{Ghosts as SlotDisk}
 use Rattle.yasir_io.specs.declared.files.FileSource.{FileSource}
 use Rattle.yasir_io.specs.declared.files.FileSlots.{FileSlots}
 use Rattle.yasir_io.specs.declared.files.SlotFile.TheVariants.{Standing}
-use Rattle.replay_status.specs.Given.{IsKeyFile, IsJournalFile}
-use Rattle.replay_status.specs.Statuses.{exit_status_of}
-use Rattle.replay_status.specs.declared.status.Status.{Status}
-use Rattle.replay_status.specs.declared.status.Status.TheVariants.{Usage, NoMemory}
-use Rattle.live_port.specs.declared.port.Port.{Ghosts as Port}
+use Rattle.command_ends.specs.Given.{IsKeyFile, IsJournalFile}
+use Rattle.command_ends.specs.Statuses.{exit_status_of}
+use Rattle.command_ends.specs.declared.status.Status.{Status}
+use Rattle.command_ends.specs.declared.status.Status.TheVariants.{Usage, NoMemory}
+use Rattle.line_commands.specs.declared.port.Port.{Ghosts as Port}
 use Rattle.link_live.specs.declared.words.Command.{Command}
 use Rattle.link_live.specs.LiveCommand.{around}
 use Rattle.link_live.specs.Programs.{Runs, KeepsDisk}

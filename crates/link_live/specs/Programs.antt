@@ -2,13 +2,13 @@
 use Rattle.std.specs.Prelude.{◌≡◌, Option, Some, None}
 use Rattle.yasir_io.specs.declared.source.Source.{Ghosts as Source}
 use Rattle.yasir_io.specs.declared.disk.SlotDisk.{Ghosts as SlotDisk}
-use Rattle.replay_status.specs.declared.status.Status.{Status}
-use Rattle.replay_status.specs.declared.status.Status.TheVariants.{Usage}
-use Rattle.box_command.specs.ReplaysBox.{KeepsFloorThroughout, BoxDiskCause}
-use Rattle.live_port.specs.declared.port.Port.{Ghosts as Port}
+use Rattle.command_ends.specs.declared.status.Status.{Status}
+use Rattle.command_ends.specs.declared.status.Status.TheVariants.{Usage}
+use Rattle.line_commands.specs.ReplaysBox.{KeepsFloorThroughout, BoxDiskCause}
+use Rattle.line_commands.specs.declared.port.Port.{Ghosts as Port}
 use Rattle.link_live.specs.FaultText.{TellsFault}
 use Rattle.link_live.specs.LiveCommand.{Around, around, LivesBox, PortCauses}
-use Rattle.box_command.specs.LinkBoxes.{seal_boxed, seal_rest, check_boxed, check_rest}
+use Rattle.line_commands.specs.LinkBoxes.{seal_boxed, seal_rest, check_boxed, check_rest}
 use Rattle.link_live.specs.Words.{served}
 use Rattle.link_live.specs.declared.words.Command.{Command}
 use Rattle.link_live.specs.declared.words.Command.TheVariants.{Seal, Check}

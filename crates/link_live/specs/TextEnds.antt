@@ -12,8 +12,8 @@ use Rattle.tick_drive.specs.declared.end.End.{End}
 use Rattle.tick_drive.specs.declared.end.End.TheVariants.{Whole, Refused, TooLong, ReadFault}
 use Rattle.tick_drive.specs.declared.end.End.TheVariants.{Stopped}
 use Rattle.tick_drive.specs.declared.end.TooMuch.TheVariants.{Ticks, Bytes}
-use Rattle.live_port.specs.Counted.{capped}
-use Rattle.live_port.specs.Lines.{RefusesText, EndsNoLine}
+use Rattle.line_commands.specs.Counted.{capped}
+use Rattle.line_commands.specs.Lines.{RefusesText, EndsNoLine}
 use Rattle.link_live.specs.declared.live_box.TheConstants.{MAX_LIVE_TICKS, MAX_LIVE_BYTES}
 
 -- Holds if the text is right, and `Of` holds of its items.

@@ -1,8 +1,8 @@
 -- The words of the program's commands.
 use Rattle.std.specs.Prelude.{◌≡◌, ◌≢◌, ℕ, List, [], ◌∷◌, Option, Some, None, codes, slice_get}
 use Rattle.sequence_journal.specs.declared.link.LinkId.{LinkId}
-use Rattle.link_words.specs.Links.{link_of}
-use Rattle.link_words.specs.Words.{link_word, dir_word}
+use Rattle.command_ends.specs.Links.{link_of}
+use Rattle.command_ends.specs.Words.{link_word, dir_word}
 use Rattle.link_live.specs.declared.words.Linked.{Linked}
 use Rattle.link_live.specs.declared.words.Command.{Command}
 use Rattle.link_live.specs.declared.words.Command.TheVariants.{Seal, Check}

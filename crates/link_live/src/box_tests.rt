@@ -1,13 +1,12 @@
 //! The calls of a port, in their order, while a live line is driven through either box.
 ghost use Rattle.std.specs.Prelude.{None};
-ghost use Rattle.live_port.specs.History.{untold};
+ghost use Rattle.line_commands.specs.History.{untold};
 
 use crate::live_box::LiveBox;
 use arrayvec::ArrayVec;
-use box_command::LineBox;
 use check_receiver::Checker;
 use hmac_tag::{Dir, HmacSha1};
-use live_port::{Output, Port};
+use line_commands::{LineBox, Output, Port};
 use rtu_frame::Rtu;
 use seal_transmitter::Sealer;
 use sequence_journal::{Journal, slot_of};

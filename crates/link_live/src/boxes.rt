@@ -1,16 +1,14 @@
 //! The two boxes of a link on a live line: the transmitter of `seal`, and the receiver of `check`.
-ghost use Rattle.box_command.specs.LinkBoxes.{seal_boxed, seal_rest, check_boxed, check_rest};
-ghost use Rattle.box_command.specs.ReplaysBox.{KeepsFloorThroughout, BoxDiskCause};
+ghost use Rattle.line_commands.specs.LinkBoxes.{seal_boxed, seal_rest, check_boxed, check_rest};
+ghost use Rattle.line_commands.specs.ReplaysBox.{KeepsFloorThroughout, BoxDiskCause};
 ghost use Rattle.link_live.specs.LiveCommand.{around, LivesBox, PortCauses};
 ghost use Rattle.link_live.specs.Words.{served};
 
 use crate::command::{LiveLink, live_line};
 use crate::words::Linked;
-use box_command::{CHECK_REST, SEAL_REST};
 use check_receiver::Checker;
-use link_words::{link_of, with_link};
-use live_port::Port;
-use replay_status::Status;
+use command_ends::{Status, link_of, with_link};
+use line_commands::{CHECK_REST, Port, SEAL_REST};
 use seal_transmitter::Sealer;
 use yasir_io::{SlotDisk, Source};
 

@@ -2,16 +2,14 @@
 //! through the box as it comes.
 ghost use Rattle.std.specs.Prelude.{◌≡◌, ◌≤◌};
 ghost use Rattle.sequence_journal.specs.Links.{HasDirection};
-ghost use Rattle.box_command.specs.LinkBoxed.{boxed_of};
-ghost use Rattle.box_command.specs.ReplaysBox.{boxed_with, KeepsFloorThroughout, BoxDiskCause};
+ghost use Rattle.line_commands.specs.LinkBoxed.{boxed_of};
+ghost use Rattle.line_commands.specs.ReplaysBox.{boxed_with, KeepsFloorThroughout, BoxDiskCause};
 ghost use Rattle.link_live.specs.LiveCommand.{around, RunsLine, LivesBox, PortCauses};
 
 use crate::live_box::LiveBox;
-use box_command::LineBox;
+use command_ends::{KeyError, Status, read_key, status_of};
 use hmac_tag::Dir;
-use key_text::{KeyError, read_key};
-use live_port::Port;
-use replay_status::{Status, status_of};
+use line_commands::{LineBox, Port};
 use sequence_journal::{Journal, LinkId, LoadError};
 use yasir_io::{SlotDisk, Source};
 

@@ -1,8 +1,8 @@
 //! Writes the fault line of a status to the log of a port.
 ghost use Rattle.link_live.specs.FaultText.{TellsFault};
 
-use live_port::{Output, Port, send};
-use replay_status::{Status, fault_line};
+use command_ends::{Status, fault_line};
+use line_commands::{Output, Port, send};
 
 /// Writes the fault line of a status, if it has one, to the log, and flushes the log. If a call
 /// fails, that is ignored.

@@ -21,14 +21,13 @@ mod words;
 
 pub use boxes::{check, seal};
 pub use command::{LiveLink, live_line};
+pub use command_ends::{NOT_GIVEN, Profile, Proto, Usage};
 pub use fault_text::log_fault;
 pub use filter::Filter;
-pub use link_words::{Profile, Proto, Usage};
+use line_commands::Streams;
 pub use live_box::{LiveBox, MAX_LIVE_BYTES, MAX_LIVE_TICKS};
-use live_port::Streams;
 pub use over_files::run_over_files;
 pub use program::run;
-pub use replay_status::NOT_GIVEN;
 use std::process::ExitCode;
 pub use words::{Command, Linked, read_words};
 use yasir_io::{StderrSink, StdinSource, StdoutSink};

@@ -2,15 +2,15 @@
 //! words.
 ghost use Rattle.std.specs.Prelude.{◌≡◌, ℕ, Option, IfOk, OnErr, IsErr, map, option_map, slice_get};
 ghost use Rattle.std.specs.String.{string_bytes};
-ghost use Rattle.replay_status.specs.Given.{words_after, IsKeyFile, IsJournalFile};
+ghost use Rattle.command_ends.specs.Given.{words_after, IsKeyFile, IsJournalFile};
 ghost use Rattle.link_live.specs.declared.words.Command.{Command};
 ghost use Rattle.link_live.specs.Words.{Asks, word_in, key_place, journal_place};
 ghost use Rattle.link_live.specs.OverFiles.{RunsOverFiles, EndsOverFiles};
 
 use crate::program::run;
 use crate::words::read_words;
-use live_port::Port;
-use replay_status::{NOT_GIVEN, Status, take_places, words_after_name};
+use command_ends::{NOT_GIVEN, Status, take_places, words_after_name};
+use line_commands::Port;
 use std::alloc::AllocError;
 use std::env::Args;
 use std::io;

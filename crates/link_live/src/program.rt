@@ -2,7 +2,7 @@
 //! ask for.
 ghost use Rattle.std.specs.Prelude.{◌≡◌, ◌↔◌, Option, Some, None, map};
 ghost use Rattle.std.specs.String.{string_bytes};
-ghost use Rattle.box_command.specs.ReplaysBox.{BoxDiskCause};
+ghost use Rattle.line_commands.specs.ReplaysBox.{BoxDiskCause};
 ghost use Rattle.link_live.specs.Able.{MayDo, IsCalm};
 ghost use Rattle.link_live.specs.LiveCommand.{around, PortCauses};
 ghost use Rattle.link_live.specs.Programs.{Does, KeepsDisk, Runs};
@@ -12,8 +12,8 @@ ghost use Rattle.link_live.specs.declared.words.Command.{Command};
 use crate::boxes::{check, seal};
 use crate::fault_text::log_fault;
 use crate::words::{Command, read_words};
-use live_port::Port;
-use replay_status::Status;
+use command_ends::Status;
+use line_commands::Port;
 use yasir_io::{SlotDisk, Source};
 
 // Returns the command that the words ask for, or `None` if they fit no command.

@@ -2,8 +2,8 @@
 //! fails.
 use crate::run;
 use arrayvec::ArrayVec;
-use live_port::Streams;
-use replay_status::Status;
+use command_ends::Status;
+use line_commands::Streams;
 use sequence_journal::{LinkId, slot_of};
 use std::alloc::Global;
 use std::test::Fail;

@@ -4,8 +4,8 @@ ghost use Rattle.std.specs.String.{string_bytes};
 ghost use Rattle.link_live.specs.declared.words.Command.{Command};
 ghost use Rattle.link_live.specs.Words.{IsCommand};
 
+use command_ends::{Profile, Proto, Usage, read_dir, read_link};
 use hmac_tag::Dir;
-use link_words::{Profile, Proto, Usage, read_dir, read_link};
 
 /// The protocol, the profile and the direction of a link.
 #[derive(Clone, Copy, Debug, PartialEq, Eq)]

@@ -4,10 +4,10 @@ use Rattle.link_replay.specs.{Words.Asks, Words.AreFloors, declared.words.Comman
 use Rattle.link_replay.specs.declared.words.Command.TheVariants.{Init, Read, Vectors, Seal, Check}
 use Rattle.link_replay.specs.declared.words.Command.TheVariants.{Replay, Trial, Space, Audit}
 use Rattle.link_replay.specs.declared.words.Command.TheVariants.{Duplex, Help, Version}
-use Rattle.link_words.proofs.Telling.{is_word, proto_by, profile_by, dir_by, proto-by, profile-by}
-use Rattle.link_words.proofs.Telling.{dir-by}
-use Rattle.link_words.specs.{Words.dir_word, Words.link_word, declared.words.Profile.Profile}
-use Rattle.link_words.specs.declared.words.Proto.{Proto, TheVariants.Rtu, TheVariants.Dnp3}
+use Rattle.command_ends.proofs.Telling.{is_word, proto_by, profile_by, dir_by, proto-by, profile-by}
+use Rattle.command_ends.proofs.Telling.{dir-by}
+use Rattle.command_ends.specs.{Words.dir_word, Words.link_word, declared.words.Profile.Profile}
+use Rattle.command_ends.specs.declared.words.Proto.{Proto, TheVariants.Rtu, TheVariants.Dnp3}
 use Rattle.std.proofs.Common.{◌≡◌, ◌∙◌, ℕ, zero, suc, List, [], ◌∷◌, Option, Some}
 use Rattle.std.proofs.Common.{None, cond, refl, sym, ap, arith, subst, ◌≤◌, ◌^◌, ◌<◌, inl}
 use Rattle.std.proofs.{Common.inr, lemmas.Fmt.decimal_is_IsNumeral}

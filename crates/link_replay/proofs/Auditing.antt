@@ -1,21 +1,21 @@
 -- The session that the words of an audit ask for, its verdict, and what is left if the input didn't
 -- end well.
-use Rattle.{box_command.specs.LinkBoxes.seal_rest, link_replay.specs.ReadCommand.device_reads}
-use Rattle.link_verdicts.specs.Checking.{passed}
-use Rattle.link_words.specs.Links.{rules_of, link_profile_of, delay_of}
-use Rattle.link_words.specs.declared.words.Profile.{Profile, TheVariants.Y18, TheVariants.Y24}
-use Rattle.link_words.specs.declared.words.Proto.{Proto, TheVariants.Rtu, TheVariants.Dnp3}
+use Rattle.{line_commands.specs.LinkBoxes.seal_rest, link_replay.specs.ReadCommand.device_reads}
+use Rattle.link_walks.specs.Checking.{passed}
+use Rattle.command_ends.specs.Links.{rules_of, link_profile_of, delay_of}
+use Rattle.command_ends.specs.declared.words.Profile.{Profile, TheVariants.Y18, TheVariants.Y24}
+use Rattle.command_ends.specs.declared.words.Proto.{Proto, TheVariants.Rtu, TheVariants.Dnp3}
 use Rattle.link_replay.specs.AuditCommand.{AuditsItems, PrintsFinding, finding_status, verdict_in}
 use Rattle.link_replay.specs.AuditCommand.{verdict_text}
 use Rattle.link_replay.specs.declared.commands.audit.Audited.{Audited}
-use Rattle.{recordings_replay.specs.Recorded.IsRecordedWith, replay_lists.specs.Listed.link_rest}
-use Rattle.replay_status.specs.{Causes.InputCause, Causes.SinkCause, Endings.status_of}
-use Rattle.replay_status.specs.{Flushes.FlushesAtEnd, PrintsText.PrintsText}
-use Rattle.replay_status.specs.declared.status.Status.{Status}
-use Rattle.replay_status.specs.declared.status.Status.TheVariants as statuses
-use Rattle.replay_status.specs.declared.status.Status.TheVariants.{Done, NoMemory, WriteFault}
-use Rattle.replay_status.specs.declared.status.Unclean.{Unclean}
-use Rattle.seal_judgements.specs.Sealing.{sealed}
+use Rattle.{session_audit.specs.Recorded.IsRecordedWith, session_lists.specs.Listed.link_rest}
+use Rattle.command_ends.specs.{Causes.InputCause, Causes.SinkCause, Endings.status_of}
+use Rattle.command_ends.specs.{Flushes.FlushesAtEnd, PrintsText.PrintsText}
+use Rattle.command_ends.specs.declared.status.Status.{Status}
+use Rattle.command_ends.specs.declared.status.Status.TheVariants as statuses
+use Rattle.command_ends.specs.declared.status.Status.TheVariants.{Done, NoMemory, WriteFault}
+use Rattle.command_ends.specs.declared.status.Unclean.{Unclean}
+use Rattle.link_walks.specs.Sealing.{sealed}
 use Rattle.sequence_journal.specs.declared.numbers.TheConstants.{LIMIT}
 use Rattle.session_audit.{proofs.Auditing.kind-so, specs.AuditedInput.FindsNone}
 use Rattle.session_audit.specs.Sessions.{sent_setup, got_setup, verdict_of, verdict_with}

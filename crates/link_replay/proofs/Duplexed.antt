@@ -1,10 +1,10 @@
 -- What `duplex` does follows from what its boxes make of both recordings. If all that it is given
 -- is right and nothing outside fails, the status is `Done` or `NoMemory`.
 use Rattle.hmac_tag.specs.declared.dir.Dir.{Dir}
-use Rattle.replay_status.specs.Causes.{ReadsCause, SinkCause, NoneRose}
-use Rattle.replay_status.specs.{Outside.Outside, declared.status.Status.Status}
-use Rattle.replay_status.specs.declared.status.Status.TheVariants.{Done, BadTicks, ReadFault}
-use Rattle.replay_status.specs.declared.status.Status.TheVariants.{WriteFault, TooLong, NoMemory}
+use Rattle.command_ends.specs.Causes.{ReadsCause, SinkCause, NoneRose}
+use Rattle.command_ends.specs.{Outside.Outside, declared.status.Status.Status}
+use Rattle.command_ends.specs.declared.status.Status.TheVariants.{Done, BadTicks, ReadFault}
+use Rattle.command_ends.specs.declared.status.Status.TheVariants.{WriteFault, TooLong, NoMemory}
 use Rattle.std.proofs.Common.{◌≡◌, ◌⊎◌, ℕ, List, Option, false, refl}
 use Rattle.tick_drive.specs.{Consumers.is_write_fault, Drive.answer_of}
 use Rattle.yasir_io.specs.declared.{disk.SlotDisk.Ghosts as SlotDisk, sink.Sink.Ghosts as Sink}
@@ -14,13 +14,13 @@ use Rattle.tick_drive.specs.declared.consumer.Stop.TheVariants as stops
 use Rattle.tick_drive.specs.declared.end.End.{End}
 use Rattle.tick_drive.specs.declared.end.End.TheVariants.{Whole, Refused, Stopped}
 use Rattle.tick_drive.specs.declared.end.End.TheVariants as ends
-use Rattle.box_command.specs.Recording.{BothTexts, HoldsTexts, PrintsBoth, RecordsWhole}
-use Rattle.box_command.specs.{Recording.EndsOtherwise, declared.recording.Recorded.Recorded}
+use Rattle.line_commands.specs.Recording.{BothTexts, HoldsTexts, PrintsBoth, RecordsWhole}
+use Rattle.line_commands.specs.{Recording.EndsOtherwise, declared.recording.Recorded.Recorded}
 use Rattle.link_replay.proofs.KeyedRuns.{EndsAs, keyed_done}
 use Rattle.link_replay.specs.DuplexCommand.{DuplexesWith, Duplexes, duplex_texts}
 use Rattle.link_replay.specs.ReplayCommand.{IsListable}
-use Rattle.link_words.specs.declared.words.{Profile.Profile, Proto.Proto}
-use Rattle.replay_status.specs.Endings.{status_of}
+use Rattle.command_ends.specs.declared.words.{Profile.Profile, Proto.Proto}
+use Rattle.command_ends.specs.Endings.{status_of}
 
 module _ {K S O L D : Type 0} (k : Source K) (s : Source S) (o : Sink O) (l : Sink L)
     (d : SlotDisk D) (proto : Proto) (profile : Profile) (dir : Dir)

@@ -1,17 +1,17 @@
 -- A command that ends with a flush of both sinks or with a write that failed: what it leaves in
 -- them, and which objects aren't among the causes of its status.
-use Rattle.{device_model.specs.Frames.FrameRead, device_replay.specs.PrintsFrames.PrintsFrames}
+use Rattle.{device_model.specs.Frames.FrameRead, line_commands.specs.PrintsFrames.PrintsFrames}
 use Rattle.line_texts.specs.Sending.{LineAndNotes, SinkTexts}
 use Rattle.link_replay.specs.Commands.{HasCauses, HasOwnCauses}
 use Rattle.link_replay.specs.InitCommand.{LeavesSinks, MakesJournal, IsNewJournal}
 use Rattle.link_replay.specs.declared.words.Command.{Command}
-use Rattle.replay_status.specs.Causes.{InputCause, ReadsCause, DiskCause, SinkCause}
-use Rattle.replay_status.specs.{Flushes.FlushesAtEnd, Outside.outside}
-use Rattle.replay_status.specs.declared.status.Status.{Status}
-use Rattle.replay_status.specs.declared.status.Status.TheVariants.{Done, ReadFault, WriteFault}
-use Rattle.replay_status.specs.declared.status.Status.TheVariants.{JournalFault}
+use Rattle.command_ends.specs.Causes.{InputCause, ReadsCause, DiskCause, SinkCause}
+use Rattle.command_ends.specs.{Flushes.FlushesAtEnd, Outside.outside}
+use Rattle.command_ends.specs.declared.status.Status.{Status}
+use Rattle.command_ends.specs.declared.status.Status.TheVariants.{Done, ReadFault, WriteFault}
+use Rattle.command_ends.specs.declared.status.Status.TheVariants.{JournalFault}
 use Rattle.sequence_journal.specs.declared.link.LinkId.{LinkId}
-use Rattle.space_replay.specs.SpacesLine.{SpacesLine}
+use Rattle.line_commands.specs.SpacesLine.{SpacesLine}
 use Rattle.std.proofs.Common.{◌≡◌, ◌⊎◌, ℕ, List, Option, Some, inl, inr, refl, subst, sym, arith}
 use Rattle.yasir_io.specs.{Disks.Slots, declared.disk.SlotDisk.Ghosts as SlotDisk}
 use Rattle.yasir_io.specs.declared.{sink.Sink.Ghosts as Sink, source.Source.Ghosts as Source}

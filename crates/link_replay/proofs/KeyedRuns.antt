@@ -1,19 +1,19 @@
 -- A run that reads a key, and then a text with its marks: if both are right and nothing outside
 -- fails, the status is `Done` or `NoMemory`.
-use Rattle.recordings_replay.specs.Keyed.{ReadsKeyFirst}
+use Rattle.session_audit.specs.Keyed.{ReadsKeyFirst}
 use Rattle.std.proofs.Common.{◌≡◌, ◌⊎◌, ℕ, List, inl, inr, refl}
 use Rattle.std.specs.Prelude.{⊤}
 use Rattle.tick_drive.specs.{Input.Takes, declared.end.End.TheVariants.Refused}
 use Rattle.yasir_io.specs.declared.{disk.SlotDisk.Ghosts as SlotDisk, sink.Sink.Ghosts as Sink}
 use Rattle.{yasir_io.specs.declared.source.Source.Ghosts as Source, yasir_ticks.specs.Ticks.Item}
 use Rattle.tick_drive.specs.declared.end.End.TheVariants as ends
-use Rattle.box_command.proofs.Replayable.{no_key_refused}
-use Rattle.{link_replay.specs.ReplayCommand.IsListable, replay_status.proofs.Readable.not_refused}
-use Rattle.replay_status.{proofs.Readable.not_too_long, specs.Causes.ReadsCause}
-use Rattle.replay_status.specs.{Causes.SinkCause, Causes.NoneRose, Outside.Outside}
-use Rattle.replay_status.specs.declared.status.Status.{Status, TheVariants.Done}
-use Rattle.replay_status.specs.declared.status.Status.TheVariants.{BadTicks, ReadFault, WriteFault}
-use Rattle.replay_status.specs.declared.status.Status.TheVariants.{TooLong, BadKey, NoMemory}
+use Rattle.line_commands.proofs.Replayable.{no_key_refused}
+use Rattle.{link_replay.specs.ReplayCommand.IsListable, command_ends.proofs.Readable.not_refused}
+use Rattle.command_ends.{proofs.Readable.not_too_long, specs.Causes.ReadsCause}
+use Rattle.command_ends.specs.{Causes.SinkCause, Causes.NoneRose, Outside.Outside}
+use Rattle.command_ends.specs.declared.status.Status.{Status, TheVariants.Done}
+use Rattle.command_ends.specs.declared.status.Status.TheVariants.{BadTicks, ReadFault, WriteFault}
+use Rattle.command_ends.specs.declared.status.Status.TheVariants.{TooLong, BadKey, NoMemory}
 
 module _ {K S O L D : Type 0} (k : Source K) (s : Source S) (o : Sink O) (l : Sink L)
     (d : SlotDisk D) (before after : Outside K S O L D) (marks rest : ℕ) where

@@ -1,24 +1,24 @@
 -- If a key and a text with its marks are right and nothing outside fails, the status of a run over
 -- recordings is `Done` or `NoMemory`, and that of an audit is the status of its verdict or
 -- `NoMemory`.
-use Rattle.{box_command.proofs.Replayable.whole_key_met, box_command.specs.LinkBoxes.seal_rest}
+use Rattle.{line_commands.proofs.Replayable.whole_key_met, line_commands.specs.LinkBoxes.seal_rest}
 use Rattle.hmac_tag.specs.declared.dir.Dir.{Dir}
 use Rattle.link_replay.proofs.KeyedRuns.{EndsAs, keyed_done}
 use Rattle.link_replay.specs.AuditCommand.{AuditsItems, EndsWithVerdict, PrintsVerdict, verdict_in}
 use Rattle.link_replay.specs.AuditCommand.{verdict_text}
 use Rattle.link_replay.specs.ReplayCommand.{Replays, ReplaysWith, IsListable, replay_listing}
 use Rattle.link_replay.specs.declared.commands.audit.Audited.{Audited}
-use Rattle.link_words.specs.declared.words.{Profile.Profile, Proto.Proto}
-use Rattle.recordings_replay.{proofs.Keying.keyed-so, specs.Keyed.ReadsKeyFirst}
-use Rattle.recordings_replay.specs.Keyed.{RunsWithKey}
-use Rattle.recordings_replay.specs.{Keyed.LeavesAll, Recorded.PrintsItems, Recorded.lines_of}
-use Rattle.replay_lists.specs.Listed.{link_rest}
-use Rattle.{replay_status.proofs.Readable.all_of_told, tick_drive.specs.Input.max_bytes}
-use Rattle.replay_status.specs.Causes.{ReadsCause, SinkCause, NoneRose}
-use Rattle.replay_status.specs.{Outside.Outside, declared.status.Status.Status}
-use Rattle.replay_status.specs.declared.status.Status.TheVariants.{Done, BadTicks, ReadFault}
-use Rattle.replay_status.specs.declared.status.Status.TheVariants.{WriteFault, TooLong, NoMemory}
-use Rattle.replay_status.specs.declared.status.Status.TheVariants.{Unclean}
+use Rattle.command_ends.specs.declared.words.{Profile.Profile, Proto.Proto}
+use Rattle.session_audit.{proofs.Keying.keyed-so, specs.Keyed.ReadsKeyFirst}
+use Rattle.session_audit.specs.Keyed.{RunsWithKey}
+use Rattle.session_audit.specs.{Keyed.LeavesAll, Recorded.PrintsItems, Recorded.lines_of}
+use Rattle.session_lists.specs.Listed.{link_rest}
+use Rattle.{command_ends.proofs.Readable.all_of_told, tick_drive.specs.Input.max_bytes}
+use Rattle.command_ends.specs.Causes.{ReadsCause, SinkCause, NoneRose}
+use Rattle.command_ends.specs.{Outside.Outside, declared.status.Status.Status}
+use Rattle.command_ends.specs.declared.status.Status.TheVariants.{Done, BadTicks, ReadFault}
+use Rattle.command_ends.specs.declared.status.Status.TheVariants.{WriteFault, TooLong, NoMemory}
+use Rattle.command_ends.specs.declared.status.Status.TheVariants.{Unclean}
 use Rattle.std.proofs.Common.{◌≡◌, ◌⊎◌, ◌∙◌, ◌≤◌, ℕ, List, length, Some, inl, inr, ap, subst, sym}
 use Rattle.yasir_io.specs.declared.{disk.SlotDisk.Ghosts as SlotDisk, sink.Sink.Ghosts as Sink}
 use Rattle.{yasir_io.specs.declared.source.Source.Ghosts as Source, yasir_ticks.specs.Ticks.Item}

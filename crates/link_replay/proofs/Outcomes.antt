@@ -1,8 +1,9 @@
 -- If words ask for a command, all that it is given is right and nothing outside fails, it ends
 -- well: its status is `Done`, or for an audit that of its verdict, or for some commands `NoMemory`.
-use Rattle.box_command.proofs.Replayable.{replayable_done}
-use Rattle.box_command.specs.LinkBoxes.{seal_boxed, seal_rest, check_boxed, check_rest}
-use Rattle.{device_replay.proofs.Readable.readable_done, link_replay.proofs.Duplexed.duplex_done}
+use Rattle.line_commands.proofs.Replayable.{replayable_done}
+use Rattle.line_commands.specs.LinkBoxes.{seal_boxed, seal_rest, check_boxed, check_rest}
+use Rattle.line_commands.proofs.ReadableFrames.{readable_done}
+use Rattle.link_replay.proofs.Duplexed.{duplex_done}
 use Rattle.link_replay.proofs.Listable.{listable_done, auditable_done}
 use Rattle.link_replay.{proofs.Spaced.whole-spaces, specs.AuditCommand.audited}
 use Rattle.link_replay.specs.Commands.{Does, MayDo, IsCalm, HasOwnCauses, HasCauses, EndsWell}
@@ -12,15 +13,15 @@ use Rattle.link_replay.specs.declared.words.Command.{Command}
 use Rattle.link_replay.specs.declared.words.Command.TheVariants.{Init, Read, Vectors, Seal, Check}
 use Rattle.link_replay.specs.declared.words.Command.TheVariants.{Replay, Trial, Space, Audit}
 use Rattle.link_replay.specs.declared.words.Command.TheVariants.{Duplex, Help, Version}
-use Rattle.link_words.{proofs.Links.link-right, specs.Links.link_of}
-use Rattle.replay_status.proofs.{FlushLaws.flushes_after, Logging.sinks_after}
-use Rattle.replay_status.specs.Causes.{SinkCause, DiskCause, NoneRose}
-use Rattle.replay_status.specs.{Outside.Outside, PrintsText.PrintsText, Statuses.fault_line}
-use Rattle.replay_status.specs.declared.status.Status.{Status}
-use Rattle.replay_status.specs.declared.status.Status.TheVariants.{Done, WriteFault, JournalFault}
-use Rattle.replay_status.specs.declared.status.Status.TheVariants.{HasJournal}
+use Rattle.command_ends.{proofs.Links.link-right, specs.Links.link_of}
+use Rattle.command_ends.proofs.{FlushLaws.flushes_after, Logging.sinks_after}
+use Rattle.command_ends.specs.Causes.{SinkCause, DiskCause, NoneRose}
+use Rattle.command_ends.specs.{Outside.Outside, PrintsText.PrintsText, Statuses.fault_line}
+use Rattle.command_ends.specs.declared.status.Status.{Status}
+use Rattle.command_ends.specs.declared.status.Status.TheVariants.{Done, WriteFault, JournalFault}
+use Rattle.command_ends.specs.declared.status.Status.TheVariants.{HasJournal}
 use Rattle.sequence_journal.specs.{Slots.greatest, declared.link.LinkId.LinkId}
-use Rattle.space_replay.proofs.Readable.{spaced_done}
+use Rattle.line_commands.proofs.ReadableSpaced.{spaced_done}
 use Rattle.std.proofs.Common.{◌≡◌, ◌∙◌, ℕ, ◌≤◌, List, [], Option, Some, None, IfSome, inl, inr}
 use Rattle.std.proofs.Common.{refl, sym, ap, subst, arith}
 use Rattle.yasir_io.specs.{Causes.Rose, Disks.Slots, Flushed.IsNotFlushed}

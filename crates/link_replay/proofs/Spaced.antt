@@ -3,13 +3,13 @@ use Rattle.dnp_link_frame.specs.{Rules.dnp_rules, RulesLaws.dnp_lawful, RulesLaw
 use Rattle.{line_spacer.specs.Spacing.accepted_of, line_texts.specs.Sending.SinkTexts}
 use Rattle.{link_replay.specs.ReadCommand.device_reads}
 use Rattle.link_replay.specs.SpaceCommand.{spaced_by, SpacesBy, SpacesTexts, Spaces}
-use Rattle.link_words.specs.Links.{gap_of}
-use Rattle.link_words.specs.declared.words.Profile.{Profile, TheVariants.Y18, TheVariants.Y24}
-use Rattle.link_words.specs.declared.words.Proto.{Proto, TheVariants.Rtu, TheVariants.Dnp3}
-use Rattle.replay_status.specs.{Outside.Outside, Outside.outside, declared.status.Status.Status}
-use Rattle.replay_status.specs.declared.status.Status.TheVariants.{Done}
-use Rattle.space_replay.specs.{SpacedTexts.most_waiting, SpacesLine.SpacesLine}
-use Rattle.{space_replay.specs.SpacesLine.space_rest, spacer_laws.proofs.Leaving.rtu-leave}
+use Rattle.command_ends.specs.Links.{gap_of}
+use Rattle.command_ends.specs.declared.words.Profile.{Profile, TheVariants.Y18, TheVariants.Y24}
+use Rattle.command_ends.specs.declared.words.Proto.{Proto, TheVariants.Rtu, TheVariants.Dnp3}
+use Rattle.command_ends.specs.{Outside.Outside, Outside.outside, declared.status.Status.Status}
+use Rattle.command_ends.specs.declared.status.Status.TheVariants.{Done}
+use Rattle.line_commands.specs.{SpacedTexts.most_waiting, SpacesLine.SpacesLine}
+use Rattle.{line_commands.specs.SpacesLine.space_rest, spacer_laws.proofs.Leaving.rtu-leave}
 use Rattle.spacer_laws.{proofs.Leaving.hunt-leave, specs.Leaving.HaveLeft, specs.Leaving.AllLeave}
 use Rattle.std.proofs.Common.{◌≡◌, ◌∙◌, ℕ, List, ◌++◌, length, Option, ap, sym}
 use Rattle.std.proofs.Common.{subst, arith, refl}

@@ -1,8 +1,8 @@
 -- What holds between the numbers in the line of a trial, for both protocols and profiles.
 use Rattle.link_format.proofs.Profiles.{y18-tags, y24-tags}
 use Rattle.link_replay.specs.TrialCommand.{trial_link_profile, trial_counts}
-use Rattle.link_words.specs.declared.words.Profile.{Profile, TheVariants.Y18, TheVariants.Y24}
-use Rattle.link_words.specs.declared.words.Proto.{Proto, TheVariants.Rtu, TheVariants.Dnp3}
+use Rattle.command_ends.specs.declared.words.Profile.{Profile, TheVariants.Y18, TheVariants.Y24}
+use Rattle.command_ends.specs.declared.words.Proto.{Proto, TheVariants.Rtu, TheVariants.Dnp3}
 use Rattle.sequence_journal.specs.declared.numbers.TheConstants.{LIMIT}
 use Rattle.std.proofs.Common.{ℕ, ◌^◌, ◌<◌, arith}
 use Rattle.trial_session.proofs.Tellings.{rtu-tells, dnp-tells}

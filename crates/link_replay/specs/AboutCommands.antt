@@ -1,8 +1,8 @@
 -- The commands `help` and `version`: each prints a text of the program.
 use Rattle.std.specs.Prelude.{◌≡◌, ℕ, List, ◌++◌, codes}
 use Rattle.yasir_io.specs.declared.sink.Sink.{Ghosts as Sink}
-use Rattle.replay_status.specs.Outside.{Outside}
-use Rattle.replay_status.specs.declared.status.Status.{Status}
+use Rattle.command_ends.specs.Outside.{Outside}
+use Rattle.command_ends.specs.declared.status.Status.{Status}
 use Rattle.link_replay.specs.Printing.{Prints}
 use Rattle.link_replay.specs.declared.commands.about.TheConstants.{HELP_PAGE}
 use Rattle.link_replay.specs.declared.words.Command.{Command}

@@ -10,33 +10,33 @@ use Rattle.yasir_ticks.specs.Ticks.{Item, silent}
 use Rattle.yasir_ticks.specs.declared.TheConstants.{T3_5_TICKS}
 use Rattle.yasir_ticks.specs.declared.tick.Tick.{Tick}
 use Rattle.device_model.specs.Frames.{FrameRead}
-use Rattle.device_replay.specs.Lines.{frame_line_of}
+use Rattle.line_commands.specs.PrintedLines.{frame_line_of}
 use Rattle.hmac_tag.specs.declared.dir.Dir.{Dir}
 use Rattle.link_format.specs.Profile.{Profile as LinkProfile}
 use Rattle.link_format.specs.Setup.{setup_of}
 use Rattle.sequence_journal.specs.declared.numbers.TheConstants.{LIMIT}
-use Rattle.seal_judgements.specs.Sealing.{sealed}
-use Rattle.link_verdicts.specs.Checking.{passed}
-use Rattle.replay_lists.specs.Listed.{link_rest}
-use Rattle.replay_status.specs.Outside.{Outside}
-use Rattle.replay_status.specs.declared.status.Status.{Status}
-use Rattle.replay_status.specs.declared.status.Status.TheVariants.{Done, Unclean, WriteFault}
-use Rattle.replay_status.specs.declared.status.Unclean.TheVariants as unclean
-use Rattle.tick_lists.specs.Parts.{part}
+use Rattle.link_walks.specs.Sealing.{sealed}
+use Rattle.link_walks.specs.Checking.{passed}
+use Rattle.session_lists.specs.Listed.{link_rest}
+use Rattle.command_ends.specs.Outside.{Outside}
+use Rattle.command_ends.specs.declared.status.Status.{Status}
+use Rattle.command_ends.specs.declared.status.Status.TheVariants.{Done, Unclean, WriteFault}
+use Rattle.command_ends.specs.declared.status.Unclean.TheVariants as unclean
+use Rattle.session_lists.specs.Parts.{part}
 use Rattle.session_audit.specs.Verdicts.{verdict_on}
 use Rattle.session_audit.specs.declared.verdict.Counts.{Counts}
 use Rattle.session_audit.specs.declared.verdict.Finding.{Finding}
 use Rattle.session_audit.specs.declared.verdict.Finding.TheVariants.{Empty, Forged, Differs, Clean}
 use Rattle.session_audit.specs.declared.verdict.Verdict.{Verdict}
-use Rattle.recordings_replay.specs.Keyed.{ReadsKeyFirst, LeavesAll}
-use Rattle.recordings_replay.specs.Recorded.{PrintsItems, IsRecordedWith}
-use Rattle.link_words.specs.Links.{rules_of, link_profile_of, delay_of}
+use Rattle.session_audit.specs.Keyed.{ReadsKeyFirst, LeavesAll}
+use Rattle.session_audit.specs.Recorded.{PrintsItems, IsRecordedWith}
+use Rattle.command_ends.specs.Links.{rules_of, link_profile_of, delay_of}
 use Rattle.link_replay.specs.ReadCommand.{device_reads}
 use Rattle.link_replay.specs.ReplayCommand.{IsListable}
-use Rattle.box_command.specs.LinkBoxes.{seal_rest}
+use Rattle.line_commands.specs.LinkBoxes.{seal_rest}
 use Rattle.link_replay.specs.declared.commands.audit.Audited.{Audited}
-use Rattle.link_words.specs.declared.words.Profile.{Profile}
-use Rattle.link_words.specs.declared.words.Proto.{Proto}
+use Rattle.command_ends.specs.declared.words.Profile.{Profile}
+use Rattle.command_ends.specs.declared.words.Proto.{Proto}
 
 -- what the words of an audit ask for: a link, and the floors of both boxes
 abbrev pub audited : Proto → Profile → Dir → ℕ → ℕ → Audited

@@ -3,13 +3,13 @@ use Rattle.yasir_io.specs.declared.source.Source.{Ghosts as Source}
 use Rattle.yasir_io.specs.declared.sink.Sink.{Ghosts as Sink}
 use Rattle.yasir_io.specs.declared.disk.SlotDisk.{Ghosts as SlotDisk}
 use Rattle.hmac_tag.specs.declared.dir.Dir.{Dir}
-use Rattle.replay_status.specs.Outside.{Outside}
-use Rattle.replay_status.specs.declared.status.Status.{Status}
-use Rattle.box_command.specs.LinkBoxes.{check_boxed, check_rest}
-use Rattle.box_command.specs.ReplaysBox.{ReplaysBox}
-use Rattle.link_words.specs.declared.words.Profile.{Profile}
-use Rattle.link_words.specs.declared.words.Proto.{Proto}
-use Rattle.link_words.specs.Links.{link_of}
+use Rattle.command_ends.specs.Outside.{Outside}
+use Rattle.command_ends.specs.declared.status.Status.{Status}
+use Rattle.line_commands.specs.LinkBoxes.{check_boxed, check_rest}
+use Rattle.line_commands.specs.ReplaysBox.{ReplaysBox}
+use Rattle.command_ends.specs.declared.words.Profile.{Profile}
+use Rattle.command_ends.specs.declared.words.Proto.{Proto}
+use Rattle.command_ends.specs.Links.{link_of}
 
 -- What `check` does.
 abbrev pub Checks : {K S O L D : Type 0} → Source K → Source S → Sink O → Sink L → SlotDisk D

@@ -6,15 +6,15 @@ use Rattle.yasir_io.specs.declared.disk.SlotDisk.{Ghosts as SlotDisk}
 use Rattle.yasir_io.specs.declared.disk.Slot.TheVariants.{A}
 use Rattle.yasir_io.specs.Disks.{LeavesOnly}
 use Rattle.sequence_journal.specs.Journal.{IsBut}
-use Rattle.replay_status.specs.Outside.{Outside}
-use Rattle.replay_status.specs.Causes.{InputCause, DiskCause, LogsFault, NoneRose}
-use Rattle.replay_status.specs.StreamCauses.{HasStreamCauses}
+use Rattle.command_ends.specs.Outside.{Outside}
+use Rattle.command_ends.specs.Causes.{InputCause, DiskCause, LogsFault, NoneRose}
+use Rattle.command_ends.specs.StreamCauses.{HasStreamCauses}
 use Rattle.link_replay.specs.InitCommand.{Inits, IsBlank}
-use Rattle.replay_status.specs.Readable.{IsReadable}
+use Rattle.command_ends.specs.Readable.{IsReadable}
 use Rattle.link_replay.specs.ReadCommand.{Reads}
 use Rattle.link_replay.specs.VectorsCommand.{Tabulates}
-use Rattle.box_command.specs.ReplaysBox.{BoxDiskCause, IsReplayable, KeepsFloorThroughout}
-use Rattle.link_words.specs.Links.{link_of}
+use Rattle.line_commands.specs.ReplaysBox.{BoxDiskCause, IsReplayable, KeepsFloorThroughout}
+use Rattle.command_ends.specs.Links.{link_of}
 use Rattle.link_replay.specs.SealCommand.{Seals}
 use Rattle.link_replay.specs.CheckCommand.{Checks}
 use Rattle.link_replay.specs.ReplayCommand.{Replays, IsListable}
@@ -23,8 +23,8 @@ use Rattle.link_replay.specs.SpaceCommand.{Spaces}
 use Rattle.link_replay.specs.AuditCommand.{Audits, EndsWithVerdict, audited}
 use Rattle.link_replay.specs.DuplexCommand.{Duplexes}
 use Rattle.link_replay.specs.AboutCommands.{Helps, TellsVersion}
-use Rattle.replay_status.specs.declared.status.Status.{Status}
-use Rattle.replay_status.specs.declared.status.Status.TheVariants.{Usage, Done, NoMemory}
+use Rattle.command_ends.specs.declared.status.Status.{Status}
+use Rattle.command_ends.specs.declared.status.Status.TheVariants.{Usage, Done, NoMemory}
 use Rattle.link_replay.specs.declared.words.Command.{Command}
 use Rattle.link_replay.specs.declared.words.Command.TheVariants.{Init, Read, Vectors, Seal, Check}
 use Rattle.link_replay.specs.declared.words.Command.TheVariants.{Replay, Trial, Space}

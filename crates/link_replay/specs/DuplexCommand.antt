@@ -5,33 +5,33 @@ use Rattle.yasir_io.specs.declared.source.Source.{Ghosts as Source}
 use Rattle.yasir_io.specs.declared.sink.Sink.{Ghosts as Sink}
 use Rattle.yasir_ticks.specs.Ticks.{Item}
 use Rattle.yasir_ticks.specs.declared.tick.Tick.{Tick}
-use Rattle.burst_walk.specs.Answers.{told_notes}
+use Rattle.frame_ending.specs.Answers.{told_notes}
 use Rattle.hmac_tag.specs.declared.dir.Dir.{Dir}
 use Rattle.link_format.specs.Profile.{Profile as LinkProfile}
 use Rattle.link_format.specs.Setup.{Setup}
 use Rattle.sequence_journal.specs.declared.numbers.TheConstants.{LIMIT}
-use Rattle.seal_judgements.specs.Sealing.{seal_notes, link_line}
+use Rattle.link_walks.specs.Sealing.{seal_notes, link_line}
 use Rattle.seal_transmitter.specs.Answers.{brief_note as seal_brief}
-use Rattle.link_verdicts.specs.Checking.{check_notes, received_line, brief_note as check_brief}
+use Rattle.link_walks.specs.Checking.{check_notes, received_line, brief_note as check_brief}
 use Rattle.tick_drive.specs.Input.{Takes, IsWhole}
 use Rattle.tick_drive.specs.declared.consumer.Stop.TheVariants as stops
 use Rattle.tick_drive.specs.declared.end.End.{End}
 use Rattle.tick_drive.specs.declared.end.End.TheVariants.{Refused, Stopped}
 use Rattle.tick_drive.specs.declared.end.End.TheVariants as ends
-use Rattle.replay_lists.specs.Recordings.{before_mark, behind_mark}
-use Rattle.replay_status.specs.Outside.{Outside}
-use Rattle.replay_status.specs.declared.status.Status.{Status}
-use Rattle.replay_status.specs.declared.status.Status.TheVariants.{Done, BadTicks, ReadFault}
-use Rattle.replay_status.specs.declared.status.Status.TheVariants.{WriteFault, TooLong, NoMemory}
-use Rattle.recordings_replay.specs.Keyed.{ReadsKeyFirst, LeavesAll}
-use Rattle.box_command.specs.CheckLines.{check_line}
-use Rattle.box_command.specs.SealLines.{seal_line}
-use Rattle.box_command.specs.KeptBox.{TimedBox}
-use Rattle.box_command.specs.TimedLines.{timed_lines}
-use Rattle.box_command.specs.Recording.{BothTexts, both_with, PrintsBoth}
-use Rattle.link_words.specs.Links.{rules_of, link_profile_of}
-use Rattle.link_words.specs.declared.words.Profile.{Profile}
-use Rattle.link_words.specs.declared.words.Proto.{Proto}
+use Rattle.session_lists.specs.Recordings.{before_mark, behind_mark}
+use Rattle.command_ends.specs.Outside.{Outside}
+use Rattle.command_ends.specs.declared.status.Status.{Status}
+use Rattle.command_ends.specs.declared.status.Status.TheVariants.{Done, BadTicks, ReadFault}
+use Rattle.command_ends.specs.declared.status.Status.TheVariants.{WriteFault, TooLong, NoMemory}
+use Rattle.session_audit.specs.Keyed.{ReadsKeyFirst, LeavesAll}
+use Rattle.line_commands.specs.CheckLines.{check_line}
+use Rattle.line_commands.specs.SealLines.{seal_line}
+use Rattle.line_commands.specs.KeptBox.{TimedBox}
+use Rattle.line_commands.specs.TimedLines.{timed_lines}
+use Rattle.line_commands.specs.Recording.{BothTexts, both_with, PrintsBoth}
+use Rattle.command_ends.specs.Links.{rules_of, link_profile_of}
+use Rattle.command_ends.specs.declared.words.Profile.{Profile}
+use Rattle.command_ends.specs.declared.words.Proto.{Proto}
 
 -- the profile of a box with this setup
 abbrev pub duplex_profile : Proto → Profile → Setup → LinkProfile

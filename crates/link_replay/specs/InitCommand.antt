@@ -7,10 +7,10 @@ use Rattle.yasir_io.specs.Disks.{Slots, NoMore, OneImage}
 use Rattle.sequence_journal.specs.declared.link.LinkId.{LinkId}
 use Rattle.sequence_journal.specs.Slots.{slot_bytes, greatest}
 use Rattle.sequence_journal.specs.Journal.{told_with, MaySet}
-use Rattle.replay_status.specs.Outside.{Outside}
-use Rattle.replay_status.specs.declared.status.Status.{Status}
-use Rattle.replay_status.specs.declared.status.Status.TheVariants.{Done, WriteFault, JournalFault}
-use Rattle.replay_status.specs.declared.status.Status.TheVariants.{HasJournal}
+use Rattle.command_ends.specs.Outside.{Outside}
+use Rattle.command_ends.specs.declared.status.Status.{Status}
+use Rattle.command_ends.specs.declared.status.Status.TheVariants.{Done, WriteFault, JournalFault}
+use Rattle.command_ends.specs.declared.status.Status.TheVariants.{HasJournal}
 
 -- Holds if no slot held a number, slot A holds number 0 for this link now, all other slots are as
 -- they were, and a crash leaves exactly these slots.

@@ -7,11 +7,11 @@ use Rattle.yasir_io.specs.declared.files.FileSource.{FileSource}
 use Rattle.yasir_io.specs.declared.files.FileSlots.{FileSlots}
 use Rattle.yasir_io.specs.declared.files.SlotFile.{SlotFile}
 use Rattle.yasir_io.specs.declared.files.SlotFile.TheVariants.{Standing, New}
-use Rattle.replay_status.specs.Outside.{Outside, outside}
-use Rattle.replay_status.specs.Given.{IsKeyFile, IsJournalFile}
-use Rattle.replay_status.specs.Statuses.{exit_status_of}
-use Rattle.replay_status.specs.declared.status.Status.{Status}
-use Rattle.replay_status.specs.declared.status.Status.TheVariants.{Usage, NoMemory}
+use Rattle.command_ends.specs.Outside.{Outside, outside}
+use Rattle.command_ends.specs.Given.{IsKeyFile, IsJournalFile}
+use Rattle.command_ends.specs.Statuses.{exit_status_of}
+use Rattle.command_ends.specs.declared.status.Status.{Status}
+use Rattle.command_ends.specs.declared.status.Status.TheVariants.{Usage, NoMemory}
 use Rattle.link_replay.specs.declared.words.Command.{Command}
 use Rattle.link_replay.specs.declared.words.Command.TheVariants.{Init}
 use Rattle.link_replay.specs.Words.{key_place, journal_place, word_in}

@@ -1,9 +1,9 @@
 -- A command that prints a text, and does nothing else.
 use Rattle.std.specs.Prelude.{◌≡◌, ℕ, List}
 use Rattle.yasir_io.specs.declared.sink.Sink.{Ghosts as Sink}
-use Rattle.replay_status.specs.Outside.{Outside}
-use Rattle.replay_status.specs.PrintsText.{PrintsText}
-use Rattle.replay_status.specs.declared.status.Status.{Status}
+use Rattle.command_ends.specs.Outside.{Outside}
+use Rattle.command_ends.specs.PrintsText.{PrintsText}
+use Rattle.command_ends.specs.declared.status.Status.{Status}
 
 -- Holds if the text was printed and nothing else was done: nothing was read, no note was written,
 -- and the disk is as it was.

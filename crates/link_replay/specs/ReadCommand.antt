@@ -6,11 +6,11 @@ use Rattle.yasir_ticks.specs.declared.tick.Tick.{Tick}
 use Rattle.device_model.specs.Frames.{FrameRead}
 use Rattle.device_model.specs.DnpReads.{dnp_reads}
 use Rattle.device_model.specs.RtuReads.{rtu_reads}
-use Rattle.device_replay.specs.PrintsFrames.{PrintsFrames}
-use Rattle.replay_status.specs.Outside.{Outside}
-use Rattle.replay_status.specs.declared.status.Status.{Status}
-use Rattle.link_words.specs.declared.words.Proto.{Proto}
-use Rattle.link_words.specs.declared.words.Proto.TheVariants.{Rtu, Dnp3}
+use Rattle.line_commands.specs.PrintsFrames.{PrintsFrames}
+use Rattle.command_ends.specs.Outside.{Outside}
+use Rattle.command_ends.specs.declared.status.Status.{Status}
+use Rattle.command_ends.specs.declared.words.Proto.{Proto}
+use Rattle.command_ends.specs.declared.words.Proto.TheVariants.{Rtu, Dnp3}
 
 -- the frames that the device of a protocol reads from a line
 abbrev pub device_reads : Proto → List Tick → List FrameRead

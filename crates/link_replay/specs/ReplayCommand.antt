@@ -16,23 +16,23 @@ use Rattle.hmac_tag.specs.declared.dir.Dir.{Dir}
 use Rattle.link_format.specs.Profile.{Profile as LinkProfile}
 use Rattle.link_format.specs.Setup.{setup_of}
 use Rattle.sequence_journal.specs.declared.numbers.TheConstants.{LIMIT}
-use Rattle.seal_judgements.specs.Sealing.{sealed}
-use Rattle.link_verdicts.specs.Checking.{passed, received_line}
-use Rattle.replay_lists.specs.Recordings.{before_mark}
-use Rattle.replay_status.specs.Outside.{Outside}
-use Rattle.replay_status.specs.Readable.{IsReadableWith}
-use Rattle.replay_status.specs.declared.status.Status.{Status}
-use Rattle.replay_status.specs.declared.status.Status.TheVariants.{Done}
-use Rattle.recordings_replay.specs.Listing.{Listing, listing_text}
-use Rattle.recordings_replay.specs.Keyed.{ReadsKeyFirst, LeavesAll}
-use Rattle.recordings_replay.specs.Recorded.{IsRecorded, PrintsRecorded, device_line, link_ticks}
-use Rattle.recordings_replay.specs.TellsOf.{TellsOf}
+use Rattle.link_walks.specs.Sealing.{sealed}
+use Rattle.link_walks.specs.Checking.{passed, received_line}
+use Rattle.session_lists.specs.Recordings.{before_mark}
+use Rattle.command_ends.specs.Outside.{Outside}
+use Rattle.command_ends.specs.Readable.{IsReadableWith}
+use Rattle.command_ends.specs.declared.status.Status.{Status}
+use Rattle.command_ends.specs.declared.status.Status.TheVariants.{Done}
+use Rattle.session_audit.specs.Listing.{Listing, listing_text}
+use Rattle.session_audit.specs.Keyed.{ReadsKeyFirst, LeavesAll}
+use Rattle.session_audit.specs.Recorded.{IsRecorded, PrintsRecorded, device_line, link_ticks}
+use Rattle.session_audit.specs.TellsOf.{TellsOf}
 use Rattle.link_replay.specs.ReadCommand.{device_reads}
-use Rattle.box_command.specs.Given.{HasKey}
-use Rattle.box_command.specs.LinkBoxes.{seal_rest}
-use Rattle.link_words.specs.declared.words.Profile.{Profile}
-use Rattle.link_words.specs.declared.words.Proto.{Proto}
-use Rattle.link_words.specs.Links.{rules_of, link_profile_of}
+use Rattle.line_commands.specs.Given.{HasKey}
+use Rattle.line_commands.specs.LinkBoxes.{seal_rest}
+use Rattle.command_ends.specs.declared.words.Profile.{Profile}
+use Rattle.command_ends.specs.declared.words.Proto.{Proto}
+use Rattle.command_ends.specs.Links.{rules_of, link_profile_of}
 
 -- the profile of a link with this key and direction, for boxes that begin with new journals
 abbrev pub replay_profile : Proto → Profile → Dir → List ℕ → LinkProfile

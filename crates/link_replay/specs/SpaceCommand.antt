@@ -8,15 +8,15 @@ use Rattle.tick_drive.specs.declared.end.End.TheVariants.{Whole}
 use Rattle.line_spacer.specs.Spacing.{accepted_of}
 use Rattle.spacer_laws.specs.Leaving.{HaveLeft}
 use Rattle.line_texts.specs.Sending.{LineAndNotes, SinkTexts, sink_texts, HasSent}
-use Rattle.replay_status.specs.Outside.{Outside}
-use Rattle.replay_status.specs.declared.status.Status.{Status}
-use Rattle.replay_status.specs.declared.status.Status.TheVariants.{Done, NoMemory}
-use Rattle.space_replay.specs.SpacedTexts.{spaced_texts, most_waiting}
-use Rattle.space_replay.specs.SpacesLine.{SpacesLine, space_rest}
+use Rattle.command_ends.specs.Outside.{Outside}
+use Rattle.command_ends.specs.declared.status.Status.{Status}
+use Rattle.command_ends.specs.declared.status.Status.TheVariants.{Done, NoMemory}
+use Rattle.line_commands.specs.SpacedTexts.{spaced_texts, most_waiting}
+use Rattle.line_commands.specs.SpacesLine.{SpacesLine, space_rest}
 use Rattle.link_replay.specs.ReadCommand.{device_reads}
-use Rattle.link_words.specs.declared.words.Profile.{Profile}
-use Rattle.link_words.specs.Links.{gap_of}
-use Rattle.link_words.specs.declared.words.Proto.{Proto}
+use Rattle.command_ends.specs.declared.words.Profile.{Profile}
+use Rattle.command_ends.specs.Links.{gap_of}
+use Rattle.command_ends.specs.declared.words.Proto.{Proto}
 
 -- what `space` makes of a line: the spaced line, and the lines of the frames that are lost
 abbrev pub spaced_by : Proto → Profile → LineAndNotes

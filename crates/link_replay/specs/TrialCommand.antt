@@ -3,8 +3,8 @@ use Rattle.std.specs.Prelude.{ℕ}
 use Rattle.yasir_io.specs.declared.sink.Sink.{Ghosts as Sink}
 use Rattle.link_format.specs.Profile.{Profile as LinkProfile}
 use Rattle.sequence_journal.specs.declared.numbers.TheConstants.{LIMIT}
-use Rattle.replay_status.specs.Outside.{Outside}
-use Rattle.replay_status.specs.declared.status.Status.{Status}
+use Rattle.command_ends.specs.Outside.{Outside}
+use Rattle.command_ends.specs.declared.status.Status.{Status}
 use Rattle.trial_session.specs.Boxes.{trial_setup}
 use Rattle.trial_session.specs.DnpDrawn.{dnp_drawing}
 use Rattle.trial_session.specs.DrawnFrames.{Drawing}
@@ -13,13 +13,13 @@ use Rattle.trial_session.specs.Summaries.{trial_summary}
 use Rattle.trial_session.specs.Telling.{Tells}
 use Rattle.trial_session.specs.TrialLine.{trial_line}
 use Rattle.trial_session.specs.declared.summary.Summary.{Summary}
-use Rattle.link_words.specs.Links.{rules_of, link_profile_of}
+use Rattle.command_ends.specs.Links.{rules_of, link_profile_of}
 use Rattle.link_replay.specs.Printing.{Prints}
 use Rattle.link_replay.specs.ReadCommand.{device_reads}
-use Rattle.link_words.specs.Words.{link_word}
-use Rattle.link_words.specs.declared.words.Profile.{Profile}
-use Rattle.link_words.specs.declared.words.Proto.{Proto}
-use Rattle.link_words.specs.declared.words.Proto.TheVariants.{Rtu, Dnp3}
+use Rattle.command_ends.specs.Words.{link_word}
+use Rattle.command_ends.specs.declared.words.Profile.{Profile}
+use Rattle.command_ends.specs.declared.words.Proto.{Proto}
+use Rattle.command_ends.specs.declared.words.Proto.TheVariants.{Rtu, Dnp3}
 
 -- how the frames of a protocol are drawn
 abbrev pub drawing_of : Proto → Drawing

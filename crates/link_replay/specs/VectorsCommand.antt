@@ -4,8 +4,8 @@ use Rattle.yasir_io.specs.declared.sink.Sink.{Ghosts as Sink}
 use Rattle.vectors.specs.Cases.{answer}
 use Rattle.vectors.specs.Tables.{crc_cases, hmac_cases, frames_cases, user_cases}
 use Rattle.vectors.specs.declared.table.Miss.{Miss}
-use Rattle.replay_status.specs.Outside.{Outside}
-use Rattle.replay_status.specs.declared.status.Status.{Status}
+use Rattle.command_ends.specs.Outside.{Outside}
+use Rattle.command_ends.specs.declared.status.Status.{Status}
 use Rattle.link_replay.specs.Printing.{Prints}
 
 -- the line of a table: `NAME N ok`, or `NAME miss ROW` with the first row that isn't right

@@ -2,7 +2,7 @@
 use crate::commands::about::HELP_PAGE;
 use crate::read_words;
 use crate::running::{Ends, KEY, Ran, ended, plan, run_words, words_of};
-use replay_status::Status;
+use command_ends::Status;
 use std::alloc::Global;
 use std::process::Abort;
 use std::str;

@@ -3,7 +3,7 @@
 use crate::running::{Ends, KEY, ended, has_key, plan, run_words, words_of};
 use crate::tests::run_over_text;
 use crate::{Command, Dir, Profile, Proto, read_words};
-use replay_status::{Status, Unclean};
+use command_ends::{Status, Unclean};
 use std::alloc::Global;
 use std::process::Abort;
 use std::test::Fail;

@@ -2,7 +2,7 @@
 //! moves at most ten bytes. What such a run leaves is a part of what a whole run leaves.
 use crate::running::{Ends, KEY, Ran, ended, has_slots, plan, run_words};
 use crate::tests::{CHECK, INIT, READ, Row, SEAL, VECTORS, disk_of, slots_at};
-use replay_status::Status;
+use command_ends::Status;
 use std::alloc::{AllocError, Global};
 use std::process::Abort;
 use std::test::Fail;

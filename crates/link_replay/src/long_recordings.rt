@@ -1,7 +1,7 @@
 //! Two recordings of many frames, whose lists have to grow many times.
 use crate::run;
 use crate::running::{KEY, Ran, has_status, plan, words_of};
-use replay_status::Status;
+use command_ends::Status;
 use sequence_journal::{LinkId, slot_of};
 use std::alloc::Global;
 use std::process::Abort;

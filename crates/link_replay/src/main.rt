@@ -32,11 +32,10 @@ mod tests;
 mod trial_tests;
 mod words;
 
+pub use command_ends::{NOT_GIVEN, Profile, Proto, Usage};
 pub use hmac_tag::Dir;
-pub use link_words::{Profile, Proto, Usage};
 pub use over_files::run_over_files;
 pub use program::run;
-pub use replay_status::NOT_GIVEN;
 use std::process::ExitCode;
 pub use words::{Command, journal_word, key_word, makes_journal, read_words};
 use yasir_io::{StderrSink, StdinSource, StdoutSink};

@@ -2,14 +2,14 @@
 //! words.
 ghost use Rattle.std.specs.Prelude.{◌≡◌, Option, IfOk, OnErr, IsErr, map, option_map};
 ghost use Rattle.std.specs.String.{string_bytes};
-ghost use Rattle.replay_status.specs.Given.{words_after, IsKeyFile, IsJournalFile};
+ghost use Rattle.command_ends.specs.Given.{words_after, IsKeyFile, IsJournalFile};
 ghost use Rattle.link_replay.specs.declared.words.Command.{Command};
 ghost use Rattle.link_replay.specs.Words.{Asks, word_in, key_place, journal_place};
 ghost use Rattle.link_replay.specs.OverFiles.{path_in, journal_kind, streams, RunsOverFiles};
 ghost use Rattle.link_replay.specs.OverFiles.{EndsOverFiles};
 
 use crate::{journal_word, key_word, makes_journal, run};
-use replay_status::{NOT_GIVEN, Status, take_places, words_after_name};
+use command_ends::{NOT_GIVEN, Status, take_places, words_after_name};
 use std::alloc::AllocError;
 use std::env::Args;
 use std::io;

@@ -1,8 +1,8 @@
 //! The program over the ends that it is handed: it reads its words, and does what they ask for.
 ghost use Rattle.std.specs.Prelude.{◌≡◌, ◌↔◌, Option, Some, None, map};
 ghost use Rattle.std.specs.String.{string_bytes};
-ghost use Rattle.replay_status.specs.Ends.{outside_before, outside_after};
-ghost use Rattle.replay_status.specs.Outside.{outside};
+ghost use Rattle.command_ends.specs.Ends.{outside_before, outside_after};
+ghost use Rattle.command_ends.specs.Outside.{outside};
 ghost use Rattle.link_replay.specs.declared.words.Command.{Command};
 ghost use Rattle.link_replay.specs.Words.{Asks, AreFloors};
 ghost use Rattle.link_replay.specs.Commands.{Does, Runs, KeepsDisk, MayDo, IsCalm, EndsWell};
@@ -20,7 +20,7 @@ use crate::commands::space::space;
 use crate::commands::tables::print_tables;
 use crate::commands::trial::try_link;
 use crate::{Command, read_words};
-use replay_status::{Ends, Status, write_fault};
+use command_ends::{Ends, Status, write_fault};
 use std::alloc::Global;
 use yasir_io::{Sink, SlotDisk, Source};
 

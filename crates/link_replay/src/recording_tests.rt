@@ -1,7 +1,7 @@
 //! Tests of `replay` over recordings with an attacker, and over ends that fail.
 use crate::running::{Ends, KEY, ended, plan, run_words};
 use crate::tests::run_over_text;
-use replay_status::Status;
+use command_ends::Status;
 use std::alloc::Global;
 use std::process::Abort;
 use std::test::Fail;

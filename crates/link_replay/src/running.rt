@@ -2,7 +2,7 @@
 //! these functions. The tests borrow their tables, since copying one makes the proof of a test up
 //! to a minute and a half longer.
 use crate::{Command, Usage, key_word, read_words, run};
-use replay_status::Status;
+use command_ends::Status;
 use std::alloc::{AllocError, Global};
 use std::process::Abort;
 use std::test::Fail;

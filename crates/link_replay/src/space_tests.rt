@@ -3,7 +3,7 @@
 use crate::running::{Ran, asks, ended, words_of};
 use crate::tests::run_over_text;
 use crate::{Command, Profile, Proto};
-use replay_status::Status;
+use command_ends::Status;
 use std::alloc::Global;
 use std::test::Fail;
 use yasir_ticks::{BadTicks, TickFault};

@@ -1,7 +1,7 @@
 //! Tests of the program's words, and of the commands `read`, `vectors`, `init`, `seal` and `check`.
 use crate::running::{Ends, KEY, Ran, asks, ended, has_key, has_slots, plan, run_words, words_of};
 use crate::{Command, Dir, Profile, Proto, Usage, journal_word, makes_journal};
-use replay_status::Status;
+use command_ends::Status;
 use sequence_journal::{LIMIT, LinkId, slot_of};
 use std::alloc::{AllocError, Global};
 use std::process::Abort;

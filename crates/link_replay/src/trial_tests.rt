@@ -3,7 +3,7 @@
 use crate::running::{asks, ended, push_word, words_of};
 use crate::tests::run_over_text;
 use crate::{Command, Profile, Proto, read_words};
-use replay_status::Status;
+use command_ends::Status;
 use std::alloc::{AllocError, Global};
 use std::process::Abort;
 use std::test::Fail;

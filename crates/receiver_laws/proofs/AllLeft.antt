@@ -1,16 +1,17 @@
 -- After a link has ended, all has left once the delay is over, and one more tick for each byte that
 -- its last burst lacks.
-use Rattle.burst_walk.proofs.Emissions.{tick_at-none, laid-more}
-use Rattle.burst_walk.proofs.Spread.{AreSpread, EndBy, bursts-spread, bursts-end}
-use Rattle.burst_walk.proofs.Walks.{before-early}
-use Rattle.burst_walk.specs.{Causal.IsCausal, Laid.tick_at, Laid.laid}
-use Rattle.burst_walk.specs.Walk.{Walker, Noted, noted, walked, emitted, state_after, notes_before}
+use Rattle.frame_ending.proofs.Emissions.{tick_at-none, laid-more}
+use Rattle.frame_ending.proofs.Spread.{AreSpread, EndBy, bursts-spread, bursts-end}
+use Rattle.frame_ending.proofs.Walks.{before-early}
+use Rattle.frame_ending.specs.{Causal.IsCausal, Laid.tick_at, Laid.laid}
+use Rattle.frame_ending.specs.Walk.{Walker, Noted, noted, walked, emitted, state_after, notes_before}
 use Rattle.device_model.specs.Frames.{FrameRead}
 use Rattle.line_rules.specs.{Rules.Rules, RulesLaws.IsLawful, RulesLaws.IsHeaded}
 use Rattle.link_format.specs.Profile.{Profile, delay}
-use Rattle.link_verdicts.proofs.{Causality.checker-causal, Past.past}
-use Rattle.link_verdicts.specs.Checking.{FullNote, checker, at_floor, passed, received_line}
-use Rattle.link_verdicts.specs.{Timely.IsTimely, Verdicts.CheckState}
+use Rattle.link_walks.proofs.CheckCausality.{checker-causal}
+use Rattle.link_walks.proofs.Past.{past}
+use Rattle.link_walks.specs.Checking.{FullNote, checker, at_floor, passed, received_line}
+use Rattle.link_walks.specs.{Timely.IsTimely, Verdicts.CheckState}
 use Rattle.receiver_laws.proofs.{InStep.free-by, Notes.frames_in, Recovering.left-by}
 use Rattle.receiver_laws.specs.AllLeft.{HasAllLeft, ReadsAllThatPassed}
 use Rattle.receiver_laws.specs.{Reading.ReadsWhatPassed, Reading.delivered, Recovery.LackAtMost}

@@ -1,8 +1,8 @@
 -- What a causal walk notes before the end of a line doesn't change when the line goes on. So a
 -- burst that the end cuts off isn't noted.
-use Rattle.burst_walk.proofs.Walks.{adds_one_tick, before-early, before-late}
-use Rattle.burst_walk.specs.Causal.{IsCausal}
-use Rattle.burst_walk.specs.Walk.{Walker, Noted, walked, notes_before, notes_at, notes_of}
+use Rattle.frame_ending.proofs.Walks.{adds_one_tick, before-early, before-late}
+use Rattle.frame_ending.specs.Causal.{IsCausal}
+use Rattle.frame_ending.specs.Walk.{Walker, Noted, walked, notes_before, notes_at, notes_of}
 use Rattle.std.proofs.Common.{◌≡◌, ◌∙◌, ◌==◌, ℕ, ◌+◌, ◌≤◌, nat_lt, List, [], ◌∷◌, ◌++◌, length}
 use Rattle.std.proofs.Common.{refl, sym, ap, arith, ⊎_elim, append_assoc, length-append}
 use Rattle.std.proofs.lemmas.Bool.{cases_lt, cases_Bool, cond-true, cond-false, eqb-true}

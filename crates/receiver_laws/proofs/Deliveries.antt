@@ -1,15 +1,15 @@
 -- An untouched link delivers all.
-use Rattle.burst_walk.proofs.{LaidBursts.bursts-laid, LaidBursts.laid-later, Spread.EndBy}
-use Rattle.burst_walk.{proofs.Spread.bursts-spread, proofs.Spread.bursts-end, specs.Laid.laid}
-use Rattle.burst_walk.specs.{Laid.later, Laid.tick_at, Walk.walked, Walk.emitted, Walk.notes_before}
+use Rattle.frame_ending.proofs.{LaidBursts.bursts-laid, LaidBursts.laid-later, Spread.EndBy}
+use Rattle.frame_ending.{proofs.Spread.bursts-spread, proofs.Spread.bursts-end, specs.Laid.laid}
+use Rattle.frame_ending.specs.{Laid.later, Laid.tick_at, Walk.walked, Walk.emitted, Walk.notes_before}
 use Rattle.line_rules.specs.{Rules.Rules, RulesLaws.IsLawful, RulesLaws.IsFramed}
 use Rattle.link_format.specs.Profile.{Profile, HasTags, pause_len, trailer_len, delay}
-use Rattle.link_verdicts.specs.Checking.{checker, at_floor as check_floor}
+use Rattle.link_walks.specs.Checking.{checker, at_floor as check_floor}
 use Rattle.receiver_laws.proofs.{Delivering.PassesAll, Delivering.passes-all, Notes.frames_in}
 use Rattle.receiver_laws.proofs.Packing.{packets, packets-spread, packets-end, SealsAll, seals-all}
 use Rattle.receiver_laws.specs.Untouched.{IsUntouched, DeliversAll, untouched}
-use Rattle.seal_judgements.proofs.Numbers.{frames_in as sealed_frames}
-use Rattle.seal_judgements.specs.Sealing.{sealer, at_floor as seal_floor, link_line}
+use Rattle.link_walks.proofs.SealNumbers.{frames_in as sealed_frames}
+use Rattle.link_walks.specs.Sealing.{sealer, at_floor as seal_floor, link_line}
 use Rattle.std.proofs.Common.{◌≡◌, ◌∙◌, ℕ, ◌+◌, ◌-◌, ◌≤◌, List, [], ◌∷◌, ◌++◌, length, map, refl}
 use Rattle.std.proofs.Common.{sym, ap, subst, arith, length-append}
 use Rattle.std.proofs.lemmas.List.{length-replicate, FromFn.length-map-range_with_len}

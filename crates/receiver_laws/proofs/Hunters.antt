@@ -1,7 +1,7 @@
 -- If the hunt takes each burst that leaves the receiver as a whole, a device that hunts reads the
 -- frames among those that have wholly left.
-use Rattle.burst_walk.{proofs.LaidBursts.bursts-laid, proofs.Spread.AreSpread, specs.Laid.tick_at}
-use Rattle.{burst_walk.specs.Laid.laid, device_model.proofs.HuntCases.found-whole}
+use Rattle.frame_ending.{proofs.LaidBursts.bursts-laid, proofs.Spread.AreSpread, specs.Laid.tick_at}
+use Rattle.{frame_ending.specs.Laid.laid, device_model.proofs.HuntCases.found-whole}
 use Rattle.device_model.proofs.{HuntCases.hunt-cut, Hunts.hunt-whole, Hunts.timed_bytes-length}
 use Rattle.device_model.proofs.ReadLaws.{frames_ended, frames_ended-append, frames_ended-ended}
 use Rattle.device_model.specs.Frames.{FrameRead}

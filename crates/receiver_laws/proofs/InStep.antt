@@ -1,27 +1,27 @@
 -- The receiver's walk over packets and the transmitter's walk over the bursts of these packets,
 -- side by side: each packet finds the receiver free, with a number above the receiver's floor.
-use Rattle.burst_walk.proofs.{Spread.AreSpread, Walks.before-early}
-use Rattle.burst_walk.specs.Walk.{Noted, walked, emitted, notes_before, state_after}
+use Rattle.frame_ending.proofs.{Spread.AreSpread, Walks.before-early}
+use Rattle.frame_ending.specs.Walk.{Noted, walked, emitted, notes_before, state_after}
 use Rattle.frame_ending.{proofs.LiveTicks.live_end-whole, specs.LiveBytes.live_bytes}
 use Rattle.{frame_ending.specs.LiveBytes.has_extra, line_rules.specs.Rules.Rules}
 use Rattle.line_rules.specs.{Rules.lacking_of, Rules.lacking_by, RulesLaws.IsLawful, RulesLaws.IsFramed}
 use Rattle.link_format.proofs.Profiles.{length-trailer, word_of-trailer}
 use Rattle.link_format.specs.{NumberedFrame.last_number, Profile.Profile}
 use Rattle.link_format.specs.Profile.{HasTags, pause_len, trailer_len, trailer, words, word_of}
-use Rattle.link_verdicts.proofs.Passing.{passed-passing, number-within}
-use Rattle.link_verdicts.proofs.Settling.{trailer_tick-soon}
-use Rattle.link_verdicts.specs.Checking.{FullNote, state_by, note_by, note_tick, checker}
-use Rattle.link_verdicts.specs.{Checking.start_after, Emissions.owed}
-use Rattle.link_verdicts.specs.Verdicts.{CheckState, Verdict, trailer_of, checked}
-use Rattle.link_verdicts.specs.Verdicts.Verdict.{passed_with, refused, dropped}
+use Rattle.link_walks.proofs.Passing.{passed-passing, number-within}
+use Rattle.link_walks.proofs.Settling.{trailer_tick-soon}
+use Rattle.link_walks.specs.Checking.{FullNote, state_by, note_by, note_tick, checker}
+use Rattle.link_walks.specs.{Checking.start_after, Emissions.owed}
+use Rattle.link_walks.specs.Verdicts.{CheckState, Verdict, trailer_of, checked}
+use Rattle.link_walks.specs.Verdicts.Verdict.{passed_with, refused, dropped}
 use Rattle.receiver_laws.proofs.Delivering.{packet-bytes, packet-ticks, packet-after}
 use Rattle.receiver_laws.proofs.{Notes.frames_in, Notes.unnoted, Packing.packet}
 use Rattle.receiver_laws.proofs.Sending.{IsSealed, sealed-is}
 use Rattle.receiver_laws.proofs.Standing.{byte_ticks, bytes_in-byte_ticks}
-use Rattle.seal_judgements.specs.Sealing.{SealState, Judgement, judged, sealer, state_by as seal_by}
-use Rattle.seal_judgements.specs.Sealing.{emission_by as sent_by}
-use Rattle.seal_judgements.specs.Sealing.Judgement.{sealed_with, unsealed}
-use Rattle.seal_judgements.specs.declared.note.UnsealedWhy.TheVariants.{Early}
+use Rattle.link_walks.specs.Sealing.{SealState, Judgement, judged, sealer, state_by as seal_by}
+use Rattle.link_walks.specs.Sealing.{emission_by as sent_by}
+use Rattle.link_walks.specs.Sealing.Judgement.{sealed_with, unsealed}
+use Rattle.link_walks.specs.declared.seal_note.UnsealedWhy.TheVariants.{Early}
 use Rattle.sequence_journal.{proofs.NumberLaws.least-is, specs.Numbers.least_with}
 use Rattle.std.proofs.Common.{◌≡◌, ◌∙◌, ◌⊎◌, ℕ, ◌+◌, ◌-◌, ◌%◌, ◌<◌, ◌≤◌, List, [], ◌∷◌, ◌++◌}
 use Rattle.std.proofs.Common.{length, take, drop, refl, sym, ap, subst, arith, ⊎_elim, true, false}

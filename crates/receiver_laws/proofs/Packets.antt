@@ -1,15 +1,15 @@
 -- A whole packet that is on a link is among the frames that pass.
-use Rattle.burst_walk.proofs.Spread.{EndBy, bursts-end}
-use Rattle.burst_walk.proofs.Walks.{walked-append, before-early}
-use Rattle.burst_walk.specs.Walk.{Noted, walked, state_after, notes_before}
+use Rattle.frame_ending.proofs.Spread.{EndBy, bursts-end}
+use Rattle.frame_ending.proofs.Walks.{walked-append, before-early}
+use Rattle.frame_ending.specs.Walk.{Noted, walked, state_after, notes_before}
 use Rattle.frame_ending.specs.LiveBytes.{live_bytes, live_end}
 use Rattle.line_rules.specs.{Rules.Rules, RulesLaws.IsFramed}
 use Rattle.link_format.{proofs.Profiles.length-trailer, specs.NumberedFrame.NumberedFrame}
 use Rattle.link_format.specs.Profile.{Profile, HasTags, pause_len, trailer_len, trailer}
-use Rattle.link_verdicts.proofs.{Packets.packet-passes, Settling.after-long}
-use Rattle.link_verdicts.specs.Checking.{FullNote, note_tick, note_by, state_by, checker, at_floor}
-use Rattle.link_verdicts.specs.{Checking.passed_in, Checking.passed, Packet.IsPacket}
-use Rattle.link_verdicts.specs.Verdicts.{CheckState, after_live, checked, Verdict.passed_with}
+use Rattle.link_walks.proofs.{Packets.packet-passes, Settling.after-long}
+use Rattle.link_walks.specs.Checking.{FullNote, note_tick, note_by, state_by, checker, at_floor}
+use Rattle.link_walks.specs.{Checking.passed_in, Checking.passed, Packet.IsPacket}
+use Rattle.link_walks.specs.Verdicts.{CheckState, after_live, checked, Verdict.passed_with}
 use Rattle.receiver_laws.proofs.{Notes.frames_in, Standing.byte_ticks}
 use Rattle.receiver_laws.specs.Standing.{numbered_frame}
 use Rattle.std.proofs.Common.{◌≡◌, ◌∙◌, ℕ, ◌+◌, ◌<◌, ◌≤◌, List, [], ◌∷◌, ◌++◌, length, refl, sym}

@@ -1,15 +1,16 @@
 -- The transmitter makes of spaced frames the packets of all of them.
-use Rattle.burst_walk.proofs.{Spread.AreSpread, Spread.EndBy, Walks.before-early}
-use Rattle.burst_walk.specs.Walk.{Noted, walked, emitted, notes_before}
+use Rattle.frame_ending.proofs.{Spread.AreSpread, Spread.EndBy, Walks.before-early}
+use Rattle.frame_ending.specs.Walk.{Noted, walked, emitted, notes_before}
 use Rattle.frame_ending.proofs.LiveTicks.{live_ticks-whole}
 use Rattle.frame_ending.specs.LiveBytes.{live_bytes, live_ticks, has_extra}
 use Rattle.line_rules.specs.{Rules.Rules, RulesLaws.IsLawful}
 use Rattle.link_format.{proofs.Profiles.length-trailer, specs.NumberedFrame.NumberedFrame}
 use Rattle.link_format.specs.Profile.{Profile, HasTags, pause_len, trailer_len, trailer}
 use Rattle.receiver_laws.specs.Untouched.{AreSpaced, numbered}
-use Rattle.seal_judgements.proofs.{Causality.judge_by, Causality.judged-is, Numbers.frames_in}
-use Rattle.seal_judgements.specs.Sealing.{SealState, FullNote, judged, state_by, note_by, forwarded}
-use Rattle.seal_judgements.specs.Sealing.{trailing, emission_by, sealer, Judgement.sealed_with}
+use Rattle.link_walks.proofs.SealCausality.{judge_by, judged-is}
+use Rattle.link_walks.proofs.SealNumbers.{frames_in}
+use Rattle.link_walks.specs.Sealing.{SealState, FullNote, judged, state_by, note_by, forwarded}
+use Rattle.link_walks.specs.Sealing.{trailing, emission_by, sealer, Judgement.sealed_with}
 use Rattle.std.proofs.Common.{◌≡◌, ◌∙◌, ◌==◌, ℕ, suc, ◌+◌, ◌<◌, ◌≤◌, nat_lt, ◌||◌, true, false, not}
 use Rattle.std.proofs.Common.{List, [], ◌∷◌, ◌++◌, length, map, refl, sym, ap, subst, arith}
 use Rattle.std.proofs.Common.{append_assoc, length-append}

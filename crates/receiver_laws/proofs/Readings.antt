@@ -1,7 +1,7 @@
 -- A device behind the receiver reads only what passed.
-use Rattle.burst_walk.proofs.Spread.{AreSpread, EndBy, bursts-spread, bursts-end}
-use Rattle.burst_walk.{proofs.Walks.before-early, specs.Longer.Begins}
-use Rattle.burst_walk.specs.Walk.{Noted, walked, emitted, notes_before}
+use Rattle.frame_ending.proofs.Spread.{AreSpread, EndBy, bursts-spread, bursts-end}
+use Rattle.frame_ending.{proofs.Walks.before-early, specs.Longer.Begins}
+use Rattle.frame_ending.specs.Walk.{Noted, walked, emitted, notes_before}
 use Rattle.device_model.proofs.ReadLaws.{frames_ended, frames_ended-append, frames_ended-open}
 use Rattle.device_model.proofs.ReadLaws.{frames_ended-ended}
 use Rattle.device_model.specs.{Frames.FrameRead, RtuReads.frame_in}
@@ -9,13 +9,14 @@ use Rattle.frame_ending.proofs.LiveTicks.{live_ticks-bytes, live_end-within}
 use Rattle.frame_ending.specs.LiveBytes.{live_bytes, live_ticks, live_end}
 use Rattle.line_rules.specs.{Rules.Rules, RulesLaws.IsLawful}
 use Rattle.link_format.specs.Profile.{Profile, delay}
-use Rattle.link_verdicts.proofs.Apart.{emissions-spread}
-use Rattle.link_verdicts.specs.Checking.{FullNote, note_tick, state_by, note_by, checker, at_floor}
-use Rattle.link_verdicts.specs.Checking.{received_line}
-use Rattle.link_verdicts.specs.Emissions.{spoiled, filled_ticks, delayed, emission_by}
-use Rattle.link_verdicts.specs.Verdicts.{CheckState, Verdict, checked}
-use Rattle.link_verdicts.specs.Verdicts.Verdict.{passed_with, refused, dropped}
-use Rattle.link_verdicts.specs.declared.note.{DroppedWhy.DroppedWhy, RefusedWhy.RefusedWhy}
+use Rattle.link_walks.proofs.Apart.{emissions-spread}
+use Rattle.link_walks.specs.Checking.{FullNote, note_tick, state_by, note_by, checker, at_floor}
+use Rattle.link_walks.specs.Checking.{received_line}
+use Rattle.link_walks.specs.Emissions.{spoiled, filled_ticks, delayed, emission_by}
+use Rattle.link_walks.specs.Verdicts.{CheckState, Verdict, checked}
+use Rattle.link_walks.specs.Verdicts.Verdict.{passed_with, refused, dropped}
+use Rattle.link_walks.specs.declared.check_note.DroppedWhy.{DroppedWhy}
+use Rattle.link_walks.specs.declared.check_note.RefusedWhy.{RefusedWhy}
 use Rattle.receiver_laws.proofs.Notes.{frames_in, unnoted}
 use Rattle.receiver_laws.specs.Reading.{delivered, delivered_of, ReadsWhatPassed}
 use Rattle.std.proofs.Common.{◌≡◌, ◌∙◌, ℕ, ◌+◌, ◌<◌, ◌≤◌, Bool, true, false, cond, List, [], ◌∷◌}

@@ -1,16 +1,17 @@
 -- What the transmitter makes of each burst of the device's line: which bursts are sealed, and what
 -- they emit.
-use Rattle.burst_walk.proofs.Walks.{before-early, before-late}
-use Rattle.burst_walk.specs.Walk.{Noted, walked, emitted, notes_before, state_after}
+use Rattle.frame_ending.proofs.Walks.{before-early, before-late}
+use Rattle.frame_ending.specs.Walk.{Noted, walked, emitted, notes_before, state_after}
 use Rattle.frame_ending.specs.LiveBytes.{live_bytes, has_extra}
 use Rattle.line_rules.specs.Rules.{Rules}
 use Rattle.link_format.specs.{NumberedFrame.NumberedFrame, Profile.Profile}
 use Rattle.receiver_laws.{proofs.Packing.packet, specs.Standing.numbered_frame}
-use Rattle.seal_judgements.proofs.{Causality.judge_by, Causality.judged-is, Numbers.frames_in}
-use Rattle.seal_judgements.specs.Sealing.{SealState, FullNote, Judgement, judged, state_by, note_by}
-use Rattle.seal_judgements.specs.Sealing.{forwarded, emission_by, sealer}
-use Rattle.seal_judgements.specs.Sealing.Judgement.{sealed_with, unsealed}
-use Rattle.seal_judgements.specs.declared.note.UnsealedWhy.TheVariants.{Early, Form, Spent}
+use Rattle.link_walks.proofs.SealCausality.{judge_by, judged-is}
+use Rattle.link_walks.proofs.SealNumbers.{frames_in}
+use Rattle.link_walks.specs.Sealing.{SealState, FullNote, Judgement, judged, state_by, note_by}
+use Rattle.link_walks.specs.Sealing.{forwarded, emission_by, sealer}
+use Rattle.link_walks.specs.Sealing.Judgement.{sealed_with, unsealed}
+use Rattle.link_walks.specs.declared.seal_note.UnsealedWhy.TheVariants.{Early, Form, Spent}
 use Rattle.std.proofs.Common.{◌≡◌, ◌∙◌, ◌==◌, ◌⊎◌, inl, inr, ℕ, zero, suc, ◌+◌, ◌≤◌, nat_lt, Bool}
 use Rattle.std.proofs.Common.{true, false, not, ◌||◌, List, [], ◌∷◌, ◌++◌, drop, refl, sym, ap}
 use Rattle.std.proofs.Common.{subst, arith, ⊎_elim, get_or}

@@ -1,8 +1,8 @@
 -- What is read of a line doesn't change when the line goes on. So what is read of a line on which
 -- emissions are laid is what is read of the emissions.
-use Rattle.burst_walk.proofs.{Emissions.laid-more, LaidBursts.bursts-laid}
-use Rattle.burst_walk.proofs.Spread.{AreSpread, EndBy, bursts_from-end}
-use Rattle.burst_walk.specs.Laid.{tick_at, laid}
+use Rattle.frame_ending.proofs.{Emissions.laid-more, LaidBursts.bursts-laid}
+use Rattle.frame_ending.proofs.Spread.{AreSpread, EndBy, bursts_from-end}
+use Rattle.frame_ending.specs.Laid.{tick_at, laid}
 use Rattle.device_model.proofs.ReadLaws.{frames_read-append, frames_read-open}
 use Rattle.device_model.specs.{Frames.FrameRead, RtuReads.frames_read}
 use Rattle.std.proofs.Common.{◌≡◌, ◌∙◌, ℕ, zero, suc, ◌+◌, ◌-◌, ◌<◌, ◌≤◌, List, [], ◌∷◌, ◌++◌}

@@ -1,6 +1,6 @@
 -- What a DNP3 device reads of small lines of the receiver. The tags are a stand-in for those of
 -- HMAC.
-use Rattle.burst_walk.specs.Laid.{tick_at}
+use Rattle.frame_ending.specs.Laid.{tick_at}
 use Rattle.device_model.specs.{DnpReads.dnp_reads, Frames.FrameRead, Hunt.hunt}
 use Rattle.dnp_link_frame.specs.Blocks.{room_by, begins_right, is_good_header, end_in_crcs}
 use Rattle.dnp_link_frame.specs.Blocks.{block_start, is_frame, has_right_ending}
@@ -8,8 +8,8 @@ use Rattle.dnp_link_frame.specs.Rules.{dnp_rules}
 use Rattle.frame_ending.specs.LiveBytes.{before_pause, up_to_byte}
 use Rattle.line_rules.specs.Crc.{crc, byte_step, bit_steps, bit_step}
 use Rattle.{line_rules.specs.Endings.ends_in_check, link_format.specs.Profile.Profile}
-use Rattle.link_verdicts.specs.{Checking.received_line, Emissions.spoiled, Shapes.kept}
-use Rattle.link_verdicts.specs.Verdicts.{verdict_of, checked}
+use Rattle.link_walks.specs.{Checking.received_line, Emissions.spoiled, Shapes.kept}
+use Rattle.link_walks.specs.Verdicts.{verdict_of, checked}
 use Rattle.std.proofs.Common.{◌≡◌, ℕ, List, [], ◌∷◌, ◌++◌, map, take, replicate, refl}
 use Rattle.yasir_ticks.specs.{Bursts.bursts_from, Bursts.with_byte, Ticks.silent}
 use Rattle.yasir_ticks.specs.declared.tick.Tick.{Tick, TheVariants.Byte}

@@ -1,6 +1,6 @@
 -- Why a device must be a member of its family: links on which nothing passes, and what devices with
 -- other cuts and gaps would read behind the receiver.
-use Rattle.burst_walk.specs.Laid.{tick_at}
+use Rattle.frame_ending.specs.Laid.{tick_at}
 use Rattle.device_model.specs.{Hunt.hunt, HuntFamily.dnp_family_reads, RtuFamily.rtu_family_reads}
 use Rattle.{device_model.specs.RtuReads.has_silence, dnp_link_frame.specs.Blocks.room_by}
 use Rattle.dnp_link_frame.specs.Blocks.{begins_right, is_good_header, end_in_crcs, block_start}
@@ -9,8 +9,8 @@ use Rattle.frame_ending.specs.LiveBytes.{before_pause, up_to_byte}
 use Rattle.line_rules.specs.Crc.{crc, byte_step, bit_steps, bit_step}
 use Rattle.line_rules.specs.{Endings.ends_in_check, Rules.Rules}
 use Rattle.link_format.specs.Profile.{Profile}
-use Rattle.link_verdicts.specs.{Checking.passed, Checking.received_line, Emissions.spoiled}
-use Rattle.link_verdicts.specs.{Shapes.kept, Verdicts.verdict_of, Verdicts.checked}
+use Rattle.link_walks.specs.{Checking.passed, Checking.received_line, Emissions.spoiled}
+use Rattle.link_walks.specs.{Shapes.kept, Verdicts.verdict_of, Verdicts.checked}
 use Rattle.rtu_frame.specs.Frame.{is_frame as is_rtu_frame, has_right_ending as ends_rightly}
 use Rattle.rtu_frame.specs.Rules.{rtu_rules}
 use Rattle.std.proofs.Common.{◌≡◌, ℕ, List, [], ◌∷◌, ◌++◌, map, refl}

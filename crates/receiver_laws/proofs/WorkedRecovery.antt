@@ -2,7 +2,7 @@
 -- can lack 282 bytes, so packets are due from 300 ticks after the first of the silent ticks on. For
 -- each condition of the law there is a line on which only that condition doesn't hold, and the
 -- packet doesn't pass.
-use Rattle.burst_walk.specs.{Laid.tick_at, Walk.Noted}
+use Rattle.frame_ending.specs.{Laid.tick_at, Walk.Noted}
 use Rattle.device_model.specs.{DnpReads.dnp_reads, Hunt.hunt}
 use Rattle.dnp_link_frame.specs.Blocks.{room_by, begins_right, is_good_header, end_in_crcs}
 use Rattle.dnp_link_frame.specs.Blocks.{block_start, is_frame, has_right_ending}
@@ -10,14 +10,16 @@ use Rattle.{dnp_link_frame.specs.Rules.dnp_rules, frame_ending.specs.LiveBytes.b
 use Rattle.{frame_ending.specs.LiveBytes.up_to_byte, line_rules.specs.Crc.crc}
 use Rattle.line_rules.specs.{Crc.byte_step, Crc.bit_steps, Crc.bit_step, Endings.ends_in_check}
 use Rattle.link_format.specs.{NumberedFrame.NumberedFrame, Profile.Profile}
-use Rattle.link_verdicts.specs.Checking.{FullNote, check_notes, received_line}
-use Rattle.link_verdicts.specs.Checking.FullNote.{passed_note, refused_note, dropped_note}
-use Rattle.link_verdicts.specs.{Emissions.spoiled, Shapes.kept, Verdicts.verdict_of}
-use Rattle.link_verdicts.specs.{Verdicts.checked, declared.note.DroppedWhy.TheVariants.Busy}
-use Rattle.link_verdicts.specs.declared.note.RefusedWhy.TheVariants.{Trailer, Form, Number, Tag}
+use Rattle.link_walks.specs.Checking.{FullNote, check_notes, received_line}
+use Rattle.link_walks.specs.Checking.FullNote.{passed_note, refused_note, dropped_note}
+use Rattle.link_walks.specs.{Emissions.spoiled, Shapes.kept, Verdicts.verdict_of}
+use Rattle.link_walks.specs.Verdicts.{checked}
+use Rattle.link_walks.specs.declared.check_note.DroppedWhy.TheVariants.{Busy}
+use Rattle.link_walks.specs.declared.check_note.RefusedWhy.TheVariants.{Trailer, Form, Number}
+use Rattle.link_walks.specs.declared.check_note.RefusedWhy.TheVariants.{Tag}
 use Rattle.receiver_laws.proofs.Packing.{contiguous-bytes}
 use Rattle.receiver_laws.specs.Recovery.{all_sealed, floor_after, BeginsPacket, IsLeftAlone, IsDue}
-use Rattle.seal_judgements.specs.Sealing.{judged, link_line}
+use Rattle.link_walks.specs.Sealing.{judged, link_line}
 use Rattle.std.proofs.Common.{◌≡◌, ◌≤◌, ◌<◌, ℕ, List, [], ◌∷◌, ◌++◌, map, take, drop, replicate}
 use Rattle.std.proofs.Common.{refl, sym, ap, subst, arith, get_or, ◌∙◌}
 use Rattle.std.proofs.lemmas.List.{get_or_past, Elements.All-nil, Elements.All-cons}

@@ -4,10 +4,10 @@ use Rattle.yasir_ticks.specs.Ticks.{silent}
 use Rattle.yasir_ticks.specs.declared.tick.Tick.{Tick}
 use Rattle.line_rules.specs.Rules.{Rules}
 use Rattle.device_model.specs.Frames.{FrameRead}
-use Rattle.burst_walk.specs.Longer.{Begins}
+use Rattle.frame_ending.specs.Longer.{Begins}
 use Rattle.link_format.specs.Profile.{Profile, delay}
 use Rattle.link_format.specs.NumberedFrame.{NumberedFrame}
-use Rattle.link_verdicts.specs.Checking.{passed, received_line}
+use Rattle.link_walks.specs.Checking.{passed, received_line}
 
 -- a passed frame as the device reads it, the receiver's delay later
 abbrev pub delivered : Profile → NumberedFrame → FrameRead

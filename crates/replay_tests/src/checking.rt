@@ -4,9 +4,9 @@ use crate::over_boxes::{
     AT_0, AT_1, AT_2, AT_LIMIT, BoxKind, DiskFault, FRESH, Held, KEY, NO_NUMBER, NOTHING, Reading,
     Row, ThreeFrames, compare_all, fail_each_call, has_passed,
 };
+use command_ends::Status;
 use device_model::RtuDevice;
 use hmac_tag::Dir;
-use replay_status::Status;
 use std::test::Fail;
 use yasir_ticks::{BadTicks, TickFault};
 

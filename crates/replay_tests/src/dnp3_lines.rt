@@ -4,9 +4,9 @@ use crate::over_boxes::{
     AT_0, AT_1, AT_2, BoxKind, FRESH, KEY, Reading, Row, compare_all, has_passed,
 };
 use crate::texts::add_times;
+use command_ends::Status;
 use device_model::DnpDevice;
 use hmac_tag::Dir;
-use replay_status::Status;
 use std::alloc::{AllocError, Global};
 use std::process::Abort;
 use std::test::Fail;

@@ -11,18 +11,18 @@ use crate::over_boxes::{KEY, run_ends};
 use crate::packets::{self, DNP_PACKET, LINKS, Link, RTU_PACKET, packet_of};
 use crate::receiver_runs::{Burst, NO_BURST, alike, front_with, link_of, part_at};
 use crate::texts::{add_times, repeated};
-use box_command::LineBox;
-use burst_walk::RunBytes;
 use check_receiver::Checker;
+use command_ends::{Ends, Status};
 use dnp_link_frame::Dnp;
+use frame_ending::RunBytes;
 use hmac_tag::{Dir, HmacSha1, HmacSha256};
+use line_commands::LineBox;
 use link_box::LinkBox;
-use replay_lists::FrameBox;
-use replay_status::{Ends, Status};
 use rtu_frame::Rtu;
 use seal_transmitter::Sealer;
 use sequence_journal::Journal;
 use session_audit::{SealedFrames, ShownFrames};
+use session_lists::FrameBox;
 use std::alloc::{AllocError, Global};
 use std::process::Abort;
 use std::test::Fail;
@@ -165,7 +165,7 @@ impl<X: FrameBox> Turning for Shown<X> {
     ghost able = { λ value. X.able value.frame_box };
 
     fn turn_bytes(&mut self, bytes: &[u8]) -> Result<usize, Fail> {
-        let mut left = replay_lists::RunBytes::new();
+        let mut left = session_lists::RunBytes::new();
         let count = self.frame_box.pass_bytes(bytes, &mut left);
         if count > 0 {
             return Ok(count);
@@ -175,7 +175,7 @@ impl<X: FrameBox> Turning for Shown<X> {
     }
 
     fn turn_silence(&mut self, ticks: u32) -> Result<u32, Fail> {
-        let mut left = replay_lists::RunBytes::new();
+        let mut left = session_lists::RunBytes::new();
         let count = self.frame_box.pass_silence(ticks, &mut left);
         if count > 0 {
             return Ok(count);

@@ -2,7 +2,7 @@
 use crate::outside::{Failing, STEADY};
 use crate::over_boxes::{BoxKind, FRESH, Ran, line_given, replay};
 use crate::texts::repeated;
-use replay_status::Status;
+use command_ends::Status;
 use std::alloc::Global;
 use std::process::Abort;
 use std::test::Fail;

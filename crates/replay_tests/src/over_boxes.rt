@@ -4,12 +4,12 @@ ghost use Rattle.sequence_journal.specs.Links.{HasDirection};
 
 use crate::outside::{Failing, STEADY, plan, sinks, source};
 use crate::reading::has_read;
-use box_command::{LineBox, replay_box};
 use check_receiver::Checker;
+use command_ends::{Ends, Status, write_fault};
 use device_model::Device;
 use dnp_link_frame::Dnp;
 use hmac_tag::{Dir, HmacSha1, HmacSha256};
-use replay_status::{Ends, Status, write_fault};
+use line_commands::{LineBox, replay_box};
 use rtu_frame::Rtu;
 use seal_transmitter::Sealer;
 use sequence_journal::{Journal, LIMIT, LinkId, slot_of};

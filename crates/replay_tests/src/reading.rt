@@ -3,9 +3,9 @@
 use crate::outside::{BYTE_BY_BYTE, Failing, STEADY, sinks, source};
 use crate::over_boxes::{has_status, holds};
 use crate::texts::{add_times, repeated};
+use command_ends::{Status, write_fault};
 use device_model::{Device, RtuDevice};
-use device_replay::read_frames;
-use replay_status::{Status, write_fault};
+use line_commands::read_frames;
 use std::alloc::{AllocError, Global};
 use std::process::Abort;
 use std::test::Fail;

@@ -3,7 +3,7 @@ ghost use Rattle.std.specs.Prelude.{◌<◌};
 
 use crate::outside::STEADY;
 use crate::over_boxes::{BoxKind, FRESH, Ran, line_given, replay};
-use replay_status::Status;
+use command_ends::Status;
 use std::alloc::{AllocError, Global};
 use std::process::Abort;
 use std::test::Fail;

@@ -5,8 +5,8 @@ use crate::over_boxes::{
     ThreeFrames, compare_all, fail_each_call, holds, line_given, replay,
 };
 use crate::texts::repeated;
+use command_ends::Status;
 use hmac_tag::Dir;
-use replay_status::Status;
 use std::alloc::{AllocError, Global};
 use std::process::Abort;
 use std::test::Fail;

@@ -7,9 +7,9 @@ use crate::over_boxes::{
     compare_all, has_passed,
 };
 use crate::reading::has_read;
+use command_ends::Status;
 use device_model::{DnpDevice, RtuDevice};
 use hmac_tag::Dir;
-use replay_status::Status;
 use std::test::Fail;
 
 /// Slots that hold these numbers.

@@ -2,8 +2,8 @@
 //! call of the disk fails, and of a box over a journal of another link.
 use crate::outside::{Failing, STEADY, plan};
 use crate::over_boxes::{BoxKind, Given, KEY, Ran, has_status, holds, replay_on, slots_hold};
+use command_ends::Status;
 use hmac_tag::Dir;
-use replay_status::Status;
 use sequence_journal::{Journal, LinkId};
 use std::alloc::Global;
 use std::process::Abort;

@@ -1,5 +1,5 @@
 -- One more tick of a transmitter, by the values that it has before and after.
-use Rattle.burst_walk.specs.declared.box_step.BoxStep.{BoxStep}
+use Rattle.frame_ending.specs.declared.box_step.BoxStep.{BoxStep}
 use Rattle.frame_ending.proofs.LastBurst.{last_burst-silent, last_burst-within}
 use Rattle.frame_ending.proofs.{LiveTicks.live_end-whole, Running.with_byte_at, Running.IsRunning}
 use Rattle.frame_ending.proofs.Running.{divided-running, silent-open, Closes, silent-closes}
@@ -14,11 +14,11 @@ use Rattle.hmac_tag.specs.{Tag.tag_text, declared.tag.Mac.Ghosts as Mac}
 use Rattle.line_rules.specs.{Rules.Rules, declared.line_rules.LineRules.Ghosts as LineRules}
 use Rattle.link_format.specs.{NumberedFrame.last_number, Profile.Profile, Profile.profile_of}
 use Rattle.link_format.specs.{Profile.HasTags, Profile.trailer, Setup.Setup, Trailers.first_of}
-use Rattle.seal_judgements.specs.Sealing.{SealState, Judgement, judged, start_after, sealed}
-use Rattle.seal_judgements.specs.Sealing.Judgement.{sealed_with, unsealed}
-use Rattle.seal_judgements.specs.declared.note.SealNote.{SealNote}
-use Rattle.seal_judgements.specs.declared.note.SealNote.TheVariants.{Sealed, Unsealed}
-use Rattle.seal_judgements.specs.declared.note.UnsealedWhy.{UnsealedWhy}
+use Rattle.link_walks.specs.Sealing.{SealState, Judgement, judged, start_after, sealed}
+use Rattle.link_walks.specs.Sealing.Judgement.{sealed_with, unsealed}
+use Rattle.link_walks.specs.declared.seal_note.SealNote.{SealNote}
+use Rattle.link_walks.specs.declared.seal_note.SealNote.TheVariants.{Sealed, Unsealed}
+use Rattle.link_walks.specs.declared.seal_note.UnsealedWhy.{UnsealedWhy}
 use Rattle.seal_transmitter.proofs.Steps.{walked-begun, walked-divided, walks-silent}
 use Rattle.seal_transmitter.proofs.Steps.{walks-unsealed, walks-sealed, walks-early, walks-live}
 use Rattle.seal_transmitter.proofs.Steps.{walks-extra, seals-late, seals-whole, walked-number}

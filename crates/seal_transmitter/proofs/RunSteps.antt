@@ -1,7 +1,7 @@
 -- A run of ticks of a transmitter: bytes that are forwarded, and ticks during which what is left of
 -- the trailer is sent.
-use Rattle.burst_walk.proofs.Runs.{run-none, run-joined, run-tick}
-use Rattle.{burst_walk.specs.Runs.AnswersRun, frame_ending.proofs.Runs.live-start}
+use Rattle.frame_ending.proofs.BurstRuns.{run-none, run-joined, run-tick}
+use Rattle.{frame_ending.specs.Runs.AnswersRun, frame_ending.proofs.Runs.live-start}
 use Rattle.frame_ending.specs.Cuts.{cut_of, cuts_after, IsPassing}
 use Rattle.frame_ending.specs.{SoFar.start_so_far, Stands.StandsFor as CutStandsFor}
 use Rattle.frame_ending.specs.declared.{burst_cut.BurstCut.BurstCut, cut.Cut.Cut}
@@ -11,7 +11,7 @@ use Rattle.line_rules.specs.{Rules.Rules, declared.line_rules.LineRules.Ghosts a
 use Rattle.link_format.specs.{NumberedFrame.last_number, Profile.profile_of, Setup.Setup}
 use Rattle.link_format.specs.Trailers.{bytes_unsent, first_of}
 use Rattle.link_format.specs.declared.trailer.Trailer.{Trailer}
-use Rattle.seal_judgements.specs.Sealing.{sealer, at_floor, sealed}
+use Rattle.link_walks.specs.Sealing.{sealer, at_floor, sealed}
 use Rattle.seal_transmitter.proofs.Advancing.{WalksOn, number-is, advance-live, advance-early}
 use Rattle.seal_transmitter.proofs.Advancing.{advance-passing}
 use Rattle.seal_transmitter.specs.{Answers.brief_note, Between.noteless, Runs.HasTakenRun}

@@ -1,15 +1,15 @@
 -- What is on the link as the line of the device goes on.
-use Rattle.burst_walk.proofs.Emissions.{tick_at-none, tick_at-from}
-use Rattle.burst_walk.specs.{HasCome.AreNoted, Laid.tick_at, Walk.Noted, Walk.walked, Walk.emitted}
-use Rattle.{burst_walk.specs.Walk.state_after, frame_ending.proofs.LiveTicks.live_end-within}
+use Rattle.frame_ending.proofs.Emissions.{tick_at-none, tick_at-from}
+use Rattle.frame_ending.specs.{HasCome.AreNoted, Laid.tick_at, Walk.Noted, Walk.walked, Walk.emitted}
+use Rattle.{frame_ending.specs.Walk.state_after, frame_ending.proofs.LiveTicks.live_end-within}
 use Rattle.frame_ending.specs.LiveBytes.{live_bytes, live_ticks, live_end}
 use Rattle.{line_rules.specs.Rules.Rules, link_format.specs.NumberedFrame.last_number}
 use Rattle.link_format.specs.{Profile.Profile, Profile.trailer, Trailers.first_of}
-use Rattle.seal_judgements.proofs.Numbers.{frames_in}
-use Rattle.seal_judgements.specs.Sealing.{SealState, FullNote, Judgement, judged, state_by, note_by}
-use Rattle.seal_judgements.specs.Sealing.{emission_by, forwarded, trailing, sealer}
-use Rattle.seal_judgements.specs.Sealing.Judgement.{sealed_with, unsealed}
-use Rattle.seal_judgements.specs.declared.note.UnsealedWhy.TheVariants.{Early, Form, Spent}
+use Rattle.link_walks.proofs.SealNumbers.{frames_in}
+use Rattle.link_walks.specs.Sealing.{SealState, FullNote, Judgement, judged, state_by, note_by}
+use Rattle.link_walks.specs.Sealing.{emission_by, forwarded, trailing, sealer}
+use Rattle.link_walks.specs.Sealing.Judgement.{sealed_with, unsealed}
+use Rattle.link_walks.specs.declared.seal_note.UnsealedWhy.TheVariants.{Early, Form, Spent}
 use Rattle.seal_transmitter.specs.Stands.{sent_at}
 use Rattle.std.proofs.Common.{◌≡◌, ◌∙◌, ◌&&◌, ℕ, suc, ◌+◌, ◌-◌, ◌<◌, ◌≤◌, nat_lt, nat_le, true}
 use Rattle.std.proofs.Common.{false, List, [], ◌∷◌, ◌++◌, length, map, drop, refl, sym, ap, arith}

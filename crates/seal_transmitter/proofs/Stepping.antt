@@ -1,5 +1,5 @@
 -- The parts of a step of a transmitter, over the values that they leave.
-use Rattle.burst_walk.specs.declared.box_step.BoxStep.{BoxStep}
+use Rattle.frame_ending.specs.declared.box_step.BoxStep.{BoxStep}
 use Rattle.frame_ending.{proofs.Running.start-tick, proofs.Running.live-tick, specs.Cuts.cut_of}
 use Rattle.frame_ending.specs.{Cuts.IsPassing, SoFar.start_so_far, SoFar.live_bytes_so_far}
 use Rattle.frame_ending.specs.{Stands.StandsFor as CutStandsFor, declared.cut.Cut.Cut}
@@ -8,10 +8,10 @@ use Rattle.hmac_tag.specs.{Tag.direction_number, declared.tag.Mac.Ghosts as Mac}
 use Rattle.line_rules.specs.declared.line_rules.LineRules.{Ghosts as LineRules}
 use Rattle.link_format.specs.{Setup.Setup, Trailers.bytes_unsent, Trailers.first_of}
 use Rattle.link_format.specs.declared.trailer.Trailer.{Trailer}
-use Rattle.seal_judgements.specs.Sealing.Judgement.{sealed_with, unsealed}
-use Rattle.seal_judgements.specs.declared.note.SealNote.{SealNote}
-use Rattle.seal_judgements.specs.declared.note.SealNote.TheVariants.{Sealed, Unsealed}
-use Rattle.seal_judgements.specs.declared.note.UnsealedWhy.{UnsealedWhy}
+use Rattle.link_walks.specs.Sealing.Judgement.{sealed_with, unsealed}
+use Rattle.link_walks.specs.declared.seal_note.SealNote.{SealNote}
+use Rattle.link_walks.specs.declared.seal_note.SealNote.TheVariants.{Sealed, Unsealed}
+use Rattle.link_walks.specs.declared.seal_note.UnsealedWhy.{UnsealedWhy}
 use Rattle.seal_transmitter.proofs.Advancing.{WalksOn, number-is, advance-passing, advance-early}
 use Rattle.seal_transmitter.proofs.Advancing.{advance-begin, advance-live, advance-unsealed}
 use Rattle.seal_transmitter.{proofs.Advancing.advance-sealed, specs.Between.IsBetween}

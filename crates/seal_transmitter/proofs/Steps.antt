@@ -1,12 +1,12 @@
 -- One more tick of the device: how far the walk has come with it, and what the step returns.
-use Rattle.burst_walk.proofs.Coming.{come-begun, come-waits, come-noted, come-silent, come-joined}
-use Rattle.burst_walk.proofs.Coming.{come-alone, notes_before-come, notes-step, answers-step}
-use Rattle.burst_walk.proofs.Coming.{note-now, note-later}
-use Rattle.burst_walk.proofs.Emissions.{tick_at-none, tick_at-from}
-use Rattle.burst_walk.specs.Answers.{told_notes, note_in}
-use Rattle.burst_walk.specs.{HasCome.HasCome, HasCome.AreNoted, HasCome.waiting_part, Laid.tick_at}
-use Rattle.burst_walk.specs.Walk.{Walker, Noted, walked, emitted, notes_at}
-use Rattle.burst_walk.specs.declared.box_step.BoxStep.{BoxStep}
+use Rattle.frame_ending.proofs.Coming.{come-begun, come-waits, come-noted, come-silent, come-joined}
+use Rattle.frame_ending.proofs.Coming.{come-alone, notes_before-come, notes-step, answers-step}
+use Rattle.frame_ending.proofs.Coming.{note-now, note-later}
+use Rattle.frame_ending.proofs.Emissions.{tick_at-none, tick_at-from}
+use Rattle.frame_ending.specs.Answers.{told_notes, note_in}
+use Rattle.frame_ending.specs.{HasCome.HasCome, HasCome.AreNoted, HasCome.waiting_part, Laid.tick_at}
+use Rattle.frame_ending.specs.Walk.{Walker, Noted, walked, emitted, notes_at}
+use Rattle.frame_ending.specs.declared.box_step.BoxStep.{BoxStep}
 use Rattle.frame_ending.proofs.Dividing.{longer-line, divided-within, byte-ends, byte-begun}
 use Rattle.frame_ending.proofs.Dividing.{byte-contiguous, byte-last}
 use Rattle.frame_ending.proofs.LiveTicks.{live_end-within, live_ticks-whole, up_to_byte-full}
@@ -15,17 +15,18 @@ use Rattle.frame_ending.specs.LiveBytes.{live_bytes, live_ticks, live_end, has_e
 use Rattle.line_rules.specs.{Rules.Rules, RulesLaws.IsLawful}
 use Rattle.link_format.{proofs.Profiles.length-trailer, specs.NumberedFrame.last_number}
 use Rattle.link_format.specs.Profile.{Profile, HasTags, trailer, trailer_len}
-use Rattle.{link_format.specs.Trailers.first_of, seal_judgements.proofs.Causality.judge_by}
-use Rattle.seal_judgements.proofs.Causality.{judged-is, sealed-right, no_extra, sealer-causal}
-use Rattle.seal_judgements.proofs.Causality.{emission-judged, emission-early, shown-from}
-use Rattle.seal_judgements.specs.Sealing.{SealState, FullNote, Judgement, judged, state_by, note_by}
-use Rattle.seal_judgements.specs.Sealing.{emission_by, forwarded, trailing, sealer, sealed_in}
-use Rattle.seal_judgements.specs.Sealing.{at_floor, seal_notes, start_after, sealed}
-use Rattle.seal_judgements.specs.Sealing.Judgement.{sealed_with, unsealed}
-use Rattle.seal_judgements.specs.declared.note.SealNote.{SealNote}
-use Rattle.seal_judgements.specs.declared.note.SealNote.TheVariants.{Sealed, Unsealed}
-use Rattle.seal_judgements.specs.declared.note.UnsealedWhy.{UnsealedWhy}
-use Rattle.seal_judgements.specs.declared.note.UnsealedWhy.TheVariants.{Early, Form, Spent}
+use Rattle.link_format.specs.Trailers.{first_of}
+use Rattle.link_walks.proofs.SealCausality.{judge_by}
+use Rattle.link_walks.proofs.SealCausality.{judged-is, sealed-right, no_extra, sealer-causal}
+use Rattle.link_walks.proofs.SealCausality.{emission-judged, emission-early, shown-from}
+use Rattle.link_walks.specs.Sealing.{SealState, FullNote, Judgement, judged, state_by, note_by}
+use Rattle.link_walks.specs.Sealing.{emission_by, forwarded, trailing, sealer, sealed_in}
+use Rattle.link_walks.specs.Sealing.{at_floor, seal_notes, start_after, sealed}
+use Rattle.link_walks.specs.Sealing.Judgement.{sealed_with, unsealed}
+use Rattle.link_walks.specs.declared.seal_note.SealNote.{SealNote}
+use Rattle.link_walks.specs.declared.seal_note.SealNote.TheVariants.{Sealed, Unsealed}
+use Rattle.link_walks.specs.declared.seal_note.UnsealedWhy.{UnsealedWhy}
+use Rattle.link_walks.specs.declared.seal_note.UnsealedWhy.TheVariants.{Early, Form, Spent}
 use Rattle.seal_transmitter.proofs.StepLemmas.{or_else, or_else-silent, sent-first, sent-later}
 use Rattle.seal_transmitter.proofs.StepLemmas.{noted-overlays, noted-number, sealed-from}
 use Rattle.seal_transmitter.proofs.StepLemmas.{forwarded-past}

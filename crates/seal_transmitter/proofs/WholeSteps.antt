@@ -1,6 +1,6 @@
 -- A whole step of a transmitter: the value that cuts the line takes the tick first, and then
 -- everything else does.
-use Rattle.burst_walk.specs.declared.box_step.BoxStep.{BoxStep}
+use Rattle.frame_ending.specs.declared.box_step.BoxStep.{BoxStep}
 use Rattle.frame_ending.proofs.Running.{closed-tick}
 use Rattle.frame_ending.specs.{Cuts.cut_of, Stands.StandsFor as CutStandsFor}
 use Rattle.frame_ending.specs.declared.burst_cut.BurstCut.{BurstCut}
@@ -8,7 +8,7 @@ use Rattle.frame_ending.specs.declared.cut.Cut.{Cut, TheVariants.Closed}
 use Rattle.hmac_tag.specs.declared.tag.Mac.{Ghosts as Mac}
 use Rattle.line_rules.specs.declared.line_rules.LineRules.{Ghosts as LineRules}
 use Rattle.link_format.specs.{Profile.profile_of, Setup.Setup}
-use Rattle.seal_judgements.specs.declared.note.SealNote.{SealNote}
+use Rattle.link_walks.specs.declared.seal_note.SealNote.{SealNote}
 use Rattle.seal_transmitter.specs.{Answers.SealsWith, Between.IsBetween, Stands.StandsAt}
 use Rattle.seal_transmitter.specs.{Stands.HasTaken, declared.sealer.Sealer.Sealer}
 use Rattle.sequence_journal.specs.declared.journal.JournalFault.{JournalFault}

@@ -6,18 +6,18 @@ use Rattle.yasir_io.specs.Causes.{HasCause}
 use Rattle.yasir_io.specs.Disks.{LeavesOnly}
 use Rattle.yasir_io.specs.declared.disk.SlotDisk.{Ghosts as SlotDisk}
 use Rattle.line_rules.specs.Rules.{Rules}
-use Rattle.burst_walk.specs.Answers.{AnswersTick as AnswersTickOf}
+use Rattle.frame_ending.specs.Answers.{AnswersTick as AnswersTickOf}
 use Rattle.link_format.specs.Profile.{Profile}
 use Rattle.sequence_journal.specs.declared.journal.Journal.{Journal}
 use Rattle.sequence_journal.specs.declared.journal.JournalFault.{JournalFault}
 use Rattle.sequence_journal.specs.Commits.{HasCommitted, HasFailed}
 use Rattle.sequence_journal.specs.Journal.{journal_link, journal_floor, Fits, IsCrashSafe}
 use Rattle.sequence_journal.specs.Journal.{HasFloorFrom}
-use Rattle.seal_judgements.specs.Sealing.{FullNote, sealer, at_floor, seal_notes}
-use Rattle.seal_judgements.specs.Sealing.FullNote.{sealed_note, unsealed_note}
-use Rattle.seal_judgements.specs.declared.note.SealNote.{SealNote}
-use Rattle.seal_judgements.specs.declared.note.SealNote.TheVariants.{Sealed, Unsealed}
-use Rattle.burst_walk.specs.declared.box_step.BoxStep.{BoxStep}
+use Rattle.link_walks.specs.Sealing.{FullNote, sealer, at_floor, seal_notes}
+use Rattle.link_walks.specs.Sealing.FullNote.{sealed_note, unsealed_note}
+use Rattle.link_walks.specs.declared.seal_note.SealNote.{SealNote}
+use Rattle.link_walks.specs.declared.seal_note.SealNote.TheVariants.{Sealed, Unsealed}
+use Rattle.frame_ending.specs.declared.box_step.BoxStep.{BoxStep}
 
 -- The note as a step returns it: for a sealed frame it has only the length.
 abbrev pub brief_note : FullNote → SealNote

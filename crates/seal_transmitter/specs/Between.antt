@@ -14,13 +14,13 @@ use Rattle.link_format.specs.Profile.{Profile, profile_of}
 use Rattle.link_format.specs.Setup.{Setup}
 use Rattle.link_format.specs.Trailers.{bytes_unsent}
 use Rattle.sequence_journal.specs.declared.numbers.TheConstants.{LIMIT}
-use Rattle.seal_judgements.specs.Sealing.{Judgement, judged}
-use Rattle.seal_judgements.specs.Sealing.Judgement.{sealed_with, unsealed}
+use Rattle.link_walks.specs.Sealing.{Judgement, judged}
+use Rattle.link_walks.specs.Sealing.Judgement.{sealed_with, unsealed}
 use Rattle.seal_transmitter.specs.Stands.{Walks}
-use Rattle.seal_judgements.specs.declared.note.SealNote.{SealNote}
-use Rattle.seal_judgements.specs.declared.note.SealNote.TheVariants.{Sealed, Unsealed}
-use Rattle.burst_walk.specs.declared.box_step.BoxStep.{BoxStep}
-use Rattle.seal_judgements.specs.declared.note.UnsealedWhy.{UnsealedWhy}
+use Rattle.link_walks.specs.declared.seal_note.SealNote.{SealNote}
+use Rattle.link_walks.specs.declared.seal_note.SealNote.TheVariants.{Sealed, Unsealed}
+use Rattle.frame_ending.specs.declared.box_step.BoxStep.{BoxStep}
+use Rattle.link_walks.specs.declared.seal_note.UnsealedWhy.{UnsealedWhy}
 use Rattle.seal_transmitter.specs.declared.sealer.Sealer.{Sealer}
 
 -- Holds if the last burst of the line, if there is one, is judged so. The last number used is

@@ -6,8 +6,8 @@ use Rattle.link_format.specs.Profile.{profile_of}
 use Rattle.link_box.specs.Walking.{Walking}
 use Rattle.sequence_journal.specs.declared.numbers.TheConstants.{LIMIT}
 use Rattle.seal_transmitter.specs.Answers.{brief_note}
-use Rattle.seal_judgements.specs.Sealing.{SealState, FullNote, sealer, at_floor, sealed_in}
-use Rattle.seal_judgements.specs.declared.note.SealNote.{SealNote}
+use Rattle.link_walks.specs.Sealing.{SealState, FullNote, sealer, at_floor, sealed_in}
+use Rattle.link_walks.specs.declared.seal_note.SealNote.{SealNote}
 
 -- the walk of the transmitter, for the rules of a protocol and a MAC, with words of this many bytes
 abbrev pub seal_walking : {R M : Type 0} → LineRules R → Mac M → ℕ → Walking SealNote

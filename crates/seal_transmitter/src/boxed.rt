@@ -7,7 +7,7 @@ ghost use Rattle.hmac_tag.specs.Tag.{direction_number};
 ghost use Rattle.link_box.specs.Links.{link_by};
 
 use crate::{SealNote, Sealer};
-use burst_walk::{BoxStep, RunBytes};
+use frame_ending::{BoxStep, RunBytes};
 use hmac_tag::{Dir, Mac};
 use line_rules::LineRules;
 use link_box::LinkBox;

@@ -1,7 +1,7 @@
 //! Laws of the transmitter: it is causal, and its steps are steps of an uptime.
 ghost use Rattle.std.specs.Prelude.{◌≡◌, ℕ, List, ◌++◌, Result};
 ghost use Rattle.yasir_ticks.specs.declared.tick.Tick.{Tick};
-ghost use Rattle.burst_walk.specs.Longer.{Begins, Extends};
+ghost use Rattle.frame_ending.specs.Longer.{Begins, Extends};
 ghost use Rattle.link_format.specs.NumberedFrame.{AreNumberedFrom};
 ghost use Rattle.link_format.specs.Profile.{profile_of};
 ghost use Rattle.link_format.specs.Setup.{Setup};
@@ -9,10 +9,10 @@ ghost use Rattle.sequence_journal.specs.declared.journal.Journal.{Journal};
 ghost use Rattle.sequence_journal.specs.declared.journal.JournalFault.{JournalFault};
 ghost use Rattle.sequence_journal.specs.Journal.{journal_floor, IsCrashSafe};
 ghost use Rattle.sequence_journal.specs.Uptimes.{IsStepOf, last_from, numbers_answered};
-ghost use Rattle.burst_walk.specs.declared.box_step.BoxStep.{BoxStep};
-ghost use Rattle.seal_judgements.specs.declared.note.SealNote.{SealNote};
+ghost use Rattle.frame_ending.specs.declared.box_step.BoxStep.{BoxStep};
+ghost use Rattle.link_walks.specs.declared.seal_note.SealNote.{SealNote};
 ghost use Rattle.seal_transmitter.specs.Answers.{KeepsJournal, numbers_noted};
-ghost use Rattle.seal_judgements.specs.Sealing.{sealer, at_floor, sealed};
+ghost use Rattle.link_walks.specs.Sealing.{sealer, at_floor, sealed};
 
 use hmac_tag::Mac;
 use line_rules::LineRules;

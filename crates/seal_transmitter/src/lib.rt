@@ -14,8 +14,8 @@ mod laws;
 mod sealer;
 mod silence;
 
-pub use burst_walk::{BoxStep, RunBytes};
+pub use frame_ending::{BoxStep, RunBytes};
 pub use hmac_tag::Dir;
 pub use laws::{longer_lines, steps_are_of_an_uptime};
-pub use seal_judgements::{SealNote, UnsealedWhy};
+pub use link_walks::{SealNote, UnsealedWhy};
 pub use sealer::Sealer;

@@ -3,8 +3,7 @@ ghost use Rattle.std.specs.Prelude.{◌≡◌, length};
 
 use crate::silence::wait_open;
 use crate::{SealNote, UnsealedWhy};
-use burst_walk::{BoxStep, RunBytes};
-use frame_ending::{BurstCut, Cut};
+use frame_ending::{BoxStep, BurstCut, Cut, RunBytes};
 use hmac_tag::{Dir, Mac};
 use line_rules::LineRules;
 use link_format::Trailer;
@@ -51,7 +50,7 @@ impl<R: LineRules, M: Mac, const B: usize> Sealer<R, M, B> {
     ghost use Rattle.frame_ending.specs.Cuts.{IsPassing};
     ghost use Rattle.frame_ending.specs.SoFar.{start_so_far, live_bytes_so_far};
     ghost use Rattle.frame_ending.specs.Stands.{StandsFor as CutStandsFor};
-    ghost use Rattle.burst_walk.specs.Answered.{answered};
+    ghost use Rattle.frame_ending.specs.Answered.{answered};
     ghost use Rattle.link_format.specs.Profile.{IsWordLen, profile_of};
     ghost use Rattle.link_format.specs.Setup.{Setup, setup_of};
     ghost use Rattle.link_format.specs.Trailers.{bytes_unsent, first_of};
@@ -59,7 +58,7 @@ impl<R: LineRules, M: Mac, const B: usize> Sealer<R, M, B> {
     ghost use Rattle.sequence_journal.specs.Journal.{journal_link, journal_floor, Fits};
     ghost use Rattle.hmac_tag.specs.Tag.{direction_number};
     ghost use Rattle.link_box.specs.Links.{link_by};
-    ghost use Rattle.seal_judgements.specs.Sealing.Judgement.{sealed_with, unsealed};
+    ghost use Rattle.link_walks.specs.Sealing.Judgement.{sealed_with, unsealed};
     ghost use Rattle.seal_transmitter.specs.Answers.{SealsWith, KeepsJournal};
     ghost use Rattle.seal_transmitter.specs.Stands.{StandsAt, StandsFor, HasTaken, ticks_taken};
     ghost use Rattle.seal_transmitter.specs.Stands.{direction_of};

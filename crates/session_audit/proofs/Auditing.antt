@@ -9,10 +9,10 @@ use Rattle.receiver_laws.proofs.Rising.{have_passed}
 use Rattle.receiver_laws.specs.Accounted.{forged, is_among, pair_of, pairs_of, IsSubsequence}
 use Rattle.receiver_laws.specs.{Accounted.IsAccountedFor, AllLeft.ReadsAllThatPassed}
 use Rattle.receiver_laws.specs.{Headline.bytes_read, Headline.bytes_sealed, Reading.delivered}
-use Rattle.replay_lists.proofs.Comparing.{none-before}
-use Rattle.replay_lists.specs.Comparison.{is_same_read, first_difference, read_later}
-use Rattle.replay_lists.specs.Comparison.{difference_at, difference_of}
-use Rattle.replay_lists.specs.declared.comparison.Difference.{Difference}
+use Rattle.session_lists.proofs.Comparing.{none-before}
+use Rattle.session_lists.specs.Comparison.{is_same_read, first_difference, read_later}
+use Rattle.session_lists.specs.Comparison.{difference_at, difference_of}
+use Rattle.session_lists.specs.declared.comparison.Difference.{Difference}
 use Rattle.rtu_frame.specs.Rules.{rtu_rules}
 use Rattle.sequence_journal.specs.{Uptimes.RiseFrom, declared.numbers.TheConstants.LIMIT}
 use Rattle.session_audit.specs.{AuditedInput.AuditsInput, Clean.IsClean, Sessions.LinkKind}

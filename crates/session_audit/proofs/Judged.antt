@@ -1,7 +1,7 @@
 -- What an audit looks up in its lists, place by place.
 use Rattle.{link_format.specs.NumberedFrame.NumberedFrame, receiver_laws.specs.Accounted.forged}
-use Rattle.{receiver_laws.specs.Accounted.is_among, replay_lists.specs.FrameBox.kept_frames}
-use Rattle.replay_lists.specs.{FrameBox.kept_numbered, declared.frame_box.Numbered.Numbered}
+use Rattle.{receiver_laws.specs.Accounted.is_among, session_lists.specs.FrameBox.kept_frames}
+use Rattle.session_lists.specs.{FrameBox.kept_numbered, declared.frame_box.Numbered.Numbered}
 use Rattle.std.proofs.Common.{◌≡◌, ◌∙◌, ℕ, ◌+◌, ◌<◌, Bool, true, false, not, List, ◌∷◌, length}
 use Rattle.std.proofs.Common.{drop, get_or, sym, ap, if◌then◌else◌}
 use Rattle.std.proofs.lemmas.List.{drop_more, get_or-map}

@@ -1,13 +1,13 @@
 -- The note of a step is that of the line's last burst.
-use Rattle.burst_walk.proofs.Spread.{AreSpread, EndBy, bursts-spread, bursts-end}
-use Rattle.burst_walk.proofs.Walks.{adds_one_tick}
-use Rattle.burst_walk.specs.Answers.{AnswersTick, told_notes, note_in}
-use Rattle.burst_walk.specs.Causal.{IsCausal, AddsOneTick}
-use Rattle.burst_walk.specs.Walk.{Walker, Noted, noted, walked, notes_of, notes_at}
+use Rattle.frame_ending.proofs.Spread.{AreSpread, EndBy, bursts-spread, bursts-end}
+use Rattle.frame_ending.proofs.Walks.{adds_one_tick}
+use Rattle.frame_ending.specs.Answers.{AnswersTick, told_notes, note_in}
+use Rattle.frame_ending.specs.Causal.{IsCausal, AddsOneTick}
+use Rattle.frame_ending.specs.Walk.{Walker, Noted, noted, walked, notes_of, notes_at}
 use Rattle.frame_ending.specs.LiveBytes.{live_bytes}
 use Rattle.frame_ending.specs.SoFar.{last_of, live_bytes_in, live_bytes_so_far}
 use Rattle.{line_rules.specs.Rules.Rules, link_format.specs.NumberedFrame.NumberedFrame}
-use Rattle.replay_lists.specs.{FrameBox.frame_told, declared.frame_box.Numbered.Numbered}
+use Rattle.session_lists.specs.{FrameBox.frame_told, declared.frame_box.Numbered.Numbered}
 use Rattle.session_audit.specs.FramesOf.{frames_among, numbered, told_by, HasFrames}
 use Rattle.std.proofs.Common.{◌≡◌, ◌∙◌, ◌==◌, ℕ, ◌+◌, ◌<◌, ◌≤◌, false, List, [], ◌∷◌, ◌++◌, length}
 use Rattle.std.proofs.Common.{refl, ap, sym, subst, arith, ⊎_elim, Option, Some, None}

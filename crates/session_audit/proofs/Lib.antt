@@ -9,3 +9,8 @@ pub mod SealedAlike
 pub mod Starts
 pub mod Parts
 mod Worked
+pub mod Pushing
+pub mod InOrder
+pub mod Recording
+pub mod Telling
+pub mod Keying

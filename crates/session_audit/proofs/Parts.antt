@@ -1,6 +1,6 @@
 -- A recording in an input has no more ticks than the input.
 use Rattle.std.proofs.Common.{ℕ, zero, suc, ◌≤◌, List, [], ◌∷◌, length, arith}
-use Rattle.tick_lists.specs.Parts.{part}
+use Rattle.session_lists.specs.Parts.{part}
 use Rattle.yasir_ticks.specs.Ticks.{Item, ticks_in, Item.tick, Item.mark}
 
 pub part-short : (n : ℕ) (items : List Item) → length (part n items) ≤ length (ticks_in items)

@@ -1,9 +1,9 @@
 -- No frame falls into a run of ticks without a note.
-use Rattle.burst_walk.proofs.Longer.{extends, length-line_of}
-use Rattle.burst_walk.specs.{Answers.told_notes, Causal.IsCausal, Longer.Begins, Runs.AnswersRun}
-use Rattle.burst_walk.specs.Walk.{Walker, Noted, notes_of, line_of}
+use Rattle.frame_ending.proofs.Longer.{extends, length-line_of}
+use Rattle.frame_ending.specs.{Answers.told_notes, Causal.IsCausal, Longer.Begins, Runs.AnswersRun}
+use Rattle.frame_ending.specs.Walk.{Walker, Noted, notes_of, line_of}
 use Rattle.link_format.specs.NumberedFrame.{NumberedFrame}
-use Rattle.{replay_lists.specs.FrameBox.AnswersFrameRun, session_audit.specs.FramesOf.frames_among}
+use Rattle.{session_lists.specs.FrameBox.AnswersFrameRun, session_audit.specs.FramesOf.frames_among}
 use Rattle.std.proofs.Common.{◌≡◌, ◌∙◌, List, [], ◌++◌, length, Option, ap, arith, append-nil}
 use Rattle.std.proofs.{Common.length-append, lemmas.List.length-map, lemmas.List.nil_from_length}
 use Rattle.yasir_ticks.specs.declared.tick.Tick.{Tick}

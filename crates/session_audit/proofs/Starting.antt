@@ -1,5 +1,5 @@
 -- Boxes that have taken nothing, with new journals on disks that never fail.
-use Rattle.burst_walk.specs.Walk.{Walker, notes_of, line_of}
+use Rattle.frame_ending.specs.Walk.{Walker, notes_of, line_of}
 use Rattle.sequence_journal.specs.{Journal.journal_floor, declared.journal.Journal.Journal}
 use Rattle.std.proofs.Common.{◌≡◌, ℕ, [], refl, Result, Ok, Err, arith}
 use Rattle.std.specs.Prelude.{OnErr, IfOk, IsOk}

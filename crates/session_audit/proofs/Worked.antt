@@ -1,6 +1,6 @@
 -- Verdicts on small lists of frames, computed.
 use Rattle.{device_model.specs.Frames.FrameRead, link_format.specs.NumberedFrame.NumberedFrame}
-use Rattle.{replay_lists.specs.Comparison.first_difference, session_audit.specs.Verdicts.verdict_on}
+use Rattle.{session_lists.specs.Comparison.first_difference, session_audit.specs.Verdicts.verdict_on}
 use Rattle.session_audit.specs.declared.verdict.{Finding.Finding, Verdict.Verdict}
 use Rattle.session_audit.specs.declared.verdict.Finding.TheVariants.{Empty, Clean, Forged, Differs}
 use Rattle.std.proofs.Common.{◌≡◌, ℕ, List, [], ◌∷◌, Some, None, refl}

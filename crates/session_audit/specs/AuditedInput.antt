@@ -6,7 +6,7 @@ use Rattle.tick_drive.specs.Input.{Takes, IsWhole}
 use Rattle.tick_drive.specs.declared.end.End.{End}
 use Rattle.tick_drive.specs.declared.end.End.TheVariants.{Whole}
 use Rattle.tick_drive.specs.Drive.{StopsForMemory}
-use Rattle.tick_lists.specs.Parts.{part}
+use Rattle.session_lists.specs.Parts.{part}
 use Rattle.session_audit.specs.declared.verdict.Verdict.{Verdict}
 
 module _ (verdict_on_three : List Tick → List Tick → List Tick → Verdict)

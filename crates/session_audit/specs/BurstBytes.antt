@@ -4,7 +4,7 @@ use Rattle.yasir_ticks.specs.Bursts.{Burst}
 use Rattle.yasir_ticks.specs.Ticks.{bytes_in}
 use Rattle.yasir_ticks.specs.declared.tick.Tick.{Tick}
 use Rattle.frame_ending.specs.SoFar.{last_burst, quiet_so_far}
-use Rattle.replay_lists.specs.FrameList.{longest_frame}
+use Rattle.session_lists.specs.FrameList.{longest_frame}
 use Rattle.session_audit.specs.declared.burst_bytes.BurstBytes.{BurstBytes}
 
 -- all bytes of this burst, or none if there is no burst

@@ -6,7 +6,7 @@ use Rattle.link_format.specs.NumberedFrame.{numbers_of}
 use Rattle.link_format.specs.Profile.{delay}
 use Rattle.receiver_laws.specs.Accounted.{IsSubsequence, pairs_of}
 use Rattle.receiver_laws.specs.Headline.{bytes_read, bytes_sealed}
-use Rattle.replay_lists.specs.Comparison.{read_later}
+use Rattle.session_lists.specs.Comparison.{read_later}
 use Rattle.session_audit.specs.Sessions.{LinkKind, got_profile, sealed_in, passed_in, read_in}
 use Rattle.session_audit.specs.declared.session.Session.{Session}
 use Rattle.session_audit.specs.declared.verdict.Counts.{Counts}

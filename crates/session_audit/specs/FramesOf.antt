@@ -4,9 +4,9 @@ use Rattle.std.specs.List.{filter_map}
 use Rattle.yasir_ticks.specs.Bursts.{Burst}
 use Rattle.line_rules.specs.Rules.{Rules}
 use Rattle.frame_ending.specs.LiveBytes.{live_bytes}
-use Rattle.burst_walk.specs.Walk.{Walker, Noted}
+use Rattle.frame_ending.specs.Walk.{Walker, Noted}
 use Rattle.link_format.specs.NumberedFrame.{NumberedFrame}
-use Rattle.replay_lists.specs.declared.frame_box.Numbered.{Numbered}
+use Rattle.session_lists.specs.declared.frame_box.Numbered.{Numbered}
 
 -- the frames among these notes
 abbrev pub frames_among : {N : Type 0} → (N → Option NumberedFrame) → List (Noted N)

@@ -1,9 +1,9 @@
 -- What the audit needs of its lists of frames.
 use Rattle.std.specs.Prelude.{ℕ, ◌<◌, ◌^◌, List, [], ◌∷◌, Option, Some, None}
 use Rattle.link_format.specs.NumberedFrame.{NumberedFrame}
-use Rattle.replay_lists.specs.FrameList.{list_len}
-use Rattle.replay_lists.specs.declared.frame_box.Numbered.{Numbered}
-use Rattle.replay_lists.specs.declared.frame_list.FrameList.{FrameList}
+use Rattle.session_lists.specs.FrameList.{list_len}
+use Rattle.session_lists.specs.declared.frame_box.Numbered.{Numbered}
+use Rattle.session_lists.specs.declared.frame_list.FrameList.{FrameList}
 
 -- number and start of the first of these frames, if there is one
 abbrev pub first_head : List NumberedFrame → Option Numbered

@@ -10,3 +10,9 @@ pub mod Judging
 pub mod AuditedInput
 pub mod Through
 pub mod NoTags
+pub mod Listing
+pub mod TellsOf
+pub mod Printing
+pub mod Recorded
+pub mod Keyed
+pub mod PrintsKeyed

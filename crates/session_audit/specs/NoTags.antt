@@ -9,7 +9,7 @@ use Rattle.hmac_tag.specs.declared.tag.Mac.{Ghosts as Mac}
 use Rattle.hmac_tag.specs.Tag.{IsTagSize}
 use Rattle.link_box.specs.Walking.{other_line, frames_of}
 use Rattle.link_format.specs.Setup.{Setup}
-use Rattle.replay_lists.specs.FrameBox.{Numbering}
+use Rattle.session_lists.specs.FrameBox.{Numbering}
 use Rattle.seal_transmitter.specs.Boxed.{seal_walking}
 use Rattle.session_audit.specs.declared.untagged.Untagged.{Untagged}
 

@@ -1,10 +1,10 @@
 -- The frames that notes tell of.
 use Rattle.std.specs.Prelude.{Option, Some, None}
-use Rattle.seal_judgements.specs.declared.note.SealNote.{SealNote}
-use Rattle.seal_judgements.specs.declared.note.SealNote.TheVariants.{Sealed, Unsealed}
-use Rattle.link_verdicts.specs.declared.note.CheckNote.{CheckNote}
-use Rattle.link_verdicts.specs.declared.note.CheckNote.TheVariants.{Passed, Refused, Dropped}
-use Rattle.replay_lists.specs.declared.frame_box.Numbered.{Numbered}
+use Rattle.link_walks.specs.declared.seal_note.SealNote.{SealNote}
+use Rattle.link_walks.specs.declared.seal_note.SealNote.TheVariants.{Sealed, Unsealed}
+use Rattle.link_walks.specs.declared.check_note.CheckNote.{CheckNote}
+use Rattle.link_walks.specs.declared.check_note.CheckNote.TheVariants.{Passed, Refused, Dropped}
+use Rattle.session_lists.specs.declared.frame_box.Numbered.{Numbered}
 
 -- number and start of a note, if it is that of a sealed frame
 abbrev pub sealed_told : SealNote → Option Numbered

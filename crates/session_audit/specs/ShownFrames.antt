@@ -5,8 +5,8 @@ use Rattle.yasir_ticks.specs.declared.tick.Tick.{Tick}
 use Rattle.line_rules.specs.declared.line_rules.LineRules.{Ghosts as LineRules}
 use Rattle.link_format.specs.Setup.{Setup}
 use Rattle.link_box.specs.Walking.{Walking, other_line, frames_of}
-use Rattle.replay_lists.specs.FrameBox.{Numbering}
-use Rattle.replay_lists.specs.FrameList.{longest_frame}
+use Rattle.session_lists.specs.FrameBox.{Numbering}
+use Rattle.session_lists.specs.FrameList.{longest_frame}
 use Rattle.sequence_journal.specs.declared.link.LinkId.{LinkId}
 use Rattle.sequence_journal.specs.Journal.{journal_link, journal_floor, Fits}
 use Rattle.session_audit.specs.BurstBytes.{BurstFor}

@@ -4,11 +4,11 @@ use Rattle.yasir_ticks.specs.Ticks.{silent}
 use Rattle.yasir_ticks.specs.declared.TheConstants.{T3_5_TICKS}
 use Rattle.yasir_ticks.specs.declared.tick.Tick.{Tick}
 use Rattle.device_model.specs.declared.device.Device.{Ghosts as Device}
-use Rattle.replay_lists.specs.Listed.{link_rest}
-use Rattle.replay_lists.specs.SessionLists.{HasSession, IsOpen, Setups, session_taken}
-use Rattle.replay_lists.specs.declared.frame_box.FrameBox.{Ghosts as FrameBox}
-use Rattle.replay_lists.specs.declared.session_lists.SessionLists.{SessionLists}
-use Rattle.replay_lists.specs.declared.session_lists.Timing.{Timing}
+use Rattle.session_lists.specs.Listed.{link_rest}
+use Rattle.session_lists.specs.SessionLists.{HasSession, IsOpen, Setups, session_taken}
+use Rattle.session_lists.specs.declared.frame_box.FrameBox.{Ghosts as FrameBox}
+use Rattle.session_lists.specs.declared.session_lists.SessionLists.{SessionLists}
+use Rattle.session_lists.specs.declared.session_lists.Timing.{Timing}
 use Rattle.session_audit.specs.Sessions.{sent_setup, got_setup}
 use Rattle.session_audit.specs.Verdicts.{verdict_on}
 use Rattle.session_audit.specs.declared.session.Session.{Session}

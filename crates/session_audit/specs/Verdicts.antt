@@ -4,8 +4,8 @@ use Rattle.std.specs.Prelude.{Some, None}
 use Rattle.device_model.specs.Frames.{FrameRead}
 use Rattle.link_format.specs.NumberedFrame.{NumberedFrame}
 use Rattle.receiver_laws.specs.Accounted.{forged}
-use Rattle.replay_lists.specs.Comparison.{expected_reads, difference_of}
-use Rattle.replay_lists.specs.declared.comparison.Difference.{Difference}
+use Rattle.session_lists.specs.Comparison.{expected_reads, difference_of}
+use Rattle.session_lists.specs.declared.comparison.Difference.{Difference}
 use Rattle.session_audit.specs.declared.verdict.Counts.{Counts}
 use Rattle.session_audit.specs.declared.verdict.Finding.{Finding}
 use Rattle.session_audit.specs.declared.verdict.Finding.TheVariants.{Empty, Forged, Differs, Clean}

@@ -4,7 +4,7 @@ ghost use Rattle.yasir_ticks.specs.Ticks.{silent};
 ghost use Rattle.yasir_ticks.specs.declared.tick.Tick.{Tick};
 ghost use Rattle.yasir_ticks.specs.declared.tick.Tick.TheVariants.{Byte};
 ghost use Rattle.yasir_ticks.specs.declared.TheConstants.{T3_5_TICKS};
-ghost use Rattle.replay_lists.specs.FrameList.{longest_frame};
+ghost use Rattle.session_lists.specs.FrameList.{longest_frame};
 ghost use Rattle.session_audit.specs.BurstBytes.{BurstFor, burst_bytes_so_far};
 
 use crate::frame_room::{FrameRoom, LONGEST};

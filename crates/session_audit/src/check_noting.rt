@@ -2,7 +2,7 @@
 ghost use Rattle.std.specs.Prelude.{◌≡◌};
 ghost use Rattle.link_format.specs.Profile.{profile_of};
 ghost use Rattle.sequence_journal.specs.declared.numbers.TheConstants.{LIMIT};
-ghost use Rattle.link_verdicts.proofs.Causality.{checker-causal};
+ghost use Rattle.link_walks.proofs.CheckCausality.{checker-causal};
 ghost use Rattle.check_receiver.proofs.Silences.{timely};
 ghost use Rattle.session_audit.specs.NotesTold.{passed_told};
 ghost use Rattle.session_audit.specs.NotingLaws.{checker-has};
@@ -11,7 +11,7 @@ use crate::noting_box::NotingBox;
 use check_receiver::{CheckNote, Checker};
 use hmac_tag::Mac;
 use line_rules::LineRules;
-use replay_lists::Numbered;
+use session_lists::Numbered;
 
 /// Tells the frames that the receiver passes.
 impl<R: LineRules, M: Mac, const B: usize, const D: usize> NotingBox<R> for Checker<R, M, B, D> {

@@ -1,6 +1,6 @@
 //! Room for the bytes of the longest frame.
 ghost use Rattle.std.specs.Prelude.{◌≡◌, ◌+◌, ◌≤◌, [], ◌++◌, length};
-ghost use Rattle.replay_lists.specs.FrameList.{longest_frame};
+ghost use Rattle.session_lists.specs.FrameList.{longest_frame};
 
 use std::marker::Model;
 

@@ -3,8 +3,8 @@ ghost use Rattle.std.specs.Prelude.{◌≡◌, ◌≤◌, ℕ, List, [], All, le
 ghost use Rattle.yasir_ticks.specs.declared.tick.Tick.{Tick};
 ghost use Rattle.link_format.specs.NumberedFrame.{AreNumberedFrom};
 ghost use Rattle.link_format.specs.Setup.{Setup};
-ghost use Rattle.replay_lists.specs.SessionListed.{MayListSession};
-ghost use Rattle.replay_lists.specs.SessionLists.{HasSession};
+ghost use Rattle.session_lists.specs.SessionListed.{MayListSession};
+ghost use Rattle.session_lists.specs.SessionLists.{HasSession};
 ghost use Rattle.session_audit.specs.Sessions.{IsSession};
 ghost use Rattle.session_audit.specs.Through.{timing_of, setups_of, HasTaken, HasTakenSome};
 ghost use Rattle.session_audit.specs.Through.{verdict_through};
@@ -13,7 +13,7 @@ use crate::judging::judge;
 use crate::link_boxes::DEVICE_REST;
 use crate::{Session, Verdict};
 use device_model::Device;
-use replay_lists::{Floors, FrameBox, LINK_REST, SessionLists, Timing};
+use session_lists::{Floors, FrameBox, LINK_REST, SessionLists, Timing};
 use std::alloc::Global;
 use yasir_ticks::T3_5_TICKS;
 

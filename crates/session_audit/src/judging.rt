@@ -3,14 +3,14 @@ ghost use Rattle.std.specs.Prelude.{◌≡◌, ℕ, List, length};
 ghost use Rattle.device_model.specs.Frames.{FrameRead};
 ghost use Rattle.link_format.specs.NumberedFrame.{NumberedFrame, AreNumberedFrom};
 ghost use Rattle.receiver_laws.specs.Accounted.{forged};
-ghost use Rattle.replay_lists.specs.Comparison.{difference_of, expected_reads};
-ghost use Rattle.replay_lists.specs.FrameBox.{kept_frames};
-ghost use Rattle.replay_lists.specs.FrameList.{Holds, IsWhole};
+ghost use Rattle.session_lists.specs.Comparison.{difference_of, expected_reads};
+ghost use Rattle.session_lists.specs.FrameBox.{kept_frames};
+ghost use Rattle.session_lists.specs.FrameList.{Holds, IsWhole};
 ghost use Rattle.session_audit.specs.Judging.{first_head, AreShort};
 ghost use Rattle.session_audit.specs.Verdicts.{counts_of, finding_on, verdict_on};
 
 use crate::{Counts, Finding, Verdict};
-use replay_lists::{Difference, FrameList, Numbered, is_at_its_number};
+use session_lists::{Difference, FrameList, Numbered, is_at_its_number};
 
 // Returns number and start of the first frame that passed and wasn't sealed with its number. The
 // sealed frames must be numbered one after the other, from `floor + 1` on.

@@ -7,7 +7,7 @@ ghost use Rattle.session_audit.specs.Sessions.{kind_of, line_received, verdict_o
 ghost use Rattle.session_audit.specs.declared.session.Session.{Session};
 ghost use Rattle.session_audit.specs.declared.verdict.Counts.{Counts};
 ghost use Rattle.session_audit.specs.declared.verdict.Finding.TheVariants.{Clean, Differs};
-ghost use Rattle.replay_lists.specs.declared.comparison.Difference.{Difference};
+ghost use Rattle.session_lists.specs.declared.comparison.Difference.{Difference};
 
 use dnp_link_frame::Dnp;
 use receiver_laws::{recorded_line_reads_all_that_passed, stated_profiles_are_fit};

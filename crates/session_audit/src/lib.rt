@@ -16,18 +16,31 @@
 //!         Finding::Forged { number, start } => alarm(number, start),
 //!         Finding::Differs(difference) => alarm_at(difference.place),
 //!     }
+//!
+//! Prints the frames of two recordings, a line of a device and a link: a line of text for each
+//! frame that is sealed from the device's line, for each that passes from the link, for each that a
+//! device reads from what passes, and for each that has passed and was never sealed with its
+//! number.
+//!
+//! A box shows its frames as `ShownFrames`, of `session_audit`. `S` and `C` are such boxes:
+//!
+//!     let status = replay_recordings::<S, C, RtuDevice, _, _, _, _, _>(alloc, Dir::Ab, 24, ends);
 #![tactic(auto)]
 
 mod burst_bytes;
 mod check_noting;
+mod command;
 mod frame_room;
+mod groups;
 mod judged_lists;
 mod judging;
 mod laws;
+mod lines;
 mod link_boxes;
 mod noting_box;
 mod over_input;
 mod over_recordings;
+mod printing;
 mod seal_noting;
 mod sealed_frames;
 mod session;
@@ -37,14 +50,15 @@ mod untagged;
 mod verdict;
 
 pub use burst_bytes::BurstBytes;
+pub use command::replay_recordings;
 pub use hmac_tag::Dir;
 pub use laws::{clean_recordings_have_only_sealed_frames, own_line_of_a_receiver_never_differs};
 pub use noting_box::NotingBox;
 pub use over_input::audit_input;
 pub use over_recordings::audit;
-pub use replay_lists::{Difference, NoMemory, ReadFrame};
 pub use sealed_frames::SealedFrames;
 pub use session::Session;
+pub use session_lists::{Difference, NoMemory, ReadFrame};
 pub use shown_frames::ShownFrames;
 pub use steady_disk::SteadyDisk;
 pub use verdict::{Counts, Finding, Verdict};

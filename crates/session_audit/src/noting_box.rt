@@ -1,15 +1,15 @@
 //! What an audit needs from a box: which frame a note numbers.
 ghost use Rattle.std.specs.Prelude.{◌≡◌, ℕ, List, Option};
 ghost use Rattle.yasir_ticks.specs.declared.tick.Tick.{Tick};
-ghost use Rattle.burst_walk.specs.Causal.{IsCausal};
+ghost use Rattle.frame_ending.specs.Causal.{IsCausal};
 ghost use Rattle.frame_ending.specs.SoFar.{live_bytes_so_far};
 ghost use Rattle.link_format.specs.Setup.{Setup};
-ghost use Rattle.replay_lists.specs.declared.frame_box.Numbered.{Numbered};
+ghost use Rattle.session_lists.specs.declared.frame_box.Numbered.{Numbered};
 ghost use Rattle.session_audit.specs.FramesOf.{HasFrames};
 
 use line_rules::LineRules;
 use link_box::LinkBox;
-use replay_lists::Numbered;
+use session_lists::Numbered;
 
 /// A box of a link, by the rules `R`, whose notes tell which frames it numbers. In the step of such
 /// a note, the bytes of its frame are the live bytes of the line's last burst.

@@ -12,7 +12,7 @@ use crate::judged_lists::{judge_lists, lists_for};
 use crate::link_boxes::with_boxes;
 use crate::{Session, Verdict};
 use device_model::Device;
-use replay_lists::{FrameBox, list_session};
+use session_lists::{FrameBox, list_session};
 use std::alloc::Global;
 use tick_drive::End;
 use yasir_io::Source;

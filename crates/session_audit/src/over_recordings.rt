@@ -10,7 +10,7 @@ use crate::judged_lists::{judge_lists, lists_for};
 use crate::link_boxes::with_boxes;
 use crate::{Session, Verdict};
 use device_model::Device;
-use replay_lists::{FrameBox, NoMemory, list_lines};
+use session_lists::{FrameBox, NoMemory, list_lines};
 use std::alloc::Global;
 use yasir_ticks::Tick;
 

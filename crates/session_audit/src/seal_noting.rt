@@ -2,15 +2,15 @@
 ghost use Rattle.std.specs.Prelude.{◌≡◌};
 ghost use Rattle.link_format.specs.Profile.{profile_of};
 ghost use Rattle.sequence_journal.specs.declared.numbers.TheConstants.{LIMIT};
-ghost use Rattle.seal_judgements.proofs.Causality.{sealer-causal};
+ghost use Rattle.link_walks.proofs.SealCausality.{sealer-causal};
 ghost use Rattle.session_audit.specs.NotesTold.{sealed_told};
 ghost use Rattle.session_audit.specs.NotingLaws.{sealer-has};
 
 use crate::noting_box::NotingBox;
 use hmac_tag::Mac;
 use line_rules::LineRules;
-use replay_lists::Numbered;
 use seal_transmitter::{SealNote, Sealer};
+use session_lists::Numbered;
 
 /// Tells the frames that the transmitter seals.
 impl<R: LineRules, M: Mac, const B: usize> NotingBox<R> for Sealer<R, M, B> {

@@ -8,8 +8,8 @@ use crate::steady_disk::SteadyDisk;
 use crate::untagged::Untagged;
 use hmac_tag::{Dir, Mac};
 use line_rules::LineRules;
-use replay_lists::{FrameBox, FrameStep, RunBytes};
 use seal_transmitter::Sealer;
+use session_lists::{FrameBox, FrameStep, RunBytes};
 use yasir_ticks::Tick;
 
 /// The frames that a transmitter seals, by the rules `R`, with words of `B` bytes and tags by `M`.

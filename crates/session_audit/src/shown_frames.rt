@@ -9,8 +9,8 @@ use crate::steady_disk::{SteadyDisk, journal_at};
 use hmac_tag::Dir;
 use line_rules::LineRules;
 use link_box::take_alike;
-use replay_lists::{FrameBox, FrameStep, Numbered, RunBytes};
 use sequence_journal::Journal;
+use session_lists::{FrameBox, FrameStep, Numbered, RunBytes};
 use std::marker::PhantomData;
 use yasir_ticks::{Tick, TickRun};
 

@@ -1,5 +1,5 @@
 //! The verdict of an audit.
-use replay_lists::Difference;
+use session_lists::Difference;
 
 /// How many frames were sealed, have passed and were read.
 #[derive(Clone, Copy, Debug, PartialEq, Eq)]

@@ -1,5 +1,5 @@
 -- A spacer behind the receiver gives all that comes over an untouched link.
-use Rattle.{burst_walk.proofs.Spread.EndBy, device_model.specs.Frames.FrameRead}
+use Rattle.{frame_ending.proofs.Spread.EndBy, device_model.specs.Frames.FrameRead}
 use Rattle.line_spacer.{proofs.Sending.free_from-append, specs.Arrivals.Arrival}
 use Rattle.line_spacer.specs.{Arrivals.arrivals, Spacing.Spaced, Spacing.count_from}
 use Rattle.line_spacer.specs.Spacing.{free_from, sent_from, take_in, accepted_of, lost_of}

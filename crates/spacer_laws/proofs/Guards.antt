@@ -1,11 +1,11 @@
 -- The spacers of each protocol, behind the receiver.
-use Rattle.burst_walk.{proofs.Spread.bursts-spread, specs.Walk.emitted}
+use Rattle.frame_ending.{proofs.Spread.bursts-spread, specs.Walk.emitted}
 use Rattle.device_model.specs.{Frames.FrameRead, Hunt.timed, Hunt.hunt, Hunt.hunt_anew}
 use Rattle.device_model.specs.{HuntFamily.hunt_family, HuntLaws.IsHunted, RtuReads.is_frame_body}
 use Rattle.line_rules.specs.{Rules.Rules, RulesLaws.IsLawful, RulesLaws.IsHeaded}
 use Rattle.line_rules.specs.{RulesLaws.IsFramed, Spoiling.IsSpoiling}
 use Rattle.link_format.specs.Profile.{Profile, delay}
-use Rattle.link_verdicts.specs.Checking.{checker, at_floor}
+use Rattle.link_walks.specs.Checking.{checker, at_floor}
 use Rattle.receiver_laws.proofs.Anew.{anew-hunter, anew_reads_what_passed}
 use Rattle.receiver_laws.proofs.HunterReadings.{plain-hunter, emissions-taken}
 use Rattle.receiver_laws.proofs.{HunterReadings.hunt_reads_what_passed, Hunters.hunter-laid}

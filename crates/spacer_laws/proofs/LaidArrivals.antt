@@ -1,6 +1,6 @@
 -- What a device reads of bursts that are laid on a line, and in which steps it reads them.
-use Rattle.burst_walk.proofs.{Emissions.laid-more, Spread.AreSpread}
-use Rattle.burst_walk.specs.Laid.{tick_at, laid}
+use Rattle.frame_ending.proofs.{Emissions.laid-more, Spread.AreSpread}
+use Rattle.frame_ending.specs.Laid.{tick_at, laid}
 use Rattle.device_model.{proofs.ReadLaws.frames_ended, specs.Frames.FrameRead}
 use Rattle.{device_model.specs.RtuReads.frame_in, line_spacer.proofs.Arriving.arrivals-one}
 use Rattle.line_spacer.specs.Arrivals.{Arrival, arriving, arrivals_behind, arrivals}

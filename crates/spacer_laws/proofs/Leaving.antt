@@ -1,6 +1,6 @@
 -- All accepted frames have left after as many ticks as the frames that may wait, and one more, can
 -- take.
-use Rattle.burst_walk.proofs.Spread.{EndBy, bursts_from-end}
+use Rattle.frame_ending.proofs.Spread.{EndBy, bursts_from-end}
 use Rattle.device_model.proofs.{HuntSteps.timed-silences, ReadLaws.frames_read-append}
 use Rattle.device_model.{proofs.ReadLaws.frames_read-ended, specs.Frames.FrameRead}
 use Rattle.device_model.specs.{Hunt.timed, Hunt.timed_bytes, Hunt.hunt, HuntFamily.hunt_family}

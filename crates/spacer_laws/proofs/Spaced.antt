@@ -1,5 +1,5 @@
 -- What is on a spaced line, and what a device reads of it.
-use Rattle.burst_walk.specs.Laid.{laid}
+use Rattle.frame_ending.specs.Laid.{laid}
 use Rattle.device_model.specs.{Frames.FrameRead, Hunt.timed, Hunt.hunt, Hunt.hunt_anew}
 use Rattle.device_model.specs.{HuntFamily.hunt_family, HuntLaws.IsHunted, RtuReads.is_frame_body}
 use Rattle.line_rules.specs.{Rules.Rules, RulesLaws.IsHeaded, RulesLaws.IsFramed}

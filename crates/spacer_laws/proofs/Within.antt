@@ -1,8 +1,8 @@
 -- What is on a line before tick m, if bursts are laid on it, is the part of them that comes before
 -- m.
-use Rattle.burst_walk.proofs.Emissions.{tick_at-none, laid-same}
-use Rattle.burst_walk.proofs.{LaidBursts.bursts-laid, Spread.AreSpread, Spread.EndBy}
-use Rattle.burst_walk.specs.Laid.{tick_at, laid}
+use Rattle.frame_ending.proofs.Emissions.{tick_at-none, laid-same}
+use Rattle.frame_ending.proofs.{LaidBursts.bursts-laid, Spread.AreSpread, Spread.EndBy}
+use Rattle.frame_ending.specs.Laid.{tick_at, laid}
 use Rattle.line_rules.specs.{Rules.Rules, RulesLaws.IsFramed}
 use Rattle.spacer_laws.specs.SpacesOut.{IsSent, AreApart, within}
 use Rattle.std.proofs.Common.{◌≡◌, ◌∙◌, ℕ, zero, suc, ◌+◌, ◌-◌, ◌<◌, ◌≤◌, List, [], ◌∷◌, length}

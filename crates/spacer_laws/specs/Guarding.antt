@@ -4,13 +4,13 @@ use Rattle.yasir_ticks.specs.Ticks.{silent}
 use Rattle.yasir_ticks.specs.declared.tick.Tick.{Tick}
 use Rattle.yasir_ticks.specs.declared.tick.Tick.TheVariants.{Byte}
 use Rattle.line_rules.specs.Rules.{Rules}
-use Rattle.burst_walk.specs.Longer.{Begins}
+use Rattle.frame_ending.specs.Longer.{Begins}
 use Rattle.device_model.specs.Frames.{FrameRead}
 use Rattle.sequence_journal.specs.Uptimes.{RiseFrom}
 use Rattle.link_format.specs.NumberedFrame.{NumberedFrame, numbers_of}
 use Rattle.link_format.specs.Profile.{Profile}
-use Rattle.seal_judgements.specs.Sealing.{sealed}
-use Rattle.link_verdicts.specs.Checking.{passed, received_line}
+use Rattle.link_walks.specs.Sealing.{sealed}
+use Rattle.link_walks.specs.Checking.{passed, received_line}
 use Rattle.receiver_laws.specs.Accounted.{IsSubsequence, IsAccountedFor, forged}
 use Rattle.receiver_laws.specs.Headline.{bytes_sealed}
 use Rattle.line_spacer.specs.Spacing.{spaced_line}

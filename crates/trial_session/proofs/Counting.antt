@@ -1,7 +1,7 @@
 -- What a box counts in one more step, and in one more run.
-use Rattle.burst_walk.proofs.Longer.{length-line_of}
-use Rattle.burst_walk.specs.Answers.{AnswersTick, told_notes, note_in}
-use Rattle.burst_walk.specs.{Runs.AnswersRun, Walk.Walker, Walk.Noted, Walk.notes_of, Walk.line_of}
+use Rattle.frame_ending.proofs.Longer.{length-line_of}
+use Rattle.frame_ending.specs.Answers.{AnswersTick, told_notes, note_in}
+use Rattle.frame_ending.specs.{Runs.AnswersRun, Walk.Walker, Walk.Noted, Walk.notes_of, Walk.line_of}
 use Rattle.link_box.specs.Walking.{Walking, full_notes}
 use Rattle.std.proofs.Common.{◌≡◌, ◌∙◌, ℕ, ◌+◌, Bool, List, [], ◌∷◌, ◌++◌, length, refl, ap, sym}
 use Rattle.std.proofs.Common.{arith, Option, Some, None, cond, length-append}

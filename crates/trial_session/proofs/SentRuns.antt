@@ -1,5 +1,5 @@
 -- Runs that are sent.
-use Rattle.burst_walk.specs.Answered.{answered}
+use Rattle.frame_ending.specs.Answered.{answered}
 use Rattle.link_box.specs.declared.box_trait.LinkBox.{Ghosts as LinkBox}
 use Rattle.{sequence_journal.specs.Journal.journal_floor, std.proofs.Common.◌≡◌}
 use Rattle.std.proofs.Common.{◌∙◌, ℕ, zero, suc, ◌+◌, ◌-◌, List, [], ◌∷◌, ◌++◌, length, take, drop}

@@ -1,5 +1,5 @@
 -- Boxes that have taken nothing, over new journals on disks that never fail.
-use Rattle.burst_walk.specs.Walk.{Walker, notes_of, line_of}
+use Rattle.frame_ending.specs.Walk.{Walker, notes_of, line_of}
 use Rattle.sequence_journal.specs.Journal.{journal_floor, RefusesInit}
 use Rattle.sequence_journal.specs.{Slots.greatest, declared.journal.InitError.InitError}
 use Rattle.sequence_journal.specs.declared.journal.InitError.TheVariants.{Fault, Stands}

@@ -2,7 +2,7 @@
 use Rattle.std.specs.Prelude.{◌≡◌, ℕ, Bool, true, false, List, length}
 use Rattle.std.specs.List.{filter}
 use Rattle.yasir_ticks.specs.declared.tick.Tick.{Tick}
-use Rattle.burst_walk.specs.Walk.{Noted}
+use Rattle.frame_ending.specs.Walk.{Noted}
 use Rattle.link_box.specs.Walking.{Walking, full_notes, other_line}
 use Rattle.trial_session.specs.Boxes.{trial_setup}
 use Rattle.trial_session.specs.Counting.{Counting}

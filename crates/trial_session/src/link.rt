@@ -47,7 +47,7 @@ impl Link {
     ghost use Rattle.yasir_ticks.specs.Ticks.{silent};
     ghost use Rattle.yasir_ticks.specs.TickRun.{run_ticks};
     ghost use Rattle.yasir_ticks.specs.declared.tick.Tick.TheVariants.{Byte};
-    ghost use Rattle.burst_walk.specs.Answered.{answered};
+    ghost use Rattle.frame_ending.specs.Answered.{answered};
     ghost use Rattle.trial_session.specs.Links.{link_sent};
 
     /// A link on which nothing has been sent.

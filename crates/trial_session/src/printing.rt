@@ -4,8 +4,8 @@ ghost use Rattle.trial_session.specs.Summaries.{session_summary};
 ghost use Rattle.trial_session.specs.TrialLine.{worded, trial_line};
 
 use crate::{CountingBox, DrawnFrames, Summary, try_session};
+use command_ends::{Line, push_decimal};
 use device_model::Device;
-use replay_status::{Line, push_decimal};
 
 // Appends a word and then a number, each with a blank before it.
 fn push_worded(line: &mut Line, word: &[u8], n: u64)

@@ -4,8 +4,8 @@ use crate::link::Link;
 use crate::listening::Listening;
 use crate::side::Side;
 use crate::waiting::Waiting;
-use burst_walk::RunBytes;
 use device_model::Device;
+use frame_ending::RunBytes;
 use yasir_ticks::{MAX_TICKS, TickRun};
 
 /// The receiver `C`, and the device `V` that hears the receiver's line.

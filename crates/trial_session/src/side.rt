@@ -2,7 +2,7 @@
 use crate::counting_box::CountingBox;
 use crate::fate::Fate;
 use crate::link::Link;
-use burst_walk::RunBytes;
+use frame_ending::RunBytes;
 use hmac_tag::Dir;
 use sequence_journal::Journal;
 use yasir_io::SteadySlots;
@@ -37,7 +37,7 @@ impl<X: CountingBox> Side<X> {
     ghost use Rattle.trial_session.specs.Counting.{through_in, refused_in, dropped_in};
     ghost use Rattle.trial_session.specs.Counting.{CountsNothing};
     ghost use Rattle.trial_session.specs.Sides.{MayTake, HasTaken, HasSent, HasPassed};
-    ghost use Rattle.burst_walk.specs.Answered.{answered};
+    ghost use Rattle.frame_ending.specs.Answered.{answered};
 
     /// A new box over a new journal.
     pub fn new() -> Side<X>

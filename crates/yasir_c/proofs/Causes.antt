@@ -1,6 +1,7 @@
 -- Calls that take no tick, and return no answer.
-use Rattle.any_spacer.specs.{Held.StepsOrFull, declared.forgetful.ForgetfulDevice.ForgetfulDevice}
-use Rattle.any_spacer.specs.declared.held_spacer.HeldSpacer.{HeldSpacer}
+use Rattle.any_box.specs.HeldSpacers.{StepsOrFull}
+use Rattle.any_box.specs.declared.forgetful.ForgetfulDevice.{ForgetfulDevice}
+use Rattle.any_box.specs.declared.held_spacer.HeldSpacer.{HeldSpacer}
 use Rattle.device_model.specs.declared.{device.Device.Ghosts as Device, rtu.RtuDevice.RtuDevice}
 use Rattle.dnp_link_frame.specs.declared.dnp.Dnp.{Dnp}
 use Rattle.hmac_tag.specs.declared.{macs.HmacSha1.HmacSha1, macs.HmacSha256.HmacSha256}

@@ -2,7 +2,7 @@
 use Rattle.std.specs.Prelude.{◌≡◌, ℕ, ◌<◌, ◌≤◌, ◌⊎◌, List, [], length, take, Option, Some, None}
 use Rattle.yasir_ticks.specs.declared.TheConstants.{MAX_TICKS}
 use Rattle.yasir_ticks.specs.declared.tick.Tick.{Tick}
-use Rattle.burst_walk.specs.Answered.{answered}
+use Rattle.frame_ending.specs.Answered.{answered}
 use Rattle.rtu_frame.specs.declared.rtu.Rtu.{Rtu}
 use Rattle.dnp_link_frame.specs.declared.dnp.Dnp.{Dnp}
 use Rattle.line_rules.specs.declared.line_rules.LineRules.{Ghosts as LineRules}
@@ -14,9 +14,9 @@ use Rattle.line_spacer.specs.declared.spacer.SpaceStep.{SpaceStep}
 use Rattle.any_box.specs.Held.{floor_held, ticks_held, StepsHeld, TakesHeld}
 use Rattle.any_box.specs.declared.held_box.HeldBox.{HeldBox}
 use Rattle.any_box.specs.declared.held_box.HeldStep.{HeldStep}
-use Rattle.any_spacer.specs.Held.{spacer_ticks, StepsSpacer}
-use Rattle.any_spacer.specs.declared.forgetful.ForgetfulDevice.{ForgetfulDevice}
-use Rattle.any_spacer.specs.declared.held_spacer.HeldSpacer.{HeldSpacer}
+use Rattle.any_box.specs.HeldSpacers.{spacer_ticks, StepsSpacer}
+use Rattle.any_box.specs.declared.forgetful.ForgetfulDevice.{ForgetfulDevice}
+use Rattle.any_box.specs.declared.held_spacer.HeldSpacer.{HeldSpacer}
 use Rattle.yasir_c.specs.Withholding.{ready, withholding, stopped, after_step}
 use Rattle.yasir_c.specs.declared.answer.Answer.{Answer}
 use Rattle.yasir_c.specs.declared.held.Held.{Held}

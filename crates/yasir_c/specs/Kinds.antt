@@ -5,10 +5,10 @@ use Rattle.hmac_tag.specs.declared.dir.Dir.TheVariants.{Ab, Ba}
 use Rattle.any_box.specs.declared.kind.Kind.{Kind}
 use Rattle.any_box.specs.declared.kind.Part.{Part}
 use Rattle.any_box.specs.declared.kind.Part.TheVariants.{Sealer, Checker}
-use Rattle.link_words.specs.declared.words.Profile.{Profile}
-use Rattle.link_words.specs.declared.words.Profile.TheVariants.{Y18, Y24}
-use Rattle.link_words.specs.declared.words.Proto.{Proto}
-use Rattle.link_words.specs.declared.words.Proto.TheVariants.{Rtu, Dnp3}
+use Rattle.command_ends.specs.declared.words.Profile.{Profile}
+use Rattle.command_ends.specs.declared.words.Profile.TheVariants.{Y18, Y24}
+use Rattle.command_ends.specs.declared.words.Proto.{Proto}
+use Rattle.command_ends.specs.declared.words.Proto.TheVariants.{Rtu, Dnp3}
 use Rattle.yasir_c.specs.declared.kind.KindNumbers.{KindNumbers}
 
 abbrev pub part_number : Part → ℕ

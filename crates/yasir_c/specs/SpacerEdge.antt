@@ -5,11 +5,11 @@ use Rattle.device_model.specs.declared.device.Device.{Ghosts as Device}
 use Rattle.device_model.specs.declared.rtu.RtuDevice.{RtuDevice}
 use Rattle.line_spacer.specs.declared.spacer.SpaceStep.{SpaceStep}
 use Rattle.dnp_link_frame.specs.declared.dnp.Dnp.{Dnp}
-use Rattle.any_spacer.specs.Held.{BeginsSpacer}
-use Rattle.any_spacer.specs.declared.any_spacer.SpacerKind.{SpacerKind}
-use Rattle.any_spacer.specs.declared.any_spacer.SpacerKind.TheVariants.{Rtu, RtuWide, Dnp3, Dnp3Wide}
-use Rattle.any_spacer.specs.declared.forgetful.ForgetfulDevice.{ForgetfulDevice}
-use Rattle.any_spacer.specs.declared.held_spacer.HeldSpacer.{HeldSpacer}
+use Rattle.any_box.specs.HeldSpacers.{BeginsSpacer}
+use Rattle.any_box.specs.declared.any_spacer.SpacerKind.{SpacerKind}
+use Rattle.any_box.specs.declared.any_spacer.SpacerKind.TheVariants.{Rtu, RtuWide, Dnp3, Dnp3Wide}
+use Rattle.any_box.specs.declared.forgetful.ForgetfulDevice.{ForgetfulDevice}
+use Rattle.any_box.specs.declared.held_spacer.HeldSpacer.{HeldSpacer}
 use Rattle.yasir_c.specs.Answers.{tick_bytes, tick_in}
 use Rattle.yasir_c.specs.Holding.{HoldsOne, SpacesTick, SpacesNoTick}
 use Rattle.yasir_c.specs.declared.held.Held.{Held}

@@ -1,7 +1,7 @@
 //! The law about all that C reads of a box.
 ghost use Rattle.std.specs.Prelude.{◌≡◌, ℕ, List, [], ◌∷◌, ◌++◌, Some, None, map, take};
 ghost use Rattle.yasir_ticks.specs.declared.tick.Tick.{Tick};
-ghost use Rattle.burst_walk.specs.Answered.{answered};
+ghost use Rattle.frame_ending.specs.Answered.{answered};
 ghost use Rattle.hmac_tag.specs.declared.dir.Dir.{Dir};
 ghost use Rattle.link_format.specs.Setup.{Setup, setup_of};
 ghost use Rattle.any_box.specs.Held.{floor_held, Begins};

@@ -7,7 +7,7 @@ use crate::handle::{Handle, put_in, taken_out};
 use crate::held::Held;
 use crate::spaced::Spaced;
 use crate::status::Status;
-use any_spacer::{ForgetfulDnp, HeldSpacer, SpacerKind};
+use any_box::{ForgetfulDnp, HeldSpacer, SpacerKind};
 use device_model::{Device, RtuDevice};
 use std::alloc::Global;
 

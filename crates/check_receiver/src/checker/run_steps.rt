@@ -1,7 +1,7 @@
 //! Runs of ticks that the receiver takes at once, in each of its phases.
 use super::{Checker, PAUSE};
 use crate::runs::{alike_along, cut_some, lend, lend_along, noteless_front};
-use burst_walk::RunBytes;
+use frame_ending::RunBytes;
 use hmac_tag::Mac;
 use line_rules::LineRules;
 use yasir_ticks::{MAX_TICKS, Tick};
@@ -28,7 +28,7 @@ impl<R: LineRules, M: Mac, const B: usize, const D: usize> Checker<R, M, B, D> {
     ghost use Rattle.std.specs.Prelude.{slice_index_or};
     ghost use Rattle.std.specs.Prelude.{map, take};
     ghost use Rattle.yasir_ticks.specs.Ticks.{silent};
-    ghost use Rattle.burst_walk.specs.Answered.{answered};
+    ghost use Rattle.frame_ending.specs.Answered.{answered};
     ghost use Rattle.check_receiver.specs.Stands.{StandsAt, direction_of};
     ghost use Rattle.check_receiver.specs.Runs.{HasTakenRun, BeginsNone};
     ghost use Rattle.spoiler.specs.Outlet.{owed_by};

@@ -1,11 +1,10 @@
 //! What a single tick does after it is cut: a byte of a burst, a byte that isn't live, or silence.
 use super::{Checker, PAUSE};
 use crate::phase::Phase;
-use burst_walk::BoxStep;
-use frame_ending::Cut;
+use frame_ending::{BoxStep, Cut};
 use hmac_tag::Mac;
 use line_rules::{Head, LineRules};
-use link_verdicts::{CheckNote, RefusedWhy};
+use link_walks::{CheckNote, RefusedWhy};
 use sequence_journal::{Journal, JournalFault, LIMIT};
 use yasir_io::SlotDisk;
 use yasir_ticks::{MAX_TICKS, Tick};

@@ -1,12 +1,12 @@
 //! The commands `help` and `version`: each prints a text of the program.
 ghost use Rattle.std.specs.Prelude.{Some};
-ghost use Rattle.replay_status.specs.Ends.{outside_before, outside_after};
+ghost use Rattle.command_ends.specs.Ends.{outside_before, outside_after};
 ghost use Rattle.link_replay.specs.declared.words.Command.TheVariants.{Help, Version};
 ghost use Rattle.link_replay.specs.AboutCommands.{Helps, TellsVersion};
 ghost use Rattle.link_replay.specs.Commands.{HasCauses};
 
 use crate::commands::printing::print_alone;
-use replay_status::{Ends, Status};
+use command_ends::{Ends, Status};
 use yasir_io::{Sink, SlotDisk, Source};
 
 /// The line that `version` prints: the name of the program and its version.

@@ -2,9 +2,9 @@
 ghost use Rattle.std.specs.Prelude.{◌≡◌, ◌+◌, ◌≤◌, ◌++◌, List, Some, length};
 ghost use Rattle.yasir_ticks.specs.declared.tick.Tick.{Tick};
 ghost use Rattle.sequence_journal.specs.declared.numbers.TheConstants.{LIMIT};
-ghost use Rattle.replay_status.specs.Causes.{InputCause, SinkCause};
-ghost use Rattle.replay_status.specs.Ends.{outside_before, outside_after};
-ghost use Rattle.replay_status.specs.Flushes.{FlushesAtEnd};
+ghost use Rattle.command_ends.specs.Causes.{InputCause, SinkCause};
+ghost use Rattle.command_ends.specs.Ends.{outside_before, outside_after};
+ghost use Rattle.command_ends.specs.Flushes.{FlushesAtEnd};
 ghost use Rattle.session_audit.specs.Sessions.{IsSession, verdict_of};
 ghost use Rattle.link_replay.specs.declared.words.Command.TheVariants.{Audit};
 ghost use Rattle.link_replay.specs.AuditCommand.{Audits, AuditsItems, PrintsFinding, audited_verdict};
@@ -12,11 +12,12 @@ ghost use Rattle.link_replay.specs.AuditCommand.{counts_words, finding_status, f
 ghost use Rattle.link_replay.specs.AuditCommand.{frame_or_none, frames_lines, verdict_text};
 ghost use Rattle.link_replay.specs.Commands.{HasCauses};
 
-use device_replay::write_frame_line;
+use command_ends::{
+    Ends, KeyError, Profile, Proto, Status, Unclean, append_decimal, link_of, print_text, read_key,
+    status_of,
+};
 use hmac_tag::Dir;
-use key_text::{KeyError, read_key};
-use link_words::{Profile, Proto, link_of};
-use replay_status::{Ends, Status, Unclean, append_decimal, print_text, status_of};
+use line_commands::write_frame_line;
 use session_audit::{Counts, Finding, ReadFrame, Session, Verdict, audit_input};
 use std::alloc::Global;
 use tick_drive::End;

@@ -1,17 +1,16 @@
 //! The command `check`: runs the receiver over a recorded link.
 ghost use Rattle.std.specs.Prelude.{Some};
-ghost use Rattle.replay_status.specs.Ends.{outside_before, outside_after};
-ghost use Rattle.box_command.specs.ReplaysBox.{KeepsFloorThroughout};
+ghost use Rattle.command_ends.specs.Ends.{outside_before, outside_after};
+ghost use Rattle.line_commands.specs.ReplaysBox.{KeepsFloorThroughout};
 ghost use Rattle.link_replay.specs.declared.words.Command.TheVariants.{Check};
 ghost use Rattle.link_replay.specs.Commands.{HasCauses};
-ghost use Rattle.link_words.specs.Links.{link_of};
+ghost use Rattle.command_ends.specs.Links.{link_of};
 ghost use Rattle.link_replay.specs.CheckCommand.{Checks};
 
-use box_command::{CHECK_REST, replay_box};
 use check_receiver::Checker;
+use command_ends::{Ends, Profile, Proto, Status, link_of, with_link};
 use hmac_tag::Dir;
-use link_words::{Profile, Proto, link_of, with_link};
-use replay_status::{Ends, Status};
+use line_commands::{CHECK_REST, replay_box};
 use yasir_io::{Sink, SlotDisk, Source};
 
 // Runs the receiver over the input.

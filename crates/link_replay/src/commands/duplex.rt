@@ -1,22 +1,20 @@
 //! The command `duplex`: runs a duplex box over two recordings.
 ghost use Rattle.std.specs.Prelude.{◌≡◌, Some};
-ghost use Rattle.replay_status.specs.Causes.{InputCause, SinkCause};
-ghost use Rattle.replay_status.specs.Ends.{outside_before, outside_after};
-ghost use Rattle.replay_status.specs.Flushes.{FlushesAtEnd};
-ghost use Rattle.replay_status.specs.StreamCauses.{HasStreamCauses};
-ghost use Rattle.box_command.specs.KeptBox.{timed_of};
-ghost use Rattle.box_command.specs.Recording.{both_with};
+ghost use Rattle.command_ends.specs.Causes.{InputCause, SinkCause};
+ghost use Rattle.command_ends.specs.Ends.{outside_before, outside_after};
+ghost use Rattle.command_ends.specs.Flushes.{FlushesAtEnd};
+ghost use Rattle.command_ends.specs.StreamCauses.{HasStreamCauses};
+ghost use Rattle.line_commands.specs.KeptBox.{timed_of};
+ghost use Rattle.line_commands.specs.Recording.{both_with};
 ghost use Rattle.link_replay.specs.declared.words.Command.TheVariants.{Duplex};
 ghost use Rattle.link_replay.specs.Commands.{HasCauses};
 ghost use Rattle.link_replay.specs.DuplexCommand.{DuplexesWith, DuplexesKeyed, Duplexes};
 ghost use Rattle.link_replay.specs.DuplexCommand.{both_in};
 
-use box_command::{LineBox, print_both, record_both};
 use check_receiver::Checker;
+use command_ends::{Ends, KeyError, Profile, Proto, Status, read_key, status_of, with_link};
 use hmac_tag::Dir;
-use key_text::{KeyError, read_key};
-use link_words::{Profile, Proto, with_link};
-use replay_status::{Ends, Status, status_of};
+use line_commands::{LineBox, print_both, record_both};
 use seal_transmitter::Sealer;
 use std::alloc::Global;
 use yasir_io::{Sink, SlotDisk, Source};

@@ -3,15 +3,14 @@ ghost use Rattle.std.specs.Prelude.{Some};
 ghost use Rattle.yasir_io.specs.declared.disk.Slot.TheVariants.{A};
 ghost use Rattle.yasir_io.specs.Disks.{LeavesOnly};
 ghost use Rattle.sequence_journal.specs.Journal.{IsBut};
-ghost use Rattle.replay_status.specs.Ends.{outside_before, outside_after};
+ghost use Rattle.command_ends.specs.Ends.{outside_before, outside_after};
 ghost use Rattle.link_replay.specs.declared.words.Command.TheVariants.{Init};
 ghost use Rattle.link_replay.specs.Commands.{HasCauses};
 ghost use Rattle.link_replay.specs.InitCommand.{Inits};
-ghost use Rattle.link_words.specs.Links.{link_of};
+ghost use Rattle.command_ends.specs.Links.{link_of};
 
+use command_ends::{Ends, Profile, Proto, Status, flush_both, link_of};
 use hmac_tag::Dir;
-use link_words::{Profile, Proto, link_of};
-use replay_status::{Ends, Status, flush_both};
 use sequence_journal::{InitError, Journal};
 use yasir_io::{Sink, SlotDisk, Source};
 

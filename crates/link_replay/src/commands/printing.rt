@@ -1,10 +1,10 @@
 //! Prints a text, which is all that some commands do.
-ghost use Rattle.replay_status.specs.Causes.{InputCause, DiskCause};
-ghost use Rattle.replay_status.specs.Ends.{outside_before, outside_after};
-ghost use Rattle.replay_status.specs.StreamCauses.{HasStreamCauses};
+ghost use Rattle.command_ends.specs.Causes.{InputCause, DiskCause};
+ghost use Rattle.command_ends.specs.Ends.{outside_before, outside_after};
+ghost use Rattle.command_ends.specs.StreamCauses.{HasStreamCauses};
 ghost use Rattle.link_replay.specs.Printing.{Prints};
 
-use replay_status::{Ends, Status, print_text};
+use command_ends::{Ends, Status, print_text};
 use yasir_io::{Sink, SlotDisk, Source};
 
 /// Prints a text to the output, and then flushes both sinks. Nothing is read.

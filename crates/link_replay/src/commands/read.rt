@@ -1,14 +1,13 @@
 //! The command `read`: prints the frames that a device reads from a recorded line.
 ghost use Rattle.std.specs.Prelude.{Some};
-ghost use Rattle.replay_status.specs.Ends.{outside_before, outside_after};
+ghost use Rattle.command_ends.specs.Ends.{outside_before, outside_after};
 ghost use Rattle.link_replay.specs.declared.words.Command.TheVariants.{Read};
 ghost use Rattle.link_replay.specs.Commands.{HasCauses};
 ghost use Rattle.link_replay.specs.ReadCommand.{Reads};
 
+use command_ends::{Ends, Proto, Status};
 use device_model::{DnpDevice, RtuDevice};
-use device_replay::read_frames;
-use link_words::Proto;
-use replay_status::{Ends, Status};
+use line_commands::read_frames;
 use yasir_io::{Sink, SlotDisk, Source};
 
 /// Prints the frames that the device of a protocol reads from a recorded line. It isn't inlined:

@@ -1,16 +1,14 @@
 //! The command `replay`: prints what was sealed, passed, read and forged in two recordings.
 ghost use Rattle.std.specs.Prelude.{Some};
-ghost use Rattle.replay_status.specs.Ends.{outside_before, outside_after};
+ghost use Rattle.command_ends.specs.Ends.{outside_before, outside_after};
 ghost use Rattle.link_replay.specs.declared.words.Command.TheVariants.{Replay};
 ghost use Rattle.link_replay.specs.Commands.{HasCauses};
 ghost use Rattle.link_replay.specs.ReplayCommand.{Replays};
 
 use check_receiver::Checker;
+use command_ends::{Ends, Profile, Proto, Status, with_link};
 use hmac_tag::Dir;
-use link_words::{Profile, Proto, with_link};
-use recordings_replay::replay_recordings;
-use replay_status::{Ends, Status};
-use session_audit::{SealedFrames, ShownFrames};
+use session_audit::{SealedFrames, ShownFrames, replay_recordings};
 use std::alloc::Global;
 use yasir_io::{Sink, SlotDisk, Source, SteadySlots};
 

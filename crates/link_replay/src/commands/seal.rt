@@ -1,16 +1,15 @@
 //! The command `seal`: runs the transmitter over the recorded line of a device.
 ghost use Rattle.std.specs.Prelude.{Some};
-ghost use Rattle.replay_status.specs.Ends.{outside_before, outside_after};
-ghost use Rattle.box_command.specs.ReplaysBox.{KeepsFloorThroughout};
+ghost use Rattle.command_ends.specs.Ends.{outside_before, outside_after};
+ghost use Rattle.line_commands.specs.ReplaysBox.{KeepsFloorThroughout};
 ghost use Rattle.link_replay.specs.declared.words.Command.TheVariants.{Seal};
 ghost use Rattle.link_replay.specs.Commands.{HasCauses};
-ghost use Rattle.link_words.specs.Links.{link_of};
+ghost use Rattle.command_ends.specs.Links.{link_of};
 ghost use Rattle.link_replay.specs.SealCommand.{Seals};
 
-use box_command::{SEAL_REST, replay_box};
+use command_ends::{Ends, Profile, Proto, Status, link_of, with_link};
 use hmac_tag::Dir;
-use link_words::{Profile, Proto, link_of, with_link};
-use replay_status::{Ends, Status};
+use line_commands::{SEAL_REST, replay_box};
 use seal_transmitter::Sealer;
 use yasir_io::{Sink, SlotDisk, Source};
 

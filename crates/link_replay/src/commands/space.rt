@@ -1,17 +1,16 @@
 //! The command `space`: runs a spacer over a recorded line.
 ghost use Rattle.std.specs.Prelude.{Some};
-ghost use Rattle.replay_status.specs.Ends.{outside_before, outside_after};
+ghost use Rattle.command_ends.specs.Ends.{outside_before, outside_after};
 ghost use Rattle.link_replay.specs.declared.words.Command.TheVariants.{Space};
 ghost use Rattle.link_replay.specs.Commands.{HasCauses};
 ghost use Rattle.link_replay.specs.SpaceCommand.{Spaces, SpacesTexts};
-ghost use Rattle.link_words.specs.declared.words.Profile.{Profile};
-ghost use Rattle.link_words.specs.declared.words.Proto.{Proto};
-ghost use Rattle.space_replay.specs.SpacedTexts.{spaced_texts};
+ghost use Rattle.command_ends.specs.declared.words.Profile.{Profile};
+ghost use Rattle.command_ends.specs.declared.words.Proto.{Proto};
+ghost use Rattle.line_commands.specs.SpacedTexts.{spaced_texts};
 
+use command_ends::{Ends, Profile, Proto, Status, with_link};
+use line_commands::{LineSpacer, space_frames};
 use line_spacer::Spacer;
-use link_words::{Profile, Proto, with_link};
-use replay_status::{Ends, Status};
-use space_replay::{LineSpacer, space_frames};
 use std::alloc::Global;
 use yasir_io::{Sink, SlotDisk, Source};
 

@@ -1,12 +1,12 @@
 //! The command `vectors`: checks the tables of known answers.
 ghost use Rattle.std.specs.Prelude.{◌≡◌, ◌+◌, ◌≤◌, ◌++◌, length, codes, Some};
-ghost use Rattle.replay_status.specs.Ends.{outside_before, outside_after};
+ghost use Rattle.command_ends.specs.Ends.{outside_before, outside_after};
 ghost use Rattle.link_replay.specs.declared.words.Command.TheVariants.{Vectors};
 ghost use Rattle.link_replay.specs.Commands.{HasCauses};
 ghost use Rattle.link_replay.specs.VectorsCommand.{table_line, table_lines, Tabulates};
 
 use crate::commands::printing::print_alone;
-use replay_status::{Ends, Line, Status, push_decimal};
+use command_ends::{Ends, Line, Status, push_decimal};
 use vectors::{Miss, crc_table, frames_table, hmac_table, user_table};
 use yasir_io::{Sink, SlotDisk, Source};
 

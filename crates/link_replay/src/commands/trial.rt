@@ -1,16 +1,15 @@
 //! The command `trial`: runs a session that is made from a number.
 ghost use Rattle.std.specs.Prelude.{◌≡◌, ◌≤◌, length, Some};
-ghost use Rattle.replay_status.specs.Ends.{outside_before, outside_after};
+ghost use Rattle.command_ends.specs.Ends.{outside_before, outside_after};
 ghost use Rattle.trial_session.specs.TrialLine.{trial_line};
 ghost use Rattle.link_replay.specs.declared.words.Command.TheVariants.{Trial};
 ghost use Rattle.link_replay.specs.Commands.{HasCauses};
 ghost use Rattle.link_replay.specs.TrialCommand.{trial_counts, Tries};
-ghost use Rattle.link_words.specs.Words.{link_word};
+ghost use Rattle.command_ends.specs.Words.{link_word};
 
 use crate::commands::printing::print_alone;
 use check_receiver::Checker;
-use link_words::{Profile, Proto, link_word, with_link};
-use replay_status::{Ends, Line, Status};
+use command_ends::{Ends, Line, Profile, Proto, Status, link_word, with_link};
 use seal_transmitter::Sealer;
 use trial_session::session_line;
 use yasir_io::{Sink, SlotDisk, Source};

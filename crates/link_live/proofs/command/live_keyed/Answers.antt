@@ -1,6 +1,6 @@
 use Rattle.std.proofs.Common.{◌∙◌, ap, sym, subst, arith}
 use Rattle.sequence_journal.specs.Journal.{journal_link, Fits}
-use Rattle.box_command.proofs.Floors.{disk_cause_of_end}
+use Rattle.line_commands.proofs.Floors.{disk_cause_of_end}
 use Rattle.link_live.specs.LiveLine.{live_of}
 use Rattle.link_live.proofs.LiveRuns.{runs_line, throughout, port_causes}
 use Rattle.link_live.proofs.command.live_keyed.Goals as goal

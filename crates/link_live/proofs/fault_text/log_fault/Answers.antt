@@ -1,4 +1,4 @@
-use Rattle.live_port.specs.{Sent.Sends, declared.port.Output.TheVariants.Log}
+use Rattle.line_commands.specs.{Sent.Sends, declared.port.Output.TheVariants.Log}
 use Rattle.std.proofs.Common.{◌≡◌, ◌∙◌, ap, sym, inr, length, subst}
 use Rattle.std.proofs.lemmas.Bool.{eq-eqb}
 use Rattle.link_live.proofs.fault_text.log_fault.Goals as goal

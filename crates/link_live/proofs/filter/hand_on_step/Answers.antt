@@ -1,4 +1,4 @@
-use Rattle.live_port.specs.{LiveText.IsTextOf, Sent.Hands}
+use Rattle.line_commands.specs.{LiveText.IsTextOf, Sent.Hands}
 use Rattle.std.proofs.Common.{◌∙◌, [], ◌∷◌, sym, subst}
 use Rattle.link_live.proofs.filter.hand_on_step.Goals as goal
 

@@ -1,5 +1,5 @@
 use Rattle.link_live.specs.{Words.IsCommand, declared.words.Command.Command}
-use Rattle.{link_words.proofs.Listed.five, std.specs.String.string_bytes}
+use Rattle.{command_ends.proofs.Listed.five, std.specs.String.string_bytes}
 use Rattle.std.proofs.Common.{◌≡◌, [], ◌∷◌, map, IfOk, OnErr, subst, sym}
 use Rattle.link_live.proofs.words.read_words.Goals as goal
 

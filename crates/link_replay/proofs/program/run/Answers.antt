@@ -1,8 +1,8 @@
 use Rattle.link_replay.proofs.Asking.{asks-one}
 use Rattle.link_replay.proofs.Outcomes.{calm_before, causes_after, asked_done}
 use Rattle.link_replay.specs.Commands.{Runs, KeepsDisk, HasCauses, MayDo, EndsWell}
-use Rattle.{link_replay.specs.Words.Asks, replay_status.proofs.Logging.logs-from}
-use Rattle.{replay_status.specs.Outside.outside, std.proofs.Common.subst, std.proofs.Common.sym}
+use Rattle.{link_replay.specs.Words.Asks, command_ends.proofs.Logging.logs-from}
+use Rattle.{command_ends.specs.Outside.outside, std.proofs.Common.subst, std.proofs.Common.sym}
 use Rattle.std.specs.{Prelude.map, String.string_bytes}
 use Rattle.link_replay.proofs.program.run.Goals as goal
 

@@ -1,5 +1,5 @@
 use Rattle.link_replay.specs.{Words.IsCommand, declared.words.Command.Command}
-use Rattle.link_words.proofs.Listed.{four, five, six}
+use Rattle.command_ends.proofs.Listed.{four, five, six}
 use Rattle.std.proofs.Common.{◌≡◌, [], ◌∷◌, map, IfOk, OnErr, subst, sym}
 use Rattle.std.specs.String.{string_bytes}
 use Rattle.link_replay.proofs.words.read_words.Goals as goal

@@ -1,6 +1,8 @@
 use Rattle.link_format.specs.Profile.{profile_of}
-use Rattle.seal_judgements.proofs.{Causality.sealer-extends, Numbers.sealed-numbered}
-use Rattle.seal_judgements.{proofs.Numbers.sealed-extends, specs.Sealing.at_floor}
+use Rattle.link_walks.proofs.SealCausality.{sealer-extends}
+use Rattle.link_walks.proofs.SealNumbers.{sealed-numbered}
+use Rattle.link_walks.proofs.SealNumbers.{sealed-extends}
+use Rattle.link_walks.specs.Sealing.{at_floor}
 use Rattle.seal_transmitter.proofs.laws.longer_lines.Goals as goal
 
 pub returns-clause-extends : goal.returns-clause-extends

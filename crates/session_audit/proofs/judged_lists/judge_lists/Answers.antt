@@ -1,5 +1,5 @@
 use Rattle.link_format.specs.NumberedFrame.{NumberedFrame}
-use Rattle.{replay_lists.specs.Listed.link_rest, session_audit.specs.Through.setups_of}
+use Rattle.{session_lists.specs.Listed.link_rest, session_audit.specs.Through.setups_of}
 use Rattle.std.proofs.Common.{◌+◌, ◌^◌, ◌<◌, ◌≤◌, ◌++◌, arith, length}
 use Rattle.std.proofs.lemmas.List.Elements.{All-weaker}
 use Rattle.yasir_ticks.specs.Ticks.{silent}

@@ -1,6 +1,6 @@
 use Rattle.receiver_laws.proofs.InTurn.{among-in-place}
 use Rattle.receiver_laws.specs.Accounted.{forged, is_among}
-use Rattle.replay_lists.specs.FrameBox.{kept_frames, kept_numbered}
+use Rattle.session_lists.specs.FrameBox.{kept_frames, kept_numbered}
 use Rattle.session_audit.proofs.Judged.{numbered_of, frame-at, forged-here, forged-behind}
 use Rattle.{session_audit.specs.Judging.first_head, std.proofs.Common.◌≡◌, std.proofs.Common.◌∙◌}
 use Rattle.std.proofs.Common.{◌<◌, ◌≤◌, true, false, [], ◌∷◌, length, get_or, sym, ap}

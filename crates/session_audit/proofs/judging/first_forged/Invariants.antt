@@ -1,6 +1,6 @@
 use Rattle.link_format.specs.NumberedFrame.{NumberedFrame, AreNumberedFrom}
 use Rattle.receiver_laws.specs.Accounted.{forged}
-use Rattle.replay_lists.specs.{FrameBox.kept_frames, FrameList.Holds}
+use Rattle.session_lists.specs.{FrameBox.kept_frames, FrameList.Holds}
 use Rattle.std.proofs.Common.{◌≡◌, List, drop}
 use Rattle.session_audit.proofs.judging.first_forged.Given as goal
 

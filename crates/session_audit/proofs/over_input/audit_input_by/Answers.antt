@@ -1,7 +1,7 @@
-use Rattle.{replay_lists.specs.Listed.link_rest, session_audit.proofs.Parts.part-short}
+use Rattle.{session_lists.specs.Listed.link_rest, session_audit.proofs.Parts.part-short}
 use Rattle.session_audit.specs.Through.{setups_of}
 use Rattle.std.proofs.{Common.arith, Common.length-append, lemmas.List.length-replicate}
-use Rattle.{tick_lists.specs.Parts.part, yasir_ticks.specs.Ticks.silent}
+use Rattle.{session_lists.specs.Parts.part, yasir_ticks.specs.Ticks.silent}
 use Rattle.yasir_ticks.specs.declared.tick.Tick.TheVariants.{Silent}
 use Rattle.session_audit.proofs.over_input.audit_input_by.Goals as goal
 

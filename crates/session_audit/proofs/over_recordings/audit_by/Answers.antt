@@ -1,4 +1,4 @@
-use Rattle.{replay_lists.specs.Listed.link_rest, session_audit.specs.Through.setups_of}
+use Rattle.{session_lists.specs.Listed.link_rest, session_audit.specs.Through.setups_of}
 use Rattle.std.proofs.{Common.arith, Common.length-append, lemmas.List.length-replicate}
 use Rattle.yasir_ticks.specs.{Ticks.silent, declared.tick.Tick.TheVariants.Silent}
 use Rattle.session_audit.proofs.over_recordings.audit_by.Goals as goal

@@ -1,4 +1,4 @@
-use Rattle.byte_walk.specs.{Fields.RefusesField, Walks.BeginsNone}
+use Rattle.line_stamps.specs.{Fields.RefusesField, Walks.BeginsNone}
 use Rattle.capture_pcap.specs.Pcap.{IsCapture, IsCause}
 use Rattle.capture_pcap.specs.{Reader.Refuses, declared.fault.BadPcap.BadPcap}
 use Rattle.line_stamps.specs.declared.seen.Seen.{Seen}

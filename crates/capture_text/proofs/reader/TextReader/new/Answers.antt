@@ -1,4 +1,4 @@
-use Rattle.byte_walk.specs.Walks.{walk}
+use Rattle.line_stamps.specs.Walks.{walk}
 use Rattle.capture_text.{proofs.Reading.text_begins, specs.declared.place.Place.TheVariants.Start}
 use Rattle.std.proofs.Common.{refl, []}
 use Rattle.capture_text.proofs.reader.TextReader.new.Goals as goal

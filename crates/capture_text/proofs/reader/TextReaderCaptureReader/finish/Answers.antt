@@ -1,4 +1,4 @@
-use Rattle.byte_walk.specs.Walks.{Begins}
+use Rattle.line_stamps.specs.Walks.{Begins}
 use Rattle.capture_text.proofs.{Reading.text_begins, SeenTexts.seen_begins}
 use Rattle.capture_text.specs.CaptureText.{IsTextCapture, IsCause}
 use Rattle.capture_text.specs.Reader.{IsSeenText, HasSeen, IsPlaceOf, Refuses}

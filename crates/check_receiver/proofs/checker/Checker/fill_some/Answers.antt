@@ -1,4 +1,4 @@
-use Rattle.{burst_walk.specs.Answered.answered, check_receiver.proofs.Beginnings.more-taken}
+use Rattle.{frame_ending.specs.Answered.answered, check_receiver.proofs.Beginnings.more-taken}
 use Rattle.check_receiver.proofs.{Fills.answered-bytes, Lending.of-ok, Lending.same-taken}
 use Rattle.{check_receiver.specs.Runs.HasTakenRun, std.proofs.Common.◌≡◌}
 use Rattle.std.proofs.Common.{◌∙◌, ◌++◌, ℕ, List, [], ◌∷◌, arith, length, map, refl, sym, ap, subst}

@@ -1,4 +1,4 @@
-use Rattle.burst_walk.specs.Answered.{answered}
+use Rattle.frame_ending.specs.Answered.{answered}
 use Rattle.check_receiver.proofs.Beginnings.{front-none, keeps-front}
 use Rattle.check_receiver.proofs.Lending.{none-taken, bytes-long, ring-whole, first-along}
 use Rattle.check_receiver.proofs.{Lending.less-alike, RunTicks.take-along, RunsTaken.follow-taken}

@@ -1,10 +1,11 @@
-use Rattle.burst_walk.specs.Causal.{going_on}
+use Rattle.frame_ending.specs.Causal.{going_on}
 use Rattle.check_receiver.proofs.{Dropping.drop-live, Entering.live-taken, Entering.live-mac_holds}
 use Rattle.check_receiver.proofs.{Machine.waiting-some, Resting.begins-none, Resting.rest-taken}
 use Rattle.check_receiver.specs.{Between.IsNoPass, Between.IsBetween, Stands.HasTaken}
 use Rattle.{check_receiver.specs.Stands.direction_of, frame_ending.proofs.Running.live-tick}
 use Rattle.frame_ending.specs.{LiveBytes.live_bytes, declared.cut.Cut.TheVariants.Live}
-use Rattle.{link_verdicts.specs.declared.note.CheckNote.CheckNote, std.proofs.Common.◌∙◌}
+use Rattle.link_walks.specs.declared.check_note.CheckNote.{CheckNote}
+use Rattle.std.proofs.Common.{◌∙◌}
 use Rattle.std.proofs.Common.{⊎_elim, ap, sym, subst, inl, Option, [], ◌∷◌, ◌++◌, ℕ, List, length}
 use Rattle.yasir_ticks.specs.declared.tick.Tick.{Tick, TheVariants.Byte}
 use Rattle.check_receiver.proofs.checker.Checker.go_on.Goals as goal

@@ -1,4 +1,4 @@
-use Rattle.{burst_walk.specs.Answered.answered, check_receiver.proofs.Lending.same-taken}
+use Rattle.{frame_ending.specs.Answered.answered, check_receiver.proofs.Lending.same-taken}
 use Rattle.check_receiver.proofs.{Lending.less-alike, Lending.ring-whole, RunsTaken.trailer-taken}
 use Rattle.check_receiver.specs.{Phases.is_open, Runs.HasTakenRun, Runs.IsFront}
 use Rattle.{delay_ring.specs.DelayRing.ring_ticks, std.proofs.Common.◌≡◌}

@@ -1,6 +1,6 @@
 use Rattle.link_format.specs.{Profile.Profile, Profile.profile_of, Setup.Setup, Setup.setup_of}
-use Rattle.link_verdicts.proofs.Begun.{walked-begun}
-use Rattle.link_verdicts.specs.{Checking.at_floor, Holding.HasWalked}
+use Rattle.link_walks.proofs.Begun.{walked-begun}
+use Rattle.link_walks.specs.{Checking.at_floor, Holding.HasWalked}
 use Rattle.sequence_journal.specs.declared.numbers.TheConstants.{LIMIT}
 use Rattle.{spoiler.proofs.Standing.stands-unowed, std.proofs.Common.◌≡◌}
 use Rattle.std.proofs.Common.{◌∙◌, ◌-◌, ℕ, refl, sym, ap, subst, arith, [], length, false, None}

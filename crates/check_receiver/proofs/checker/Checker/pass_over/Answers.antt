@@ -1,4 +1,4 @@
-use Rattle.{burst_walk.specs.Answered.answered, check_receiver.proofs.Lending.bytes-long}
+use Rattle.{frame_ending.specs.Answered.answered, check_receiver.proofs.Lending.bytes-long}
 use Rattle.check_receiver.proofs.Lending.{same-taken, less-alike, ring-whole}
 use Rattle.delay_ring.specs.DelayRing.{ring_ticks}
 use Rattle.check_receiver.{proofs.RunsTaken.flow-counted, specs.Runs.HasTakenRun}

@@ -1,4 +1,4 @@
-use Rattle.{burst_walk.specs.Answered.answered, check_receiver.proofs.RestRuns.silence-begin_none}
+use Rattle.{frame_ending.specs.Answered.answered, check_receiver.proofs.RestRuns.silence-begin_none}
 use Rattle.check_receiver.{proofs.RunsTaken.idle-taken, specs.Runs.HasTakenRun}
 use Rattle.std.proofs.Common.{sym, subst, List, ℕ}
 use Rattle.std.proofs.lemmas.List.{length-replicate}

@@ -1,4 +1,4 @@
-use Rattle.burst_walk.specs.Answered.{answered}
+use Rattle.frame_ending.specs.Answered.{answered}
 use Rattle.check_receiver.proofs.Beginnings.{answer-whole, first-byte, more-taken, not-bad}
 use Rattle.check_receiver.proofs.Beginnings.{run-whole, still-stands}
 use Rattle.check_receiver.proofs.{Lending.bytes-long, Lending.same-taken, RunsTaken.idle-taken}

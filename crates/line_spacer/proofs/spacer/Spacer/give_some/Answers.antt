@@ -1,4 +1,4 @@
-use Rattle.{burst_walk.specs.Answered.answered, device_model.specs.Frames.frames_lent}
+use Rattle.{frame_ending.specs.Answered.answered, device_model.specs.Frames.frames_lent}
 use Rattle.line_spacer.proofs.Owing.{given-answers, given-before, given-pending, given-sent}
 use Rattle.line_spacer.specs.Stands.{AnswersSpaced, bytes_sent, frame_at, frames_waiting, unsent_of}
 use Rattle.line_spacer.specs.Stands.{taken_in}

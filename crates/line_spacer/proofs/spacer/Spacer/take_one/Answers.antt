@@ -1,4 +1,4 @@
-use Rattle.{burst_walk.specs.Answered.answered, device_model.specs.Frames.frames_lent}
+use Rattle.{frame_ending.specs.Answered.answered, device_model.specs.Frames.frames_lent}
 use Rattle.line_spacer.proofs.RunSteps.{answered-one}
 use Rattle.line_spacer.specs.Stands.{StandsFor, AnswersSpaced, bytes_sent}
 use Rattle.std.proofs.Common.{◌≡◌, ◌+◌, ◌-◌, ◌++◌, [], ◌∷◌, length, sym, subst, arith}

@@ -1,4 +1,4 @@
-use Rattle.{burst_walk.specs.Answered.answered, device_model.specs.Frames.frames_lent}
+use Rattle.{frame_ending.specs.Answered.answered, device_model.specs.Frames.frames_lent}
 use Rattle.line_spacer.proofs.Runs.{IsQuiet, run-before, run-sent, run-answers}
 use Rattle.line_spacer.specs.{Spacing.spaced, Spacing.accepted_of, Stands.StandsFor}
 use Rattle.line_spacer.specs.Stands.{AnswersSpaced, unsent_of, frame_at, frames_waiting, bytes_sent}

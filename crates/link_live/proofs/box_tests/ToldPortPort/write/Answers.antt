@@ -1,4 +1,4 @@
-use Rattle.{live_port.proofs.StreamLemmas.wrote_untold, std.proofs.Common.Ok}
+use Rattle.{line_commands.proofs.StreamLemmas.wrote_untold, std.proofs.Common.Ok}
 use Rattle.link_live.proofs.box_tests.ToldPortPort.write.Goals as goal
 
 pub returns-clause-wrote : goal.returns-clause-wrote

@@ -1,6 +1,6 @@
-use Rattle.box_command.proofs.Walking.{walk-boxed}
-use Rattle.box_command.specs.{BoxLines.ToldFloor, LinkBoxed.boxed_of, Sending.made_by}
-use Rattle.{link_format.specs.Setup.setup_of, live_port.proofs.Handing.handed_none}
+use Rattle.line_commands.proofs.Walking.{walk-boxed}
+use Rattle.line_commands.specs.{BoxLines.ToldFloor, LinkBoxed.boxed_of, Sending.made_by}
+use Rattle.{link_format.specs.Setup.setup_of, line_commands.proofs.Handing.handed_none}
 use Rattle.sequence_journal.specs.Journal.{journal_floor}
 use Rattle.std.proofs.Common.{[], sym, subst}
 use Rattle.link_live.proofs.filter.Filter.new.Goals as goal

@@ -1,7 +1,7 @@
-use Rattle.{box_command.proofs.Fronts.front_first, burst_walk.specs.Answered.answered}
+use Rattle.{line_commands.proofs.Fronts.front_first, frame_ending.specs.Answered.answered}
 use Rattle.link_box.specs.Runs.{TakesRun}
 use Rattle.link_live.proofs.Taken.{run_given, run_stopped, none_taken}
-use Rattle.{link_live.specs.Filtering.outside, live_port.specs.LiveText.IsTextOf}
+use Rattle.{link_live.specs.Filtering.outside, line_commands.specs.LiveText.IsTextOf}
 use Rattle.std.proofs.Common.{◌≡◌, ◌<◌, ◌≤◌, ℕ, List, length, take, ap, refl, sym, subst, arith}
 use Rattle.{std.proofs.lemmas.List.length-take, yasir_ticks.proofs.TickRuns.ticks_in-run}
 use Rattle.yasir_ticks.specs.{TickRun.run_ticks, declared.tick.Tick.Tick}

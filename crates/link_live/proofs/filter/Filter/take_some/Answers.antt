@@ -1,4 +1,4 @@
-use Rattle.box_command.proofs.Turns.{may_one, then_one, stopped_one}
+use Rattle.line_commands.proofs.Turns.{may_one, then_one, stopped_one}
 use Rattle.{link_live.specs.FilteringLaws.filters-then, std.proofs.Common.arith}
 use Rattle.tick_drive.proofs.{Fronts.some_given, ItemLaws.run_items-first}
 use Rattle.link_live.proofs.filter.Filter.take_some.Goals as goal

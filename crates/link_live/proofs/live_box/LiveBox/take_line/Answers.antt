@@ -1,5 +1,5 @@
 use Rattle.link_live.proofs.Heard.{feed_ended, line_taken, line_ended}
-use Rattle.{link_live.specs.LiveLine.live_of, live_port.specs.Lines.lent, std.proofs.Common.◌∙◌}
+use Rattle.{link_live.specs.LiveLine.live_of, line_commands.specs.Lines.lent, std.proofs.Common.◌∙◌}
 use Rattle.{std.proofs.Common.ap, yasir_ticks.proofs.TickRuns.ticks_in-run}
 use Rattle.yasir_ticks.specs.{Reader.items_of_content, TickRun.run_items, Ticks.ticks_in}
 use Rattle.link_live.proofs.live_box.LiveBox.take_line.Goals as goal

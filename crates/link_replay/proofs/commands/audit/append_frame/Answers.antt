@@ -1,5 +1,6 @@
 use Rattle.device_model.specs.Frames.{FrameRead}
-use Rattle.{device_replay.specs.Lines.frame_line_of, link_replay.specs.AuditCommand.frame_or_none}
+use Rattle.line_commands.specs.PrintedLines.{frame_line_of}
+use Rattle.link_replay.specs.AuditCommand.{frame_or_none}
 use Rattle.std.proofs.Common.{◌≡◌, ◌∙◌, ℕ, List, ◌++◌, ap, append_assoc, sym}
 use Rattle.std.specs.Prelude.{codes}
 use Rattle.link_replay.proofs.commands.audit.append_frame.Goals as goal

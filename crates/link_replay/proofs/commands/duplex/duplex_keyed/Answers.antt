@@ -1,7 +1,7 @@
-use Rattle.box_command.specs.{KeptBox.timed_of, Recording.both_with}
+use Rattle.line_commands.specs.{KeptBox.timed_of, Recording.both_with}
 use Rattle.link_replay.proofs.Duplexed.{prints-so, ends-so, no-write}
-use Rattle.replay_status.proofs.EndCauses.{input_cause, input_cause_of_whole, sink_cause_of_end}
-use Rattle.{replay_status.proofs.FlushLaws.flushes_of_end, std.proofs.Common.refl}
+use Rattle.command_ends.proofs.EndCauses.{input_cause, input_cause_of_whole, sink_cause_of_end}
+use Rattle.{command_ends.proofs.FlushLaws.flushes_of_end, std.proofs.Common.refl}
 use Rattle.link_replay.proofs.commands.duplex.duplex_keyed.Goals as goal
 
 pub returns-clause-duplexes : goal.returns-clause-duplexes

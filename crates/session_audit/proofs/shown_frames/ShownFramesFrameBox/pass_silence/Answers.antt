@@ -1,4 +1,4 @@
-use Rattle.{burst_walk.specs.Answered.answered, replay_lists.specs.FrameBox.AnswersFrameRun}
+use Rattle.{frame_ending.specs.Answered.answered, session_lists.specs.FrameBox.AnswersFrameRun}
 use Rattle.sequence_journal.specs.Journal.{journal_floor}
 use Rattle.session_audit.{proofs.RunNotes.frames-run, specs.ShownFrames.numbering_of}
 use Rattle.std.proofs.Common.{◌≤◌, ◌++◌, List, arith, subst}

@@ -1,2 +1,0 @@
-pub mod Spacers
-pub mod Held

@@ -1,7 +1,0 @@
--- What a text in memory holds.
-use Rattle.std.specs.Prelude.{ℕ, List}
-use Rattle.box_command.specs.declared.memory_text.MemoryText.{MemoryText}
-
--- the bytes of the text
-abbrev pub text_bytes : MemoryText → List ℕ
-text_bytes text = text.bytes.items

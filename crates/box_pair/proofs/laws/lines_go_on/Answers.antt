@@ -1,8 +1,0 @@
-use Rattle.box_pair.proofs.OneDirection.{makes-more}
-use Rattle.box_pair.proofs.laws.lines_go_on.Goals as goal
-
-pub returns : goal.returns
-returns g c = λ old mid new setup line ticks answers more answers_to_more notes notes_of_more level
-    first then.
-    makes-more g.S.LinkBox g.X.SlotDisk old mid new setup line ticks answers more answers_to_more
-    notes notes_of_more level first then

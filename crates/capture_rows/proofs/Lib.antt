@@ -1,3 +1,0 @@
-pub mod RowLaws
-pub mod Refusals
-pub mod DecimalLaws

@@ -1,5 +1,0 @@
-pub mod LevelLaws
-pub mod ChangeLaws
-pub mod TextLaws
-pub mod LookLaws
-pub mod DumpLines

@@ -1,5 +1,0 @@
-use Rattle.std.proofs.Common.{length}
-use Rattle.capture_vcd.proofs.changes.+push_bits.Given as goal
-
-abbrev pub decreases-push_bits : goal.decreases-push_bits
-decreases-push_bits l = length l.a.now

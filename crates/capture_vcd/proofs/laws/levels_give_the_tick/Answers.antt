@@ -1,5 +1,0 @@
-use Rattle.capture_vcd.proofs.LevelLaws.{tick_back}
-use Rattle.capture_vcd.proofs.laws.levels_give_the_tick.Goals as goal
-
-pub returns : goal.returns
-returns c = λ bits tick few h. tick_back bits tick few h

@@ -1,0 +1,10 @@
+pub mod Links
+pub mod Telling
+pub mod Listed
+pub mod KeyLemmas
+pub mod Logging
+pub mod EndCauses
+pub mod FlushLaws
+pub mod Readable
+pub mod Printed
+pub mod Decimals

@@ -1,0 +1,13 @@
+pub mod Words
+pub mod Links
+pub mod KeyText
+pub mod Statuses
+pub mod Causes
+pub mod Endings
+pub mod Flushes
+pub mod Outside
+pub mod Ends
+pub mod Given
+pub mod StreamCauses
+pub mod Readable
+pub mod PrintsText

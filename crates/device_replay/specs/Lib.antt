@@ -1,4 +1,0 @@
-pub mod Lines
-pub mod FrameLines
-pub mod FrameLinesLaws
-pub mod PrintsFrames

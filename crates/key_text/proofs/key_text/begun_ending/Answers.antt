@@ -1,9 +1,0 @@
-use Rattle.std.proofs.Common.{arith, inl, inr}
-use Rattle.key_text.proofs.KeyLemmas.{cr_begun}
-use Rattle.key_text.proofs.key_text.begun_ending.Goals as goal
-
-pub returns-then-following-eq1 : goal.returns-then-following-eq1
-returns-then-following-eq1 c = cr_begun _ (grind arith) (grind arith) (inl (omega arith))
-
-pub returns-else-following-eq10-2 : goal.returns-else-following-eq10-2
-returns-else-following-eq10-2 c = cr_begun _ (grind arith) (grind arith) (inr c.if-following-eq10-2.false)

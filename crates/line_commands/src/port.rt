@@ -1,0 +1,71 @@
+//! The outside of a live line as one object: what is read, written and flushed has one history.
+ghost use Rattle.std.specs.Prelude.{◌≡◌, ◌≢◌, ℕ, ◌≤◌, ◌<◌, [], ◌∷◌, take, length, Option, List};
+ghost use Rattle.std.specs.Prelude.{Some, None, true, false, IfOk, OnOk, OnErr};
+ghost use Rattle.std.specs.Io.KnownBytes.{prepend_known, IsAtEnd};
+ghost use Rattle.yasir_io.specs.Causes.{HasCause};
+ghost use Rattle.line_commands.specs.declared.port.Output.{Output};
+ghost use Rattle.line_commands.specs.History.{History, told_then, KeepsFaults};
+ghost use Rattle.line_commands.specs.History.Event.{reads, writes, flushes};
+
+use yasir_io::Failed;
+
+/// Where the bytes of a live line go.
+#[derive(Clone, Copy, Debug, PartialEq, Eq)]
+pub enum Output {
+    /// The other line, as tick text.
+    Out,
+    /// The notes, a line of text for each.
+    Log,
+}
+
+/// An input and two outputs, with one history of their calls.
+pub trait Port {
+    ghost use Rattle.line_commands.specs.History.{WritesFront};
+
+    /// The calls so far, in order, and what each output has got, as far as the port tells them.
+    ghost history: { Self → History };
+
+    /// The bytes that the input has left, if the port tells them.
+    ghost left: { Self → Option (List ℕ) };
+
+    /// How often a read has failed.
+    ghost read_faults: { Self → ℕ };
+
+    /// How often a write to an output, or a flush of it, has failed.
+    ghost write_faults: { Self → Output → ℕ };
+
+    /// Moves the next bytes of the input into the front of `buf`, and returns how many, which is at
+    /// most its length. It returns 0 only at the end of the input, or if `buf` has no room. It
+    /// waits only for the first of the bytes.
+    fn read(&mut self, buf: &mut [u8]) -> Result<usize, Failed>
+        ensures within { IfOk result (λ n. n ≤ length buf.new) }
+        ensures bytes { IfOk result (λ n. history self.new
+            ≡ told_then (history self.old) (reads (Some (take n buf.new)) ∷ [])) }
+        ensures err { OnErr result (history self.new
+            ≡ told_then (history self.old) (reads None ∷ [])) }
+        ensures left { IfOk result (λ n.
+            left self.old ≡ prepend_known (take n buf.new) (left self.new)) }
+        ensures end { IfOk result (λ n. n ≡ 0 → 0 < length buf.new → IsAtEnd (left self.new)) }
+        ensures left_same { OnErr result (left self.new ≡ left self.old) }
+        ensures cause { HasCause (read_faults self.old) (read_faults self.new) result }
+        ensures outputs { (to : Output) → write_faults self.new to ≡ write_faults self.old to };
+
+    /// Writes the whole piece to an output. If that fails, a front of the piece was written.
+    fn write(&mut self, to: Output, piece: &[u8]) -> Result<(), Failed>
+        ensures wrote { WritesFront (history self.old) (history self.new) to piece.now result }
+        ensures input { left self.new ≡ left self.old }
+        ensures cause { HasCause (write_faults self.old to) (write_faults self.new to) result }
+        ensures beside { KeepsFaults (read_faults self.old) (read_faults self.new)
+            (write_faults self.old) (write_faults self.new) to };
+
+    /// Flushes an output, so that what was written to it is handed on.
+    fn flush(&mut self, to: Output) -> Result<(), Failed>
+        ensures ok { OnOk result (history self.new
+            ≡ told_then (history self.old) (flushes to true ∷ [])) }
+        ensures err { OnErr result (history self.new
+            ≡ told_then (history self.old) (flushes to false ∷ [])) }
+        ensures input { left self.new ≡ left self.old }
+        ensures cause { HasCause (write_faults self.old to) (write_faults self.new to) result }
+        ensures beside { KeepsFaults (read_faults self.old) (read_faults self.new)
+            (write_faults self.old) (write_faults self.new) to };
+}

@@ -1,0 +1,11 @@
+pub mod Sealing
+pub mod Shapes
+pub mod Verdicts
+pub mod Emissions
+pub mod Checking
+pub mod Timely
+pub mod Packet
+pub mod Leaving
+pub mod Turns
+pub mod Holding
+pub mod Going

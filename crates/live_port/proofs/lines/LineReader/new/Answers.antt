@@ -1,5 +1,0 @@
-use Rattle.{live_port.proofs.Reading.read_none, std.proofs.Common.refl}
-use Rattle.live_port.proofs.lines.LineReader.new.Goals as goal
-
-pub returns : goal.returns
-returns c = read_none _ c.new.ensures.stands refl refl

@@ -1,6 +1,0 @@
-use Rattle.{replay_lists.specs.Lines.HearsOn, std.proofs.Common.take}
-use Rattle.replay_lists.proofs.lines.hear_line.Given as goal
-
-abbrev pub invariant-loop-index : goal.invariant-loop-index
-invariant-loop-index g l = HearsOn g.V.Device l.passed.late l.passed.frames.now l.fn.device
-    l.device l.fn.read l.read (take l.index l.line)

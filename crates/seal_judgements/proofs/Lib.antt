@@ -1,4 +1,0 @@
-pub mod Worked
-mod WorkedWide
-pub mod Causality
-pub mod Numbers

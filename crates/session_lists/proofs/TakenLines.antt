@@ -1,0 +1,109 @@
+-- Ticks that are taken one after the other, and what is kept of them.
+use Rattle.device_model.specs.{Frames.FrameRead, declared.device.Device.Ghosts as Device}
+use Rattle.link_format.specs.{NumberedFrame.NumberedFrame, Setup.Setup}
+use Rattle.session_lists.proofs.HeardRuns.{silent_on}
+use Rattle.session_lists.specs.Comparison.{Compares, Found, expected_reads}
+use Rattle.session_lists.specs.{FrameBox.kept_frames, FrameList.Holds, FrameList.list_len}
+use Rattle.session_lists.specs.{Lines.GoesOn, Lines.TakesOn, Lines.HearsOn, ReplayLists.KeepsFrames}
+use Rattle.session_lists.specs.{ReplayLists.StepsInto, declared.comparison.Comparison.Comparison}
+use Rattle.session_lists.specs.declared.frame_box.{FrameBox.Ghosts as FrameBox, Numbered.Numbered}
+use Rattle.{session_lists.specs.declared.frame_list.FrameList.FrameList, std.proofs.Common.◌≡◌}
+use Rattle.std.proofs.Common.{ℕ, ◌+◌, ◌≤◌, ◌<◌, List, [], ◌∷◌, ◌++◌, length, take, get_or}
+use Rattle.std.proofs.Common.{sym, subst, arith, append-nil, append_assoc, length-append}
+use Rattle.{std.proofs.lemmas.List.take_more, yasir_ticks.specs.Ticks.silent}
+use Rattle.yasir_ticks.specs.declared.tick.Tick.{Tick, TheVariants.Silent}
+
+module _ {O S L : Type 0} (taken : S → ℕ) (size : L → ℕ)
+    (keeps : O → S → L → List Tick → Type 0) where
+  abbrev On : S → S → L → L → List Tick → Type 0
+  On = GoesOn taken size keeps
+
+  pub goes-nowhere : (value : S) (list : L) → On value value list list []
+  goes-nowhere value list = record {
+    counted = omega arith;
+    few = omega arith;
+    kept = λ origin line keep. subst (keeps origin value list) (sym (append-nil line)) keep;
+  }
+
+  module _ (a b c : S) (x y z : L) where
+    pub goes-then : (first second : List Tick) → On a b x y first → On b c y z second
+        → On a c x z (first ++ second)
+    goes-then first second on then =
+        let long = length-append first second in
+        record {
+          counted = omega (arith, long, on.counted, then.counted);
+          few = omega (arith, long, on.few, then.few);
+          kept = λ origin line keep. subst (keeps origin c z) (append_assoc line first second)
+              (then.kept origin (line ++ first) (on.kept origin line keep));
+        }
+
+    -- If the first `i` ticks of a line were taken, and then the next one, its first `i + 1` ticks
+    -- were taken.
+    pub goes-tick : (line : List Tick) (i : ℕ) (d : Tick) → i < length line
+        → On a b x y (take i line) → On b c y z (get_or line i d ∷ [])
+        → On a c x z (take (i + 1) line)
+    goes-tick line i d within on then =
+        subst (On a c x z) (sym (take_more line i d within))
+        (goes-then (take i line) (get_or line i d ∷ []) on then)
+
+    -- If `n` silent ticks were taken, and then one more, `n + 1` were taken.
+    pub goes-silent : (n : ℕ) → On a b x y (silent n) → On b c y z (Silent ∷ [])
+        → On a c x z (silent (n + 1))
+    goes-silent n on then =
+        subst (On a c x z) (silent_on [] n 1) (goes-then (silent n) (Silent ∷ []) on then)
+
+-- ---- a step of a box, and some ticks at a device
+
+pub box-tick : {B : Type 0} (box : FrameBox B) (old new : B) (before after : FrameList Numbered)
+    (t tick : Tick) → box.taken new ≡ box.taken old + 1 → list_len after ≤ list_len before + 1
+    → ((setup : Setup) (line : List Tick) → KeepsFrames box old before setup line
+    → StepsInto box new after setup line t tick)
+    → TakesOn box old new before after (t ∷ [])
+box-tick box old new before after t tick taken few ok = record {
+  counted = taken;
+  few = few;
+  kept = λ setup line keep. (ok setup line keep).keeps;
+}
+
+pub hears-lent : {V : Type 0} (device : Device V) (late : ℕ) (passed : FrameList Numbered)
+    (old new : V) (before after : Comparison) (more : List Tick) (frames : List FrameRead)
+    → device.taken new ≡ device.taken old + length more
+    → after.read ≤ before.read + length more
+    → ((line : List Tick) → device.stands old line → device.stands new (line ++ more))
+    → ((line : List Tick) → device.stands old line
+    → device.reads (line ++ more) ≡ device.reads line ++ frames)
+    → ((passed_ones : List NumberedFrame) (reads : List FrameRead)
+    → Holds passed (kept_frames passed_ones)
+    → Found before (expected_reads late passed_ones) reads
+    → Found after (expected_reads late passed_ones) (reads ++ frames))
+    → HearsOn device late passed old new before after more
+hears-lent device late passed old new before after more frames counts few stands answer found =
+    record {
+      counted = counts;
+      few = few;
+      kept = λ passed_ones line compares holds.
+          let heard = compares holds in record {
+            hears = stands line heard.hears;
+            found = subst (Found after (expected_reads late passed_ones))
+                (sym (answer line heard.hears))
+                (found passed_ones (device.reads line) holds heard.found);
+          };
+    }
+
+-- ---- before the first tick
+
+pub keeps-none : {B : Type 0} (box : FrameBox B) (value : B) (list : FrameList Numbered)
+    (setup : Setup) → box.stands value setup [] → (box.numbering setup).frames [] ≡ []
+    → Holds list [] → KeepsFrames box value list setup []
+keeps-none box value list setup stands nothing holds = record {
+  steps = stands;
+  holds = subst (λ l. Holds list (kept_frames l)) (sym nothing) holds;
+}
+
+pub compares-none : {V : Type 0} (device : Device V) (value : V) (comparison : Comparison)
+    (expected : List FrameRead) → device.stands value [] → device.reads [] ≡ []
+    → Found comparison expected [] → Compares device value comparison expected []
+compares-none device value comparison expected stands nothing found = record {
+  hears = stands;
+  found = subst (Found comparison expected) (sym nothing) found;
+}

@@ -1,0 +1,14 @@
+pub mod Parts
+pub mod ListPlaces
+pub mod TickLists
+pub mod Listing
+pub mod FrameList
+pub mod FrameBox
+pub mod Recordings
+pub mod ReplayLists
+pub mod Comparison
+pub mod Lines
+pub mod Places
+pub mod Listed
+pub mod SessionLists
+pub mod SessionListed

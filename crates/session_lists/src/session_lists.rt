@@ -1,0 +1,299 @@
+//! Three recordings of a session: what is sealed and passed of the first two, and how the third
+//! compares with what has passed.
+ghost use Rattle.std.specs.Prelude.{◌≡◌, ℕ, ◌+◌, ◌<◌, ◌≤◌, List, [], ◌∷◌, ◌++◌, Ok, OnOk, IfOk};
+ghost use Rattle.std.specs.Prelude.{length};
+ghost use Rattle.yasir_ticks.specs.Ticks.{silent};
+ghost use Rattle.yasir_ticks.specs.TickRun.{run_ticks, run_items};
+ghost use Rattle.yasir_ticks.specs.declared.tick.Tick.{Tick};
+ghost use Rattle.yasir_ticks.specs.declared.TheConstants.{MAX_TICKS};
+ghost use Rattle.link_format.specs.Setup.{setup_of};
+ghost use Rattle.sequence_journal.specs.declared.numbers.TheConstants.{LIMIT};
+ghost use Rattle.yasir_ticks.specs.Ticks.Item.{mark};
+ghost use Rattle.tick_drive.specs.Consumers.{Gives, GivesFirst};
+ghost use Rattle.session_lists.specs.declared.tick_lists.Place.TheVariants.{First, Second};
+ghost use Rattle.session_lists.specs.Comparison.{difference_of};
+ghost use Rattle.session_lists.specs.FrameBox.{kept_frames};
+ghost use Rattle.session_lists.specs.FrameList.{Holds, list_len};
+ghost use Rattle.session_lists.specs.SessionLists.{Setups, HasSession, IsOpen, AreReadInTime};
+ghost use Rattle.session_lists.specs.SessionLists.{session_taken, all_rests, expected_of, parting};
+ghost use Rattle.session_lists.specs.SessionListed.{MayListSession};
+
+use crate::Place;
+use crate::comparison::{Comparison, Difference, Passed};
+use crate::frame_box::{FrameBox, Numbered};
+use crate::frame_list::FrameList;
+use crate::fronts::{hear_front, take_front};
+use crate::lines::{hear_line, hear_rest, take_line, take_silence};
+use device_model::Device;
+use hmac_tag::Dir;
+use std::alloc::Global;
+use tick_drive::{Consumer, Stop};
+use yasir_io::NoMemory;
+use yasir_ticks::{Tick, TickRun};
+
+#[cfg(test)]
+mod turn_tests;
+
+/// The last numbers that the boxes of a session had used before it.
+#[derive(Clone, Copy, Debug, PartialEq, Eq)]
+pub struct Floors {
+    /// The last number that the transmitter had used.
+    pub sent: u64,
+    /// The last number that the receiver had passed.
+    pub got: u64,
+}
+
+/// How late a receiver is, and how many silent ticks come after each of three recordings.
+#[derive(Clone, Copy, Debug, PartialEq, Eq)]
+pub struct Timing {
+    /// How many ticks after its start on the link a frame starts on the line of the device that
+    /// receives.
+    pub late: u64,
+    /// How many silent ticks follow the line of the device that sends.
+    pub sent_rest: u32,
+    /// How many silent ticks follow the link.
+    pub link_rest: u32,
+    /// How many silent ticks follow the line of the device that receives.
+    pub received_rest: u32,
+}
+
+/// Takes three recordings of a session that two marks separate. The line of the device that sends
+/// goes to a transmitter `S`, the link goes to a receiver `C`, and a device `V` hears the line of
+/// the device that receives. The frames that are sealed and passed are kept. A frame that is read
+/// is compared with the one that has passed at its place, and only the first one that isn't the
+/// same is kept. No tick is kept, and nothing is written.
+#[derive(Drop)]
+pub struct SessionLists<S, C, V> {
+    sealer: S,
+    checker: C,
+    device: V,
+    sealed: FrameList<Numbered>,
+    passed: FrameList<Numbered>,
+    read: Comparison,
+    place: Place,
+    timing: Timing,
+}
+
+impl<S: FrameBox, C: FrameBox, V: Device + Drop> SessionLists<S, C, V> {
+    /// Lists of no frames, with boxes that have taken no tick, for a key of any length, a
+    /// direction, and the floors of transmitter and receiver.
+    pub fn new(
+        alloc: Global,
+        key: &[u8],
+        dir: Dir,
+        floors: Floors,
+        timing: Timing,
+    ) -> SessionLists<S, C, V>
+        requires sealer { S.widths_fit }
+        requires checker { C.widths_fit }
+        requires sent { floors.sent ≤ LIMIT }
+        requires got { floors.got ≤ LIMIT }
+        requires short { all_rests timing ≤ 1000 }
+        ensures has { HasSession S.FrameBox C.FrameBox V.Device result (record {
+          sent = setup_of key.now dir floors.sent;
+          got = setup_of key.now dir floors.got;
+          timing = timing;
+        }) [] [] [] }
+        ensures may_list { MayListSession S.FrameBox C.FrameBox V.Device result }
+    {
+        SessionLists {
+            sealer: S::new(key, dir, floors.sent),
+            checker: C::new(key, dir, floors.got),
+            device: V::fresh(),
+            sealed: FrameList::new(alloc),
+            passed: FrameList::new(alloc),
+            read: Comparison::new(),
+            place: Place::First,
+            timing,
+        }
+    }
+
+    // Takes the first ticks of this run, at least one, and returns how many.
+    #[inline(always)]
+    fn take_front(&mut self, run: TickRun<'_>) -> Result<usize, NoMemory>
+        requires some { 0 < length (run_ticks run) }
+        requires room { session_taken S.FrameBox C.FrameBox V.Device self.old
+            + length (run_ticks run) ≤ MAX_TICKS }
+        requires able { IsOpen S.FrameBox C.FrameBox V.Device self.old }
+        ensures { IfOk result (λ n. GivesFirst (parting S.FrameBox C.FrameBox V.Device) self.old
+            self.new (run_items run.entry) n) }
+    {
+        match self.place {
+            Place::First => match take_front(&mut self.sealer, &mut self.sealed, run) {
+                Ok(count) => Ok(count),
+                Err(NoMemory) => Err(NoMemory),
+            },
+            Place::Second => match take_front(&mut self.checker, &mut self.passed, run) {
+                Ok(count) => Ok(count),
+                Err(NoMemory) => Err(NoMemory),
+            },
+            Place::Third | Place::None => {
+                let passed = Passed {
+                    late: self.timing.late,
+                    frames: &self.passed,
+                };
+                Ok(hear_front(&mut self.device, &mut self.read, passed, run))
+            }
+        }
+    }
+
+    /// The frames that were sealed.
+    pub fn sealed(&self) -> &FrameList<Numbered>
+        ensures few { IsOpen S.FrameBox C.FrameBox V.Device self.now
+            → list_len result.now ≤ session_taken S.FrameBox C.FrameBox V.Device self.now }
+        ensures frames { (setups : Setups) (device link received : List Tick)
+            → HasSession S.FrameBox C.FrameBox V.Device self.now setups device link received
+            → Holds result.now (kept_frames ((S.numbering setups.sent).frames device)) }
+    {
+        &self.sealed
+    }
+
+    /// The frames that have passed.
+    pub fn passed(&self) -> &FrameList<Numbered>
+        ensures few { IsOpen S.FrameBox C.FrameBox V.Device self.now
+            → list_len result.now ≤ session_taken S.FrameBox C.FrameBox V.Device self.now }
+        ensures frames { (setups : Setups) (device link received : List Tick)
+            → HasSession S.FrameBox C.FrameBox V.Device self.now setups device link received
+            → Holds result.now (kept_frames ((C.numbering setups.got).frames link)) }
+    {
+        &self.passed
+    }
+
+    /// How many frames were read.
+    pub fn read_count(&self) -> u64
+        ensures few { IsOpen S.FrameBox C.FrameBox V.Device self.now
+            → result ≤ session_taken S.FrameBox C.FrameBox V.Device self.now }
+        ensures count { (setups : Setups) (device link received : List Tick)
+            → HasSession S.FrameBox C.FrameBox V.Device self.now setups device link received
+            → result ≡ length (V.reads received) }
+    {
+        self.read.read()
+    }
+
+    /// Returns the first difference between the frames that have passed, each as late as the
+    /// receiver is, and the frames that were read. `None` if there is no difference.
+    pub fn difference(&self) -> Option<Difference>
+        requires { AreReadInTime S.FrameBox C.FrameBox V.Device self.now }
+        ensures { (setups : Setups) (device link received : List Tick)
+            → HasSession S.FrameBox C.FrameBox V.Device self.now setups device link received
+            → result ≡ difference_of (expected_of S.FrameBox C.FrameBox V.Device setups link)
+            (V.reads received) }
+    {
+        self.read.difference(self.timing.late, &self.passed)
+    }
+
+    /// Takes three recordings from memory, and the link's silence after the link.
+    pub(crate) fn take_lines(
+        &mut self,
+        device: &[Tick],
+        link: &[Tick],
+        received: &[Tick],
+    ) -> Result<(), NoMemory>
+        requires room { session_taken S.FrameBox C.FrameBox V.Device self.old
+            + length device.now + length link.now + length received.now ≤ MAX_TICKS }
+        requires first { self.old.place ≡ First }
+        requires able { IsOpen S.FrameBox C.FrameBox V.Device self.old }
+        requires nothing { V.reads [] ≡ [] }
+        ensures has { OnOk result ((setups : Setups)
+            → HasSession S.FrameBox C.FrameBox V.Device self.old setups [] [] []
+            → HasSession S.FrameBox C.FrameBox V.Device self.new setups device.now
+            (link.now ++ silent setups.timing.link_rest) received.now) }
+        ensures able { OnOk result (IsOpen S.FrameBox C.FrameBox V.Device self.new) }
+        ensures taken { OnOk result (session_taken S.FrameBox C.FrameBox V.Device self.new
+            ≡ session_taken S.FrameBox C.FrameBox V.Device self.old
+            + length device.now + length link.now + length received.now) }
+        ensures timing { OnOk result (self.new.timing ≡ self.old.timing) }
+    {
+        let Ok(()) = take_line(&mut self.sealer, &mut self.sealed, device) else {
+            return Err(NoMemory);
+        };
+        let Ok(()) = take_line(&mut self.checker, &mut self.passed, link) else {
+            return Err(NoMemory);
+        };
+        let Ok(()) = take_silence(&mut self.checker, &mut self.passed, self.timing.link_rest) else {
+            return Err(NoMemory);
+        };
+        self.place = Place::Third;
+        let passed = Passed {
+            late: self.timing.late,
+            frames: &self.passed,
+        };
+        hear_line(&mut self.device, &mut self.read, passed, received);
+        Ok(())
+    }
+
+    /// Takes the silent ticks after the lines of the two devices. Those after the link were taken
+    /// before the last line began.
+    pub(crate) fn rest(&mut self) -> Result<(), NoMemory>
+        requires room { session_taken S.FrameBox C.FrameBox V.Device self.old
+            + all_rests self.old.timing ≤ MAX_TICKS }
+        requires able { IsOpen S.FrameBox C.FrameBox V.Device self.old }
+        ensures rests { OnOk result ((setups : Setups) (a b c : List Tick)
+            → HasSession S.FrameBox C.FrameBox V.Device self.old setups a b c
+            → HasSession S.FrameBox C.FrameBox V.Device self.new setups
+            (a ++ silent setups.timing.sent_rest) b (c ++ silent setups.timing.received_rest)) }
+        ensures able { OnOk result (IsOpen S.FrameBox C.FrameBox V.Device self.new) }
+        ensures taken { OnOk result (session_taken S.FrameBox C.FrameBox V.Device self.new
+            ≤ session_taken S.FrameBox C.FrameBox V.Device self.old + all_rests self.old.timing) }
+    {
+        let timing = self.timing;
+        let Ok(()) = take_silence(&mut self.sealer, &mut self.sealed, timing.sent_rest) else {
+            return Err(NoMemory);
+        };
+        let passed = Passed {
+            late: timing.late,
+            frames: &self.passed,
+        };
+        hear_rest(
+            &mut self.device,
+            &mut self.read,
+            passed,
+            timing.received_rest,
+        );
+        Ok(())
+    }
+
+    // Takes the silence after the link, which has ended. So all frames of the link that pass have
+    // done so before the last line begins.
+    fn end_link(&mut self) -> Result<(), NoMemory>
+        requires room { session_taken S.FrameBox C.FrameBox V.Device self.old ≤ MAX_TICKS }
+        requires second { self.old.place ≡ Second }
+        requires able { IsOpen S.FrameBox C.FrameBox V.Device self.old }
+        ensures { OnOk result (Gives (parting S.FrameBox C.FrameBox V.Device) self.old self.new
+            (mark ∷ []) (Ok tt)) }
+    {
+        let rest = self.timing.link_rest;
+        let Ok(()) = take_silence(&mut self.checker, &mut self.passed, rest) else {
+            return Err(NoMemory);
+        };
+        self.place = Place::Third;
+        Ok(())
+    }
+}
+
+impl<S: FrameBox, C: FrameBox, V: Device + Drop> Consumer for SessionLists<S, C, V> {
+    ghost meaning = { parting S.FrameBox C.FrameBox V.Device };
+
+    #[inline(always)]
+    fn take_some(&mut self, run: TickRun<'_>) -> Result<usize, Stop> {
+        match self.take_front(run) {
+            Ok(count) => Ok(count),
+            Err(NoMemory) => Err(Stop::NoMemory),
+        }
+    }
+
+    fn take_mark(&mut self) -> Result<(), Stop> {
+        if let Place::Second = self.place {
+            return match self.end_link() {
+                Ok(()) => Ok(()),
+                Err(NoMemory) => Err(Stop::NoMemory),
+            };
+        }
+        self.place = self.place.behind();
+        Ok(())
+    }
+
+    ghost went_none = { λ lists able. tt };
+
+    ghost went_then = { λ a b c result first second. tt };
+}

@@ -1,0 +1,53 @@
+//! Lists the frames of three recordings, in one input or in memory, with silence after each.
+ghost use Rattle.std.specs.Prelude.{◌+◌, ◌≤◌, ◌^◌, length, OnOk};
+ghost use Rattle.tick_drive.specs.Input.{IsReadCause, is_read_fault};
+ghost use Rattle.session_lists.specs.SessionListed.{ListsLines, ListsSession, MayListSession};
+
+use crate::frame_box::FrameBox;
+use crate::session_lists::SessionLists;
+use device_model::Device;
+use tick_drive::{End, Stop, drive_with_room};
+use yasir_io::{NoMemory, Source};
+use yasir_ticks::Tick;
+
+/// Lists the frames of three recordings, which two marks separate in the input. Each is followed by
+/// its silence.
+pub fn list_session<S: FrameBox, C: FrameBox, V: Device + Drop, I: Source>(
+    lists: &mut SessionLists<S, C, V>,
+    input: &mut I,
+) -> End
+    requires fresh { MayListSession S.FrameBox C.FrameBox V.Device lists.old }
+    ensures listed { ListsSession S.FrameBox C.FrameBox V.Device lists.old lists.new
+        (I.left input.old) (I.left input.new) result }
+    ensures read { IsReadCause (I.faults input.old) (I.faults input.new) (is_read_fault result) }
+{
+    match drive_with_room(2, input, lists) {
+        End::Whole => {}
+        end => return end,
+    }
+    match lists.rest() {
+        Ok(()) => End::Whole,
+        Err(NoMemory) => End::Stopped(Stop::NoMemory),
+    }
+}
+
+/// Lists the frames of three recordings in memory. Each is followed by its silence.
+pub fn list_lines<S: FrameBox, C: FrameBox, V: Device + Drop>(
+    lists: &mut SessionLists<S, C, V>,
+    device: &[Tick],
+    link: &[Tick],
+    received: &[Tick],
+) -> Result<(), NoMemory>
+    requires fresh { MayListSession S.FrameBox C.FrameBox V.Device lists.old }
+    requires short { length device.now + length link.now + length received.now ≤ 2 ^ 26 }
+    ensures { OnOk result (ListsLines S.FrameBox C.FrameBox V.Device lists.old lists.new
+        device.now link.now received.now) }
+{
+    let Ok(()) = lists.take_lines(device, link, received) else {
+        return Err(NoMemory);
+    };
+    let Ok(()) = lists.rest() else {
+        return Err(NoMemory);
+    };
+    Ok(())
+}

@@ -1,4 +1,0 @@
-pub mod Spacing
-pub mod Owed
-pub mod SpaceEnds
-pub mod Readable

@@ -1,6 +1,0 @@
-use Rattle.space_replay.specs.SpacedTexts.{most_waiting}
-use Rattle.space_replay.proofs.spacers.SpacerLineSpacer.queue_read.Goals as goal
-
-pub returns-clause-owes : goal.returns-clause-owes
-returns-clause-owes g c = λ is start line ticks long owes.
-    c.queue_read.ensures.owes is most_waiting start line ticks long owes

@@ -1,6 +1,0 @@
-pub mod SpacedTexts
-pub mod SpacedLines
-pub mod SpacedLinesLaws
-pub mod OwedTexts
-pub mod SpacesLine
-pub mod DrivenLines

@@ -1,4 +1,0 @@
-pub mod Parts
-pub mod Places
-pub mod TickLists
-pub mod Listing
