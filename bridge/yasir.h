@@ -1,6 +1,6 @@
 /* The boxes of a link for C: a transmitter or a receiver, of Modbus RTU or DNP3, with either profile,
  * each in a handle; and the spacer that follows a receiver as a guard, in a handle too. The code
- * behind these functions is written in Rattle and proved (crates yasir_c, any_box and any_spacer).
+ * behind these functions is written in Rattle and proved (crates yasir_c and any_box).
  * Nothing checks that C keeps to what is said below under "What the caller owes".
  *
  * A tick is one byte time of a line: it carries a byte, or it is silent. A box takes one line tick by

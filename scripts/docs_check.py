@@ -4,12 +4,17 @@
     python3 scripts/docs_check.py
 
 - Each link, and each file of this repository that is named in backquotes, must be there.
+- A file of code, of definitions or of proofs that is named in backquotes must be in some crate, and in the one that is named
+  before it in the same brackets.
 - A page that another page names must be a link there, outside headings and code.
 - Each page of docs/ must be named by another page.
 - Each name in backquotes that has an underscore or a capital inside must be somewhere in the code.
 - A row of a table of docs/PROOF.md whose last column is a file of crates/ names functions and definitions in backquotes and
   clauses in italics: each must be in one of the row's files, a clause as a clause or a field.
 - No paragraph may have more than 120 words. A row of a table is a paragraph.
+- Each page but docs/CLAIMS.md is in one group of BOUNDS, and neither a group nor all groups together may have more words
+  than stand there, as `wc -w` counts them. The newest version of CHANGELOG.md may have at most 40 lines.
+- The map of docs/ARCHITECTURE.md must show each crate of crates.txt in one row, above all that it uses, and fit one screen.
 - The page of `help` must have the words of each command of docs/USAGE.md, and `version` must print the newest version of
   CHANGELOG.md.
 
@@ -19,6 +24,25 @@ import glob, os, re, sys
 
 ROOT = os.path.dirname(os.path.dirname(os.path.abspath(__file__)))
 LONGEST = 120
+# The most words of each group of pages, and of all of them.
+BOUNDS = (
+    (1200, ("README.md",)),
+    (7000, ("docs/USAGE.md", "docs/FIT.md", "docs/LINE_CAPTURE.md", "docs/TICK_TEXT.md", "docs/LIVE.md", "docs/TIMELINE.md", "docs/AUDIT.md")),
+    (5500, ("docs/LINK.md", "docs/MODBUS.md", "docs/DNP3.md", "docs/DEVICES.md")),
+    (4000, ("docs/SECURITY.md",)),
+    (2500, ("docs/JOURNAL.md",)),
+    (3500, ("docs/PROOF.md", "docs/HEADLINE.md")),
+    (5000, ("docs/ARCHITECTURE.md", "docs/DECISIONS.md")),
+    (2000, ("docs/PERFORMANCE.md",)),
+    (1050, ("examples/README.md",)),
+    (2500, ("docs/C_LIBRARY.md", "docs/CAPTURES.md", "examples/captures/README.md")),
+    (6000, ("CONTRIBUTING.md", "docs/TESTING.md", "docs/GLOSSARY.md", "CHANGELOG.md")),
+)
+IN_ALL = 40000
+UNBOUNDED = ("docs/CLAIMS.md",)
+LINES_OF_A_VERSION = 40
+# The most rows and columns of the map.
+SCREEN = (60, 150)
 # Pages about the past, which may name what is gone.
 OF_THE_PAST = ("CHANGELOG.md",)
 # Names of the toolchain.
@@ -58,6 +82,27 @@ def missing_files(page, text):
             continue
         if not any(glob.glob(os.path.join(ROOT, folder, name)) for folder in places(page)):
             yield "there is no %s" % name
+
+
+def files_of_crates():
+    """The files of the crates, as paths that begin with the crate's name."""
+    return ["/" + os.path.relpath(path, os.path.join(ROOT, "crates"))
+            for end in ("rt", "antt") for path in glob.glob(os.path.join(ROOT, "crates", "*", "**", "*." + end), recursive=True)]
+
+
+def misplaced_files(text, files):
+    """Files of crates that are named and in no crate, or not in the crate that the same brackets name."""
+    for name in sorted(set(re.findall(r"`(?:crates/)?([\w/]+\.(?:rt|antt))`", text))):
+        if not any(file.endswith("/" + name) for file in files):
+            yield "%s is in no crate" % name
+    crates = {file.split("/")[1] for file in files}
+    for inside in re.findall(r"\(([^()]*)\)", text):
+        crate = None
+        for name in re.findall(r"`([\w/.]+)`", inside):
+            crate = name if name in crates else crate
+            if crate and name.endswith((".rt", ".antt")) and not any(
+                    file.startswith("/%s/" % crate) and file.endswith("/" + name) for file in files):
+                yield "%s isn't in %s" % (name, crate)
 
 
 def unlinked_pages(page, text):
@@ -119,13 +164,59 @@ def wrong_texts():
         yield "version isn't %s, the newest one of CHANGELOG.md" % newest
 
 
+def words_of(text):
+    return len(text.split())
+
+
+def too_long(texts):
+    """Groups of pages with too many words, pages in no group, and a newest version with too many lines."""
+    bounded = [page for _, group in BOUNDS for page in group]
+    for page in texts:
+        if page not in bounded and page not in UNBOUNDED:
+            yield "%s has no bound" % page
+    for most, group in BOUNDS:
+        words = sum(words_of(texts[page]) for page in group if page in texts)
+        if words > most:
+            yield "%s: %d words, and %d at most" % (", ".join(group), words, most)
+    words = sum(words_of(text) for page, text in texts.items() if page in bounded)
+    if words > IN_ALL:
+        yield "all pages with bounds: %d words, and %d at most" % (words, IN_ALL)
+    newest = re.search(r"^## .*?(?=^## |\Z)", texts["CHANGELOG.md"], re.S | re.M)[0].rstrip().split("\n")
+    if len(newest) > LINES_OF_A_VERSION:
+        yield "CHANGELOG.md: %d lines for the newest version, and %d at most" % (len(newest), LINES_OF_A_VERSION)
+
+
+def uses():
+    """The crates that each crate uses, as crates.txt has them."""
+    rows = [line.split(":") for line in read("crates.txt").split("\n") if ":" in line and not line.startswith("#")]
+    return {head.split()[0]: names.split() for head, names in rows}
+
+
+def wrong_map(text):
+    """What is wrong with the map: crates that it lacks, that it has twice, or that aren't above what they use."""
+    rows = re.search(r"^## The map\n.*?((?:^    [^\n]*\n)+)", text, re.S | re.M)[1].rstrip("\n").split("\n")
+    if len(rows) > SCREEN[0] or max(map(len, rows)) > SCREEN[1]:
+        yield "the map has %d rows, and up to %d columns" % (len(rows), max(map(len, rows)))
+    crates = uses()
+    order = [row.split()[0] for row in rows if row.split()[0] in crates]
+    for crate, used in sorted(crates.items()):
+        if order.count(crate) != 1:
+            yield "the map has %s %d times" % (crate, order.count(crate))
+        else:
+            below = order[order.index(crate):]
+            yield from ("the map doesn't have %s above %s" % (crate, name) for name in used if name in crates and name not in below)
+
+
 def main():
     wrong, words = ["about.rt: " + fault for fault in wrong_texts()], words_of_the_code()
-    texts = {page: read(page) for page in pages()}
+    texts, files = {page: read(page) for page in pages()}, files_of_crates()
+    wrong += too_long(texts)
     for page, text in texts.items():
         faults = list(missing_files(page, text)) if page not in OF_THE_PAST else []
+        faults += list(misplaced_files(text, files)) if page not in OF_THE_PAST else []
         faults += unlinked_pages(page, text)
         faults += missing_names(text) if page == "docs/PROOF.md" else []
+        faults += wrong_map(text) if page == "docs/ARCHITECTURE.md" else []
         faults += unknown_names(text, words) if page not in OF_THE_PAST else []
         faults += ["%d words: %s .." % (len(part.split()), part.strip()[:60]) for part in paragraphs(text) if len(part.split()) > LONGEST]
         if page.startswith("docs/") and not any(os.path.basename(page) in other for name, other in texts.items() if name != page):

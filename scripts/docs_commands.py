@@ -16,7 +16,8 @@ from killed import slot_of
 ROOT = os.path.dirname(os.path.dirname(os.path.abspath(__file__)))
 
 # The pages, and the files that their commands find: a journal with the number 41.
-PAGES = {"docs/USAGE.md": {}, "docs/DEVICES.md": {}, "docs/SECURITY.md": {"journal": bytes(32) + slot_of(41)}, "docs/LINE_CAPTURE.md": {}}
+PAGES = {"docs/USAGE.md": {}, "docs/DEVICES.md": {}, "docs/LINK.md": {}, "docs/SECURITY.md": {"journal": bytes(32) + slot_of(41)},
+         "docs/LINE_CAPTURE.md": {}}
 
 # The other program, which some pages call.
 CAPTURE = built.path_of("line_capture")

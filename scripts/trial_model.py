@@ -1,10 +1,24 @@
-"""What `trial P SEED COUNT` prints, by the model of the boxes (model.py) and the rules of docs/USAGE.md, written anew in Python.
+"""What `trial P SEED COUNT` prints, by the model of the boxes (model.py) and the rules below, written anew in Python.
 
     python3 scripts/trial_model.py P SEED COUNT
     python3 scripts/trial_model.py compare [PROGRAM]
 
 The first form prints it. The second form compares it with what the program prints, for both protocols and profiles and some
 seeds, and ends with 1 if a line differs.
+
+The rules. Numbers are drawn from a state x, which is SEED at first. A draw sets x to 6364136223846793005 x + 1442695040888963407,
+modulo 2^64, and gives the whole part of x / 2^32. Each frame has a period of 640 ticks, on the device's line and on the link. The
+frame comes first in its period on the device's line, and the rest is silent. For each frame the draws are, in this order:
+
+1. The frame. Modbus RTU: its length is 4 plus a draw modulo 253, and each byte except the CRC is a draw modulo 256. DNP3: a draw
+   modulo 251 is the number of bytes of user data, two draws modulo 65536 are destination and source, and each byte of user data is
+   a draw modulo 256; CONTROL is C4.
+2. What happens to the link in this period: a kind, modulo 8; a place j, modulo the length of its packet, which is that of the
+   frame plus 17 (23 with y24); and a value v, which is 1 plus a draw modulo 255.
+
+On the link the transmitter's ticks of the period are altered by the kind. 0 to 3: nothing is. 4: a byte at tick j is xored with v,
+and a silent tick there becomes the byte v. 5: all of it is silent. 6: its second half is its first half again. 7: from tick j on it
+is silent. 320 silent ticks follow the link.
 """
 import subprocess, sys
 
