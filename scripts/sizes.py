@@ -23,7 +23,7 @@ Under the table are these counts:
     names in two or more crates    the names of definitions and stated laws of specs/ that are defined in more than one crate, and the
                                    lines of all of their definitions but the longest of each name
     a third protocol               the files outside dnp_link_frame with a line that has `dnp` in a word, in any case
-    a third profile                the files outside link_format and hmac_tag with a line that has `y24`, `rtu24`, `dnp24`, or the MAC
+    a third profile                the files outside link_format with a line that has `y24`, `rtu24`, `dnp24`, or the MAC
                                    `HmacSha256` in a word, in any case and with or without `_`
 
 The last two leave out comments and tests, and tell files of src/, of specs/ and of proofs/ apart.
@@ -43,7 +43,7 @@ RECORDS = (("the headline rests on", Spec("link_replay", "ReplayCommand", "Headl
 PARTS = (("src", "rt"), ("specs", "antt"), ("proofs", "antt"))
 # What names a protocol or a profile as a third one would be named, and the crates that are its own.
 THIRD = (("DNP3, as a third protocol would be,", re.compile(r"dnp", re.I), ("dnp_link_frame",)),
-         ("y24, as a third profile would be,", re.compile(r"y24|rtu24|dnp24|hmac_?sha_?256", re.I), ("link_format", "hmac_tag")))
+         ("y24, as a third profile would be,", re.compile(r"y24|rtu24|dnp24|hmac_?sha_?256", re.I), ("link_format",)))
 
 
 def lines_of(path):

@@ -3,8 +3,8 @@ use Rattle.any_box.specs.Boxes.{kind_of, ticks_in, own_link, definition_of, Stan
 use Rattle.any_box.specs.{Noting.StepsOn, Noting.TakesOn, declared.any_box.AnyBox.AnyBox}
 use Rattle.any_box.specs.declared.any_note.AnyNote.{AnyNote}
 use Rattle.dnp_link_frame.specs.declared.dnp.Dnp.{Dnp}
-use Rattle.hmac_tag.specs.declared.{macs.HmacSha1.HmacSha1, macs.HmacSha256.HmacSha256}
-use Rattle.hmac_tag.specs.declared.tag.Mac.{Ghosts as Mac}
+use Rattle.link_format.specs.declared.{macs.HmacSha1.HmacSha1, macs.HmacSha256.HmacSha256}
+use Rattle.link_format.specs.declared.tag.Mac.{Ghosts as Mac}
 use Rattle.line_rules.specs.declared.line_rules.LineRules.{Ghosts as LineRules}
 use Rattle.rtu_frame.specs.declared.rtu.Rtu.{Rtu}
 use Rattle.std.proofs.Common.{◌≡◌, ℕ, ◌+◌, List, length, sym, subst}

@@ -1,10 +1,10 @@
 -- What a step commits over slots in memory.
 use Rattle.any_box.specs.Commits.{CommitsOne, CommitsOneOrNone}
 use Rattle.check_receiver.specs.Checkings.{CommitsNoted as CheckCommits}
-use Rattle.link_walks.specs.declared.check_note.CheckNote.{CheckNote}
-use Rattle.link_walks.specs.declared.check_note.CheckNote.TheVariants.{Passed, Refused, Dropped}
-use Rattle.link_walks.specs.declared.seal_note.SealNote.{SealNote}
-use Rattle.link_walks.specs.declared.seal_note.SealNote.TheVariants.{Sealed, Unsealed}
+use Rattle.link_box.specs.declared.check_note.CheckNote.{CheckNote}
+use Rattle.link_box.specs.declared.check_note.CheckNote.TheVariants.{Passed, Refused, Dropped}
+use Rattle.link_box.specs.declared.seal_note.SealNote.{SealNote}
+use Rattle.link_box.specs.declared.seal_note.SealNote.TheVariants.{Sealed, Unsealed}
 use Rattle.seal_transmitter.specs.Answers.{CommitsNoted as SealCommits}
 use Rattle.sequence_journal.specs.Commits.{HasCommitted}
 use Rattle.sequence_journal.specs.Journal.{journal_link, journal_floor, kept_slot, told_with}

@@ -4,8 +4,8 @@ use Rattle.yasir_ticks.specs.declared.tick.Tick.{Tick}
 use Rattle.rtu_frame.specs.declared.rtu.Rtu.{Rtu}
 use Rattle.dnp_link_frame.specs.declared.dnp.Dnp.{Dnp}
 use Rattle.line_rules.specs.declared.line_rules.LineRules.{Ghosts as LineRules}
-use Rattle.hmac_tag.specs.declared.tag.Mac.{Ghosts as Mac}
-use Rattle.hmac_tag.specs.declared.macs.{HmacSha1.HmacSha1, HmacSha256.HmacSha256}
+use Rattle.link_format.specs.declared.tag.Mac.{Ghosts as Mac}
+use Rattle.link_format.specs.declared.macs.{HmacSha1.HmacSha1, HmacSha256.HmacSha256}
 use Rattle.link_format.specs.Setup.{Setup}
 use Rattle.seal_transmitter.specs.Boxed.{seal_walking}
 use Rattle.seal_transmitter.specs.Stands.{StandsAt as SealsAt, ticks_taken as seal_ticks}

@@ -6,9 +6,9 @@ use Rattle.yasir_io.specs.Steady.{steady_slots, blank_old}
 use Rattle.rtu_frame.specs.declared.rtu.Rtu.{Rtu}
 use Rattle.dnp_link_frame.specs.declared.dnp.Dnp.{Dnp}
 use Rattle.line_rules.specs.declared.line_rules.LineRules.{Ghosts as LineRules}
-use Rattle.hmac_tag.specs.declared.dir.Dir.{Dir}
-use Rattle.hmac_tag.specs.declared.tag.Mac.{Ghosts as Mac}
-use Rattle.hmac_tag.specs.declared.macs.{HmacSha1.HmacSha1, HmacSha256.HmacSha256}
+use Rattle.link_format.specs.declared.dir.Dir.{Dir}
+use Rattle.link_format.specs.declared.tag.Mac.{Ghosts as Mac}
+use Rattle.link_format.specs.declared.macs.{HmacSha1.HmacSha1, HmacSha256.HmacSha256}
 use Rattle.link_format.specs.Setup.{Setup, setup_of}
 use Rattle.sequence_journal.specs.Journal.{journal_link, journal_floor}
 use Rattle.sequence_journal.specs.Slots.{floor_of}

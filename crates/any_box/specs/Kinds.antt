@@ -1,5 +1,5 @@
 -- Which of the eight boxes a box is, and the link of its journal.
-use Rattle.hmac_tag.specs.declared.dir.Dir.{Dir}
+use Rattle.link_format.specs.declared.dir.Dir.{Dir}
 use Rattle.sequence_journal.specs.declared.link.LinkId.{LinkId}
 use Rattle.command_ends.specs.Links.{link_of}
 use Rattle.any_box.specs.declared.kind.Kind.{Kind}

@@ -13,9 +13,9 @@ ghost use Rattle.any_box.specs.declared.any_note.AnyNote.TheVariants.{OfSealer, 
 use crate::any_note::AnyNote;
 use check_receiver::{CheckNote, Checker};
 use frame_ending::{BoxStep, RunBytes};
-use hmac_tag::Mac;
 use line_rules::LineRules;
 use link_box::{LinkBox, take_alike};
+use link_format::Mac;
 use seal_transmitter::{SealNote, Sealer};
 use sequence_journal::Journal;
 use yasir_io::SteadySlots;

@@ -2,7 +2,7 @@
 ghost use Rattle.std.specs.Prelude.{◌≡◌};
 
 use command_ends::{Profile, Proto, link_of};
-use hmac_tag::Dir;
+use link_format::Dir;
 use sequence_journal::LinkId;
 
 /// Which end of a link a box is.

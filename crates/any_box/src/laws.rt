@@ -10,8 +10,8 @@ ghost use Rattle.any_box.specs.declared.held_box.HeldStep.{HeldStep};
 ghost use Rattle.any_box.specs.declared.owed.Commit.{Commit};
 
 use dnp_link_frame::Dnp;
-use hmac_tag::{HmacSha1, HmacSha256, Mac};
 use line_rules::LineRules;
+use link_format::{HmacSha1, HmacSha256, Mac};
 use rtu_frame::Rtu;
 
 /// A caller has the slots of a box on its disk, and writes what a step says. *written*: after that

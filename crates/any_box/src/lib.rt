@@ -1,3 +1,5 @@
+//! The boxes of a link as one type, and the spacers as another.
+//!
 //! The eight boxes of a link as one type: transmitter or receiver, for Modbus RTU or DNP3, with
 //! either profile. Each has its journal in memory, and a step says what the caller must write to
 //! its own disk.

@@ -3,7 +3,7 @@
 use any_box::{AnyNote, Commit, HeldBox, HeldStep, Kind, Part, Profile, Proto};
 use check_receiver::{CheckNote, RefusedWhy};
 use frame_ending::RunBytes;
-use hmac_tag::Dir;
+use link_format::Dir;
 use seal_transmitter::SealNote;
 use sequence_journal::{LoadError, slot_of};
 use std::alloc::{AllocError, Global};

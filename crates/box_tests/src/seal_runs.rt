@@ -4,9 +4,9 @@ ghost use Rattle.yasir_io.specs.Steady.{steady_slots};
 ghost use Rattle.sequence_journal.specs.Journal.{journal_link, Fits};
 ghost use Rattle.seal_transmitter.specs.Stands.{direction_of, ticks_taken};
 
-use hmac_tag::HmacSha1;
 use line_rules::FourBytes;
 use link_box::LinkBox;
+use link_format::HmacSha1;
 use seal_transmitter::{Dir, RunBytes, Sealer};
 use sequence_journal::{Journal, slot_of};
 use std::alloc::{AllocError, Global};

@@ -5,9 +5,9 @@ ghost use Rattle.sequence_journal.specs.Journal.{journal_link, Fits};
 ghost use Rattle.sequence_journal.specs.Links.{HasDirection};
 ghost use Rattle.seal_transmitter.specs.Stands.{direction_of, ticks_taken};
 
-use hmac_tag::{HmacSha1, HmacSha256, Mac};
 use line_rules::{FourBytes, LineRules};
 use link_box::LinkBox;
+use link_format::{HmacSha1, HmacSha256, Mac};
 use seal_transmitter::{BoxStep, Dir, SealNote, Sealer, UnsealedWhy};
 use sequence_journal::{Journal, LinkId, slot_of};
 use std::alloc::Global;

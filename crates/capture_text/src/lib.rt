@@ -1,3 +1,5 @@
+//! Captures as text: records of bytes, what logic analysers export, and dumps that they can read.
+//!
 //! Captures as text: a line for each record, with its time in seconds and its bytes in hex digits.
 //!
 //! The bytes of a capture, each with the time of its record:

@@ -9,14 +9,14 @@ use Rattle.frame_ending.specs.{Cuts.cut_of, Cuts.byte_cut, LiveBytes.live_end, S
 use Rattle.frame_ending.specs.Stands.{StandsFor as CutStandsFor}
 use Rattle.frame_ending.specs.declared.burst_cut.BurstCut.{BurstCut}
 use Rattle.frame_ending.specs.declared.cut.Cut.TheVariants.{Start, Live, Extra}
-use Rattle.hmac_tag.specs.declared.tag.Mac.{Ghosts as Mac}
+use Rattle.link_format.specs.declared.tag.Mac.{Ghosts as Mac}
 use Rattle.line_rules.specs.Rules.{Rules, head_of}
 use Rattle.line_rules.specs.declared.head.Head.TheVariants.{Good, Bad}
 use Rattle.line_rules.specs.declared.line_rules.LineRules.{Ghosts as LineRules}
 use Rattle.link_format.specs.{Profile.profile_of, Setup.Setup}
-use Rattle.link_walks.specs.Checking.{FullNote, checker, at_floor, brief_note}
-use Rattle.link_walks.specs.Verdicts.{CheckState}
-use Rattle.link_walks.specs.declared.check_note.CheckNote.{CheckNote}
+use Rattle.link_box.specs.Checking.{FullNote, checker, at_floor, brief_note}
+use Rattle.link_box.specs.Verdicts.{CheckState}
+use Rattle.link_box.specs.declared.check_note.CheckNote.{CheckNote}
 use Rattle.sequence_journal.specs.declared.numbers.TheConstants.{LIMIT}
 use Rattle.std.proofs.Common.{◌≡◌, ◌∙◌, ◌⊎◌, ℕ, zero, suc, ◌+◌, ◌<◌, ◌≤◌, ◌==◌, true, List, [], ◌∷◌}
 use Rattle.std.proofs.Common.{◌++◌, length, take, drop, get_or, map, refl, sym, ap, subst, arith}

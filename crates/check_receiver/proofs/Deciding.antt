@@ -9,14 +9,14 @@ use Rattle.check_receiver.specs.declared.phase.Phase.TheVariants.{Leaving}
 use Rattle.frame_ending.specs.LiveBytes.{live_bytes}
 use Rattle.frame_ending.specs.SoFar.{last_burst, live_bytes_so_far, start_so_far}
 use Rattle.frame_ending.specs.Stands.{StandsFor as CutStandsFor, ticks_taken as ticks_cut}
-use Rattle.{hmac_tag.specs.declared.tag.Mac.Ghosts as Mac, line_rules.specs.Rules.Rules}
+use Rattle.{link_format.specs.declared.tag.Mac.Ghosts as Mac, line_rules.specs.Rules.Rules}
 use Rattle.line_rules.specs.{Rules.lacking_of, declared.line_rules.LineRules.Ghosts as LineRules}
 use Rattle.link_format.specs.{Profile.Profile, Profile.profile_of, Setup.Setup}
-use Rattle.link_walks.specs.{Holding.trailer_so_far, Verdicts.trailer_of, Verdicts.whole_verdict}
-use Rattle.link_walks.specs.declared.check_note.CheckNote.{CheckNote}
-use Rattle.link_walks.specs.declared.check_note.CheckNote.TheVariants.{Passed}
-use Rattle.link_walks.specs.declared.check_note.CheckNote.TheVariants.{Refused}
-use Rattle.link_walks.specs.declared.check_note.RefusedWhy.{RefusedWhy}
+use Rattle.link_box.specs.{Holding.trailer_so_far, Verdicts.trailer_of, Verdicts.whole_verdict}
+use Rattle.link_box.specs.declared.check_note.CheckNote.{CheckNote}
+use Rattle.link_box.specs.declared.check_note.CheckNote.TheVariants.{Passed}
+use Rattle.link_box.specs.declared.check_note.CheckNote.TheVariants.{Refused}
+use Rattle.link_box.specs.declared.check_note.RefusedWhy.{RefusedWhy}
 use Rattle.sequence_journal.specs.declared.numbers.TheConstants.{LIMIT}
 use Rattle.std.proofs.Common.{◌≡◌, ◌∙◌, ℕ, ◌+◌, ◌≤◌, List, [], ◌∷◌, ◌++◌, length, sym, ap, subst}
 use Rattle.std.proofs.Common.{Some, Result, Ok, Err, true}

@@ -6,29 +6,29 @@ use Rattle.check_receiver.proofs.Machine.{flow, still-unowed, ring-waits, assemb
 use Rattle.check_receiver.proofs.OpenBursts.{timely, open-walks}
 use Rattle.check_receiver.specs.{Between.IsBetween, Stands.HasTaken, Turning.TurnedClear}
 use Rattle.check_receiver.specs.{Turning.dropped, declared.checker.Checker.Checker}
-use Rattle.delay_ring.specs.DelayRing.{ring_ticks}
+use Rattle.yasir_ticks.specs.DelayRing.{ring_ticks}
 use Rattle.frame_ending.specs.LiveBytes.{up_to_byte, live_bytes, live_end}
 use Rattle.frame_ending.specs.SoFar.{last_of, start_in, start_so_far, live_bytes_in}
 use Rattle.frame_ending.specs.{SoFar.live_bytes_so_far, Stands.StandsFor as CutStandsFor}
 use Rattle.frame_ending.specs.declared.cut.Cut.{Cut, TheVariants.Live}
-use Rattle.hmac_tag.specs.{Tag.direction_number, declared.tag.Mac.Ghosts as Mac}
+use Rattle.link_format.specs.{Tag.direction_number, declared.tag.Mac.Ghosts as Mac}
 use Rattle.line_rules.specs.{Rules.Rules, Rules.head_of, RulesLaws.IsLawful, RulesLaws.IsHeaded}
 use Rattle.line_rules.specs.declared.head.Head.TheVariants.{Bad}
 use Rattle.line_rules.specs.declared.line_rules.LineRules.{Ghosts as LineRules}
 use Rattle.link_format.specs.{Profile.Profile, Profile.profile_of, Profile.IsWordLen, Setup.Setup}
-use Rattle.link_walks.proofs.Judging.{head-short, checked-short, checked-bad}
-use Rattle.link_walks.proofs.Opened.{last_of-more, opens-of, may-of, unowed-of, silently, joined}
-use Rattle.link_walks.proofs.Opened.{joined-last, still}
-use Rattle.link_walks.proofs.{Opening.short-same, Opening.come-rests, Resting.rest-drops}
-use Rattle.link_walks.proofs.Settling.{is_over, open-bytes, open-end, long-header}
-use Rattle.link_walks.specs.Checking.{checker, at_floor, head_tick, note_tick}
-use Rattle.link_walks.specs.Holding.{Rests}
-use Rattle.link_walks.specs.Verdicts.{CheckState, checked, Verdict.dropped as dropped_for}
-use Rattle.link_walks.specs.declared.check_note.CheckNote.{CheckNote}
-use Rattle.link_walks.specs.declared.check_note.CheckNote.TheVariants.{Dropped}
-use Rattle.link_walks.specs.declared.check_note.DroppedWhy.TheVariants.{Head as NoHead}
+use Rattle.link_box.proofs.Judging.{head-short, checked-short, checked-bad}
+use Rattle.link_box.proofs.Opened.{last_of-more, opens-of, may-of, unowed-of, silently, joined}
+use Rattle.link_box.proofs.Opened.{joined-last, still}
+use Rattle.link_box.proofs.{Opening.short-same, Opening.come-rests, Resting.rest-drops}
+use Rattle.link_box.proofs.Settling.{is_over, open-bytes, open-end, long-header}
+use Rattle.link_box.specs.Checking.{checker, at_floor, head_tick, note_tick}
+use Rattle.link_box.specs.Holding.{Rests}
+use Rattle.link_box.specs.Verdicts.{CheckState, checked, Verdict.dropped as dropped_for}
+use Rattle.link_box.specs.declared.check_note.CheckNote.{CheckNote}
+use Rattle.link_box.specs.declared.check_note.CheckNote.TheVariants.{Dropped}
+use Rattle.link_box.specs.declared.check_note.DroppedWhy.TheVariants.{Head as NoHead}
 use Rattle.sequence_journal.specs.declared.numbers.TheConstants.{LIMIT}
-use Rattle.spoiler.specs.Outlet.{StandsFor as OutletStandsFor, owed_by}
+use Rattle.line_rules.specs.Outlet.{StandsFor as OutletStandsFor, owed_by}
 use Rattle.std.proofs.Common.{◌≡◌, ◌∙◌, ℕ, ◌+◌, ◌-◌, ◌<◌, ◌≤◌, true, false, List, [], ◌∷◌, ◌++◌}
 use Rattle.std.proofs.Common.{length, length-append, take, refl, sym, ap, subst, arith, ⊎_elim}
 use Rattle.std.proofs.{Common.Option, Common.Some, Common.None, lemmas.Bool.cases_lt}

@@ -4,18 +4,18 @@ use Rattle.check_receiver.proofs.{Machine.assembled, OpenBursts.open-walks, Open
 use Rattle.check_receiver.{proofs.Settled.open-stays, specs.Between.IsBetween, specs.Phases.is_open}
 use Rattle.check_receiver.specs.{Phases.passes_in, Stands.MacHolds, Stands.HasTaken, Turning.Turned}
 use Rattle.check_receiver.specs.{Turning.with_until, declared.checker.Checker.Checker}
-use Rattle.delay_ring.specs.DelayRing.{ring_ticks}
+use Rattle.yasir_ticks.specs.DelayRing.{ring_ticks}
 use Rattle.frame_ending.specs.{LiveBytes.live_bytes, SoFar.live_bytes_in, SoFar.live_bytes_so_far}
 use Rattle.frame_ending.specs.declared.cut.Cut.TheVariants.{Live}
-use Rattle.hmac_tag.specs.declared.tag.Mac.{Ghosts as Mac}
+use Rattle.link_format.specs.declared.tag.Mac.{Ghosts as Mac}
 use Rattle.line_rules.specs.{Rules.Rules, Rules.head_of, declared.head.Head.TheVariants.Bad}
 use Rattle.line_rules.specs.declared.line_rules.LineRules.{Ghosts as LineRules}
-use Rattle.{link_format.specs.Setup.Setup, link_walks.proofs.Judging.head-bad}
-use Rattle.link_walks.proofs.Opened.{opens-of, long-of, more-of, unowed-of, joined-last, goes-as}
-use Rattle.link_walks.proofs.Opened.{live-goes, live-gap, live-adds, live-before, live-after}
-use Rattle.link_walks.proofs.{Opening.length-silent, Rings.ring-byte}
-use Rattle.link_walks.specs.declared.check_note.CheckNote.{CheckNote}
-use Rattle.spoiler.specs.Outlet.{owed_by}
+use Rattle.{link_format.specs.Setup.Setup, link_box.proofs.Judging.head-bad}
+use Rattle.link_box.proofs.Opened.{opens-of, long-of, more-of, unowed-of, joined-last, goes-as}
+use Rattle.link_box.proofs.Opened.{live-goes, live-gap, live-adds, live-before, live-after}
+use Rattle.link_box.proofs.{Opening.length-silent, Rings.ring-byte}
+use Rattle.link_box.specs.declared.check_note.CheckNote.{CheckNote}
+use Rattle.line_rules.specs.Outlet.{owed_by}
 use Rattle.std.proofs.Common.{◌≡◌, ◌∙◌, ℕ, ◌-◌, ◌≤◌, ◌==◌, true, false, List, [], ◌∷◌, ◌++◌}
 use Rattle.std.proofs.Common.{length, length-append, take, drop, refl, sym, ap, subst, arith}
 use Rattle.std.proofs.Common.{⊎_elim, Option, Some, None, IfSome}

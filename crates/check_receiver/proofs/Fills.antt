@@ -9,12 +9,12 @@ use Rattle.check_receiver.specs.declared.phase.Phase.TheVariants.{Idle, Open, Le
 use Rattle.frame_ending.proofs.Cutting.{cut-pass, cut-go_on}
 use Rattle.frame_ending.specs.{Cuts.cut_of, SoFar.quiet_so_far, Stands.StandsFor as CutStandsFor}
 use Rattle.frame_ending.specs.declared.{burst_cut.BurstCut.BurstCut, cut.Cut.Cut}
-use Rattle.hmac_tag.specs.declared.tag.Mac.{Ghosts as Mac}
+use Rattle.link_format.specs.declared.tag.Mac.{Ghosts as Mac}
 use Rattle.line_rules.specs.{Rules.Rules, declared.line_rules.LineRules.Ghosts as LineRules}
-use Rattle.{link_format.specs.Setup.Setup, link_walks.specs.Turns.HasTurned}
-use Rattle.link_walks.specs.Turns.{tick_or_silence}
-use Rattle.link_walks.specs.declared.check_note.CheckNote.{CheckNote}
-use Rattle.spoiler.specs.Outlet.{filled, owed_by}
+use Rattle.{link_format.specs.Setup.Setup, link_box.specs.Turns.HasTurned}
+use Rattle.link_box.specs.Turns.{tick_or_silence}
+use Rattle.link_box.specs.declared.check_note.CheckNote.{CheckNote}
+use Rattle.line_rules.specs.Outlet.{filled, owed_by}
 use Rattle.std.proofs.Common.{◌≡◌, ◌∙◌, ℕ, zero, suc, ◌<◌, ◌==◌, false, List, [], ◌∷◌, ◌++◌, length}
 use Rattle.std.proofs.Common.{get_or, map, refl, sym, ap, subst, arith, None, ⊎_elim, Bool, nat_lt}
 use Rattle.std.proofs.Common.{inl, inr, ◌||◌}

@@ -3,7 +3,7 @@ use Rattle.std.proofs.Common.{◌≡◌, ◌<◌, ◌≤◌, ℕ, true, false, L
 use Rattle.std.proofs.lemmas.Bool.{cases_Bool, cases_lt}
 use Rattle.line_rules.specs.Rules.{Rules, head_of}
 use Rattle.line_rules.specs.declared.head.Head.TheVariants.{Short, Good, Bad}
-use Rattle.link_walks.proofs.Judging.{head-short, head-good, head-bad}
+use Rattle.link_box.proofs.Judging.{head-short, head-good, head-bad}
 
 module _ (rules : Rules) (x : List ℕ) where
   -- If it says `Short`, the header isn't whole; if it says anything else, the header is whole.

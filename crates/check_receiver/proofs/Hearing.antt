@@ -10,34 +10,34 @@ use Rattle.check_receiver.specs.Checkings.{PassesWith}
 use Rattle.check_receiver.specs.Stands.{MacHolds, Walks, HasTaken}
 use Rattle.check_receiver.specs.Turning.{Turned, TurnedRefused, refused as refused_with}
 use Rattle.check_receiver.specs.declared.{arriving.Arriving.Arriving, checker.Checker.Checker}
-use Rattle.delay_ring.specs.DelayRing.{ring_ticks}
+use Rattle.yasir_ticks.specs.DelayRing.{ring_ticks}
 use Rattle.frame_ending.proofs.{Dividing.longer-line, Running.extra-tick}
 use Rattle.frame_ending.specs.{Cuts.cut_of, LiveBytes.live_bytes, LiveBytes.live_end}
 use Rattle.frame_ending.specs.SoFar.{last_burst, live_bytes_in, live_bytes_so_far, start_in}
 use Rattle.frame_ending.specs.{SoFar.start_so_far, Stands.StandsFor as CutStandsFor}
 use Rattle.frame_ending.specs.{Stands.ticks_taken as ticks_cut, declared.cut.Cut.TheVariants.Extra}
-use Rattle.hmac_tag.specs.{Tag.direction_number, declared.tag.Mac.Ghosts as Mac}
+use Rattle.link_format.specs.{Tag.direction_number, declared.tag.Mac.Ghosts as Mac}
 use Rattle.line_rules.specs.Rules.{Rules, lacking_of}
 use Rattle.line_rules.specs.declared.line_rules.LineRules.{Ghosts as LineRules}
 use Rattle.link_format.specs.Profile.{Profile, profile_of, IsWordLen, delay, pause_len, trailer_len}
-use Rattle.{link_format.specs.Setup.Setup, link_walks.proofs.Opened.IsOpen}
-use Rattle.link_walks.proofs.Opened.{opens-of, may-of, long-of, more-of, unowed-of, bytes-of}
-use Rattle.link_walks.proofs.Opened.{bytes-next, trailer-long as grown, goes-as, joined}
-use Rattle.link_walks.proofs.Opened.{joined-last, extra-end, extra-bytes, extra-adds, extra-goes}
-use Rattle.link_walks.proofs.Opened.{extra-breaks, whole-checked, whole-tick, whole-refuses}
-use Rattle.link_walks.proofs.{Opened.whole-passes, Opening.length-silent, Resting.causal}
-use Rattle.link_walks.{proofs.Settling.after-long, specs.Checking.FullNote}
-use Rattle.link_walks.specs.Checking.{checker, at_floor, check_notes, note_by, note_tick}
-use Rattle.link_walks.specs.{Checking.FullNote.passed_note, Emissions.owed, Going.Goes}
-use Rattle.link_walks.specs.{Holding.trailer_so_far, Verdicts.CheckState, Verdicts.after_live}
-use Rattle.link_walks.specs.Verdicts.{checked, trailer_of, whole_verdict, Verdict.passed_with}
-use Rattle.link_walks.specs.Verdicts.Verdict.{refused}
-use Rattle.link_walks.specs.declared.check_note.CheckNote.{CheckNote}
-use Rattle.link_walks.specs.declared.check_note.CheckNote.TheVariants.{Passed, Refused}
-use Rattle.link_walks.specs.declared.check_note.RefusedWhy.{RefusedWhy}
-use Rattle.link_walks.specs.declared.check_note.RefusedWhy.TheVariants.{Trailer}
+use Rattle.{link_format.specs.Setup.Setup, link_box.proofs.Opened.IsOpen}
+use Rattle.link_box.proofs.Opened.{opens-of, may-of, long-of, more-of, unowed-of, bytes-of}
+use Rattle.link_box.proofs.Opened.{bytes-next, trailer-long as grown, goes-as, joined}
+use Rattle.link_box.proofs.Opened.{joined-last, extra-end, extra-bytes, extra-adds, extra-goes}
+use Rattle.link_box.proofs.Opened.{extra-breaks, whole-checked, whole-tick, whole-refuses}
+use Rattle.link_box.proofs.{Opened.whole-passes, Opening.length-silent, Resting.causal}
+use Rattle.link_box.{proofs.Settling.after-long, specs.Checking.FullNote}
+use Rattle.link_box.specs.Checking.{checker, at_floor, check_notes, note_by, note_tick}
+use Rattle.link_box.specs.{Checking.FullNote.passed_note, Emissions.owed, Going.Goes}
+use Rattle.link_box.specs.{Holding.trailer_so_far, Verdicts.CheckState, Verdicts.after_live}
+use Rattle.link_box.specs.Verdicts.{checked, trailer_of, whole_verdict, Verdict.passed_with}
+use Rattle.link_box.specs.Verdicts.Verdict.{refused}
+use Rattle.link_box.specs.declared.check_note.CheckNote.{CheckNote}
+use Rattle.link_box.specs.declared.check_note.CheckNote.TheVariants.{Passed, Refused}
+use Rattle.link_box.specs.declared.check_note.RefusedWhy.{RefusedWhy}
+use Rattle.link_box.specs.declared.check_note.RefusedWhy.TheVariants.{Trailer}
 use Rattle.sequence_journal.specs.declared.numbers.TheConstants.{LIMIT}
-use Rattle.spoiler.{proofs.Standing.stands-unowed, specs.Outlet.Refuses, specs.Outlet.owed_by}
+use Rattle.line_rules.{proofs.Standing.stands-unowed, specs.Outlet.Refuses, specs.Outlet.owed_by}
 use Rattle.std.proofs.Common.{◌≡◌, ◌∙◌, ℕ, ◌+◌, ◌-◌, ◌<◌, ◌≤◌, ◌==◌, Bool, true, false, List, []}
 use Rattle.std.proofs.Common.{◌∷◌, ◌++◌, length, length-append, take, drop, get_or, refl, sym, ap}
 use Rattle.std.proofs.Common.{subst, arith, Option, Some, None, IfSome}

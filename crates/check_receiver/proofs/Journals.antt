@@ -1,8 +1,8 @@
 -- What a step does to the journal and its disk.
 use Rattle.frame_ending.specs.declared.box_step.BoxStep.{BoxStep}
 use Rattle.check_receiver.specs.{Between.IsNoPass, Checkings.CommitsNoted, Checkings.KeepsJournal}
-use Rattle.link_walks.specs.declared.check_note.CheckNote.{CheckNote}
-use Rattle.link_walks.specs.declared.check_note.CheckNote.TheVariants.{Passed, Refused, Dropped}
+use Rattle.link_box.specs.declared.check_note.CheckNote.{CheckNote}
+use Rattle.link_box.specs.declared.check_note.CheckNote.TheVariants.{Passed, Refused, Dropped}
 use Rattle.sequence_journal.specs.{Journal.Fits, declared.journal.Journal.Journal}
 use Rattle.std.proofs.Common.{refl, arith, inl, Ok, Option, Some, None}
 use Rattle.yasir_io.specs.{Disks.Slots, declared.disk.SlotDisk.Ghosts as SlotDisk}

@@ -3,13 +3,13 @@ use Rattle.frame_ending.specs.declared.box_step.BoxStep.{BoxStep}
 use Rattle.check_receiver.specs.{Boxed.check_walking, Checkings.CommitsNoted}
 use Rattle.check_receiver.specs.{Checkings.KeepsJournal, Runs.HasTakenRun, Stands.StandsAt}
 use Rattle.check_receiver.specs.declared.checker.Checker.{Checker}
-use Rattle.hmac_tag.specs.declared.tag.Mac.{Ghosts as Mac}
+use Rattle.link_format.specs.declared.tag.Mac.{Ghosts as Mac}
 use Rattle.line_rules.specs.declared.line_rules.LineRules.{Ghosts as LineRules}
 use Rattle.link_box.proofs.TakenRuns.{takes-as}
 use Rattle.link_box.specs.{Runs.TakesRun, Stepping.KeepsJournal as KeepsBoxed}
 use Rattle.link_format.specs.Setup.{Setup}
-use Rattle.link_walks.specs.declared.check_note.CheckNote.{CheckNote}
-use Rattle.link_walks.specs.declared.check_note.CheckNote.TheVariants.{Passed, Refused, Dropped}
+use Rattle.link_box.specs.declared.check_note.CheckNote.{CheckNote}
+use Rattle.link_box.specs.declared.check_note.CheckNote.TheVariants.{Passed, Refused, Dropped}
 use Rattle.sequence_journal.specs.Journal.{journal_floor}
 use Rattle.sequence_journal.specs.declared.journal.{Journal.Journal, JournalFault.JournalFault}
 use Rattle.std.proofs.Common.{◌≡◌, ◌≤◌, ℕ, List, Ok, Err, Option, Some, None, ap, arith}

@@ -3,15 +3,15 @@ use Rattle.frame_ending.proofs.BurstRuns.{run-none}
 use Rattle.frame_ending.specs.Answered.{answered}
 use Rattle.check_receiver.specs.Runs.{HasTakenRun, IsFront}
 use Rattle.check_receiver.specs.{Stands.StandsAt, declared.checker.Checker.Checker}
-use Rattle.delay_ring.proofs.Marks.{ticks-length}
-use Rattle.delay_ring.specs.DelayRing.{ring_ticks, marked_ticks, AreAlike}
-use Rattle.delay_ring.specs.declared.delay_ring.DelayRing.{DelayRing}
+use Rattle.yasir_ticks.proofs.Marks.{ticks-length}
+use Rattle.yasir_ticks.specs.DelayRing.{ring_ticks, marked_ticks, AreAlike}
+use Rattle.yasir_ticks.specs.declared.delay_ring.DelayRing.{DelayRing}
 use Rattle.frame_ending.specs.Stands.{StandsFor as CutStandsFor}
 use Rattle.frame_ending.specs.declared.burst_cut.BurstCut.{BurstCut}
-use Rattle.hmac_tag.specs.declared.tag.Mac.{Ghosts as Mac}
+use Rattle.link_format.specs.declared.tag.Mac.{Ghosts as Mac}
 use Rattle.line_rules.specs.declared.line_rules.LineRules.{Ghosts as LineRules}
 use Rattle.link_format.specs.{Profile.profile_of, Setup.Setup}
-use Rattle.link_walks.specs.Checking.{checker, at_floor, brief_note}
+use Rattle.link_box.specs.Checking.{checker, at_floor, brief_note}
 use Rattle.sequence_journal.specs.declared.numbers.TheConstants.{LIMIT}
 use Rattle.std.proofs.Common.{◌≡◌, ◌∙◌, ℕ, zero, suc, ◌+◌, ◌<◌, ◌≤◌, false, List, [], ◌∷◌, ◌++◌}
 use Rattle.std.proofs.Common.{length, take, map, refl, sym, ap, subst, arith, nat_lt, ⊎_elim, ◌-◌}

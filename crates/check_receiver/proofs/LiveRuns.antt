@@ -7,10 +7,10 @@ use Rattle.frame_ending.specs.LiveBytes.{live_bytes, live_end}
 use Rattle.frame_ending.specs.declared.cut.Cut.TheVariants.{Live, Quiet}
 use Rattle.line_rules.specs.{Rules.Rules, declared.line_rules.LineRules.Ghosts as LineRules}
 use Rattle.link_format.specs.Profile.{Profile, delay}
-use Rattle.link_walks.proofs.Opened.{IsOpen, opens-of, long-of, more-of, live-goes, live-ends}
-use Rattle.link_walks.proofs.Opened.{live-adds, live-gap, live-before}
-use Rattle.link_walks.proofs.{Opening.length-silent, Rings.ring-first, Rings.ring-byte}
-use Rattle.link_walks.specs.{Holding.trailer_so_far, Verdicts.CheckState}
+use Rattle.link_box.proofs.Opened.{IsOpen, opens-of, long-of, more-of, live-goes, live-ends}
+use Rattle.link_box.proofs.Opened.{live-adds, live-gap, live-before}
+use Rattle.link_box.proofs.{Opening.length-silent, Rings.ring-first, Rings.ring-byte}
+use Rattle.link_box.specs.{Holding.trailer_so_far, Verdicts.CheckState}
 use Rattle.std.proofs.Common.{◌≡◌, ◌∙◌, ◌⊎◌, ℕ, suc, ◌-◌, ◌<◌, ◌≤◌, true, false, List, [], ◌∷◌}
 use Rattle.std.proofs.Common.{◌++◌, ⊎_elim, inl, length, length-append, take, drop, get_or, map}
 use Rattle.std.proofs.Common.{sym, ap, subst, arith, append_assoc, Some}

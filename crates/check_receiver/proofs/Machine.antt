@@ -3,20 +3,20 @@ use Rattle.frame_ending.specs.{Answers.AnswersTick, declared.box_step.BoxStep.Bo
 use Rattle.check_receiver.proofs.Settled.{IsIn, settles, StaysIdle}
 use Rattle.check_receiver.specs.{Phases.is_open, Phases.passes_in, Stands.MacHolds, Stands.HasTaken}
 use Rattle.check_receiver.specs.{Turning.Turned, declared.checker.Checker.Checker}
-use Rattle.{check_receiver.specs.declared.phase.Phase.Phase, delay_ring.specs.DelayRing.ring_ticks}
+use Rattle.{check_receiver.specs.declared.phase.Phase.Phase, yasir_ticks.specs.DelayRing.ring_ticks}
 use Rattle.frame_ending.specs.Stands.{StandsFor as CutStandsFor}
-use Rattle.hmac_tag.specs.{Tag.direction_number, declared.tag.Mac.Ghosts as Mac}
+use Rattle.link_format.specs.{Tag.direction_number, declared.tag.Mac.Ghosts as Mac}
 use Rattle.line_rules.specs.declared.line_rules.LineRules.{Ghosts as LineRules}
 use Rattle.link_format.specs.{Profile.Profile, Profile.profile_of, Profile.IsWordLen, Setup.Setup}
-use Rattle.link_walks.proofs.Flow.{Flows, flows}
-use Rattle.link_walks.proofs.CheckNumbers.{walked-number}
-use Rattle.link_walks.proofs.Rings.{ring-first}
-use Rattle.link_walks.{proofs.Rings.ring-silent, specs.Checking.checker, specs.Checking.at_floor}
-use Rattle.link_walks.specs.{Checking.brief_note, Going.Goes, Leaving.is_none, Turns.HasTurned}
-use Rattle.link_walks.specs.Verdicts.{CheckState}
-use Rattle.link_walks.specs.declared.check_note.CheckNote.{CheckNote}
+use Rattle.link_box.proofs.Flow.{Flows, flows}
+use Rattle.link_box.proofs.CheckNumbers.{walked-number}
+use Rattle.link_box.proofs.Rings.{ring-first}
+use Rattle.link_box.{proofs.Rings.ring-silent, specs.Checking.checker, specs.Checking.at_floor}
+use Rattle.link_box.specs.{Checking.brief_note, Going.Goes, Leaving.is_none, Turns.HasTurned}
+use Rattle.link_box.specs.Verdicts.{CheckState}
+use Rattle.link_box.specs.declared.check_note.CheckNote.{CheckNote}
 use Rattle.sequence_journal.specs.declared.numbers.TheConstants.{LIMIT}
-use Rattle.spoiler.specs.Outlet.{StandsFor as OutletStandsFor, Refuses, owed_by}
+use Rattle.line_rules.specs.Outlet.{StandsFor as OutletStandsFor, Refuses, owed_by}
 use Rattle.std.proofs.Common.{◌≡◌, ◌∙◌, ℕ, ◌+◌, ◌-◌, ◌<◌, ◌≤◌, ◌==◌, true, false, List, [], ◌∷◌}
 use Rattle.std.proofs.Common.{◌++◌, length, drop, get_or, refl, sym, ap, subst, arith, Option, Some}
 use Rattle.std.proofs.Common.{None, IfSome, IfNone, is_some}

@@ -2,15 +2,15 @@
 use Rattle.check_receiver.{proofs.Machine.some-left, specs.Phases.passes_in, specs.Stands.Walks}
 use Rattle.check_receiver.specs.{Turning.Turned}
 use Rattle.check_receiver.specs.declared.{arriving.Arriving.Arriving, checker.Checker.Checker}
-use Rattle.delay_ring.specs.{DelayRing.ring_ticks, declared.delay_ring.DelayRing.DelayRing}
-use Rattle.hmac_tag.specs.declared.tag.Mac.{Ghosts as Mac}
+use Rattle.yasir_ticks.specs.{DelayRing.ring_ticks, declared.delay_ring.DelayRing.DelayRing}
+use Rattle.link_format.specs.declared.tag.Mac.{Ghosts as Mac}
 use Rattle.line_rules.specs.declared.line_rules.LineRules.{Ghosts as LineRules}
 use Rattle.link_format.specs.{Profile.profile_of, Setup.Setup}
-use Rattle.link_walks.proofs.{Flow.flows, Opened.IsOpen, Opening.leaves-front, Rings.ring-first}
-use Rattle.link_walks.specs.{Holding.HasWalked, Leaving.leaves, Timely.IsTimely, Turns.HasTurned}
+use Rattle.link_box.proofs.{Flow.flows, Opened.IsOpen, Opening.leaves-front, Rings.ring-first}
+use Rattle.link_box.specs.{Holding.HasWalked, Leaving.leaves, Timely.IsTimely, Turns.HasTurned}
 use Rattle.sequence_journal.specs.declared.numbers.TheConstants.{LIMIT}
-use Rattle.spoiler.specs.Outlet.{StandsFor as OutletStandsFor, owed_by, refused_by}
-use Rattle.spoiler.specs.declared.outlet.Outlet.{Outlet}
+use Rattle.line_rules.specs.Outlet.{StandsFor as OutletStandsFor, owed_by, refused_by}
+use Rattle.line_rules.specs.declared.outlet.Outlet.{Outlet}
 use Rattle.std.proofs.Common.{◌≡◌, ◌∙◌, ℕ, ◌-◌, ◌<◌, ◌≤◌, ◌==◌, Bool, false, List, ◌++◌}
 use Rattle.std.proofs.Common.{length, take, get_or, sym, ap, subst, arith, ⊎_elim, Option, Some}
 use Rattle.yasir_ticks.specs.{Bursts.Burst, Bursts.bursts, Ticks.silent, Ticks.bytes_in}

@@ -2,8 +2,8 @@
 use Rattle.check_receiver.proofs.RunTicks.{RunsTo, runs-none, runs-first}
 use Rattle.frame_ending.specs.LiveBytes.{live_bytes, live_end}
 use Rattle.line_rules.specs.{Rules.Rules, declared.line_rules.LineRules.Ghosts as LineRules}
-use Rattle.{link_format.specs.Profile.Profile, link_walks.proofs.Opened.IsOpen}
-use Rattle.link_walks.{proofs.Opened.silent-goes, specs.Verdicts.CheckState}
+use Rattle.{link_format.specs.Profile.Profile, link_box.proofs.Opened.IsOpen}
+use Rattle.link_box.{proofs.Opened.silent-goes, specs.Verdicts.CheckState}
 use Rattle.std.proofs.Common.{◌≡◌, ◌∙◌, ℕ, zero, suc, ◌+◌, ◌<◌, ◌≤◌, false, List, [], ◌∷◌}
 use Rattle.std.proofs.Common.{◌++◌, length, length-append, take, drop, sym, ap, subst, arith}
 use Rattle.std.proofs.{Common.append_assoc, Common.Some, lemmas.List.append-nil}

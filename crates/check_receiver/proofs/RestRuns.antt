@@ -6,11 +6,11 @@ use Rattle.{check_receiver.specs.Runs.BeginNone, frame_ending.specs.Cuts.cuts_af
 use Rattle.frame_ending.specs.declared.cut.Cut.TheVariants.{Live, Extra, Quiet}
 use Rattle.line_rules.specs.{Rules.Rules, declared.line_rules.LineRules.Ghosts as LineRules}
 use Rattle.link_format.specs.Profile.{Profile}
-use Rattle.link_walks.proofs.Leavings.{leaves-none, leaves-silent, leaves-byte, fill_out-zero}
-use Rattle.link_walks.proofs.Resting.{goes-at, still-come, still-answers}
-use Rattle.link_walks.specs.Checking.{FullNote, checker, at_floor}
-use Rattle.link_walks.specs.{Going.Goes, Holding.HasWalked, Leaving.leaves, Timely.IsTimely}
-use Rattle.link_walks.specs.Verdicts.{CheckState}
+use Rattle.link_box.proofs.Leavings.{leaves-none, leaves-silent, leaves-byte, fill_out-zero}
+use Rattle.link_box.proofs.Resting.{goes-at, still-come, still-answers}
+use Rattle.link_box.specs.Checking.{FullNote, checker, at_floor}
+use Rattle.link_box.specs.{Going.Goes, Holding.HasWalked, Leaving.leaves, Timely.IsTimely}
+use Rattle.link_box.specs.Verdicts.{CheckState}
 use Rattle.std.proofs.Common.{◌≡◌, ◌∙◌, ℕ, zero, suc, ◌+◌, ◌-◌, ◌<◌, Bool, List, [], ◌∷◌, ◌++◌}
 use Rattle.std.proofs.Common.{length, take, drop, get_or, map, refl, sym, ap, subst, arith}
 use Rattle.std.proofs.Common.{append_assoc, inl, inr, None}

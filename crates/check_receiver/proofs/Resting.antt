@@ -9,15 +9,15 @@ use Rattle.check_receiver.specs.{Stands.HasTaken, Turning.Turned, declared.check
 use Rattle.frame_ending.proofs.Running.{divided-running, byte-lives, byte-over}
 use Rattle.frame_ending.specs.Cuts.{cut_of}
 use Rattle.frame_ending.specs.declared.cut.Cut.{Cut, TheVariants.Live, TheVariants.Extra}
-use Rattle.{hmac_tag.specs.declared.tag.Mac.Ghosts as Mac, line_rules.specs.Rules.Rules}
+use Rattle.{link_format.specs.declared.tag.Mac.Ghosts as Mac, line_rules.specs.Rules.Rules}
 use Rattle.line_rules.specs.{RulesLaws.IsLawful, declared.line_rules.LineRules.Ghosts as LineRules}
 use Rattle.link_format.specs.{Profile.Profile, Profile.profile_of, Setup.Setup}
-use Rattle.link_walks.proofs.Resting.{causal, rest-goes, knows-more}
-use Rattle.link_walks.specs.Checking.{checker, at_floor}
-use Rattle.link_walks.specs.{Holding.HasWalked, Timely.IsTimely, Verdicts.CheckState}
-use Rattle.link_walks.specs.declared.check_note.CheckNote.{CheckNote}
+use Rattle.link_box.proofs.Resting.{causal, rest-goes, knows-more}
+use Rattle.link_box.specs.Checking.{checker, at_floor}
+use Rattle.link_box.specs.{Holding.HasWalked, Timely.IsTimely, Verdicts.CheckState}
+use Rattle.link_box.specs.declared.check_note.CheckNote.{CheckNote}
 use Rattle.sequence_journal.specs.declared.numbers.TheConstants.{LIMIT}
-use Rattle.spoiler.specs.Outlet.{Refuses, owed_by}
+use Rattle.line_rules.specs.Outlet.{Refuses, owed_by}
 use Rattle.std.proofs.Common.{◌≡◌, ◌∙◌, ◌⊎◌, ⊎_elim, ℕ, ◌-◌, false, List, [], ◌∷◌, ◌++◌, length}
 use Rattle.std.proofs.Common.{◌<◌, drop, sym, ap, subst, arith, Option, None, IfNone}
 use Rattle.std.proofs.lemmas.List.{length-drop, append-nil}

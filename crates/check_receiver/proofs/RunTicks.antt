@@ -3,8 +3,8 @@ use Rattle.frame_ending.proofs.BurstRuns.{run-none, run-joined, run-tick}
 use Rattle.frame_ending.specs.{Answered.answered, Runs.AnswersRun, Walk.Walker}
 use Rattle.{check_receiver.specs.Runs.IsFront, line_rules.specs.Rules.Rules}
 use Rattle.link_format.specs.Profile.{Profile}
-use Rattle.link_walks.specs.Checking.{FullNote, checker, at_floor, brief_note}
-use Rattle.link_walks.specs.{Going.Goes, Holding.HasWalked, Verdicts.CheckState}
+use Rattle.link_box.specs.Checking.{FullNote, checker, at_floor, brief_note}
+use Rattle.link_box.specs.{Going.Goes, Holding.HasWalked, Verdicts.CheckState}
 use Rattle.std.proofs.Common.{◌≡◌, ◌∙◌, ℕ, zero, suc, ◌+◌, ◌<◌, ◌≤◌, Bool, List, [], ◌∷◌, ◌++◌}
 use Rattle.std.proofs.Common.{length, take, drop, get_or, map, refl, sym, ap, subst, arith}
 use Rattle.std.proofs.Common.{append_assoc, ⊎_elim, Option, None, ◌⊎◌}

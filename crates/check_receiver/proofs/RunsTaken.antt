@@ -10,24 +10,24 @@ use Rattle.check_receiver.proofs.Settled.{more-left, open-left}
 use Rattle.check_receiver.specs.Phases.{is_open, passes_in, LeftIn}
 use Rattle.check_receiver.specs.declared.phase.Phase.{Phase, TheVariants.Idle}
 use Rattle.check_receiver.specs.declared.{arriving.Arriving.Arriving, checker.Checker.Checker}
-use Rattle.delay_ring.specs.DelayRing.{ring_ticks, AreAlike}
-use Rattle.delay_ring.specs.declared.delay_ring.DelayRing.{DelayRing}
+use Rattle.yasir_ticks.specs.DelayRing.{ring_ticks, AreAlike}
+use Rattle.yasir_ticks.specs.declared.delay_ring.DelayRing.{DelayRing}
 use Rattle.frame_ending.specs.{Cuts.cuts_after, LiveBytes.live_bytes, SoFar.live_bytes_in}
 use Rattle.frame_ending.specs.{SoFar.live_bytes_so_far, Stands.StandsFor as CutStandsFor}
 use Rattle.frame_ending.specs.declared.burst_cut.BurstCut.{BurstCut}
 use Rattle.frame_ending.specs.declared.cut.Cut.TheVariants.{Live, Extra}
-use Rattle.hmac_tag.specs.declared.tag.Mac.{Ghosts as Mac}
+use Rattle.link_format.specs.declared.tag.Mac.{Ghosts as Mac}
 use Rattle.line_rules.specs.Rules.{Rules, head_of}
 use Rattle.line_rules.specs.declared.head.Head.TheVariants.{Good, Short}
 use Rattle.line_rules.specs.declared.line_rules.LineRules.{Ghosts as LineRules}
 use Rattle.link_format.specs.{Profile.Profile, Profile.profile_of, Profile.delay, Setup.Setup}
-use Rattle.link_walks.proofs.{Judging.head-short, Opened.IsOpen}
-use Rattle.link_walks.proofs.Opened.{last-of, may-of, long-of, unowed-of, bare-of, trailer-long}
-use Rattle.link_walks.proofs.{Opened.nothing-after, Settling.after-long}
-use Rattle.link_walks.specs.{Holding.HasWalked, Holding.trailer_so_far, Timely.IsTimely}
-use Rattle.link_walks.specs.Verdicts.{CheckState, after_live}
+use Rattle.link_box.proofs.{Judging.head-short, Opened.IsOpen}
+use Rattle.link_box.proofs.Opened.{last-of, may-of, long-of, unowed-of, bare-of, trailer-long}
+use Rattle.link_box.proofs.{Opened.nothing-after, Settling.after-long}
+use Rattle.link_box.specs.{Holding.HasWalked, Holding.trailer_so_far, Timely.IsTimely}
+use Rattle.link_box.specs.Verdicts.{CheckState, after_live}
 use Rattle.sequence_journal.specs.declared.numbers.TheConstants.{LIMIT}
-use Rattle.spoiler.{proofs.Standing.stands-unowed, specs.Outlet.Refuses, specs.Outlet.owed_by}
+use Rattle.line_rules.{proofs.Standing.stands-unowed, specs.Outlet.Refuses, specs.Outlet.owed_by}
 use Rattle.std.proofs.Common.{◌≡◌, ◌∙◌, ℕ, ◌+◌, ◌-◌, ◌<◌, ◌≤◌, Bool, true, false, List, [], ◌∷◌}
 use Rattle.std.proofs.Common.{◌++◌, inr, length, take, drop, map, refl, sym, ap, subst, arith}
 use Rattle.std.proofs.Common.{append_assoc, Option, Some, None, IfSome, IfNone, ⊎_elim, is_some}

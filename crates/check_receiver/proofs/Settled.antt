@@ -4,9 +4,9 @@ use Rattle.check_receiver.specs.declared.phase.Phase.{Phase}
 use Rattle.check_receiver.specs.declared.phase.Phase.TheVariants.{Idle, Open, Leaving}
 use Rattle.line_rules.specs.{Rules.Rules, declared.line_rules.LineRules.Ghosts as LineRules}
 use Rattle.link_format.specs.Profile.{Profile}
-use Rattle.link_walks.{proofs.Leavings.leaves-none, specs.Holding.HasWalked}
-use Rattle.link_walks.specs.{Holding.Rests, Leaving.leaves, Verdicts.CheckState}
-use Rattle.spoiler.specs.{Outlet.Refuses, Outlet.owed_by, declared.outlet.Outlet.Outlet}
+use Rattle.link_box.{proofs.Leavings.leaves-none, specs.Holding.HasWalked}
+use Rattle.link_box.specs.{Holding.Rests, Leaving.leaves, Verdicts.CheckState}
+use Rattle.line_rules.specs.{Outlet.Refuses, Outlet.owed_by, declared.outlet.Outlet.Outlet}
 use Rattle.std.proofs.Common.{◌≡◌, ◌∙◌, ℕ, ◌+◌, ◌-◌, ◌<◌, ◌==◌, ◌&&◌, nat_lt, not, Bool, true}
 use Rattle.std.proofs.Common.{false, List, [], ◌∷◌, ◌++◌, length, get_or, refl, sym, ap, subst}
 use Rattle.std.proofs.Common.{arith, ⊎_elim, Option, Some, None, IfNone, is_some}

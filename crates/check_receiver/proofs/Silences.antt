@@ -8,17 +8,17 @@ use Rattle.check_receiver.specs.{Turning.refused, declared.checker.Checker.Check
 use Rattle.frame_ending.proofs.{Dividing.longer-line, LastBurst.last_burst-silent}
 use Rattle.frame_ending.specs.{LiveBytes.live_bytes, LiveBytes.live_end, SoFar.last_burst}
 use Rattle.frame_ending.specs.SoFar.{start_in, start_so_far, live_bytes_in, live_bytes_so_far}
-use Rattle.{frame_ending.specs.declared.cut.Cut.Cut, hmac_tag.specs.declared.tag.Mac.Ghosts as Mac}
+use Rattle.{frame_ending.specs.declared.cut.Cut.Cut, link_format.specs.declared.tag.Mac.Ghosts as Mac}
 use Rattle.line_rules.specs.{Rules.lacking_of, declared.line_rules.LineRules.Ghosts as LineRules}
 use Rattle.link_format.specs.{Profile.Profile, Profile.profile_of, Profile.delay, Setup.Setup}
-use Rattle.link_walks.proofs.Opened.{opens-of, last-of, long-of, more-of, unowed-of, bytes-of}
-use Rattle.link_walks.proofs.Opened.{goes-as, bytes-next, silent-goes, silent-breaks}
-use Rattle.link_walks.specs.Emissions.{owed}
-use Rattle.link_walks.specs.declared.check_note.CheckNote.{CheckNote}
-use Rattle.link_walks.specs.declared.check_note.CheckNote.TheVariants.{Refused}
-use Rattle.link_walks.specs.declared.check_note.RefusedWhy.TheVariants.{Trailer}
+use Rattle.link_box.proofs.Opened.{opens-of, last-of, long-of, more-of, unowed-of, bytes-of}
+use Rattle.link_box.proofs.Opened.{goes-as, bytes-next, silent-goes, silent-breaks}
+use Rattle.link_box.specs.Emissions.{owed}
+use Rattle.link_box.specs.declared.check_note.CheckNote.{CheckNote}
+use Rattle.link_box.specs.declared.check_note.CheckNote.TheVariants.{Refused}
+use Rattle.link_box.specs.declared.check_note.RefusedWhy.TheVariants.{Trailer}
 use Rattle.sequence_journal.specs.declared.numbers.TheConstants.{LIMIT}
-use Rattle.spoiler.{proofs.Standing.stands-unowed, specs.Outlet.Refuses, specs.Outlet.owed_by}
+use Rattle.line_rules.{proofs.Standing.stands-unowed, specs.Outlet.Refuses, specs.Outlet.owed_by}
 use Rattle.std.proofs.Common.{◌≡◌, ◌∙◌, ℕ, ◌+◌, ◌<◌, ◌≤◌, true, false, List, [], ◌∷◌, ◌++◌}
 use Rattle.std.proofs.Common.{length, drop, ap, sym, subst, arith, refl, Option, Some, None, IfSome}
 use Rattle.{std.proofs.lemmas.List.length-drop, yasir_ticks.specs.Bursts.Burst}

@@ -10,32 +10,32 @@ use Rattle.check_receiver.specs.Stands.{MacHolds, HasTaken}
 use Rattle.check_receiver.specs.Turning.{Turned, TurnedClear, with_until}
 use Rattle.check_receiver.specs.declared.{arriving.Arriving.Arriving, checker.Checker.Checker}
 use Rattle.check_receiver.specs.declared.phase.Phase.TheVariants.{Open}
-use Rattle.delay_ring.specs.DelayRing.{ring_ticks}
+use Rattle.yasir_ticks.specs.DelayRing.{ring_ticks}
 use Rattle.frame_ending.proofs.{Pauses.up_to_byte-le, Running.byte-starts, Running.start-bytes}
 use Rattle.frame_ending.specs.{Cuts.cut_of, LiveBytes.live_bytes, LiveBytes.live_end}
 use Rattle.frame_ending.specs.SoFar.{last_of, last_burst, start_in, start_so_far, live_bytes_in}
 use Rattle.frame_ending.specs.{SoFar.live_bytes_so_far, declared.cut.Cut.TheVariants.Start}
-use Rattle.{hmac_tag.specs.declared.tag.Mac.Ghosts as Mac, line_rules.specs.Rules.Rules}
+use Rattle.{link_format.specs.declared.tag.Mac.Ghosts as Mac, line_rules.specs.Rules.Rules}
 use Rattle.line_rules.specs.{Rules.head_of, RulesLaws.IsLawful, declared.head.Head.TheVariants.Bad}
 use Rattle.line_rules.specs.declared.line_rules.LineRules.{Ghosts as LineRules}
 use Rattle.link_format.specs.{Profile.Profile, Profile.profile_of, Profile.delay, Setup.Setup}
-use Rattle.link_walks.proofs.Beginning.{rests-none, live-none, begun-end, begun-seen}
-use Rattle.link_walks.proofs.{Beginning.opens-begun, Judging.head-bad, Judging.checked-busy}
-use Rattle.link_walks.proofs.{Judging.checked-bad, Opened.nothing-after, Opened.last_of-more}
-use Rattle.link_walks.proofs.Opening.{open-goes, length-silent}
-use Rattle.link_walks.proofs.Resting.{causal, rest-drops, knows-more}
-use Rattle.link_walks.proofs.{Rings.ring-first, Rings.ring-begun, Settling.after-long}
-use Rattle.link_walks.specs.Checking.{checker, at_floor, head_tick, note_tick}
-use Rattle.link_walks.specs.Holding.{HasWalked, Opens, trailer_so_far}
-use Rattle.link_walks.specs.{Timely.IsTimely, Turns.HasTurned, Turns.tick_or_silence}
-use Rattle.link_walks.specs.Verdicts.{CheckState, after_live, Verdict.dropped as dropped_for}
-use Rattle.link_walks.specs.declared.check_note.CheckNote.{CheckNote}
-use Rattle.link_walks.specs.declared.check_note.CheckNote.TheVariants.{Dropped}
-use Rattle.link_walks.specs.declared.check_note.DroppedWhy.TheVariants.{Busy, Head as NoHead}
+use Rattle.link_box.proofs.Beginning.{rests-none, live-none, begun-end, begun-seen}
+use Rattle.link_box.proofs.{Beginning.opens-begun, Judging.head-bad, Judging.checked-busy}
+use Rattle.link_box.proofs.{Judging.checked-bad, Opened.nothing-after, Opened.last_of-more}
+use Rattle.link_box.proofs.Opening.{open-goes, length-silent}
+use Rattle.link_box.proofs.Resting.{causal, rest-drops, knows-more}
+use Rattle.link_box.proofs.{Rings.ring-first, Rings.ring-begun, Settling.after-long}
+use Rattle.link_box.specs.Checking.{checker, at_floor, head_tick, note_tick}
+use Rattle.link_box.specs.Holding.{HasWalked, Opens, trailer_so_far}
+use Rattle.link_box.specs.{Timely.IsTimely, Turns.HasTurned, Turns.tick_or_silence}
+use Rattle.link_box.specs.Verdicts.{CheckState, after_live, Verdict.dropped as dropped_for}
+use Rattle.link_box.specs.declared.check_note.CheckNote.{CheckNote}
+use Rattle.link_box.specs.declared.check_note.CheckNote.TheVariants.{Dropped}
+use Rattle.link_box.specs.declared.check_note.DroppedWhy.TheVariants.{Busy, Head as NoHead}
 use Rattle.sequence_journal.specs.declared.numbers.TheConstants.{LIMIT}
-use Rattle.spoiler.proofs.Standing.{stands-unowed}
-use Rattle.spoiler.specs.Outlet.{StandsFor as OutletStandsFor, Refuses, owed_by, filled}
-use Rattle.spoiler.specs.{Outlet.filled_bytes, declared.outlet.Outlet.Outlet}
+use Rattle.line_rules.proofs.Standing.{stands-unowed}
+use Rattle.line_rules.specs.Outlet.{StandsFor as OutletStandsFor, Refuses, owed_by, filled}
+use Rattle.line_rules.specs.{Outlet.filled_bytes, declared.outlet.Outlet.Outlet}
 use Rattle.std.proofs.Common.{◌≡◌, ◌∙◌, ℕ, ◌+◌, ◌-◌, ◌<◌, ◌≤◌, ◌==◌, false, List, [], ◌∷◌}
 use Rattle.std.proofs.Common.{◌++◌, length, take, drop, get_or, refl, sym, ap, subst, arith, ⊎_elim}
 use Rattle.std.proofs.Common.{Option, Some, None, IfNone, is_some}

@@ -6,10 +6,10 @@ use Rattle.check_receiver.specs.{Arrivals.bytes_come, Between.IsBetween, Between
 use Rattle.check_receiver.specs.{Phases.is_open, Stands.MacHolds, Stands.HasTaken, Turning.Turned}
 use Rattle.check_receiver.specs.declared.{arriving.Arriving.Arriving, checker.Checker.Checker}
 use Rattle.frame_ending.specs.{LiveBytes.live_end, declared.cut.Cut.TheVariants.Extra}
-use Rattle.hmac_tag.specs.declared.tag.Mac.{Ghosts as Mac}
+use Rattle.link_format.specs.declared.tag.Mac.{Ghosts as Mac}
 use Rattle.line_rules.specs.{Rules.Rules, declared.line_rules.LineRules.Ghosts as LineRules}
 use Rattle.link_format.specs.{Profile.pause_len, Setup.Setup}
-use Rattle.link_walks.specs.declared.check_note.CheckNote.{CheckNote}
+use Rattle.link_box.specs.declared.check_note.CheckNote.{CheckNote}
 use Rattle.std.proofs.Common.{◌≡◌}
 use Rattle.std.proofs.Common.{ℕ, ◌+◌, ◌<◌, ◌≤◌, true, List, [], ◌∷◌, ◌++◌, length, ap, subst, arith}
 use Rattle.{std.proofs.Common.None, std.proofs.Common.⊎_elim, yasir_ticks.specs.Bursts.Burst}

@@ -6,8 +6,8 @@ use Rattle.frame_ending.specs.LiveBytes.{live_bytes, live_end}
 use Rattle.frame_ending.specs.declared.cut.Cut.TheVariants.{Extra, Quiet}
 use Rattle.line_rules.specs.{Rules.Rules, declared.line_rules.LineRules.Ghosts as LineRules}
 use Rattle.link_format.specs.Profile.{Profile, delay}
-use Rattle.link_walks.proofs.Opened.{IsOpen, extra-goes, extra-end, extra-bytes, extra-adds}
-use Rattle.link_walks.specs.{Holding.trailer_so_far, Verdicts.CheckState}
+use Rattle.link_box.proofs.Opened.{IsOpen, extra-goes, extra-end, extra-bytes, extra-adds}
+use Rattle.link_box.specs.{Holding.trailer_so_far, Verdicts.CheckState}
 use Rattle.std.proofs.Common.{◌≡◌, ◌∙◌, ℕ, ◌+◌, ◌<◌, ◌≤◌, false, List, [], ◌∷◌, ◌++◌, map}
 use Rattle.std.proofs.Common.{length, length-append, take, drop, get_or, refl, sym, ap, subst}
 use Rattle.std.proofs.Common.{arith, append_assoc, Some}

@@ -1,8 +1,8 @@
 -- The number of a step's note is the one that the step commits.
 use Rattle.frame_ending.specs.declared.box_step.BoxStep.{BoxStep}
 use Rattle.check_receiver.specs.Checkings.{CommitsNoted, KeepsJournal, numbers_noted}
-use Rattle.link_walks.specs.declared.check_note.CheckNote.{CheckNote}
-use Rattle.link_walks.specs.declared.check_note.CheckNote.TheVariants.{Passed, Refused, Dropped}
+use Rattle.link_box.specs.declared.check_note.CheckNote.{CheckNote}
+use Rattle.link_box.specs.declared.check_note.CheckNote.TheVariants.{Passed, Refused, Dropped}
 use Rattle.sequence_journal.specs.Uptimes.{CommitsAnswered}
 use Rattle.sequence_journal.specs.declared.journal.{Journal.Journal, JournalFault.JournalFault}
 use Rattle.std.proofs.Common.{Option, Some, None, Result, Ok, Err, IfOk}

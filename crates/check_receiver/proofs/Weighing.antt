@@ -3,13 +3,13 @@ use Rattle.{byteorder.specs.Endian.big_number, check_receiver.specs.Arrivals.byt
 use Rattle.check_receiver.specs.{Stands.MacHolds, declared.arriving.Arriving.Arriving}
 use Rattle.frame_ending.specs.LiveBytes.{live_bytes}
 use Rattle.frame_ending.specs.SoFar.{last_burst, live_bytes_in, live_bytes_so_far}
-use Rattle.{hmac_tag.specs.declared.tag.Mac.Ghosts as Mac, line_rules.specs.Rules.Rules}
+use Rattle.{link_format.specs.declared.tag.Mac.Ghosts as Mac, line_rules.specs.Rules.Rules}
 use Rattle.line_rules.specs.{Rules.is_frame_of, declared.line_rules.LineRules.Ghosts as LineRules}
 use Rattle.link_format.specs.{Profile.Profile, Profile.profile_of, Setup.Setup}
-use Rattle.link_walks.{proofs.Passing.number-within, specs.Holding.trailer_so_far}
-use Rattle.link_walks.specs.Verdicts.{number_of, tag_in, verdict_by_number, whole_verdict}
-use Rattle.link_walks.specs.Verdicts.Verdict.{passed_with, refused}
-use Rattle.link_walks.specs.declared.check_note.RefusedWhy.TheVariants.{Tag, Number}
+use Rattle.link_box.{proofs.Passing.number-within, specs.Holding.trailer_so_far}
+use Rattle.link_box.specs.Verdicts.{number_of, tag_in, verdict_by_number, whole_verdict}
+use Rattle.link_box.specs.Verdicts.Verdict.{passed_with, refused}
+use Rattle.link_box.specs.declared.check_note.RefusedWhy.TheVariants.{Tag, Number}
 use Rattle.sequence_journal.specs.{Numbers.full_of, declared.numbers.TheConstants.LIMIT}
 use Rattle.std.proofs.Common.{◌≡◌, ◌∙◌, ℕ, ◌+◌, ◌^◌, ◌<◌, ◌≤◌, Bool, true, false, List, ◌∷◌, ◌++◌}
 use Rattle.std.proofs.Common.{length, drop, sym, ap, arith, Option, Some, None, bytes_eq}

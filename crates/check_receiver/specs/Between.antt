@@ -9,20 +9,20 @@ use Rattle.frame_ending.specs.declared.cut.Cut.TheVariants.{Start, Live, Extra, 
 use Rattle.frame_ending.specs.declared.cut.Cut.TheVariants.{Quiet}
 use Rattle.frame_ending.specs.Cuts.{cut_of}
 use Rattle.frame_ending.specs.Stands.{StandsFor as CutStandsFor}
-use Rattle.hmac_tag.specs.declared.tag.Mac.{Ghosts as Mac}
-use Rattle.hmac_tag.specs.Tag.{direction_number}
+use Rattle.link_format.specs.declared.tag.Mac.{Ghosts as Mac}
+use Rattle.link_format.specs.Tag.{direction_number}
 use Rattle.yasir_ticks.specs.Bursts.{Burst}
 use Rattle.frame_ending.specs.SoFar.{last_burst}
 use Rattle.link_format.specs.Profile.{IsWordLen}
 use Rattle.link_format.specs.Setup.{Setup}
-use Rattle.link_walks.specs.declared.check_note.CheckNote.{CheckNote}
-use Rattle.link_walks.specs.declared.check_note.CheckNote.TheVariants.{Passed, Refused, Dropped}
-use Rattle.link_walks.specs.declared.check_note.RefusedWhy.{RefusedWhy}
-use Rattle.link_walks.specs.Verdicts.{Verdict}
-use Rattle.link_walks.specs.Verdicts.Verdict.{passed_with, refused}
+use Rattle.link_box.specs.declared.check_note.CheckNote.{CheckNote}
+use Rattle.link_box.specs.declared.check_note.CheckNote.TheVariants.{Passed, Refused, Dropped}
+use Rattle.link_box.specs.declared.check_note.RefusedWhy.{RefusedWhy}
+use Rattle.link_box.specs.Verdicts.{Verdict}
+use Rattle.link_box.specs.Verdicts.Verdict.{passed_with, refused}
 use Rattle.check_receiver.specs.Stands.{MacHolds, Walks}
 use Rattle.check_receiver.specs.Phases.{LeftIn, is_open, passes_in}
-use Rattle.spoiler.specs.Outlet.{owed_by}
+use Rattle.line_rules.specs.Outlet.{owed_by}
 use Rattle.check_receiver.specs.declared.arriving.Arriving.{Arriving}
 use Rattle.check_receiver.specs.declared.checker.Checker.{Checker}
 

@@ -12,10 +12,10 @@ use Rattle.sequence_journal.specs.declared.journal.Journal.{Journal}
 use Rattle.sequence_journal.specs.declared.journal.JournalFault.{JournalFault}
 use Rattle.sequence_journal.specs.Commits.{HasCommitted, HasFailed}
 use Rattle.sequence_journal.specs.Journal.{journal_link, Fits, IsCrashSafe, HasFloorFrom}
-use Rattle.link_walks.specs.Checking.{checker, at_floor, check_notes, brief_note}
-use Rattle.link_walks.specs.Checking.FullNote.{passed_note}
-use Rattle.link_walks.specs.declared.check_note.CheckNote.{CheckNote}
-use Rattle.link_walks.specs.declared.check_note.CheckNote.TheVariants.{Passed, Refused, Dropped}
+use Rattle.link_box.specs.Checking.{checker, at_floor, check_notes, brief_note}
+use Rattle.link_box.specs.Checking.FullNote.{passed_note}
+use Rattle.link_box.specs.declared.check_note.CheckNote.{CheckNote}
+use Rattle.link_box.specs.declared.check_note.CheckNote.TheVariants.{Passed, Refused, Dropped}
 use Rattle.frame_ending.specs.declared.box_step.BoxStep.{BoxStep}
 
 -- Holds if the step for the tick `t`, after the ticks `line` of the link, returns the tick of the

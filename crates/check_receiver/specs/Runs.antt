@@ -8,11 +8,11 @@ use Rattle.line_rules.specs.declared.line_rules.LineRules.{Ghosts as LineRules}
 use Rattle.frame_ending.specs.declared.cut.Cut.TheVariants.{Live, Extra}
 use Rattle.frame_ending.specs.Cuts.{cut_of}
 use Rattle.frame_ending.specs.Runs.{AnswersRun}
-use Rattle.hmac_tag.specs.declared.tag.Mac.{Ghosts as Mac}
+use Rattle.link_format.specs.declared.tag.Mac.{Ghosts as Mac}
 use Rattle.link_format.specs.Profile.{profile_of}
 use Rattle.link_format.specs.Setup.{Setup}
 use Rattle.sequence_journal.specs.declared.numbers.TheConstants.{LIMIT}
-use Rattle.link_walks.specs.Checking.{checker, at_floor, brief_note}
+use Rattle.link_box.specs.Checking.{checker, at_floor, brief_note}
 use Rattle.check_receiver.specs.Stands.{StandsAt}
 use Rattle.check_receiver.specs.declared.checker.Checker.{Checker}
 

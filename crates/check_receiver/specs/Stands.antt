@@ -7,27 +7,27 @@ use Rattle.yasir_ticks.specs.declared.tick.Tick.{Tick}
 use Rattle.line_rules.specs.declared.line_rules.LineRules.{Ghosts as LineRules}
 use Rattle.frame_ending.specs.LiveBytes.{live_bytes}
 use Rattle.frame_ending.specs.Stands.{StandsFor as CutStandsFor, ticks_taken as ticks_cut}
-use Rattle.delay_ring.specs.declared.delay_ring.DelayRing.{DelayRing}
-use Rattle.delay_ring.specs.DelayRing.{ring_ticks}
-use Rattle.spoiler.specs.declared.outlet.Outlet.{Outlet}
-use Rattle.spoiler.specs.Outlet.{StandsFor as OutletStandsFor, Refuses, owed_by}
-use Rattle.hmac_tag.specs.declared.tag.Mac.{Ghosts as Mac}
-use Rattle.hmac_tag.specs.Tag.{direction_number}
+use Rattle.yasir_ticks.specs.declared.delay_ring.DelayRing.{DelayRing}
+use Rattle.yasir_ticks.specs.DelayRing.{ring_ticks}
+use Rattle.line_rules.specs.declared.outlet.Outlet.{Outlet}
+use Rattle.line_rules.specs.Outlet.{StandsFor as OutletStandsFor, Refuses, owed_by}
+use Rattle.link_format.specs.declared.tag.Mac.{Ghosts as Mac}
+use Rattle.link_format.specs.Tag.{direction_number}
 use Rattle.link_format.specs.NumberedFrame.{last_number}
 use Rattle.link_format.specs.Profile.{profile_of, IsWordLen}
 use Rattle.link_format.specs.Setup.{Setup}
 use Rattle.sequence_journal.specs.declared.journal.Journal.{Journal}
 use Rattle.sequence_journal.specs.declared.numbers.TheConstants.{LIMIT}
 use Rattle.sequence_journal.specs.Journal.{journal_floor}
-use Rattle.link_walks.specs.Checking.{passed}
+use Rattle.link_box.specs.Checking.{passed}
 use Rattle.check_receiver.specs.Arrivals.{bytes_come}
 use Rattle.check_receiver.specs.Phases.{LeftIn, is_open, passes_in}
 use Rattle.check_receiver.specs.Checkings.{AnswersTick}
-use Rattle.link_walks.specs.Holding.{HasWalked, trailer_so_far}
+use Rattle.link_box.specs.Holding.{HasWalked, trailer_so_far}
 use Rattle.check_receiver.specs.declared.arriving.Arriving.{Arriving}
 use Rattle.check_receiver.specs.declared.checker.Checker.{Checker}
 use Rattle.frame_ending.specs.declared.box_step.BoxStep.{BoxStep}
-use Rattle.link_walks.specs.declared.check_note.CheckNote.{CheckNote}
+use Rattle.link_box.specs.declared.check_note.CheckNote.{CheckNote}
 
 module _ {R M : Type 0} (proto : LineRules R) (macs : Mac M) where
   -- Holds if the MAC has taken the live bytes of the burst `d`, whose verdict is open, and the

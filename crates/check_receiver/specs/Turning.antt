@@ -4,14 +4,14 @@ use Rattle.std.specs.Prelude.{drop}
 use Rattle.yasir_ticks.specs.declared.tick.Tick.{Tick}
 use Rattle.yasir_ticks.specs.declared.tick.Tick.TheVariants.{Silent}
 use Rattle.line_rules.specs.declared.line_rules.LineRules.{Ghosts as LineRules}
-use Rattle.delay_ring.specs.declared.delay_ring.DelayRing.{DelayRing}
-use Rattle.delay_ring.specs.DelayRing.{ring_ticks}
+use Rattle.yasir_ticks.specs.declared.delay_ring.DelayRing.{DelayRing}
+use Rattle.yasir_ticks.specs.DelayRing.{ring_ticks}
 use Rattle.yasir_ticks.specs.Ticks.{silent}
 use Rattle.frame_ending.specs.SoFar.{live_bytes_so_far}
 use Rattle.frame_ending.specs.Stands.{StandsFor as CutStandsFor}
-use Rattle.spoiler.specs.Outlet.{StandsFor as OutletStandsFor, Refuses, owed_by}
-use Rattle.spoiler.specs.declared.outlet.Outlet.{Outlet}
-use Rattle.link_walks.specs.Turns.{HasTurned}
+use Rattle.line_rules.specs.Outlet.{StandsFor as OutletStandsFor, Refuses, owed_by}
+use Rattle.line_rules.specs.declared.outlet.Outlet.{Outlet}
+use Rattle.link_box.specs.Turns.{HasTurned}
 use Rattle.check_receiver.specs.Phases.{passes_in, settled}
 use Rattle.check_receiver.specs.declared.checker.Checker.{Checker}
 use Rattle.check_receiver.specs.declared.phase.Phase.TheVariants.{Idle, Leaving}

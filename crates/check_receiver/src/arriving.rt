@@ -4,7 +4,7 @@ ghost use Rattle.link_format.specs.Profile.{IsWordLen};
 
 use arrayvec::ArrayVec;
 use byteorder::{BigEndian, ByteOrder};
-use hmac_tag::TagBytes;
+use link_format::TagBytes;
 use sequence_journal::{LIMIT, full_with};
 
 /// How many bytes a trailer can have: a word of 4 and a tag of 16.

@@ -3,14 +3,14 @@ ghost use Rattle.std.specs.Prelude.{◌≡◌, ◌+◌, ◌≤◌};
 ghost use Rattle.link_format.specs.Profile.{IsWordLen};
 ghost use Rattle.check_receiver.specs.Boxed.{check_walking};
 ghost use Rattle.check_receiver.specs.Stands.{StandsAt, direction_of, ticks_taken};
-ghost use Rattle.hmac_tag.specs.Tag.{direction_number};
+ghost use Rattle.link_format.specs.Tag.{direction_number};
 ghost use Rattle.link_box.specs.Links.{link_by};
 
 use crate::{CheckNote, Checker};
 use frame_ending::{BoxStep, RunBytes};
-use hmac_tag::{Dir, Mac};
 use line_rules::LineRules;
 use link_box::LinkBox;
+use link_format::{Dir, Mac};
 use sequence_journal::{Journal, JournalFault, LinkId};
 use yasir_io::SlotDisk;
 use yasir_ticks::{Tick, TickRun};

@@ -1,15 +1,13 @@
 //! The receiver: its parts, and its calls for a tick and for a run of ticks.
 use crate::arriving::Arriving;
 use crate::phase::Phase;
-use delay_ring::DelayRing;
 use frame_ending::{BoxStep, BurstCut, Cut, RunBytes};
-use hmac_tag::{Dir, Mac};
-use line_rules::{Head, LineRules};
-use link_walks::CheckNote;
+use line_rules::{Head, LineRules, Outlet};
+use link_box::CheckNote;
+use link_format::{Dir, Mac};
 use sequence_journal::{Journal, JournalFault, LIMIT};
-use spoiler::Outlet;
 use yasir_io::SlotDisk;
-use yasir_ticks::{MAX_TICKS, Tick};
+use yasir_ticks::{DelayRing, MAX_TICKS, Tick};
 
 mod run_steps;
 mod single_steps;
@@ -57,7 +55,7 @@ impl<R: LineRules, M: Mac, const B: usize, const D: usize> Checker<R, M, B, D> {
     ghost use Rattle.sequence_journal.specs.declared.numbers.TheConstants.{LIMIT};
     ghost use Rattle.sequence_journal.specs.Commits.{HasFailed};
     ghost use Rattle.sequence_journal.specs.Journal.{journal_link, journal_floor, Fits};
-    ghost use Rattle.hmac_tag.specs.Tag.{direction_number};
+    ghost use Rattle.link_format.specs.Tag.{direction_number};
     ghost use Rattle.link_box.specs.Links.{link_by};
     ghost use Rattle.check_receiver.specs.Checkings.{PassesWith, KeepsJournal};
     ghost use Rattle.check_receiver.specs.Stands.{StandsFor, HasTaken, ticks_taken};
@@ -66,9 +64,9 @@ impl<R: LineRules, M: Mac, const B: usize, const D: usize> Checker<R, M, B, D> {
     ghost use Rattle.line_rules.specs.declared.head.Head.TheVariants.{Bad};
     ghost use Rattle.check_receiver.specs.Turning.{Turned};
     ghost use Rattle.std.specs.Prelude.{length, map, take, drop, slice_index_or};
-    ghost use Rattle.delay_ring.specs.DelayRing.{ring_ticks};
-    ghost use Rattle.spoiler.specs.Outlet.{StandsFor as OutletStandsFor};
-    ghost use Rattle.link_walks.specs.Turns.{HasTurned};
+    ghost use Rattle.yasir_ticks.specs.DelayRing.{ring_ticks};
+    ghost use Rattle.line_rules.specs.Outlet.{StandsFor as OutletStandsFor};
+    ghost use Rattle.link_box.specs.Turns.{HasTurned};
     ghost use Rattle.check_receiver.specs.Phases.{passes_in};
     ghost use Rattle.yasir_ticks.specs.Ticks.{silent};
     ghost use Rattle.line_rules.specs.declared.head.Head.TheVariants.{Good};

@@ -5,7 +5,7 @@ ghost use Rattle.sequence_journal.specs.declared.journal.JournalFault.{JournalFa
 ghost use Rattle.sequence_journal.specs.Journal.{journal_floor, IsCrashSafe};
 ghost use Rattle.sequence_journal.specs.Uptimes.{IsStepOf, last_from, numbers_answered};
 ghost use Rattle.frame_ending.specs.declared.box_step.BoxStep.{BoxStep};
-ghost use Rattle.link_walks.specs.declared.check_note.CheckNote.{CheckNote};
+ghost use Rattle.link_box.specs.declared.check_note.CheckNote.{CheckNote};
 ghost use Rattle.check_receiver.specs.Checkings.{KeepsJournal, numbers_noted};
 
 use yasir_io::SlotDisk;

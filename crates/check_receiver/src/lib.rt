@@ -19,6 +19,6 @@ mod runs;
 
 pub use checker::Checker;
 pub use frame_ending::{BoxStep, RunBytes};
-pub use hmac_tag::Dir;
 pub use laws::steps_are_of_an_uptime;
-pub use link_walks::{CheckNote, DroppedWhy, RefusedWhy};
+pub use link_box::{CheckNote, DroppedWhy, RefusedWhy};
+pub use link_format::Dir;

@@ -6,16 +6,16 @@ ghost use Rattle.yasir_ticks.specs.declared.tick.Tick.TheVariants.{Byte};
 ghost use Rattle.yasir_ticks.specs.declared.TheConstants.{MAX_TICKS};
 ghost use Rattle.frame_ending.specs.Stands.{ticks_taken as ticks_cut};
 ghost use Rattle.frame_ending.specs.Stands.{StandsFor as CutStandsFor};
-ghost use Rattle.delay_ring.specs.DelayRing.{ring_ticks, AreAlike};
+ghost use Rattle.yasir_ticks.specs.DelayRing.{ring_ticks, AreAlike};
 ghost use Rattle.check_receiver.specs.Runs.{BeginNone, IsFront, KeepsHeader};
 ghost use Rattle.frame_ending.specs.Cuts.{cut_of};
 ghost use Rattle.frame_ending.specs.declared.cut.Cut.TheVariants.{Start};
 ghost use Rattle.line_rules.specs.Rules.{head_of};
 ghost use Rattle.line_rules.specs.declared.head.Head.TheVariants.{Good};
 
-use delay_ring::DelayRing;
 use frame_ending::{BurstCut, RunBytes};
 use line_rules::{Head, LineRules};
+use yasir_ticks::DelayRing;
 
 /// Takes these bytes, one in each tick, as long as they begin no burst and are alike: all live, or
 /// none. Returns how many it has taken. The ticks taken before and these bytes may be at most

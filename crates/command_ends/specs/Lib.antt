@@ -11,3 +11,4 @@ pub mod Given
 pub mod StreamCauses
 pub mod Readable
 pub mod PrintsText
+pub mod FrameLine

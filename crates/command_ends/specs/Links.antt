@@ -7,8 +7,8 @@ use Rattle.link_format.specs.Profile.{Profile as LinkProfile}
 use Rattle.link_format.specs.Setup.{Setup}
 use Rattle.link_format.specs.Y18.{y18}
 use Rattle.link_format.specs.Y24.{y24}
-use Rattle.hmac_tag.specs.declared.dir.Dir.{Dir}
-use Rattle.hmac_tag.specs.Tag.{direction_number}
+use Rattle.link_format.specs.declared.dir.Dir.{Dir}
+use Rattle.link_format.specs.Tag.{direction_number}
 use Rattle.sequence_journal.specs.declared.link.LinkId.{LinkId}
 use Rattle.command_ends.specs.declared.words.Profile.{Profile}
 use Rattle.command_ends.specs.declared.words.Profile.TheVariants.{Y18, Y24}

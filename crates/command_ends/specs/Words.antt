@@ -1,7 +1,7 @@
 -- The words that name a link.
 use Rattle.std.specs.Prelude.{ℕ, List, codes}
-use Rattle.hmac_tag.specs.declared.dir.Dir.{Dir}
-use Rattle.hmac_tag.specs.declared.dir.Dir.TheVariants.{Ab, Ba}
+use Rattle.link_format.specs.declared.dir.Dir.{Dir}
+use Rattle.link_format.specs.declared.dir.Dir.TheVariants.{Ab, Ba}
 use Rattle.command_ends.specs.declared.words.Proto.{Proto}
 use Rattle.command_ends.specs.declared.words.Proto.TheVariants.{Rtu, Dnp3}
 use Rattle.command_ends.specs.declared.words.Profile.{Profile}

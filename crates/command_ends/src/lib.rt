@@ -1,3 +1,6 @@
+//! How the runs of the programs begin and end: the words of a link, key texts, statuses, exit
+//! statuses and fault lines, and the text that all commands print.
+//!
 //! The links of the programs: the words that name a link, the identity of a link in a journal, and
 //! the parts that make up a protocol and a profile.
 //!
@@ -26,6 +29,7 @@
 mod ending;
 mod ends;
 mod fault_log;
+mod frame_line;
 mod given;
 mod key_text;
 mod link;
@@ -39,6 +43,7 @@ mod words;
 pub use ending::{flush_both, print_text, status_of};
 pub use ends::Ends;
 pub use fault_log::{fault_line, write_fault};
+pub use frame_line::{LINE_ROOM, push_read_line, write_frame_line};
 pub use given::{NOT_GIVEN, take_places, words_after_name};
 pub use key_text::{Key, KeyError, read_key};
 pub use link::link_of;

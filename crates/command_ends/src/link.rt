@@ -5,8 +5,8 @@ ghost use Rattle.sequence_journal.specs.Links.{HasDirection};
 ghost use Rattle.command_ends.specs.Links.{link_of};
 
 use crate::{Profile, Proto};
-use hmac_tag::Dir;
 use line_rules::LineRules;
+use link_format::Dir;
 use sequence_journal::LinkId;
 
 /// Runs a command with the parts of a protocol and a profile: the rules of the protocol and its
@@ -20,25 +20,25 @@ macro_rules! with_link {
         match ($proto, $profile) {
             ($crate::Proto::Rtu, $crate::Profile::Y18) => {
                 $command!(
-                    [rtu_frame::Rtu, device_model::RtuDevice, hmac_tag::HmacSha1, 2, 18, 21],
+                    [rtu_frame::Rtu, device_model::RtuDevice, link_format::HmacSha1, 2, 18, 21],
                     $($given),*
                 )
             }
             ($crate::Proto::Dnp3, $crate::Profile::Y18) => {
                 $command!(
-                    [dnp_link_frame::Dnp, device_model::DnpDevice, hmac_tag::HmacSha1, 2, 18, 21],
+                    [dnp_link_frame::Dnp, device_model::DnpDevice, link_format::HmacSha1, 2, 18, 21],
                     $($given),*
                 )
             }
             ($crate::Proto::Rtu, $crate::Profile::Y24) => {
                 $command!(
-                    [rtu_frame::Rtu, device_model::RtuDevice, hmac_tag::HmacSha256, 4, 24, 27],
+                    [rtu_frame::Rtu, device_model::RtuDevice, link_format::HmacSha256, 4, 24, 27],
                     $($given),*
                 )
             }
             ($crate::Proto::Dnp3, $crate::Profile::Y24) => {
                 $command!(
-                    [dnp_link_frame::Dnp, device_model::DnpDevice, hmac_tag::HmacSha256, 4, 24, 27],
+                    [dnp_link_frame::Dnp, device_model::DnpDevice, link_format::HmacSha256, 4, 24, 27],
                     $($given),*
                 )
             }

@@ -1,11 +1,11 @@
 //! The words of a link: those for a protocol with a profile, and those for a direction.
 ghost use Rattle.std.specs.Prelude.{◌≡◌, ◌≤◌, length, IfOk, OnErr};
-ghost use Rattle.hmac_tag.specs.declared.dir.Dir.{Dir};
+ghost use Rattle.link_format.specs.declared.dir.Dir.{Dir};
 ghost use Rattle.command_ends.specs.declared.words.Profile.{Profile};
 ghost use Rattle.command_ends.specs.declared.words.Proto.{Proto};
 ghost use Rattle.command_ends.specs.Words.{proto_word, link_word, dir_word};
 
-use hmac_tag::Dir;
+use link_format::Dir;
 
 /// The protocol of a line.
 #[derive(Clone, Copy, Debug, PartialEq, Eq)]

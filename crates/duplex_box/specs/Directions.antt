@@ -1,14 +1,10 @@
--- The two directions of a line, and the journals of its two boxes.
+-- The journals of the two boxes of a line.
 use Rattle.std.specs.Prelude.{◌≡◌}
-use Rattle.hmac_tag.specs.Tag.{direction_number}
-use Rattle.hmac_tag.specs.declared.dir.Dir.{Dir}
-use Rattle.hmac_tag.specs.declared.dir.Dir.TheVariants.{Ab, Ba}
+use Rattle.link_format.specs.Tag.{direction_number}
+use Rattle.link_format.specs.Directions.{opposite_of}
+use Rattle.link_format.specs.declared.dir.Dir.{Dir}
 use Rattle.sequence_journal.specs.declared.journal.Journal.{Journal}
 use Rattle.sequence_journal.specs.Journal.{journal_link}
-
-abbrev pub opposite_of : Dir → Dir
-opposite_of Ab = Ba
-opposite_of Ba = Ab
 
 -- Holds if the journals are those of one line, with the same protocol and profile: `sent` that of
 -- its outgoing direction, and `got` that of its incoming one. So the two aren't swapped.

@@ -1,6 +1,6 @@
 -- What a step of both directions does.
 use Rattle.std.specs.Prelude.{◌≡◌, ◌+◌, List, length, Option, Result, Ok, Err}
-use Rattle.hmac_tag.specs.declared.dir.Dir.{Dir}
+use Rattle.link_format.specs.declared.dir.Dir.{Dir}
 use Rattle.yasir_ticks.specs.declared.tick.Tick.{Tick}
 use Rattle.yasir_io.specs.declared.disk.SlotDisk.{Ghosts as SlotDisk}
 use Rattle.sequence_journal.specs.declared.journal.Journal.{Journal}

@@ -1,6 +1,6 @@
 //! Tests of the duplex box: both directions, a reflected link, and a journal that fails.
 use super::*;
-use hmac_tag::HmacSha1;
+use link_format::HmacSha1;
 use rtu_frame::Rtu;
 use sequence_journal::{Journal, LinkId};
 use std::alloc::Global;

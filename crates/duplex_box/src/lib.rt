@@ -11,7 +11,6 @@
 //!
 //! A box for both directions of a line: the transmitter of the outgoing direction and the receiver
 //! of the incoming one, under one key.
-//!
 #![tactic(auto)]
 
 #[cfg(test)]
@@ -22,9 +21,9 @@ mod pair;
 use check_receiver::Checker;
 pub use check_receiver::{CheckNote, DroppedWhy, RefusedWhy};
 pub use frame_ending::{BoxStep, RunBytes};
-pub use hmac_tag::Dir;
 pub use laws::{directions_are_apart, lines_go_on};
-pub use pair::{BoxPair, DuplexFault, PairStep, opposite};
+pub use link_format::Dir;
+pub use pair::{BoxPair, DuplexFault, PairStep};
 use seal_transmitter::Sealer;
 pub use seal_transmitter::{SealNote, UnsealedWhy};
 

@@ -1,9 +1,8 @@
 //! A pair of boxes, one for each direction, stepped together under one key.
 ghost use Rattle.std.specs.Prelude.{◌≡◌};
-ghost use Rattle.duplex_box.specs.Directions.{opposite_of};
 
-use hmac_tag::Dir;
 use link_box::LinkBox;
+use link_format::Dir;
 use sequence_journal::{Journal, JournalFault};
 use yasir_io::SlotDisk;
 use yasir_ticks::Tick;
@@ -40,21 +39,12 @@ pub struct BoxPair<S, C> {
     receiver: C,
 }
 
-/// Returns the other direction of a line.
-pub fn opposite(dir: Dir) -> Dir
-    ensures { result ≡ opposite_of dir }
-{
-    match dir {
-        Dir::Ab => Dir::Ba,
-        Dir::Ba => Dir::Ab,
-    }
-}
-
 impl<S: LinkBox, C: LinkBox> BoxPair<S, C> {
     ghost use Rattle.std.specs.Prelude.{◌≡◌, ℕ, []};
     ghost use Rattle.link_format.specs.Setup.{setup_of};
     ghost use Rattle.link_box.specs.Stepping.{MayStep};
-    ghost use Rattle.duplex_box.specs.Directions.{opposite_of, AreOfLine};
+    ghost use Rattle.link_format.specs.Directions.{opposite_of};
+    ghost use Rattle.duplex_box.specs.Directions.{AreOfLine};
     ghost use Rattle.duplex_box.specs.Pairs.{outgoing_direction, outgoing_box, incoming_box};
     ghost use Rattle.duplex_box.specs.Pairs.{ways_of, StepsBoth};
 
@@ -78,7 +68,7 @@ impl<S: LinkBox, C: LinkBox> BoxPair<S, C> {
         BoxPair {
             outgoing,
             sender: S::new(key, outgoing),
-            receiver: C::new(key, opposite(outgoing)),
+            receiver: C::new(key, outgoing.opposite()),
         }
     }
 

@@ -1,12 +1,12 @@
 -- If the frames of a line are spaced and silence follows them, the line arrives as it was sent, 18
 -- ticks later.
-use Rattle.{embed_boxes.specs.Carrying.profile_with, hmac_tag.specs.declared.dir.Dir.TheVariants.Ab}
+use Rattle.{embed_boxes.specs.Carrying.profile_with, link_format.specs.declared.dir.Dir.TheVariants.Ab}
 use Rattle.link_format.{proofs.Profiles.y18-tags, specs.Setup.setup_of}
-use Rattle.link_walks.specs.Checking.{received_line}
+use Rattle.link_box.specs.Checking.{received_line}
 use Rattle.receiver_laws.proofs.Deliveries.{delivers-all}
 use Rattle.receiver_laws.specs.Untouched.{IsUntouched, untouched, DeliversAll}
 use Rattle.rtu_frame.specs.Rules.{rtu_rules, rtu_lawful, rtu_framed}
-use Rattle.link_walks.specs.Sealing.{link_line}
+use Rattle.link_box.specs.Sealing.{link_line}
 use Rattle.sequence_journal.specs.declared.numbers.TheConstants.{LIMIT}
 use Rattle.std.proofs.Common.{◌≡◌, ◌∙◌, ℕ, ◌-◌, ◌+◌, List, ◌++◌, ap, sym, arith, lit≤}
 use Rattle.std.proofs.lemmas.List.{append-nil}

@@ -3,13 +3,13 @@ use Rattle.std.specs.Prelude.{◌≡◌, ℕ, ◌-◌, List, ◌++◌}
 use Rattle.yasir_ticks.specs.Ticks.{silent}
 use Rattle.yasir_ticks.specs.declared.tick.Tick.{Tick}
 use Rattle.rtu_frame.specs.Rules.{rtu_rules}
-use Rattle.hmac_tag.specs.declared.dir.Dir.TheVariants.{Ab}
+use Rattle.link_format.specs.declared.dir.Dir.TheVariants.{Ab}
 use Rattle.link_format.specs.Profile.{Profile}
 use Rattle.link_format.specs.Setup.{setup_of}
 use Rattle.link_format.specs.Y18.{y18}
 use Rattle.sequence_journal.specs.declared.numbers.TheConstants.{LIMIT}
-use Rattle.link_walks.specs.Sealing.{link_line}
-use Rattle.link_walks.specs.Checking.{received_line}
+use Rattle.link_box.specs.Sealing.{link_line}
+use Rattle.link_box.specs.Checking.{received_line}
 use Rattle.receiver_laws.specs.Untouched.{IsUntouched}
 
 -- the profile y18 for Modbus RTU with this key, on the way from a to b

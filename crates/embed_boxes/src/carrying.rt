@@ -9,8 +9,8 @@ ghost use Rattle.sequence_journal.specs.Journal.{journal_floor};
 ghost use Rattle.embed_boxes.specs.Carrying.{Carries};
 
 use check_receiver::Checker;
-use hmac_tag::{Dir, HmacSha1};
 use link_box::LinkBox;
+use link_format::{Dir, HmacSha1};
 use rtu_frame::Rtu;
 use seal_transmitter::Sealer;
 use sequence_journal::Journal;

@@ -1,3 +1,5 @@
+//! Where the bursts of a line end, and walks over bursts.
+//!
 //! Where the frame of a burst ends: what each tick of a line is, by the rules of a protocol.
 //!
 //! A byte, three silent ticks, and the fourth, which closes the burst:

@@ -1,7 +1,7 @@
 -- How the lines of the frames that a device reads go on when it hears more ticks.
 use Rattle.device_model.specs.{Frames.FrameRead, declared.device.Device.Ghosts as Device}
 use Rattle.line_commands.specs.FrameLines.{PrintsReads, StopsPrinting, KeepsHeld, printing}
-use Rattle.line_commands.specs.PrintedLines.{frame_line, frame_lines}
+use Rattle.command_ends.specs.FrameLine.{frame_line, frame_lines}
 use Rattle.line_commands.specs.declared.frame_lines.FrameLines.{FrameLines}
 use Rattle.std.proofs.Common.{◌≡◌, ◌∙◌, ℕ, ◌+◌, ◌-◌, ◌<◌, ◌≤◌, List, [], ◌∷◌, ◌++◌, length, take}
 use Rattle.std.proofs.Common.{Option, Ok, Err, subst, sym, ap, refl, append-nil, arith}

@@ -1,7 +1,7 @@
 -- How the run of `read` ends: from the end of its input to its status.
 use Rattle.device_model.specs.{Frames.FrameRead, declared.device.Device.Ghosts as Device}
 use Rattle.line_commands.specs.FrameLines.{PrintsReads, printing}
-use Rattle.line_commands.specs.PrintedLines.{frame_lines}
+use Rattle.command_ends.specs.FrameLine.{frame_lines}
 use Rattle.line_commands.specs.PrintsFrames.{DrivesFrames, PrintsFrames, LinesAtEnd, read_rest}
 use Rattle.line_commands.specs.declared.frame_lines.FrameLines.{FrameLines}
 use Rattle.command_ends.specs.{Endings.status_of, declared.status.Status.Status}

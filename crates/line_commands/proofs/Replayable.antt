@@ -2,7 +2,7 @@
 -- done.
 use Rattle.line_commands.specs.{Boxes.Boxed, Given.HasKey, Given.HoldsJournal}
 use Rattle.line_commands.specs.ReplaysBox.{ReplaysBox, BoxDiskCause, IsReplayable}
-use Rattle.{hex.proofs.HexLemmas.decode_of-ok, hmac_tag.specs.declared.dir.Dir.Dir}
+use Rattle.{hex.proofs.HexLemmas.decode_of-ok, link_format.specs.declared.dir.Dir.Dir}
 use Rattle.command_ends.specs.KeyText.{IsKeyText, IsKeyMet, IsNoKey}
 use Rattle.link_format.specs.Setup.{Setup}
 use Rattle.command_ends.proofs.Readable.{met_of_told, all_of_told, not_refused, not_too_long}

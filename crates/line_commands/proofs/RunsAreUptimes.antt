@@ -5,7 +5,7 @@ use Rattle.line_commands.specs.ReplaysBox.{Around, around_of, boxed_with, Leaves
 use Rattle.line_commands.specs.ReplaysBox.{LooksAtJournal, FailsAtLoad, RunsBox, RunsKeyed}
 use Rattle.line_commands.specs.ReplaysBox.{ReplaysBox}
 use Rattle.line_commands.specs.Uptimes.{WasUptime, WasTakenOver, TookLine, IsUptimeOrNone}
-use Rattle.{hmac_tag.specs.declared.dir.Dir.Dir, link_format.specs.Setup.Setup}
+use Rattle.{link_format.specs.declared.dir.Dir.Dir, link_format.specs.Setup.Setup}
 use Rattle.command_ends.specs.{Outside.Outside, declared.status.Status.Status}
 use Rattle.command_ends.specs.declared.status.Status.TheVariants.{Done, BadTicks, ReadFault}
 use Rattle.command_ends.specs.declared.status.Status.TheVariants.{WriteFault, JournalFault}

@@ -2,7 +2,7 @@
 -- the boxes give.
 use Rattle.line_commands.specs.{CheckBoxed.checking, CheckLines.check_line, LinkBoxed.boxed_of}
 use Rattle.line_commands.specs.{SealBoxed.sealing, SealLines.seal_line}
-use Rattle.{check_receiver.specs.Boxed.check_walking, hmac_tag.specs.declared.tag.Mac.Ghosts as Mac}
+use Rattle.{check_receiver.specs.Boxed.check_walking, link_format.specs.declared.tag.Mac.Ghosts as Mac}
 use Rattle.line_rules.specs.declared.line_rules.LineRules.{Ghosts as LineRules}
 use Rattle.link_format.specs.{Profile.profile_of, Setup.Setup}
 use Rattle.seal_transmitter.specs.Boxed.{seal_walking}

@@ -6,7 +6,7 @@ use Rattle.link_format.specs.NumberedFrame.{last_number, numbers_of}
 use Rattle.link_format.specs.Profile.{Profile}
 use Rattle.frame_ending.specs.Walk.{Noted}
 use Rattle.frame_ending.specs.Answers.{told_notes}
-use Rattle.link_walks.specs.Checking.{FullNote, brief_note, check_notes, received_line, passed}
+use Rattle.link_box.specs.Checking.{FullNote, brief_note, check_notes, received_line, passed}
 use Rattle.line_commands.specs.Boxes.{Boxed}
 use Rattle.line_commands.specs.CheckLines.{check_line}
 

@@ -6,7 +6,7 @@ use Rattle.line_rules.specs.RulesLaws.{IsLawful}
 use Rattle.link_format.specs.NumberedFrame.{numbers_of}
 use Rattle.link_format.specs.Profile.{Profile}
 use Rattle.sequence_journal.specs.Uptimes.{RiseFrom}
-use Rattle.link_walks.specs.Checking.{passed}
+use Rattle.link_box.specs.Checking.{passed}
 use Rattle.receiver_laws.proofs.Rising.{have_passed}
 
 pub passed-rise : (profile : Profile) (rules : Rules) → IsLawful rules → (floor : ℕ)

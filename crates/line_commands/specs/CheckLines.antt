@@ -1,12 +1,12 @@
 -- The lines of the receiver's notes.
 use Rattle.std.specs.Prelude.{ℕ, List, codes}
-use Rattle.link_walks.specs.declared.check_note.CheckNote.{CheckNote}
-use Rattle.link_walks.specs.declared.check_note.CheckNote.TheVariants.{Passed, Refused, Dropped}
-use Rattle.link_walks.specs.declared.check_note.DroppedWhy.{DroppedWhy}
-use Rattle.link_walks.specs.declared.check_note.DroppedWhy.TheVariants.{Busy, Head}
-use Rattle.link_walks.specs.declared.check_note.RefusedWhy.{RefusedWhy}
-use Rattle.link_walks.specs.declared.check_note.RefusedWhy.TheVariants.{Trailer, Form, Number}
-use Rattle.link_walks.specs.declared.check_note.RefusedWhy.TheVariants.{Tag}
+use Rattle.link_box.specs.declared.check_note.CheckNote.{CheckNote}
+use Rattle.link_box.specs.declared.check_note.CheckNote.TheVariants.{Passed, Refused, Dropped}
+use Rattle.link_box.specs.declared.check_note.DroppedWhy.{DroppedWhy}
+use Rattle.link_box.specs.declared.check_note.DroppedWhy.TheVariants.{Busy, Head}
+use Rattle.link_box.specs.declared.check_note.RefusedWhy.{RefusedWhy}
+use Rattle.link_box.specs.declared.check_note.RefusedWhy.TheVariants.{Trailer, Form, Number}
+use Rattle.link_box.specs.declared.check_note.RefusedWhy.TheVariants.{Tag}
 use Rattle.line_commands.specs.NoteLines.{numbered_line, placed_line}
 
 abbrev pub refused_word : RefusedWhy → List ℕ

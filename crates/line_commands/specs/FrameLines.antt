@@ -10,7 +10,7 @@ use Rattle.device_model.specs.declared.device.Device.{Ghosts as Device}
 use Rattle.tick_drive.specs.Consumers.{Consuming}
 use Rattle.tick_drive.specs.declared.consumer.Stop.{Stop}
 use Rattle.tick_drive.specs.declared.consumer.Stop.TheVariants.{WriteFault}
-use Rattle.line_commands.specs.PrintedLines.{frame_lines}
+use Rattle.command_ends.specs.FrameLine.{frame_lines}
 use Rattle.line_commands.specs.declared.frame_lines.FrameLines.{FrameLines}
 
 -- Holds if the printer still holds the same objects. Its sink failed if the result says so, and

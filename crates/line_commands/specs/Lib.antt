@@ -1,4 +1,3 @@
-pub mod PrintedLines
 pub mod FrameLines
 pub mod FrameLinesLaws
 pub mod PrintsFrames

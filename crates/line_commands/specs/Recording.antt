@@ -6,13 +6,13 @@ use Rattle.yasir_io.specs.Output.{GotPrefix}
 use Rattle.yasir_ticks.specs.Ticks.{Item, silent}
 use Rattle.yasir_ticks.specs.CanonicalText.{canonical_text}
 use Rattle.yasir_ticks.specs.declared.tick.Tick.{Tick}
-use Rattle.hmac_tag.specs.declared.dir.Dir.{Dir}
+use Rattle.link_format.specs.declared.dir.Dir.{Dir}
 use Rattle.link_format.specs.Setup.{Setup, setup_of}
 use Rattle.tick_drive.specs.Drive.{StopsForMemory}
 use Rattle.tick_drive.specs.Input.{Takes, IsWhole}
 use Rattle.tick_drive.specs.declared.end.End.{End}
 use Rattle.tick_drive.specs.declared.end.End.TheVariants.{Whole}
-use Rattle.duplex_box.specs.Directions.{opposite_of}
+use Rattle.link_format.specs.Directions.{opposite_of}
 use Rattle.session_lists.specs.Recordings.{before_mark, behind_mark}
 use Rattle.command_ends.specs.declared.status.Status.{Status}
 use Rattle.command_ends.specs.declared.status.Status.TheVariants.{Done, WriteFault}

@@ -6,7 +6,7 @@ use Rattle.link_format.specs.NumberedFrame.{last_number, numbers_of}
 use Rattle.link_format.specs.Profile.{Profile}
 use Rattle.frame_ending.specs.Walk.{Noted}
 use Rattle.frame_ending.specs.Answers.{told_notes}
-use Rattle.link_walks.specs.Sealing.{FullNote, seal_notes, link_line, sealed}
+use Rattle.link_box.specs.Sealing.{FullNote, seal_notes, link_line, sealed}
 use Rattle.seal_transmitter.specs.Answers.{brief_note}
 use Rattle.line_commands.specs.Boxes.{Boxed}
 use Rattle.line_commands.specs.SealLines.{seal_line}

@@ -8,8 +8,8 @@ use Rattle.line_rules.specs.RulesLaws.{IsLawful}
 use Rattle.link_format.specs.NumberedFrame.{NumberedFrame, numbers_of}
 use Rattle.link_format.specs.Profile.{Profile}
 use Rattle.sequence_journal.specs.Uptimes.{RiseFrom}
-use Rattle.link_walks.specs.Sealing.{sealed}
-use Rattle.link_walks.proofs.SealNumbers.{sealed-numbered}
+use Rattle.link_box.specs.Sealing.{sealed}
+use Rattle.link_box.proofs.SealNumbers.{sealed-numbered}
 
 -- if the numbers of frames follow a floor one by one, they rise from it
 rise-counted : (floor : ℕ) (frames : List NumberedFrame)

@@ -1,9 +1,9 @@
 -- The lines of the transmitter's notes.
 use Rattle.std.specs.Prelude.{ℕ, List, codes}
-use Rattle.link_walks.specs.declared.seal_note.SealNote.{SealNote}
-use Rattle.link_walks.specs.declared.seal_note.SealNote.TheVariants.{Sealed, Unsealed}
-use Rattle.link_walks.specs.declared.seal_note.UnsealedWhy.{UnsealedWhy}
-use Rattle.link_walks.specs.declared.seal_note.UnsealedWhy.TheVariants.{Early, Form, Spent}
+use Rattle.link_box.specs.declared.seal_note.SealNote.{SealNote}
+use Rattle.link_box.specs.declared.seal_note.SealNote.TheVariants.{Sealed, Unsealed}
+use Rattle.link_box.specs.declared.seal_note.UnsealedWhy.{UnsealedWhy}
+use Rattle.link_box.specs.declared.seal_note.UnsealedWhy.TheVariants.{Early, Form, Spent}
 use Rattle.line_commands.specs.NoteLines.{numbered_line, placed_line}
 
 abbrev pub unsealed_word : UnsealedWhy → List ℕ

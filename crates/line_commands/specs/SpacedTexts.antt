@@ -3,7 +3,7 @@ use Rattle.std.specs.Prelude.{ℕ, List, codes}
 use Rattle.std.specs.List.{flat_map}
 use Rattle.yasir_ticks.specs.declared.tick.Tick.{Tick}
 use Rattle.device_model.specs.Frames.{FrameRead}
-use Rattle.line_commands.specs.PrintedLines.{frame_line_of}
+use Rattle.command_ends.specs.FrameLine.{frame_line_of}
 use Rattle.line_spacer.specs.Arrivals.{Arrival}
 use Rattle.line_spacer.specs.Spacing.{lost_of, spaced_line}
 use Rattle.line_texts.specs.Sending.{LineAndNotes}

@@ -4,14 +4,13 @@ ghost use Rattle.yasir_ticks.specs.Ticks.{silent};
 ghost use Rattle.yasir_ticks.specs.TickRun.{run_ticks, run_items};
 ghost use Rattle.yasir_ticks.specs.declared.TheConstants.{MAX_TICKS};
 ghost use Rattle.link_format.specs.Setup.{setup_of};
-ghost use Rattle.duplex_box.specs.Directions.{opposite_of};
+ghost use Rattle.link_format.specs.Directions.{opposite_of};
 ghost use Rattle.line_commands.specs.KeptBox.{ticks_kept};
 ghost use Rattle.line_commands.specs.BothBoxes.{keeping, KeepsBoth, AreSteady, both_taken};
 
 use crate::kept_box::KeptBox;
 use crate::line_box::LineBox;
-use duplex_box::opposite;
-use hmac_tag::Dir;
+use link_format::Dir;
 use std::alloc::Global;
 use tick_drive::{Consumer, Stop};
 use yasir_io::NoMemory;
@@ -41,7 +40,7 @@ impl<S: LineBox, C: LineBox> BothBoxes<S, C> {
     {
         BothBoxes {
             outgoing: KeptBox::new(alloc, key, outgoing),
-            incoming: KeptBox::new(alloc, key, opposite(outgoing)),
+            incoming: KeptBox::new(alloc, key, outgoing.opposite()),
             marked: false,
         }
     }

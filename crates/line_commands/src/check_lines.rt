@@ -2,7 +2,7 @@
 ghost use Rattle.std.specs.Prelude.{◌≡◌, ◌≤◌, length};
 ghost use Rattle.link_format.specs.Profile.{profile_of};
 ghost use Rattle.sequence_journal.specs.declared.numbers.TheConstants.{LIMIT};
-ghost use Rattle.link_walks.proofs.CheckCausality.{checker-causal};
+ghost use Rattle.link_box.proofs.CheckCausality.{checker-causal};
 ghost use Rattle.check_receiver.proofs.Silences.{timely};
 ghost use Rattle.line_commands.specs.CheckLaws.{passed-rise};
 ghost use Rattle.line_commands.specs.CheckLines.{refused_word, dropped_word, check_line};
@@ -10,8 +10,8 @@ ghost use Rattle.line_commands.specs.CheckLines.{refused_word, dropped_word, che
 use crate::line_box::LineBox;
 use crate::note_lines::{NoteLine, numbered_line, placed_line};
 use check_receiver::{CheckNote, Checker, DroppedWhy, RefusedWhy};
-use hmac_tag::Mac;
 use line_rules::LineRules;
+use link_format::Mac;
 
 fn refused_word(why: RefusedWhy) -> &'static [u8]
     ensures word { result.now ≡ refused_word why }

@@ -16,7 +16,7 @@ use crate::box_lines::BoxLines;
 use crate::driven_box::DrivenBox;
 use crate::line_box::LineBox;
 use command_ends::{Ends, KeyError, Status, flush_both, read_key, status_of};
-use hmac_tag::Dir;
+use link_format::Dir;
 use sequence_journal::{Journal, LinkId, LoadError};
 use tick_drive::{End, Stop, drive_to_rest};
 use yasir_io::{Failed, Sink, SlotDisk, Source};

@@ -5,7 +5,7 @@ ghost use Rattle.yasir_ticks.specs.declared.tick_run.TickRun.TheVariants.{Bytes,
 ghost use Rattle.tick_drive.specs.Consumers.{MayTake, GivesSome};
 ghost use Rattle.line_commands.specs.FrameLines.{printing};
 
-use crate::text::push_read_line;
+use command_ends::push_read_line;
 use device_model::{Device, Met, hear_run};
 use tick_drive::{Consumer, Stop};
 use yasir_io::{Failed, Sink, TextBuffer};

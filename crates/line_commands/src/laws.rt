@@ -1,7 +1,7 @@
 //! The law that runs of a box's command over one disk are uptimes that share it.
 ghost use Rattle.std.specs.Prelude.{◌≡◌, ℕ, Some};
 ghost use Rattle.yasir_io.specs.Disks.{Slots, OneImage};
-ghost use Rattle.hmac_tag.specs.declared.dir.Dir.{Dir};
+ghost use Rattle.link_format.specs.declared.dir.Dir.{Dir};
 ghost use Rattle.link_format.specs.Setup.{Setup};
 ghost use Rattle.sequence_journal.specs.declared.link.LinkId.{LinkId};
 ghost use Rattle.sequence_journal.specs.Links.{HasDirection};

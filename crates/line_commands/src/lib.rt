@@ -1,3 +1,6 @@
+//! The commands over one line, `read`, `space`, `seal`, `check` and `duplex`, and the outside of a
+//! live line.
+//!
 //! A device that reads a recorded line, and a line of text for each frame that it reads.
 //!
 //!     let status = read_frames::<RtuDevice, _, _, _>(&mut input, &mut out, &mut log);
@@ -58,7 +61,6 @@ mod space_command;
 mod spaced_lines;
 mod spacers;
 mod streams;
-mod text;
 
 pub use command::replay_box;
 pub use laws::runs_are_uptimes;
@@ -75,4 +77,3 @@ pub use sending::{hand_on, send};
 pub use space_command::space_frames;
 pub use spacers::LineSpacer;
 pub use streams::Streams;
-pub use text::{LINE_ROOM, push_read_line, write_frame_line};

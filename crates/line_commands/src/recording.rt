@@ -19,7 +19,7 @@ use crate::kept_box::KeptBox;
 use crate::line_box::LineBox;
 use crate::note_order::merge_lines;
 use command_ends::{Status, flush_both};
-use hmac_tag::Dir;
+use link_format::Dir;
 use std::alloc::Global;
 use tick_drive::{End, Stop, drive};
 use yasir_io::{Failed, NoMemory, Sink, Source, write_all};

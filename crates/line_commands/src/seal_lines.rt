@@ -2,14 +2,14 @@
 ghost use Rattle.std.specs.Prelude.{◌≡◌, ◌≤◌, length};
 ghost use Rattle.link_format.specs.Profile.{profile_of};
 ghost use Rattle.sequence_journal.specs.declared.numbers.TheConstants.{LIMIT};
-ghost use Rattle.link_walks.proofs.SealCausality.{sealer-causal};
+ghost use Rattle.link_box.proofs.SealCausality.{sealer-causal};
 ghost use Rattle.line_commands.specs.SealLaws.{sealed-rise};
 ghost use Rattle.line_commands.specs.SealLines.{unsealed_word, seal_line};
 
 use crate::line_box::LineBox;
 use crate::note_lines::{NoteLine, numbered_line, placed_line};
-use hmac_tag::Mac;
 use line_rules::LineRules;
+use link_format::Mac;
 use seal_transmitter::{SealNote, Sealer, UnsealedWhy};
 
 fn unsealed_word(why: UnsealedWhy) -> &'static [u8]

@@ -11,7 +11,7 @@ ghost use Rattle.line_commands.specs.SpacedTexts.{lost_line, lost_lines};
 ghost use Rattle.line_commands.specs.OwedTexts.{WritesSome, WritesOwed};
 
 use crate::spacers::LineSpacer;
-use crate::{LINE_ROOM, write_frame_line};
+use command_ends::{LINE_ROOM, write_frame_line};
 use device_model::Met;
 use line_spacer::SpaceRun;
 use line_texts::{Texts, answer_run, push_run};

@@ -5,3 +5,4 @@ pub mod CrcTableChecks
 pub mod CrcZero
 pub mod EndingLaws
 pub mod Taking
+pub mod Standing

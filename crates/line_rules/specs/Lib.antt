@@ -7,3 +7,4 @@ pub mod RulesLaws
 pub mod Spoiling
 pub mod Headerless
 pub mod FourBytes
+pub mod Outlet

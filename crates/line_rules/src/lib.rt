@@ -9,6 +9,22 @@
 //!         burst.take(byte);
 //!     }
 //!     assert!(rt; burst.good());
+//!
+//! What leaves for a burst whose frame is refused: its bytes, with an ending that makes sure that
+//! they aren't a frame.
+//!
+//! Three bytes leave as they are. The last one of a refused frame leaves spoiled:
+//!
+//!     let mut outlet = Outlet::<FourBytes>::new();
+//!     let mut all = FourBytes::fresh();
+//!     outlet.begin();
+//!     for byte in [1, 2, 3] {
+//!         all.take(byte);
+//!         assert_eq!(rt; outlet.emit(byte, false, false), byte);
+//!     }
+//!     all.take(0);
+//!     outlet.refuse(all);
+//!     assert_eq!(rt; outlet.emit(0, true, false), 1);
 #![tactic(auto)]
 
 mod crc_bits;
@@ -17,6 +33,11 @@ mod crc_tables;
 mod four_bytes;
 mod head;
 mod line_rules;
+mod outlet;
+#[cfg(test)]
+mod spoiler_tests;
+#[cfg(test)]
+mod tests;
 
 pub use crc_bits::crc_by_bits;
 pub use crc_table::CrcTable;
@@ -24,6 +45,4 @@ pub use crc_tables::{CrcTables, crc_at_once, crc_by_tables, step_by_table};
 pub use four_bytes::FourBytes;
 pub use head::Head;
 pub use line_rules::LineRules;
-
-#[cfg(test)]
-mod tests;
+pub use outlet::Outlet;

@@ -1,3 +1,5 @@
+//! Times and ticks of captures, and readers that take a format byte by byte.
+//!
 //! Times of a capture, and the ticks of a line that they represent.
 //!
 //! Times are exact: a nanosecond has as many parts as the rate has baud, so that a character of 11

@@ -1,20 +1,5 @@
-//! Tests of what the boxes are made of: tick text and its digits, frames of DNP3, tags, the ring of a
-//! delay, and where bursts begin and end.
-//!
-//! They are proved apart from the crates that they test, since a crate with tests is proved twice.
-//!
-//! Tests of the models of devices and of the spacer: rows from the standards, runs compared with
-//! single ticks, members of the families, frames that wait or are lost, and how few calls a run
-//! takes.
-//!
-//! They are proved apart from the crates that they test, since a crate with tests is proved twice.
-//!
-//! Tests of the forms of captures: files, texts and dumps that other tools made, and broken ones.
-//!
-//! They are proved apart from the crates that they test, since a crate with tests is proved twice.
-//!
-//! Tests of the edge of the program: streams, files and disks with calls that fail, journals, keys,
-//! and the texts that are written.
+//! Tests of what lies below the boxes and beside them: tick text, frames, tags, the ring of a delay,
+//! bursts, models of devices, the spacer, the forms of captures, streams, files, disks and journals.
 //!
 //! They are a crate of their own, since a crate with tests is proved twice.
 #![tactic(auto)]

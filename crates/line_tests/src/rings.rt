@@ -1,8 +1,7 @@
 //! Tests of the delay ring: ticks leave late by the length of the ring, and runs give what single
 //! ticks give.
-use delay_ring::mark_runs::silence_in_front;
-use delay_ring::{DelayRing, MAX_DELAY, MAX_RUN};
-use yasir_ticks::Tick;
+use yasir_ticks::mark_runs::silence_in_front;
+use yasir_ticks::{DelayRing, MAX_DELAY, MAX_RUN, Tick};
 
 #[test]
 fn three_ticks_late(rt: HostRuntime) {

@@ -1,7 +1,7 @@
 //! Tests of HMAC against known answers, over texts that come in pieces.
 ghost use Rattle.std.specs.Prelude.{◌<◌};
 
-use hmac_tag::{
+use link_format::{
     BlockHasher, BlockStart, Digest, Dir, HmacSha1, HmacSha256, Mac, Sha1Value, Sha256Value,
     TagBytes,
 };

@@ -1,2 +1,31 @@
+pub mod SealWorked
+mod SealWorkedWide
+pub mod SealCausality
+pub mod SealNumbers
+pub mod CheckWorked
+mod CheckWorkedWide
+pub mod WorkedHeaders
+pub mod Keeping
+pub mod Judging
+pub mod HeadTicks
+pub mod Settling
+pub mod CheckCausality
+pub mod Spoiled
+pub mod Apart
+pub mod Passing
+pub mod Packets
+pub mod Leavings
+pub mod Flow
+pub mod Past
+pub mod Resting
+pub mod Opening
+pub mod Shaping
+pub mod Growing
+pub mod Rings
+pub mod Beginning
+pub mod CheckNumbers
+pub mod Trailing
+pub mod Opened
+pub mod Begun
 pub mod Answered
 pub mod TakenRuns

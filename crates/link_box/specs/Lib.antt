@@ -1,3 +1,14 @@
+pub mod Sealing
+pub mod Shapes
+pub mod Verdicts
+pub mod Emissions
+pub mod Checking
+pub mod Timely
+pub mod Packet
+pub mod Leaving
+pub mod Turns
+pub mod Holding
+pub mod Going
 pub mod Links
 pub mod Walking
 pub mod Stepping

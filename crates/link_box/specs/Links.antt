@@ -1,7 +1,7 @@
 -- The link of a box.
 use Rattle.std.specs.Prelude.{ℕ, ◌+◌}
 use Rattle.line_rules.specs.declared.line_rules.LineRules.{Ghosts as LineRules}
-use Rattle.hmac_tag.specs.declared.tag.Mac.{Ghosts as Mac}
+use Rattle.link_format.specs.declared.tag.Mac.{Ghosts as Mac}
 use Rattle.sequence_journal.specs.declared.link.LinkId.{LinkId}
 
 -- The link of a box, as its journals name it, for the rules of a protocol, a MAC, words of this

@@ -4,7 +4,7 @@ ghost use Rattle.std.specs.Prelude.{◌≡◌, ℕ, ◌+◌, ◌≤◌, List, []
 ghost use Rattle.yasir_ticks.specs.TickRun.{run_ticks};
 ghost use Rattle.yasir_ticks.specs.declared.tick.Tick.{Tick};
 ghost use Rattle.frame_ending.specs.Answered.{answered};
-ghost use Rattle.hmac_tag.specs.declared.dir.Dir.{Dir};
+ghost use Rattle.link_format.specs.declared.dir.Dir.{Dir};
 ghost use Rattle.link_format.specs.Setup.{Setup, setup_of};
 ghost use Rattle.sequence_journal.specs.declared.link.LinkId.{LinkId};
 ghost use Rattle.sequence_journal.specs.Links.{HasDirection};
@@ -14,7 +14,7 @@ ghost use Rattle.link_box.specs.Stepping.{MayStep, Steps, FailsStep, KeepsJourna
 ghost use Rattle.link_box.specs.Runs.{TakesRun};
 
 use frame_ending::{BoxStep, RunBytes};
-use hmac_tag::Dir;
+use link_format::Dir;
 use sequence_journal::{Journal, JournalFault, LinkId};
 use yasir_io::SlotDisk;
 use yasir_ticks::{MAX_TICKS, Tick, TickRun};

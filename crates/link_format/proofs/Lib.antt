@@ -1,2 +1,10 @@
+pub mod Xoring
+pub mod StandardFacts
+pub mod KeyedWords
+pub mod Sha1Blocks
+pub mod WordBits
+pub mod Sha256Blocks
+pub mod HashValues
+pub mod Hashing
 pub mod Profiles
 pub mod Worked

@@ -1,6 +1,6 @@
 -- Words and lengths of trailers, and the profiles y18 and y24.
-use Rattle.{byteorder.specs.Numbers.big_from-bytes, hmac_tag.specs.Digests.length-sha1}
-use Rattle.hmac_tag.specs.{Digests.length-sha256, Digests.length-hmac_cut, Tag.tag_text}
+use Rattle.{byteorder.specs.Numbers.big_from-bytes, link_format.specs.Digests.length-sha1}
+use Rattle.link_format.specs.{Digests.length-sha256, Digests.length-hmac_cut, Tag.tag_text}
 use Rattle.link_format.specs.Profile.{Profile, HasTags, trailer, trailer_len, delay, words, word_of}
 use Rattle.link_format.specs.{Setup.Setup, Y18.y18, Y24.y24}
 use Rattle.{sha1.specs.Sha1.sha1, sha2.specs.Sha256.sha256}

@@ -1,3 +1,13 @@
+pub mod Hmac
+pub mod Words
+pub mod Sha1Words
+pub mod Sha256Words
+pub mod HashValues
+pub mod Hashing
+pub mod Tag
+pub mod Stands
+pub mod Digests
+pub mod Directions
 pub mod Setup
 pub mod Profile
 pub mod Y18

@@ -6,8 +6,8 @@ use Rattle.std.specs.Prelude.{replicate}
 use Rattle.std.specs.Int.{bytes_high_first}
 use Rattle.byteorder.specs.Endian.{big_number}
 use Rattle.line_rules.specs.declared.line_rules.LineRules.{Ghosts as LineRules}
-use Rattle.hmac_tag.specs.declared.tag.Mac.{Ghosts as Mac}
-use Rattle.hmac_tag.specs.Tag.{tag}
+use Rattle.link_format.specs.declared.tag.Mac.{Ghosts as Mac}
+use Rattle.link_format.specs.Tag.{tag}
 use Rattle.link_format.specs.Setup.{Setup}
 
 pub record Profile : Type 0 where

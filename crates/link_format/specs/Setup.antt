@@ -1,7 +1,7 @@
 -- What a box of a link is set up with.
 use Rattle.std.specs.Prelude.{ℕ, List}
-use Rattle.hmac_tag.specs.declared.dir.Dir.{Dir}
-use Rattle.hmac_tag.specs.Tag.{direction_number}
+use Rattle.link_format.specs.declared.dir.Dir.{Dir}
+use Rattle.link_format.specs.Tag.{direction_number}
 
 -- the key of a box, the number of its direction, and the floor of its journal at the start
 pub record Setup : Type 0 where

@@ -1,7 +1,7 @@
 -- The profile y18: words of 2 bytes, and tags of 12 bytes by HMAC over SHA-1 cut to 96 bits. So a
 -- trailer has 14 bytes and the delay is 18 ticks.
 use Rattle.std.specs.Prelude.{ℕ}
-use Rattle.hmac_tag.specs.Tag.{hmac_sha1_96, tag}
+use Rattle.link_format.specs.Tag.{hmac_sha1_96, tag}
 use Rattle.link_format.specs.Profile.{Profile}
 use Rattle.link_format.specs.Setup.{Setup}
 

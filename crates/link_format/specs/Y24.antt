@@ -1,7 +1,7 @@
 -- The profile y24: words of 4 bytes, and tags of 16 bytes by HMAC over SHA-256 cut to 128 bits. So
 -- a trailer has 20 bytes and the delay is 24 ticks.
 use Rattle.std.specs.Prelude.{ℕ}
-use Rattle.hmac_tag.specs.Tag.{hmac_sha256_128, tag}
+use Rattle.link_format.specs.Tag.{hmac_sha256_128, tag}
 use Rattle.link_format.specs.Profile.{Profile}
 use Rattle.link_format.specs.Setup.{Setup}
 

@@ -1,8 +1,8 @@
 //! The trailer of a sealed frame, and which bytes of it are still to be sent.
 ghost use Rattle.link_format.specs.Profile.{IsWordLen};
 
+use crate::TagBytes;
 use arrayvec::ArrayVec;
-use hmac_tag::TagBytes;
 use yasir_ticks::{LineBytes, Tick};
 
 /// How many bytes a trailer has at most: a word of 4 and a tag of 16.

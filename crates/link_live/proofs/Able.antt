@@ -1,6 +1,6 @@
 -- If a box is given a right key, a journal that holds a number for its link and a right text, and
 -- nothing outside fails, the status is Done.
-use Rattle.{hmac_tag.specs.declared.dir.Dir.Dir, link_format.specs.Setup.Setup}
+use Rattle.{link_format.specs.declared.dir.Dir.Dir, link_format.specs.Setup.Setup}
 use Rattle.command_ends.specs.{Statuses.fault_line, declared.status.Status.Status}
 use Rattle.sequence_journal.specs.{Links.HasDirection, declared.link.LinkId.LinkId}
 use Rattle.std.proofs.Common.{◌≡◌, ◌∙◌, ℕ, ◌+◌, List, [], ◌∷◌, ◌++◌, length, Option, Some, None}

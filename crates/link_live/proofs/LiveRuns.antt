@@ -1,5 +1,5 @@
 -- What the status of a run says of it, from how its box was driven over a live line.
-use Rattle.{frame_ending.specs.Causal.IsCausal, hmac_tag.specs.declared.dir.Dir.Dir}
+use Rattle.{frame_ending.specs.Causal.IsCausal, link_format.specs.declared.dir.Dir.Dir}
 use Rattle.link_box.specs.{Walking.frames_of, declared.box_trait.LinkBox.Ghosts as LinkBox}
 use Rattle.link_format.specs.{NumberedFrame.numbers_of, Setup.Setup, Setup.setup_of}
 use Rattle.sequence_journal.specs.Journal.{journal_link, journal_floor, HasFloorAtLeast, Fits}

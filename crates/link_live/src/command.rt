@@ -8,8 +8,8 @@ ghost use Rattle.link_live.specs.LiveCommand.{around, RunsLine, LivesBox, PortCa
 
 use crate::live_box::LiveBox;
 use command_ends::{KeyError, Status, read_key, status_of};
-use hmac_tag::Dir;
 use line_commands::{LineBox, Port};
+use link_format::Dir;
 use sequence_journal::{Journal, LinkId, LoadError};
 use yasir_io::{SlotDisk, Source};
 

@@ -13,9 +13,9 @@ ghost use Rattle.line_commands.specs.Boxes.{line_of_note};
 ghost use Rattle.link_live.specs.Filtering.{filtering, outside, Filters};
 
 use frame_ending::RunBytes;
-use hmac_tag::Dir;
 use line_commands::{LineBox, Port, hand_on, text_of_answer, text_of_tick};
 use link_box::take_alike;
+use link_format::Dir;
 use sequence_journal::{Journal, JournalFault};
 use tick_drive::Stop;
 use yasir_io::{Failed, SlotDisk};

@@ -16,8 +16,8 @@ ghost use Rattle.link_live.specs.LiveLine.{HearAnswer, FinishAnswer, Drives};
 ghost use Rattle.link_live.specs.LiveLine.{live_of};
 
 use crate::filter::Filter;
-use hmac_tag::Dir;
 use line_commands::{LineBox, LineReader, Port, ReadBytes, read_on};
+use link_format::Dir;
 use sequence_journal::Journal;
 use tick_drive::{End, TooMuch};
 use yasir_io::{Failed, SlotDisk};

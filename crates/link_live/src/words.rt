@@ -5,7 +5,7 @@ ghost use Rattle.link_live.specs.declared.words.Command.{Command};
 ghost use Rattle.link_live.specs.Words.{IsCommand};
 
 use command_ends::{Profile, Proto, Usage, read_dir, read_link};
-use hmac_tag::Dir;
+use link_format::Dir;
 
 /// The protocol, the profile and the direction of a link.
 #[derive(Clone, Copy, Debug, PartialEq, Eq)]

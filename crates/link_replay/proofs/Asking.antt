@@ -1,5 +1,5 @@
 -- Words ask for at most one command.
-use Rattle.{hmac_tag.specs.declared.dir.Dir.Dir, link_replay.specs.Words.IsCommand}
+use Rattle.{link_format.specs.declared.dir.Dir.Dir, link_replay.specs.Words.IsCommand}
 use Rattle.link_replay.specs.{Words.Asks, Words.AreFloors, declared.words.Command.Command}
 use Rattle.link_replay.specs.declared.words.Command.TheVariants.{Init, Read, Vectors, Seal, Check}
 use Rattle.link_replay.specs.declared.words.Command.TheVariants.{Replay, Trial, Space, Audit}

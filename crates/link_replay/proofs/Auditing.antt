@@ -1,7 +1,7 @@
 -- The session that the words of an audit ask for, its verdict, and what is left if the input didn't
 -- end well.
 use Rattle.{line_commands.specs.LinkBoxes.seal_rest, link_replay.specs.ReadCommand.device_reads}
-use Rattle.link_walks.specs.Checking.{passed}
+use Rattle.link_box.specs.Checking.{passed}
 use Rattle.command_ends.specs.Links.{rules_of, link_profile_of, delay_of}
 use Rattle.command_ends.specs.declared.words.Profile.{Profile, TheVariants.Y18, TheVariants.Y24}
 use Rattle.command_ends.specs.declared.words.Proto.{Proto, TheVariants.Rtu, TheVariants.Dnp3}
@@ -15,7 +15,7 @@ use Rattle.command_ends.specs.declared.status.Status.{Status}
 use Rattle.command_ends.specs.declared.status.Status.TheVariants as statuses
 use Rattle.command_ends.specs.declared.status.Status.TheVariants.{Done, NoMemory, WriteFault}
 use Rattle.command_ends.specs.declared.status.Unclean.{Unclean}
-use Rattle.link_walks.specs.Sealing.{sealed}
+use Rattle.link_box.specs.Sealing.{sealed}
 use Rattle.sequence_journal.specs.declared.numbers.TheConstants.{LIMIT}
 use Rattle.session_audit.{proofs.Auditing.kind-so, specs.AuditedInput.FindsNone}
 use Rattle.session_audit.specs.Sessions.{sent_setup, got_setup, verdict_of, verdict_with}

@@ -1,6 +1,6 @@
 -- What `duplex` does follows from what its boxes make of both recordings. If all that it is given
 -- is right and nothing outside fails, the status is `Done` or `NoMemory`.
-use Rattle.hmac_tag.specs.declared.dir.Dir.{Dir}
+use Rattle.link_format.specs.declared.dir.Dir.{Dir}
 use Rattle.command_ends.specs.Causes.{ReadsCause, SinkCause, NoneRose}
 use Rattle.command_ends.specs.{Outside.Outside, declared.status.Status.Status}
 use Rattle.command_ends.specs.declared.status.Status.TheVariants.{Done, BadTicks, ReadFault}

@@ -3,12 +3,12 @@
 use Rattle.line_commands.specs.LinkBoxes.{seal_rest}
 use Rattle.device_model.specs.{DnpReads.dnp_reads, Frames.FrameRead, RtuReads.rtu_reads}
 use Rattle.dnp_link_frame.specs.{Rules.dnp_rules, RulesLaws.dnp_lawful, RulesLaws.dnp_framed}
-use Rattle.{hmac_tag.specs.declared.dir.Dir.Dir, line_rules.specs.Rules.Rules}
+use Rattle.{link_format.specs.declared.dir.Dir.Dir, line_rules.specs.Rules.Rules}
 use Rattle.link_format.proofs.Profiles.{y18-tags, y24-tags}
 use Rattle.link_format.specs.Profile.{Profile as LinkProfile, HasTags, delay}
 use Rattle.link_format.specs.Setup.{setup_of}
 use Rattle.link_replay.specs.ReplayCommand.{ReplaysWith, replay_listing, replay_profile}
-use Rattle.link_walks.specs.Checking.{passed, received_line}
+use Rattle.link_box.specs.Checking.{passed, received_line}
 use Rattle.command_ends.specs.Links.{rules_of}
 use Rattle.command_ends.specs.declared.words.Profile.{Profile, TheVariants.Y18, TheVariants.Y24}
 use Rattle.command_ends.specs.declared.words.Proto.{Proto, TheVariants.Rtu, TheVariants.Dnp3}
@@ -22,7 +22,7 @@ use Rattle.session_audit.specs.{Recorded.link_ticks, TellsOf.TellsOf, TellsOf.de
 use Rattle.session_lists.specs.Recordings.{before_mark, behind_mark}
 use Rattle.command_ends.specs.declared.status.Status.{Status, TheVariants.Done}
 use Rattle.rtu_frame.specs.Rules.{rtu_rules, rtu_lawful, rtu_framed}
-use Rattle.link_walks.specs.Sealing.{sealed}
+use Rattle.link_box.specs.Sealing.{sealed}
 use Rattle.sequence_journal.specs.declared.numbers.TheConstants.{LIMIT}
 use Rattle.std.proofs.Common.{◌≡◌, ℕ, ◌+◌, ◌≤◌, List, ◌++◌, Option, length, refl, arith}
 use Rattle.tick_drive.specs.Input.{AreFew}

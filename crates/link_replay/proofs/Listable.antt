@@ -2,7 +2,7 @@
 -- recordings is `Done` or `NoMemory`, and that of an audit is the status of its verdict or
 -- `NoMemory`.
 use Rattle.{line_commands.proofs.Replayable.whole_key_met, line_commands.specs.LinkBoxes.seal_rest}
-use Rattle.hmac_tag.specs.declared.dir.Dir.{Dir}
+use Rattle.link_format.specs.declared.dir.Dir.{Dir}
 use Rattle.link_replay.proofs.KeyedRuns.{EndsAs, keyed_done}
 use Rattle.link_replay.specs.AuditCommand.{AuditsItems, EndsWithVerdict, PrintsVerdict, verdict_in}
 use Rattle.link_replay.specs.AuditCommand.{verdict_text}

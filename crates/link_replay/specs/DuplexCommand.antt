@@ -6,13 +6,13 @@ use Rattle.yasir_io.specs.declared.sink.Sink.{Ghosts as Sink}
 use Rattle.yasir_ticks.specs.Ticks.{Item}
 use Rattle.yasir_ticks.specs.declared.tick.Tick.{Tick}
 use Rattle.frame_ending.specs.Answers.{told_notes}
-use Rattle.hmac_tag.specs.declared.dir.Dir.{Dir}
+use Rattle.link_format.specs.declared.dir.Dir.{Dir}
 use Rattle.link_format.specs.Profile.{Profile as LinkProfile}
 use Rattle.link_format.specs.Setup.{Setup}
 use Rattle.sequence_journal.specs.declared.numbers.TheConstants.{LIMIT}
-use Rattle.link_walks.specs.Sealing.{seal_notes, link_line}
+use Rattle.link_box.specs.Sealing.{seal_notes, link_line}
 use Rattle.seal_transmitter.specs.Answers.{brief_note as seal_brief}
-use Rattle.link_walks.specs.Checking.{check_notes, received_line, brief_note as check_brief}
+use Rattle.link_box.specs.Checking.{check_notes, received_line, brief_note as check_brief}
 use Rattle.tick_drive.specs.Input.{Takes, IsWhole}
 use Rattle.tick_drive.specs.declared.consumer.Stop.TheVariants as stops
 use Rattle.tick_drive.specs.declared.end.End.{End}

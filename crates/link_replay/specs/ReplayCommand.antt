@@ -12,12 +12,12 @@ use Rattle.yasir_io.specs.declared.source.Source.{Ghosts as Source}
 use Rattle.yasir_io.specs.declared.sink.Sink.{Ghosts as Sink}
 use Rattle.yasir_ticks.specs.Ticks.{Item}
 use Rattle.yasir_ticks.specs.declared.tick.Tick.{Tick}
-use Rattle.hmac_tag.specs.declared.dir.Dir.{Dir}
+use Rattle.link_format.specs.declared.dir.Dir.{Dir}
 use Rattle.link_format.specs.Profile.{Profile as LinkProfile}
 use Rattle.link_format.specs.Setup.{setup_of}
 use Rattle.sequence_journal.specs.declared.numbers.TheConstants.{LIMIT}
-use Rattle.link_walks.specs.Sealing.{sealed}
-use Rattle.link_walks.specs.Checking.{passed, received_line}
+use Rattle.link_box.specs.Sealing.{sealed}
+use Rattle.link_box.specs.Checking.{passed, received_line}
 use Rattle.session_lists.specs.Recordings.{before_mark}
 use Rattle.command_ends.specs.Outside.{Outside}
 use Rattle.command_ends.specs.Readable.{IsReadableWith}

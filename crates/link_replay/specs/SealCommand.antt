@@ -2,7 +2,7 @@
 use Rattle.yasir_io.specs.declared.source.Source.{Ghosts as Source}
 use Rattle.yasir_io.specs.declared.sink.Sink.{Ghosts as Sink}
 use Rattle.yasir_io.specs.declared.disk.SlotDisk.{Ghosts as SlotDisk}
-use Rattle.hmac_tag.specs.declared.dir.Dir.{Dir}
+use Rattle.link_format.specs.declared.dir.Dir.{Dir}
 use Rattle.command_ends.specs.Outside.{Outside}
 use Rattle.command_ends.specs.declared.status.Status.{Status}
 use Rattle.line_commands.specs.LinkBoxes.{seal_boxed, seal_rest}

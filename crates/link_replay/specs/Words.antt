@@ -1,7 +1,7 @@
 -- The words of the program's commands.
 use Rattle.std.specs.Prelude.{◌≡◌, ◌≢◌, ◌⊎◌, ℕ, ◌^◌, ◌<◌, ◌≤◌, decimal, List, [], ◌∷◌, Option, Some}
 use Rattle.std.specs.Prelude.{None, codes, slice_get}
-use Rattle.hmac_tag.specs.declared.dir.Dir.{Dir}
+use Rattle.link_format.specs.declared.dir.Dir.{Dir}
 use Rattle.sequence_journal.specs.declared.numbers.TheConstants.{LIMIT}
 use Rattle.command_ends.specs.declared.words.Proto.{Proto}
 use Rattle.command_ends.specs.declared.words.Profile.{Profile}

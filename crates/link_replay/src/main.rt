@@ -33,7 +33,7 @@ mod trial_tests;
 mod words;
 
 pub use command_ends::{NOT_GIVEN, Profile, Proto, Usage};
-pub use hmac_tag::Dir;
+pub use link_format::Dir;
 pub use over_files::run_over_files;
 pub use program::run;
 use std::process::ExitCode;

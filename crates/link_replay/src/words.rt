@@ -8,7 +8,7 @@ ghost use Rattle.link_replay.specs.Words.{IsCommand, Asks};
 ghost use Rattle.link_replay.specs.Words.{key_place, journal_place, AskForJournal};
 
 use command_ends::{Profile, Proto, Usage, read_dir, read_link, read_proto};
-use hmac_tag::Dir;
+use link_format::Dir;
 use sequence_journal::LIMIT;
 
 /// The greatest count of frames in a trial.

@@ -6,8 +6,8 @@ use Rattle.{link_format.specs.Profile.Profile, receiver_laws.proofs.Subsequences
 use Rattle.receiver_laws.specs.Accounted.{Pair, pair_of, pairs_of, is_same_pair, is_among}
 use Rattle.receiver_laws.specs.Accounted.{rightly_passed, IsSubsequence, IsAccountedFor}
 use Rattle.receiver_laws.specs.Accounted.IsSubsequence.{none, skip, keep}
-use Rattle.link_walks.proofs.SealNumbers.{sealed-numbered}
-use Rattle.link_walks.specs.Sealing.{sealed}
+use Rattle.link_box.proofs.SealNumbers.{sealed-numbered}
+use Rattle.link_box.specs.Sealing.{sealed}
 use Rattle.sequence_journal.specs.Uptimes.{RiseFrom}
 use Rattle.std.proofs.Common.{◌≡◌, ◌∙◌, ◌==◌, ◌&&◌, ◌||◌, ℕ, zero, suc, ◌+◌, ◌<◌, ◌≤◌, Bool, true}
 use Rattle.std.proofs.Common.{false, List, [], ◌∷◌, length, refl, sym, ap, subst, arith, ⊎_elim}

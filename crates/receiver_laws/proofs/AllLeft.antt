@@ -8,10 +8,10 @@ use Rattle.frame_ending.specs.Walk.{Walker, Noted, noted, walked, emitted, state
 use Rattle.device_model.specs.Frames.{FrameRead}
 use Rattle.line_rules.specs.{Rules.Rules, RulesLaws.IsLawful, RulesLaws.IsHeaded}
 use Rattle.link_format.specs.Profile.{Profile, delay}
-use Rattle.link_walks.proofs.CheckCausality.{checker-causal}
-use Rattle.link_walks.proofs.Past.{past}
-use Rattle.link_walks.specs.Checking.{FullNote, checker, at_floor, passed, received_line}
-use Rattle.link_walks.specs.{Timely.IsTimely, Verdicts.CheckState}
+use Rattle.link_box.proofs.CheckCausality.{checker-causal}
+use Rattle.link_box.proofs.Past.{past}
+use Rattle.link_box.specs.Checking.{FullNote, checker, at_floor, passed, received_line}
+use Rattle.link_box.specs.{Timely.IsTimely, Verdicts.CheckState}
 use Rattle.receiver_laws.proofs.{InStep.free-by, Notes.frames_in, Recovering.left-by}
 use Rattle.receiver_laws.specs.AllLeft.{HasAllLeft, ReadsAllThatPassed}
 use Rattle.receiver_laws.specs.{Reading.ReadsWhatPassed, Reading.delivered, Recovery.LackAtMost}

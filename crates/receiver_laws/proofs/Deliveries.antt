@@ -4,12 +4,12 @@ use Rattle.frame_ending.{proofs.Spread.bursts-spread, proofs.Spread.bursts-end, 
 use Rattle.frame_ending.specs.{Laid.later, Laid.tick_at, Walk.walked, Walk.emitted, Walk.notes_before}
 use Rattle.line_rules.specs.{Rules.Rules, RulesLaws.IsLawful, RulesLaws.IsFramed}
 use Rattle.link_format.specs.Profile.{Profile, HasTags, pause_len, trailer_len, delay}
-use Rattle.link_walks.specs.Checking.{checker, at_floor as check_floor}
+use Rattle.link_box.specs.Checking.{checker, at_floor as check_floor}
 use Rattle.receiver_laws.proofs.{Delivering.PassesAll, Delivering.passes-all, Notes.frames_in}
 use Rattle.receiver_laws.proofs.Packing.{packets, packets-spread, packets-end, SealsAll, seals-all}
 use Rattle.receiver_laws.specs.Untouched.{IsUntouched, DeliversAll, untouched}
-use Rattle.link_walks.proofs.SealNumbers.{frames_in as sealed_frames}
-use Rattle.link_walks.specs.Sealing.{sealer, at_floor as seal_floor, link_line}
+use Rattle.link_box.proofs.SealNumbers.{frames_in as sealed_frames}
+use Rattle.link_box.specs.Sealing.{sealer, at_floor as seal_floor, link_line}
 use Rattle.std.proofs.Common.{◌≡◌, ◌∙◌, ℕ, ◌+◌, ◌-◌, ◌≤◌, List, [], ◌∷◌, ◌++◌, length, map, refl}
 use Rattle.std.proofs.Common.{sym, ap, subst, arith, length-append}
 use Rattle.std.proofs.lemmas.List.{length-replicate, FromFn.length-map-range_with_len}

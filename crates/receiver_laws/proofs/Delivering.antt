@@ -9,14 +9,14 @@ use Rattle.frame_ending.specs.LiveBytes.{live_bytes, live_ticks, has_extra}
 use Rattle.line_rules.specs.{Rules.Rules, RulesLaws.IsLawful, RulesLaws.IsFramed}
 use Rattle.link_format.{proofs.Profiles.length-trailer, specs.NumberedFrame.NumberedFrame}
 use Rattle.link_format.specs.Profile.{Profile, HasTags, pause_len, trailer_len, trailer, words}
-use Rattle.{link_format.specs.Profile.delay, link_walks.proofs.Packets.packet-passes}
-use Rattle.link_walks.specs.Checking.{FullNote, trailer_tick, note_tick, state_by, note_by}
-use Rattle.link_walks.specs.{Checking.checker, Emissions.delayed, Emissions.emission_by}
-use Rattle.link_walks.specs.Verdicts.{CheckState, Verdict, after_live, checked}
-use Rattle.{link_walks.specs.Verdicts.Verdict.passed_with, receiver_laws.proofs.Notes.frames_in}
+use Rattle.{link_format.specs.Profile.delay, link_box.proofs.Packets.packet-passes}
+use Rattle.link_box.specs.Checking.{FullNote, trailer_tick, note_tick, state_by, note_by}
+use Rattle.link_box.specs.{Checking.checker, Emissions.delayed, Emissions.emission_by}
+use Rattle.link_box.specs.Verdicts.{CheckState, Verdict, after_live, checked}
+use Rattle.{link_box.specs.Verdicts.Verdict.passed_with, receiver_laws.proofs.Notes.frames_in}
 use Rattle.receiver_laws.proofs.Packing.{packet, packets, length-trailing}
 use Rattle.receiver_laws.specs.Untouched.{AreSpaced, numbered}
-use Rattle.link_walks.specs.Sealing.{trailing}
+use Rattle.link_box.specs.Sealing.{trailing}
 use Rattle.std.proofs.Common.{◌≡◌, ◌∙◌, ℕ, suc, ◌+◌, ◌<◌, ◌≤◌, true, false, List, [], ◌∷◌, ◌++◌}
 use Rattle.std.proofs.Common.{length, map, drop, take, refl, sym, ap, subst, arith, ⊎_elim}
 use Rattle.std.proofs.Math.{Nat.one-le-pow, Seq.drop-append_seam}

@@ -9,16 +9,16 @@ use Rattle.frame_ending.specs.LiveBytes.{live_bytes, live_ticks, has_extra}
 use Rattle.line_rules.specs.{Rules.Rules, RulesLaws.IsLawful}
 use Rattle.link_format.proofs.Profiles.{length-trailer}
 use Rattle.link_format.specs.Profile.{Profile, HasTags, pause_len, trailer_len, trailer}
-use Rattle.link_walks.proofs.Spoiled.{contiguous-wider}
+use Rattle.link_box.proofs.Spoiled.{contiguous-wider}
 use Rattle.receiver_laws.proofs.Packing.{packet, packet-length, packet-contiguous}
 use Rattle.receiver_laws.proofs.{Parting.same-front, Parting.are-front, Sending.sealed-is}
 use Rattle.receiver_laws.proofs.{Sending.form-from, Sending.spent-from, Settled.laid-longer}
 use Rattle.receiver_laws.proofs.Standing.{AreOn, bursts-on, byte_ticks}
 use Rattle.receiver_laws.specs.Standing.{StandsOn, numbered_frame}
-use Rattle.link_walks.specs.Sealing.{SealState, Judgement, judged, state_by, trailing}
-use Rattle.link_walks.specs.Sealing.{emission_by, sealer, at_floor, link_line}
-use Rattle.link_walks.specs.Sealing.Judgement.{sealed_with, unsealed}
-use Rattle.link_walks.specs.declared.seal_note.UnsealedWhy.TheVariants.{Early, Form, Spent}
+use Rattle.link_box.specs.Sealing.{SealState, Judgement, judged, state_by, trailing}
+use Rattle.link_box.specs.Sealing.{emission_by, sealer, at_floor, link_line}
+use Rattle.link_box.specs.Sealing.Judgement.{sealed_with, unsealed}
+use Rattle.link_box.specs.declared.seal_note.UnsealedWhy.TheVariants.{Early, Form, Spent}
 use Rattle.std.proofs.Common.{◌≡◌, ◌∙◌, ℕ, ◌+◌, ◌<◌, ◌≤◌, false, List, [], ◌∷◌, ◌++◌, length, refl}
 use Rattle.std.proofs.Common.{sym, ap, subst, arith, ⊎_elim, append_assoc, length-append, drop}
 use Rattle.std.proofs.{Math.Seq.drop-append_seam, lemmas.Bool.cases_lt, lemmas.Bool.ltb-false}

@@ -2,8 +2,8 @@
 -- of both boxes, and so over one uptime of each.
 use Rattle.{device_model.specs.Frames.FrameRead, line_rules.specs.Rules.Rules}
 use Rattle.{line_rules.specs.RulesLaws.IsLawful, link_format.specs.NumberedFrame.NumberedFrame}
-use Rattle.{link_format.specs.Profile.Profile, link_walks.specs.Checking.passed}
-use Rattle.{link_walks.specs.Checking.received_line, receiver_laws.proofs.OverUptimes.alone}
+use Rattle.{link_format.specs.Profile.Profile, link_box.specs.Checking.passed}
+use Rattle.{link_box.specs.Checking.received_line, receiver_laws.proofs.OverUptimes.alone}
 use Rattle.receiver_laws.proofs.OverUptimes.{alone-is, alone-go_on, accounted-over, accounted-for}
 use Rattle.receiver_laws.proofs.Subsequences.{front-is, join-is, map-is, chain-is}
 use Rattle.receiver_laws.specs.Accounted.{pairs_of, IsSubsequence, rightly_passed, forged}
@@ -12,7 +12,7 @@ use Rattle.receiver_laws.specs.Headline.{bytes_read, bytes_sealed, ReadsWhatWasS
 use Rattle.receiver_laws.specs.OverUptimes.{BoxUptime, bytes_over, sealed_over, passed_over}
 use Rattle.receiver_laws.specs.OverUptimes.{BothGoOn, ReadsOverUptimes}
 use Rattle.receiver_laws.specs.Reading.{delivered, ReadsWhatPassed}
-use Rattle.link_walks.specs.Sealing.{sealed}
+use Rattle.link_box.specs.Sealing.{sealed}
 use Rattle.std.proofs.Common.{◌≡◌, ◌∙◌, ℕ, Bool, not, List, [], ◌∷◌, ◌++◌, map, refl, sym, ap}
 use Rattle.std.proofs.Common.{subst, ⊎_elim, if◌then◌else◌}
 use Rattle.std.proofs.lemmas.{Bool.cases_Bool, List.map-append, List.append-nil}

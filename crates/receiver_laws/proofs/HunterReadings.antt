@@ -14,15 +14,15 @@ use Rattle.line_rules.specs.Rules.{Rules, head_of, lacking_of, lacking_by}
 use Rattle.line_rules.specs.RulesLaws.{IsLawful, IsHeaded, IsFramed}
 use Rattle.line_rules.specs.{Spoiling.IsSpoiling, declared.head.Head.TheVariants.Good}
 use Rattle.{line_rules.specs.declared.head.Head.TheVariants.Bad, link_format.specs.Profile.Profile}
-use Rattle.link_walks.proofs.{Apart.emissions-spread, Judging.checked-busy}
-use Rattle.link_walks.proofs.{Judging.checked-short, Judging.checked-bad, Passing.passed-passing}
-use Rattle.link_walks.proofs.Spoiled.{spoiled-ended, spoiled-no_frame, filled-contiguous}
-use Rattle.link_walks.specs.Checking.{state_by, checker, at_floor, received_line}
-use Rattle.link_walks.specs.Emissions.{spoiled, owed, filled_ticks, emission_by}
-use Rattle.link_walks.specs.Verdicts.{CheckState, Verdict, checked}
-use Rattle.link_walks.specs.Verdicts.Verdict.{passed_with, refused, dropped}
-use Rattle.link_walks.specs.declared.check_note.DroppedWhy.TheVariants.{Busy, Head as NoHead}
-use Rattle.link_walks.specs.declared.check_note.RefusedWhy.{RefusedWhy}
+use Rattle.link_box.proofs.{Apart.emissions-spread, Judging.checked-busy}
+use Rattle.link_box.proofs.{Judging.checked-short, Judging.checked-bad, Passing.passed-passing}
+use Rattle.link_box.proofs.Spoiled.{spoiled-ended, spoiled-no_frame, filled-contiguous}
+use Rattle.link_box.specs.Checking.{state_by, checker, at_floor, received_line}
+use Rattle.link_box.specs.Emissions.{spoiled, owed, filled_ticks, emission_by}
+use Rattle.link_box.specs.Verdicts.{CheckState, Verdict, checked}
+use Rattle.link_box.specs.Verdicts.Verdict.{passed_with, refused, dropped}
+use Rattle.link_box.specs.declared.check_note.DroppedWhy.TheVariants.{Busy, Head as NoHead}
+use Rattle.link_box.specs.declared.check_note.RefusedWhy.{RefusedWhy}
 use Rattle.receiver_laws.proofs.Hunters.{IsTaken, AreTaken, hunter-laid, timed-silent_ticks}
 use Rattle.receiver_laws.proofs.Readings.{whole, wrong, reads_what_passed}
 use Rattle.receiver_laws.specs.{Hunters.IsHunter, Reading.ReadsWhatPassed}

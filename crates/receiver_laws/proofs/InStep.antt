@@ -8,20 +8,20 @@ use Rattle.line_rules.specs.{Rules.lacking_of, Rules.lacking_by, RulesLaws.IsLaw
 use Rattle.link_format.proofs.Profiles.{length-trailer, word_of-trailer}
 use Rattle.link_format.specs.{NumberedFrame.last_number, Profile.Profile}
 use Rattle.link_format.specs.Profile.{HasTags, pause_len, trailer_len, trailer, words, word_of}
-use Rattle.link_walks.proofs.Passing.{passed-passing, number-within}
-use Rattle.link_walks.proofs.Settling.{trailer_tick-soon}
-use Rattle.link_walks.specs.Checking.{FullNote, state_by, note_by, note_tick, checker}
-use Rattle.link_walks.specs.{Checking.start_after, Emissions.owed}
-use Rattle.link_walks.specs.Verdicts.{CheckState, Verdict, trailer_of, checked}
-use Rattle.link_walks.specs.Verdicts.Verdict.{passed_with, refused, dropped}
+use Rattle.link_box.proofs.Passing.{passed-passing, number-within}
+use Rattle.link_box.proofs.Settling.{trailer_tick-soon}
+use Rattle.link_box.specs.Checking.{FullNote, state_by, note_by, note_tick, checker}
+use Rattle.link_box.specs.{Checking.start_after, Emissions.owed}
+use Rattle.link_box.specs.Verdicts.{CheckState, Verdict, trailer_of, checked}
+use Rattle.link_box.specs.Verdicts.Verdict.{passed_with, refused, dropped}
 use Rattle.receiver_laws.proofs.Delivering.{packet-bytes, packet-ticks, packet-after}
 use Rattle.receiver_laws.proofs.{Notes.frames_in, Notes.unnoted, Packing.packet}
 use Rattle.receiver_laws.proofs.Sending.{IsSealed, sealed-is}
 use Rattle.receiver_laws.proofs.Standing.{byte_ticks, bytes_in-byte_ticks}
-use Rattle.link_walks.specs.Sealing.{SealState, Judgement, judged, sealer, state_by as seal_by}
-use Rattle.link_walks.specs.Sealing.{emission_by as sent_by}
-use Rattle.link_walks.specs.Sealing.Judgement.{sealed_with, unsealed}
-use Rattle.link_walks.specs.declared.seal_note.UnsealedWhy.TheVariants.{Early}
+use Rattle.link_box.specs.Sealing.{SealState, Judgement, judged, sealer, state_by as seal_by}
+use Rattle.link_box.specs.Sealing.{emission_by as sent_by}
+use Rattle.link_box.specs.Sealing.Judgement.{sealed_with, unsealed}
+use Rattle.link_box.specs.declared.seal_note.UnsealedWhy.TheVariants.{Early}
 use Rattle.sequence_journal.{proofs.NumberLaws.least-is, specs.Numbers.least_with}
 use Rattle.std.proofs.Common.{◌≡◌, ◌∙◌, ◌⊎◌, ℕ, ◌+◌, ◌-◌, ◌%◌, ◌<◌, ◌≤◌, List, [], ◌∷◌, ◌++◌}
 use Rattle.std.proofs.Common.{length, take, drop, refl, sym, ap, subst, arith, ⊎_elim, true, false}

@@ -2,9 +2,9 @@
 use Rattle.frame_ending.specs.Longer.{Begins}
 use Rattle.line_rules.specs.{Rules.Rules, RulesLaws.IsLawful, RulesLaws.IsHeaded}
 use Rattle.link_format.specs.Profile.{Profile}
-use Rattle.link_walks.proofs.CheckCausality.{checker-extends}
-use Rattle.link_walks.specs.Checking.{passed_in, at_floor, check_notes, passed}
-use Rattle.{link_walks.specs.Timely.IsTimely, receiver_laws.proofs.Notes.frames_in}
+use Rattle.link_box.proofs.CheckCausality.{checker-extends}
+use Rattle.link_box.specs.Checking.{passed_in, at_floor, check_notes, passed}
+use Rattle.{link_box.specs.Timely.IsTimely, receiver_laws.proofs.Notes.frames_in}
 use Rattle.std.proofs.Common.{◌∙◌, ℕ, List, ◌++◌, ap}
 use Rattle.std.proofs.lemmas.List.Elements.{filter_map-append}
 use Rattle.yasir_ticks.specs.declared.tick.Tick.{Tick}

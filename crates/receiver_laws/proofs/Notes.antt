@@ -1,7 +1,7 @@
 -- The frames that have passed, taken from the notes of a walk.
 use Rattle.frame_ending.{proofs.Walks.before-early, proofs.Walks.before-late, specs.Walk.Noted}
 use Rattle.{frame_ending.specs.Walk.notes_before, link_format.specs.NumberedFrame.NumberedFrame}
-use Rattle.link_walks.specs.Checking.{FullNote, passed_in}
+use Rattle.link_box.specs.Checking.{FullNote, passed_in}
 use Rattle.std.proofs.Common.{◌≡◌, ◌∙◌, ℕ, List, ◌∷◌, ap, ⊎_elim, None}
 use Rattle.std.{proofs.lemmas.Bool.cases_lt, specs.List.cons_option, specs.List.filter_map}
 

@@ -2,12 +2,12 @@
 -- transmitter. So it is for one uptime of each.
 use Rattle.line_rules.specs.{Rules.Rules, RulesLaws.IsLawful}
 use Rattle.link_format.specs.NumberedFrame.{NumberedFrame, numbers_of, last_number}
-use Rattle.{link_format.specs.Profile.Profile, link_walks.specs.Checking.passed}
+use Rattle.{link_format.specs.Profile.Profile, link_box.specs.Checking.passed}
 use Rattle.receiver_laws.proofs.Accounting.{sealed-rise, rising-accounted}
 use Rattle.receiver_laws.{proofs.Rising.have_passed, specs.Accounted.IsAccountedFor}
 use Rattle.receiver_laws.specs.OverUptimes.{BoxUptime, frames_over, GoOnFrom, ShareDisk, BothGoOn}
 use Rattle.receiver_laws.specs.OverUptimes.{sealed_over, passed_over}
-use Rattle.link_walks.specs.Sealing.{sealed}
+use Rattle.link_box.specs.Sealing.{sealed}
 use Rattle.sequence_journal.proofs.UptimeLaws.{rise-lower, rise-append, some_weaker}
 use Rattle.sequence_journal.specs.{Journal.HasFloorAtLeast, Slots.floor_of}
 use Rattle.sequence_journal.specs.Uptimes.{RiseFrom, last_from, HasNoFloorBelow}

@@ -6,10 +6,10 @@ use Rattle.frame_ending.specs.LiveBytes.{live_bytes, live_end}
 use Rattle.line_rules.specs.{Rules.Rules, RulesLaws.IsFramed}
 use Rattle.link_format.{proofs.Profiles.length-trailer, specs.NumberedFrame.NumberedFrame}
 use Rattle.link_format.specs.Profile.{Profile, HasTags, pause_len, trailer_len, trailer}
-use Rattle.link_walks.proofs.{Packets.packet-passes, Settling.after-long}
-use Rattle.link_walks.specs.Checking.{FullNote, note_tick, note_by, state_by, checker, at_floor}
-use Rattle.link_walks.specs.{Checking.passed_in, Checking.passed, Packet.IsPacket}
-use Rattle.link_walks.specs.Verdicts.{CheckState, after_live, checked, Verdict.passed_with}
+use Rattle.link_box.proofs.{Packets.packet-passes, Settling.after-long}
+use Rattle.link_box.specs.Checking.{FullNote, note_tick, note_by, state_by, checker, at_floor}
+use Rattle.link_box.specs.{Checking.passed_in, Checking.passed, Packet.IsPacket}
+use Rattle.link_box.specs.Verdicts.{CheckState, after_live, checked, Verdict.passed_with}
 use Rattle.receiver_laws.proofs.{Notes.frames_in, Standing.byte_ticks}
 use Rattle.receiver_laws.specs.Standing.{numbered_frame}
 use Rattle.std.proofs.Common.{◌≡◌, ◌∙◌, ℕ, ◌+◌, ◌<◌, ◌≤◌, List, [], ◌∷◌, ◌++◌, length, refl, sym}

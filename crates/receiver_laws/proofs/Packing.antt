@@ -7,10 +7,10 @@ use Rattle.line_rules.specs.{Rules.Rules, RulesLaws.IsLawful}
 use Rattle.link_format.{proofs.Profiles.length-trailer, specs.NumberedFrame.NumberedFrame}
 use Rattle.link_format.specs.Profile.{Profile, HasTags, pause_len, trailer_len, trailer}
 use Rattle.receiver_laws.specs.Untouched.{AreSpaced, numbered}
-use Rattle.link_walks.proofs.SealCausality.{judge_by, judged-is}
-use Rattle.link_walks.proofs.SealNumbers.{frames_in}
-use Rattle.link_walks.specs.Sealing.{SealState, FullNote, judged, state_by, note_by, forwarded}
-use Rattle.link_walks.specs.Sealing.{trailing, emission_by, sealer, Judgement.sealed_with}
+use Rattle.link_box.proofs.SealCausality.{judge_by, judged-is}
+use Rattle.link_box.proofs.SealNumbers.{frames_in}
+use Rattle.link_box.specs.Sealing.{SealState, FullNote, judged, state_by, note_by, forwarded}
+use Rattle.link_box.specs.Sealing.{trailing, emission_by, sealer, Judgement.sealed_with}
 use Rattle.std.proofs.Common.{◌≡◌, ◌∙◌, ◌==◌, ℕ, suc, ◌+◌, ◌<◌, ◌≤◌, nat_lt, ◌||◌, true, false, not}
 use Rattle.std.proofs.Common.{List, [], ◌∷◌, ◌++◌, length, map, refl, sym, ap, subst, arith}
 use Rattle.std.proofs.Common.{append_assoc, length-append}

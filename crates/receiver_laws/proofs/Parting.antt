@@ -1,6 +1,6 @@
 -- The bursts of a part of a line: of its front, and of what comes after silent ticks that divide
 -- two bursts.
-use Rattle.{frame_ending.proofs.Spread.AreSpread, link_walks.proofs.Spoiled.contiguous-some}
+use Rattle.{frame_ending.proofs.Spread.AreSpread, link_box.proofs.Spoiled.contiguous-some}
 use Rattle.std.proofs.Common.{◌≡◌, ◌∙◌, ℕ, zero, suc, ◌+◌, ◌-◌, ◌<◌, ◌≤◌, List, [], ◌∷◌, ◌++◌}
 use Rattle.std.proofs.Common.{length, take, drop, refl, sym, ap, subst, arith, ⊎_elim, append_assoc}
 use Rattle.std.proofs.{Common.length-append, Common.get_or, Math.Seq.take-append_seam}

@@ -1,7 +1,7 @@
 -- A line in which silent ticks divide two bursts: which of its bursts are before them, and which
 -- after.
 use Rattle.frame_ending.proofs.Spread.{AreSpread, EndBy}
-use Rattle.link_walks.proofs.Spoiled.{contiguous-some}
+use Rattle.link_box.proofs.Spoiled.{contiguous-some}
 use Rattle.receiver_laws.proofs.Parting.{bursts-parted, StartBefore, take-append-add}
 use Rattle.{receiver_laws.specs.Recovery.first_quiet, std.proofs.Common.◌≡◌}
 use Rattle.std.proofs.Common.{◌∙◌, ℕ, zero, suc, ◌+◌, ◌-◌, ◌<◌, ◌≤◌, List, [], ◌∷◌, ◌++◌, length}

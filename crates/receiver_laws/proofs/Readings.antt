@@ -9,14 +9,14 @@ use Rattle.frame_ending.proofs.LiveTicks.{live_ticks-bytes, live_end-within}
 use Rattle.frame_ending.specs.LiveBytes.{live_bytes, live_ticks, live_end}
 use Rattle.line_rules.specs.{Rules.Rules, RulesLaws.IsLawful}
 use Rattle.link_format.specs.Profile.{Profile, delay}
-use Rattle.link_walks.proofs.Apart.{emissions-spread}
-use Rattle.link_walks.specs.Checking.{FullNote, note_tick, state_by, note_by, checker, at_floor}
-use Rattle.link_walks.specs.Checking.{received_line}
-use Rattle.link_walks.specs.Emissions.{spoiled, filled_ticks, delayed, emission_by}
-use Rattle.link_walks.specs.Verdicts.{CheckState, Verdict, checked}
-use Rattle.link_walks.specs.Verdicts.Verdict.{passed_with, refused, dropped}
-use Rattle.link_walks.specs.declared.check_note.DroppedWhy.{DroppedWhy}
-use Rattle.link_walks.specs.declared.check_note.RefusedWhy.{RefusedWhy}
+use Rattle.link_box.proofs.Apart.{emissions-spread}
+use Rattle.link_box.specs.Checking.{FullNote, note_tick, state_by, note_by, checker, at_floor}
+use Rattle.link_box.specs.Checking.{received_line}
+use Rattle.link_box.specs.Emissions.{spoiled, filled_ticks, delayed, emission_by}
+use Rattle.link_box.specs.Verdicts.{CheckState, Verdict, checked}
+use Rattle.link_box.specs.Verdicts.Verdict.{passed_with, refused, dropped}
+use Rattle.link_box.specs.declared.check_note.DroppedWhy.{DroppedWhy}
+use Rattle.link_box.specs.declared.check_note.RefusedWhy.{RefusedWhy}
 use Rattle.receiver_laws.proofs.Notes.{frames_in, unnoted}
 use Rattle.receiver_laws.specs.Reading.{delivered, delivered_of, ReadsWhatPassed}
 use Rattle.std.proofs.Common.{◌≡◌, ◌∙◌, ℕ, ◌+◌, ◌<◌, ◌≤◌, Bool, true, false, cond, List, [], ◌∷◌}

@@ -9,8 +9,8 @@ use Rattle.line_rules.specs.{Bytes.AreBytes, Rules.Rules, RulesLaws.IsLawful, Ru
 use Rattle.link_format.proofs.Profiles.{length-trailer}
 use Rattle.link_format.specs.NumberedFrame.{NumberedFrame, last_number}
 use Rattle.link_format.specs.Profile.{Profile, HasTags, pause_len, trailer_len, trailer, delay}
-use Rattle.link_walks.specs.Checking.{checker, at_floor as check_floor_at, passed}
-use Rattle.link_walks.specs.{Packet.IsPacket, Verdicts.CheckState}
+use Rattle.link_box.specs.Checking.{checker, at_floor as check_floor_at, passed}
+use Rattle.link_box.specs.{Packet.IsPacket, Verdicts.CheckState}
 use Rattle.receiver_laws.proofs.Delivering.{packet-bytes, packet-after}
 use Rattle.receiver_laws.proofs.Emitting.{link-bursts, stands-within}
 use Rattle.receiver_laws.proofs.InStep.{InStep, stay-in_step, floor-so-far, HaveLeft, free-by}
@@ -26,11 +26,11 @@ use Rattle.receiver_laws.proofs.Standing.{AreOn, bursts-on, ticks-behind, ticks-
 use Rattle.receiver_laws.specs.Recovery.{all_sealed, floor_after, BeginsPacket, first_quiet}
 use Rattle.receiver_laws.specs.Recovery.{IsLeftAlone, LackAtMost, IsDue, Recovers}
 use Rattle.receiver_laws.specs.Standing.{StandsOn, numbered_frame}
-use Rattle.link_walks.specs.Sealing.{SealState, Judgement, judged, sealer, link_line}
-use Rattle.link_walks.specs.Sealing.{at_floor as seal_floor_at, trailing, forwarded}
-use Rattle.link_walks.specs.Sealing.{state_by as seal_by, emission_by as sent_by}
-use Rattle.link_walks.specs.Sealing.Judgement.{sealed_with, unsealed}
-use Rattle.link_walks.specs.declared.seal_note.UnsealedWhy.TheVariants.{Early, Form, Spent}
+use Rattle.link_box.specs.Sealing.{SealState, Judgement, judged, sealer, link_line}
+use Rattle.link_box.specs.Sealing.{at_floor as seal_floor_at, trailing, forwarded}
+use Rattle.link_box.specs.Sealing.{state_by as seal_by, emission_by as sent_by}
+use Rattle.link_box.specs.Sealing.Judgement.{sealed_with, unsealed}
+use Rattle.link_box.specs.declared.seal_note.UnsealedWhy.TheVariants.{Early, Form, Spent}
 use Rattle.std.proofs.Common.{◌≡◌, ◌∙◌, ℕ, ◌+◌, ◌<◌, ◌≤◌, List, [], ◌∷◌, ◌++◌, length, take, drop}
 use Rattle.std.proofs.Common.{refl, sym, ap, subst, arith, ⊎_elim, append_assoc, inl, inr}
 use Rattle.std.proofs.lemmas.{Bool.eqb-false, List.length-take, List.take_all, List.length-drop}

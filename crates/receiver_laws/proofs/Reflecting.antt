@@ -5,18 +5,18 @@ use Rattle.frame_ending.proofs.Walks.{before-early, before-late}
 use Rattle.frame_ending.specs.Walk.{Noted, noted, walked, emitted, notes_before, notes_of}
 use Rattle.frame_ending.proofs.LiveTicks.{live_ticks-bytes, live_ticks-contiguous}
 use Rattle.frame_ending.specs.LiveBytes.{has_pause, live_bytes, live_ticks, has_extra}
-use Rattle.{hmac_tag.specs.Tag.tag_text, line_rules.specs.Rules.Rules}
+use Rattle.{link_format.specs.Tag.tag_text, line_rules.specs.Rules.Rules}
 use Rattle.line_rules.specs.RulesLaws.{IsLawful, IsHeaded, IsFramed}
 use Rattle.link_format.proofs.Profiles.{length-trailer, word_of-trailer}
 use Rattle.link_format.specs.{NumberedFrame.NumberedFrame, Profile.Profile}
 use Rattle.link_format.specs.Profile.{HasTags, pause_len, trailer_len, trailer, words, word_of}
-use Rattle.link_walks.proofs.CheckCausality.{checker-causal}
-use Rattle.link_walks.proofs.Passing.{IsPassing, passed-passing, number-within}
-use Rattle.link_walks.specs.Checking.{note_tick, note_by as check_note, state_by as check_state}
-use Rattle.link_walks.specs.Checking.{FullNote, checker, at_floor as check_floor_of, passed}
-use Rattle.link_walks.specs.{Timely.IsTimely, Verdicts.CheckState}
-use Rattle.link_walks.specs.Verdicts.{Verdict, after_live, trailer_of, tag_in, checked}
-use Rattle.link_walks.specs.Verdicts.Verdict.{passed_with, refused, dropped}
+use Rattle.link_box.proofs.CheckCausality.{checker-causal}
+use Rattle.link_box.proofs.Passing.{IsPassing, passed-passing, number-within}
+use Rattle.link_box.specs.Checking.{note_tick, note_by as check_note, state_by as check_state}
+use Rattle.link_box.specs.Checking.{FullNote, checker, at_floor as check_floor_of, passed}
+use Rattle.link_box.specs.{Timely.IsTimely, Verdicts.CheckState}
+use Rattle.link_box.specs.Verdicts.{Verdict, after_live, trailer_of, tag_in, checked}
+use Rattle.link_box.specs.Verdicts.Verdict.{passed_with, refused, dropped}
 use Rattle.receiver_laws.proofs.CutLinks.{notes-settled}
 use Rattle.receiver_laws.proofs.Delivering.{packet-bytes, packet-ticks, packet-after}
 use Rattle.receiver_laws.proofs.Emitting.{its, longer, longer-are, longer-is, link-length}
@@ -27,12 +27,12 @@ use Rattle.receiver_laws.proofs.Standing.{bytes_in-byte_ticks, shape-kept}
 use Rattle.receiver_laws.specs.{Accounted.forged, Fitting.IsFit}
 use Rattle.receiver_laws.specs.Reflected.{with_tags, numbered_as, TagsMatch, IsReflected}
 use Rattle.receiver_laws.specs.Standing.{StandsOn, numbered_frame}
-use Rattle.link_walks.proofs.SealNumbers.{frames_in as sealed_frames}
-use Rattle.link_walks.specs.Sealing.{SealState, Judgement, judged, state_by, forwarded}
-use Rattle.link_walks.specs.Sealing.{emission_by, note_by, sealed_in, sealer, at_floor}
-use Rattle.link_walks.specs.Sealing.{link_line, sealed, FullNote as SealedNote}
-use Rattle.link_walks.specs.Sealing.Judgement.{sealed_with, unsealed}
-use Rattle.link_walks.specs.declared.seal_note.UnsealedWhy.TheVariants.{Early, Form, Spent}
+use Rattle.link_box.proofs.SealNumbers.{frames_in as sealed_frames}
+use Rattle.link_box.specs.Sealing.{SealState, Judgement, judged, state_by, forwarded}
+use Rattle.link_box.specs.Sealing.{emission_by, note_by, sealed_in, sealer, at_floor}
+use Rattle.link_box.specs.Sealing.{link_line, sealed, FullNote as SealedNote}
+use Rattle.link_box.specs.Sealing.Judgement.{sealed_with, unsealed}
+use Rattle.link_box.specs.declared.seal_note.UnsealedWhy.TheVariants.{Early, Form, Spent}
 use Rattle.sequence_journal.proofs.NumberLaws.{least-is}
 use Rattle.std.proofs.Common.{◌≡◌, ◌∙◌, ℕ, zero, suc, ◌+◌, ◌%◌, ◌<◌, ◌≤◌, true, false, List, []}
 use Rattle.std.proofs.Common.{◌∷◌, ◌++◌, length, take, drop, refl, sym, ap, subst, arith, ⊎_elim}

@@ -3,11 +3,11 @@ use Rattle.frame_ending.proofs.Walks.{before-early, before-late}
 use Rattle.frame_ending.specs.Walk.{Noted, walked, notes_before}
 use Rattle.line_rules.specs.{Rules.Rules, RulesLaws.IsLawful}
 use Rattle.link_format.specs.NumberedFrame.{NumberedFrame, numbers_of}
-use Rattle.{link_format.specs.Profile.Profile, link_walks.proofs.Passing.passed-passing}
-use Rattle.link_walks.{proofs.Passing.number-within, specs.Checking.FullNote}
-use Rattle.link_walks.specs.Checking.{note_tick, state_by, note_by, checker, at_floor, passed}
-use Rattle.link_walks.specs.Verdicts.{CheckState, Verdict, trailer_of, checked}
-use Rattle.link_walks.specs.Verdicts.Verdict.{passed_with, refused, dropped}
+use Rattle.{link_format.specs.Profile.Profile, link_box.proofs.Passing.passed-passing}
+use Rattle.link_box.{proofs.Passing.number-within, specs.Checking.FullNote}
+use Rattle.link_box.specs.Checking.{note_tick, state_by, note_by, checker, at_floor, passed}
+use Rattle.link_box.specs.Verdicts.{CheckState, Verdict, trailer_of, checked}
+use Rattle.link_box.specs.Verdicts.Verdict.{passed_with, refused, dropped}
 use Rattle.receiver_laws.proofs.Notes.{frames_in, unnoted}
 use Rattle.receiver_laws.proofs.Standing.{AreOn, bursts-on, stands-on}
 use Rattle.receiver_laws.specs.Standing.{StandsOn, HavePassed, numbered_frame}

@@ -4,12 +4,12 @@ use Rattle.device_model.specs.RtuReads.{is_frame_body, frames_read}
 use Rattle.frame_ending.proofs.LiveTicks.{live_ticks-bytes, live_ticks-contiguous}
 use Rattle.frame_ending.specs.LiveBytes.{live_ticks}
 use Rattle.link_format.specs.Profile.{Profile, delay}
-use Rattle.link_walks.proofs.{Apart.emissions-spread, Passing.passed-passing}
-use Rattle.link_walks.proofs.Spoiled.{spoiled-contiguous, spoiled-no_frame, filled-contiguous}
-use Rattle.link_walks.specs.Checking.{checker, at_floor, received_line}
-use Rattle.link_walks.specs.Emissions.{spoiled, filled_ticks}
-use Rattle.link_walks.specs.Verdicts.{CheckState, checked, Verdict.passed_with, Verdict.refused}
-use Rattle.link_walks.specs.declared.check_note.RefusedWhy.{RefusedWhy}
+use Rattle.link_box.proofs.{Apart.emissions-spread, Passing.passed-passing}
+use Rattle.link_box.proofs.Spoiled.{spoiled-contiguous, spoiled-no_frame, filled-contiguous}
+use Rattle.link_box.specs.Checking.{checker, at_floor, received_line}
+use Rattle.link_box.specs.Emissions.{spoiled, filled_ticks}
+use Rattle.link_box.specs.Verdicts.{CheckState, checked, Verdict.passed_with, Verdict.refused}
+use Rattle.link_box.specs.declared.check_note.RefusedWhy.{RefusedWhy}
 use Rattle.receiver_laws.proofs.{Calm.contiguous-calm, Readings.whole, Readings.wrong}
 use Rattle.receiver_laws.proofs.{Readings.reads_what_passed, Settled.reads_with, Settled.reads-laid}
 use Rattle.receiver_laws.specs.Reading.{ReadsWhatPassed}

@@ -6,12 +6,12 @@ use Rattle.frame_ending.specs.LiveBytes.{live_bytes, has_extra}
 use Rattle.line_rules.specs.Rules.{Rules}
 use Rattle.link_format.specs.{NumberedFrame.NumberedFrame, Profile.Profile}
 use Rattle.receiver_laws.{proofs.Packing.packet, specs.Standing.numbered_frame}
-use Rattle.link_walks.proofs.SealCausality.{judge_by, judged-is}
-use Rattle.link_walks.proofs.SealNumbers.{frames_in}
-use Rattle.link_walks.specs.Sealing.{SealState, FullNote, Judgement, judged, state_by, note_by}
-use Rattle.link_walks.specs.Sealing.{forwarded, emission_by, sealer}
-use Rattle.link_walks.specs.Sealing.Judgement.{sealed_with, unsealed}
-use Rattle.link_walks.specs.declared.seal_note.UnsealedWhy.TheVariants.{Early, Form, Spent}
+use Rattle.link_box.proofs.SealCausality.{judge_by, judged-is}
+use Rattle.link_box.proofs.SealNumbers.{frames_in}
+use Rattle.link_box.specs.Sealing.{SealState, FullNote, Judgement, judged, state_by, note_by}
+use Rattle.link_box.specs.Sealing.{forwarded, emission_by, sealer}
+use Rattle.link_box.specs.Sealing.Judgement.{sealed_with, unsealed}
+use Rattle.link_box.specs.declared.seal_note.UnsealedWhy.TheVariants.{Early, Form, Spent}
 use Rattle.std.proofs.Common.{◌≡◌, ◌∙◌, ◌==◌, ◌⊎◌, inl, inr, ℕ, zero, suc, ◌+◌, ◌≤◌, nat_lt, Bool}
 use Rattle.std.proofs.Common.{true, false, not, ◌||◌, List, [], ◌∷◌, ◌++◌, drop, refl, sym, ap}
 use Rattle.std.proofs.Common.{subst, arith, ⊎_elim, get_or}

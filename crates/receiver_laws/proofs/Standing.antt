@@ -4,8 +4,8 @@ use Rattle.frame_ending.proofs.LiveTicks.{live_ticks-bytes, live_ticks-contiguou
 use Rattle.frame_ending.specs.LiveBytes.{up_to_byte, live_bytes, live_ticks}
 use Rattle.line_rules.specs.{Bytes.AreBytes, Rules.Rules, RulesLaws.IsLawful}
 use Rattle.link_format.specs.Profile.{Profile, pause_len, trailer_len, trailer, words, word_of}
-use Rattle.link_walks.{proofs.Passing.IsPassing, proofs.Passing.number-within, specs.Shapes.kept}
-use Rattle.link_walks.specs.Verdicts.{CheckState, after_live, trailer_of}
+use Rattle.link_box.{proofs.Passing.IsPassing, proofs.Passing.number-within, specs.Shapes.kept}
+use Rattle.link_box.specs.Verdicts.{CheckState, after_live, trailer_of}
 use Rattle.receiver_laws.proofs.Words.{byte-places, word-bytes}
 use Rattle.receiver_laws.specs.Standing.{StandsOn}
 use Rattle.sequence_journal.{proofs.NumberLaws.least-is, specs.Numbers.least_with}

@@ -5,8 +5,8 @@ use Rattle.device_model.specs.{Frames.FrameRead, RtuReads.has_silence, RtuReads.
 use Rattle.frame_ending.specs.LiveBytes.{before_pause, up_to_byte}
 use Rattle.line_rules.specs.Crc.{crc, byte_step, bit_steps, bit_step}
 use Rattle.{line_rules.specs.Endings.ends_in_check, link_format.specs.Profile.Profile}
-use Rattle.link_walks.specs.{Checking.received_line, Emissions.spoiled, Shapes.kept}
-use Rattle.link_walks.specs.Verdicts.{verdict_of, checked}
+use Rattle.link_box.specs.{Checking.received_line, Emissions.spoiled, Shapes.kept}
+use Rattle.link_box.specs.Verdicts.{verdict_of, checked}
 use Rattle.receiver_laws.proofs.Settled.{reads_with}
 use Rattle.rtu_frame.specs.{Frame.is_frame, Frame.has_right_ending, Rules.rtu_rules}
 use Rattle.std.proofs.Common.{◌≡◌, ℕ, List, [], ◌∷◌, ◌++◌, map, take, replicate, refl}

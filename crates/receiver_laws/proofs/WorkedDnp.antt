@@ -8,8 +8,8 @@ use Rattle.dnp_link_frame.specs.Rules.{dnp_rules}
 use Rattle.frame_ending.specs.LiveBytes.{before_pause, up_to_byte}
 use Rattle.line_rules.specs.Crc.{crc, byte_step, bit_steps, bit_step}
 use Rattle.{line_rules.specs.Endings.ends_in_check, link_format.specs.Profile.Profile}
-use Rattle.link_walks.specs.{Checking.received_line, Emissions.spoiled, Shapes.kept}
-use Rattle.link_walks.specs.Verdicts.{verdict_of, checked}
+use Rattle.link_box.specs.{Checking.received_line, Emissions.spoiled, Shapes.kept}
+use Rattle.link_box.specs.Verdicts.{verdict_of, checked}
 use Rattle.std.proofs.Common.{◌≡◌, ℕ, List, [], ◌∷◌, ◌++◌, map, take, replicate, refl}
 use Rattle.yasir_ticks.specs.{Bursts.bursts_from, Bursts.with_byte, Ticks.silent}
 use Rattle.yasir_ticks.specs.declared.tick.Tick.{Tick, TheVariants.Byte}

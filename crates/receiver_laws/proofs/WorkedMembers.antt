@@ -9,8 +9,8 @@ use Rattle.frame_ending.specs.LiveBytes.{before_pause, up_to_byte}
 use Rattle.line_rules.specs.Crc.{crc, byte_step, bit_steps, bit_step}
 use Rattle.line_rules.specs.{Endings.ends_in_check, Rules.Rules}
 use Rattle.link_format.specs.Profile.{Profile}
-use Rattle.link_walks.specs.{Checking.passed, Checking.received_line, Emissions.spoiled}
-use Rattle.link_walks.specs.{Shapes.kept, Verdicts.verdict_of, Verdicts.checked}
+use Rattle.link_box.specs.{Checking.passed, Checking.received_line, Emissions.spoiled}
+use Rattle.link_box.specs.{Shapes.kept, Verdicts.verdict_of, Verdicts.checked}
 use Rattle.rtu_frame.specs.Frame.{is_frame as is_rtu_frame, has_right_ending as ends_rightly}
 use Rattle.rtu_frame.specs.Rules.{rtu_rules}
 use Rattle.std.proofs.Common.{◌≡◌, ℕ, List, [], ◌∷◌, ◌++◌, map, refl}

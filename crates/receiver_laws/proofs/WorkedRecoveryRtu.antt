@@ -7,16 +7,16 @@ use Rattle.frame_ending.specs.LiveBytes.{before_pause, up_to_byte}
 use Rattle.line_rules.specs.Crc.{crc, byte_step, bit_steps, bit_step}
 use Rattle.line_rules.specs.Endings.{ends_in_check}
 use Rattle.link_format.specs.{NumberedFrame.NumberedFrame, Profile.Profile}
-use Rattle.link_walks.specs.Checking.{FullNote, check_notes, received_line}
-use Rattle.link_walks.specs.Checking.FullNote.{passed_note, refused_note, dropped_note}
-use Rattle.link_walks.specs.{Emissions.spoiled, Shapes.kept, Verdicts.verdict_of}
-use Rattle.link_walks.specs.Verdicts.{checked}
-use Rattle.link_walks.specs.declared.check_note.DroppedWhy.TheVariants.{Busy}
-use Rattle.link_walks.specs.declared.check_note.RefusedWhy.TheVariants.{Trailer}
+use Rattle.link_box.specs.Checking.{FullNote, check_notes, received_line}
+use Rattle.link_box.specs.Checking.FullNote.{passed_note, refused_note, dropped_note}
+use Rattle.link_box.specs.{Emissions.spoiled, Shapes.kept, Verdicts.verdict_of}
+use Rattle.link_box.specs.Verdicts.{checked}
+use Rattle.link_box.specs.declared.check_note.DroppedWhy.TheVariants.{Busy}
+use Rattle.link_box.specs.declared.check_note.RefusedWhy.TheVariants.{Trailer}
 use Rattle.receiver_laws.proofs.Packing.{contiguous-bytes}
 use Rattle.receiver_laws.specs.Recovery.{all_sealed, floor_after, BeginsPacket, IsLeftAlone, IsDue}
 use Rattle.rtu_frame.specs.{Frame.is_frame, Frame.has_right_ending, Rules.rtu_rules}
-use Rattle.link_walks.specs.Sealing.{judged, link_line}
+use Rattle.link_box.specs.Sealing.{judged, link_line}
 use Rattle.std.proofs.Common.{◌≡◌, ◌≤◌, ◌<◌, ℕ, List, [], ◌∷◌, ◌++◌, map, take, drop, replicate}
 use Rattle.std.proofs.Common.{refl, sym, ap, subst, arith, get_or, ◌∙◌}
 use Rattle.std.proofs.lemmas.List.{get_or_past, Elements.All-nil, Elements.All-cons}

@@ -5,13 +5,13 @@ use Rattle.{device_model.specs.RtuReads.rtu_reads, frame_ending.specs.LiveBytes.
 use Rattle.{frame_ending.specs.LiveBytes.up_to_byte, line_rules.specs.Crc.crc}
 use Rattle.line_rules.specs.{Crc.byte_step, Crc.bit_steps, Crc.bit_step, Endings.ends_in_check}
 use Rattle.link_format.specs.NumberedFrame.{NumberedFrame, numbers_of, last_number}
-use Rattle.link_walks.specs.{Checking.passed, Checking.received_line, Emissions.spoiled}
-use Rattle.link_walks.specs.{Shapes.kept, Verdicts.verdict_of, Verdicts.checked}
+use Rattle.link_box.specs.{Checking.passed, Checking.received_line, Emissions.spoiled}
+use Rattle.link_box.specs.{Shapes.kept, Verdicts.verdict_of, Verdicts.checked}
 use Rattle.receiver_laws.proofs.Worked.{READ_TEN_REGISTERS, on_line, profile}
 use Rattle.receiver_laws.specs.{Accounted.forged, OverUptimes.BoxUptime, OverUptimes.sealed_over}
 use Rattle.receiver_laws.specs.OverUptimes.{passed_over, bytes_over, ShareDisk, GoOnFrom}
 use Rattle.rtu_frame.specs.{Frame.is_frame, Frame.has_right_ending, Rules.rtu_rules}
-use Rattle.link_walks.specs.Sealing.{judged, link_line, sealed}
+use Rattle.link_box.specs.Sealing.{judged, link_line, sealed}
 use Rattle.sequence_journal.proofs.{FloorLaws.floor_beside, SlotLemmas.held}
 use Rattle.sequence_journal.specs.Slots.{slot_bytes, old_slot_bytes, old_number_held, greater}
 use Rattle.sequence_journal.specs.Slots.{own_floor, old_floor, floor_of}

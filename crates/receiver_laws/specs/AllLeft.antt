@@ -6,7 +6,7 @@ use Rattle.yasir_ticks.specs.declared.tick.Tick.{Tick}
 use Rattle.line_rules.specs.Rules.{Rules}
 use Rattle.device_model.specs.Frames.{FrameRead}
 use Rattle.link_format.specs.Profile.{Profile}
-use Rattle.link_walks.specs.Checking.{passed, received_line}
+use Rattle.link_box.specs.Checking.{passed, received_line}
 use Rattle.receiver_laws.specs.Reading.{delivered_of}
 
 -- Holds if `rest` silent ticks after the link are enough for all to leave: with `more` of them the

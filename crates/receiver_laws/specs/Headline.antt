@@ -5,8 +5,8 @@ use Rattle.line_rules.specs.Rules.{Rules}
 use Rattle.device_model.specs.Frames.{FrameRead}
 use Rattle.link_format.specs.NumberedFrame.{NumberedFrame}
 use Rattle.link_format.specs.Profile.{Profile}
-use Rattle.link_walks.specs.Sealing.{sealed}
-use Rattle.link_walks.specs.Checking.{passed, received_line}
+use Rattle.link_box.specs.Sealing.{sealed}
+use Rattle.link_box.specs.Checking.{passed, received_line}
 use Rattle.receiver_laws.specs.Accounted.{IsSubsequence, IsAccountedFor, forged}
 use Rattle.receiver_laws.specs.Reading.{ReadsWhatPassed}
 

@@ -10,8 +10,8 @@ use Rattle.sequence_journal.specs.Slots.{floor_of}
 use Rattle.sequence_journal.specs.Uptimes.{IsUptime, IsIdle}
 use Rattle.link_format.specs.NumberedFrame.{NumberedFrame, numbers_of, last_number}
 use Rattle.link_format.specs.Profile.{Profile}
-use Rattle.link_walks.specs.Sealing.{sealed}
-use Rattle.link_walks.specs.Checking.{passed, received_line}
+use Rattle.link_box.specs.Sealing.{sealed}
+use Rattle.link_box.specs.Checking.{passed, received_line}
 use Rattle.receiver_laws.specs.Accounted.{IsSubsequence, IsAccountedFor, forged}
 use Rattle.receiver_laws.specs.Headline.{bytes_read, bytes_sealed}
 

@@ -7,7 +7,7 @@ use Rattle.device_model.specs.Frames.{FrameRead}
 use Rattle.frame_ending.specs.Longer.{Begins}
 use Rattle.link_format.specs.Profile.{Profile, delay}
 use Rattle.link_format.specs.NumberedFrame.{NumberedFrame}
-use Rattle.link_walks.specs.Checking.{passed, received_line}
+use Rattle.link_box.specs.Checking.{passed, received_line}
 
 -- a passed frame as the device reads it, the receiver's delay later
 abbrev pub delivered : Profile → NumberedFrame → FrameRead

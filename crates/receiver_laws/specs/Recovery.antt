@@ -11,8 +11,8 @@ use Rattle.line_rules.specs.Bytes.{AreBytes}
 use Rattle.line_rules.specs.Rules.{Rules, lacking_of}
 use Rattle.link_format.specs.NumberedFrame.{NumberedFrame, last_number}
 use Rattle.link_format.specs.Profile.{Profile, words, delay}
-use Rattle.link_walks.specs.Sealing.{link_line, sealed}
-use Rattle.link_walks.specs.Checking.{passed}
+use Rattle.link_box.specs.Sealing.{link_line, sealed}
+use Rattle.link_box.specs.Checking.{passed}
 use Rattle.receiver_laws.specs.Standing.{StandsOn}
 
 -- the frames that the transmitter seals of this line once its last burst is closed

@@ -10,8 +10,8 @@ use Rattle.line_rules.specs.Rules.{Rules}
 use Rattle.frame_ending.specs.LiveBytes.{live_bytes, has_extra}
 use Rattle.link_format.specs.NumberedFrame.{NumberedFrame}
 use Rattle.link_format.specs.Profile.{Profile, pause_len, trailer_len, words, delay}
-use Rattle.link_walks.specs.Sealing.{link_line, sealed}
-use Rattle.link_walks.specs.Checking.{received_line, passed}
+use Rattle.link_box.specs.Sealing.{link_line, sealed}
+use Rattle.link_box.specs.Checking.{received_line, passed}
 use Rattle.receiver_laws.specs.Standing.{numbered_frame}
 
 -- Holds if all bytes of each of these bursts are live and are a frame, no burst starts before tick

@@ -9,7 +9,7 @@ ghost use Rattle.rtu_frame.specs.Rules.{rtu_rules};
 ghost use Rattle.device_model.specs.DnpReads.{dnp_reads};
 ghost use Rattle.device_model.specs.RtuReads.{rtu_reads};
 ghost use Rattle.link_format.specs.Profile.{Profile, delay};
-ghost use Rattle.link_walks.specs.Timely.{IsTimely};
+ghost use Rattle.link_box.specs.Timely.{IsTimely};
 ghost use Rattle.receiver_laws.specs.AllLeft.{HasAllLeft, ReadsAllThatPassed};
 ghost use Rattle.receiver_laws.specs.Recovery.{LackAtMost};
 

@@ -1,11 +1,11 @@
 //! The law that a link which is sent back the way it came passes nothing.
 ghost use Rattle.std.specs.Prelude.{◌≡◌, ◌≢◌, ℕ, List, [], All, Contains};
 ghost use Rattle.yasir_ticks.specs.declared.tick.Tick.{Tick};
-ghost use Rattle.hmac_tag.specs.Tag.{tag_text};
+ghost use Rattle.link_format.specs.Tag.{tag_text};
 ghost use Rattle.link_format.specs.NumberedFrame.{NumberedFrame};
 ghost use Rattle.link_format.specs.Profile.{Profile};
-ghost use Rattle.link_walks.specs.Sealing.{link_line, sealed};
-ghost use Rattle.link_walks.specs.Checking.{passed};
+ghost use Rattle.link_box.specs.Sealing.{link_line, sealed};
+ghost use Rattle.link_box.specs.Checking.{passed};
 ghost use Rattle.receiver_laws.specs.Accounted.{forged};
 ghost use Rattle.receiver_laws.specs.Fitting.{IsFit};
 ghost use Rattle.receiver_laws.specs.Reflected.{with_tags, TagsMatch, IsReflected};

@@ -1,12 +1,11 @@
 //! Bounds on the size of both boxes: besides its parts, neither has room for the longest frame.
 use check_receiver::Checker;
-use delay_ring::DelayRing;
 use dnp_link_frame::Dnp;
-use hmac_tag::{HmacSha1, HmacSha256};
-use line_rules::LineRules;
+use line_rules::{LineRules, Outlet};
+use link_format::{HmacSha1, HmacSha256};
 use rtu_frame::Rtu;
 use seal_transmitter::Sealer;
-use spoiler::Outlet;
+use yasir_ticks::DelayRing;
 
 // Room for the longest frame would take 256 bytes in the rules of Modbus RTU, and 292 in a box. A
 // box has at most this many bytes besides those of its parts.

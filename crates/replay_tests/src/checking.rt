@@ -6,7 +6,7 @@ use crate::over_boxes::{
 };
 use command_ends::Status;
 use device_model::RtuDevice;
-use hmac_tag::Dir;
+use link_format::Dir;
 use std::test::Fail;
 use yasir_ticks::{BadTicks, TickFault};
 

@@ -6,7 +6,7 @@ use crate::over_boxes::{
 use crate::texts::add_times;
 use command_ends::Status;
 use device_model::DnpDevice;
-use hmac_tag::Dir;
+use link_format::Dir;
 use std::alloc::{AllocError, Global};
 use std::process::Abort;
 use std::test::Fail;

@@ -6,8 +6,8 @@ ghost use Rattle.check_receiver.specs.Stands.{direction_of, ticks_taken};
 
 use crate::receiver_runs::rtu_steps;
 use check_receiver::{BoxStep, CheckNote, Checker, DroppedWhy, RefusedWhy};
-use hmac_tag::Mac;
 use line_rules::LineRules;
+use link_format::Mac;
 use sequence_journal::Journal;
 use std::alloc::Global;
 use std::process::Abort;

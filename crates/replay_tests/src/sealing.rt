@@ -6,7 +6,7 @@ use crate::over_boxes::{
 };
 use crate::texts::repeated;
 use command_ends::Status;
-use hmac_tag::Dir;
+use link_format::Dir;
 use std::alloc::{AllocError, Global};
 use std::process::Abort;
 use std::test::Fail;

@@ -9,7 +9,7 @@ use crate::over_boxes::{
 use crate::reading::has_read;
 use command_ends::Status;
 use device_model::{DnpDevice, RtuDevice};
-use hmac_tag::Dir;
+use link_format::Dir;
 use std::test::Fail;
 
 /// Slots that hold these numbers.

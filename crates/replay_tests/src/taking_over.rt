@@ -3,7 +3,7 @@
 use crate::outside::{Failing, STEADY, plan};
 use crate::over_boxes::{BoxKind, Given, KEY, Ran, has_status, holds, replay_on, slots_hold};
 use command_ends::Status;
-use hmac_tag::Dir;
+use link_format::Dir;
 use sequence_journal::{Journal, LinkId};
 use std::alloc::Global;
 use std::process::Abort;

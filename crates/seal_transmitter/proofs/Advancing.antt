@@ -10,15 +10,15 @@ use Rattle.frame_ending.specs.LiveBytes.{live_bytes, live_end}
 use Rattle.frame_ending.specs.SoFar.{last_burst, start_so_far, start_in, live_bytes_so_far}
 use Rattle.frame_ending.specs.{SoFar.live_bytes_in, declared.cut.Cut.Cut}
 use Rattle.frame_ending.specs.declared.cut.Cut.TheVariants.{Start, Live, Extra, Closed}
-use Rattle.hmac_tag.specs.{Tag.tag_text, declared.tag.Mac.Ghosts as Mac}
+use Rattle.link_format.specs.{Tag.tag_text, declared.tag.Mac.Ghosts as Mac}
 use Rattle.line_rules.specs.{Rules.Rules, declared.line_rules.LineRules.Ghosts as LineRules}
 use Rattle.link_format.specs.{NumberedFrame.last_number, Profile.Profile, Profile.profile_of}
 use Rattle.link_format.specs.{Profile.HasTags, Profile.trailer, Setup.Setup, Trailers.first_of}
-use Rattle.link_walks.specs.Sealing.{SealState, Judgement, judged, start_after, sealed}
-use Rattle.link_walks.specs.Sealing.Judgement.{sealed_with, unsealed}
-use Rattle.link_walks.specs.declared.seal_note.SealNote.{SealNote}
-use Rattle.link_walks.specs.declared.seal_note.SealNote.TheVariants.{Sealed, Unsealed}
-use Rattle.link_walks.specs.declared.seal_note.UnsealedWhy.{UnsealedWhy}
+use Rattle.link_box.specs.Sealing.{SealState, Judgement, judged, start_after, sealed}
+use Rattle.link_box.specs.Sealing.Judgement.{sealed_with, unsealed}
+use Rattle.link_box.specs.declared.seal_note.SealNote.{SealNote}
+use Rattle.link_box.specs.declared.seal_note.SealNote.TheVariants.{Sealed, Unsealed}
+use Rattle.link_box.specs.declared.seal_note.UnsealedWhy.{UnsealedWhy}
 use Rattle.seal_transmitter.proofs.Steps.{walked-begun, walked-divided, walks-silent}
 use Rattle.seal_transmitter.proofs.Steps.{walks-unsealed, walks-sealed, walks-early, walks-live}
 use Rattle.seal_transmitter.proofs.Steps.{walks-extra, seals-late, seals-whole, walked-number}

@@ -3,10 +3,10 @@ use Rattle.frame_ending.proofs.BurstRuns.{run-tick}
 use Rattle.frame_ending.{proofs.Cutting.cut-begin, specs.Cuts.cut_of, specs.SoFar.start_so_far}
 use Rattle.frame_ending.specs.{SoFar.quiet_so_far, Stands.StandsFor as CutStandsFor}
 use Rattle.frame_ending.specs.declared.{burst_cut.BurstCut.BurstCut, cut.Cut.TheVariants.Start}
-use Rattle.hmac_tag.specs.declared.tag.Mac.{Ghosts as Mac}
+use Rattle.link_format.specs.declared.tag.Mac.{Ghosts as Mac}
 use Rattle.line_rules.specs.declared.line_rules.LineRules.{Ghosts as LineRules}
 use Rattle.link_format.specs.{Profile.profile_of, Setup.Setup, Trailers.bytes_unsent}
-use Rattle.link_walks.specs.Sealing.{sealer, at_floor}
+use Rattle.link_box.specs.Sealing.{sealer, at_floor}
 use Rattle.seal_transmitter.proofs.{Advancing.starts-now, Stepping.begin-late}
 use Rattle.seal_transmitter.specs.{Answers.brief_note, Between.IsBetween, Runs.HasTakenRun}
 use Rattle.seal_transmitter.specs.{Stands.StandsAt, declared.sealer.Sealer.Sealer}

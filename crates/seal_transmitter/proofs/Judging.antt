@@ -3,11 +3,11 @@ use Rattle.frame_ending.specs.LiveBytes.{live_bytes, has_extra}
 use Rattle.frame_ending.specs.SoFar.{last_burst, start_so_far, start_in, has_extra_so_far}
 use Rattle.frame_ending.specs.SoFar.{has_extra_in, live_bytes_so_far, live_bytes_in}
 use Rattle.{line_rules.specs.Rules.Rules, link_format.specs.Profile.Profile}
-use Rattle.link_walks.proofs.SealCausality.{judge_by, judged-is}
-use Rattle.link_walks.specs.Sealing.{SealState, judged, Judgement.sealed_with}
-use Rattle.link_walks.specs.Sealing.Judgement.{unsealed}
-use Rattle.link_walks.specs.declared.seal_note.UnsealedWhy.{UnsealedWhy}
-use Rattle.link_walks.specs.declared.seal_note.UnsealedWhy.TheVariants.{Early, Form, Spent}
+use Rattle.link_box.proofs.SealCausality.{judge_by, judged-is}
+use Rattle.link_box.specs.Sealing.{SealState, judged, Judgement.sealed_with}
+use Rattle.link_box.specs.Sealing.Judgement.{unsealed}
+use Rattle.link_box.specs.declared.seal_note.UnsealedWhy.{UnsealedWhy}
+use Rattle.link_box.specs.declared.seal_note.UnsealedWhy.TheVariants.{Early, Form, Spent}
 use Rattle.seal_transmitter.specs.Between.{IsJudged, judgement_of}
 use Rattle.std.proofs.Common.{◌≡◌, ◌∙◌, ℕ, suc, ◌+◌, ◌==◌, nat_lt, true, false, ◌||◌, not, List, ap}
 use Rattle.std.proofs.Common.{arith, Option, Some, None, IfSome}

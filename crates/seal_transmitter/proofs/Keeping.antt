@@ -1,12 +1,12 @@
 -- What a step does to the journal and its disk, as a step of a box of a link, and what a run does.
 use Rattle.frame_ending.specs.declared.box_step.BoxStep.{BoxStep}
-use Rattle.hmac_tag.specs.declared.tag.Mac.{Ghosts as Mac}
+use Rattle.link_format.specs.declared.tag.Mac.{Ghosts as Mac}
 use Rattle.line_rules.specs.declared.line_rules.LineRules.{Ghosts as LineRules}
 use Rattle.link_box.proofs.TakenRuns.{takes-as}
 use Rattle.link_box.specs.{Runs.TakesRun, Stepping.KeepsJournal as KeepsBoxed}
 use Rattle.link_format.specs.Setup.{Setup}
-use Rattle.link_walks.specs.declared.seal_note.SealNote.{SealNote}
-use Rattle.link_walks.specs.declared.seal_note.SealNote.TheVariants.{Sealed, Unsealed}
+use Rattle.link_box.specs.declared.seal_note.SealNote.{SealNote}
+use Rattle.link_box.specs.declared.seal_note.SealNote.TheVariants.{Sealed, Unsealed}
 use Rattle.seal_transmitter.specs.{Answers.CommitsNoted, Answers.KeepsJournal, Boxed.seal_walking}
 use Rattle.seal_transmitter.specs.{Runs.HasTakenRun, Stands.StandsAt, declared.sealer.Sealer.Sealer}
 use Rattle.sequence_journal.specs.Journal.{journal_floor}

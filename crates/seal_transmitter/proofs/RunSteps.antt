@@ -6,12 +6,12 @@ use Rattle.frame_ending.specs.Cuts.{cut_of, cuts_after, IsPassing}
 use Rattle.frame_ending.specs.{SoFar.start_so_far, Stands.StandsFor as CutStandsFor}
 use Rattle.frame_ending.specs.declared.{burst_cut.BurstCut.BurstCut, cut.Cut.Cut}
 use Rattle.frame_ending.specs.declared.cut.Cut.TheVariants.{Live, Extra}
-use Rattle.hmac_tag.specs.declared.tag.Mac.{Ghosts as Mac}
+use Rattle.link_format.specs.declared.tag.Mac.{Ghosts as Mac}
 use Rattle.line_rules.specs.{Rules.Rules, declared.line_rules.LineRules.Ghosts as LineRules}
 use Rattle.link_format.specs.{NumberedFrame.last_number, Profile.profile_of, Setup.Setup}
 use Rattle.link_format.specs.Trailers.{bytes_unsent, first_of}
 use Rattle.link_format.specs.declared.trailer.Trailer.{Trailer}
-use Rattle.link_walks.specs.Sealing.{sealer, at_floor, sealed}
+use Rattle.link_box.specs.Sealing.{sealer, at_floor, sealed}
 use Rattle.seal_transmitter.proofs.Advancing.{WalksOn, number-is, advance-live, advance-early}
 use Rattle.seal_transmitter.proofs.Advancing.{advance-passing}
 use Rattle.seal_transmitter.specs.{Answers.brief_note, Between.noteless, Runs.HasTakenRun}

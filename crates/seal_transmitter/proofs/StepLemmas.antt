@@ -5,11 +5,11 @@ use Rattle.{frame_ending.specs.Walk.state_after, frame_ending.proofs.LiveTicks.l
 use Rattle.frame_ending.specs.LiveBytes.{live_bytes, live_ticks, live_end}
 use Rattle.{line_rules.specs.Rules.Rules, link_format.specs.NumberedFrame.last_number}
 use Rattle.link_format.specs.{Profile.Profile, Profile.trailer, Trailers.first_of}
-use Rattle.link_walks.proofs.SealNumbers.{frames_in}
-use Rattle.link_walks.specs.Sealing.{SealState, FullNote, Judgement, judged, state_by, note_by}
-use Rattle.link_walks.specs.Sealing.{emission_by, forwarded, trailing, sealer}
-use Rattle.link_walks.specs.Sealing.Judgement.{sealed_with, unsealed}
-use Rattle.link_walks.specs.declared.seal_note.UnsealedWhy.TheVariants.{Early, Form, Spent}
+use Rattle.link_box.proofs.SealNumbers.{frames_in}
+use Rattle.link_box.specs.Sealing.{SealState, FullNote, Judgement, judged, state_by, note_by}
+use Rattle.link_box.specs.Sealing.{emission_by, forwarded, trailing, sealer}
+use Rattle.link_box.specs.Sealing.Judgement.{sealed_with, unsealed}
+use Rattle.link_box.specs.declared.seal_note.UnsealedWhy.TheVariants.{Early, Form, Spent}
 use Rattle.seal_transmitter.specs.Stands.{sent_at}
 use Rattle.std.proofs.Common.{◌≡◌, ◌∙◌, ◌&&◌, ℕ, suc, ◌+◌, ◌-◌, ◌<◌, ◌≤◌, nat_lt, nat_le, true}
 use Rattle.std.proofs.Common.{false, List, [], ◌∷◌, ◌++◌, length, map, drop, refl, sym, ap, arith}

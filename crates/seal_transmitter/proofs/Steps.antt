@@ -16,17 +16,17 @@ use Rattle.line_rules.specs.{Rules.Rules, RulesLaws.IsLawful}
 use Rattle.link_format.{proofs.Profiles.length-trailer, specs.NumberedFrame.last_number}
 use Rattle.link_format.specs.Profile.{Profile, HasTags, trailer, trailer_len}
 use Rattle.link_format.specs.Trailers.{first_of}
-use Rattle.link_walks.proofs.SealCausality.{judge_by}
-use Rattle.link_walks.proofs.SealCausality.{judged-is, sealed-right, no_extra, sealer-causal}
-use Rattle.link_walks.proofs.SealCausality.{emission-judged, emission-early, shown-from}
-use Rattle.link_walks.specs.Sealing.{SealState, FullNote, Judgement, judged, state_by, note_by}
-use Rattle.link_walks.specs.Sealing.{emission_by, forwarded, trailing, sealer, sealed_in}
-use Rattle.link_walks.specs.Sealing.{at_floor, seal_notes, start_after, sealed}
-use Rattle.link_walks.specs.Sealing.Judgement.{sealed_with, unsealed}
-use Rattle.link_walks.specs.declared.seal_note.SealNote.{SealNote}
-use Rattle.link_walks.specs.declared.seal_note.SealNote.TheVariants.{Sealed, Unsealed}
-use Rattle.link_walks.specs.declared.seal_note.UnsealedWhy.{UnsealedWhy}
-use Rattle.link_walks.specs.declared.seal_note.UnsealedWhy.TheVariants.{Early, Form, Spent}
+use Rattle.link_box.proofs.SealCausality.{judge_by}
+use Rattle.link_box.proofs.SealCausality.{judged-is, sealed-right, no_extra, sealer-causal}
+use Rattle.link_box.proofs.SealCausality.{emission-judged, emission-early, shown-from}
+use Rattle.link_box.specs.Sealing.{SealState, FullNote, Judgement, judged, state_by, note_by}
+use Rattle.link_box.specs.Sealing.{emission_by, forwarded, trailing, sealer, sealed_in}
+use Rattle.link_box.specs.Sealing.{at_floor, seal_notes, start_after, sealed}
+use Rattle.link_box.specs.Sealing.Judgement.{sealed_with, unsealed}
+use Rattle.link_box.specs.declared.seal_note.SealNote.{SealNote}
+use Rattle.link_box.specs.declared.seal_note.SealNote.TheVariants.{Sealed, Unsealed}
+use Rattle.link_box.specs.declared.seal_note.UnsealedWhy.{UnsealedWhy}
+use Rattle.link_box.specs.declared.seal_note.UnsealedWhy.TheVariants.{Early, Form, Spent}
 use Rattle.seal_transmitter.proofs.StepLemmas.{or_else, or_else-silent, sent-first, sent-later}
 use Rattle.seal_transmitter.proofs.StepLemmas.{noted-overlays, noted-number, sealed-from}
 use Rattle.seal_transmitter.proofs.StepLemmas.{forwarded-past}

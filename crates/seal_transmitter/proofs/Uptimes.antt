@@ -1,7 +1,7 @@
 -- The number of a step's note is the one that the step commits.
 use Rattle.frame_ending.specs.declared.box_step.BoxStep.{BoxStep}
-use Rattle.link_walks.specs.declared.seal_note.SealNote.{SealNote}
-use Rattle.link_walks.specs.declared.seal_note.SealNote.TheVariants.{Sealed, Unsealed}
+use Rattle.link_box.specs.declared.seal_note.SealNote.{SealNote}
+use Rattle.link_box.specs.declared.seal_note.SealNote.TheVariants.{Sealed, Unsealed}
 use Rattle.seal_transmitter.specs.Answers.{CommitsNoted, KeepsJournal, numbers_noted}
 use Rattle.sequence_journal.specs.{Commits.HasFailed, Journal.journal_floor}
 use Rattle.sequence_journal.specs.Uptimes.{CommitsAnswered}

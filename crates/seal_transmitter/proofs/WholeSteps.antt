@@ -5,10 +5,10 @@ use Rattle.frame_ending.proofs.Running.{closed-tick}
 use Rattle.frame_ending.specs.{Cuts.cut_of, Stands.StandsFor as CutStandsFor}
 use Rattle.frame_ending.specs.declared.burst_cut.BurstCut.{BurstCut}
 use Rattle.frame_ending.specs.declared.cut.Cut.{Cut, TheVariants.Closed}
-use Rattle.hmac_tag.specs.declared.tag.Mac.{Ghosts as Mac}
+use Rattle.link_format.specs.declared.tag.Mac.{Ghosts as Mac}
 use Rattle.line_rules.specs.declared.line_rules.LineRules.{Ghosts as LineRules}
 use Rattle.link_format.specs.{Profile.profile_of, Setup.Setup}
-use Rattle.link_walks.specs.declared.seal_note.SealNote.{SealNote}
+use Rattle.link_box.specs.declared.seal_note.SealNote.{SealNote}
 use Rattle.seal_transmitter.specs.{Answers.SealsWith, Between.IsBetween, Stands.StandsAt}
 use Rattle.seal_transmitter.specs.{Stands.HasTaken, declared.sealer.Sealer.Sealer}
 use Rattle.sequence_journal.specs.declared.journal.JournalFault.{JournalFault}

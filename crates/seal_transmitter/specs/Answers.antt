@@ -13,10 +13,10 @@ use Rattle.sequence_journal.specs.declared.journal.JournalFault.{JournalFault}
 use Rattle.sequence_journal.specs.Commits.{HasCommitted, HasFailed}
 use Rattle.sequence_journal.specs.Journal.{journal_link, journal_floor, Fits, IsCrashSafe}
 use Rattle.sequence_journal.specs.Journal.{HasFloorFrom}
-use Rattle.link_walks.specs.Sealing.{FullNote, sealer, at_floor, seal_notes}
-use Rattle.link_walks.specs.Sealing.FullNote.{sealed_note, unsealed_note}
-use Rattle.link_walks.specs.declared.seal_note.SealNote.{SealNote}
-use Rattle.link_walks.specs.declared.seal_note.SealNote.TheVariants.{Sealed, Unsealed}
+use Rattle.link_box.specs.Sealing.{FullNote, sealer, at_floor, seal_notes}
+use Rattle.link_box.specs.Sealing.FullNote.{sealed_note, unsealed_note}
+use Rattle.link_box.specs.declared.seal_note.SealNote.{SealNote}
+use Rattle.link_box.specs.declared.seal_note.SealNote.TheVariants.{Sealed, Unsealed}
 use Rattle.frame_ending.specs.declared.box_step.BoxStep.{BoxStep}
 
 -- The note as a step returns it: for a sealed frame it has only the length.

@@ -8,19 +8,19 @@ use Rattle.frame_ending.specs.declared.cut.Cut.{Cut}
 use Rattle.frame_ending.specs.Cuts.{cut_of}
 use Rattle.frame_ending.specs.SoFar.{last_burst}
 use Rattle.frame_ending.specs.Stands.{StandsFor as CutStandsFor}
-use Rattle.hmac_tag.specs.declared.tag.Mac.{Ghosts as Mac}
-use Rattle.hmac_tag.specs.Tag.{direction_number}
+use Rattle.link_format.specs.declared.tag.Mac.{Ghosts as Mac}
+use Rattle.link_format.specs.Tag.{direction_number}
 use Rattle.link_format.specs.Profile.{Profile, profile_of}
 use Rattle.link_format.specs.Setup.{Setup}
 use Rattle.link_format.specs.Trailers.{bytes_unsent}
 use Rattle.sequence_journal.specs.declared.numbers.TheConstants.{LIMIT}
-use Rattle.link_walks.specs.Sealing.{Judgement, judged}
-use Rattle.link_walks.specs.Sealing.Judgement.{sealed_with, unsealed}
+use Rattle.link_box.specs.Sealing.{Judgement, judged}
+use Rattle.link_box.specs.Sealing.Judgement.{sealed_with, unsealed}
 use Rattle.seal_transmitter.specs.Stands.{Walks}
-use Rattle.link_walks.specs.declared.seal_note.SealNote.{SealNote}
-use Rattle.link_walks.specs.declared.seal_note.SealNote.TheVariants.{Sealed, Unsealed}
+use Rattle.link_box.specs.declared.seal_note.SealNote.{SealNote}
+use Rattle.link_box.specs.declared.seal_note.SealNote.TheVariants.{Sealed, Unsealed}
 use Rattle.frame_ending.specs.declared.box_step.BoxStep.{BoxStep}
-use Rattle.link_walks.specs.declared.seal_note.UnsealedWhy.{UnsealedWhy}
+use Rattle.link_box.specs.declared.seal_note.UnsealedWhy.{UnsealedWhy}
 use Rattle.seal_transmitter.specs.declared.sealer.Sealer.{Sealer}
 
 -- Holds if the last burst of the line, if there is one, is judged so. The last number used is

@@ -1,13 +1,13 @@
 -- The transmitter as a box of a link.
 use Rattle.std.specs.Prelude.{ℕ}
 use Rattle.line_rules.specs.declared.line_rules.LineRules.{Ghosts as LineRules}
-use Rattle.hmac_tag.specs.declared.tag.Mac.{Ghosts as Mac}
+use Rattle.link_format.specs.declared.tag.Mac.{Ghosts as Mac}
 use Rattle.link_format.specs.Profile.{profile_of}
 use Rattle.link_box.specs.Walking.{Walking}
 use Rattle.sequence_journal.specs.declared.numbers.TheConstants.{LIMIT}
 use Rattle.seal_transmitter.specs.Answers.{brief_note}
-use Rattle.link_walks.specs.Sealing.{SealState, FullNote, sealer, at_floor, sealed_in}
-use Rattle.link_walks.specs.declared.seal_note.SealNote.{SealNote}
+use Rattle.link_box.specs.Sealing.{SealState, FullNote, sealer, at_floor, sealed_in}
+use Rattle.link_box.specs.declared.seal_note.SealNote.{SealNote}
 
 -- the walk of the transmitter, for the rules of a protocol and a MAC, with words of this many bytes
 abbrev pub seal_walking : {R M : Type 0} → LineRules R → Mac M → ℕ → Walking SealNote

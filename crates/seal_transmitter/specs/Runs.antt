@@ -3,13 +3,13 @@ use Rattle.std.specs.Prelude.{◌≡◌, ℕ, List, ◌++◌}
 use Rattle.yasir_ticks.specs.declared.tick.Tick.{Tick}
 use Rattle.line_rules.specs.declared.line_rules.LineRules.{Ghosts as LineRules}
 use Rattle.frame_ending.specs.Runs.{AnswersRun}
-use Rattle.hmac_tag.specs.declared.tag.Mac.{Ghosts as Mac}
+use Rattle.link_format.specs.declared.tag.Mac.{Ghosts as Mac}
 use Rattle.link_format.specs.NumberedFrame.{last_number}
 use Rattle.link_format.specs.Profile.{profile_of}
 use Rattle.link_format.specs.Setup.{Setup}
 use Rattle.sequence_journal.specs.declared.numbers.TheConstants.{LIMIT}
 use Rattle.seal_transmitter.specs.Answers.{brief_note}
-use Rattle.link_walks.specs.Sealing.{sealer, at_floor, sealed}
+use Rattle.link_box.specs.Sealing.{sealer, at_floor, sealed}
 use Rattle.seal_transmitter.specs.Stands.{StandsAt}
 use Rattle.seal_transmitter.specs.declared.sealer.Sealer.{Sealer}
 

@@ -11,8 +11,8 @@ use Rattle.frame_ending.specs.LiveBytes.{live_bytes}
 use Rattle.frame_ending.specs.Stands.{StandsFor as CutStandsFor, ticks_taken as ticks_cut}
 use Rattle.frame_ending.specs.Laid.{tick_at}
 use Rattle.frame_ending.specs.HasCome.{HasCome}
-use Rattle.hmac_tag.specs.declared.tag.Mac.{Ghosts as Mac}
-use Rattle.hmac_tag.specs.Tag.{direction_number}
+use Rattle.link_format.specs.declared.tag.Mac.{Ghosts as Mac}
+use Rattle.link_format.specs.Tag.{direction_number}
 use Rattle.link_format.specs.NumberedFrame.{last_number}
 use Rattle.link_format.specs.Profile.{Profile, profile_of}
 use Rattle.link_format.specs.Setup.{Setup}
@@ -21,9 +21,9 @@ use Rattle.sequence_journal.specs.declared.journal.Journal.{Journal}
 use Rattle.sequence_journal.specs.declared.numbers.TheConstants.{LIMIT}
 use Rattle.sequence_journal.specs.Journal.{journal_floor}
 use Rattle.seal_transmitter.specs.Answers.{AnswersTick}
-use Rattle.link_walks.specs.Sealing.{SealState, sealer, at_floor, sealed}
+use Rattle.link_box.specs.Sealing.{SealState, sealer, at_floor, sealed}
 use Rattle.frame_ending.specs.declared.box_step.BoxStep.{BoxStep}
-use Rattle.link_walks.specs.declared.seal_note.SealNote.{SealNote}
+use Rattle.link_box.specs.declared.seal_note.SealNote.{SealNote}
 use Rattle.seal_transmitter.specs.declared.sealer.Sealer.{Sealer}
 
 -- tick `i` of the link, if the bytes `unsent` are sent from tick `m` on, and silence after them

@@ -10,12 +10,12 @@ ghost use Rattle.sequence_journal.specs.declared.journal.JournalFault.{JournalFa
 ghost use Rattle.sequence_journal.specs.Journal.{journal_floor, IsCrashSafe};
 ghost use Rattle.sequence_journal.specs.Uptimes.{IsStepOf, last_from, numbers_answered};
 ghost use Rattle.frame_ending.specs.declared.box_step.BoxStep.{BoxStep};
-ghost use Rattle.link_walks.specs.declared.seal_note.SealNote.{SealNote};
+ghost use Rattle.link_box.specs.declared.seal_note.SealNote.{SealNote};
 ghost use Rattle.seal_transmitter.specs.Answers.{KeepsJournal, numbers_noted};
-ghost use Rattle.link_walks.specs.Sealing.{sealer, at_floor, sealed};
+ghost use Rattle.link_box.specs.Sealing.{sealer, at_floor, sealed};
 
-use hmac_tag::Mac;
 use line_rules::LineRules;
+use link_format::Mac;
 use yasir_io::SlotDisk;
 
 /// When a line of the device goes on, its notes, link line and sealed frames begin with those of

@@ -15,7 +15,7 @@ mod sealer;
 mod silence;
 
 pub use frame_ending::{BoxStep, RunBytes};
-pub use hmac_tag::Dir;
 pub use laws::{longer_lines, steps_are_of_an_uptime};
-pub use link_walks::{SealNote, UnsealedWhy};
+pub use link_box::{SealNote, UnsealedWhy};
+pub use link_format::Dir;
 pub use sealer::Sealer;

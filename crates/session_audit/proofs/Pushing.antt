@@ -1,7 +1,7 @@
 -- Text that is added to a text on its way to a sink, a line for each frame of a list.
 use Rattle.device_model.specs.Frames.{FrameRead}
-use Rattle.line_commands.specs.PrintedLines.{frame_line}
-use Rattle.line_commands.specs.PrintedLines.{frame_lines}
+use Rattle.command_ends.specs.FrameLine.{frame_line}
+use Rattle.command_ends.specs.FrameLine.{frame_lines}
 use Rattle.link_format.specs.NumberedFrame.{NumberedFrame}
 use Rattle.receiver_laws.specs.Accounted.{forged, is_among}
 use Rattle.session_audit.specs.Listing.{numbered_line, numbered_lines}

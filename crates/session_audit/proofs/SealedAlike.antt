@@ -1,17 +1,17 @@
 -- Which frames a transmitter seals doesn't depend on the tags that it makes.
 use Rattle.frame_ending.specs.Walk.{Noted, notes_before, walked}
 use Rattle.frame_ending.specs.LiveBytes.{has_extra, live_bytes, live_end}
-use Rattle.hmac_tag.specs.declared.tag.Mac.{Ghosts as Mac}
+use Rattle.link_format.specs.declared.tag.Mac.{Ghosts as Mac}
 use Rattle.line_rules.specs.{Rules.Rules, declared.line_rules.LineRules.Ghosts as LineRules}
 use Rattle.link_box.specs.Walking.{frames_of}
 use Rattle.link_format.specs.Profile.{Profile, pause_len, profile_of, trailer_len}
 use Rattle.link_format.specs.Setup.{Setup}
 use Rattle.session_lists.specs.FrameBox.{AnswersFrame, AnswersFrameRun, frame_told}
 use Rattle.session_lists.specs.declared.frame_box.FrameStep.{FrameStep}
-use Rattle.link_walks.proofs.SealCausality.{judge_by, judged-is}
-use Rattle.link_walks.specs.Sealing.{FullNote, Judgement, SealState, at_floor, judged}
-use Rattle.link_walks.specs.Sealing.{note_by, sealed, sealed_in, sealer, state_by}
-use Rattle.link_walks.specs.Sealing.Judgement.{sealed_with, unsealed}
+use Rattle.link_box.proofs.SealCausality.{judge_by, judged-is}
+use Rattle.link_box.specs.Sealing.{FullNote, Judgement, SealState, at_floor, judged}
+use Rattle.link_box.specs.Sealing.{note_by, sealed, sealed_in, sealer, state_by}
+use Rattle.link_box.specs.Sealing.Judgement.{sealed_with, unsealed}
 use Rattle.seal_transmitter.specs.Boxed.{seal_walking}
 use Rattle.sequence_journal.specs.declared.numbers.TheConstants.{LIMIT}
 use Rattle.session_audit.specs.{NoTags.sealed_numbering, ShownFrames.numbering_of}

@@ -4,15 +4,15 @@ use Rattle.device_model.specs.Frames.{FrameRead}
 use Rattle.line_rules.specs.{Rules.Rules, RulesLaws.IsLawful, RulesLaws.IsFramed}
 use Rattle.link_format.specs.NumberedFrame.{NumberedFrame, numbers_of}
 use Rattle.link_format.specs.Profile.{Profile, HasTags, delay, words}
-use Rattle.link_walks.specs.Checking.{passed, received_line}
+use Rattle.link_box.specs.Checking.{passed, received_line}
 use Rattle.receiver_laws.proofs.Deliveries.{delivers-all}
 use Rattle.receiver_laws.specs.Accounted.{forged, is_among, is_same_pair}
 use Rattle.receiver_laws.specs.Headline.{ReadsWhatWasSealed}
 use Rattle.receiver_laws.specs.Untouched.{AreSpaced, DeliversAll, IsUntouched}
 use Rattle.session_audit.specs.Listing.{Listing}
 use Rattle.session_audit.specs.TellsOf.{TellsOf, DeliversLine, HasNoNumberTwice, device_rest}
-use Rattle.{session_lists.specs.Recordings.before_mark, link_walks.specs.Sealing.sealed}
-use Rattle.{link_walks.specs.Sealing.link_line, sequence_journal.specs.Uptimes.RiseFrom}
+use Rattle.{session_lists.specs.Recordings.before_mark, link_box.specs.Sealing.sealed}
+use Rattle.{link_box.specs.Sealing.link_line, sequence_journal.specs.Uptimes.RiseFrom}
 use Rattle.std.proofs.Common.{◌≡◌, ◌∙◌, ℕ, zero, suc, ◌+◌, ◌-◌, ◌<◌, ◌≤◌, ◌&&◌, ◌||◌, Bool, true}
 use Rattle.std.proofs.Common.{false, not, List, [], ◌∷◌, ◌++◌, length, get_or, bytes_eq, refl, sym}
 use Rattle.std.proofs.Common.{ap, subst, arith, append_assoc, eq-eqb, nat_lt, if◌then◌else◌}

@@ -4,7 +4,7 @@ use Rattle.std.specs.Prelude.{ℕ, List, ◌++◌, codes, decimal}
 use Rattle.std.specs.List.{flat_map}
 use Rattle.hex.specs.Hex.{encode_lower}
 use Rattle.yasir_ticks.specs.declared.tick.Tick.{Tick}
-use Rattle.hmac_tag.specs.declared.dir.Dir.{Dir}
+use Rattle.link_format.specs.declared.dir.Dir.{Dir}
 use Rattle.device_model.specs.Frames.{FrameRead}
 use Rattle.device_model.specs.declared.device.Device.{Ghosts as Device}
 use Rattle.link_format.specs.NumberedFrame.{NumberedFrame}
@@ -12,7 +12,7 @@ use Rattle.link_format.specs.Setup.{setup_of}
 use Rattle.receiver_laws.specs.Accounted.{forged}
 use Rattle.session_lists.specs.FrameBox.{Numbering}
 use Rattle.session_lists.specs.declared.frame_box.FrameBox.{Ghosts as FrameBox}
-use Rattle.line_commands.specs.PrintedLines.{frame_lines}
+use Rattle.command_ends.specs.FrameLine.{frame_lines}
 
 -- The frames that a transmitter seals of the line of a device, those that a receiver passes of a
 -- link, and those that a device reads of the receiver's line.

@@ -5,8 +5,8 @@ use Rattle.std.proofs.Common.{arith, subst, sym, ⊎_elim}
 use Rattle.std.proofs.lemmas.List.{length-take-le, length-replicate}
 use Rattle.std.proofs.lemmas.List.Elements.{All-replicate, All-take}
 use Rattle.line_rules.specs.declared.line_rules.LineRules.{Ghosts as LineRules}
-use Rattle.hmac_tag.specs.declared.tag.Mac.{Ghosts as Mac}
-use Rattle.hmac_tag.specs.Tag.{IsTagSize}
+use Rattle.link_format.specs.declared.tag.Mac.{Ghosts as Mac}
+use Rattle.link_format.specs.Tag.{IsTagSize}
 use Rattle.link_box.specs.Walking.{other_line, frames_of}
 use Rattle.link_format.specs.Setup.{Setup}
 use Rattle.session_lists.specs.FrameBox.{Numbering}

@@ -4,16 +4,16 @@ use Rattle.yasir_ticks.specs.Bursts.{Burst}
 use Rattle.line_rules.specs.Rules.{Rules}
 use Rattle.frame_ending.specs.LiveBytes.{live_bytes}
 use Rattle.link_format.specs.Profile.{Profile}
-use Rattle.link_walks.specs.Sealing.{Judgement, sealer, sealed_in, judged}
-use Rattle.link_walks.specs.Sealing.{FullNote as SealFull, note_by as seal_note_by}
-use Rattle.link_walks.specs.Sealing.Judgement.{sealed_with, unsealed}
-use Rattle.link_walks.specs.Sealing.FullNote.{sealed_note, unsealed_note}
+use Rattle.link_box.specs.Sealing.{Judgement, sealer, sealed_in, judged}
+use Rattle.link_box.specs.Sealing.{FullNote as SealFull, note_by as seal_note_by}
+use Rattle.link_box.specs.Sealing.Judgement.{sealed_with, unsealed}
+use Rattle.link_box.specs.Sealing.FullNote.{sealed_note, unsealed_note}
 use Rattle.seal_transmitter.specs.Answers.{brief_note as seal_brief}
-use Rattle.link_walks.specs.Verdicts.{Verdict, checked}
-use Rattle.link_walks.specs.Verdicts.Verdict.{passed_with, refused, dropped}
-use Rattle.link_walks.specs.Checking.{checker, passed_in, brief_note as check_brief}
-use Rattle.link_walks.specs.Checking.{FullNote as CheckFull, note_by as check_note_by}
-use Rattle.link_walks.specs.Checking.FullNote.{passed_note, refused_note, dropped_note}
+use Rattle.link_box.specs.Verdicts.{Verdict, checked}
+use Rattle.link_box.specs.Verdicts.Verdict.{passed_with, refused, dropped}
+use Rattle.link_box.specs.Checking.{checker, passed_in, brief_note as check_brief}
+use Rattle.link_box.specs.Checking.{FullNote as CheckFull, note_by as check_note_by}
+use Rattle.link_box.specs.Checking.FullNote.{passed_note, refused_note, dropped_note}
 use Rattle.session_audit.specs.FramesOf.{HasFrames, numbered}
 use Rattle.session_audit.specs.NotesTold.{sealed_told, passed_told}
 

@@ -16,8 +16,8 @@ use Rattle.link_format.specs.Setup.{Setup, setup_of}
 use Rattle.link_format.specs.Y18.{y18}
 use Rattle.link_format.specs.Y24.{y24}
 use Rattle.sequence_journal.specs.declared.numbers.TheConstants.{LIMIT}
-use Rattle.link_walks.specs.Sealing.{sealed}
-use Rattle.link_walks.specs.Checking.{passed, received_line}
+use Rattle.link_box.specs.Sealing.{sealed}
+use Rattle.link_box.specs.Checking.{passed, received_line}
 use Rattle.session_lists.specs.Listed.{link_rest}
 use Rattle.session_audit.specs.Verdicts.{verdict_on}
 use Rattle.session_audit.specs.declared.session.Session.{Session}

@@ -8,8 +8,8 @@ use Rattle.line_rules.specs.Rules.{Rules}
 use Rattle.sequence_journal.specs.Uptimes.{RiseFrom}
 use Rattle.link_format.specs.NumberedFrame.{numbers_of}
 use Rattle.link_format.specs.Profile.{Profile, delay}
-use Rattle.link_walks.specs.Sealing.{link_line}
-use Rattle.link_walks.specs.Checking.{received_line}
+use Rattle.link_box.specs.Sealing.{link_line}
+use Rattle.link_box.specs.Checking.{received_line}
 use Rattle.receiver_laws.specs.Accounted.{IsSubsequence, pairs_of, rightly_passed}
 use Rattle.receiver_laws.specs.Headline.{bytes_read, bytes_sealed}
 use Rattle.receiver_laws.specs.Reading.{delivered}

@@ -2,15 +2,15 @@
 ghost use Rattle.std.specs.Prelude.{◌≡◌};
 ghost use Rattle.link_format.specs.Profile.{profile_of};
 ghost use Rattle.sequence_journal.specs.declared.numbers.TheConstants.{LIMIT};
-ghost use Rattle.link_walks.proofs.CheckCausality.{checker-causal};
+ghost use Rattle.link_box.proofs.CheckCausality.{checker-causal};
 ghost use Rattle.check_receiver.proofs.Silences.{timely};
 ghost use Rattle.session_audit.specs.NotesTold.{passed_told};
 ghost use Rattle.session_audit.specs.NotingLaws.{checker-has};
 
 use crate::noting_box::NotingBox;
 use check_receiver::{CheckNote, Checker};
-use hmac_tag::Mac;
 use line_rules::LineRules;
+use link_format::Mac;
 use session_lists::Numbered;
 
 /// Tells the frames that the receiver passes.

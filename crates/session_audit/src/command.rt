@@ -14,7 +14,7 @@ ghost use Rattle.session_audit.specs.Recorded.{PrintsRecorded};
 use crate::printing::print_listing;
 use command_ends::{Ends, KeyError, Status, read_key, status_of};
 use device_model::Device;
-use hmac_tag::Dir;
+use link_format::Dir;
 use session_lists::{FrameBox, ReplayLists, list_recordings};
 use std::alloc::Global;
 use tick_drive::End;

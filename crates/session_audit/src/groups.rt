@@ -4,7 +4,7 @@ ghost use Rattle.std.specs.Prelude.{codes};
 ghost use Rattle.yasir_io.specs.Causes.{HasCause};
 ghost use Rattle.yasir_io.specs.TextBuffer.{waiting_bytes};
 ghost use Rattle.device_model.specs.Frames.{FrameRead};
-ghost use Rattle.line_commands.specs.PrintedLines.{frame_lines};
+ghost use Rattle.command_ends.specs.FrameLine.{frame_lines};
 ghost use Rattle.link_format.specs.NumberedFrame.{NumberedFrame, AreNumberedFrom};
 ghost use Rattle.receiver_laws.specs.Accounted.{forged};
 ghost use Rattle.session_lists.specs.FrameBox.{kept_frames};
@@ -14,7 +14,7 @@ ghost use Rattle.session_audit.specs.Listing.{numbered_lines};
 ghost use Rattle.session_audit.specs.Printing.{AddsText, BreaksOff, on_the_way, line_if_forged};
 
 use crate::lines::push_numbered_line;
-use line_commands::push_read_line;
+use command_ends::push_read_line;
 use session_lists::{FrameList, Numbered, is_at_its_number};
 use yasir_io::{Failed, Sink, TextBuffer};
 

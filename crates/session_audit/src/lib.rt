@@ -1,3 +1,5 @@
+//! The verdict on a session, and the frames of recordings: the commands `audit` and `replay`.
+//!
 //! An audit of a session that has ended, by three recordings of it: which frames were sealed, which
 //! passed, and what a device read.
 //!
@@ -51,8 +53,8 @@ mod verdict;
 
 pub use burst_bytes::BurstBytes;
 pub use command::replay_recordings;
-pub use hmac_tag::Dir;
 pub use laws::{clean_recordings_have_only_sealed_frames, own_line_of_a_receiver_never_differs};
+pub use link_format::Dir;
 pub use noting_box::NotingBox;
 pub use over_input::audit_input;
 pub use over_recordings::audit;

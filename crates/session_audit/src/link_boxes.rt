@@ -32,19 +32,19 @@ macro_rules! with_boxes {
     ($alloc:expr, $session:expr, $audit:ident, $more:tt, $given:expr) => {
         match ($session.label == 1, $session.profile == 18) {
             (true, true) => $crate::link_boxes::audit_through!(
-                [rtu_frame::Rtu, device_model::RtuDevice, hmac_tag::HmacSha1, 2, 18],
+                [rtu_frame::Rtu, device_model::RtuDevice, link_format::HmacSha1, 2, 18],
                 $alloc, $session, $audit, $more, $given
             ),
             (true, false) => $crate::link_boxes::audit_through!(
-                [rtu_frame::Rtu, device_model::RtuDevice, hmac_tag::HmacSha256, 4, 24],
+                [rtu_frame::Rtu, device_model::RtuDevice, link_format::HmacSha256, 4, 24],
                 $alloc, $session, $audit, $more, $given
             ),
             (false, true) => $crate::link_boxes::audit_through!(
-                [dnp_link_frame::Dnp, device_model::DnpDevice, hmac_tag::HmacSha1, 2, 18],
+                [dnp_link_frame::Dnp, device_model::DnpDevice, link_format::HmacSha1, 2, 18],
                 $alloc, $session, $audit, $more, $given
             ),
             (false, false) => $crate::link_boxes::audit_through!(
-                [dnp_link_frame::Dnp, device_model::DnpDevice, hmac_tag::HmacSha256, 4, 24],
+                [dnp_link_frame::Dnp, device_model::DnpDevice, link_format::HmacSha256, 4, 24],
                 $alloc, $session, $audit, $more, $given
             ),
         }

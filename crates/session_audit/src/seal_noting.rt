@@ -2,13 +2,13 @@
 ghost use Rattle.std.specs.Prelude.{◌≡◌};
 ghost use Rattle.link_format.specs.Profile.{profile_of};
 ghost use Rattle.sequence_journal.specs.declared.numbers.TheConstants.{LIMIT};
-ghost use Rattle.link_walks.proofs.SealCausality.{sealer-causal};
+ghost use Rattle.link_box.proofs.SealCausality.{sealer-causal};
 ghost use Rattle.session_audit.specs.NotesTold.{sealed_told};
 ghost use Rattle.session_audit.specs.NotingLaws.{sealer-has};
 
 use crate::noting_box::NotingBox;
-use hmac_tag::Mac;
 use line_rules::LineRules;
+use link_format::Mac;
 use seal_transmitter::{SealNote, Sealer};
 use session_lists::Numbered;
 

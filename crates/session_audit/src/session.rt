@@ -1,5 +1,5 @@
 //! A session that has ended, as its two boxes were set up.
-use hmac_tag::Dir;
+use link_format::Dir;
 
 /// A session that has ended, as its two boxes were set up.
 #[derive(Clone, Copy, Debug)]

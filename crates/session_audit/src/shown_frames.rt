@@ -6,9 +6,9 @@ ghost use Rattle.session_audit.specs.ShownFrames.{ShowsFrames, IsSteady, numberi
 use crate::burst_bytes::BurstBytes;
 use crate::noting_box::NotingBox;
 use crate::steady_disk::{SteadyDisk, journal_at};
-use hmac_tag::Dir;
 use line_rules::LineRules;
 use link_box::take_alike;
+use link_format::Dir;
 use sequence_journal::Journal;
 use session_lists::{FrameBox, FrameStep, Numbered, RunBytes};
 use std::marker::PhantomData;

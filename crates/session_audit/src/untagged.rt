@@ -3,7 +3,7 @@ ghost use Rattle.std.specs.Prelude.{◌≡◌, ◌≤◌, ⊤};
 ghost use Rattle.arrayvec.specs.ArrayVec.{array_vec_len};
 ghost use Rattle.session_audit.specs.NoTags.{no_tag, length-no_tag, All-no_tag};
 
-use hmac_tag::{Mac, TagBytes};
+use link_format::{Mac, TagBytes};
 use std::marker::PhantomData;
 
 /// How many bytes the longest tag has.

@@ -12,7 +12,7 @@ ghost use Rattle.session_lists.specs.FrameBox.{Numbering, AnswersFrame, AnswersF
 ghost use Rattle.session_lists.specs.FrameList.{longest_frame};
 
 use frame_ending::RunBytes;
-use hmac_tag::Dir;
+use link_format::Dir;
 use yasir_ticks::{MAX_TICKS, Tick};
 
 /// The number of a frame that a box seals or passes, and the tick of its first byte.

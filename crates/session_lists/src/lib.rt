@@ -1,3 +1,5 @@
+//! Recordings in memory: lists of their ticks, and of the frames that boxes and devices make of them.
+//!
 //! Several recordings in one input, each followed by a mark, kept in memory as lists of ticks.
 //!
 //! Two recordings in one input:

@@ -18,7 +18,7 @@ use crate::hearing::{hear_answered, keep_lent};
 use crate::lines::take_silence;
 use device_model::Device;
 use frame_ending::RunBytes;
-use hmac_tag::Dir;
+use link_format::Dir;
 use std::alloc::Global;
 use tick_drive::{Consumer, Stop};
 use yasir_io::NoMemory;

@@ -25,7 +25,7 @@ use crate::frame_list::FrameList;
 use crate::fronts::{hear_front, take_front};
 use crate::lines::{hear_line, hear_rest, take_line, take_silence};
 use device_model::Device;
-use hmac_tag::Dir;
+use link_format::Dir;
 use std::alloc::Global;
 use tick_drive::{Consumer, Stop};
 use yasir_io::NoMemory;

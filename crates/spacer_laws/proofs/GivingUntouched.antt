@@ -6,11 +6,11 @@ use Rattle.device_model.specs.{Frames.FrameRead, RtuReads.frame_in}
 use Rattle.line_rules.specs.{Rules.Rules, RulesLaws.IsLawful, RulesLaws.IsFramed}
 use Rattle.line_spacer.specs.{Arrivals.arrivals, Spacing.accepted_of, Spacing.lost_of}
 use Rattle.link_format.specs.Profile.{Profile, HasTags, pause_len, trailer_len, delay}
-use Rattle.link_walks.specs.Checking.{checker, at_floor, passed, received_line}
+use Rattle.link_box.specs.Checking.{checker, at_floor, passed, received_line}
 use Rattle.receiver_laws.proofs.Deliveries.{delivers-all, untouched-emits}
 use Rattle.receiver_laws.specs.Reading.{delivered}
 use Rattle.receiver_laws.specs.Untouched.{AreSpaced, IsUntouched, numbered, untouched}
-use Rattle.link_walks.specs.Sealing.{link_line}
+use Rattle.link_box.specs.Sealing.{link_line}
 use Rattle.spacer_laws.proofs.Accepted.{all-first, all-others, all-cons}
 use Rattle.spacer_laws.proofs.GivingAll.{ComeApart, given-from, given-left}
 use Rattle.spacer_laws.proofs.Guarding.{HearsEmissions, emissions-apart}

@@ -7,8 +7,8 @@ use Rattle.line_spacer.{proofs.Sending.on_line, specs.Arrivals.Arrival, specs.Ar
 use Rattle.line_spacer.specs.Spacing.{Spaced, count_from, take_in, accepted_of, spaced_line}
 use Rattle.link_format.specs.NumberedFrame.{NumberedFrame, numbers_of}
 use Rattle.link_format.specs.Profile.{Profile, delay}
-use Rattle.link_walks.proofs.Apart.{emissions-spread}
-use Rattle.link_walks.specs.Checking.{checker, at_floor, passed, received_line}
+use Rattle.link_box.proofs.Apart.{emissions-spread}
+use Rattle.link_box.specs.Checking.{checker, at_floor, passed, received_line}
 use Rattle.receiver_laws.proofs.{Headline.passed-sealed, OverUptimes.accounted-for}
 use Rattle.receiver_laws.proofs.Rising.{have_passed}
 use Rattle.receiver_laws.proofs.Settled.{laid-longer, last_end, EndBy-last, EndBy-later}
@@ -16,7 +16,7 @@ use Rattle.receiver_laws.proofs.Subsequences.{nothing-is, front-is, map-is, chai
 use Rattle.receiver_laws.specs.Accounted.{IsSubsequence}
 use Rattle.receiver_laws.specs.Accounted.IsSubsequence.{none, skip, keep}
 use Rattle.receiver_laws.specs.{Headline.bytes_sealed, Reading.delivered, Reading.ReadsWhatPassed}
-use Rattle.{link_walks.specs.Sealing.sealed, sequence_journal.specs.Uptimes.RiseFrom}
+use Rattle.{link_box.specs.Sealing.sealed, sequence_journal.specs.Uptimes.RiseFrom}
 use Rattle.spacer_laws.proofs.Accepted.{accepted-apart, taken-few, taken-many, with_frame}
 use Rattle.spacer_laws.proofs.{Accepted.without_frame, LaidArrivals.frames-laid}
 use Rattle.spacer_laws.proofs.Within.{apart-spread}

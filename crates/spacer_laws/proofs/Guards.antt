@@ -5,7 +5,7 @@ use Rattle.device_model.specs.{HuntFamily.hunt_family, HuntLaws.IsHunted, RtuRea
 use Rattle.line_rules.specs.{Rules.Rules, RulesLaws.IsLawful, RulesLaws.IsHeaded}
 use Rattle.line_rules.specs.{RulesLaws.IsFramed, Spoiling.IsSpoiling}
 use Rattle.link_format.specs.Profile.{Profile, delay}
-use Rattle.link_walks.specs.Checking.{checker, at_floor}
+use Rattle.link_box.specs.Checking.{checker, at_floor}
 use Rattle.receiver_laws.proofs.Anew.{anew-hunter, anew_reads_what_passed}
 use Rattle.receiver_laws.proofs.HunterReadings.{plain-hunter, emissions-taken}
 use Rattle.receiver_laws.proofs.{HunterReadings.hunt_reads_what_passed, Hunters.hunter-laid}

@@ -6,8 +6,8 @@ use Rattle.yasir_ticks.specs.declared.tick.Tick.{Tick}
 use Rattle.line_rules.specs.Rules.{Rules}
 use Rattle.device_model.specs.Frames.{FrameRead}
 use Rattle.link_format.specs.Profile.{Profile, words, delay}
-use Rattle.link_walks.specs.Sealing.{sealed}
-use Rattle.link_walks.specs.Checking.{received_line, passed}
+use Rattle.link_box.specs.Sealing.{sealed}
+use Rattle.link_box.specs.Checking.{received_line, passed}
 use Rattle.receiver_laws.specs.Headline.{bytes_sealed}
 use Rattle.receiver_laws.specs.Untouched.{numbered, untouched}
 use Rattle.line_spacer.specs.Spacing.{accepted_of, spaced_line}

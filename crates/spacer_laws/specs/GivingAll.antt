@@ -7,7 +7,7 @@ use Rattle.yasir_ticks.specs.declared.tick.Tick.TheVariants.{Byte}
 use Rattle.line_rules.specs.Rules.{Rules}
 use Rattle.device_model.specs.Frames.{FrameRead}
 use Rattle.link_format.specs.Profile.{Profile, delay}
-use Rattle.link_walks.specs.Checking.{received_line}
+use Rattle.link_box.specs.Checking.{received_line}
 use Rattle.receiver_laws.specs.Untouched.{untouched}
 use Rattle.line_spacer.specs.Spacing.{accepted_of, lost_of}
 use Rattle.spacer_laws.specs.Leaving.{HaveLeft}

@@ -9,8 +9,8 @@ use Rattle.device_model.specs.Frames.{FrameRead}
 use Rattle.sequence_journal.specs.Uptimes.{RiseFrom}
 use Rattle.link_format.specs.NumberedFrame.{NumberedFrame, numbers_of}
 use Rattle.link_format.specs.Profile.{Profile}
-use Rattle.link_walks.specs.Sealing.{sealed}
-use Rattle.link_walks.specs.Checking.{passed, received_line}
+use Rattle.link_box.specs.Sealing.{sealed}
+use Rattle.link_box.specs.Checking.{passed, received_line}
 use Rattle.receiver_laws.specs.Accounted.{IsSubsequence, IsAccountedFor, forged}
 use Rattle.receiver_laws.specs.Headline.{bytes_sealed}
 use Rattle.line_spacer.specs.Spacing.{spaced_line}

@@ -1,5 +1,5 @@
 -- The ticks of a link's period: those that are marked, and silence after them.
-use Rattle.delay_ring.{proofs.Marks.ticks-length, specs.DelayRing.marked_ticks}
+use Rattle.yasir_ticks.{proofs.Marks.ticks-length, specs.DelayRing.marked_ticks}
 use Rattle.std.proofs.Common.{◌≡◌, ◌∙◌, ℕ, ◌+◌, ◌-◌, ◌≤◌, List, ◌++◌, length, take, drop, ap, sym}
 use Rattle.std.proofs.Common.{arith, min, append-nil, length-append, ⊎_elim}
 use Rattle.std.proofs.lemmas.{Bool.cases_lt, List.take-append-le, List.drop-append-le}

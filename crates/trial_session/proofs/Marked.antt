@@ -1,7 +1,7 @@
 -- Bytes are written with their marks: which ticks they are then.
-use Rattle.delay_ring.proofs.Marks.{ticks-append, ticks-take, ticks-bytes, ticks-silent}
-use Rattle.delay_ring.proofs.Marks.{ticks-length, ticks-at, marked-silent, marked-byte}
-use Rattle.delay_ring.specs.DelayRing.{marked, marked_ticks}
+use Rattle.yasir_ticks.proofs.Marks.{ticks-append, ticks-take, ticks-bytes, ticks-silent}
+use Rattle.yasir_ticks.proofs.Marks.{ticks-length, ticks-at, marked-silent, marked-byte}
+use Rattle.yasir_ticks.specs.DelayRing.{marked, marked_ticks}
 use Rattle.std.proofs.Common.{◌≡◌, ◌∙◌, ℕ, zero, suc, ◌+◌, ◌-◌, ◌<◌, ◌≤◌, List, [], ◌∷◌, ◌++◌}
 use Rattle.std.proofs.Common.{length, take, drop, map, replicate, refl, ap, sym, arith}
 use Rattle.std.proofs.Common.{append_assoc, length-append, slice_set}

@@ -2,11 +2,11 @@
 use Rattle.device_model.specs.Frames.{FrameRead}
 use Rattle.line_rules.specs.{Rules.Rules, RulesLaws.IsLawful, RulesLaws.IsFramed}
 use Rattle.link_format.specs.Profile.{Profile, HasTags, trailer_len}
-use Rattle.link_walks.specs.Checking.{passed, received_line}
+use Rattle.link_box.specs.Checking.{passed, received_line}
 use Rattle.receiver_laws.proofs.Deliveries.{delivers-all}
 use Rattle.receiver_laws.specs.Reading.{ReadsWhatPassed, delivered}
 use Rattle.receiver_laws.specs.Untouched.{AreSpaced, IsUntouched, numbered}
-use Rattle.link_walks.specs.Sealing.{sealer, at_floor, sealed, sealed_in}
+use Rattle.link_box.specs.Sealing.{sealer, at_floor, sealed, sealed_in}
 use Rattle.std.proofs.Common.{◌≡◌, ◌∙◌, ℕ, zero, suc, ◌+◌, ◌-◌, ◌*◌, ◌^◌, ◌<◌, ◌≤◌, true, List, []}
 use Rattle.std.proofs.Common.{◌∷◌, ◌++◌, length, map, refl, ap, sym, subst, arith, append_assoc}
 use Rattle.std.{proofs.lemmas.Grind.pow_more, proofs.lemmas.List.length-map, specs.List.filter_map}

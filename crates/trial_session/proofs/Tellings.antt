@@ -5,7 +5,7 @@ use Rattle.link_format.specs.Profile.{Profile, HasTags, pause_len, trailer_len}
 use Rattle.receiver_laws.proofs.DnpReadings.{dnp_reads_what_passed}
 use Rattle.receiver_laws.proofs.RtuReadings.{rtu_reads_what_passed}
 use Rattle.rtu_frame.specs.Rules.{rtu_rules, rtu_lawful, rtu_framed}
-use Rattle.link_walks.specs.Sealing.{link_line}
+use Rattle.link_box.specs.Sealing.{link_line}
 use Rattle.std.proofs.Common.{ℕ, ◌+◌, ◌≤◌, arith}
 use Rattle.trial_session.proofs.SealsAll.{all-sealed, reads-all}
 use Rattle.trial_session.specs.{DnpDrawn.dnp_drawing, DrawLaws.rtu_are_frames}

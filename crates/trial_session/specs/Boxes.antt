@@ -4,19 +4,19 @@ use Rattle.std.specs.List.{filter}
 use Rattle.yasir_ticks.specs.declared.tick.Tick.{Tick}
 use Rattle.line_rules.specs.Rules.{Rules}
 use Rattle.line_rules.specs.declared.line_rules.LineRules.{Ghosts as LineRules}
-use Rattle.hmac_tag.specs.declared.tag.Mac.{Ghosts as Mac}
+use Rattle.link_format.specs.declared.tag.Mac.{Ghosts as Mac}
 use Rattle.frame_ending.specs.Walk.{Noted}
 use Rattle.link_format.specs.Profile.{Profile, profile_of}
 use Rattle.link_format.specs.Setup.{Setup}
 use Rattle.sequence_journal.specs.declared.numbers.TheConstants.{LIMIT}
-use Rattle.link_walks.specs.Sealing.{FullNote as SealFull, seal_notes, link_line, sealed}
-use Rattle.link_walks.specs.Sealing.FullNote.{sealed_note, unsealed_note}
-use Rattle.link_walks.specs.declared.seal_note.SealNote.{SealNote}
-use Rattle.link_walks.specs.declared.seal_note.SealNote.TheVariants.{Sealed, Unsealed}
-use Rattle.link_walks.specs.Checking.{FullNote as CheckFull, check_notes, passed, received_line}
-use Rattle.link_walks.specs.Checking.FullNote.{passed_note, refused_note, dropped_note}
-use Rattle.link_walks.specs.declared.check_note.CheckNote.{CheckNote}
-use Rattle.link_walks.specs.declared.check_note.CheckNote.TheVariants as Check
+use Rattle.link_box.specs.Sealing.{FullNote as SealFull, seal_notes, link_line, sealed}
+use Rattle.link_box.specs.Sealing.FullNote.{sealed_note, unsealed_note}
+use Rattle.link_box.specs.declared.seal_note.SealNote.{SealNote}
+use Rattle.link_box.specs.declared.seal_note.SealNote.TheVariants.{Sealed, Unsealed}
+use Rattle.link_box.specs.Checking.{FullNote as CheckFull, check_notes, passed, received_line}
+use Rattle.link_box.specs.Checking.FullNote.{passed_note, refused_note, dropped_note}
+use Rattle.link_box.specs.declared.check_note.CheckNote.{CheckNote}
+use Rattle.link_box.specs.declared.check_note.CheckNote.TheVariants as Check
 use Rattle.trial_session.specs.Counting.{Counting}
 use Rattle.trial_session.specs.declared.fate.Fate.{Fate}
 use Rattle.trial_session.specs.declared.fate.Fate.TheVariants.{Through, Refused, Dropped}

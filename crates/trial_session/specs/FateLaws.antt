@@ -5,15 +5,15 @@ use Rattle.std.specs.List.{filter, filter_map, cons_option}
 use Rattle.std.proofs.Common.{◌∙◌, refl, ap, sym, arith, cond}
 use Rattle.frame_ending.specs.Walk.{Noted}
 use Rattle.line_rules.specs.declared.line_rules.LineRules.{Ghosts as LineRules}
-use Rattle.hmac_tag.specs.declared.tag.Mac.{Ghosts as Mac}
+use Rattle.link_format.specs.declared.tag.Mac.{Ghosts as Mac}
 use Rattle.link_box.specs.Walking.{full_notes}
 use Rattle.seal_transmitter.specs.Boxed.{seal_walking}
-use Rattle.link_walks.specs.Sealing.{FullNote as SealFull, sealed_in}
-use Rattle.link_walks.specs.Sealing.FullNote.{sealed_note, unsealed_note}
+use Rattle.link_box.specs.Sealing.{FullNote as SealFull, sealed_in}
+use Rattle.link_box.specs.Sealing.FullNote.{sealed_note, unsealed_note}
 use Rattle.seal_transmitter.specs.Answers.{brief_note as seal_brief}
-use Rattle.link_walks.specs.Checking.{FullNote as CheckFull, passed_in}
-use Rattle.link_walks.specs.Checking.{brief_note as check_brief}
-use Rattle.link_walks.specs.Checking.FullNote.{passed_note, refused_note, dropped_note}
+use Rattle.link_box.specs.Checking.{FullNote as CheckFull, passed_in}
+use Rattle.link_box.specs.Checking.{brief_note as check_brief}
+use Rattle.link_box.specs.Checking.FullNote.{passed_note, refused_note, dropped_note}
 use Rattle.check_receiver.specs.Boxed.{check_walking}
 use Rattle.trial_session.specs.Boxes.{trial_setup, fate_sealed, fate_checked, sealing, checking}
 use Rattle.trial_session.specs.Boxes.{is_unsealed}

@@ -1,7 +1,7 @@
 -- The link of a period, while it is sent.
 use Rattle.std.specs.Prelude.{◌-◌, List, ◌++◌, take}
 use Rattle.yasir_ticks.specs.{Ticks.silent, declared.tick.Tick.Tick}
-use Rattle.delay_ring.specs.DelayRing.{marked_ticks}
+use Rattle.yasir_ticks.specs.DelayRing.{marked_ticks}
 use Rattle.trial_session.specs.declared.link.Link.{Link}
 
 -- the ticks that are sent: those that are marked, and then silence

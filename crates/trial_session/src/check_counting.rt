@@ -6,8 +6,8 @@ ghost use Rattle.trial_session.specs.FateLaws.{checks-fates};
 use crate::counting_box::CountingBox;
 use crate::fate::Fate;
 use check_receiver::{CheckNote, Checker};
-use hmac_tag::Mac;
 use line_rules::LineRules;
+use link_format::Mac;
 
 impl<R: LineRules, M: Mac, const B: usize, const D: usize> CountingBox for Checker<R, M, B, D> {
     ghost fate_of = { fate_checked };

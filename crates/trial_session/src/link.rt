@@ -4,7 +4,7 @@ ghost use Rattle.trial_session.specs.Alterations.{altered};
 
 use crate::Alteration;
 use crate::marks::{bytes_in_front, overwrite};
-use delay_ring::mark_runs::silence_in_front;
+use yasir_ticks::mark_runs::silence_in_front;
 use yasir_ticks::{Tick, TickRun};
 
 /// How many ticks each frame has for itself, on the device's line and on the link.

@@ -5,8 +5,8 @@ ghost use Rattle.trial_session.specs.FateLaws.{seals-fates};
 
 use crate::counting_box::CountingBox;
 use crate::fate::Fate;
-use hmac_tag::Mac;
 use line_rules::LineRules;
+use link_format::Mac;
 use seal_transmitter::{SealNote, Sealer};
 
 impl<R: LineRules, M: Mac, const B: usize> CountingBox for Sealer<R, M, B> {

@@ -3,7 +3,7 @@ use crate::counting_box::CountingBox;
 use crate::fate::Fate;
 use crate::link::Link;
 use frame_ending::RunBytes;
-use hmac_tag::Dir;
+use link_format::Dir;
 use sequence_journal::Journal;
 use yasir_io::SteadySlots;
 use yasir_ticks::{MAX_TICKS, Tick, TickRun};

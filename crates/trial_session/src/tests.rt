@@ -3,7 +3,7 @@ use super::*;
 use check_receiver::Checker;
 use device_model::{DnpDevice, RtuDevice};
 use dnp_link_frame::Dnp;
-use hmac_tag::HmacSha1;
+use link_format::HmacSha1;
 use rtu_frame::Rtu;
 use seal_transmitter::Sealer;
 

@@ -4,9 +4,9 @@ use Rattle.rtu_frame.specs.Crc.{bit_step, bit_steps, byte_step, crc}
 use Rattle.rtu_frame.specs.Frame.{is_frame, has_right_ending}
 use Rattle.std.proofs.Common.{◌≡◌, Ok, length, refl}
 use Rattle.dnp_link_frame.specs.Blocks as dnp
-use Rattle.hmac_tag.proofs.StandardFacts.{hmac_of_hi_there, hmac_of_jefe, hmac_of_fifty_bytes}
-use Rattle.hmac_tag.proofs.StandardFacts.{tag_of_test_with_truncation, hmac_under_a_long_key}
-use Rattle.hmac_tag.proofs.StandardFacts.{hmac_256_of_hi_there, hmac_256_of_jefe}
+use Rattle.link_format.proofs.StandardFacts.{hmac_of_hi_there, hmac_of_jefe, hmac_of_fifty_bytes}
+use Rattle.link_format.proofs.StandardFacts.{tag_of_test_with_truncation, hmac_under_a_long_key}
+use Rattle.link_format.proofs.StandardFacts.{hmac_256_of_hi_there, hmac_256_of_jefe}
 use Rattle.{line_rules.specs.Endings.ends_in_check, vectors.specs.Cases.answer}
 use Rattle.vectors.specs.Tables.{crc_cases, hmac_cases, frames_cases, user_cases}
 

@@ -10,7 +10,7 @@ use Rattle.rtu_frame.specs.Frame.{is_frame}
 use Rattle.dnp_link_frame.specs.Beginnings.{user_in}
 use Rattle.dnp_link_frame.specs.Blocks as dnp
 use Rattle.dnp_link_frame.specs.Crc.{crc_dnp}
-use Rattle.hmac_tag.specs.Tag.{hmac_sha1, hmac_sha1_96, hmac_sha256}
+use Rattle.link_format.specs.Tag.{hmac_sha1, hmac_sha1_96, hmac_sha256}
 use Rattle.vectors.specs.declared.case.Case.{Case}
 use Rattle.vectors.specs.declared.case.CaseKind.{CaseKind}
 use Rattle.vectors.specs.declared.case.CaseKind.TheVariants.{Crc16, CrcDnp, HmacSha1, HmacSha196}

@@ -6,7 +6,7 @@ ghost use Rattle.vectors.specs.Cases.{truth, user_of};
 use crate::frame::is_frame;
 use arrayvec::ArrayVec;
 use dnp_link_frame::{Dnp, dnp_crc, user_data};
-use hmac_tag::{HmacSha1, HmacSha256, Mac};
+use link_format::{HmacSha1, HmacSha256, Mac};
 use rtu_frame::{Rtu, crc16};
 
 /// What is computed for a case.

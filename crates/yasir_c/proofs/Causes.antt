@@ -4,8 +4,8 @@ use Rattle.any_box.specs.declared.forgetful.ForgetfulDevice.{ForgetfulDevice}
 use Rattle.any_box.specs.declared.held_spacer.HeldSpacer.{HeldSpacer}
 use Rattle.device_model.specs.declared.{device.Device.Ghosts as Device, rtu.RtuDevice.RtuDevice}
 use Rattle.dnp_link_frame.specs.declared.dnp.Dnp.{Dnp}
-use Rattle.hmac_tag.specs.declared.{macs.HmacSha1.HmacSha1, macs.HmacSha256.HmacSha256}
-use Rattle.hmac_tag.specs.declared.tag.Mac.{Ghosts as Mac}
+use Rattle.link_format.specs.declared.{macs.HmacSha1.HmacSha1, macs.HmacSha256.HmacSha256}
+use Rattle.link_format.specs.declared.tag.Mac.{Ghosts as Mac}
 use Rattle.line_rules.specs.declared.line_rules.LineRules.{Ghosts as LineRules}
 use Rattle.{line_spacer.specs.declared.spacer.SpaceStep.SpaceStep, std.proofs.Common.◌≡◌}
 use Rattle.rtu_frame.specs.declared.rtu.Rtu.{Rtu}

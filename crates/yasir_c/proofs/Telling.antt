@@ -15,21 +15,21 @@ use Rattle.any_box.specs.declared.kind.Part.{Part, TheVariants.Sealer, TheVarian
 use Rattle.frame_ending.{proofs.Longer.length-line_of, specs.Answered.answered}
 use Rattle.frame_ending.specs.{Answers.told_notes, Answers.note_in, Walk.Noted}
 use Rattle.dnp_link_frame.specs.declared.dnp.Dnp.{Dnp}
-use Rattle.hmac_tag.specs.declared.{macs.HmacSha1.HmacSha1, macs.HmacSha256.HmacSha256}
-use Rattle.hmac_tag.specs.declared.tag.Mac.{Ghosts as Mac}
+use Rattle.link_format.specs.declared.{macs.HmacSha1.HmacSha1, macs.HmacSha256.HmacSha256}
+use Rattle.link_format.specs.declared.tag.Mac.{Ghosts as Mac}
 use Rattle.line_rules.specs.declared.line_rules.LineRules.{Ghosts as LineRules}
-use Rattle.hmac_tag.specs.declared.dir.Dir.{Dir}
+use Rattle.link_format.specs.declared.dir.Dir.{Dir}
 use Rattle.check_receiver.specs.Boxed.{check_walking}
 use Rattle.link_box.specs.Walking.{Walking, other_line}
 use Rattle.link_format.specs.Setup.{Setup, setup_of}
 use Rattle.seal_transmitter.specs.Boxed.{seal_walking}
 use Rattle.sequence_journal.specs.Journal.{journal_floor}
-use Rattle.link_walks.specs.declared.check_note.CheckNote.TheVariants.{Passed, Refused, Dropped}
+use Rattle.link_box.specs.declared.check_note.CheckNote.TheVariants.{Passed, Refused, Dropped}
 use Rattle.command_ends.specs.declared.words.Profile.{Profile, TheVariants.Y18, TheVariants.Y24}
 use Rattle.command_ends.specs.declared.words.Proto.{Proto}
 use Rattle.command_ends.specs.declared.words.Proto.TheVariants as Of
 use Rattle.rtu_frame.specs.declared.rtu.Rtu.{Rtu}
-use Rattle.link_walks.specs.declared.seal_note.SealNote.TheVariants.{Sealed, Unsealed}
+use Rattle.link_box.specs.declared.seal_note.SealNote.TheVariants.{Sealed, Unsealed}
 use Rattle.yasir_c.specs.Answers.{answer_of, numbers_in, tick_bytes}
 use Rattle.yasir_c.specs.Holding.{TakesTick, TakesFront, HandsOut, Stops}
 use Rattle.yasir_c.specs.Telling.{tick_told, note_told, notes_told, quiet}

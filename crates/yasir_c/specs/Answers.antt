@@ -4,14 +4,14 @@ use Rattle.yasir_ticks.specs.declared.tick.Tick.{Tick}
 use Rattle.yasir_ticks.specs.declared.tick.Tick.TheVariants.{Silent, Byte}
 use Rattle.yasir_io.specs.declared.disk.Slot.{Slot}
 use Rattle.yasir_io.specs.declared.disk.Slot.TheVariants.{A, B}
-use Rattle.link_walks.specs.declared.seal_note.SealNote.TheVariants.{Sealed, Unsealed}
-use Rattle.link_walks.specs.declared.seal_note.UnsealedWhy.{UnsealedWhy}
-use Rattle.link_walks.specs.declared.seal_note.UnsealedWhy.TheVariants as Seal
-use Rattle.link_walks.specs.declared.check_note.CheckNote.TheVariants.{Passed, Refused, Dropped}
-use Rattle.link_walks.specs.declared.check_note.RefusedWhy.{RefusedWhy}
-use Rattle.link_walks.specs.declared.check_note.RefusedWhy.TheVariants as Refuse
-use Rattle.link_walks.specs.declared.check_note.DroppedWhy.{DroppedWhy}
-use Rattle.link_walks.specs.declared.check_note.DroppedWhy.TheVariants as Drop
+use Rattle.link_box.specs.declared.seal_note.SealNote.TheVariants.{Sealed, Unsealed}
+use Rattle.link_box.specs.declared.seal_note.UnsealedWhy.{UnsealedWhy}
+use Rattle.link_box.specs.declared.seal_note.UnsealedWhy.TheVariants as Seal
+use Rattle.link_box.specs.declared.check_note.CheckNote.TheVariants.{Passed, Refused, Dropped}
+use Rattle.link_box.specs.declared.check_note.RefusedWhy.{RefusedWhy}
+use Rattle.link_box.specs.declared.check_note.RefusedWhy.TheVariants as Refuse
+use Rattle.link_box.specs.declared.check_note.DroppedWhy.{DroppedWhy}
+use Rattle.link_box.specs.declared.check_note.DroppedWhy.TheVariants as Drop
 use Rattle.any_box.specs.declared.any_note.AnyNote.{AnyNote}
 use Rattle.any_box.specs.declared.any_note.AnyNote.TheVariants.{OfSealer, OfChecker}
 use Rattle.any_box.specs.declared.held_box.HeldStep.{HeldStep}

@@ -7,9 +7,9 @@ use Rattle.yasir_io.specs.declared.disk.TheConstants.{SLOT_LEN}
 use Rattle.rtu_frame.specs.declared.rtu.Rtu.{Rtu}
 use Rattle.dnp_link_frame.specs.declared.dnp.Dnp.{Dnp}
 use Rattle.line_rules.specs.declared.line_rules.LineRules.{Ghosts as LineRules}
-use Rattle.hmac_tag.specs.declared.dir.Dir.{Dir}
-use Rattle.hmac_tag.specs.declared.tag.Mac.{Ghosts as Mac}
-use Rattle.hmac_tag.specs.declared.macs.{HmacSha1.HmacSha1, HmacSha256.HmacSha256}
+use Rattle.link_format.specs.declared.dir.Dir.{Dir}
+use Rattle.link_format.specs.declared.tag.Mac.{Ghosts as Mac}
+use Rattle.link_format.specs.declared.macs.{HmacSha1.HmacSha1, HmacSha256.HmacSha256}
 use Rattle.sequence_journal.specs.Slots.{slot_bytes, any_floor, wrong_slot}
 use Rattle.sequence_journal.specs.declared.journal.LoadError.{LoadError}
 use Rattle.sequence_journal.specs.declared.journal.LoadError.TheVariants as Load

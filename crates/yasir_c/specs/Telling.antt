@@ -9,8 +9,8 @@ use Rattle.frame_ending.specs.Walk.{Noted}
 use Rattle.rtu_frame.specs.declared.rtu.Rtu.{Rtu}
 use Rattle.dnp_link_frame.specs.declared.dnp.Dnp.{Dnp}
 use Rattle.line_rules.specs.declared.line_rules.LineRules.{Ghosts as LineRules}
-use Rattle.hmac_tag.specs.declared.tag.Mac.{Ghosts as Mac}
-use Rattle.hmac_tag.specs.declared.macs.{HmacSha1.HmacSha1, HmacSha256.HmacSha256}
+use Rattle.link_format.specs.declared.tag.Mac.{Ghosts as Mac}
+use Rattle.link_format.specs.declared.macs.{HmacSha1.HmacSha1, HmacSha256.HmacSha256}
 use Rattle.link_format.specs.Setup.{Setup}
 use Rattle.any_box.specs.Boxes.{kind_of, definition_of}
 use Rattle.any_box.specs.Held.{Holds}

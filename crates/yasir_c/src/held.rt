@@ -11,9 +11,9 @@ use any_box::{ForgetfulDnp, HeldSpacer, HeldStep};
 use device_model::{Device, RtuDevice};
 use dnp_link_frame::Dnp;
 use frame_ending::RunBytes;
-use hmac_tag::{HmacSha1, HmacSha256, Mac};
 use line_rules::LineRules;
 use line_spacer::SpaceStep;
+use link_format::{HmacSha1, HmacSha256, Mac};
 use rtu_frame::Rtu;
 use yasir_ticks::{Tick, TickRun};
 

@@ -3,7 +3,7 @@ ghost use Rattle.yasir_c.specs.Kinds.{part_number, proto_number, profile_number,
 ghost use Rattle.yasir_c.specs.Kinds.{HasNumber};
 
 use any_box::{Kind, Part, Profile, Proto};
-use hmac_tag::Dir;
+use link_format::Dir;
 
 /// Which box C asks for, as numbers.
 #[repr(C)]

@@ -2,7 +2,7 @@
 ghost use Rattle.std.specs.Prelude.{◌≡◌, ℕ, List, [], ◌∷◌, ◌++◌, Some, None, map, take};
 ghost use Rattle.yasir_ticks.specs.declared.tick.Tick.{Tick};
 ghost use Rattle.frame_ending.specs.Answered.{answered};
-ghost use Rattle.hmac_tag.specs.declared.dir.Dir.{Dir};
+ghost use Rattle.link_format.specs.declared.dir.Dir.{Dir};
 ghost use Rattle.link_format.specs.Setup.{Setup, setup_of};
 ghost use Rattle.any_box.specs.Held.{floor_held, Begins};
 ghost use Rattle.any_box.specs.declared.held_box.HeldBox.{HeldBox};
@@ -18,8 +18,8 @@ ghost use Rattle.yasir_c.specs.declared.held.Held.TheVariants.{LineBox};
 ghost use Rattle.yasir_c.specs.declared.withholding.WithholdingBox.{WithholdingBox};
 
 use dnp_link_frame::Dnp;
-use hmac_tag::{HmacSha1, HmacSha256, Mac};
 use line_rules::LineRules;
+use link_format::{HmacSha1, HmacSha256, Mac};
 use rtu_frame::Rtu;
 
 /// What C reads of a box in all, whatever it calls. *begins*: C has read nothing of a box that has

@@ -11,8 +11,8 @@ use crate::status::Status;
 use any_box::{HeldBox, HeldStep};
 use dnp_link_frame::Dnp;
 use frame_ending::RunBytes;
-use hmac_tag::{HmacSha1, HmacSha256, Mac};
 use line_rules::LineRules;
+use link_format::{HmacSha1, HmacSha256, Mac};
 use rtu_frame::Rtu;
 use yasir_ticks::{Tick, TickRun};
 

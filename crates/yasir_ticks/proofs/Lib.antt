@@ -20,3 +20,6 @@ pub mod RightTicks
 pub mod CanonicalLaws
 pub mod TextTicks
 pub mod DigitsAdded
+pub mod Marks
+pub mod Silence
+pub mod Windows

@@ -11,3 +11,4 @@ pub mod ReaderStep
 pub mod LineRoom
 pub mod Slices
 pub mod HexDigits
+pub mod DelayRing

@@ -9,12 +9,23 @@
 //!             _ => {}
 //!         }
 //!     }
+//!
+//! Ticks that leave a fixed number of ticks late.
+//!
+//!     let mut ring = DelayRing::<3>::new();
+//!     for byte in 1..4u8 {
+//!         assert_eq!(rt; ring.turn(Tick::Byte(byte)), Tick::Silent);
+//!     }
+//!     assert_eq!(rt; ring.turn(Tick::Byte(4)), Tick::Byte(1));
 #![tactic(auto)]
 
+mod delay_ring;
 mod fault;
 mod hex_digits;
+mod lanes;
 mod laws;
 mod line_room;
+pub mod mark_runs;
 mod place;
 mod reader;
 mod run;
@@ -22,6 +33,7 @@ mod tick;
 mod tick_run;
 mod whole_lines;
 
+pub use delay_ring::{DelayRing, MAX_DELAY, MAX_RUN};
 pub use fault::{BadTicks, TickFault};
 pub use hex_digits::{digits_of, push_digits};
 pub use laws::canonical_text_stands_for_its_ticks;

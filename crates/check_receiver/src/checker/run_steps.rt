@@ -2,8 +2,8 @@
 use super::{Checker, PAUSE};
 use crate::runs::{alike_along, cut_some, lend, lend_along, noteless_front};
 use frame_ending::RunBytes;
-use hmac_tag::Mac;
 use line_rules::LineRules;
+use link_format::Mac;
 use yasir_ticks::{MAX_TICKS, Tick};
 
 // The greatest number of bytes of a fill that leave at once.
@@ -18,7 +18,7 @@ impl<R: LineRules, M: Mac, const B: usize, const D: usize> Checker<R, M, B, D> {
     ghost use Rattle.yasir_ticks.specs.declared.tick.Tick.TheVariants.{Silent, Byte};
     ghost use Rattle.frame_ending.specs.declared.cut.Cut.TheVariants.{Start, Live};
     ghost use Rattle.frame_ending.specs.SoFar.{live_bytes_so_far};
-    ghost use Rattle.delay_ring.specs.DelayRing.{ring_ticks};
+    ghost use Rattle.yasir_ticks.specs.DelayRing.{ring_ticks};
     ghost use Rattle.link_format.specs.Setup.{Setup};
     ghost use Rattle.check_receiver.specs.Stands.{ticks_taken};
     ghost use Rattle.line_rules.specs.Rules.{head_of};
@@ -31,7 +31,7 @@ impl<R: LineRules, M: Mac, const B: usize, const D: usize> Checker<R, M, B, D> {
     ghost use Rattle.frame_ending.specs.Answered.{answered};
     ghost use Rattle.check_receiver.specs.Stands.{StandsAt, direction_of};
     ghost use Rattle.check_receiver.specs.Runs.{HasTakenRun, BeginsNone};
-    ghost use Rattle.spoiler.specs.Outlet.{owed_by};
+    ghost use Rattle.line_rules.specs.Outlet.{owed_by};
 
     // Takes live bytes of the burst whose verdict is open, if its header is a good one.
     #[inline(never)]

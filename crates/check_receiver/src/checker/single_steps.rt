@@ -2,9 +2,9 @@
 use super::{Checker, PAUSE};
 use crate::phase::Phase;
 use frame_ending::{BoxStep, Cut};
-use hmac_tag::Mac;
 use line_rules::{Head, LineRules};
-use link_walks::{CheckNote, RefusedWhy};
+use link_box::{CheckNote, RefusedWhy};
+use link_format::Mac;
 use sequence_journal::{Journal, JournalFault, LIMIT};
 use yasir_io::SlotDisk;
 use yasir_ticks::{MAX_TICKS, Tick};
@@ -17,7 +17,7 @@ impl<R: LineRules, M: Mac, const B: usize, const D: usize> Checker<R, M, B, D> {
     ghost use Rattle.frame_ending.specs.declared.cut.Cut.{Cut};
     ghost use Rattle.frame_ending.specs.declared.cut.Cut.TheVariants.{Start, Live, Extra};
     ghost use Rattle.frame_ending.specs.Stands.{ticks_taken as ticks_cut};
-    ghost use Rattle.delay_ring.specs.DelayRing.{ring_ticks};
+    ghost use Rattle.yasir_ticks.specs.DelayRing.{ring_ticks};
     ghost use Rattle.link_format.specs.Profile.{profile_of};
     ghost use Rattle.link_format.specs.Setup.{Setup};
     ghost use Rattle.sequence_journal.specs.declared.journal.Journal.{Journal};

@@ -7,7 +7,7 @@ use crate::counted_box::{Calls, Counted};
 use crate::driven_box::DrivenBox;
 use crate::line_box::LineBox;
 use check_receiver::Checker;
-use hmac_tag::{Dir, HmacSha1};
+use link_format::{Dir, HmacSha1};
 use rtu_frame::Rtu;
 use seal_transmitter::Sealer;
 use sequence_journal::{Journal, slot_of};

@@ -8,7 +8,7 @@ use super::KeptBox;
 use crate::counted_box::{Calls, Counted};
 use crate::line_box::LineBox;
 use check_receiver::Checker;
-use hmac_tag::{Dir, HmacSha1};
+use link_format::{Dir, HmacSha1};
 use rtu_frame::Rtu;
 use seal_transmitter::Sealer;
 use std::alloc::Global;

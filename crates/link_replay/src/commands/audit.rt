@@ -14,10 +14,9 @@ ghost use Rattle.link_replay.specs.Commands.{HasCauses};
 
 use command_ends::{
     Ends, KeyError, Profile, Proto, Status, Unclean, append_decimal, link_of, print_text, read_key,
-    status_of,
+    status_of, write_frame_line,
 };
-use hmac_tag::Dir;
-use line_commands::write_frame_line;
+use link_format::Dir;
 use session_audit::{Counts, Finding, ReadFrame, Session, Verdict, audit_input};
 use std::alloc::Global;
 use tick_drive::End;

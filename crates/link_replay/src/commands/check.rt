@@ -9,8 +9,8 @@ ghost use Rattle.link_replay.specs.CheckCommand.{Checks};
 
 use check_receiver::Checker;
 use command_ends::{Ends, Profile, Proto, Status, link_of, with_link};
-use hmac_tag::Dir;
 use line_commands::{CHECK_REST, replay_box};
+use link_format::Dir;
 use yasir_io::{Sink, SlotDisk, Source};
 
 // Runs the receiver over the input.

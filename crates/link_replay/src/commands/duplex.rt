@@ -13,8 +13,8 @@ ghost use Rattle.link_replay.specs.DuplexCommand.{both_in};
 
 use check_receiver::Checker;
 use command_ends::{Ends, KeyError, Profile, Proto, Status, read_key, status_of, with_link};
-use hmac_tag::Dir;
 use line_commands::{LineBox, print_both, record_both};
+use link_format::Dir;
 use seal_transmitter::Sealer;
 use std::alloc::Global;
 use yasir_io::{Sink, SlotDisk, Source};

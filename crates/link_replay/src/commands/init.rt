@@ -10,7 +10,7 @@ ghost use Rattle.link_replay.specs.InitCommand.{Inits};
 ghost use Rattle.command_ends.specs.Links.{link_of};
 
 use command_ends::{Ends, Profile, Proto, Status, flush_both, link_of};
-use hmac_tag::Dir;
+use link_format::Dir;
 use sequence_journal::{InitError, Journal};
 use yasir_io::{Sink, SlotDisk, Source};
 

@@ -7,7 +7,7 @@ ghost use Rattle.link_replay.specs.ReplayCommand.{Replays};
 
 use check_receiver::Checker;
 use command_ends::{Ends, Profile, Proto, Status, with_link};
-use hmac_tag::Dir;
+use link_format::Dir;
 use session_audit::{SealedFrames, ShownFrames, replay_recordings};
 use std::alloc::Global;
 use yasir_io::{Sink, SlotDisk, Source, SteadySlots};

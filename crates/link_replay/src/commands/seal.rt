@@ -8,8 +8,8 @@ ghost use Rattle.command_ends.specs.Links.{link_of};
 ghost use Rattle.link_replay.specs.SealCommand.{Seals};
 
 use command_ends::{Ends, Profile, Proto, Status, link_of, with_link};
-use hmac_tag::Dir;
 use line_commands::{SEAL_REST, replay_box};
+use link_format::Dir;
 use seal_transmitter::Sealer;
 use yasir_io::{Sink, SlotDisk, Source};
 

@@ -7,7 +7,7 @@ use crate::frame_box::{FrameBox, FrameStep};
 use crate::recordings::list_recordings;
 use device_model::{Device, Met};
 use frame_ending::RunBytes;
-use hmac_tag::Dir;
+use link_format::Dir;
 use std::alloc::Global;
 use std::test::Fail;
 use tick_drive::End;

@@ -3,7 +3,7 @@
 use super::{Floors, SessionLists, Timing};
 use crate::replay_lists::turn_tests::{Calls, Deaf, Wire};
 use crate::sessions::list_session;
-use hmac_tag::Dir;
+use link_format::Dir;
 use std::alloc::Global;
 use std::test::Fail;
 use tick_drive::End;

@@ -1,5 +1,5 @@
 use Rattle.check_receiver.proofs.Lending.{ring-whole, alike-front, alike-past}
-use Rattle.delay_ring.specs.DelayRing.{ring_ticks, AreAlike}
+use Rattle.yasir_ticks.specs.DelayRing.{ring_ticks, AreAlike}
 use Rattle.std.proofs.Common.{◌≡◌, ◌∙◌, ◌<◌, sym, subst, arith, length, List, ℕ, take, map}
 use Rattle.std.proofs.lemmas.Bool.{eqb-false}
 use Rattle.yasir_ticks.specs.declared.tick.Tick.{Tick, TheVariants.Byte}

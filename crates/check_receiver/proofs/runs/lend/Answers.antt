@@ -1,6 +1,6 @@
 use Rattle.check_receiver.{proofs.Lending.of-ok, proofs.Lending.no-bytes, specs.Runs.IsFront}
 use Rattle.std.proofs.lemmas.Bool.{eqb-true}
-use Rattle.delay_ring.specs.DelayRing.{ring_ticks}
+use Rattle.yasir_ticks.specs.DelayRing.{ring_ticks}
 use Rattle.std.proofs.Common.{◌≡◌, ◌∙◌, ◌++◌, sym, ap, subst, arith, length, List, ℕ}
 use Rattle.check_receiver.proofs.runs.lend.Goals as goal
 

@@ -1,6 +1,6 @@
 use Rattle.check_receiver.proofs.Lending.{of-ok, ring-whole, front-along, whole-along, ring-alike}
 use Rattle.check_receiver.{proofs.Lending.bytes-long, proofs.Lending.no-bytes, specs.Runs.IsFront}
-use Rattle.{delay_ring.specs.DelayRing.ring_ticks, std.proofs.Common.◌≡◌, std.proofs.Common.◌∙◌}
+use Rattle.{yasir_ticks.specs.DelayRing.ring_ticks, std.proofs.Common.◌≡◌, std.proofs.Common.◌∙◌}
 use Rattle.std.proofs.Common.{◌-◌, ◌≤◌, ◌++◌, sym, ap, subst, arith, length, List, ℕ, take, map}
 use Rattle.std.proofs.{Common.length-append, lemmas.Bool.eqb-true, lemmas.List.length-take-le}
 use Rattle.yasir_ticks.specs.declared.tick.Tick.{Tick, TheVariants.Byte}

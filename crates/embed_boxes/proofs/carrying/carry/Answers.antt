@@ -1,5 +1,5 @@
 use Rattle.embed_boxes.{proofs.Delivered.delivered, specs.Carrying.profile_with}
-use Rattle.{link_walks.specs.Checking.received_line}
+use Rattle.{link_box.specs.Checking.received_line}
 use Rattle.rtu_frame.specs.Rules.{rtu_rules}
 use Rattle.std.proofs.Common.{◌≡◌, ◌∙◌, ℕ, List, ap}
 use Rattle.embed_boxes.proofs.carrying.carry.Goals as goal

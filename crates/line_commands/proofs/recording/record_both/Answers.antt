@@ -1,5 +1,5 @@
 use Rattle.line_commands.proofs.BothKept.{keeps-whole, only-memory}
-use Rattle.{duplex_box.specs.Directions.opposite_of}
+use Rattle.link_format.specs.Directions.{opposite_of}
 use Rattle.{link_format.specs.Setup.setup_of}
 use Rattle.std.proofs.Common.{refl}
 use Rattle.line_commands.proofs.recording.record_both.Goals as goal

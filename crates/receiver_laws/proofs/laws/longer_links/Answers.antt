@@ -1,5 +1,5 @@
-use Rattle.link_walks.proofs.CheckCausality.{checker-extends}
-use Rattle.link_walks.specs.Checking.{at_floor}
+use Rattle.link_box.proofs.CheckCausality.{checker-extends}
+use Rattle.link_box.specs.Checking.{at_floor}
 use Rattle.receiver_laws.proofs.Longer.{passed-extends}
 use Rattle.receiver_laws.proofs.laws.longer_links.Goals as goal
 

@@ -1,4 +1,4 @@
-use Rattle.link_walks.proofs.Packets.{packet-passes}
+use Rattle.link_box.proofs.Packets.{packet-passes}
 use Rattle.receiver_laws.proofs.Packets.{packet-contained}
 use Rattle.receiver_laws.proofs.laws.whole_packets_pass.Goals as goal
 

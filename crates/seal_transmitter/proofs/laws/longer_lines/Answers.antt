@@ -1,8 +1,8 @@
 use Rattle.link_format.specs.Profile.{profile_of}
-use Rattle.link_walks.proofs.SealCausality.{sealer-extends}
-use Rattle.link_walks.proofs.SealNumbers.{sealed-numbered}
-use Rattle.link_walks.proofs.SealNumbers.{sealed-extends}
-use Rattle.link_walks.specs.Sealing.{at_floor}
+use Rattle.link_box.proofs.SealCausality.{sealer-extends}
+use Rattle.link_box.proofs.SealNumbers.{sealed-numbered}
+use Rattle.link_box.proofs.SealNumbers.{sealed-extends}
+use Rattle.link_box.specs.Sealing.{at_floor}
 use Rattle.seal_transmitter.proofs.laws.longer_lines.Goals as goal
 
 pub returns-clause-extends : goal.returns-clause-extends

@@ -1,6 +1,6 @@
 use Rattle.dnp_link_frame.specs.{Rules.dnp_rules, RulesLaws.dnp_lawful}
 use Rattle.rtu_frame.specs.Rules.{rtu_rules, rtu_lawful}
-use Rattle.link_walks.proofs.SealNumbers.{sealed-numbered}
+use Rattle.link_box.proofs.SealNumbers.{sealed-numbered}
 use Rattle.session_audit.proofs.Auditing.{judged-so}
 use Rattle.session_audit.proofs.Starts.{passed-starts}
 use Rattle.std.proofs.{Common.true, Common.false, lemmas.Bool.eq-eqb, lemmas.Bool.ne_eqb}

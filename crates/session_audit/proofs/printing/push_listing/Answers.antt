@@ -1,4 +1,4 @@
-use Rattle.line_commands.specs.PrintedLines.{frame_lines}
+use Rattle.command_ends.specs.FrameLine.{frame_lines}
 use Rattle.session_audit.proofs.InOrder.{breaks-first}
 use Rattle.session_audit.proofs.InOrder.{breaks-second, breaks-third, breaks-fourth, adds-all}
 use Rattle.session_audit.specs.{Listing.forged_in, Listing.numbered_lines, Printing.on_the_way}

@@ -1,5 +1,5 @@
 use Rattle.check_receiver.proofs.Keeping.{keeps-ok, keeps-err}
-use Rattle.{link_walks.specs.Checking.FullNote.passed_note, std.proofs.Common.refl}
+use Rattle.{link_box.specs.Checking.FullNote.passed_note, std.proofs.Common.refl}
 use Rattle.check_receiver.proofs.boxed.CheckerLinkBox.step.Goals as goal
 
 pub returns-in-Ok-clause-steps : goal.returns-in-Ok-clause-steps

@@ -4,7 +4,7 @@ use Rattle.check_receiver.specs.Between.{IsNoPass, IsBetween}
 use Rattle.check_receiver.specs.Stands.{HasTaken, direction_of}
 use Rattle.frame_ending.{proofs.Running.start-tick, specs.declared.cut.Cut.TheVariants.Start}
 use Rattle.line_rules.specs.Rules.{head_of}
-use Rattle.link_walks.specs.declared.check_note.CheckNote.{CheckNote}
+use Rattle.link_box.specs.declared.check_note.CheckNote.{CheckNote}
 use Rattle.std.proofs.Common.{◌≡◌, ◌∙◌, ℕ, ⊎_elim, sym, ap, subst, arith, Option, [], ◌∷◌, ◌++◌}
 use Rattle.yasir_ticks.specs.declared.tick.Tick.{Tick, TheVariants.Byte}
 use Rattle.check_receiver.proofs.checker.Checker.begin.Goals as goal

@@ -1,7 +1,7 @@
 use Rattle.check_receiver.proofs.Deciding.{room-kept, decide-refuses, decide-passes, decide-fails}
 use Rattle.check_receiver.proofs.Journals.{journal-kept}
 use Rattle.check_receiver.specs.{Between.IsNoPass, Checkings.CommitsNoted, Stands.HasTaken}
-use Rattle.link_walks.specs.declared.check_note.CheckNote.{CheckNote}
+use Rattle.link_box.specs.declared.check_note.CheckNote.{CheckNote}
 use Rattle.sequence_journal.specs.Journal.{journal_floor}
 use Rattle.std.proofs.Common.{◌∙◌, ℕ, sym, ap, subst, rules, Option}
 use Rattle.check_receiver.proofs.checker.Checker.decide.Goals as goal

@@ -1,6 +1,6 @@
 use Rattle.std.proofs.Common.{◌∙◌, ap, Some}
-use Rattle.link_walks.specs.declared.check_note.CheckNote.TheVariants.{Dropped}
-use Rattle.link_walks.specs.declared.check_note.DroppedWhy.TheVariants.{Busy}
+use Rattle.link_box.specs.declared.check_note.CheckNote.TheVariants.{Dropped}
+use Rattle.link_box.specs.declared.check_note.DroppedWhy.TheVariants.{Busy}
 use Rattle.check_receiver.proofs.checker.Checker.drop_busy.Goals as goal
 
 pub returns-clause-told : goal.returns-clause-told

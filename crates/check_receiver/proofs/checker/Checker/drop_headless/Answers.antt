@@ -1,6 +1,6 @@
 use Rattle.std.proofs.Common.{◌∙◌, ap, Some}
-use Rattle.link_walks.specs.declared.check_note.CheckNote.TheVariants.{Dropped}
-use Rattle.link_walks.specs.declared.check_note.DroppedWhy.TheVariants.{Head}
+use Rattle.link_box.specs.declared.check_note.CheckNote.TheVariants.{Dropped}
+use Rattle.link_box.specs.declared.check_note.DroppedWhy.TheVariants.{Head}
 use Rattle.check_receiver.proofs.checker.Checker.drop_headless.Goals as goal
 
 pub returns-clause-told : goal.returns-clause-told

@@ -1,6 +1,6 @@
 use Rattle.check_receiver.proofs.Fills.{fill-leaves, fill-taken, still-closed}
 use Rattle.check_receiver.specs.{Phases.is_open, Runs.HasTakenRun}
-use Rattle.spoiler.specs.Outlet.{owed_by}
+use Rattle.line_rules.specs.Outlet.{owed_by}
 use Rattle.std.proofs.Common.{◌∙◌, ◌∷◌, [], sym, subst, ap, nat_lt}
 use Rattle.yasir_ticks.specs.declared.tick.Tick.{Tick}
 use Rattle.check_receiver.proofs.checker.Checker.fill_one.Goals as goal

@@ -3,7 +3,7 @@ use Rattle.check_receiver.proofs.Beginnings.{front-none, keeps-front}
 use Rattle.check_receiver.proofs.Lending.{none-taken, bytes-long, ring-whole, first-along}
 use Rattle.check_receiver.proofs.{Lending.less-alike, RunTicks.take-along, RunsTaken.follow-taken}
 use Rattle.check_receiver.specs.{Phases.is_open, Runs.HasTakenRun, Runs.IsFront, Runs.KeepsHeader}
-use Rattle.delay_ring.specs.DelayRing.{ring_ticks}
+use Rattle.yasir_ticks.specs.DelayRing.{ring_ticks}
 use Rattle.frame_ending.specs.{SoFar.live_bytes_so_far, Stands.StandsFor as CutStandsFor}
 use Rattle.std.proofs.Common.{◌≡◌, ◌∙◌, ◌++◌, [], sym, ap, subst, arith, length, List, ℕ, take, map}
 use Rattle.std.proofs.Common.{refl, length-append}

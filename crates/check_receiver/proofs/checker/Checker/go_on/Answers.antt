@@ -4,7 +4,7 @@ use Rattle.check_receiver.proofs.{Machine.waiting-some, Resting.begins-none, Res
 use Rattle.check_receiver.specs.{Between.IsNoPass, Between.IsBetween, Stands.HasTaken}
 use Rattle.{check_receiver.specs.Stands.direction_of, frame_ending.proofs.Running.live-tick}
 use Rattle.frame_ending.specs.{LiveBytes.live_bytes, declared.cut.Cut.TheVariants.Live}
-use Rattle.link_walks.specs.declared.check_note.CheckNote.{CheckNote}
+use Rattle.link_box.specs.declared.check_note.CheckNote.{CheckNote}
 use Rattle.std.proofs.Common.{◌∙◌}
 use Rattle.std.proofs.Common.{⊎_elim, ap, sym, subst, inl, Option, [], ◌∷◌, ◌++◌, ℕ, List, length}
 use Rattle.yasir_ticks.specs.declared.tick.Tick.{Tick, TheVariants.Byte}

@@ -3,8 +3,8 @@ use Rattle.check_receiver.proofs.{Journals.journal-kept, Resting.begins-none, Re
 use Rattle.check_receiver.proofs.Taking.{more-taken, whole-taken}
 use Rattle.check_receiver.specs.Between.{IsNoPass}
 use Rattle.frame_ending.{proofs.Running.extra-tick, specs.declared.cut.Cut.TheVariants.Extra}
-use Rattle.link_walks.specs.declared.check_note.CheckNote.{CheckNote}
-use Rattle.link_walks.specs.declared.check_note.RefusedWhy.TheVariants.{Trailer}
+use Rattle.link_box.specs.declared.check_note.CheckNote.{CheckNote}
+use Rattle.link_box.specs.declared.check_note.RefusedWhy.TheVariants.{Trailer}
 use Rattle.sequence_journal.specs.Journal.{journal_floor}
 use Rattle.std.proofs.Common.{◌∙◌, [], ◌∷◌, ◌++◌, inr, sym, subst, arith, refl, Option}
 use Rattle.std.proofs.lemmas.Result.{IfOk-weaker, on_err_weaker}

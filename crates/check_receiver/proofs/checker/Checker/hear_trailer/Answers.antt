@@ -1,7 +1,7 @@
 use Rattle.{frame_ending.specs.Answered.answered, check_receiver.proofs.Lending.same-taken}
 use Rattle.check_receiver.proofs.{Lending.less-alike, Lending.ring-whole, RunsTaken.trailer-taken}
 use Rattle.check_receiver.specs.{Phases.is_open, Runs.HasTakenRun, Runs.IsFront}
-use Rattle.{delay_ring.specs.DelayRing.ring_ticks, std.proofs.Common.◌≡◌}
+use Rattle.{yasir_ticks.specs.DelayRing.ring_ticks, std.proofs.Common.◌≡◌}
 use Rattle.std.proofs.Common.{◌-◌, ◌++◌, sym, ap, subst, arith, length, List, ℕ, take, drop, map}
 use Rattle.std.proofs.lemmas.List.{take-take, length-take-le}
 use Rattle.yasir_ticks.specs.{Ticks.silent, declared.tick.Tick.TheVariants.Byte}

@@ -1,6 +1,6 @@
-use Rattle.{check_receiver.specs.Phases.passes_in, delay_ring.specs.DelayRing.ring_ticks}
-use Rattle.link_walks.specs.Turns.{HasTurned, tick_or_silence}
-use Rattle.spoiler.specs.Outlet.{StandsFor as OutletStandsFor, refused_by, filled_bytes}
+use Rattle.{check_receiver.specs.Phases.passes_in, yasir_ticks.specs.DelayRing.ring_ticks}
+use Rattle.link_box.specs.Turns.{HasTurned, tick_or_silence}
+use Rattle.line_rules.specs.Outlet.{StandsFor as OutletStandsFor, refused_by, filled_bytes}
 use Rattle.std.proofs.Common.{◌∙◌, ℕ, ◌++◌, get_or, sym, ap, subst, ◌==◌, Bool, Option}
 use Rattle.yasir_ticks.specs.declared.tick.Tick.{Tick, TheVariants.Silent, TheVariants.Byte}
 use Rattle.check_receiver.proofs.checker.Checker.let_out.Goals as goal

@@ -1,8 +1,8 @@
 use Rattle.link_format.specs.{Profile.Profile, Profile.profile_of, Setup.Setup, Setup.setup_of}
-use Rattle.link_walks.proofs.Begun.{walked-begun}
-use Rattle.link_walks.specs.{Checking.at_floor, Holding.HasWalked}
+use Rattle.link_box.proofs.Begun.{walked-begun}
+use Rattle.link_box.specs.{Checking.at_floor, Holding.HasWalked}
 use Rattle.sequence_journal.specs.declared.numbers.TheConstants.{LIMIT}
-use Rattle.{spoiler.proofs.Standing.stands-unowed, std.proofs.Common.◌≡◌}
+use Rattle.{line_rules.proofs.Standing.stands-unowed, std.proofs.Common.◌≡◌}
 use Rattle.std.proofs.Common.{◌∙◌, ◌-◌, ℕ, refl, sym, ap, subst, arith, [], length, false, None}
 use Rattle.yasir_ticks.specs.{Bursts.bursts, Ticks.silent, declared.tick.Tick.Tick}
 use Rattle.check_receiver.proofs.checker.Checker.new.Goals as goal

@@ -1,6 +1,6 @@
 use Rattle.std.proofs.Common.{◌∙◌, ap, Some}
 use Rattle.frame_ending.specs.SoFar.{start_so_far, live_bytes_so_far}
-use Rattle.link_walks.specs.declared.check_note.CheckNote.TheVariants.{Passed}
+use Rattle.link_box.specs.declared.check_note.CheckNote.TheVariants.{Passed}
 use Rattle.check_receiver.proofs.checker.Checker.pass.Goals as goal
 
 pub returns-clause-told : goal.returns-clause-told

@@ -1,6 +1,6 @@
 use Rattle.{frame_ending.specs.Answered.answered, check_receiver.proofs.Lending.bytes-long}
 use Rattle.check_receiver.proofs.Lending.{same-taken, less-alike, ring-whole}
-use Rattle.delay_ring.specs.DelayRing.{ring_ticks}
+use Rattle.yasir_ticks.specs.DelayRing.{ring_ticks}
 use Rattle.check_receiver.{proofs.RunsTaken.flow-counted, specs.Runs.HasTakenRun}
 use Rattle.std.proofs.Common.{◌≡◌, ◌∙◌, ◌-◌, subst, arith, length, List, ℕ, take, map}
 use Rattle.std.proofs.lemmas.List.{take-take, length-take-le}

@@ -4,7 +4,7 @@ use Rattle.check_receiver.proofs.Silences.{open-silent, waits-long, waits-last}
 use Rattle.check_receiver.specs.{Between.IsNoPass, Stands.direction_of}
 use Rattle.frame_ending.specs.{LiveBytes.live_bytes, LiveBytes.live_end, SoFar.live_bytes_in}
 use Rattle.line_rules.specs.{Rules.head_of, declared.head.Head.TheVariants.Short}
-use Rattle.link_walks.specs.declared.check_note.CheckNote.{CheckNote}
+use Rattle.link_box.specs.declared.check_note.CheckNote.{CheckNote}
 use Rattle.std.proofs.Common.{◌≡◌}
 use Rattle.std.proofs.Common.{◌∙◌, ◌+◌, ◌<◌, ⊎_elim, sym, ap, subst, arith, length, Option, [], ◌∷◌}
 use Rattle.{std.proofs.Common.◌++◌, yasir_ticks.specs.declared.tick.Tick.TheVariants.Silent}

@@ -1,6 +1,6 @@
 use Rattle.check_receiver.specs.Turning.{Turned, refused}
 use Rattle.{frame_ending.specs.SoFar.live_bytes_so_far, line_rules.specs.Rules.lacking_of}
-use Rattle.link_walks.specs.declared.check_note.CheckNote.TheVariants.{Refused}
+use Rattle.link_box.specs.declared.check_note.CheckNote.TheVariants.{Refused}
 use Rattle.std.proofs.Common.{◌≡◌, ◌∙◌, ap, sym, subst, arith, length, Some, List, ℕ}
 use Rattle.yasir_ticks.specs.declared.tick.Tick.TheVariants.{Silent}
 use Rattle.check_receiver.proofs.checker.Checker.refuse.Goals as goal

@@ -4,7 +4,7 @@ use Rattle.check_receiver.proofs.Beginnings.{run-whole, still-stands}
 use Rattle.check_receiver.proofs.{Lending.bytes-long, Lending.same-taken, RunsTaken.idle-taken}
 use Rattle.check_receiver.specs.{Phases.LeftIn, Runs.HasTakenRun, Runs.KeepsHeader}
 use Rattle.check_receiver.specs.declared.phase.Phase.{Phase, TheVariants.Idle}
-use Rattle.spoiler.specs.Outlet.{owed_by}
+use Rattle.line_rules.specs.Outlet.{owed_by}
 use Rattle.std.proofs.Common.{◌≡◌, ◌∙◌, ◌+◌, ◌-◌, ◌<◌, ◌++◌, [], ◌∷◌, sym, ap, subst, arith, length}
 use Rattle.std.proofs.Common.{List, ℕ, take, drop, map, refl, slice_index_or}
 use Rattle.std.proofs.lemmas.{Bool.eqb-false, List.length-take-le, List.length-drop, List.take_all}

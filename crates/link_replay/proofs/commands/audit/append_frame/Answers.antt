@@ -1,5 +1,5 @@
 use Rattle.device_model.specs.Frames.{FrameRead}
-use Rattle.line_commands.specs.PrintedLines.{frame_line_of}
+use Rattle.command_ends.specs.FrameLine.{frame_line_of}
 use Rattle.link_replay.specs.AuditCommand.{frame_or_none}
 use Rattle.std.proofs.Common.{◌≡◌, ◌∙◌, ℕ, List, ◌++◌, ap, append_assoc, sym}
 use Rattle.std.specs.Prelude.{codes}

@@ -1,6 +1,6 @@
 use Rattle.std.proofs.Common.{◌+◌, refl}
 use Rattle.sequence_journal.specs.Journal.{journal_floor}
-use Rattle.link_walks.specs.Sealing.FullNote.{sealed_note}
+use Rattle.link_box.specs.Sealing.FullNote.{sealed_note}
 use Rattle.seal_transmitter.proofs.Keeping.{keeps-ok, keeps-err}
 use Rattle.seal_transmitter.proofs.boxed.SealerLinkBox.step.Goals as goal
 

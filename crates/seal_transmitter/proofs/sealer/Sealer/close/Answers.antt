@@ -1,6 +1,6 @@
 use Rattle.link_format.specs.Trailers.{bytes_unsent}
-use Rattle.link_walks.specs.Sealing.Judgement.{sealed_with}
-use Rattle.link_walks.specs.declared.seal_note.SealNote.{SealNote}
+use Rattle.link_box.specs.Sealing.Judgement.{sealed_with}
+use Rattle.link_box.specs.declared.seal_note.SealNote.{SealNote}
 use Rattle.seal_transmitter.proofs.Advancing.{seals-with}
 use Rattle.seal_transmitter.specs.{Answers.CommitsNoted, Between.Judges, Stands.HasTaken}
 use Rattle.sequence_journal.specs.{Commits.HasFailed, Journal.journal_floor}

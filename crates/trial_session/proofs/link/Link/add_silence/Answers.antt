@@ -1,4 +1,4 @@
-use Rattle.{delay_ring.specs.DelayRing.marked_ticks, trial_session.proofs.Behind.more-behind}
+use Rattle.{yasir_ticks.specs.DelayRing.marked_ticks, trial_session.proofs.Behind.more-behind}
 use Rattle.trial_session.proofs.link.Link.add_silence.Goals as goal
 
 pub returns-clause-sent : goal.returns-clause-sent

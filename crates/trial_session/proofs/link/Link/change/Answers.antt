@@ -1,4 +1,4 @@
-use Rattle.{delay_ring.specs.DelayRing.marked_ticks, std.proofs.Common.◌∙◌, std.proofs.Common.ap}
+use Rattle.{yasir_ticks.specs.DelayRing.marked_ticks, std.proofs.Common.◌∙◌, std.proofs.Common.ap}
 use Rattle.std.{proofs.Common.slice_set, proofs.Common.sym, specs.Prelude.slice_index_or}
 use Rattle.trial_session.proofs.{Behind.all-marked, Marked.byte-changed, Marked.silence-changed}
 use Rattle.trial_session.specs.Alterations.{changed}

@@ -1,4 +1,4 @@
-use Rattle.delay_ring.specs.DelayRing.{marked_ticks}
+use Rattle.yasir_ticks.specs.DelayRing.{marked_ticks}
 use Rattle.std.proofs.Common.{◌≡◌, ◌∙◌, ◌+◌, ◌-◌, ap, arith, refl, take, sym}
 use Rattle.{std.proofs.lemmas.List.take-replicate, trial_session.proofs.Behind.all-marked}
 use Rattle.trial_session.proofs.Marked.{silence-comes}

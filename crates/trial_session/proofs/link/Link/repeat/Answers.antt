@@ -1,4 +1,4 @@
-use Rattle.delay_ring.specs.DelayRing.{marked_ticks}
+use Rattle.yasir_ticks.specs.DelayRing.{marked_ticks}
 use Rattle.std.proofs.Common.{◌∙◌, ◌++◌, ap, sym, take}
 use Rattle.trial_session.proofs.{Behind.all-marked, Marked.repeated}
 use Rattle.trial_session.proofs.link.Link.repeat.Goals as goal

@@ -1,4 +1,4 @@
-use Rattle.delay_ring.{proofs.Marks.ticks-length, specs.DelayRing.marked_ticks}
+use Rattle.yasir_ticks.{proofs.Marks.ticks-length, specs.DelayRing.marked_ticks}
 use Rattle.std.proofs.Common.{◌≡◌, ◌∙◌, ◌-◌, ap, arith, drop, length, sym, take}
 use Rattle.{std.proofs.lemmas.List.length-replicate, trial_session.proofs.Behind.all-behind}
 use Rattle.trial_session.specs.Links.{link_sent}

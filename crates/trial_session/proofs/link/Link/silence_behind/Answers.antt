@@ -1,4 +1,4 @@
-use Rattle.delay_ring.{proofs.Marks.ticks-length, specs.DelayRing.marked_ticks}
+use Rattle.yasir_ticks.{proofs.Marks.ticks-length, specs.DelayRing.marked_ticks}
 use Rattle.{std.proofs.Common.◌∙◌, std.proofs.Common.arith, std.proofs.Common.sym}
 use Rattle.trial_session.proofs.Behind.{cut-behind}
 use Rattle.trial_session.proofs.link.Link.silence_behind.Goals as goal

@@ -1,5 +1,5 @@
-use Rattle.delay_ring.proofs.{Marks.ticks-length, Windows.front-silent}
-use Rattle.delay_ring.specs.DelayRing.{marked_ticks}
+use Rattle.yasir_ticks.proofs.{Marks.ticks-length, Windows.front-silent}
+use Rattle.yasir_ticks.specs.DelayRing.{marked_ticks}
 use Rattle.std.proofs.Common.{◌≡◌, ◌∙◌, ◌-◌, ap, arith, take, drop, length, sym}
 use Rattle.std.proofs.lemmas.List.{length-take-le, length-drop}
 use Rattle.trial_session.proofs.{Behind.in-front, Marked.from-place, Marked.mark-at}

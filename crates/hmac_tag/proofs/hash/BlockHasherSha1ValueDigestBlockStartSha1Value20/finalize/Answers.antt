@@ -1,4 +1,0 @@
-use Rattle.hmac_tag.proofs.hash.BlockHasherSha1ValueDigestBlockStartSha1Value20.finalize.Goals as goal
-
-pub returns : goal.returns
-returns c = λ m held. c.digest.ensures m (c.ended.ensures m held)

@@ -1,6 +1,0 @@
-use Rattle.{sha1.specs.Sha1.hash_after, std.proofs.Common.refl}
-use Rattle.hmac_tag.proofs.hash_value.Sha1ValueHashValue.initial.Goals as goal
-
-pub returns : goal.returns
-unfolding hash_after
-returns c = refl

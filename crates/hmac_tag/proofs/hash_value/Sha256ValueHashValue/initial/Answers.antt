@@ -1,6 +1,0 @@
-use Rattle.{sha2.specs.Sha256.hash_after, std.proofs.Common.refl}
-use Rattle.hmac_tag.proofs.hash_value.Sha256ValueHashValue.initial.Goals as goal
-
-pub returns : goal.returns
-unfolding hash_after
-returns c = refl

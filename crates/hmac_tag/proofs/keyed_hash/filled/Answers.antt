@@ -1,6 +1,0 @@
-use Rattle.std.proofs.{Common.ℕ, Common.List, Common.◌++◌, Common.ap, lemmas.List.drop-replicate}
-use Rattle.hmac_tag.proofs.keyed_hash.filled.Goals as goal
-
-pub returns : goal.returns
-returns c = rw c.copy_from_slice.ensures.after
-    (ap (λ (zeros : List ℕ). c.args.key.now ++ zeros) (drop-replicate _ 64 0))

@@ -1,6 +1,0 @@
-use Rattle.sha1.specs.Sha1.{compress, schedule}
-use Rattle.hmac_tag.proofs.sha1_block.compress.Goals as goal
-
-pub returns : goal.returns
-unfolding compress
-returns c = c.run_rounds.ensures (schedule c.args.block.now 64) c.keyed_schedule.ensures

@@ -1,8 +1,0 @@
-use Rattle.{hmac_tag.proofs.Sha1Blocks.near_four, std.proofs.Common.◌∙◌}
-use Rattle.hmac_tag.proofs.sha1_block.next_four.Goals as goal
-
-pub returns : goal.returns
-returns c = λ block t within a b e d. record {
-  is = c.rotated.ensures ∙ rw (c.rotated-first.ensures, a.is, b.is, e.is, d.is)
-      (near_four block t within);
-}

@@ -1,7 +1,0 @@
-use Rattle.hmac_tag.proofs.KeyedWords.{IsFour_from}
-use Rattle.std.proofs.Common.{◌*◌, arith}
-use Rattle.sha2.specs.Sha256.{round_constants}
-use Rattle.hmac_tag.proofs.sha256_block.constants.Goals as goal
-
-pub returns : goal.returns
-returns c = IsFour_from round_constants (4 * c.args.i) (omega arith)

@@ -1,5 +1,0 @@
-use Rattle.hmac_tag.proofs.Sha256Blocks.{sigma_lanes}
-use Rattle.hmac_tag.proofs.sha256_block.small_sigma1.Goals as goal
-
-pub returns : goal.returns
-returns c = rw (c.rotated.ensures, c.rotated-2.ensures) (sigma_lanes 17 19 10 c.args.x c.fits-x.0)

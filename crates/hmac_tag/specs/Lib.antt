@@ -1,9 +1,0 @@
-pub mod Hmac
-pub mod Words
-pub mod Sha1Words
-pub mod Sha256Words
-pub mod HashValues
-pub mod Hashing
-pub mod Tag
-pub mod Stands
-pub mod Digests
