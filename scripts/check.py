@@ -21,7 +21,7 @@ ROOT = os.path.dirname(os.path.dirname(os.path.abspath(__file__)))
 LOGS = os.path.join(ROOT, "out", "check")
 LEVELS = ("quick", "change", "release")
 MEMORY = "/dev/shm"
-TOOLS = ("cc", "nm", "valgrind", "mbpoll", "tshark", "text2pcap", "editcap", "sigrok-cli")
+TOOLS = ("cc", "nm", "strace", "valgrind", "mbpoll", "tshark", "text2pcap", "editcap", "sigrok-cli")
 LIBRARY = os.path.join(ROOT, "crates", "yasir_c", "out", "libyasir_c.a")
 
 # A script, what it needs, and its words at each level, or None if the level doesn't run it. PROGRAM, LIVE, BEFORE and MEMORY are
@@ -49,6 +49,7 @@ CHECKS = [
     Check("live_pipe", ("program", "link_live"), *same("LIVE", "PROGRAM")),
     Check("two_runs", ("program",), ["PROGRAM", "2"], ["PROGRAM", "10"], ["PROGRAM", "60"]),
     Check("taken_over", ("program", "cc"), *same("PROGRAM")),
+    Check("settles", ("program", "strace"), *same("PROGRAM")),
     Check("inlined", ("program", "nm"), None, ["PROGRAM"], ["PROGRAM"]),
     Check("killed_seal", ("program", "memory"), None, ["40", "PROGRAM", "MEMORY"], ["400", "PROGRAM", "MEMORY"]),
     Check("killed_check", ("program", "memory"), None, ["40", "PROGRAM", "MEMORY"], ["400", "PROGRAM", "MEMORY"]),

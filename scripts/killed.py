@@ -45,11 +45,11 @@ def floor_of(path, link=("rtu", "ab")):
 
 class Killed:
     """Runs of one command over the same input and journal, with their files in `folder`, each killed after a random time of at most
-    `seconds` seconds."""
+    `seconds` seconds. A part of the text that goes out at once has `most` numbers at most."""
 
-    def __init__(self, program, command, folder, seconds):
-        self.program, self.command, self.folder, self.seconds = program, command, folder, seconds
-        self.killed, self.seen, self.used, self.last = 0, 0, set(), 0
+    def __init__(self, program, command, folder, seconds, most):
+        self.program, self.command, self.folder, self.seconds, self.most = program, command, folder, seconds, most
+        self.killed, self.seen, self.used, self.last, self.lost = 0, 0, set(), 0, 0
         open(self.path("key"), "w").write(KEY)
         self.init("journal")
         random.seed(1)
@@ -92,6 +92,15 @@ class Killed:
         assert not numbers or numbers[0] > self.last, "number %d came again" % numbers[0]
         assert not numbers or numbers[-1] <= self.floor(), "number %d is above the journal's floor" % numbers[-1]
 
+    def settled(self, noted, before):
+        """Checks that a run that began with the floor `before` noted the numbers from there on without a gap, and that it lost none but
+        those of one settle: the run brings the journal to the numbers of a part of the text, of 65,536 bytes at most, and then the part goes
+        out. `self.most` is how many numbers a part has at most."""
+        assert noted == list(range(before + 1, before + 1 + len(noted))), "a number is missing among those that were noted"
+        lost = self.floor() - (noted[-1] if noted else before)
+        assert lost <= self.most, "%d numbers were lost, more than one settle can have" % lost
+        self.lost = max(self.lost, lost)
+
     def keep(self, numbers):
         self.used.update(numbers)
         self.last = max([self.last] + numbers)
@@ -107,5 +116,5 @@ class Killed:
         """What was seen in all runs. If none was killed, or no number was seen, they show nothing."""
         assert self.killed, "none of %d runs was killed" % runs
         assert self.seen + len(self.used), "no number was seen in %d runs, of which %d were killed" % (runs, self.killed)
-        return "%d runs, %d killed, %d numbers seen, the last one %d, floor %d: none came twice" % (
-            runs, self.killed, self.seen + len(self.used), self.last, self.floor())
+        return "%d runs, %d killed, %d numbers seen, the last one %d, floor %d: none came twice, and a run lost %d at most" % (
+            runs, self.killed, self.seen + len(self.used), self.last, self.floor(), self.lost)

@@ -16,7 +16,7 @@ input_cause before now (Refused bad) h = h.same refl
 input_cause before now (TooLong what count) h = h.same refl
 input_cause before now ReadFault h = (h.failed refl, h.never_falls)
 input_cause before now (Stopped stops.WriteFault) h = h.never_falls
-input_cause before now (Stopped stops.JournalFault) h = h.same refl
+input_cause before now (Stopped stops.JournalFault) h = h.never_falls
 input_cause before now (Stopped stops.NoMemory) h = h.same refl
 
 pub input_cause_of_whole : (before now : ℕ) (status : Status)

@@ -9,11 +9,12 @@ use Rattle.command_ends.specs.declared.status.Status.{Status}
 use Rattle.command_ends.specs.declared.status.Status.TheVariants.{Done, ReadFault, WriteFault}
 use Rattle.command_ends.specs.declared.status.Status.TheVariants.{JournalFault, Unclean}
 
--- Holds if the input's count rose when a read failed, and is as it was otherwise. A write may have
--- failed after a failed read, and then the count may have risen too.
+-- Holds if the input's count rose when a read failed, and is as it was otherwise. After a failed
+-- read a write, or a settle of the disk, may have failed, and then the count may have risen too.
 abbrev pub InputCause : ℕ → ℕ → Status → Type 0
 InputCause before now ReadFault = Rose before now × (before ≤ now)
 InputCause before now WriteFault = before ≤ now
+InputCause before now JournalFault = before ≤ now
 InputCause before now status = now ≡ before
 
 -- Holds, for a command that reads a key and then its input, if one of the two counts rose when a
@@ -23,6 +24,8 @@ ReadsCause key_before key_now input_before input_now ReadFault =
     (Rose key_before key_now ⊎ Rose input_before input_now) × (key_before ≤ key_now)
     × (input_before ≤ input_now)
 ReadsCause key_before key_now input_before input_now WriteFault = (key_now ≡ key_before)
+    × (input_before ≤ input_now)
+ReadsCause key_before key_now input_before input_now JournalFault = (key_now ≡ key_before)
     × (input_before ≤ input_now)
 ReadsCause key_before key_now input_before input_now status = (key_now ≡ key_before)
     × (input_now ≡ input_before)

@@ -10,17 +10,21 @@ use Rattle.line_stamps.specs.Placing.{NoneRefused, silence_before, overlap_count
 use Rattle.line_stamps.specs.declared.{capture.CaptureByte.CaptureByte, placer.Placer.Placer}
 use Rattle.line_stamps.specs.declared.placer.Unplaced.TheVariants.{Early, Late, Overlap}
 use Rattle.line_stamps.specs.declared.timing.Timing.{Timing}
-use Rattle.line_texts.proofs.{PushedRuns.pushed_then, Sending.sends_more, Sending.sent_in_part}
-use Rattle.line_texts.specs.Sending.{AnswersNoted, SinkTexts, HasSentFronts, HaveCause}
-use Rattle.line_texts.specs.Texts.{Writing, waiting_in, texts_held, Writes, Pushes}
+use Rattle.line_texts.proofs.Sending.{sends_added, sends_handed, sent_handed}
+use Rattle.line_texts.specs.{Adding.Adds, Adding.HasRoom, Sending.AnswersNoted, Sending.SinkTexts}
+use Rattle.line_texts.specs.Sending.{SendsTexts, HaveCause}
+use Rattle.line_texts.specs.Texts.{Writing, writing, waiting_in, texts_held, Writes, HandsOut}
+use Rattle.line_texts.specs.declared.texts.Texts.{Texts}
 use Rattle.std.proofs.Common.{◌≡◌, ◌∙◌, ℕ, ◌+◌, ◌<◌, ◌≤◌, ◌^◌, Bool, true, false, cond, List, []}
 use Rattle.std.proofs.Common.{◌∷◌, ◌++◌, length, take, get_or, min, drop, ◌-◌, Option, Some, None}
 use Rattle.std.proofs.Common.{Result, Ok, Err, refl, sym, ap, subst, arith, append_assoc}
 use Rattle.std.proofs.Common.{append-nil, suc, inr, ◌⊎◌}
-use Rattle.{std.proofs.lemmas.List.take_more, tick_drive.specs.Input.max_ticks}
+use Rattle.std.proofs.lemmas.{List.take_more, List.replicate-append-replicate}
+use Rattle.std.proofs.lemmas.{Result.on_ok_weaker, Result.on_err_weaker}
+use Rattle.tick_drive.specs.Input.{max_ticks}
 use Rattle.yasir_io.proofs.FlushLaws.{none_flushed, none_flushed_then}
 use Rattle.yasir_io.specs.declared.{Failed.Failed, sink.Sink.Ghosts as Sink}
-use Rattle.yasir_ticks.specs.declared.tick.Tick.{Tick}
+use Rattle.yasir_ticks.specs.{Ticks.silent, declared.tick.Tick.Tick, declared.tick.Tick.TheVariants.Silent}
 use Rattle.line_capture.specs.declared.placing.LineStop.TheVariants as stops
 
 -- ---- one byte more
@@ -77,55 +81,130 @@ module _ {O L : Type 0} (o : Sink O) (l : Sink L) where
   no_notes : (line run : List Tick) → AnswersNoted plain line run run []
   no_notes line run = record { ticks_are = refl; note_is = refl }
 
-  run_goes : (old new : Writing O L) (run : List Tick) → Pushes o l old new run [] (Ok tt)
-      → (start : SinkTexts) (line : List Tick) → Sends o l start old line
-      → Sends o l start new (line ++ run)
-  run_goes old new run pushed start line sends =
-      sends_more plain line run run [] (no_notes line run) (waiting_in old.texts)
-      (waiting_in new.texts) start (texts_held o l old) (texts_held o l new) sends tt pushed.adds
+  -- A short run was added to the texts.
+  module _ (old : Writing O L) (added : Texts) (run : List Tick)
+      (adds : Adds (waiting_in old.texts) (waiting_in added) run []) where
+    added_sends : (start : SinkTexts) (line : List Tick) → Sends o l start old line
+        → SendsTexts plain (waiting_in added) start (texts_held o l old) (line ++ run)
+    added_sends start line sends = sends_added plain line run run [] (no_notes line run)
+        (waiting_in old.texts) (waiting_in added) start (texts_held o l old) sends adds
 
-  run_stops : (old new : Writing O L) (run : List Tick) (e : Failed)
-      → Pushes o l old new run [] (Err e) → (start : SinkTexts) (line : List Tick)
-      → Sends o l start old line → HasSentFronts plain start (texts_held o l new) (line ++ run)
-  run_stops old new run e pushed start line sends =
-      sent_in_part plain line run run [] (no_notes line run) (waiting_in old.texts)
-      (waiting_in new.texts) start (texts_held o l old) (texts_held o l new) sends e pushed.adds
+    -- There is room for more.
+    pub short_added : HasRoom added → PushesLine o l old (record old { texts = added }) run (Ok tt)
+    short_added room = record {
+      goes = added_sends;
+      stops = tt;
+      room = room;
+      writes = let none = nothing_written old in
+          record { cause = none.cause; flushes = none.flushes };
+    }
+
+    -- What waited was written.
+    pub short_handed : (new : Writing O L) (result : Result (Unit {0}) Failed)
+        → HandsOut o l (writing added old.out old.log) new result → PushesLine o l old new run result
+    short_handed new (Ok x) hands = record {
+      goes = λ start line sends. sends_handed o l plain (line ++ run)
+          (writing added old.out old.log) new start (added_sends start line sends) hands;
+      stops = tt;
+      room = hands.room;
+      writes = record { cause = hands.writes.cause; flushes = hands.writes.flushes };
+    }
+    short_handed new (Err e) hands = record {
+      goes = tt;
+      stops = λ start line sends. record {
+        ticks = line ++ run;
+        later = [];
+        is = sym (append-nil (line ++ run));
+        sent = sent_handed o l plain (line ++ run) (writing added old.out old.log) new start
+            (added_sends start line sends) e hands;
+      };
+      room = tt;
+      writes = record { cause = hands.writes.cause; flushes = hands.writes.flushes };
+    }
+
+  -- no tick
+  line_none : (at : Writing O L) → HasRoom at.texts → PushesLine o l at at [] (Ok tt)
+  line_none at room = record {
+    goes = λ start line sends. subst (Sends o l start at) (sym (append-nil line)) sends;
+    stops = tt;
+    room = room;
+    writes = nothing_written at;
+  }
 
   -- If adding the first of two runs failed, adding both failed.
-  pub first_fails : (old new : Writing O L) (first then : List Tick) (e : Failed)
-      → Pushes o l old new first [] (Err e) → PushesLine o l old new (first ++ then) (Err e)
-  first_fails old new first then e pushed = record {
+  pub line_fails : (old new : Writing O L) (first then : List Tick) (e : Failed)
+      → PushesLine o l old new first (Err e) → PushesLine o l old new (first ++ then) (Err e)
+  line_fails old new first then e pushed = record {
     goes = tt;
-    stops = λ start line sends. record {
-      ticks = line ++ first;
-      later = then;
-      is = sym (append_assoc line first then);
-      sent = run_stops old new first e pushed start line sends;
-    };
+    stops = λ start line sends.
+        let front = pushed.stops start line sends in record {
+          ticks = front.ticks;
+          later = front.later ++ then;
+          is = sym (append_assoc line first then) ∙ ap (λ x. x ++ then) front.is
+              ∙ append_assoc front.ticks front.later then;
+          sent = front.sent;
+        };
+    room = tt;
     writes = pushed.writes;
   }
 
   -- If the first of two runs was added, the result for both is that of the second one.
-  pub both_go : (old mid new : Writing O L) (first then : List Tick)
-      (result : Result (Unit {0}) Failed) → Pushes o l old mid first [] (Ok tt)
-      → Pushes o l mid new then [] result → PushesLine o l old new (first ++ then) result
-  both_go old mid new first then (Ok x) went pushed =
-      let all = pushed_then o l old mid new first then (Ok x) went pushed in record {
-        goes = run_goes old new (first ++ then) all;
-        stops = tt;
-        writes = all.writes;
-      }
-  both_go old mid new first then (Err e) went pushed =
-      let all = pushed_then o l old mid new first then (Err e) went pushed in record {
-        goes = tt;
-        stops = λ start line sends. record {
-          ticks = line ++ (first ++ then);
-          later = [];
-          is = sym (append-nil _);
-          sent = run_stops old new (first ++ then) e all start line sends;
-        };
-        writes = all.writes;
-      }
+  pub line_then : (old mid new : Writing O L) (first then : List Tick)
+      (result : Result (Unit {0}) Failed) → PushesLine o l old mid first (Ok tt)
+      → PushesLine o l mid new then result → PushesLine o l old new (first ++ then) result
+  line_then old mid new first then result went pushed = record {
+    goes = on_ok_weaker result (λ goes start line sends.
+        subst (Sends o l start new) (append_assoc line first then)
+        (goes start (line ++ first) (went.goes start line sends))) pushed.goes;
+    stops = on_err_weaker result (λ stops start line sends.
+        subst (SendsFront start (texts_held o l new)) (append_assoc line first then)
+        (stops start (line ++ first) (went.goes start line sends))) pushed.stops;
+    room = pushed.room;
+    writes = written_then old mid new result went.writes pushed.writes;
+  }
+
+  -- ---- silence
+
+  -- Of `silence` silent ticks, all but `left` were added.
+  pub record HasPushed (old now : Writing O L) (silence left : ℕ) : Type 0 where
+    pub done : ℕ
+    pub all : done + left ≡ silence
+    pub pushes : PushesLine o l old now (silent done) (Ok tt)
+
+  pub none_pushed : (at : Writing O L) (silence : ℕ) → HasRoom at.texts
+      → HasPushed at at silence silence
+  none_pushed at silence room =
+      record { done = 0; all = omega arith; pushes = line_none at room }
+
+  module _ (old now new : Writing O L) (silence left part : ℕ) (has : HasPushed old now silence left)
+      (within : part ≤ left) where
+    more_silent : silent has.done ++ silent part ≡ silent (has.done + part)
+    more_silent = replicate-append-replicate has.done part Silent
+
+    pub part_pushed : PushesLine o l now new (silent part) (Ok tt)
+        → HasPushed old new silence (left - part)
+    part_pushed pushed = record {
+      done = has.done + part;
+      all = omega (arith, has.all, within);
+      pushes = subst (λ run. PushesLine o l old new run (Ok tt)) more_silent
+          (line_then old now new (silent has.done) (silent part) (Ok tt) has.pushes pushed);
+    }
+
+    pub part_fails : (e : Failed) → PushesLine o l now new (silent part) (Err e)
+        → PushesLine o l old new (silent silence) (Err e)
+    part_fails e pushed =
+        let sum : has.done + part + (left - part) ≡ silence = omega (arith, has.all, within) in
+        subst (λ run. PushesLine o l old new run (Err e))
+        (replicate-append-replicate (has.done + part) (left - part) Silent ∙ ap silent sum)
+        (line_fails old new (silent (has.done + part)) (silent (left - part)) e
+        (subst (λ run. PushesLine o l old new run (Err e)) more_silent
+        (line_then old now new (silent has.done) (silent part) (Err e) has.pushes pushed)))
+
+  pub all_pushed : (old now : Writing O L) (silence left : ℕ) → left ≤ 0
+      → HasPushed old now silence left → PushesLine o l old now (silent silence) (Ok tt)
+  all_pushed old now silence left none has =
+      let all : has.done ≡ silence = omega (arith, has.all, none) in
+      subst (λ n. PushesLine o l old now (silent n) (Ok tt)) all has.pushes
 
   -- ---- the bytes so far
 
@@ -137,16 +216,18 @@ module _ {O L : Type 0} (o : Sink O) (l : Sink L) where
     pub placed : NoneRefused t None front
     pub few : length (line_of t front) ≤ max_ticks
     pub goes : (start : SinkTexts) → Sends o l start old [] → Sends o l start now (line_of t front)
+    pub room : HasRoom now.texts
     pub writes : Writes o l old now (Ok tt)
 
-  pub none_so_far : (t : Timing) (placer : Placer) (at : Writing O L) → timing_of placer ≡ t
-      → HasTaken placer [] → SoFar t placer [] at at
-  none_so_far t placer at timing taken = record {
+  pub none_so_far : (t : Timing) (placer : Placer) (at : Writing O L) → HasRoom at.texts
+      → timing_of placer ≡ t → HasTaken placer [] → SoFar t placer [] at at
+  none_so_far t placer at room timing taken = record {
     timing = timing;
     taken = taken;
     placed = tt;
     few = omega arith;
     goes = λ start sends. sends;
+    room = room;
     writes = nothing_written at;
   }
 
@@ -166,6 +247,7 @@ module _ {O L : Type 0} (o : Sink O) (l : Sink L) where
           few = at.few;
           goes = λ start sends. subst (Sends o l start next) (sym at.line)
               (one.one.pushes.goes start (line_of t front) (so_far.goes start sends));
+          room = one.one.pushes.room;
           writes = written_then old now next (Ok tt) so_far.writes one.one.pushes.writes;
         }
 

@@ -3,7 +3,7 @@ use Rattle.line_capture.specs.Placed.{IsFront, WrittenLine, WrittenPart}
 use Rattle.line_capture.specs.Takes.{mark_of, WrittenLines, WrittenFront}
 use Rattle.line_capture.specs.declared.{collect.Kept.Kept, placing.LineEnd.LineEnd, words.Ways.Ways}
 use Rattle.line_stamps.specs.{Places.line_of, declared.capture.CaptureByte.CaptureByte}
-use Rattle.{line_stamps.specs.declared.timing.Timing.Timing, line_texts.proofs.Sending.part_before}
+use Rattle.{line_stamps.specs.declared.timing.Timing.Timing, yasir_io.proofs.OutputLemmas.prefix_of_more}
 use Rattle.line_texts.{proofs.Sending.always_on_ok, specs.Sending.HaveCause}
 use Rattle.std.proofs.Common.{◌≡◌, ◌∙◌, ℕ, inl, List, [], ◌++◌, Option, Result, Ok, refl, sym, ap}
 use Rattle.std.proofs.Common.{subst, arith, append_assoc, append-nil}
@@ -57,7 +57,7 @@ module _ (t : Timing) (ways : Ways) (kept : Kept) where
     b = [];
     later_b = [];
     b_are = refl;
-    got = part_before before now (canonical_text part.ticks) (mark_of ways ++ canonical_text [])
+    got = prefix_of_more before now (canonical_text part.ticks) (mark_of ways ++ canonical_text [])
         part.got;
   }
 
@@ -79,7 +79,7 @@ module _ (t : Timing) (ways : Ways) (kept : Kept) where
     b_are = refl;
     got = prefix_behind before mid now (canonical_text (line_of t line.front))
         (mark_of ways ++ canonical_text []) line.text
-        (part_before mid now (mark_of ways) (canonical_text []) got);
+        (prefix_of_more mid now (mark_of ways) (canonical_text []) got);
   }
 
   pub second_line_fails : (before mid marked now : Option (List ℕ)) (end : LineEnd)

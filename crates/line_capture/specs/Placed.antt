@@ -8,6 +8,7 @@ use Rattle.yasir_io.specs.declared.sink.Sink.{Ghosts as Sink}
 use Rattle.yasir_ticks.specs.CanonicalText.{canonical_text}
 use Rattle.yasir_ticks.specs.declared.tick.Tick.{Tick}
 use Rattle.tick_drive.specs.Input.{max_ticks}
+use Rattle.line_texts.specs.Adding.{HasRoom}
 use Rattle.line_texts.specs.Sending.{LineAndNotes, SinkTexts, SendsTexts, HasSentFronts}
 use Rattle.line_texts.specs.Texts.{Writing, waiting_in, texts_held, Writes}
 use Rattle.line_stamps.specs.declared.capture.CaptureByte.{CaptureByte}
@@ -119,13 +120,14 @@ module _ {O L : Type 0} (o : Sink O) (l : Sink L) where
   abbrev pub Sends : SinkTexts → Writing O L → List Tick → Type 0
   Sends start at line = SendsTexts plain (waiting_in at.texts) start (texts_held o l at) line
 
-  -- Holds if these ticks were added, or a write failed at one of them.
+  -- Holds if these ticks were added and there is room for more, or a write failed at one of them.
   pub record PushesLine (old new : Writing O L) (more : List Tick)
       (result : Result (Unit {0}) Failed) : Type 0 where
     pub goes : OnOk result ((start : SinkTexts) (line : List Tick) → Sends start old line
         → Sends start new (line ++ more))
     pub stops : OnErr result ((start : SinkTexts) (line : List Tick) → Sends start old line
         → SendsFront start (texts_held o l new) (line ++ more))
+    pub room : OnOk result (HasRoom new.texts)
     pub writes : Writes o l old new result
 
   -- Holds if a byte is placed, and its ticks were added or a write failed.

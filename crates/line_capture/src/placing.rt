@@ -3,6 +3,8 @@ ghost use Rattle.std.specs.Prelude.{◌≡◌, ◌∷◌, [], ◌++◌, List};
 ghost use Rattle.yasir_io.specs.Flushed.{NoneFlushed};
 ghost use Rattle.yasir_ticks.specs.Ticks.{silent};
 ghost use Rattle.yasir_ticks.specs.declared.tick.Tick.TheVariants.{Byte};
+ghost use Rattle.yasir_ticks.specs.TickRun.{run_ticks};
+ghost use Rattle.line_texts.specs.Adding.{HasRoom, IsShort};
 ghost use Rattle.line_texts.specs.Sending.{HaveCause};
 ghost use Rattle.line_texts.specs.Texts.{writing};
 ghost use Rattle.line_stamps.specs.declared.capture.CaptureByte.{CaptureByte};
@@ -11,12 +13,15 @@ ghost use Rattle.line_capture.specs.Placed.{PushesLine, PlacesBytes, PlacesNext,
 ghost use Rattle.line_capture.specs.Placed.{CountsOverlaps, CountsNext};
 
 use line_stamps::{CaptureByte, Placer, Timing, Unplaced};
-use line_texts::{Texts, push_run};
+use line_texts::Texts;
 use yasir_io::{Failed, Sink};
 use yasir_ticks::TickRun;
 
 /// The most ticks of a line that are written, as many as `link_replay` takes.
 pub const MAX_LINE_TICKS: u64 = 16_777_216;
+
+// The most silent ticks that are added at once.
+const MOST_SILENCE: u32 = 999_999;
 
 /// Why no more bytes of a way are placed.
 #[derive(Clone, Copy, Debug, PartialEq, Eq)]
@@ -38,6 +43,49 @@ pub struct LineEnd {
     pub stop: LineStop,
 }
 
+// Adds the ticks of a short run. If the room for the texts is full then, all that waits is written.
+#[inline(always)]
+fn push_short<O: Sink, L: Sink>(
+    texts: &mut Texts,
+    out: &mut O,
+    log: &mut L,
+    run: TickRun<'_>,
+) -> Result<(), Failed>
+    requires room { HasRoom texts.old }
+    requires short { IsShort (run_ticks run) }
+    ensures { PushesLine O.Sink L.Sink (writing texts.old out.old log.old)
+        (writing texts.new out.new log.new) (run_ticks run.entry) result }
+{
+    texts.add_run(run);
+    if texts.has_room() {
+        return Ok(());
+    }
+    texts.hand_out(out, log)
+}
+
+// Adds silent ticks.
+#[inline]
+fn push_silence<O: Sink, L: Sink>(
+    texts: &mut Texts,
+    out: &mut O,
+    log: &mut L,
+    silence: u32,
+) -> Result<(), Failed>
+    requires { HasRoom texts.old }
+    ensures { PushesLine O.Sink L.Sink (writing texts.old out.old log.old)
+        (writing texts.new out.new log.new) (silent silence) result }
+{
+    let mut left = silence;
+    while left > 0 {
+        let part = left.min(MOST_SILENCE);
+        match push_short(texts, out, log, TickRun::Silence(part)) {
+            Ok(()) => left -= part,
+            Err(Failed) => return Err(Failed),
+        }
+    }
+    Ok(())
+}
+
 // Adds silent ticks, and a byte after them.
 #[inline]
 fn push_byte<O: Sink, L: Sink>(
@@ -47,14 +95,15 @@ fn push_byte<O: Sink, L: Sink>(
     silence: u32,
     byte: u8,
 ) -> Result<(), Failed>
+    requires { HasRoom texts.old }
     ensures { PushesLine O.Sink L.Sink (writing texts.old out.old log.old)
         (writing texts.new out.new log.new) (silent silence ++ Byte byte ∷ []) result }
 {
-    match push_run(texts, out, log, TickRun::Silence(silence)) {
+    match push_silence(texts, out, log, silence) {
         Ok(()) => {}
         Err(Failed) => return Err(Failed),
     }
-    push_run(texts, out, log, TickRun::Bytes(&[byte]))
+    push_short(texts, out, log, TickRun::Bytes(&[byte]))
 }
 
 // Places the next byte, and adds it and the silence before it to the text.
@@ -66,7 +115,8 @@ fn place_next<O: Sink, L: Sink>(
     out: &mut O,
     log: &mut L,
 ) -> Result<LineStop, Failed>
-    requires { (cs : List CaptureByte) × HasTaken placer.old cs }
+    requires taken { (cs : List CaptureByte) × HasTaken placer.old cs }
+    requires room { HasRoom texts.old }
     ensures { (cs : List CaptureByte) → HasTaken placer.old cs
         → PlacesNext O.Sink L.Sink placer.old placer.new cs byte (writing texts.old out.old log.old)
         (writing texts.new out.new log.new) result }
@@ -93,6 +143,7 @@ fn place_bytes<O: Sink, L: Sink>(
     out: &mut O,
     log: &mut L,
 ) -> Result<LineEnd, Failed>
+    requires { HasRoom texts.old }
     ensures { PlacesBytes O.Sink L.Sink timing bytes.now (writing texts.old out.old log.old)
         (writing texts.new out.new log.new) result }
 {

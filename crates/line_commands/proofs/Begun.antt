@@ -17,9 +17,7 @@ pub drives_at_mark : {B N : Type 0} (b : LinkBox B N) (line_of : N → List ℕ)
     → DrivesBox b line_of lines origin outputs items
     → DrivesBox b line_of lines origin outputs (items ++ mark ∷ [])
 drives_at_mark b line_of lines origin outputs items before = record {
-  steps = rw (ticks_in-mark items) before.steps;
-  number_is = rw (ticks_in-mark items) before.number_is;
-  sends = rw (ticks_in-mark items) before.sends;
+  took = rw (ticks_in-mark items) before.took;
   link_is = before.link_is;
-  floor_told = before.floor_told;
+  handed = rw (ticks_in-mark items) before.handed;
 }

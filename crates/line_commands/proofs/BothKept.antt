@@ -74,7 +74,7 @@ module _ {S C A B : Type 0} (s : LinkBox S A) (sent_line : A → List ℕ) (c : 
             };
         stopped = tt;
         counted = omega (arith, keeps.front.goes.counted, ap length (ticks_in-front run n));
-        is_able = record { outgoing = keeps.front.goes.steady; incoming = steady.incoming };
+        is_able = record { outgoing = keeps.steady; incoming = steady.incoming };
         went = tt;
       };
     }
@@ -103,7 +103,7 @@ module _ {S C A B : Type 0} (s : LinkBox S A) (sent_line : A → List ℕ) (c : 
             };
         stopped = tt;
         counted = omega (arith, keeps.front.goes.counted, ap length (ticks_in-front run n));
-        is_able = record { outgoing = steady.outgoing; incoming = keeps.front.goes.steady };
+        is_able = record { outgoing = steady.outgoing; incoming = keeps.steady };
         went = tt;
       };
     }

@@ -6,15 +6,17 @@ use Rattle.sequence_journal.specs.Journal.{journal_link, journal_floor, IsCrashS
 use Rattle.sequence_journal.specs.Journal.{HasFloorAtLeast, HasFloorFrom}
 use Rattle.sequence_journal.specs.{Loading.IsLoaded, Loading.KeepsLoadable, Slots.floor_of}
 use Rattle.sequence_journal.specs.declared.{journal.Journal.Journal, link.LinkId.LinkId}
-use Rattle.std.proofs.Common.{◌≡◌, ◌∙◌, ℕ, Some, refl, sym, ap, subst, inl, unwrap_or}
+use Rattle.std.proofs.Common.{◌≡◌, ◌∙◌, ℕ, ◌⊎◌, Some, refl, sym, ap, subst, inl, inr, unwrap_or}
 use Rattle.tick_drive.specs.{Consumers.IsDiskCause, Consumers.is_journal_fault, Drive.answer_of}
 use Rattle.yasir_io.proofs.Moments.{leaves_then, leaves_weaker}
 use Rattle.yasir_io.specs.Disks.{Slots, OneImage, LeavesOnly}
 use Rattle.yasir_io.specs.declared.disk.SlotDisk.{Ghosts as SlotDisk}
 use Rattle.tick_drive.specs.declared.consumer.Stop.TheVariants as stops
 use Rattle.line_commands.specs.{BoxLines.ToldFloor, ReplaysBox.KeepsFloor}
-use Rattle.line_commands.specs.ReplaysBox.{KeepsFloorThroughout, KeepsFloorFromLoad, BoxDiskCause}
-use Rattle.command_ends.specs.Endings.{status_of}
+use Rattle.line_commands.specs.ReplaysBox.{KeepsFloorThroughout, KeepsFloorFromLoad}
+use Rattle.command_ends.specs.{Causes.DiskCause, Endings.status_of}
+use Rattle.command_ends.specs.declared.status.Status.{Status}
+use Rattle.command_ends.specs.declared.status.Status.TheVariants.{Done, WriteFault}
 use Rattle.tick_drive.specs.declared.end.End.{End, TheVariants.Whole}
 use Rattle.tick_drive.specs.declared.end.End.TheVariants.{Refused, TooLong, ReadFault, Stopped}
 
@@ -87,11 +89,17 @@ module _ {D : Type 0} (d : SlotDisk D) (link : LinkId) (journal : Journal) (old 
 
 pub disk_cause_of_end : (before now : ℕ) (end : End)
     → IsDiskCause before now (is_journal_fault (answer_of end))
-    → BoxDiskCause before now (status_of end)
+    → DiskCause before now (status_of end)
 disk_cause_of_end before now Whole h = h.same refl
 disk_cause_of_end before now (Refused bad) h = h.same refl
 disk_cause_of_end before now (TooLong what count) h = h.same refl
 disk_cause_of_end before now ReadFault h = h.same refl
-disk_cause_of_end before now (Stopped stops.WriteFault) h = h.never_falls
+disk_cause_of_end before now (Stopped stops.WriteFault) h = h.same refl
 disk_cause_of_end before now (Stopped stops.JournalFault) h = h.failed refl
 disk_cause_of_end before now (Stopped stops.NoMemory) h = h.same refl
+
+pub disk_cause_of_whole : (before now : ℕ) (status : Status)
+    → (status ≡ Done) ⊎ (status ≡ WriteFault) → now ≡ before → DiskCause before now status
+disk_cause_of_whole before now status (inl done) same = subst (DiskCause before now) (sym done) same
+disk_cause_of_whole before now status (inr fault) same =
+    subst (DiskCause before now) (sym fault) same

@@ -270,6 +270,23 @@ module _ (made : LineAndNotes) (start : History) (read : List ℕ) (line run ans
         );
       }
 
+  -- There is no text.
+  pub text_none : (now : History) → text ≡ [] → Noted now
+      → Handed made start now read (line ++ run)
+  text_none now none noted = record {
+    events = noted.events;
+    is = noted.is;
+    read_is = noted.read_is;
+    text = text_as (written Out noted.events ++ text) (written Out noted.events)
+        (made.other_line (line ++ run)) (made.other_line (line ++ run))
+        (ap (λ l. written Out noted.events ++ l) none ∙ append-nil (written Out noted.events)) refl
+        (all_text (written Out noted.events) noted.out);
+    notes = noted.notes;
+    out_flushed = noted.out_flushed;
+    log_flushed = noted.log_flushed;
+    in_order = noted.in_order;
+  }
+
 -- ---- nothing yet
 
 pub handed_none : (made : LineAndNotes) (start : History) → made.other_line [] ≡ []

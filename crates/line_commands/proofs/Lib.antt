@@ -14,10 +14,10 @@ pub mod SentBytes
 pub mod StreamLemmas
 pub mod AnsweredRuns
 pub mod Walking
+pub mod InMemory
+pub mod Settled
+pub mod Driven
 pub mod Begun
-pub mod Fronts
-pub mod Turns
-pub mod Stepped
 pub mod Behind
 pub mod Floors
 pub mod Outcomes

@@ -1,19 +1,23 @@
--- What the status says of a run of a box, from how the drive over the input ended.
+-- What the status says of a run of a box, from how the drive over the input and the last settle
+-- ended.
 use Rattle.{frame_ending.specs.Causal.IsCausal, link_format.specs.declared.dir.Dir.Dir}
 use Rattle.link_box.specs.{Walking.frames_of, declared.box_trait.LinkBox.Ghosts as LinkBox}
 use Rattle.link_format.specs.{NumberedFrame.numbers_of, Setup.Setup, Setup.setup_of}
 use Rattle.sequence_journal.specs.Journal.{journal_link, journal_floor, HasFloorAtLeast}
-use Rattle.sequence_journal.specs.Journal.{IsEitherFloor, Fits, IsCrashSafe}
+use Rattle.sequence_journal.specs.Journal.{IsCrashSafe}
+use Rattle.sequence_journal.specs.Late.{disk_journal, disk_floor, late_link, HasFloorBetween}
 use Rattle.sequence_journal.specs.Loading.{IsLoaded, KeepsLoadable}
 use Rattle.sequence_journal.specs.{Slots.floor_of, Uptimes.RiseFrom}
 use Rattle.sequence_journal.specs.declared.{journal.Journal.Journal, link.LinkId.LinkId}
-use Rattle.std.proofs.Common.{◌≡◌, ◌∙◌, ℕ, ◌+◌, ◌≤◌, ◌⊎◌, inl, inr, true, false, List, [], ◌∷◌}
-use Rattle.std.proofs.Common.{◌++◌, length, length-append, map, take, drop, Option, Some, None}
+use Rattle.std.proofs.Common.{◌≡◌, ◌∙◌, ℕ, ◌+◌, ◌≤◌, ◌⊎◌, inl, inr, true, false, List, [], ◌++◌}
+use Rattle.std.proofs.Common.{length, length-append, map, take, drop, Option, Some, None, Result}
+use Rattle.std.proofs.Common.{Ok, OnOk}
 use Rattle.std.proofs.Common.{refl, sym, ap, subst, append_assoc, append-nil, arith}
-use Rattle.std.proofs.Math.Seq.{take-append_seam, take-append-add}
+use Rattle.std.proofs.Math.Seq.{take-append_seam}
 use Rattle.std.proofs.lemmas.List.{take-append-drop, take-append-le}
-use Rattle.{std.specs.Prelude.IfSome, tick_drive.specs.Consumers.is_write_fault}
+use Rattle.{std.specs.Prelude.IfSome, tick_drive.specs.declared.consumer.Stop.Stop}
 use Rattle.tick_drive.specs.{Consumers.Moves, Drive.Drives, Drive.answer_of, Input.Takes}
+use Rattle.tick_drive.specs.Consumers.{IsSinkCause, is_write_fault}
 use Rattle.yasir_io.specs.Disks.{Slots, OneImage, LeavesOnly}
 use Rattle.yasir_io.specs.declared.{disk.SlotDisk.Ghosts as SlotDisk, sink.Sink.Ghosts as Sink}
 use Rattle.yasir_io.specs.declared.source.Source.{Ghosts as Source}
@@ -24,17 +28,21 @@ use Rattle.yasir_ticks.specs.{Ticks.AreTicks, Ticks.Item.tick, declared.tick.Tic
 use Rattle.tick_drive.specs.declared.consumer.Stop.TheVariants as stops
 use Rattle.line_commands.proofs.Floors.{told_before, keeps_floor, keeps_from_load, keeps_throughout}
 use Rattle.line_commands.{proofs.Walking.walk-boxed, specs.BoxLines.BoxOrigin, specs.BoxLines.Outputs}
-use Rattle.line_commands.specs.BoxLines.{ToldFloor, DrivesBox, StopsAtNumber, StopsAtWrite, State}
+use Rattle.line_commands.specs.BoxLines.{ToldFloor, DrivesBox, State}
+use Rattle.line_commands.specs.BoxLines.{StopsBox, HasFinished, KeepsImages, MayDrive, GoesOn}
+use Rattle.line_commands.specs.{BoxLines.outputs_of, BoxLinesLaws.drives-then}
 use Rattle.line_commands.specs.{BoxLines.driving, BoxLines.state_of, BoxLinesLaws.floor_from_less}
 use Rattle.line_commands.specs.{Boxes.Boxed, Boxes.IsBoxed, LinkBoxed.boxed_of}
 use Rattle.line_commands.specs.ReplaysBox.{Around, around, KeepsFloor, KeepsFloorFromLoad}
 use Rattle.line_commands.specs.ReplaysBox.{LeavesUptime, KeepsFloorThroughout, boxed_with, texts_of}
-use Rattle.line_commands.specs.ReplaysBox.{EndsBox, FailsAtNumber, WritesFronts, RunsBox}
-use Rattle.line_commands.specs.Sending.{made_by, SendsBoxed, HasSent, HasSentFronts}
+use Rattle.line_commands.specs.ReplaysBox.{EndsBox, FailsAtSettle, WritesFronts, RunsBox}
+use Rattle.line_commands.specs.ReplaysBox.{has_stopped}
+use Rattle.line_commands.specs.Sending.{made_by, HasSent, HasSentFronts}
 use Rattle.line_commands.specs.declared.box_lines.BoxLines.{BoxLines}
 use Rattle.line_texts.proofs.Sending.{notes_all}
-use Rattle.line_texts.specs.{Sending.SinkTexts, Sending.sink_texts, Texts.waiting_in}
-use Rattle.command_ends.specs.{Endings.status_of, declared.status.Status.Status}
+use Rattle.line_texts.specs.{Sending.SinkTexts, Sending.sink_texts}
+use Rattle.command_ends.specs.{Causes.InputCause, Causes.SinkCause, Endings.status_of}
+use Rattle.command_ends.specs.declared.status.Status.{Status}
 use Rattle.command_ends.specs.declared.status.Status.TheVariants.{Done, WriteFault}
 use Rattle.tick_drive.proofs.ItemLaws.{ticks_in-append}
 use Rattle.tick_drive.specs.declared.end.End.{End, TheVariants.Whole}
@@ -86,13 +94,16 @@ number_of_lines box floor all k before now laws sent =
         sym (ap (take p) (sym (take-append-drop k all))
         ∙ take-append-le p (take k all) (drop k all) within)
 
--- ---- what is weaker than what was shown
+-- ---- parts of what was taken
 
--- A floor that is `n` is `n` or `m`.
-either_of : (link : LinkId) (n m : ℕ) (told : Option Slots) → ToldFloor link n told
-    → IfSome told (IsEitherFloor link n m)
-either_of link n m None floor = tt
-either_of link n m (Some slots) floor = inl floor
+-- The first ticks of a line are as many of its ticks as they are.
+front-take : (line more all : List Tick) → all ≡ line ++ more → line ≡ take (length line) all
+front-take line more all is = sym (ap (take (length line)) is ∙ take-append_seam line more)
+
+-- The ticks of some items are those of the first of them and then those of the others.
+ticks_in-cut : (items front rest : List Item) → items ≡ front ++ rest
+    → ticks_in items ≡ ticks_in front ++ ticks_in rest
+ticks_in-cut items front rest is = ap ticks_in is ∙ ticks_in-append front rest
 
 -- If all of two texts was sent, fronts of them were.
 fronts_of_all : (box : Boxed) (before now : SinkTexts) (line : List Tick)
@@ -116,16 +127,43 @@ fronts_of_all box before now line sent = record {
       (sym (append-nil _));
 }
 
--- The ticks of some items are those of the first `n` and then those of the others.
-ticks_in-cut : (items : List Item) (n : ℕ)
-    → ticks_in items ≡ ticks_in (take n items) ++ ticks_in (drop n items)
-ticks_in-cut items n = ap ticks_in (sym (take-append-drop n items))
-    ∙ ticks_in-append (take n items) (drop n items)
+-- ---- a drive that wasn't stopped, and causes
+
+pub answer_ok : (end : End) → has_stopped end ≡ false → answer_of end ≡ Ok tt
+answer_ok Whole other = refl
+answer_ok (Refused bad) other = refl
+answer_ok (TooLong what count) other = refl
+answer_ok ReadFault other = refl
+answer_ok (Stopped stop) other = cc
+
+-- A drive that was stopped didn't take a whole input.
+pub not_whole : (end : End) → has_stopped end ≡ true → end ≡ Whole → ⊥
+not_whole Whole stopped is = cc
+not_whole (Refused bad) stopped is = cc
+not_whole (TooLong what count) stopped is = cc
+not_whole ReadFault stopped is = cc
+not_whole (Stopped stop) stopped is = cc
+
+pub sink_cause_of_stop : (out_before out_now log_before log_now : ℕ) (end : End)
+    → has_stopped end ≡ true
+    → IsSinkCause out_before out_now log_before log_now (is_write_fault (answer_of end))
+    → SinkCause out_before out_now log_before log_now (status_of end)
+sink_cause_of_stop out_before out_now log_before log_now Whole stopped h = cc
+sink_cause_of_stop out_before out_now log_before log_now (Refused bad) stopped h = cc
+sink_cause_of_stop out_before out_now log_before log_now (TooLong what count) stopped h = cc
+sink_cause_of_stop out_before out_now log_before log_now ReadFault stopped h = cc
+sink_cause_of_stop out_before out_now log_before log_now (Stopped stops.WriteFault) stopped h =
+    h.failed refl
+sink_cause_of_stop out_before out_now log_before log_now (Stopped stops.JournalFault) stopped h =
+    (h.out_same refl, h.log_never_falls)
+sink_cause_of_stop out_before out_now log_before log_now (Stopped stops.NoMemory) stopped h =
+    (h.out_same refl, h.log_never_falls)
 
 -- A box with its key and direction, over the journal of its link, that was driven over an input.
--- `before` is what was outside before the journal was loaded, and `ended` what was there when the
--- drive had ended. `loaded` is the disk after the loading, and `old` and `new` are the box before
--- and after the drive. After a whole input, `rest` silent ticks follow.
+-- `before` is what was outside before the journal was loaded, and `loaded` the disk after that.
+-- `old` is the box when the drive began, and `last` the box when it was stopped, or when all that
+-- waited had been written. `ended` is what was outside then. After a whole input, `rest` silent
+-- ticks follow.
 pub record BoxDrive (B S O L D : Type 0) : Type 0 where
   pub link : LinkId
   pub key : List ℕ
@@ -133,28 +171,28 @@ pub record BoxDrive (B S O L D : Type 0) : Type 0 where
   pub journal : Journal
   pub rest : ℕ
   pub before : Around S O L D
-  pub ended : Around S O L D
   pub loaded : D
   pub old : BoxLines B
-  pub new : BoxLines B
+  pub last : BoxLines B
+  pub ended : Around S O L D
 
 -- the box's setup
 abbrev pub setup_in : {B S O L D : Type 0} → BoxDrive B S O L D → Setup
 setup_in drive = setup_of drive.key drive.dir (journal_floor drive.journal)
 
--- what was driven, as it was when the drive began, and when it ended
+-- what was driven, as it was when the drive began, and at the end
 abbrev pub begun_state : {B S O L D : Type 0} → BoxDrive B S O L D → State B O L D
 begun_state drive = state_of drive.old drive.before.out drive.before.log drive.loaded
 
-abbrev pub ended_state : {B S O L D : Type 0} → BoxDrive B S O L D → State B O L D
-ended_state drive = state_of drive.new drive.ended.out drive.ended.log drive.ended.disk
+abbrev pub last_state : {B S O L D : Type 0} → BoxDrive B S O L D → State B O L D
+last_state drive = state_of drive.last drive.ended.out drive.ended.log drive.ended.disk
 
 module _ {B N S O L D : Type 0} (b : LinkBox B N) (line_of : N → List ℕ) (s : Source S)
     (o : Sink O) (l : Sink L) (d : SlotDisk D) (drive : BoxDrive B S O L D) where
-  -- The box was driven, and the input ended as `end` says.
-  abbrev pub HasDriven : End → Type 0
-  HasDriven end = Drives (driving b line_of o l d) 0 drive.rest (s.left drive.before.input)
-      (s.left drive.ended.input) (begun_state drive) (ended_state drive) end
+  -- The box was driven to this state, and the input ended as `end` says.
+  abbrev pub HasDriven : State B O L D → End → Type 0
+  HasDriven state end = Drives (driving b line_of o l d) 0 drive.rest (s.left drive.before.input)
+      (s.left drive.ended.input) (begun_state drive) state end
 
   -- What is known of the run from the loading of its journal on.
   pub record IsRun : Type 0 where
@@ -163,13 +201,14 @@ module _ {B N S O L D : Type 0} (b : LinkBox B N) (line_of : N → List ℕ) (s 
         (record { link = drive.link; setup = setup_in drive; texts = texts })
         (record { out = texts.out; log = texts.log; slots = d.told drive.loaded }) []
     pub floor_before : ToldFloor drive.link (journal_floor drive.journal) (d.told drive.before.disk)
-    pub images : journal_link drive.new.journal ≡ drive.link
-        → KeepsFloor d drive.link (journal_floor drive.new.journal) drive.before.disk drive.ended.disk
+    pub images : late_link drive.last.late ≡ drive.link
+        → KeepsFloor d drive.link (disk_floor drive.last.late) drive.before.disk drive.ended.disk
     pub since_load : KeepsFloorFromLoad d drive.link (journal_floor drive.journal) drive.before.disk
         drive.ended.disk
     pub throughout : KeepsFloorThroughout d drive.link drive.before.disk drive.ended.disk
 
-  -- If the journal was loaded, and the box began over it and was driven, then `IsRun` holds.
+  -- If the journal was loaded, the box began over it, and the calls kept the images, then `IsRun`
+  -- holds.
   pub is_run : ((value : B) (last : ℕ) (setup : Setup) (line : List Tick)
       → b.stands value last setup line → IsCausal (b.walking.walker setup))
       → ((setup : Setup) (line : List Tick)
@@ -178,38 +217,51 @@ module _ {B N S O L D : Type 0} (b : LinkBox B N) (line_of : N → List ℕ) (s 
       (d.may_leave drive.before.disk) (d.may_leave drive.loaded) drive.journal
       → (OneImage (d.told drive.before.disk) (d.may_leave drive.before.disk)
       → IsCrashSafe drive.journal (d.told drive.loaded) (d.may_leave drive.loaded))
-      → Fits drive.journal (d.told drive.loaded)
       → ((slots : Slots) (floor : ℕ) → d.told drive.before.disk ≡ Some slots
       → OneImage (d.told drive.before.disk) (d.may_leave drive.before.disk)
       → floor_of drive.link slots ≡ Some floor
       → LeavesOnly d.moment d.left_since drive.before.disk drive.loaded
       (KeepsLoadable drive.link slots floor))
-      → drive.old.journal ≡ drive.journal
+      → disk_journal drive.old.late ≡ drive.journal
       → ((link : LinkId) (texts : SinkTexts) (told : Option Slots)
-      → journal_link drive.journal ≡ link → Fits drive.journal told → DrivesBox b line_of drive.old
+      → journal_link drive.journal ≡ link → DrivesBox b line_of drive.old
       (record { link = link; setup = setup_in drive; texts = texts })
       (record { out = texts.out; log = texts.log; slots = told }) [])
-      → (end : End) → HasDriven end → IsRun
-  is_run causal rising load safe fits loading same begins end driven =
-      let images = driven.gives.went.images in
-      record {
-        laws =
-            let begun =
-            begins drive.link (sink_texts None None) (d.told drive.loaded) load.link_is fits in
-            walk-boxed b.walking line_of (setup_in drive)
-            (causal drive.old.line_box (journal_floor drive.old.journal) (setup_in drive) []
-            begun.steps) (rising (setup_in drive));
-        begun = λ texts. begins drive.link texts (d.told drive.loaded) load.link_is fits;
-        floor_before = told_before d drive.link drive.journal drive.before.disk drive.loaded load safe;
-        images = keeps_floor d drive.link drive.journal drive.before.disk drive.loaded load safe
-            drive.old.journal drive.new.journal drive.ended.disk same images.is_kept;
-        since_load = keeps_from_load d drive.link drive.journal drive.before.disk drive.loaded load
-            safe drive.old.journal drive.ended.disk same images.any_moment;
-        throughout = keeps_throughout d drive.link drive.journal drive.before.disk drive.loaded load
-            safe drive.old.journal drive.ended.disk same loading images.any_moment;
-      }
+      → KeepsImages o l d (begun_state drive) (last_state drive) → IsRun
+  is_run causal rising load safe loading same begins images = record {
+    laws =
+        let begun =
+        begins drive.link (sink_texts None None) (d.told drive.loaded) load.link_is in
+        walk-boxed b.walking line_of (setup_in drive)
+        (causal drive.old.line_box (journal_floor drive.old.journal) (setup_in drive) []
+        begun.took.stood.steps) (rising (setup_in drive));
+    begun = λ texts. begins drive.link texts (d.told drive.loaded) load.link_is;
+    floor_before = told_before d drive.link drive.journal drive.before.disk drive.loaded load safe;
+    images = keeps_floor d drive.link drive.journal drive.before.disk drive.loaded load safe
+        (disk_journal drive.old.late) (disk_journal drive.last.late) drive.ended.disk same
+        images.is_kept;
+    since_load = keeps_from_load d drive.link drive.journal drive.before.disk drive.loaded load
+        safe (disk_journal drive.old.late) drive.ended.disk same images.any_moment;
+    throughout = keeps_throughout d drive.link drive.journal drive.before.disk drive.loaded load
+        safe (disk_journal drive.old.late) drive.ended.disk same loading images.any_moment;
+  }
 
--- A box was driven, and then what waited was written, whole or in part.
+-- A drive wasn't stopped.
+module _ {B N O L D : Type 0} (b : LinkBox B N) (line_of : N → List ℕ) (o : Sink O) (l : Sink L)
+    (d : SlotDisk D) (rest : ℕ) (before now : Option (List ℕ)) (begun state : State B O L D)
+    (end : End) (other : has_stopped end ≡ false)
+    (driven : Drives (driving b line_of o l d) 0 rest before now begun state end) where
+  pub able_then : MayDrive b line_of state.lines (d.told state.disk)
+  able_then = subst (λ r. OnOk r (MayDrive b line_of state.lines (d.told state.disk)))
+      (answer_ok end other) driven.gives.is_able
+
+  -- what the drive did, and then the calls after it
+  pub went_then : (last : State B O L D) (result : Result (Unit {0}) Stop)
+      → GoesOn o l d state last result → GoesOn o l d begun last result
+  went_then last result went = drives-then b line_of o l d begun state last result
+      (subst (λ r. GoesOn o l d begun state r) (answer_ok end other) driven.gives.went) went
+
+-- A box was driven, and was stopped, or finished.
 module _ {B N S O L D : Type 0} (b : LinkBox B N) (line_of : N → List ℕ) (s : Source S)
     (o : Sink O) (l : Sink L) (d : SlotDisk D) (drive : BoxDrive B S O L D)
     (run : IsRun b line_of s o l d drive) where
@@ -228,36 +280,36 @@ module _ {B N S O L D : Type 0} (b : LinkBox B N) (line_of : N → List ℕ) (s 
   abbrev origin : BoxOrigin
   origin = record { link = drive.link; setup = setup_in drive; texts = texts }
 
-  abbrev outputs : Outputs
-  outputs = record { out = o.held drive.ended.out; log = l.held drive.ended.log; slots = slots }
-
-  abbrev Driven : End → Type 0
+  abbrev Driven : State B O L D → End → Type 0
   Driven = HasDriven b line_of s o l d drive
-
-  abbrev Moved : List Item → Type 0
-  Moved = Moves (driving b line_of o l d) (begun_state drive) (ended_state drive)
 
   abbrev Took : List Item → End → Type 0
   Took items end =
       Takes 0 drive.rest (s.left drive.before.input) (s.left drive.ended.input) items end
 
-  keeps : (n : ℕ) → journal_link drive.new.journal ≡ drive.link
-      → journal_floor drive.new.journal ≡ n
+  -- what the box stands for after the items of a drive
+  stood : (state : State B O L D) (items : List Item)
+      → Moves (driving b line_of o l d) (begun_state drive) state items
+      → DrivesBox b line_of state.lines origin (outputs_of o l d state) items
+  stood state items moved = moved origin [] (run.begun texts)
+
+  -- No image has a floor below one that isn't above the disk's.
+  keeps : (n : ℕ) → late_link drive.last.late ≡ drive.link → n ≤ disk_floor drive.last.late
       → KeepsFloor d drive.link n drive.before.disk drive.ended.disk
-  keeps n served is = subst (λ m. KeepsFloor d drive.link m drive.before.disk drive.ended.disk)
-      is (run.images served)
+  keeps n served within one c left =
+      floor_from_less drive.link n (disk_floor drive.last.late) within c (run.images served one c left)
 
   -- Each image makes an uptime: the box's numbers rise from the floor that the slots had, and the
   -- last one isn't above the image's floor.
-  uptime_to : (line : List Tick) → journal_link drive.new.journal ≡ drive.link
-      → journal_floor drive.new.journal ≡ box.number line
+  uptime_to : (line : List Tick) → late_link drive.last.late ≡ drive.link
+      → box.number line ≤ disk_floor drive.last.late
       → LeavesUptime d drive.link (box.numbers line) drive.before.disk drive.ended.disk
-  uptime_to line served is one starts told image left = record {
+  uptime_to line served within one starts told image left = record {
     floor = journal_floor drive.journal;
     loads = subst (ToldFloor drive.link (journal_floor drive.journal)) told run.floor_before;
     rise = run.laws.rising line;
     leaves = subst (λ n. HasFloorAtLeast drive.link n image) (sym (run.laws.last_is line))
-        (keeps _ served is one image left);
+        (keeps _ served within one image left);
   }
 
   -- the sinks at the end of the run
@@ -265,198 +317,203 @@ module _ {B N S O L D : Type 0} (b : LinkBox B N) (line_of : N → List ℕ) (s 
     abbrev after : Around S O L D
     after = around drive.ended.input out log drive.ended.disk
 
+    abbrev outputs : Outputs
+    outputs = record { out = o.held out; log = l.held log; slots = slots }
+
+    abbrev Runs : Status → Type 0
+    Runs = RunsBox s o l d drive.link boxes drive.rest drive.before after
+
     abbrev Fronts : Type 0
     Fronts = WritesFronts s o l d drive.link boxes drive.rest drive.before after
 
-    abbrev Sends : Type 0
-    Sends = (line : List Tick) → SendsBoxed box (waiting_in drive.new.texts) texts
-        (texts_of o l drive.ended) line
-        → HasSent box texts (texts_of o l after) line
-
-    abbrev SendsPart : Type 0
-    SendsPart = (line : List Tick) → SendsBoxed box (waiting_in drive.new.texts) texts
-        (texts_of o l drive.ended) line
-        → HasSentFronts box texts (texts_of o l after) line
-
-    ends_box : (end : End) (items : List Item) → Took items end → Moved items → Sends
+    -- All that waited was written.
+    pub ends_box : (end : End) (items : List Item) → Took items end
+        → HasFinished b line_of drive.last origin outputs items
         → EndsBox s o l d drive.link boxes drive.rest drive.before after end
-    ends_box end items takes moved finish =
-        let at : DrivesBox b line_of drive.new origin outputs items =
-        moved origin [] (run.begun texts) in
-        let is = at.number_is in
+    ends_box end items takes at =
+        let served = at.settled.link_is in
+        let within : box.number (ticks_in items) ≤ disk_floor drive.last.late =
+        omega (arith, at.settled.floor) in
         record {
           floor = journal_floor drive.journal;
           items = items;
           floor_before = run.floor_before;
           takes = takes;
           replays = record {
-            sent = finish (ticks_in items) at.sends;
-            images = keeps _ at.link_is is;
-            uptime = uptime_to (ticks_in items) at.link_is is;
+            sent = at.sent;
+            images = keeps _ served within;
+            uptime = uptime_to (ticks_in items) served within;
           };
           from_load = run.since_load;
-          floor_told = subst (λ n. ToldFloor drive.link n slots) is at.floor_told;
+          floor_told = at.settled.floor_told;
         }
 
-    fails_at_number : (items : List Item) (n : ℕ)
-        → Took items (Stopped stops.JournalFault)
-        → StopsAtNumber b line_of drive.new origin outputs (take n items) → Sends
-        → FailsAtNumber s o l d drive.link boxes drive.rest drive.before after
-    fails_at_number items n takes at finish = record {
-      floor = journal_floor drive.journal;
-      items = items;
-      line = ticks_in at.front;
-      last = at.last;
-      more = ticks_in (drop n items);
-      floor_before = run.floor_before;
-      takes = takes;
-      all = ticks_in-cut items n ∙ ap (λ l. l ++ ticks_in (drop n items))
-          (ap ticks_in at.is ∙ ticks_in-append at.front (tick at.last ∷ []));
-      replays = record {
-        sent = finish (ticks_in at.front) at.sends;
-        images = keeps _ at.link_is at.floor;
-        uptime = uptime_to (ticks_in at.front) at.link_is at.floor;
-      };
-      from_load = run.since_load;
-      fails = at.fails;
-    }
+    -- Of the items that were taken, the box had taken `front` when something failed. The sinks have
+    -- got fronts of what the box makes of `line`, the first of the ticks of these.
+    module _ (end : End) (items : List Item) (takes : Took items end) (line more : List Tick)
+        (all : ticks_in items ≡ line ++ more)
+        (sent : HasSentFronts box texts (texts_of o l after) line)
+        (served : late_link drive.last.late ≡ drive.link)
+        (within : box.number line ≤ disk_floor drive.last.late) where
+      front : line ≡ take (length line) (ticks_in items)
+      front = front-take line more (ticks_in items) all
 
-    -- The sinks have got fronts of what the box makes of `line`, the first of the ticks.
-    writes_fronts : (end : End) (items : List Item) (line more : List Tick)
-        → Took items end → ticks_in items ≡ line ++ more
-        → HasSentFronts box texts (texts_of o l after) line
-        → journal_link drive.new.journal ≡ drive.link
-        → journal_floor drive.new.journal ≡ box.number line
-        → IfSome slots (IsEitherFloor drive.link (box.number line)
-        (box.number (take (length line + 1) (ticks_in items))))
-        → Fronts
-    writes_fronts end items line more takes all sent served is told =
-        let taken : List Tick = ticks_in items in
-        let front : line ≡ take (length line) taken =
-        sym (ap (take (length line)) all ∙ take-append_seam line more) in
-        let fronts : HasSentFronts box texts (texts_of o l after)
-        (take (length line) taken) =
-        subst (HasSentFronts box texts (texts_of o l after)) front sent in
-        let at : journal_floor drive.new.journal ≡ box.number (take (length line) taken) =
-        is ∙ ap box.number front in
-        let less = number_of_lines box (journal_floor drive.journal) taken (length line) texts
-        (texts_of o l after) run.laws fronts in record {
-          floor = journal_floor drive.journal;
-          items = items;
-          end = end;
-          ticks = length line;
-          floor_before = run.floor_before;
-          takes = takes;
-          sent = fronts;
-          images = keeps _ served at;
-          uptime = uptime_to (take (length line) taken) served at;
-          from_load = run.since_load;
-          lines = λ one c left. floor_from_less drive.link _ _ less c (keeps _ served at one c left);
-          floor_told = subst (λ l. IfSome slots
-              (IsEitherFloor drive.link (box.number l) (box.number (take (length line + 1) taken))))
-              front told;
-        }
+      fronts : HasSentFronts box texts (texts_of o l after) (take (length line) (ticks_in items))
+      fronts = subst (HasSentFronts box texts (texts_of o l after)) front sent
 
-    -- All ticks of the items were taken, and then a write failed.
-    fronts_of_taken : (end : End) (items : List Item) → Took items end → Moved items → SendsPart
-        → Fronts
-    fronts_of_taken end items takes moved finish =
-        let at : DrivesBox b line_of drive.new origin outputs items =
-        moved origin [] (run.begun texts) in
-        let is = at.number_is in
-        writes_fronts end items (ticks_in items) [] takes (sym (append-nil (ticks_in items)))
-        (finish (ticks_in items) at.sends) at.link_is is
-        (either_of drive.link _ _ slots
-        (subst (λ n. ToldFloor drive.link n slots) is at.floor_told))
+      less : box.number (take (length line) (ticks_in items)) ≤ disk_floor drive.last.late
+      less = subst (λ t. box.number t ≤ disk_floor drive.last.late) front within
 
-    fronts_of_failed : (items : List Item) (n : ℕ)
-        → Took items (Stopped stops.JournalFault)
-        → StopsAtNumber b line_of drive.new origin outputs (take n items) → SendsPart → Fronts
-    fronts_of_failed items n takes at finish =
-        let line : List Tick = ticks_in at.front in
-        let more : List Tick = ticks_in (drop n items) in
-        let all : ticks_in items ≡ line ++ (at.last ∷ more) = ticks_in-cut items n
-        ∙ ap (λ l. l ++ more) (ap ticks_in at.is ∙ ticks_in-append at.front (tick at.last ∷ []))
-        ∙ append_assoc line (at.last ∷ []) more in
-        let next : take (length line + 1) (ticks_in items) ≡ line ++ at.last ∷ [] =
-        ap (take (length line + 1)) all ∙ take-append-add line (at.last ∷ more) 1 in
-        writes_fronts (Stopped stops.JournalFault) items line (at.last ∷ more) takes all
-        (finish line at.sends) at.link_is at.floor
-        (subst (λ l. IfSome slots (IsEitherFloor drive.link (box.number line) (box.number l)))
-        (sym next) at.fails.floor_told)
+      lines : KeepsFloor d drive.link
+          (box.number (take (length (ticks_in (ended_items fronts.text.front))) (ticks_in items)))
+          drive.before.disk drive.ended.disk
+      lines =
+          let below = number_of_lines box (journal_floor drive.journal) (ticks_in items) (length line)
+          texts (texts_of o l after) run.laws fronts in
+          keeps _ served (omega (arith, below, less))
 
-    fronts_of_stopped : (items : List Item) (n : ℕ)
-        → Took items (Stopped stops.WriteFault)
-        → StopsAtWrite b line_of drive.new origin outputs (take n items)
-        → texts_of o l after ≡ texts_of o l drive.ended → Fronts
-    fronts_of_stopped items n takes at still =
-        writes_fronts (Stopped stops.WriteFault) items (ticks_in (take n items))
-        (ticks_in (drop n items)) takes (ticks_in-cut items n)
-        (subst (λ got. HasSentFronts box texts got (ticks_in (take n items)))
-        (sym still) at.sent) at.link_is at.floor
-        (either_of drive.link _ _ slots
-        (subst (λ n. ToldFloor drive.link n slots) at.floor at.floor_told))
+      writes_fronts : ToldFloor drive.link (box.number line) slots → Fronts
+      writes_fronts told = record {
+        floor = journal_floor drive.journal;
+        items = items;
+        end = end;
+        ticks = length line;
+        floor_before = run.floor_before;
+        takes = takes;
+        sent = fronts;
+        images = keeps _ served less;
+        uptime = uptime_to _ served less;
+        from_load = run.since_load;
+        lines = lines;
+        floor_told = subst (λ t. ToldFloor drive.link (box.number t) slots) front told;
+      }
 
-    -- A write failed during the drive.
-    pub write_stops : (end : End) → is_write_fault (answer_of end) ≡ true → Driven end
-        → texts_of o l after ≡ texts_of o l drive.ended → Fronts
-    write_stops Whole write driven still = cc
-    write_stops (Refused bad) write driven still = cc
-    write_stops (TooLong what count) write driven still = cc
-    write_stops ReadFault write driven still = cc
-    write_stops (Stopped stops.JournalFault) write driven still = cc
-    write_stops (Stopped stops.NoMemory) write driven still = cc
-    write_stops (Stopped stops.WriteFault) write driven still =
-        let stop = driven.gives.stopped in
-        fronts_of_stopped driven.items (stop.place + 1) driven.takes
-        (stop.at origin [] (run.begun texts)) still
+      fails_at_settle : (taken : List Tick) (others : List Tick)
+          → ticks_in items ≡ taken ++ others → length line ≤ length taken
+          → IfSome slots (HasFloorBetween drive.link (box.number line) (box.number taken))
+          → FailsAtSettle s o l d drive.link boxes drive.rest drive.before after
+      fails_at_settle taken others are more told = record {
+        floor = journal_floor drive.journal;
+        items = items;
+        end = end;
+        early = length line;
+        ticks = length taken;
+        not_more = more;
+        floor_before = run.floor_before;
+        takes = takes;
+        sent = fronts;
+        images = keeps _ served less;
+        uptime = uptime_to _ served less;
+        from_load = run.since_load;
+        lines = lines;
+        floor_told = subst (λ t. IfSome slots (HasFloorBetween drive.link
+            (box.number (take (length line) (ticks_in items))) (box.number t)))
+            (front-take taken others (ticks_in items) are)
+            (subst (λ t. IfSome slots (HasFloorBetween drive.link (box.number t) (box.number taken)))
+            front told);
+      }
 
-    -- What waited at the end was written in part.
-    pub finish_fails : (end : End) → is_write_fault (answer_of end) ≡ false → Driven end
-        → SendsPart → Fronts
-    finish_fails Whole other driven finish =
-        fronts_of_taken Whole driven.items driven.takes driven.gives.moved finish
-    finish_fails (Refused bad) other driven finish =
-        fronts_of_taken (Refused bad) driven.items driven.takes driven.gives.moved finish
-    finish_fails (TooLong what count) other driven finish =
-        fronts_of_taken (TooLong what count) driven.items driven.takes driven.gives.moved finish
-    finish_fails ReadFault other driven finish =
-        fronts_of_taken ReadFault driven.items driven.takes driven.gives.moved finish
-    finish_fails (Stopped stops.JournalFault) other driven finish =
-        let stop = driven.gives.stopped in
-        fronts_of_failed driven.items (stop.place + 1) driven.takes
-        (stop.at origin [] (run.begun texts)) finish
-    finish_fails (Stopped stops.NoMemory) other driven finish =
-        absurd (driven.gives.stopped.at origin [] (run.begun texts))
-    finish_fails (Stopped stops.WriteFault) other driven finish = cc
+    -- The box was stopped at the last of the items `front`.
+    pub stops_box : (end : End) (items front rest : List Item) → Took items end
+        → items ≡ front ++ rest → (stop : Stop)
+        → StopsBox b line_of drive.last stop origin outputs front
+        → Runs (status_of (Stopped stop))
+    stops_box end items front rest takes is stops.JournalFault at =
+        let cut = ticks_in-cut items front rest is in
+        let all : ticks_in items ≡ at.early ++ (at.later ++ ticks_in rest) =
+        cut ∙ ap (λ t. t ++ ticks_in rest) (sym at.is)
+        ∙ append_assoc at.early at.later (ticks_in rest) in
+        inl (fails_at_settle end items takes at.early (at.later ++ ticks_in rest) all at.sent
+        at.link_is at.not_below (ticks_in front) (ticks_in rest) cut
+        (omega (arith, ap length at.is, length-append at.early at.later)) at.floor_told)
+    stops_box end items front rest takes is stops.WriteFault at =
+        writes_fronts end items takes (ticks_in front) (ticks_in rest)
+        (ticks_in-cut items front rest is) at.sent at.settled.link_is
+        (omega (arith, at.settled.floor)) at.settled.floor_told
+    stops_box end items front rest takes is stops.NoMemory at = absurd at
 
-    -- What waited was written, and the input isn't a whole one.
-    pub refusal_runs : (end : End) → is_write_fault (answer_of end) ≡ false → (end ≡ Whole → ⊥)
-        → Driven end → Sends
-        → RunsBox s o l d drive.link boxes drive.rest drive.before after (status_of end)
-    refusal_runs Whole other partial driven finish = absurd (partial refl)
-    refusal_runs (Refused bad) other partial driven finish =
-        ends_box (Refused bad) driven.items driven.takes driven.gives.moved finish
-    refusal_runs (TooLong what count) other partial driven finish =
-        ends_box (TooLong what count) driven.items driven.takes driven.gives.moved finish
-    refusal_runs ReadFault other partial driven finish =
-        ends_box ReadFault driven.items driven.takes driven.gives.moved finish
-    refusal_runs (Stopped stops.JournalFault) other partial driven finish =
-        let stop = driven.gives.stopped in
-        inl (fails_at_number driven.items (stop.place + 1) driven.takes
-        (stop.at origin [] (run.begun texts)) finish)
-    refusal_runs (Stopped stops.NoMemory) other partial driven finish =
-        absurd (driven.gives.stopped.at origin [] (run.begun texts))
-    refusal_runs (Stopped stops.WriteFault) other partial driven finish = cc
+  -- ---- the drive was stopped
 
-    -- What waited was written, and the sinks were flushed, or a flush failed.
-    pub whole_runs : (status : Status) → (status ≡ Done) ⊎ (status ≡ WriteFault) → Driven Whole
-        → Sends → RunsBox s o l d drive.link boxes drive.rest drive.before after status
-    whole_runs status (inl done) driven finish =
-        subst (RunsBox s o l d drive.link boxes drive.rest drive.before after) (sym done)
-        (ends_box Whole driven.items driven.takes driven.gives.moved finish)
-    whole_runs status (inr fault) driven finish =
-        subst (RunsBox s o l d drive.link boxes drive.rest drive.before after) (sym fault)
-        (fronts_of_taken Whole driven.items driven.takes driven.gives.moved
-        (λ line sends. fronts_of_all box texts (texts_of o l after) line
-        (finish line sends)))
+  pub drive_stops : (end : End) → has_stopped end ≡ true → Driven (last_state drive) end
+      → Runs drive.ended.out drive.ended.log (status_of end)
+  drive_stops Whole stopped driven = cc
+  drive_stops (Refused bad) stopped driven = cc
+  drive_stops (TooLong what count) stopped driven = cc
+  drive_stops ReadFault stopped driven = cc
+  drive_stops (Stopped stop) stopped driven =
+      let at = driven.gives.stopped in
+      stops_box drive.ended.out drive.ended.log (Stopped stop) driven.items
+      (take (at.place + 1) driven.items) (drop (at.place + 1) driven.items) driven.takes
+      (sym (take-append-drop (at.place + 1) driven.items)) stop
+      (at.at origin [] (run.begun texts))
+
+  -- ---- the input ended, and then all that waited was to be written
+
+  -- what the box had taken when the input had ended
+  taken_at : (end : End) → has_stopped end ≡ false → (state : State B O L D)
+      → (driven : Driven state end)
+      → DrivesBox b line_of state.lines origin (outputs_of o l d state) driven.items
+  taken_at end other state driven = stood state driven.items
+      (subst (λ r. OnOk r (Moves (driving b line_of o l d) (begun_state drive) state driven.items))
+      (answer_ok end other) driven.gives.moved)
+
+  -- The disk or a write failed.
+  pub finish_stops : (end : End) → has_stopped end ≡ false → (state : State B O L D)
+      → Driven state end → (stop : Stop)
+      → ((origin : BoxOrigin) (items : List Item)
+      → DrivesBox b line_of state.lines origin (outputs_of o l d state) items
+      → StopsBox b line_of drive.last stop origin (outputs_of o l d (last_state drive)) items)
+      → Runs drive.ended.out drive.ended.log (status_of (Stopped stop))
+  finish_stops end other state driven stop stops =
+      stops_box drive.ended.out drive.ended.log end driven.items driven.items [] driven.takes
+      (sym (append-nil driven.items)) stop
+      (stops origin driven.items (taken_at end other state driven))
+
+  -- A box never stops for lack of memory, so the input's count isn't below the one before.
+  pub input_of_stop : (before now : ℕ) → before ≤ now → (stop : Stop)
+      → Runs drive.ended.out drive.ended.log (status_of (Stopped stop))
+      → InputCause before now (status_of (Stopped stop))
+  input_of_stop before now never_falls stops.JournalFault runs = never_falls
+  input_of_stop before now never_falls stops.WriteFault runs = never_falls
+  input_of_stop before now never_falls stops.NoMemory runs = absurd runs
+
+  abbrev Finished : State B O L D → Type 0
+  Finished state = (origin : BoxOrigin) (items : List Item)
+      → DrivesBox b line_of state.lines origin (outputs_of o l d state) items
+      → HasFinished b line_of drive.last origin (outputs_of o l d (last_state drive)) items
+
+  -- All that waited was written, and the input isn't a whole one.
+  pub refusal_runs : (end : End) → has_stopped end ≡ false → (end ≡ Whole → ⊥)
+      → (state : State B O L D) → Driven state end → Finished state
+      → Runs drive.ended.out drive.ended.log (status_of end)
+  refusal_runs Whole other partial state driven finish = absurd (partial refl)
+  refusal_runs (Refused bad) other partial state driven finish =
+      ends_box drive.ended.out drive.ended.log (Refused bad) driven.items driven.takes
+      (finish origin driven.items (taken_at (Refused bad) other state driven))
+  refusal_runs (TooLong what count) other partial state driven finish =
+      ends_box drive.ended.out drive.ended.log (TooLong what count) driven.items driven.takes
+      (finish origin driven.items (taken_at (TooLong what count) other state driven))
+  refusal_runs ReadFault other partial state driven finish =
+      ends_box drive.ended.out drive.ended.log ReadFault driven.items driven.takes
+      (finish origin driven.items (taken_at ReadFault other state driven))
+  refusal_runs (Stopped stop) other partial state driven finish = cc
+
+  -- What waited was written, and the sinks were flushed, or a flush failed.
+  module _ (out : O) (log : L) (out_same : o.held out ≡ o.held drive.ended.out)
+      (log_same : l.held log ≡ l.held drive.ended.log) (state : State B O L D)
+      (driven : Driven state Whole) (finish : Finished state) where
+    finished : HasFinished b line_of drive.last origin (outputs out log) driven.items
+    finished = rw (out_same, log_same) (finish origin driven.items (taken_at Whole refl state driven))
+
+    pub whole_runs : (status : Status) → (status ≡ Done) ⊎ (status ≡ WriteFault)
+        → Runs out log status
+    whole_runs status (inl done) =
+        subst (Runs out log) (sym done) (ends_box out log Whole driven.items driven.takes finished)
+    whole_runs status (inr fault) =
+        subst (Runs out log) (sym fault)
+        (stops_box out log Whole driven.items driven.items [] driven.takes
+        (sym (append-nil driven.items)) stops.WriteFault (record {
+          sent = fronts_of_all box texts (texts_of o l (after out log)) (ticks_in driven.items)
+              finished.sent;
+          settled = finished.settled;
+        }))

@@ -1,6 +1,7 @@
--- The answers that a spacer owes are written part by part.
+-- The answers that a spacer owes are added part by part.
 use Rattle.{device_model.specs.Frames.frames_lent, line_spacer.proofs.Owing.still-some}
-use Rattle.{line_spacer.specs.Owing.still_read, line_texts.specs.Sending.SinkTexts}
+use Rattle.{line_spacer.specs.Owing.still_read, line_texts.specs.Adding.HasRoom}
+use Rattle.line_texts.specs.Sending.{SinkTexts}
 use Rattle.line_commands.specs.OwedTexts.{StopsWriting, WritesAll, WritesFirst, frames_of}
 use Rattle.line_commands.specs.SpacedLines.{KeepsHeld, OwesTexts, StopsWithin}
 use Rattle.line_commands.specs.SpacedLinesLaws.{holds-then, keeps-none}
@@ -15,7 +16,8 @@ use Rattle.yasir_io.specs.declared.sink.Sink.{Ghosts as Sink}
 use Rattle.yasir_ticks.specs.declared.tick.Tick.{Tick}
 
 module _ {B O L : Type 0} (b : LineSpacer B) (o : Sink O) (l : Sink L) where
-  -- Of the `owed` ticks, `left` are left, and the answers to those before them are written.
+  -- Of the `owed` ticks, `left` are left, the answers to those before them are added, and there is
+  -- room for more.
   pub record AreWritten (start now : SpacedLines B O L) (owed left : ℕ) (read : Option ℕ) :
       Type 0 where
     pub done : ℕ
@@ -26,11 +28,12 @@ module _ {B O L : Type 0} (b : LineSpacer B) (o : Sink O) (l : Sink L) where
         (line ++ take done ticks) (drop done ticks)
     pub counts : b.taken now.spacer.now ≡ b.taken start.spacer.now
     pub lends : b.lent now.spacer.now ≡ b.lent start.spacer.now
+    pub room : HasRoom now.texts.now
     pub keeps : KeepsHeld o l start now (Ok tt)
 
   pub none_written : (lines : SpacedLines B O L) (owed : ℕ) (read : Option ℕ) → 0 < owed
-      → AreWritten lines lines owed owed read
-  none_written lines owed read some = record {
+      → HasRoom lines.texts.now → AreWritten lines lines owed owed read
+  none_written lines owed read some room = record {
     done = 0;
     sum = omega arith;
     moved = λ origin line ticks long before.
@@ -41,6 +44,7 @@ module _ {B O L : Type 0} (b : LineSpacer B) (o : Sink O) (l : Sink L) where
         (sym (append-nil line)) before);
     counts = refl;
     lends = refl;
+    room = room;
     keeps = keeps-none b o l lines;
   }
 
@@ -67,7 +71,7 @@ module _ {B O L : Type 0} (b : LineSpacer B) (o : Sink O) (l : Sink L) where
     left-long ticks long =
         let rest = length-drop are.done ticks in let sum = are.sum in omega arith
 
-    -- The answers to n more ticks are written.
+    -- The answers to n more ticks are added.
     pub some_more : (n : ℕ) → WritesFirst b o l now new left read n
         → AreWritten start new owed (left - n) read
     some_more n wrote =
@@ -95,10 +99,11 @@ module _ {B O L : Type 0} (b : LineSpacer B) (o : Sink O) (l : Sink L) where
               ((line ++ front) ++ take n behind) (drop n behind)) (sym same-frames) after));
           counts = wrote.counts ∙ are.counts;
           lends = wrote.lends ∙ are.lends;
+          room = wrote.room;
           keeps = holds-then b o l start now new (Ok tt) are.keeps wrote.keeps;
         }
 
-    -- A write of the answers that are left failed.
+    -- A write failed when the answers that are left were added.
     pub more_stopped : (stop : Stop) → 0 < left → StopsWriting b o l now new left read stop
         → StopsWriting b o l start new owed read stop
     more_stopped stop some wrote = record {
@@ -112,7 +117,7 @@ module _ {B O L : Type 0} (b : LineSpacer B) (o : Sink O) (l : Sink L) where
       keeps = holds-then b o l start now new (Err stop) are.keeps wrote.keeps;
     }
 
-    -- If no tick is left, all answers are written.
+    -- If no tick is left, all answers are added.
     pub all_written : left ≤ 0 → (origin : SinkTexts) (line ticks : List Tick)
         → length ticks ≡ owed
         → OwesTexts b o l start (frames_of b o l start read) origin line ticks
@@ -126,10 +131,10 @@ module _ {B O L : Type 0} (b : LineSpacer B) (o : Sink O) (l : Sink L) where
         (line ++ take are.done ticks) x) (drop_all are.done ticks over)
         (are.moved origin line ticks long before))
 
-  -- If nothing was owed, all answers are written.
-  pub nothing_owed : (lines : SpacedLines B O L) → lines.owed ≡ 0
+  -- If nothing was owed, all answers are added.
+  pub nothing_owed : (lines : SpacedLines B O L) → lines.owed ≡ 0 → HasRoom lines.texts.now
       → WritesAll b o l lines lines None
-  nothing_owed lines none = record {
+  nothing_owed lines none room = record {
     none = none;
     moved = λ origin line ticks long before.
         let empty : ticks ≡ [] = nil_from_length ticks (long ∙ none) in
@@ -137,5 +142,6 @@ module _ {B O L : Type 0} (b : LineSpacer B) (o : Sink O) (l : Sink L) where
         (subst (λ x. OwesTexts b o l lines [] origin x []) (sym (append-nil line))
         (subst (λ x. OwesTexts b o l lines [] origin line x) empty before));
     counts = refl;
+    room = room;
     keeps = keeps-none b o l lines;
   }

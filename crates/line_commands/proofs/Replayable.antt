@@ -1,12 +1,12 @@
 -- If the key, the journal and the input are right, only a fault outside keeps a run from being
 -- done.
 use Rattle.line_commands.specs.{Boxes.Boxed, Given.HasKey, Given.HoldsJournal}
-use Rattle.line_commands.specs.ReplaysBox.{ReplaysBox, BoxDiskCause, IsReplayable}
+use Rattle.line_commands.specs.ReplaysBox.{ReplaysBox, IsReplayable}
 use Rattle.{hex.proofs.HexLemmas.decode_of-ok, link_format.specs.declared.dir.Dir.Dir}
 use Rattle.command_ends.specs.KeyText.{IsKeyText, IsKeyMet, IsNoKey}
 use Rattle.link_format.specs.Setup.{Setup}
 use Rattle.command_ends.proofs.Readable.{met_of_told, all_of_told, not_refused, not_too_long}
-use Rattle.command_ends.specs.Causes.{ReadsCause, SinkCause, NoneRose}
+use Rattle.command_ends.specs.Causes.{ReadsCause, DiskCause, SinkCause, NoneRose}
 use Rattle.command_ends.specs.{Outside.Outside, declared.status.Status.Status}
 use Rattle.command_ends.specs.declared.status.Status.TheVariants.{Done, BadTicks, ReadFault}
 use Rattle.command_ends.specs.declared.status.Status.TheVariants.{WriteFault, JournalFault}
@@ -107,7 +107,7 @@ module _ {K S O L D : Type 0} (k : Source K) (s : Source S) (o : Sink O) (l : Si
       status
       → ReadsCause (k.faults before.key) (k.faults after.key) (s.faults before.input)
       (s.faults after.input) status
-      → BoxDiskCause (d.faults before.disk) (d.faults after.disk) status
+      → DiskCause (d.faults before.disk) (d.faults after.disk) status
       → SinkCause (o.faults before.out) (o.faults after.out) (l.faults before.log)
       (l.faults after.log) status → status ≡ Done
   replayable_done Done h reads disk sinks = refl

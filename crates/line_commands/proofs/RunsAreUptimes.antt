@@ -100,7 +100,7 @@ module _ {S O L D : Type 0} (s : Source S) (o : Sink O) (l : Sink L) (d : SlotDi
   run-is (BadTicks bad) h = inl (ended _ h, refl)
   run-is (TooLong what count) h = inl (ended _ h, refl)
   run-is ReadFault h = inl (ended _ h, refl)
-  run-is JournalFault (inl h) = inl (was h.floor h.line h.floor_before h.replays.uptime, refl)
+  run-is JournalFault (inl h) = inl (was h.floor _ h.floor_before h.uptime, refl)
   run-is JournalFault (inr h) = inr (failed-load h)
   run-is WriteFault h = inl (was h.floor _ h.floor_before h.uptime, refl)
   run-is (BadJournal a b) h = inr (inl (looked h.1))

@@ -1,6 +1,9 @@
 -- What calls that write to a port do, one after another.
-use Rattle.line_commands.proofs.Handing.{noted_none, noted_sent, noted_cut, text_cut, text_sent}
+use Rattle.line_texts.specs.Sending.{LineAndNotes, AnswersNoted}
+use Rattle.line_commands.proofs.Handing.{Noted, noted_none, noted_sent, noted_cut, text_cut, text_sent}
+use Rattle.line_commands.proofs.Handing.{text_none}
 use Rattle.line_commands.{proofs.Histories.told_twice, specs.History.Event, specs.History.told_then}
+use Rattle.line_commands.specs.{History.History, Order.Handed, Sent.SendsAny}
 use Rattle.line_commands.specs.History.{WritesFront, KeepsFaults, Event.writes, Event.flushes}
 use Rattle.line_commands.specs.{LiveText.IsTextOf, Sent.WritesCause, Sent.Sends, Sent.Hands}
 use Rattle.line_commands.specs.declared.port.Output.{Output, TheVariants.Out, TheVariants.Log}
@@ -131,28 +134,57 @@ module _ {P : Type 0} (p : Port P) where
 
   -- ---- a note, and then a text
 
-  -- There is no note, and the text was sent, or sending it failed.
-  pub hands_text : (old new : P) (note text : List ℕ) (answer : List Tick)
-      (result : Result (Unit {0}) Failed) → note ≡ [] → IsTextOf text answer
-      → Sends p old new Out text result → Hands p old new answer note result
-  hands_text old new note text answer (Ok x) none is sends = record {
+  cause_none : (port : P) → WritesCause p {T = Unit {0}} {E = Failed} port port (Ok tt)
+  cause_none port = record { left_same = refl; read_same = refl; same = λ to. refl; failed = tt }
+
+  pub any_cause : (old new : P) (to : Output) (bytes : List ℕ) (result : Result (Unit {0}) Failed)
+      → SendsAny p old new to bytes result → WritesCause p old new result
+  any_cause old new to bytes result (inl sends) = sends.cause
+  any_cause old new to bytes result (inr none) =
+      rw (none.1, none.2) (cause_none old)
+
+  -- The notes were handed on, and then the text was, or sending it failed.
+  hands_after : (old mid new : P) (note text : List ℕ) (answer : List Tick)
+      (result : Result (Unit {0}) Failed) (is : IsTextOf text answer)
+      → WritesCause p {T = Unit {0}} {E = Failed} old mid (Ok tt)
+      → ((made : LineAndNotes) (start : History) (read : List ℕ) (line run : List Tick)
+      (answers : AnswersNoted made line run answer note) → Handed made start (p.history old) read line
+      → Noted made start read line run answer note text answers is (p.history mid))
+      → SendsAny p mid new Out text result → Hands p old new answer note result
+  hands_after old mid new note text answer (Ok x) is first noted (inl sends) = record {
     ok = λ made start read line run answers handed.
-        text_sent made start read line run answer note text answers is (p.history old)
-        (p.history new)
-        (noted_none made start read line run answer note text answers is (p.history old) none handed)
-        sends.ok;
+        text_sent made start read line run answer note text answers is (p.history mid)
+        (p.history new) (noted made start read line run answers handed) sends.ok;
     err = tt;
-    cause = sends.cause;
+    cause = cause_then old mid new (Ok x) first sends.cause;
   }
-  hands_text old new note text answer (Err e) none is sends = record {
+  hands_after old mid new note text answer (Err e) is first noted (inl sends) = record {
     ok = tt;
     err = λ made start read line run answers handed.
-        text_cut made start read line run answer note text answers is (p.history old)
+        text_cut made start read line run answer note text answers is (p.history mid)
         (p.history new) sends.err.front sends.err.rest sends.err.more sends.err.is sends.err.tail
-        (noted_none made start read line run answer note text answers is (p.history old) none handed)
-        sends.err.told;
-    cause = sends.cause;
+        (noted made start read line run answers handed) sends.err.told;
+    cause = cause_then old mid new (Err e) first sends.cause;
   }
+  hands_after old mid new note text answer result is first noted (inr none) =
+      subst (λ r. Hands p old new answer note r) (sym none.2)
+      (subst (λ at. Hands p {T = Unit {0}} {E = Failed} old at answer note (Ok tt)) (sym none.1)
+      (record {
+        ok = λ made start read line run answers handed.
+            text_none made start read line run answer note text answers is (p.history mid) none.0
+            (noted made start read line run answers handed);
+        err = tt;
+        cause = first;
+      }))
+
+  -- There are no notes.
+  pub hands_text : (old new : P) (note text : List ℕ) (answer : List Tick)
+      (result : Result (Unit {0}) Failed) → note ≡ [] → IsTextOf text answer
+      → SendsAny p old new Out text result → Hands p old new answer note result
+  hands_text old new note text answer result none is sends =
+      hands_after old old new note text answer result is (cause_none old)
+      (λ made start read line run answers handed. noted_none made start read line run answer note
+      text answers is (p.history old) none handed) sends
 
   -- Sending the note failed.
   pub hands_note : (old new : P) (note text : List ℕ) (answer : List Tick) (e : Failed)
@@ -167,26 +199,12 @@ module _ {P : Type 0} (p : Port P) where
     cause = sends.cause;
   }
 
-  -- The note was sent, and then the text, or sending the text failed.
+  -- The notes were sent.
   pub hands_both : (old mid new : P) (note text : List ℕ) (answer : List Tick)
       (result : Result (Unit {0}) Failed) → IsTextOf text answer
       → Sends p {T = Unit {0}} {E = Failed} old mid Log note (Ok tt)
-      → Sends p mid new Out text result → Hands p old new answer note result
-  hands_both old mid new note text answer (Ok x) is first sends = record {
-    ok = λ made start read line run answers handed.
-        text_sent made start read line run answer note text answers is (p.history mid)
-        (p.history new)
-        (noted_sent made start read line run answer note text answers is (p.history old)
-        (p.history mid) handed first.ok) sends.ok;
-    err = tt;
-    cause = cause_then old mid new (Ok x) first.cause sends.cause;
-  }
-  hands_both old mid new note text answer (Err e) is first sends = record {
-    ok = tt;
-    err = λ made start read line run answers handed.
-        text_cut made start read line run answer note text answers is (p.history mid)
-        (p.history new) sends.err.front sends.err.rest sends.err.more sends.err.is sends.err.tail
-        (noted_sent made start read line run answer note text answers is (p.history old)
-        (p.history mid) handed first.ok) sends.err.told;
-    cause = cause_then old mid new (Err e) first.cause sends.cause;
-  }
+      → SendsAny p mid new Out text result → Hands p old new answer note result
+  hands_both old mid new note text answer result is first sends =
+      hands_after old mid new note text answer result is first.cause
+      (λ made start read line run answers handed. noted_sent made start read line run answer note
+      text answers is (p.history old) (p.history mid) handed first.ok) sends

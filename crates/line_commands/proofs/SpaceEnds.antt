@@ -2,7 +2,8 @@
 use Rattle.device_model.specs.Frames.{FrameRead}
 use Rattle.line_spacer.specs.{Arrivals.arrivals_behind, Spacing.spaced, Spacing.none_yet}
 use Rattle.line_texts.proofs.Sending.{begins, notes_all}
-use Rattle.line_texts.specs.Sending.{LineAndNotes, SinkTexts, Waiting, SendsTexts, HasSent}
+use Rattle.line_texts.specs.{Adding.HasRoom, Sending.LineAndNotes, Sending.SinkTexts}
+use Rattle.line_texts.specs.Sending.{Waiting, SendsTexts, HasSent}
 use Rattle.line_texts.specs.{Sending.HasSentFronts, Texts.texts_held, Texts.waiting_in}
 use Rattle.line_texts.specs.{Writer.HasWritten, declared.texts.Texts.Texts}
 use Rattle.command_ends.specs.{Endings.status_of, declared.status.Status.Status}
@@ -115,13 +116,20 @@ module _ {B O L : Type 0} (b : LineSpacer B) (o : Sink O) (l : Sink L)
     keeps = driven.gives.went;
   }
 
+  -- If the end is no stop, there is room for the answers that are still owed.
+  pub room_at_end : (old mid : SpacedLines B O L) (end : End)
+      → ((stop : Stop) → end ≡ Stopped stop → ⊥)
+      → Drives (spacing b o l) 0 space_rest before now old mid end → HasRoom mid.texts.now
+  room_at_end old mid end other driven =
+      (gives_ok (spacing b o l) old mid driven.items end other driven.gives).is_able.room
+
   module _ (old mid new : SpacedLines B O L) (end : End)
       (other : (stop : Stop) → end ≡ Stopped stop → ⊥)
       (driven : Drives (spacing b o l) 0 space_rest before now old mid end) where
     gave : Gives (spacing b o l) old mid driven.items (Ok tt)
     gave = gives_ok (spacing b o l) old mid driven.items end other driven.gives
 
-    -- After the answers that were owed are written, all texts are on their way.
+    -- After the answers that were owed are added, all texts are on their way.
     all_sends : WritesAll b o l mid new None → (start : SinkTexts) → SpacesItems b o l old start []
         → SendsAll made before now start (texts_held o l (writing_behind new))
         (waiting_in new.texts.now) end

@@ -1,11 +1,13 @@
 -- What happens to the consumer when its spacer and its texts have taken a run.
-use Rattle.{device_model.specs.Frames.FrameRead, line_spacer.specs.Arrivals.arriving}
+use Rattle.{frame_ending.specs.Answered.answered, device_model.specs.Frames.FrameRead}
+use Rattle.line_spacer.specs.Arrivals.{arriving}
 use Rattle.line_spacer.specs.{Owing.still_read, Spacing.lost_of, Stands.AnswersSpaced}
-use Rattle.line_texts.proofs.Sending.{sends_more, sent_in_part}
-use Rattle.line_texts.specs.Sending.{AnswersNoted, SinkTexts, SendsTexts}
-use Rattle.line_texts.specs.Texts.{texts_held, waiting_in, Pushes}
+use Rattle.line_texts.proofs.Sending.{sends_added}
+use Rattle.line_texts.specs.{Adding.Adds, Adding.HasRoom, Sending.AnswersNoted, Sending.SinkTexts}
+use Rattle.line_texts.specs.Sending.{SendsTexts, HasSentFronts}
+use Rattle.line_texts.specs.{Texts.texts_held, Texts.waiting_in, declared.texts.Texts.Texts}
 use Rattle.line_commands.specs.OwedTexts.{StopsWriting, WritesAll, WritesFirst, frames_of}
-use Rattle.line_commands.specs.SpacedLines.{KeepsHeld, OwesTexts, SpacesItems, StopsSpacing}
+use Rattle.line_commands.specs.SpacedLines.{KeepsHeld, MaySpace, OwesTexts, SpacesItems, StopsSpacing}
 use Rattle.line_commands.specs.SpacedLines.{StopsWithin, spacing, writing_behind}
 use Rattle.line_commands.specs.{SpacedLinesLaws.holds-then, SpacedTexts.most_waiting}
 use Rattle.line_commands.specs.SpacedTexts.{lost_line, lost_lines, arrival_lines, spaced_texts}
@@ -18,7 +20,7 @@ use Rattle.std.proofs.lemmas.{Grind.flat_map-append, List.length-take-le}
 use Rattle.tick_drive.proofs.ItemLaws.{ticks_in-append, ticks_in-mark, ticks_in-front, length-front}
 use Rattle.tick_drive.specs.Consumers.{Gives, GivesFirst}
 use Rattle.tick_drive.specs.declared.consumer.Stop.{Stop, TheVariants.WriteFault}
-use Rattle.yasir_io.specs.declared.{Failed.Failed, sink.Sink.Ghosts as Sink}
+use Rattle.yasir_io.specs.declared.sink.Sink.{Ghosts as Sink}
 use Rattle.yasir_ticks.{proofs.TickRuns.length-run_items, specs.TickRun.run_ticks}
 use Rattle.yasir_ticks.specs.{TickRun.run_items, Ticks.Item, Ticks.ticks_in, Ticks.Item.mark}
 use Rattle.yasir_ticks.specs.declared.{tick.Tick.Tick, tick_run.TickRun.TickRun}
@@ -30,7 +32,7 @@ lines_of_step step [] = refl
 lines_of_step step (f ∷ lost) = ap (λ l. lost_line f ++ l) (lines_of_step step lost)
 
 -- what a spacer answers to a run, as ticks and note lines
-pub spacing_noted : (reads : List Tick → List FrameRead) (gap : ℕ) (line run answer : List Tick)
+spacing_noted : (reads : List Tick → List FrameRead) (gap : ℕ) (line run answer : List Tick)
     (step : ℕ) (lost : List FrameRead)
     → AnswersSpaced reads gap most_waiting line run answer step lost
     → AnswersNoted (spaced_texts reads gap) line run answer (lost_lines lost)
@@ -55,51 +57,65 @@ spaces_at_mark b o l lines start items before = record {
   texts = before.texts;
 }
 
--- For a spacer that has given the answers to the first n of the `owed` ticks.
+-- For a spacer that has given the answers to the first n of the `owed` ticks, and whose texts have
+-- taken them (`added`).
 module _ {B O L : Type 0} (b : LineSpacer B) (o : Sink O) (l : Sink L) (old new : SpacedLines B O L)
-    (owed : ℕ) (read : Option ℕ) (n : ℕ) (answer : List Tick) (note : List ℕ)
+    (added : Texts) (owed : ℕ) (read : Option ℕ) (n : ℕ) (left : List ℕ) (lost : List FrameRead)
     (owes : (line ticks : List Tick) → length ticks ≡ owed
     → b.owes old.spacer.now line ticks (frames_of b o l old read)
     → b.owes new.spacer.now (line ++ take n ticks) (drop n ticks)
     (still_read (drop n ticks) (frames_of b o l old read)))
     (answers : (line ticks : List Tick) → length ticks ≡ owed
     → b.owes old.spacer.now line ticks (frames_of b o l old read)
-    → AnswersNoted (spaced_texts b.reads b.gap) line (take n ticks) answer note) where
-  -- The texts have taken the answers.
+    → AnswersSpaced b.reads b.gap most_waiting line (take n ticks) (answered n left)
+    (length line + (n - 1)) lost)
+    (adds : Adds (waiting_in old.texts.now) (waiting_in added) (answered n left)
+    (lost_lines lost)) where
+  abbrev Sent : SinkTexts → List Tick → Type 0
+  Sent start line = SendsTexts (spaced_texts b.reads b.gap) (waiting_in added) start
+      (texts_held o l (writing_behind old)) line
+
+  added_sends : (start : SinkTexts) (line ticks : List Tick) → length ticks ≡ owed
+      → OwesTexts b o l old (frames_of b o l old read) start line ticks
+      → Sent start (line ++ take n ticks)
+  added_sends start line ticks long before =
+      sends_added (spaced_texts b.reads b.gap) line (take n ticks) (answered n left)
+      (lost_lines lost) (spacing_noted b.reads b.gap line (take n ticks) (answered n left)
+      (length line + (n - 1)) lost (answers line ticks long before.owes)) (waiting_in old.texts.now)
+      (waiting_in added) start (texts_held o l (writing_behind old)) before.sends adds
+
+  -- The answers are on their way, and there is room for more.
   pub some_written : 0 < n → n ≤ owed → b.taken new.spacer.now ≡ b.taken old.spacer.now
-      → b.lent new.spacer.now ≡ b.lent old.spacer.now
-      → Pushes o l (writing_behind old) (writing_behind new) answer note (Ok tt)
+      → b.lent new.spacer.now ≡ b.lent old.spacer.now → HasRoom new.texts.now
+      → ((start : SinkTexts) (line : List Tick) → Sent start line
+      → SendsTexts (spaced_texts b.reads b.gap) (waiting_in new.texts.now) start
+      (texts_held o l (writing_behind new)) line)
       → KeepsHeld o l old new (Ok tt) → WritesFirst b o l old new owed read n
-  some_written some within counts lends pushed keeps = record {
+  some_written some within counts lends room on keeps = record {
     some = some;
     within = within;
     moved = λ start line ticks long before. record {
       owes = owes line ticks long before.owes;
-      sends = sends_more (spaced_texts b.reads b.gap) line (take n ticks) answer note
-          (answers line ticks long before.owes) (waiting_in old.texts.now)
-          (waiting_in new.texts.now) start (texts_held o l (writing_behind old))
-          (texts_held o l (writing_behind new)) before.sends tt pushed.adds;
+      sends = on start (line ++ take n ticks) (added_sends start line ticks long before);
     };
     counts = counts;
     lends = lends;
+    room = room;
     keeps = keeps;
   }
 
-  -- A write of the answers failed.
-  pub some_stopped : (e : Failed)
-      → Pushes o l (writing_behind old) (writing_behind new) answer note (Err e)
+  -- A write of what waited failed.
+  pub some_stopped : ((start : SinkTexts) (line : List Tick) → Sent start line
+      → HasSentFronts (spaced_texts b.reads b.gap) start (texts_held o l (writing_behind new)) line)
       → KeepsHeld o l old new (Err WriteFault) → StopsWriting b o l old new owed read WriteFault
-  some_stopped e pushed keeps = record {
+  some_stopped stops keeps = record {
     why = refl;
     stopped = λ start line ticks long before. record {
       line = line ++ take n ticks;
       behind = drop n ticks;
       are = ap (λ x. line ++ x) (sym (take-append-drop n ticks))
           ∙ sym (append_assoc line (take n ticks) (drop n ticks));
-      sent = sent_in_part (spaced_texts b.reads b.gap) line (take n ticks) answer note
-          (answers line ticks long before.owes) (waiting_in old.texts.now)
-          (waiting_in new.texts.now) start (texts_held o l (writing_behind old))
-          (texts_held o l (writing_behind new)) before.sends e pushed.adds;
+      sent = stops start (line ++ take n ticks) (added_sends start line ticks long before);
     };
     keeps = keeps;
   }
@@ -151,10 +167,10 @@ module _ {B O L : Type 0} (b : LineSpacer B) (o : Sink O) (l : Sink L)
     sends = sends start line before.sends;
   }
 
-  -- Nothing was read, and no answer is written yet.
-  pub none_read : read ≡ None → old.owed ≤ b.taken old.spacer.now
+  -- Nothing was read, and no answer is added yet.
+  pub none_read : read ≡ None → MaySpace b o l old → HasRoom heard.texts.now
       → GivesFirst (spacing b o l) old heard (run_items run) n
-  none_read none able = record {
+  none_read none able room = record {
     some = some;
     within = few;
     gives = record {
@@ -170,13 +186,12 @@ module _ {B O L : Type 0} (b : LineSpacer B) (o : Sink O) (l : Sink L)
       };
       stopped = tt;
       counted = counted;
-      is_able = let sum = counts in let as_many = more in
-          let few : heard.owed ≤ b.taken heard.spacer.now = omega arith in few;
+      is_able = record { few = omega (arith, counts, more, able.few); room = room };
       went = keeps;
     };
   }
 
-  -- The answers that were owed are written.
+  -- The answers that were owed are added.
   pub read_written : (new : SpacedLines B O L) → WritesAll b o l heard new read
       → GivesFirst (spacing b o l) old new (run_items run) n
   read_written new wrote = record {
@@ -196,13 +211,12 @@ module _ {B O L : Type 0} (b : LineSpacer B) (o : Sink O) (l : Sink L)
       };
       stopped = tt;
       counted = wrote.counts ∙ counted;
-      is_able = let none = wrote.none in
-          let few : new.owed ≤ b.taken new.spacer.now = omega arith in few;
+      is_able = record { few = omega (arith, wrote.none); room = wrote.room };
       went = holds-then b o l old heard new (Ok tt) keeps wrote.keeps;
     };
   }
 
-  -- A write of the answers failed.
+  -- A write failed when the answers were added.
   pub read_stopped : (new : SpacedLines B O L) (stop : Stop)
       → StopsWriting b o l heard new heard.owed read stop
       → Gives (spacing b o l) old new (run_items run) (Err stop)

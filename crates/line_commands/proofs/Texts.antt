@@ -1,12 +1,10 @@
 -- Texts of ticks, in pieces.
-use Rattle.{frame_ending.specs.Answered.answered, line_commands.specs.LiveText.IsTextOf}
-use Rattle.std.proofs.Common.{◌≡◌, ◌∙◌, ℕ, ◌<◌, ◌≤◌, List, [], ◌∷◌, ◌++◌, length, map, refl, ap}
-use Rattle.std.proofs.Common.{sym, subst, arith, append-nil}
-use Rattle.std.proofs.lemmas.{Grind.flat_map-append, List.map-append}
-use Rattle.{std.specs.List.flat_map, yasir_ticks.proofs.Writing.leads-bytes}
-use Rattle.yasir_ticks.{proofs.Writing.leads-silence, specs.CanonicalText.canonical_text}
-use Rattle.yasir_ticks.specs.{CanonicalText.byte_line, CanonicalText.silence_line, Ticks.silent}
-use Rattle.yasir_ticks.specs.declared.tick.Tick.{Tick, TheVariants.Byte}
+use Rattle.line_commands.specs.LiveText.{IsTextOf}
+use Rattle.std.proofs.Common.{◌≡◌, ◌∙◌, ℕ, List, [], ◌∷◌, ◌++◌, refl, ap, sym, subst, append-nil}
+use Rattle.std.proofs.lemmas.Grind.{flat_map-append}
+use Rattle.std.specs.List.{flat_map}
+use Rattle.yasir_ticks.specs.CanonicalText.{canonical_text}
+use Rattle.yasir_ticks.specs.declared.tick.Tick.{Tick}
 
 pub text_nil : IsTextOf [] []
 text_nil = record { pieces = []; ticks_are = refl; text_is = refl }
@@ -34,40 +32,3 @@ text_then x y a b first second = record {
 
 pub text_as : (x y : List ℕ) (a b : List Tick) → x ≡ y → a ≡ b → IsTextOf x a → IsTextOf y b
 text_as x y a b e f text = subst (λ t. IsTextOf t b) e (subst (IsTextOf x) f text)
-
-pub text_bytes : (l : List ℕ) → 0 < length l → length l ≤ 32 → IsTextOf (byte_line l) (map Byte l)
-text_bytes l some few = text_as (canonical_text (map Byte l)) (byte_line l) (map Byte l) (map Byte l)
-    (ap canonical_text (sym (append-nil (map Byte l))) ∙ (leads-bytes l [] some few tt
-    ∙ append-nil (byte_line l))) refl (text_one (map Byte l))
-
-pub text_silence : (n : ℕ) → 0 < n → n ≤ 1000000 → IsTextOf (silence_line n) (silent n)
-text_silence n some few = text_as (canonical_text (silent n)) (silence_line n) (silent n) (silent n)
-    (ap canonical_text (sym (append-nil (silent n))) ∙ (leads-silence n [] some few tt
-    ∙ append-nil (silence_line n))) refl (text_one (silent n))
-
--- ---- what is returned for a run
-
-pub answer_silence : (new left : List ℕ) (n : ℕ) → left ≡ [] → 0 < n → n ≤ 1000000
-    → new ≡ [] ++ silence_line n → IsTextOf new (answered n left)
-answer_silence new left n none some few is = text_as (silence_line n) new (silent n)
-    (answered n left) (sym is) (sym (ap (answered n) none)) (text_silence n some few)
-
-answered_bytes : (n : ℕ) (left : List ℕ) → 0 < length left → map Byte left ≡ answered n left
-answered_bytes n [] some = absurd (omega arith)
-answered_bytes n (b ∷ left) some = refl
-
-pub answer_bytes : (new left : List ℕ) (n : ℕ) → 0 < length left → length left ≤ 32
-    → new ≡ [] ++ byte_line left → IsTextOf new (answered n left)
-answer_bytes new left n some few is = text_as (byte_line left) new (map Byte left)
-    (answered n left) (sym is) (answered_bytes n left some) (text_bytes left some few)
-
-pub answer_two : (mid new left front rest : List ℕ) (n : ℕ) → left ≡ front ++ rest
-    → 0 < length front → length front ≤ 32 → 0 < length rest → length rest ≤ 32
-    → 0 < length left → mid ≡ [] ++ byte_line front → new ≡ mid ++ byte_line rest
-    → IsTextOf new (answered n left)
-answer_two mid new left front rest n is some few more short any first second =
-    text_as (byte_line front ++ byte_line rest) new (map Byte front ++ map Byte rest)
-    (answered n left) (sym (second ∙ ap (λ l. l ++ byte_line rest) first))
-    (sym (map-append Byte front rest) ∙ (ap (map Byte) (sym is) ∙ answered_bytes n left any))
-    (text_then (byte_line front) (byte_line rest) (map Byte front) (map Byte rest)
-    (text_bytes front some few) (text_bytes rest more short))

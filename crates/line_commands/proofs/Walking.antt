@@ -1,21 +1,20 @@
 -- A box of a link as a command shows it. What a box must satisfy, and what its steps and runs
 -- return, follow from its walk.
-use Rattle.line_commands.specs.Boxes.{Boxed, IsBoxed, AnswersBox, AnswersBoxRun, FailsBox}
+use Rattle.line_commands.specs.Boxes.{Boxed, IsBoxed, AnswersBox, AnswersBoxRun}
 use Rattle.line_commands.specs.{Boxes.line_of_note, LinkBoxed.boxed_of}
 use Rattle.frame_ending.proofs.Longer.{extends, length-line_of}
 use Rattle.frame_ending.specs.Answers.{told_notes, note_in, AnswersTick}
 use Rattle.frame_ending.specs.{Causal.IsCausal, Longer.Begins, Runs.AnswersRun, Walk.Noted}
-use Rattle.link_box.specs.Stepping.{FailsStep}
 use Rattle.link_box.specs.Walking.{Walking, full_notes, frames_of, number_after}
 use Rattle.link_format.specs.NumberedFrame.{NumberedFrame, numbers_of, last_number}
-use Rattle.{link_format.specs.Setup.Setup, sequence_journal.specs.Journal.IsEitherFloor}
-use Rattle.sequence_journal.specs.{Journal.journal_link, Journal.journal_floor, Uptimes.RiseFrom}
-use Rattle.sequence_journal.specs.{Uptimes.last_from, declared.journal.Journal.Journal}
+use Rattle.{link_format.specs.Setup.Setup}
+use Rattle.sequence_journal.specs.{Uptimes.RiseFrom}
+use Rattle.sequence_journal.specs.{Uptimes.last_from}
 use Rattle.std.proofs.Common.{◌≡◌, ◌∙◌, ℕ, ◌<◌, ◌≤◌, List, [], ◌∷◌, ◌++◌, length, Option, Some}
-use Rattle.std.proofs.Common.{None, IfSome, refl, ap, subst, sym, arith, append-nil, length-append}
+use Rattle.std.proofs.Common.{None, refl, ap, subst, sym, arith, append-nil, length-append}
 use Rattle.std.proofs.lemmas.Grind.{flat_map-append}
 use Rattle.std.proofs.lemmas.List.{length-map, Elements.filter_map-append}
-use Rattle.{std.specs.List.flat_map, std.specs.List.filter_map, yasir_io.specs.Disks.Slots}
+use Rattle.{std.specs.List.flat_map, std.specs.List.filter_map}
 use Rattle.yasir_ticks.specs.{Bursts.bursts_from, declared.tick.Tick.Tick}
 
 -- ---- frames with their numbers
@@ -111,39 +110,6 @@ module _ {A : Type 0} (walking : Walking A) (note_line : A → List ℕ) (setup 
             ∙ (flat_map-append f told (note_in (length line) note)
             ∙ ap (λ l. flat_map f told ++ l) (line_of_step note_line (length line) note));
       }
-
-  -- The numbers of the box's frames rise from the floor.
-  module _ (rising : (line : List Tick)
-      → RiseFrom setup.floor (numbers_of (frames_of walking setup line))) where
-    -- If a step failed into which the note of a frame falls, the slots, if told, have the number of
-    -- this frame as their floor, or the number before it.
-    pub step-fails : {X : Type 0} (standing : X → ℕ → Setup → List Tick → Type 0) (value : X)
-        (old new : Journal) (line : List Tick) (t : Tick) (told_old told : Option Slots)
-        → FailsStep walking standing value old new t told_old told
-        → standing value (journal_floor old) setup line
-        → journal_floor old ≡ number_after walking setup line
-        → FailsBox (journal_link old) box line t told
-    step-fails standing value old new line t told_old told fails stands before =
-        let at = fails.notes setup line stands in
-        let f : NumberedFrame = at.frame in
-        let n : Noted walking.Full = record { tick = length line; note = at.full } in
-        let next : frames_of walking setup (line ++ t ∷ []) ≡ frames_of walking setup line ++ f ∷ [] =
-        ap frames_in at.noted ∙ (frames-append (notes line) (n ∷ [])
-        ∙ ap (λ l. frames_of walking setup line ++ l) (frame-alone n f at.framed)) in
-        let number : number_after walking setup (line ++ t ∷ []) ≡ f.number =
-        ap (last_number setup.floor) next
-        ∙ last_number-more setup.floor (frames_of walking setup line) f in
-        let P : List NumberedFrame → Type 0 = λ l. RiseFrom setup.floor (numbers_of l) in
-        let above : number_after walking setup line < f.number =
-        last-next setup.floor (frames_of walking setup line) f
-        (subst P next (rising (line ++ t ∷ []))) in
-        let Q : ℕ → ℕ → Type 0 = λ a b. IfSome told (IsEitherFloor (journal_link old) a b) in
-        record {
-          uses = omega (arith, number, above);
-          floor_told = subst (λ a. Q a (number_after walking setup (line ++ t ∷ []))) before
-              (subst (λ b. Q (journal_floor old) b) (sym (number ∙ at.numbered))
-              fails.failed.floor_told);
-        }
 
   -- The walk is causal: it needs no tick before its time.
   module _ (causal : IsCausal (walking.walker setup)) where

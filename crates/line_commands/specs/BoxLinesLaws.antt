@@ -12,6 +12,7 @@ use Rattle.sequence_journal.specs.declared.journal.Journal.{Journal}
 use Rattle.sequence_journal.specs.declared.link.LinkId.{LinkId}
 use Rattle.sequence_journal.specs.Journal.{journal_link, journal_floor, HasFloorAtLeast}
 use Rattle.sequence_journal.specs.Journal.{HasFloorFrom}
+use Rattle.sequence_journal.specs.Late.{disk_journal}
 use Rattle.sequence_journal.specs.Slots.{floor_of}
 use Rattle.link_box.specs.declared.box_trait.LinkBox.{Ghosts as LinkBox}
 use Rattle.tick_drive.specs.Consumers.{IsNoneDone, AreJoined, is_journal_fault, is_write_fault}
@@ -63,9 +64,11 @@ module _ {B O L D : Type 0} (o : Sink O) (l : Sink L) (d : SlotDisk D) where
     is_kept = λ kept. second.is_kept (first.is_kept kept);
     any_moment = λ kept. leaves_then d.moment d.left_since s0.disk s1.disk s2.disk _
         (first.any_moment kept)
-        (leaves_weaker d.moment d.left_since s1.disk s2.disk (HasFloorFrom s1.lines.journal)
-        (HasFloorFrom s0.lines.journal)
-        (floor_from_later s0.lines.journal s1.lines.journal first.link first.rises)
+        (leaves_weaker d.moment d.left_since s1.disk s2.disk
+        (HasFloorFrom (disk_journal s1.lines.late))
+        (HasFloorFrom (disk_journal s0.lines.late))
+        (floor_from_later (disk_journal s0.lines.late) (disk_journal s1.lines.late) first.link
+        first.rises)
         (second.any_moment (first.is_kept kept)));
   }
 

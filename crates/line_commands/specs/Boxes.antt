@@ -1,10 +1,6 @@
 -- A box between two lines: what it makes of a line, and what its steps return.
-use Rattle.std.specs.Prelude.{◌≡◌, ℕ, ◌<◌, ◌≤◌, List, [], ◌∷◌, ◌++◌, length, Option, Some, None}
-use Rattle.std.specs.Prelude.{IfSome}
+use Rattle.std.specs.Prelude.{◌≡◌, ℕ, ◌≤◌, List, [], ◌∷◌, ◌++◌, length, Option, Some, None}
 use Rattle.yasir_ticks.specs.declared.tick.Tick.{Tick}
-use Rattle.yasir_io.specs.Disks.{Slots}
-use Rattle.sequence_journal.specs.declared.link.LinkId.{LinkId}
-use Rattle.sequence_journal.specs.Journal.{IsEitherFloor}
 use Rattle.sequence_journal.specs.Uptimes.{RiseFrom, last_from}
 
 -- What a box with some setup makes of a line: the other line, the lines of its notes, the last
@@ -38,14 +34,6 @@ pub record AnswersBox (box : Boxed) (line : List Tick) (t tick : Tick) (note : L
     Type 0 where
   pub tick_is : box.other_line (line ++ t ∷ []) ≡ box.other_line line ++ tick ∷ []
   pub note_is : box.note_lines (line ++ t ∷ []) ≡ box.note_lines line ++ note
-
--- A step that uses a number failed. If the slots are told, their floor for a link is that number,
--- or the number before it.
-pub record FailsBox (link : LinkId) (box : Boxed) (line : List Tick) (t : Tick)
-    (told : Option Slots) : Type 0 where
-  pub uses : box.number line < box.number (line ++ t ∷ [])
-  pub floor_told : IfSome told
-      (IsEitherFloor link (box.number line) (box.number (line ++ t ∷ [])))
 
 -- For a run of ticks after a line, a box returns these ticks of the other line, notes nothing and
 -- uses no number.

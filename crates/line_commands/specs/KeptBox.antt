@@ -10,6 +10,7 @@ use Rattle.link_box.specs.Walking.{Walking, full_notes, other_line}
 use Rattle.link_box.specs.declared.box_trait.LinkBox.{Ghosts as LinkBox}
 use Rattle.sequence_journal.specs.Journal.{journal_link, journal_floor, Fits}
 use Rattle.session_lists.specs.FrameList.{Kept, Holds, IsWhole}
+use Rattle.line_texts.specs.Adding.{HasRoom}
 use Rattle.line_texts.specs.Sending.{LineAndNotes, sink_texts, SendsTexts}
 use Rattle.line_texts.specs.Texts.{waiting_in}
 use Rattle.line_commands.specs.MemoryText.{text_bytes}
@@ -60,31 +61,48 @@ module _ {B N : Type 0} (b : LinkBox B N) (line_of : N → List ℕ) where
 
   -- The journal is that of the box's link, the slots of the disk are those of the journal, the box
   -- has counted as many ticks as were kept, and the bytes of the notes are whole.
-  pub record IsSteady (value : KeptBox B) : Type 0 where
+  pub record IsServed (value : KeptBox B) : Type 0 where
     pub of_link : journal_link value.journal ≡ b.link_of value.line_box
     pub fits : Fits value.journal (Some (steady_slots value.disk))
     pub level : b.taken value.line_box ≡ ticks_kept value
     pub whole : IsWhole value.notes
 
+  -- The box may take more ticks: there is room for what they complete.
+  pub record IsSteady (value : KeptBox B) : Type 0 where
+    pub served : IsServed value
+    pub room : HasRoom value.texts
+
   -- The box has taken the ticks `run`, after whatever line it had taken.
-  pub record KeepsOn (old new : KeptBox B) (run : List Tick) : Type 0 where
+  pub record TakesOn (old new : KeptBox B) (run : List Tick) : Type 0 where
     pub counted : ticks_kept new ≡ ticks_kept old + length run
-    pub steady : IsSteady new
+    pub served : IsServed new
     pub keeps : (setup : Setup) (line : List Tick) → KeepsLine old setup line
         → KeepsLine new setup (line ++ run)
 
   -- the box has taken the first `count` of these ticks, which may be none
-  pub record KeepsUpTo (old new : KeptBox B) (run : List Tick) (count : ℕ) : Type 0 where
+  pub record TakesUpTo (old new : KeptBox B) (run : List Tick) (count : ℕ) : Type 0 where
     pub within : count ≤ length run
-    pub goes : KeepsOn old new (take count run)
+    pub goes : TakesOn old new (take count run)
 
-  -- Of `ticks` silent ticks, the box has taken all but `left`.
+  -- the box has taken the first `count` of these ticks, at least one
+  pub record TakesSome (old new : KeptBox B) (run : List Tick) (count : ℕ) : Type 0 where
+    pub some : 0 < count
+    pub front : TakesUpTo old new run count
+
+  -- The box has taken the ticks `run`, and may take more.
+  pub record KeepsOn (old new : KeptBox B) (run : List Tick) : Type 0 where
+    pub goes : TakesOn old new run
+    pub steady : IsSteady new
+
+  -- Of `ticks` silent ticks, the box has taken all but `left`, and may take more.
   pub record KeepsWaiting (old new : KeptBox B) (ticks left : ℕ) : Type 0 where
     pub done : ℕ
     pub all : done + left ≡ ticks
-    pub goes : KeepsOn old new (silent done)
+    pub goes : TakesOn old new (silent done)
+    pub steady : IsSteady new
 
-  -- the box has taken the first `count` of these ticks, at least one
+  -- The box has taken the first `count` of these ticks, at least one, and may take more.
   pub record KeepsSome (old new : KeptBox B) (run : List Tick) (count : ℕ) : Type 0 where
     pub some : 0 < count
-    pub front : KeepsUpTo old new run count
+    pub front : TakesUpTo old new run count
+    pub steady : IsSteady new

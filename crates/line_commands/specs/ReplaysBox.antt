@@ -1,7 +1,7 @@
 -- A command that replays its input through a box: what each status says of the key, the input, the
 -- two sinks and the journal's disk.
-use Rattle.std.specs.Prelude.{◌≡◌, ℕ, ◌+◌, ◌≤◌, ◌⊎◌, List, [], ◌∷◌, ◌++◌, length, take, Option}
-use Rattle.std.specs.Prelude.{Some, IfSome}
+use Rattle.std.specs.Prelude.{◌≡◌, ℕ, ◌≤◌, ◌⊎◌, List, length, take, Option, Some, IfSome, Bool, true}
+use Rattle.std.specs.Prelude.{false}
 use Rattle.yasir_io.specs.Causes.{Rose}
 use Rattle.yasir_io.specs.Disks.{Slots, NoMore, OneImage, LeavesOnly}
 use Rattle.yasir_io.specs.declared.source.Source.{Ghosts as Source}
@@ -14,12 +14,12 @@ use Rattle.link_format.specs.declared.dir.Dir.{Dir}
 use Rattle.link_format.specs.Setup.{Setup, setup_of}
 use Rattle.sequence_journal.specs.declared.link.LinkId.{LinkId}
 use Rattle.sequence_journal.specs.Slots.{floor_of}
-use Rattle.sequence_journal.specs.Journal.{HasFloorAtLeast, IsEitherFloor}
+use Rattle.sequence_journal.specs.Journal.{HasFloorAtLeast}
+use Rattle.sequence_journal.specs.Late.{HasFloorBetween}
 use Rattle.sequence_journal.specs.Loading.{MayTakeOver, FindsNone, FindsOther, MayLeaveLoading}
 use Rattle.sequence_journal.specs.Loading.{KeepsLoadable}
 use Rattle.sequence_journal.specs.Uptimes.{IsUptime}
 use Rattle.tick_drive.specs.Input.{Takes}
-use Rattle.tick_drive.specs.declared.consumer.Stop.TheVariants as stops
 use Rattle.tick_drive.specs.declared.end.End.{End}
 use Rattle.tick_drive.specs.declared.end.End.TheVariants.{Whole, Refused, Stopped}
 use Rattle.tick_drive.specs.declared.end.End.TheVariants as ends
@@ -31,11 +31,16 @@ use Rattle.command_ends.specs.declared.status.Status.TheVariants.{Done, BadTicks
 use Rattle.command_ends.specs.declared.status.Status.TheVariants.{WriteFault, JournalFault}
 use Rattle.command_ends.specs.declared.status.Status.TheVariants.{TooLong, BadKey, BadJournal}
 use Rattle.command_ends.specs.declared.status.Status.TheVariants.{WrongLink}
-use Rattle.line_commands.specs.Boxes.{Boxed, FailsBox}
+use Rattle.line_commands.specs.Boxes.{Boxed}
 use Rattle.line_commands.specs.Given.{HasKey, HoldsJournal}
 use Rattle.line_texts.specs.Sending.{SinkTexts, sink_texts}
 use Rattle.line_commands.specs.Sending.{HasSent, HasSentFronts}
 use Rattle.line_commands.specs.BoxLines.{ToldFloor}
+
+-- whether the consumer stopped the drive that ended like this
+abbrev pub has_stopped : End → Bool
+has_stopped (Stopped stop) = true
+has_stopped end = false
 
 -- what a run of a box is given apart from the key
 pub record Around (S O L D : Type 0) : Type 0 where
@@ -111,24 +116,38 @@ module _ {S O L D : Type 0} (s : Source S) (o : Sink O) (l : Sink L) (d : SlotDi
       pub from_load : KeepsFloorFromLoad d link floor before.disk after.disk
       pub floor_told : ToldFloor link ((box floor).number (ticks_in items)) (d.told after.disk)
 
-    -- The disk failed when a step used its number. The sinks have got what the box makes of the
-    -- ticks before this step.
-    pub record FailsAtNumber : Type 0 where
+    -- The disk failed in a settle, when the box had taken the first `ticks` ticks. The sinks have
+    -- got fronts of what the box makes of the first `early` ticks, for which the disk was settled
+    -- before, and nothing since. `end` is how the input ended, or that the box was stopped. No
+    -- image has a floor below the last number of the first `early` ticks, and each makes an uptime
+    -- with the numbers of these. If the whole lines that `out` got have `m` ticks, no image has a
+    -- floor below the last number of the first `m` ticks. The floor of the slots is from the last
+    -- number of the first `early` ticks to that of all ticks taken.
+    pub record FailsAtSettle : Type 0 where
       pub floor : ℕ
       pub items : List Item
-      pub line : List Tick
-      pub last : Tick
-      pub more : List Tick
+      pub end : End
+      pub early : ℕ
+      pub ticks : ℕ
+      pub not_more : early ≤ ticks
       pub floor_before : ToldFloor link floor (d.told before.disk)
-      pub takes : Takes 0 rest (s.left before.input) (s.left after.input) items
-          (Stopped stops.JournalFault)
-      pub all : ticks_in items ≡ (line ++ last ∷ []) ++ more
-      pub replays : Replays (box floor) before after line
+      pub takes : Takes 0 rest (s.left before.input) (s.left after.input) items end
+      pub sent : HasSentFronts (box floor) (texts_of o l before) (texts_of o l after)
+          (take early (ticks_in items))
+      pub images : KeepsFloor d link ((box floor).number (take early (ticks_in items)))
+          before.disk after.disk
+      pub uptime : LeavesUptime d link ((box floor).numbers (take early (ticks_in items)))
+          before.disk after.disk
       pub from_load : KeepsFloorFromLoad d link floor before.disk after.disk
-      pub fails : FailsBox link (box floor) line last (d.told after.disk)
+      pub lines : KeepsFloor d link ((box floor).number
+          (take (length (ticks_in (ended_items sent.text.front))) (ticks_in items)))
+          before.disk after.disk
+      pub floor_told : IfSome (d.told after.disk) (HasFloorBetween link
+          ((box floor).number (take early (ticks_in items)))
+          ((box floor).number (take ticks (ticks_in items))))
 
-    -- A write failed. The sinks have got a front of what the box makes of the first `ticks` ticks.
-    -- The last number of these ticks is committed, and that of the next tick may be. Each image
+    -- A write failed. The sinks have got a front of what the box makes of the first `ticks` ticks,
+    -- for which the disk was settled before: its floor is the last number of these ticks. Each image
     -- makes an uptime with the numbers of these ticks. If the whole lines that `out` got have `m`
     -- ticks, the box has returned these for the first `m` ticks, one for each, and no image has a
     -- floor below the last number of those.
@@ -149,9 +168,8 @@ module _ {S O L D : Type 0} (s : Source S) (o : Sink O) (l : Sink L) (d : SlotDi
       pub lines : KeepsFloor d link ((box floor).number
           (take (length (ticks_in (ended_items sent.text.front))) (ticks_in items)))
           before.disk after.disk
-      pub floor_told : IfSome (d.told after.disk)
-          (IsEitherFloor link ((box floor).number (take ticks (ticks_in items)))
-          ((box floor).number (take (ticks + 1) (ticks_in items))))
+      pub floor_told : ToldFloor link ((box floor).number (take ticks (ticks_in items)))
+          (d.told after.disk)
 
     -- The journal was looked at, and nothing was changed.
     pub record LooksAtJournal : Type 0 where
@@ -178,8 +196,8 @@ module _ {S O L D : Type 0} (s : Source S) (o : Sink O) (l : Sink L) (d : SlotDi
     RunsBox (BadTicks bad) = EndsBox (Refused bad)
     RunsBox (TooLong what count) = EndsBox (ends.TooLong what count)
     RunsBox ReadFault = EndsBox ends.ReadFault
-    -- in a step, or while the journal was loaded
-    RunsBox JournalFault = FailsAtNumber ⊎ FailsAtLoad
+    -- in a settle, or while the journal was loaded
+    RunsBox JournalFault = FailsAtSettle ⊎ FailsAtLoad
     RunsBox WriteFault = WritesFronts
     RunsBox (BadJournal a b) = FindsNone (d.told before.disk) a b × LooksAtJournal
     RunsBox (WrongLink slot) = FindsOther link (d.told before.disk) slot × LooksAtJournal
@@ -217,14 +235,6 @@ module _ {K S O L D : Type 0} (k : Source K) (s : Source S) (o : Sink O) (l : Si
   ReplaysBox (BadKey place) = RefusesKey place
   ReplaysBox ReadFault = FailsAtKey ⊎ RunsKeyed ReadFault
   ReplaysBox status = RunsKeyed status
-
--- The disk's count of faults rose if the status is `JournalFault`: a commit or a read of the
--- journal failed. It may have risen if the status is `WriteFault`, since a write may fail after the
--- disk did. Otherwise it is as it was.
-abbrev pub BoxDiskCause : ℕ → ℕ → Status → Type 0
-BoxDiskCause before now WriteFault = before ≤ now
-BoxDiskCause before now JournalFault = Rose before now
-BoxDiskCause before now status = now ≡ before
 
 -- All that the command is given is right: a key text, slots that hold a journal of the link, and an
 -- input within the limits.

@@ -1,6 +1,7 @@
 -- What calls that write to a port do.
-use Rattle.std.specs.Prelude.{◌≡◌, ◌⊎◌, ℕ, List, [], ◌∷◌, ◌++◌, true, false, Result, OnOk}
+use Rattle.std.specs.Prelude.{◌≡◌, ◌⊎◌, ℕ, List, [], ◌∷◌, ◌++◌, true, false, Result, Ok, OnOk}
 use Rattle.std.specs.Prelude.{OnErr}
+use Rattle.yasir_io.specs.declared.Failed.{Failed}
 use Rattle.yasir_io.specs.Causes.{Rose}
 use Rattle.line_commands.specs.History.{Event, History, told_then}
 use Rattle.line_commands.specs.History.Event.{writes, flushes}
@@ -37,8 +38,13 @@ module _ {P : Type 0} (p : Port P) where
     pub err : OnErr result (BreaksOff old new to bytes)
     pub cause : WritesCause old new result
 
-  -- What is made of some ticks of a line was handed on: these ticks of the other line and this
-  -- note. If a call failed, fronts of them were.
+  -- There were no bytes and nothing was done, or the bytes were written to an output and flushed.
+  abbrev pub SendsAny : P → P → Output → List ℕ → Result (Unit {0}) Failed → Type 0
+  SendsAny old new to bytes result = Sends old new to bytes result
+      ⊎ ((bytes ≡ []) × (new ≡ old) × (result ≡ Ok tt))
+
+  -- What is made of some ticks of a line was handed on: these ticks of the other line and these
+  -- notes. If a call failed, fronts of them were.
   pub record Hands {T E : Type 0} (old new : P) (answer : List Tick) (note : List ℕ)
       (result : Result T E) : Type 0 where
     pub ok : OnOk result ((made : LineAndNotes) (start : History) (read : List ℕ)

@@ -9,6 +9,7 @@ use Rattle.device_model.specs.Frames.{FrameRead}
 use Rattle.tick_drive.specs.Consumers.{Consuming, IsSinkCause, is_write_fault}
 use Rattle.tick_drive.specs.declared.consumer.Stop.{Stop}
 use Rattle.tick_drive.specs.declared.consumer.Stop.TheVariants.{WriteFault}
+use Rattle.line_texts.specs.Adding.{HasRoom}
 use Rattle.line_texts.specs.Sending.{SinkTexts, SendsTexts, HasSentFronts}
 use Rattle.line_texts.specs.Texts.{Writing, writing, texts_held, waiting_in}
 use Rattle.line_commands.specs.SpacedTexts.{spaced_texts}
@@ -67,6 +68,12 @@ module _ {B O L : Type 0} (b : LineSpacer B) (o : Sink O) (l : Sink L) where
     pub why : stop ≡ WriteFault
     pub within : StopsWithin lines start (ticks_in items)
 
+  -- Holds if the spacer owes no more answers than it has taken ticks, and there is room for what
+  -- the next ones complete.
+  pub record MaySpace (lines : SpacedLines B O L) : Type 0 where
+    pub few : lines.owed ≤ b.taken lines.spacer.now
+    pub room : HasRoom lines.texts.now
+
   -- What is said of such a consumer.
   abbrev pub spacing : Consuming (SpacedLines B O L)
   spacing = record {
@@ -74,6 +81,6 @@ module _ {B O L : Type 0} (b : LineSpacer B) (o : Sink O) (l : Sink L) where
     stands = SpacesItems;
     stopped = StopsSpacing;
     taken = λ lines. b.taken lines.spacer.now;
-    able = λ lines. lines.owed ≤ b.taken lines.spacer.now;
+    able = MaySpace;
     went = KeepsHeld o l;
   }

@@ -43,15 +43,15 @@ pub record WasTakenOver (link : LinkId) (begins image : Slots) : Type 0 where
 module _ {S O L D : Type 0} (s : Source S) (o : Sink O) (l : Sink L) (d : SlotDisk D)
     (link : LinkId) (box : ℕ → Boxed) (rest : ℕ) (before after : Around S O L D) where
   -- Holds if the box took this line, for which it used its numbers, in a run that ended with this
-  -- status: all ticks that were taken of the input, or those before the step whose number the disk
-  -- didn't take, or those that the box had taken when a write failed.
+  -- status: all ticks that were taken of the input, or those for which the disk was settled before
+  -- a settle failed, or those that the box had taken when a write failed.
   abbrev pub TookLine : (status : Status) → RunsBox s o l d link box rest before after status
       → List Tick → Type 0
   TookLine Done ran line = line ≡ ticks_in ran.items
   TookLine (BadTicks bad) ran line = line ≡ ticks_in ran.items
   TookLine (TooLong what count) ran line = line ≡ ticks_in ran.items
   TookLine ReadFault ran line = line ≡ ticks_in ran.items
-  TookLine JournalFault (inl failed) line = line ≡ failed.line
+  TookLine JournalFault (inl failed) line = line ≡ take failed.early (ticks_in failed.items)
   TookLine JournalFault (inr failed) line = ⊥
   TookLine WriteFault ran line = line ≡ take ran.ticks (ticks_in ran.items)
   TookLine status ran line = ⊥

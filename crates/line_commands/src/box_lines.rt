@@ -1,22 +1,26 @@
-//! The consumer that drives a box over its journal, and writes the other line and the notes as
-//! text.
-ghost use Rattle.std.specs.Prelude.{◌≡◌, ◌<◌, [], ◌∷◌, length, Option};
+//! A box whose numbers go on in memory, with the texts that are made of its line. Before anything
+//! of these goes out, the disk is settled: it is brought to the box's last number.
+ghost use Rattle.std.specs.Prelude.{◌≡◌, ◌+◌, ◌<◌, ◌≤◌, [], ◌∷◌, length, true, false, Option};
 ghost use Rattle.yasir_io.specs.Disks.{Slots};
-ghost use Rattle.yasir_ticks.specs.Ticks.Item.{tick as tick_item};
-ghost use Rattle.yasir_ticks.specs.TickRun.{run_ticks, run_items};
+ghost use Rattle.yasir_ticks.specs.TickRun.{run_ticks};
+ghost use Rattle.yasir_ticks.specs.declared.TheConstants.{MAX_TICKS};
 ghost use Rattle.link_format.specs.Setup.{setup_of};
 ghost use Rattle.sequence_journal.specs.declared.link.LinkId.{LinkId};
-ghost use Rattle.sequence_journal.specs.Journal.{journal_link, journal_floor, Fits};
-ghost use Rattle.tick_drive.specs.Consumers.{MayTake, Gives, GivesFront, GivesSome};
+ghost use Rattle.sequence_journal.specs.Journal.{journal_link, journal_floor, is_broken, Fits};
+ghost use Rattle.sequence_journal.specs.Late.{disk_journal};
+ghost use Rattle.line_texts.specs.Adding.{HasRoom, HasLineRoom, IsShort, Waits};
 ghost use Rattle.line_texts.specs.Sending.{SinkTexts};
-ghost use Rattle.line_commands.specs.BoxLines.{driving, state_of, DrivesBox};
+ghost use Rattle.line_commands.specs.BoxLines.{state_of, DrivesBox, IsReady, MayDrive, TakesOn};
+ghost use Rattle.line_commands.specs.BoxLines.{TakesUpTo, TakesSome, HandsOn, Finishes, Settles};
+ghost use Rattle.line_commands.specs.BoxLines.{Empties, StandsAfter, MayHandOut, box_in, late_in};
+ghost use Rattle.line_commands.specs.BoxLines.{texts_at, waits_in, number_in};
 
-use crate::line_box::{LineBox, MAX_RUN};
-use crate::noted_steps::push_step;
+use crate::line_box::LineBox;
+use crate::noted_steps::add_step;
 use frame_ending::RunBytes;
-use line_texts::{Texts, answer_run, push_run};
+use line_texts::{Texts, answer_run, short_front};
 use link_format::Dir;
-use sequence_journal::{Journal, JournalFault};
+use sequence_journal::{Journal, JournalFault, LateJournal, NoSlots};
 use tick_drive::Stop;
 use yasir_io::{Failed, Sink, SlotDisk};
 use yasir_ticks::{Tick, TickRun};
@@ -24,24 +28,34 @@ use yasir_ticks::{Tick, TickRun};
 #[cfg(test)]
 mod turn_tests;
 
-/// A box over its journal, and the texts that are made of its line: the other line as canonical
-/// tick text, and a line for each note, which goes to the log.
+/// A box over a journal in memory, what the disk is to hold of that journal, and the texts that are
+/// made of the box's line: the other line as canonical tick text, and a line for each note, which
+/// goes to the log.
 #[derive(Drop)]
 pub struct BoxLines<B> {
     line_box: B,
     journal: Journal,
-    pub(crate) texts: Texts,
+    late: LateJournal,
+    texts: Texts,
 }
 
 impl<B: LineBox> BoxLines<B> {
-    /// Returns a box that has taken no tick, over this journal, with no text yet.
+    /// Returns a box that has taken no tick, with no text yet. This journal, which serves the box's
+    /// link, is what the disk holds.
     pub fn new(key: &[u8], dir: Dir, journal: Journal) -> BoxLines<B>
-        requires { B.widths_fit }
-        ensures taken { B.taken result.line_box ≡ 0 }
-        ensures journal { result.journal ≡ journal }
-        ensures link { B.link_of result.line_box ≡ B.link_in dir }
+        requires widths { B.widths_fit }
+        requires link { journal_link journal ≡ B.link_in dir }
+        requires whole { is_broken journal ≡ false }
+        ensures taken { B.taken (box_in result) ≡ 0 }
+        ensures disk { disk_journal (late_in result) ≡ journal }
+        ensures may { (told : Option Slots) → Fits journal told
+            → MayDrive B.LinkBox B.line_of result told }
+        ensures stands { StandsAfter B.LinkBox B.line_of result
+            (setup_of key.now dir (journal_floor journal)) [] }
+        ensures waits { Waits (waits_in result) [] [] }
+        ensures number { number_in result ≡ journal_floor journal }
         ensures drives { (link : LinkId) (texts : SinkTexts) (told : Option Slots)
-            → journal_link journal ≡ link → Fits journal told
+            → journal_link journal ≡ link
             → DrivesBox B.LinkBox B.line_of result
             (record {
               link = link;
@@ -52,127 +66,185 @@ impl<B: LineBox> BoxLines<B> {
     {
         BoxLines {
             line_box: B::new(key, dir),
-            journal,
+            journal: journal.in_memory(),
+            late: LateJournal::new(journal),
             texts: Texts::new(),
         }
     }
 
     // Takes as many of the first ticks of this run as the box forwards, and returns how many.
     #[inline(always)]
-    fn forward<O: Sink, L: Sink, D: SlotDisk>(
-        &mut self,
-        out: &mut O,
-        log: &mut L,
-        disk: &D,
-        run: TickRun<'_>,
-    ) -> Result<usize, Stop>
-        requires { MayTake (driving B.LinkBox B.line_of O.Sink L.Sink D.SlotDisk)
-            (state_of self.old out.old log.old disk.now) (run_items run) }
-        ensures { GivesFront (driving B.LinkBox B.line_of O.Sink L.Sink D.SlotDisk)
-            (state_of self.old out.old log.old disk.now)
-            (state_of self.new out.new log.new disk.now) (run_items run.entry) result }
+    fn forward(&mut self, run: TickRun<'_>) -> usize
+        requires count { B.taken self.old.line_box + length (run_ticks run) ≤ MAX_TICKS }
+        requires ready { IsReady B.LinkBox B.line_of self.old }
+        requires room { HasRoom self.old.texts }
+        requires short { IsShort (run_ticks run) }
+        ensures takes { TakesUpTo B.LinkBox B.line_of self.old self.new (run_ticks run.entry) result }
+        ensures none { result ≡ 0 → HasRoom self.new.texts }
+        ensures line_room { HasLineRoom self.new.texts }
     {
         let count = self.line_box.forward(run);
-        if count == 0 {
-            return Ok(count);
+        if count > 0 {
+            self.texts.add_run(run.front(count));
         }
-        let front = run.front(count);
-        match push_run(&mut self.texts, out, log, front) {
-            Ok(()) => Ok(count),
-            Err(Failed) => Err(Stop::WriteFault),
-        }
+        count
     }
 
     // Takes as many of the first ticks of this run as the box takes at once while the other line
     // has only silence or only bytes, and returns how many.
     #[inline(always)]
-    fn pass<O: Sink, L: Sink, D: SlotDisk>(
-        &mut self,
-        out: &mut O,
-        log: &mut L,
-        disk: &D,
-        run: TickRun<'_>,
-    ) -> Result<usize, Stop>
-        requires { MayTake (driving B.LinkBox B.line_of O.Sink L.Sink D.SlotDisk)
-            (state_of self.old out.old log.old disk.now) (run_items run) }
-        ensures { GivesFront (driving B.LinkBox B.line_of O.Sink L.Sink D.SlotDisk)
-            (state_of self.old out.old log.old disk.now)
-            (state_of self.new out.new log.new disk.now) (run_items run.entry) result }
+    fn pass(&mut self, run: TickRun<'_>) -> usize
+        requires count { B.taken self.old.line_box + length (run_ticks run) ≤ MAX_TICKS }
+        requires ready { IsReady B.LinkBox B.line_of self.old }
+        requires room { HasRoom self.old.texts }
+        requires short { IsShort (run_ticks run) }
+        ensures takes { TakesUpTo B.LinkBox B.line_of self.old self.new (run_ticks run.entry) result }
+        ensures none { result ≡ 0 → HasRoom self.new.texts }
+        ensures line_room { HasLineRoom self.new.texts }
     {
         let mut sent = RunBytes::new();
-        let most = run.len().min(MAX_RUN);
-        let front = run.front(most);
-        let count = self.line_box.pass(front, &mut sent);
-        if count == 0 {
-            return Ok(count);
+        let count = self.line_box.pass(run, &mut sent);
+        if count > 0 {
+            self.texts
+                .add_run(answer_run(count as u32, sent.as_slice()));
         }
-        let answer = answer_run(count as u32, sent.as_slice());
-        match push_run(&mut self.texts, out, log, answer) {
-            Ok(()) => Ok(count),
-            Err(Failed) => Err(Stop::WriteFault),
-        }
+        count
     }
 
     // Takes one tick. It is a separate function, since most ticks are taken in runs.
     #[inline(never)]
-    fn step<O: Sink, L: Sink, D: SlotDisk>(
+    fn step(&mut self, tick: Tick)
+        requires count { B.taken self.old.line_box < MAX_TICKS }
+        requires ready { IsReady B.LinkBox B.line_of self.old }
+        requires room { HasRoom self.old.texts }
+        ensures takes { TakesOn B.LinkBox B.line_of self.old self.new (tick ∷ []) }
+        ensures line_room { HasLineRoom self.new.texts }
+    {
+        let step = self
+            .line_box
+            .step(tick, &mut self.journal, &mut NoSlots)
+            .unwrap();
+        self.late.follow(&self.journal);
+        add_step::<B>(&mut self.texts, step.tick, step.note);
+    }
+
+    /// Takes the first ticks of this run, in memory alone: as many of a few as the box takes at
+    /// once, or one tick if that is none. Returns how many.
+    #[inline(always)]
+    pub fn take_some(&mut self, run: TickRun<'_>) -> usize
+        requires some { 0 < length (run_ticks run) }
+        requires count { B.taken (box_in self.old) + length (run_ticks run) ≤ MAX_TICKS }
+        requires ready { IsReady B.LinkBox B.line_of self.old }
+        requires room { HasRoom (texts_at self.old) }
+        ensures { TakesSome B.LinkBox B.line_of self.old self.new (run_ticks run.entry) result }
+    {
+        let short = short_front(run);
+        let forwarded = self.forward(short);
+        if forwarded > 0 {
+            return forwarded;
+        }
+        let passed = self.pass(short);
+        if passed > 0 {
+            return passed;
+        }
+        self.step(run.first());
+        1
+    }
+
+    /// Brings the disk to the journal, and then adds the line that isn't filled to the text that
+    /// waits. All that waits may go out then, before the call of `empty` that must come next.
+    pub fn settle<D: SlotDisk>(&mut self, disk: &mut D) -> Result<(), JournalFault>
+        requires { MayHandOut B.LinkBox B.line_of self.old (D.told disk.old) }
+        ensures { Settles B.LinkBox B.line_of D.SlotDisk self.old self.new disk.old disk.new
+            result }
+    {
+        match self.late.settle_all(disk) {
+            Ok(()) => {
+                self.texts.close();
+                Ok(())
+            }
+            Err(JournalFault) => Err(JournalFault),
+        }
+    }
+
+    /// Returns the notes that wait.
+    pub fn note_text(&self) -> &[u8]
+        ensures { result.now ≡ (waits_in self.now).notes }
+    {
+        self.texts.note_text()
+    }
+
+    /// Returns the lines of ticks that wait.
+    pub fn tick_text(&self) -> &[u8]
+        ensures { result.now ≡ (waits_in self.now).ticks }
+    {
+        self.texts.tick_text()
+    }
+
+    /// Discards the texts that wait, once they have been written.
+    pub fn empty(&mut self)
+        ensures { Empties B.LinkBox B.line_of self.old self.new }
+    {
+        self.texts.empty();
+    }
+
+    /// Whether there is room for what the next ticks complete.
+    #[inline]
+    pub fn has_room(&self) -> bool
+        ensures room { result ≡ true → HasRoom (texts_at self.now) }
+        ensures full { result ≡ false → HasRoom (texts_at self.now) → ⊥ }
+    {
+        self.texts.has_room()
+    }
+    /// Settles the disk, and then writes the notes that wait to the log, and the lines of ticks
+    /// that wait to `out`. It is a separate function, since most ticks leave room for more.
+    #[inline(never)]
+    pub fn hand_out<O: Sink, L: Sink, D: SlotDisk>(
         &mut self,
         out: &mut O,
         log: &mut L,
         disk: &mut D,
-        tick: Tick,
     ) -> Result<(), Stop>
-        requires { MayTake (driving B.LinkBox B.line_of O.Sink L.Sink D.SlotDisk)
-            (state_of self.old out.old log.old disk.old) (tick_item tick ∷ []) }
-        ensures { Gives (driving B.LinkBox B.line_of O.Sink L.Sink D.SlotDisk)
+        requires ready { IsReady B.LinkBox B.line_of self.old }
+        requires fits { Fits (disk_journal (late_in self.old)) (D.told disk.old) }
+        ensures { HandsOn B.LinkBox B.line_of O.Sink L.Sink D.SlotDisk
             (state_of self.old out.old log.old disk.old)
-            (state_of self.new out.new log.new disk.new) (tick_item tick ∷ []) result }
+            (state_of self.new out.new log.new disk.new) result }
     {
-        let step = match self.line_box.step(tick, &mut self.journal, disk) {
-            Ok(step) => step,
+        match self.late.settle_all(disk) {
+            Ok(()) => {}
             Err(JournalFault) => return Err(Stop::JournalFault),
-        };
-        match push_step::<B, O, L>(&mut self.texts, out, log, step.tick, step.note) {
+        }
+        match self.texts.hand_out(out, log) {
             Ok(()) => Ok(()),
             Err(Failed) => Err(Stop::WriteFault),
         }
     }
 
-    /// Takes the first ticks of this run: as many as the box takes at once, or one tick if that is
-    /// none. Returns how many.
-    #[inline(always)]
-    pub fn take_some<O: Sink, L: Sink, D: SlotDisk>(
-        &mut self,
+    /// Settles the disk, and then writes all that waits, the notes first and the last line too.
+    pub fn finish<O: Sink, L: Sink, D: SlotDisk>(
+        self,
         out: &mut O,
         log: &mut L,
         disk: &mut D,
-        run: TickRun<'_>,
-    ) -> Result<usize, Stop>
-        requires some { 0 < length (run_ticks run) }
-        requires may { MayTake (driving B.LinkBox B.line_of O.Sink L.Sink D.SlotDisk)
-            (state_of self.old out.old log.old disk.old) (run_items run) }
-        ensures { GivesSome (driving B.LinkBox B.line_of O.Sink L.Sink D.SlotDisk)
-            (state_of self.old out.old log.old disk.old)
-            (state_of self.new out.new log.new disk.new) (run_items run.entry) result }
+    ) -> Result<(), Stop>
+        requires ready { IsReady B.LinkBox B.line_of self }
+        requires fits { Fits (disk_journal (late_in self)) (D.told disk.old) }
+        ensures { Finishes B.LinkBox B.line_of O.Sink L.Sink D.SlotDisk
+            (state_of self out.old log.old disk.old) out.new log.new disk.new result }
     {
-        let forwarded = match self.forward(out, log, disk, run) {
-            Ok(count) => count,
-            Err(stop) => return Err(stop),
-        };
-        if forwarded > 0 {
-            return Ok(forwarded);
+        let BoxLines {
+            mut late,
+            texts,
+            ..
+        } = self;
+        match late.settle_all(disk) {
+            Ok(()) => {}
+            Err(JournalFault) => return Err(Stop::JournalFault),
         }
-        let passed = match self.pass(out, log, disk, run) {
-            Ok(count) => count,
-            Err(stop) => return Err(stop),
-        };
-        if passed > 0 {
-            return Ok(passed);
-        }
-        let first = run.first();
-        match self.step(out, log, disk, first) {
-            Ok(()) => Ok(1),
-            Err(stop) => Err(stop),
+        match texts.finish(out, log) {
+            Ok(()) => Ok(()),
+            Err(Failed) => Err(Stop::WriteFault),
         }
     }
 }

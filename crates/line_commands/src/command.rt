@@ -1,13 +1,11 @@
 //! The commands of a box: read the key, load the journal, and drive the whole input through the
 //! box.
 ghost use Rattle.std.specs.Prelude.{◌≡◌, List};
-ghost use Rattle.tick_drive.specs.Consumers.{is_write_fault};
-ghost use Rattle.tick_drive.specs.Drive.{answer_of};
 ghost use Rattle.line_commands.specs.LinkBoxed.{boxed_of};
 ghost use Rattle.line_commands.specs.ReplaysBox.{around_of, boxed_with, RunsBox, ReplaysBox};
-ghost use Rattle.line_commands.specs.ReplaysBox.{KeepsFloorThroughout, BoxDiskCause};
+ghost use Rattle.line_commands.specs.ReplaysBox.{KeepsFloorThroughout, has_stopped};
 ghost use Rattle.sequence_journal.specs.Links.{HasDirection};
-ghost use Rattle.command_ends.specs.Causes.{InputCause, SinkCause};
+ghost use Rattle.command_ends.specs.Causes.{InputCause, DiskCause, SinkCause};
 ghost use Rattle.command_ends.specs.Flushes.{FlushesAtEnd};
 ghost use Rattle.command_ends.specs.Ends.{outside_before, outside_after};
 ghost use Rattle.command_ends.specs.StreamCauses.{HasStreamCauses};
@@ -18,16 +16,15 @@ use crate::line_box::LineBox;
 use command_ends::{Ends, KeyError, Status, flush_both, read_key, status_of};
 use link_format::Dir;
 use sequence_journal::{Journal, LinkId, LoadError};
-use tick_drive::{End, Stop, drive_to_rest};
-use yasir_io::{Failed, Sink, SlotDisk, Source};
+use tick_drive::{End, drive_to_rest};
+use yasir_io::{Sink, SlotDisk, Source};
 
-// Whether the drive ended because a write failed.
-fn is_write_stop(end: &End) -> bool
-    ensures { result ≡ is_write_fault (answer_of end.now) }
+// Whether the consumer stopped the drive.
+fn is_stopped(end: &End) -> bool
+    ensures { result ≡ has_stopped end.now }
 {
     match end {
-        End::Stopped(Stop::WriteFault) => true,
-        End::Stopped(Stop::JournalFault | Stop::NoMemory) => false,
+        End::Stopped(_) => true,
         End::Whole | End::Refused(_) | End::TooLong { .. } | End::ReadFault => false,
     }
 }
@@ -51,7 +48,7 @@ fn replay_keyed<B: LineBox, K: Source, S: Source, O: Sink, L: Sink, D: SlotDisk>
     ensures key { (outside_after ends.exit).key ≡ ends.entry.key.now }
     ensures input { InputCause (S.faults ends.entry.input.now)
         (S.faults (outside_after ends.exit).input) result }
-    ensures disk { BoxDiskCause (D.faults ends.entry.disk.now)
+    ensures disk { DiskCause (D.faults ends.entry.disk.now)
         (D.faults (outside_after ends.exit).disk) result }
     ensures sinks { SinkCause (O.faults ends.entry.out.now)
         (O.faults (outside_after ends.exit).out) (L.faults ends.entry.log.now)
@@ -75,13 +72,12 @@ fn replay_keyed<B: LineBox, K: Source, S: Source, O: Sink, L: Sink, D: SlotDisk>
     let mut lines = BoxLines::<B>::new(key, dir, journal);
     let mut driven = DrivenBox::new(&mut lines, out, log, disk);
     let end = drive_to_rest(0, rest, input, &mut driven);
-    if is_write_stop(&end) {
-        return Status::WriteFault;
+    if is_stopped(&end) {
+        return status_of(end);
     }
-    let BoxLines { texts, .. } = lines;
-    match texts.finish(out, log) {
+    match lines.finish(out, log, disk) {
         Ok(()) => {}
-        Err(Failed) => return Status::WriteFault,
+        Err(stop) => return status_of(End::Stopped(stop)),
     }
     match end {
         End::Whole => {}
@@ -108,7 +104,7 @@ pub fn replay_box<B: LineBox, K: Source, S: Source, O: Sink, L: Sink, D: SlotDis
         (outside_after ends.exit).disk }
     ensures causes { HasStreamCauses K.Source S.Source O.Sink L.Sink (outside_before ends.entry)
         (outside_after ends.exit) result }
-    ensures disk { BoxDiskCause (D.faults ends.entry.disk.now)
+    ensures disk { DiskCause (D.faults ends.entry.disk.now)
         (D.faults (outside_after ends.exit).disk) result }
 {
     match read_key(ends.key) {

@@ -20,8 +20,8 @@ pub struct DrivenBox<'a, B, O, L, D> {
 impl<'a, B, O, L, D> DrivenBox<'a, B, O, L, D> {
     ghost use Rattle.line_commands.specs.DrivenBox.{state_in};
 
-    /// Returns a consumer that drives this box, which writes to these sinks and commits to this
-    /// disk.
+    /// Returns a consumer that drives this box. What the box makes of its line goes to these sinks
+    /// whenever there is no room for more, and before that this disk is settled.
     pub fn new(
         lines: &'a mut BoxLines<B>,
         out: &'a mut O,
@@ -50,7 +50,14 @@ impl<'a, B: LineBox, O: Sink, L: Sink, D: SlotDisk> Consumer for DrivenBox<'a, B
 
     #[inline(always)]
     fn take_some(&mut self, run: TickRun<'_>) -> Result<usize, Stop> {
-        self.lines.take_some(self.out, self.log, self.disk, run)
+        let count = self.lines.take_some(run);
+        if self.lines.has_room() {
+            return Ok(count);
+        }
+        match self.lines.hand_out(self.out, self.log, self.disk) {
+            Ok(()) => Ok(count),
+            Err(stop) => Err(stop),
+        }
     }
 
     // A mark isn't a tick of the line, so nothing is done.

@@ -14,13 +14,16 @@ ghost use Rattle.sequence_journal.specs.Links.{HasDirection};
 ghost use Rattle.sequence_journal.specs.Slots.{greatest};
 ghost use Rattle.session_lists.specs.FrameList.{Kept, Holds, IsWhole};
 ghost use Rattle.line_commands.specs.TimedLines.{timed_lines};
-ghost use Rattle.line_commands.specs.KeptBox.{timed_of, ticks_kept, AreTextsOf, KeepsLine, IsSteady};
-ghost use Rattle.line_commands.specs.KeptBox.{KeepsOn, KeepsUpTo, KeepsSome};
+ghost use Rattle.line_texts.specs.Adding.{HasRoom, IsShort};
+ghost use Rattle.line_commands.specs.KeptBox.{timed_of, ticks_kept, AreTextsOf, KeepsLine, IsServed};
+ghost use Rattle.line_commands.specs.KeptBox.{IsSteady, TakesOn, TakesUpTo, TakesSome, KeepsOn};
+ghost use Rattle.line_commands.specs.KeptBox.{KeepsSome};
 
-use crate::line_box::{LineBox, MAX_RUN};
+use crate::line_box::LineBox;
 use crate::memory_text::MemoryText;
+use crate::noted_steps::add_step;
 use frame_ending::RunBytes;
-use line_texts::{Texts, answer_run, push_run};
+use line_texts::{Texts, answer_run, short_front};
 use link_format::Dir;
 use sequence_journal::{Journal, LinkId};
 use session_lists::FrameList;
@@ -106,23 +109,60 @@ impl<B: LineBox> KeptBox<B> {
         }
     }
 
+    // Takes as many of the first ticks of this run as the box forwards, and returns how many.
+    #[inline(always)]
+    fn forward(&mut self, run: TickRun<'_>) -> usize
+        requires count { ticks_kept self.old + length (run_ticks run) ≤ MAX_TICKS }
+        requires served { IsServed B.LinkBox B.line_of self.old }
+        requires room { HasRoom self.old.texts }
+        requires short { IsShort (run_ticks run) }
+        ensures takes { TakesUpTo B.LinkBox B.line_of self.old self.new (run_ticks run.entry)
+            result }
+        ensures none { result ≡ 0 → HasRoom self.new.texts }
+    {
+        let count = self.line_box.forward(run);
+        if count > 0 {
+            self.texts.add_run(run.front(count));
+            self.ticks += count as u64;
+        }
+        count
+    }
+
+    // Takes as many of the first ticks of this run as the box takes at once while the other line
+    // has only silence or only bytes, and returns how many.
+    #[inline(always)]
+    fn pass(&mut self, run: TickRun<'_>) -> usize
+        requires count { ticks_kept self.old + length (run_ticks run) ≤ MAX_TICKS }
+        requires served { IsServed B.LinkBox B.line_of self.old }
+        requires room { HasRoom self.old.texts }
+        requires short { IsShort (run_ticks run) }
+        ensures takes { TakesUpTo B.LinkBox B.line_of self.old self.new (run_ticks run.entry)
+            result }
+        ensures none { result ≡ 0 → HasRoom self.new.texts }
+    {
+        let mut sent = RunBytes::new();
+        let count = self.line_box.pass(run, &mut sent);
+        if count > 0 {
+            self.texts
+                .add_run(answer_run(count as u32, sent.as_slice()));
+            self.ticks += count as u64;
+        }
+        count
+    }
+
     // Takes one tick. It is a separate function, since most ticks are taken in runs.
     #[inline(never)]
     fn step(&mut self, tick: Tick) -> Result<(), NoMemory>
-        requires room { ticks_kept self.old < MAX_TICKS }
-        requires steady { IsSteady B.LinkBox B.line_of self.old }
-        ensures { OnOk result (KeepsOn B.LinkBox B.line_of self.old self.new (tick ∷ [])) }
+        requires count { ticks_kept self.old < MAX_TICKS }
+        requires served { IsServed B.LinkBox B.line_of self.old }
+        requires room { HasRoom self.old.texts }
+        ensures { OnOk result (TakesOn B.LinkBox B.line_of self.old self.new (tick ∷ [])) }
     {
         let step = self
             .line_box
             .step(tick, &mut self.journal, &mut self.disk)
             .unwrap();
-        let Ok(()) = self
-            .texts
-            .push_tick(&mut self.text, &mut self.log, step.tick)
-        else {
-            return Err(NoMemory);
-        };
+        add_step::<B>(&mut self.texts, step.tick, None);
         let Ok(()) = push_note::<B>(&mut self.notes, self.ticks, step.note) else {
             return Err(NoMemory);
         };
@@ -130,46 +170,35 @@ impl<B: LineBox> KeptBox<B> {
         Ok(())
     }
 
-    // Takes as many of the first ticks of this run as the box forwards, and returns how many.
+    // Takes the first ticks of this run: as many as the box takes at once, or one tick if that is
+    // none. Returns how many. What they add to the text waits.
     #[inline(always)]
-    fn forward(&mut self, run: TickRun<'_>) -> Result<usize, NoMemory>
-        requires room { ticks_kept self.old + length (run_ticks run) ≤ MAX_TICKS }
-        requires steady { IsSteady B.LinkBox B.line_of self.old }
-        ensures { IfOk result (λ n. KeepsUpTo B.LinkBox B.line_of self.old self.new
+    fn take_short(&mut self, run: TickRun<'_>) -> Result<usize, NoMemory>
+        requires some { 0 < length (run_ticks run) }
+        requires count { ticks_kept self.old + length (run_ticks run) ≤ MAX_TICKS }
+        requires served { IsServed B.LinkBox B.line_of self.old }
+        requires room { HasRoom self.old.texts }
+        ensures { IfOk result (λ n. TakesSome B.LinkBox B.line_of self.old self.new
             (run_ticks run.entry) n) }
     {
-        let count = self.line_box.forward(run);
-        let front = run.front(count);
-        let Ok(()) = push_run(&mut self.texts, &mut self.text, &mut self.log, front) else {
-            return Err(NoMemory);
-        };
-        self.ticks += count as u64;
-        Ok(count)
-    }
-
-    // Takes as many of the first ticks of this run as the box takes at once while the other line
-    // has only silence or only bytes, and returns how many.
-    #[inline(always)]
-    fn pass(&mut self, run: TickRun<'_>) -> Result<usize, NoMemory>
-        requires room { ticks_kept self.old + length (run_ticks run) ≤ MAX_TICKS }
-        requires steady { IsSteady B.LinkBox B.line_of self.old }
-        ensures { IfOk result (λ n. KeepsUpTo B.LinkBox B.line_of self.old self.new
-            (run_ticks run.entry) n) }
-    {
-        let mut sent = RunBytes::new();
-        let most = run.len().min(MAX_RUN);
-        let front = run.front(most);
-        let count = self.line_box.pass(front, &mut sent);
-        let answer = answer_run(count as u32, sent.as_slice());
-        let Ok(()) = push_run(&mut self.texts, &mut self.text, &mut self.log, answer) else {
-            return Err(NoMemory);
-        };
-        self.ticks += count as u64;
-        Ok(count)
+        let short = short_front(run);
+        let forwarded = self.forward(short);
+        if forwarded > 0 {
+            return Ok(forwarded);
+        }
+        let passed = self.pass(short);
+        if passed > 0 {
+            return Ok(passed);
+        }
+        match self.step(run.first()) {
+            Ok(()) => Ok(1),
+            Err(NoMemory) => Err(NoMemory),
+        }
     }
 
     /// Takes the first ticks of this run: as many as the box takes at once, or one tick if that is
-    /// none. Returns how many.
+    /// none. Returns how many. If the room for the texts is full then, what waits goes to the
+    /// memory.
     #[inline(always)]
     pub(crate) fn take_some(&mut self, run: TickRun<'_>) -> Result<usize, NoMemory>
         requires some { 0 < length (run_ticks run) }
@@ -178,24 +207,16 @@ impl<B: LineBox> KeptBox<B> {
         ensures { IfOk result (λ n. KeepsSome B.LinkBox B.line_of self.old self.new
             (run_ticks run.entry) n) }
     {
-        let forwarded = match self.forward(run) {
+        let count = match self.take_short(run) {
             Ok(count) => count,
             Err(NoMemory) => return Err(NoMemory),
         };
-        if forwarded > 0 {
-            return Ok(forwarded);
+        if self.texts.has_room() {
+            return Ok(count);
         }
-        let passed = match self.pass(run) {
-            Ok(count) => count,
-            Err(NoMemory) => return Err(NoMemory),
-        };
-        if passed > 0 {
-            return Ok(passed);
-        }
-        let first = run.first();
-        match self.step(first) {
-            Ok(()) => Ok(1),
-            Err(NoMemory) => Err(NoMemory),
+        match self.texts.hand_out(&mut self.text, &mut self.log) {
+            Ok(()) => Ok(count),
+            Err(Failed) => Err(NoMemory),
         }
     }
 

@@ -15,12 +15,12 @@
 //! The outside of a live line: an input and two outputs as one object, what is handed on to the
 //! outputs, and a reader of the lines that come in.
 //!
-//! Each note is handed on before the ticks into which it falls:
+//! Notes are handed on before the ticks into which they fall:
 //!
 //!     let mut port = Streams::new(&mut input, &mut out, &mut log);
 //!     let count = read_on(&mut port, &mut buffer)?;
 //!     let found = lines.feed(&buffer[..count])?;
-//!     hand_on(&mut port, note.as_slice(), text.as_slice())?;
+//!     hand_on(&mut port, notes, text)?;
 //!
 //! The commands `seal` and `check`: a recorded line goes through a box. The other line goes out as
 //! text, and a line of text for each note goes to the log.
@@ -54,7 +54,6 @@ mod port;
 mod read_command;
 mod receiving;
 mod recording;
-mod rooms;
 mod seal_lines;
 mod sending;
 mod space_command;
@@ -62,6 +61,7 @@ mod spaced_lines;
 mod spacers;
 mod streams;
 
+pub use box_lines::BoxLines;
 pub use command::replay_box;
 pub use laws::runs_are_uptimes;
 pub use line_box::LineBox;
@@ -72,7 +72,6 @@ pub use port::{Output, Port};
 pub use read_command::read_frames;
 pub use receiving::{handed_lines_are_in_order, read_on};
 pub use recording::{Recorded, print_both, record_both};
-pub use rooms::{AnswerText, text_of_answer, text_of_tick};
 pub use sending::{hand_on, send};
 pub use space_command::space_frames;
 pub use spacers::LineSpacer;

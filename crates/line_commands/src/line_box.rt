@@ -10,9 +10,6 @@ ghost use Rattle.sequence_journal.specs.Uptimes.{RiseFrom};
 use crate::note_lines::NoteLine;
 use link_box::LinkBox;
 
-/// The most ticks that one call of a box's `pass` is given, so that a `u32` counts them.
-pub(crate) const MAX_RUN: usize = 4_294_967_295;
-
 /// A box of a link, with a line of text for each of its notes.
 pub trait LineBox: LinkBox {
     /// The line of a note.

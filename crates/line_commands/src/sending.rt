@@ -1,8 +1,8 @@
-//! What is made of a line, on its way out: a note and the text of ticks, each handed on at once.
+//! What is made of a line, on its way out: notes and the text of ticks, each handed on at once.
 ghost use Rattle.std.specs.Prelude.{List};
 ghost use Rattle.yasir_ticks.specs.declared.tick.Tick.{Tick};
 ghost use Rattle.line_commands.specs.LiveText.{IsTextOf};
-ghost use Rattle.line_commands.specs.Sent.{Sends, Hands};
+ghost use Rattle.line_commands.specs.Sent.{Sends, SendsAny, Hands, WritesCause};
 
 use crate::{Output, Port};
 use yasir_io::Failed;
@@ -21,18 +21,29 @@ pub fn send<P: Port>(port: &mut P, to: Output, bytes: &[u8]) -> Result<(), Faile
     }
 }
 
-/// Hands on what is made of some ticks of a line: the line of a note, which may be empty, and then
-/// a text of the ticks of the other line. Each is written and flushed at once.
-pub fn hand_on<P: Port>(port: &mut P, note: &[u8], text: &[u8]) -> Result<(), Failed>
-    ensures { (answer : List Tick) → IsTextOf text.now answer
-        → Hands P.Port port.old port.new answer note.now result }
+// Writes bytes to an output and flushes it, or does nothing if there are none.
+fn send_any<P: Port>(port: &mut P, to: Output, bytes: &[u8]) -> Result<(), Failed>
+    ensures { SendsAny P.Port port.old port.new to bytes.now result }
 {
-    if note.is_empty() {
-        return send(port, Output::Out, text);
+    if bytes.is_empty() {
+        return Ok(());
     }
-    match send(port, Output::Log, note) {
+    send(port, to, bytes)
+}
+
+/// Hands on what is made of some ticks of a line: the lines of their notes, and then a text of the
+/// ticks of the other line. Each is written and flushed, unless it is empty.
+pub fn hand_on<P: Port>(port: &mut P, notes: &[u8], text: &[u8]) -> Result<(), Failed>
+    ensures hands { (answer : List Tick) → IsTextOf text.now answer
+        → Hands P.Port port.old port.new answer notes.now result }
+    ensures cause { WritesCause P.Port port.old port.new result }
+{
+    if notes.is_empty() {
+        return send_any(port, Output::Out, text);
+    }
+    match send(port, Output::Log, notes) {
         Ok(()) => {}
         Err(Failed) => return Err(Failed),
     }
-    send(port, Output::Out, text)
+    send_any(port, Output::Out, text)
 }

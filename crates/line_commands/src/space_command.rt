@@ -6,6 +6,7 @@ ghost use Rattle.tick_drive.specs.Drive.{IsFresh, answer_of};
 ghost use Rattle.tick_drive.specs.Input.{IsReadCause, is_read_fault};
 ghost use Rattle.tick_drive.specs.declared.consumer.Stop.{Stop};
 ghost use Rattle.tick_drive.specs.declared.end.End.TheVariants.{Stopped};
+ghost use Rattle.line_texts.specs.Adding.{HasRoom};
 ghost use Rattle.line_texts.specs.Sending.{SinkTexts, sink_texts, SendsTexts};
 ghost use Rattle.line_texts.specs.Texts.{waiting_in};
 ghost use Rattle.command_ends.specs.Causes.{InputCause, SinkCause};
@@ -63,6 +64,7 @@ fn drive_spacer<B: LineSpacer, S: Source, O: Sink, L: Sink>(
     requires owes { B.owes spacer.old [] [] [] }
     requires nothing { (held : SinkTexts) → SendsTexts (spaced_texts B.reads B.gap)
         (waiting_in texts.old) held held [] }
+    requires room { HasRoom texts.old }
     ensures driven { DrivesSpacer (spaced_texts B.reads B.gap) (S.left input.old)
         (S.left input.new) (sink_texts (O.held out.old) (L.held log.old))
         (sink_texts (O.held out.new) (L.held log.new)) (waiting_in texts.new) result }

@@ -1,10 +1,11 @@
 //! The consumer that drives a spacer, and writes the spaced line and the lost frames as text.
-ghost use Rattle.std.specs.Prelude.{◌≡◌, ◌<◌, ◌≤◌, ◌^◌, length, None};
+ghost use Rattle.std.specs.Prelude.{◌≡◌, ◌<◌, ◌≤◌, length, None};
 ghost use Rattle.yasir_ticks.specs.TickRun.{run_ticks, run_items};
 ghost use Rattle.yasir_ticks.specs.declared.tick_run.TickRun.TheVariants.{Bytes, Silence};
 ghost use Rattle.frame_ending.specs.Answered.{answered};
 ghost use Rattle.device_model.specs.Frames.{frames_lent};
-ghost use Rattle.line_texts.specs.Texts.{writing, Pushes};
+ghost use Rattle.line_texts.specs.Adding.{HasRoom, IsShort, Adds};
+ghost use Rattle.line_texts.specs.Texts.{waiting_in};
 ghost use Rattle.tick_drive.specs.Consumers.{MayTake, GivesSome};
 ghost use Rattle.line_commands.specs.SpacedLines.{spacing};
 ghost use Rattle.line_commands.specs.SpacedTexts.{lost_line, lost_lines};
@@ -14,64 +15,53 @@ use crate::spacers::LineSpacer;
 use command_ends::{LINE_ROOM, write_frame_line};
 use device_model::Met;
 use line_spacer::SpaceRun;
-use line_texts::{Texts, answer_run, push_run};
+use line_texts::{Texts, answer_run};
 use tick_drive::{Consumer, Stop};
 use yasir_io::{Failed, Sink, TextRoom};
 use yasir_ticks::TickRun;
 
 /// A consumer that drives a spacer: it writes the spaced line to `out` as canonical tick text, and
-/// a line for each frame that is lost to `log`. The answers that are owed are written when a frame
-/// is read that the spacer can't queue before they are, and at the end.
+/// a line for each frame that is lost to `log`. The answers that are owed are added to the texts
+/// when a frame is read that the spacer can't queue before they are, and at the end.
 #[derive(Drop)]
 pub struct SpacedLines<'a, B, O, L> {
     spacer: &'a mut B,
     texts: &'a mut Texts,
     out: &'a mut O,
     log: &'a mut L,
-    // how many ticks were heard whose answers aren't written yet
+    // how many ticks were heard whose answers aren't added yet
     owed: usize,
 }
 
-// Adds the line of a frame that is lost, and after it the ticks of the run in which the frame is
-// read. It is kept separate, since few frames are lost.
+// Adds the line of a frame that is lost, and the ticks of the run in which the frame is read. It is
+// kept separate, since few frames are lost.
 #[inline(never)]
-fn push_lost<O: Sink, L: Sink>(
-    texts: &mut Texts,
-    out: &mut O,
-    log: &mut L,
-    start: u64,
-    frame: &[u8],
-    answer: TickRun<'_>,
-) -> Result<(), Failed>
-    requires { length frame.now ≤ 292 }
-    ensures { Pushes O.Sink L.Sink (writing texts.old out.old log.old)
-        (writing texts.new out.new log.new) (run_ticks answer.entry)
-        (lost_line (record { start = start; frame = frame.now })) result }
+fn add_lost(texts: &mut Texts, start: u64, frame: &[u8], answer: TickRun<'_>)
+    requires room { HasRoom texts.old }
+    requires short { IsShort (run_ticks answer) }
+    requires frame { length frame.now ≤ 292 }
+    ensures { Adds (waiting_in texts.old) (waiting_in texts.new) (run_ticks answer.entry)
+        (lost_line (record { start = start; frame = frame.now })) }
 {
     let mut line = TextRoom::<LINE_ROOM>::new();
     write_frame_line(&mut line, b"lost at ", start, frame);
-    texts.push_noted(out, log, line.as_slice(), answer)
+    texts.add_noted(line.as_slice(), answer);
 }
 
 // Adds what a spacer lends for a run: the line of the frame that was lost in it, if one was, and
-// then the ticks that left.
+// the ticks that left.
 #[inline(always)]
-fn push_answer<B: LineSpacer, O: Sink, L: Sink>(
-    texts: &mut Texts,
-    out: &mut O,
-    log: &mut L,
-    spacer: &B,
-    run: SpaceRun,
-) -> Result<(), Failed>
-    requires { run.taken < 2 ^ 32 }
-    ensures { Pushes O.Sink L.Sink (writing texts.old out.old log.old)
-        (writing texts.new out.new log.new) (answered run.taken (B.sent spacer.now))
-        (lost_lines (frames_lent run.lost (B.lent spacer.now))) result }
+fn add_answer<B: LineSpacer>(texts: &mut Texts, spacer: &B, run: SpaceRun)
+    requires room { HasRoom texts.old }
+    requires short { run.taken < 1000000 }
+    ensures { Adds (waiting_in texts.old) (waiting_in texts.new)
+        (answered run.taken (B.sent spacer.now))
+        (lost_lines (frames_lent run.lost (B.lent spacer.now))) }
 {
     let answer = answer_run(run.taken as u32, spacer.sent_bytes());
     match run.lost {
-        None => push_run(texts, out, log, answer),
-        Some(start) => push_lost(texts, out, log, start, spacer.frame_bytes(), answer),
+        None => texts.add_run(answer),
+        Some(start) => add_lost(texts, start, spacer.frame_bytes(), answer),
     }
 }
 
@@ -100,26 +90,33 @@ impl<'a, B, O, L> SpacedLines<'a, B, O, L> {
 }
 
 impl<'a, B: LineSpacer, O: Sink, L: Sink> SpacedLines<'a, B, O, L> {
-    // Writes the answers to the first of the `owed` ticks that are owed, to as many of them as the
-    // spacer answers at once, and returns how many these are.
+    // Adds the answers to the first of the `owed` ticks that are owed, to as many of them as the
+    // spacer answers at once, and returns how many these are. If the room for the texts is full
+    // then, all that waits is written.
     #[inline(always)]
     fn write_some(&mut self, owed: usize, read: Option<u64>) -> Result<usize, Stop>
-        requires { 0 < owed }
+        requires some { 0 < owed }
+        requires room { HasRoom self.old.texts.now }
         ensures { WritesSome B.LineSpacer O.Sink L.Sink self.old self.new owed read result }
     {
         let answer = self.spacer.give_front(owed, read);
-        match push_answer(self.texts, self.out, self.log, &*self.spacer, answer) {
+        add_answer(self.texts, &*self.spacer, answer);
+        if self.texts.has_room() {
+            return Ok(answer.taken);
+        }
+        match self.texts.hand_out(self.out, self.log) {
             Ok(()) => Ok(answer.taken),
             Err(Failed) => Err(Stop::WriteFault),
         }
     }
 
-    // Writes the answers to all ticks that are owed, of which there is at least one. `read` is the
+    // Adds the answers to all ticks that are owed, of which there is at least one. `read` is the
     // tick of the first byte of the frame that was read in the last one, if one was. It is kept
     // separate, since few runs end a frame.
     #[inline(never)]
     fn write_owed(&mut self, read: Option<u64>) -> Result<(), Stop>
-        requires { 0 < self.old.owed }
+        requires some { 0 < self.old.owed }
+        requires room { HasRoom self.old.texts.now }
         ensures { WritesOwed B.LineSpacer O.Sink L.Sink self.old self.new read result }
     {
         let mut left = self.owed;
@@ -133,8 +130,9 @@ impl<'a, B: LineSpacer, O: Sink, L: Sink> SpacedLines<'a, B, O, L> {
         Ok(())
     }
 
-    /// Writes what is still owed at the end of a line.
+    /// Adds the answers that are still owed at the end of a line.
     pub fn write_rest(&mut self) -> Result<(), Stop>
+        requires { HasRoom self.old.texts.now }
         ensures { WritesOwed B.LineSpacer O.Sink L.Sink self.old self.new None result }
     {
         if self.owed == 0 {
@@ -144,7 +142,7 @@ impl<'a, B: LineSpacer, O: Sink, L: Sink> SpacedLines<'a, B, O, L> {
     }
 
     // Takes a run up to the first tick in which a frame is read. If the spacer can't queue the
-    // frame before the ticks that are owed are answered, their answers are written then. Returns
+    // frame before the ticks that are owed are answered, their answers are added then. Returns
     // how many ticks it has taken.
     #[inline(always)]
     fn space_some(&mut self, run: TickRun<'_>) -> Result<usize, Stop>

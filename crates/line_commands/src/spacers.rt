@@ -1,5 +1,5 @@
 //! The spacers that a command drives, as one trait without constant parameters.
-ghost use Rattle.std.specs.Prelude.{◌≡◌, ◌+◌, ◌-◌, ◌<◌, ◌≤◌, ◌^◌, ℕ, List, [], ◌++◌, length, take};
+ghost use Rattle.std.specs.Prelude.{◌≡◌, ◌+◌, ◌-◌, ◌<◌, ◌≤◌, ℕ, List, [], ◌++◌, length, take};
 ghost use Rattle.std.specs.Prelude.{drop, IfOk, Some, true, false};
 ghost use Rattle.yasir_ticks.specs.TickRun.{run_ticks};
 ghost use Rattle.yasir_ticks.specs.declared.TheConstants.{MAX_TICKS};
@@ -82,7 +82,7 @@ pub trait LineSpacer: Drop {
         requires { 0 < owed }
         ensures some { 0 < result.taken }
         ensures within { result.taken ≤ owed }
-        ensures short { result.taken < 2 ^ 32 }
+        ensures short { result.taken < 1000000 }
         ensures taken { taken self.new ≡ taken self.old }
         ensures lent { lent self.new ≡ lent self.old }
         ensures owes { (line ticks : List Tick) → length ticks ≡ owed
@@ -97,7 +97,8 @@ pub trait LineSpacer: Drop {
 
     /// The bytes that left in the last ticks answered, one in each tick, or none if silence left.
     fn sent_bytes(&self) -> &[u8]
-        ensures { result.now ≡ sent self.now };
+        ensures bytes { result.now ≡ sent self.now }
+        ensures few { length result.now ≤ 292 };
 
     /// The bytes of the frame that was read in the last tick taken.
     fn frame_bytes(&self) -> &[u8]

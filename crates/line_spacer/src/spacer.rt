@@ -8,7 +8,7 @@ use yasir_io::NoMemory;
 use yasir_ticks::{MAX_TICKS, Tick, TickRun};
 
 // The most ticks that are answered at once.
-const MOST_TICKS: usize = 4_294_967_295;
+const MOST_TICKS: usize = 999_999;
 
 /// What a spacer returns for a tick.
 #[derive(Clone, Copy)]
@@ -69,7 +69,7 @@ pub struct Spacer<V, const GAP: usize> {
 }
 
 impl<V: Device, const GAP: usize> Spacer<V, GAP> {
-    ghost use Rattle.std.specs.Prelude.{ℕ, ◌+◌, ◌^◌, List, [], ◌∷◌, ◌++◌, length};
+    ghost use Rattle.std.specs.Prelude.{ℕ, ◌+◌, List, [], ◌∷◌, ◌++◌, length};
     ghost use Rattle.std.specs.Prelude.{IfOk, ◌-◌, take, drop, Some, true, false};
     ghost use Rattle.yasir_ticks.specs.TickRun.{run_ticks};
     ghost use Rattle.frame_ending.specs.Answered.{answered};
@@ -400,7 +400,7 @@ impl<V: Device, const GAP: usize> Spacer<V, GAP> {
         requires { 0 < owed }
         ensures some { 0 < result.taken }
         ensures within { result.taken ≤ owed }
-        ensures short { result.taken < 2 ^ 32 }
+        ensures short { result.taken < 1000000 }
         ensures taken { ticks_taken V.Device self.new ≡ ticks_taken V.Device self.old }
         ensures lent { bytes_lent V.lent self.new ≡ bytes_lent V.lent self.old }
         ensures long { length (answered result.taken (bytes_sent self.new)) ≡ result.taken }
@@ -474,7 +474,8 @@ impl<V: Device, const GAP: usize> Spacer<V, GAP> {
     /// The bytes that left in the last ticks taken, one in each tick, or none if silence left.
     #[inline(always)]
     pub fn sent_bytes(&self) -> &[u8]
-        ensures { result.now ≡ bytes_sent self.now }
+        ensures bytes { result.now ≡ bytes_sent self.now }
+        ensures few { length result.now ≤ 292 }
     {
         &self.room[self.before..self.sent]
     }

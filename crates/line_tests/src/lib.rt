@@ -27,6 +27,8 @@ mod journals;
 #[cfg(test)]
 mod keys;
 #[cfg(test)]
+mod late_journals;
+#[cfg(test)]
 mod lending;
 #[cfg(test)]
 mod live_outputs;

@@ -1,9 +1,12 @@
 //! Tests of texts that are written, by known ones, and of how often a sink is written to.
-use line_texts::{Texts, answer_run, push_run};
+ghost use Rattle.std.specs.Prelude.{◌≡◌, true};
+ghost use Rattle.line_texts.specs.Adding.{HasRoom};
+
+use line_texts::{Texts, answer_run, short_front};
 use std::alloc::Global;
 use std::test::Fail;
 use yasir_io::{Failed, MemSink, Plan, Sink};
-use yasir_ticks::{Tick, TickRun};
+use yasir_ticks::TickRun;
 
 /// Forty bytes of 7. `LINES_OF_SEVENS` is their text, which has two lines.
 const SEVENS: [u8; 40] = [7; 40];
@@ -11,13 +14,27 @@ const SEVENS: [u8; 40] = [7; 40];
 const LINES_OF_SEVENS: &[u8] =
     b"+0707070707070707070707070707070707070707070707070707070707070707\n+0707070707070707\n";
 
-// Whether a text of these runs is written, each run in one call.
-fn is_pushed(out: &mut MemSink, log: &mut MemSink, runs: &[TickRun<'_>]) -> bool {
+// Whether there is room for a run, once what waits is handed out if there was none.
+fn has_made_room<O: Sink, L: Sink>(texts: &mut Texts, out: &mut O, log: &mut L) -> bool
+    ensures { result ≡ true → HasRoom texts.new }
+{
+    if texts.has_room() {
+        return true;
+    }
+    match texts.hand_out(out, log) {
+        Ok(()) => true,
+        Err(Failed) => false,
+    }
+}
+
+// Whether a text of these short runs is written, each run in one call.
+fn is_added(out: &mut MemSink, log: &mut MemSink, runs: &[TickRun<'_>]) -> bool {
     let mut texts = Texts::new();
     for run in runs {
-        if push_run(&mut texts, out, log, *run).is_err() {
+        if !has_made_room(&mut texts, out, log) {
             return false;
         }
+        texts.add_run(short_front(*run));
     }
     texts.finish(out, log).is_ok()
 }
@@ -26,7 +43,7 @@ fn is_pushed(out: &mut MemSink, log: &mut MemSink, runs: &[TickRun<'_>]) -> bool
 fn is_text(alloc: Global, runs: &[TickRun<'_>], text: &[u8]) -> Result<bool, Fail> {
     let mut out = MemSink::with_room(alloc, 200, 512, Plan::new())?;
     let mut log = MemSink::with_room(alloc, 0, 512, Plan::new())?;
-    Ok(is_pushed(&mut out, &mut log, runs) && out.held() == text)
+    Ok(is_added(&mut out, &mut log, runs) && out.held() == text)
 }
 
 // Runs, and their text.
@@ -90,11 +107,19 @@ fn runs_are_joined_and_cut_into_lines(rt: HostRuntime) -> Result<(), Fail> {
 
 // Whether a note before three silent ticks is taken, and another silent tick and a byte after it.
 fn is_noted(texts: &mut Texts, out: &mut MemSink, log: &mut MemSink) -> bool {
-    texts
-        .push_noted(out, log, b"note\n", answer_run(3, &[]))
-        .is_ok()
-        && texts.push_tick(out, log, Tick::Silent).is_ok()
-        && texts.push_tick(out, log, Tick::Byte(255)).is_ok()
+    if !has_made_room(texts, out, log) {
+        return false;
+    }
+    texts.add_noted(b"note\n", short_front(answer_run(3, &[])));
+    if !has_made_room(texts, out, log) {
+        return false;
+    }
+    texts.add_run(short_front(TickRun::Silence(1)));
+    if !has_made_room(texts, out, log) {
+        return false;
+    }
+    texts.add_run(short_front(TickRun::Bytes(&[255])));
+    true
 }
 
 // Whether all of this is written.
@@ -168,15 +193,16 @@ impl Sink for CountedSink {
 fn are_written(out: &mut CountedSink, log: &mut CountedSink) -> bool {
     let mut texts = Texts::new();
     for _ in 0..2000 {
-        if push_run(&mut texts, out, log, TickRun::Bytes(&SEVENS[..32])).is_err() {
+        if !has_made_room(&mut texts, out, log) {
             return false;
         }
+        texts.add_run(short_front(TickRun::Bytes(&SEVENS[..32])));
     }
     texts.finish(out, log).is_ok()
 }
 
-// A buffer of 65,536 bytes is full after 992 lines of 66 bytes, so 2,000 lines go out in three
-// writes.
+// Of a room of 65,536 bytes, fewer than 726 are left after 982 lines of 66 bytes, so 2,000 lines go
+// out in three writes.
 #[test]
 fn lines_go_out_by_full_buffers(rt: HostRuntime) -> Result<(), Fail> {
     let mut out = NO_WRITES;

@@ -1,4 +1,4 @@
 pub mod LineRooms
 pub mod LineWriters
 pub mod Sending
-pub mod PushedRuns
+pub mod Added

@@ -1,124 +1,54 @@
 -- How what is made of a line goes on to the two sinks as ticks are taken, and how it ends.
-use Rattle.line_texts.specs.Sending.{LineAndNotes, AnswersNoted, SinkTexts, sink_texts, Waiting}
-use Rattle.line_texts.specs.Sending.{waiting, NotesFirst, SendsTexts, HasSent, HasSentFronts}
-use Rattle.line_texts.specs.{Sending.PushesTexts, Sending.PushesTicks, Writer.HasWritten}
-use Rattle.line_texts.specs.{Writer.unfilled, declared.line_writer.LineWriter.LineWriter}
-use Rattle.std.proofs.Common.{◌≡◌, ◌∙◌, ℕ, inl, inr, List, [], ◌++◌, Option, Result, Ok, Err, refl}
+use Rattle.line_texts.specs.{Adding.Adds, Adding.HasRoom, Sending.LineAndNotes}
+use Rattle.line_texts.specs.Sending.{AnswersNoted}
+use Rattle.line_texts.specs.Sending.{SinkTexts, Waiting, waiting, NotesFirst, SendsTexts, HasSent}
+use Rattle.line_texts.specs.Sending.{HasSentFronts, WritesAll, WritesPart}
+use Rattle.line_texts.specs.Texts.{Writing, waiting_in, texts_held, HandsOut}
+use Rattle.line_texts.specs.{Writer.HasWritten, Writer.unfilled}
+use Rattle.line_texts.specs.declared.{line_writer.LineWriter.LineWriter, texts.Texts.Texts}
+use Rattle.std.proofs.Common.{◌≡◌, ◌∙◌, ℕ, ◌+◌, ◌≤◌, length, arith, inl, inr, List, [], ◌++◌, Option, Result, Ok, Err, refl}
 use Rattle.std.proofs.Common.{sym, ap, subst, append_assoc, append-nil}
-use Rattle.std.proofs.lemmas.Result.{on_ok_weaker, on_err_weaker}
 use Rattle.std.specs.{Io.KnownBytes.append_known, Prelude.OnOk}
-use Rattle.yasir_io.proofs.OutputLemmas.{append_known-nil, append_known-twice, printed}
-use Rattle.yasir_io.specs.Output.{Buffered, GotPrefix}
+use Rattle.yasir_io.proofs.OutputLemmas.{append_known-nil, append_known-twice, prefix_of_more, more_waits}
+use Rattle.yasir_io.specs.{Output.Buffered, TextBuffer.waiting_bytes}
+use Rattle.yasir_io.specs.declared.{Failed.Failed, sink.Sink.Ghosts as Sink}
 use Rattle.yasir_ticks.specs.{CanonicalText.canonical_text, Ticks.AreTicks, declared.tick.Tick.Tick}
 
 -- ---- texts on their way
 
--- More of what waited is on its way.
-pub buffered_then : (a b c : Option (List ℕ)) (text waits left : List ℕ) → Buffered a b waits text
-    → Buffered b c left waits
-    → Buffered a c left text
-buffered_then a b c text waits left first then = record {
-  front = first.front ++ then.front;
-  got = then.got ∙ ap (λ known. append_known known then.front) first.got
-      ∙ append_known-twice a first.front then.front;
-  all = first.all ∙ ap (λ l. first.front ++ l) then.all
-      ∙ sym (append_assoc first.front then.front left);
-}
-
-pub part_then : (a b c : Option (List ℕ)) (text waits : List ℕ) → Buffered a b waits text
-    → GotPrefix b c waits → GotPrefix a c text
-part_then a b c text waits first then = record {
-  front = first.front ++ then.front;
-  rest = then.rest;
-  got = then.got ∙ ap (λ known. append_known known then.front) first.got
-      ∙ append_known-twice a first.front then.front;
-  all = first.all ∙ ap (λ l. first.front ++ l) then.all
-      ∙ sym (append_assoc first.front then.front then.rest);
-}
-
--- A piece was added after what waited, and more of both is on its way.
-pub buffered_on : (a b c : Option (List ℕ)) (text waits piece left : List ℕ)
-    → Buffered a b waits text
-    → Buffered b c left (waits ++ piece) → Buffered a c left (text ++ piece)
-buffered_on a b c text waits piece left first then =
-    buffered_then a b c (text ++ piece) (waits ++ piece) left (record {
-      front = first.front;
-      got = first.got;
-      all = ap (λ l. l ++ piece) first.all ∙ append_assoc first.front waits piece;
-    }) then
-
-pub part_on : (a b c : Option (List ℕ)) (text waits piece : List ℕ) → Buffered a b waits text
-    → GotPrefix b c (waits ++ piece) → GotPrefix a c (text ++ piece)
-part_on a b c text waits piece first then =
-    part_then a b c (text ++ piece) (waits ++ piece) (record {
-      front = first.front;
-      got = first.got;
-      all = ap (λ l. l ++ piece) first.all ∙ append_assoc first.front waits piece;
-    }) then
-
 -- A piece is added after what waits.
 pub buffered_more : (a b : Option (List ℕ)) (text waits piece all : List ℕ)
     → all ≡ waits ++ piece → Buffered a b waits text → Buffered a b all (text ++ piece)
-buffered_more a b text waits piece all is goes = record {
-  front = goes.front;
-  got = goes.got;
-  all = ap (λ l. l ++ piece) goes.all ∙ append_assoc goes.front waits piece
-      ∙ ap (λ l. goes.front ++ l) (sym is);
-}
+buffered_more a b text waits piece all is goes =
+    subst (λ left. Buffered a b left (text ++ piece)) (sym is) (more_waits a b waits text piece goes)
 
--- nothing has gone yet
-pub front_of_nothing : (known : Option (List ℕ)) (text : List ℕ) → GotPrefix known known text
-front_of_nothing known text = record {
-  front = [];
-  rest = text;
-  got = sym (append_known-nil known);
-  all = refl;
+-- all that waited was written
+pub drained : {T E : Type 0} (result : Result T E) (before now : Option (List ℕ))
+    (waits left : List ℕ) → OnOk result (now ≡ append_known before waits)
+    → OnOk result (left ≡ []) → OnOk result (Buffered before now left waits)
+drained (Ok x) before now waits left all none = record {
+  front = waits;
+  got = all;
+  all = sym (append-nil waits) ∙ ap (λ l. waits ++ l) (sym none);
 }
+drained (Err e) before now waits left all none = tt
 
-pub part_before : (start now : Option (List ℕ)) (text more : List ℕ) → GotPrefix start now text
-    → GotPrefix start now (text ++ more)
-part_before start now text more got = record {
-  front = got.front;
-  rest = got.rest ++ more;
-  got = got.got;
-  all = ap (λ l. l ++ more) got.all ∙ append_assoc got.front got.rest more;
-}
+pub room_drained : {T E : Type 0} (result : Result T E) (left : List ℕ) → OnOk result (left ≡ [])
+    → OnOk result (length left + 66 ≤ 65536)
+room_drained (Ok x) left none = omega (arith, ap length none)
+room_drained (Err e) left none = tt
+
+-- where nothing waits, there is room
+pub room_handed : {T E : Type 0} (result : Result T E) (texts : Texts)
+    → OnOk result (texts.ticks.items ≡ []) → OnOk result (waiting_bytes texts.notes ≡ [])
+    → OnOk result (HasRoom texts)
+room_handed (Ok x) texts ticks notes =
+    record { ticks = omega (arith, ap length ticks); notes = omega (arith, ap length notes) }
+room_handed (Err e) texts ticks notes = tt
 
 pub always_on_ok : {T E P : Type 0} (r : Result T E) → P → OnOk r P
 always_on_ok (Ok x) p = p
 always_on_ok (Err e) p = tt
-
-pub on_ok_both : {T E A B C : Type 0} (r : Result T E) → (A → B → C) → OnOk r A → OnOk r B
-    → OnOk r C
-on_ok_both (Ok x) both a b = both a b
-on_ok_both (Err e) both a b = tt
-
--- A note was pushed, and then the texts were.
-pub texts_after_note : {T E : Type 0} (result : Result T E)
-    (out0 out2 log0 log1 log2 : Option (List ℕ))
-    (ticks_wait notes_wait text notes mid : List ℕ) → Buffered log0 log1 mid notes
-    → PushesTexts (sink_texts out0 log1) (sink_texts out2 log2) ticks_wait notes_wait text mid
-    result
-    → PushesTexts (sink_texts out0 log0) (sink_texts out2 log2) ticks_wait notes_wait text notes
-    result
-texts_after_note result out0 out2 log0 log1 log2 ticks_wait notes_wait text notes mid first then =
-    record {
-      text_goes = then.text_goes;
-      text_stops = then.text_stops;
-      notes_go = on_ok_weaker result
-          (λ goes. buffered_then log0 log1 log2 notes mid notes_wait first goes) then.notes_go;
-      notes_stop = on_err_weaker result (λ stops. part_then log0 log1 log2 notes mid first stops)
-          then.notes_stop;
-      notes_first = elim then.notes_first [
-        | inl still ↦ inl still
-        | inr logged ↦ inr (
-          logged.0 ∙ ap (λ known. append_known known mid) first.got
-              ∙ append_known-twice log0 first.front mid
-              ∙ ap (append_known log0) (sym first.all),
-          logged.1,
-        )
-      ];
-    }
 
 -- what a writer has completed begins the text of its ticks
 pub answered-begins : (writer : LineWriter) (ticks : List Tick) (answered : List ℕ)
@@ -130,22 +60,6 @@ answered-begins writer ticks answered has = (
 )
 
 -- ---- the notes go first
-
--- Nothing more went to `out`.
-pub notes_later : (made : LineAndNotes) (line more next : List Tick) (front note_front note_more : List ℕ)
-    → next ≡ line ++ more
-    → NotesFirst made line front note_front → NotesFirst made next front (note_front ++ note_more)
-notes_later made line more next front note_front note_more on first = record {
-  early = first.early;
-  later = first.later ++ more;
-  is = on ∙ ap (λ l. l ++ more) first.is ∙ append_assoc first.early first.later more;
-  are = first.are;
-  rest = first.rest;
-  text = first.text;
-  more = first.more ++ note_more;
-  notes = ap (λ l. l ++ note_more) first.notes
-      ∙ append_assoc (made.note_lines first.early) first.more note_more;
-}
 
 -- All notes went to the log.
 pub notes_all : (made : LineAndNotes) (line : List Tick) (front rest : List ℕ)
@@ -197,206 +111,220 @@ begins made writer ticks notes texts no_tick no_note written no_ticks no_notes =
 
 -- ---- some more ticks
 
--- a text that is on its way to `out`, and the text of its ticks
-text_on : (writer : LineWriter) (ticks : List Tick) (answered front left : List ℕ)
-    (has : HasWritten writer ticks answered)
-    → answered ≡ front ++ left → canonical_text ticks
-    ≡ front ++ (left ++ (answered-begins writer ticks answered has).0)
-text_on writer ticks answered front left has all =
-    let rest = answered-begins writer ticks answered has in
-    sym rest.1 ∙ ap (λ l. l ++ rest.0) all ∙ append_assoc front left rest.0
+-- A run and a note that are added are on their way too.
+pub sends_added : (made : LineAndNotes) (line run answer : List Tick) (note : List ℕ)
+    → AnswersNoted made line run answer note
+    → (old new : Waiting) (before now : SinkTexts) → SendsTexts made old before now line
+    → Adds old new answer note → SendsTexts made new before now (line ++ run)
+sends_added made line run answer note answers old new before now sends adds =
+    let text = sends.text.text in
+    let notes = sends.note_text in
+    let first = sends.notes_first in
+    record {
+      text = record {
+        answered = sends.text.answered ++ adds.line;
+        written = subst (λ ticks. HasWritten new.writer ticks (sends.text.answered ++ adds.line))
+            (sym answers.ticks_are)
+            (adds.taken (made.other_line line) sends.text.answered sends.text.written);
+        text = record {
+          front = text.front;
+          got = text.got;
+          all = ap (λ l. l ++ adds.line) text.all ∙ append_assoc text.front old.ticks adds.line
+              ∙ ap (λ l. text.front ++ l) (sym adds.ticks);
+        };
+      };
+      note_text = record {
+        front = notes.front;
+        got = notes.got;
+        all = answers.note_is ∙ ap (λ l. l ++ note) notes.all
+            ∙ append_assoc notes.front old.notes note
+            ∙ ap (λ l. notes.front ++ l) (sym adds.notes);
+      };
+      notes_first = record {
+        early = first.early;
+        later = first.later ++ run;
+        is = ap (λ l. l ++ run) first.is ∙ append_assoc first.early first.later run;
+        are = first.are;
+        rest = first.rest;
+        text = first.text;
+        more = first.more;
+        notes = first.notes;
+      };
+    }
 
--- For a run, these ticks and a note were returned, and they are added to what waits.
-module _ (made : LineAndNotes) (line run answer : List Tick) (note : List ℕ)
-    (answers : AnswersNoted made line run answer note)
-    (old new : Waiting) (before s0 s1 : SinkTexts) (sends : SendsTexts made old before s0 line) where
-  abbrev next : List Tick
-  next = line ++ run
+-- ---- what waits is written
 
-  abbrev Pushes : {T E : Type 0} → Result T E → Type 0
-  Pushes result = PushesTicks old new s0 s1 answer note result
+-- each sink has got a front of what is on its way
+pub fronts_sent : (made : LineAndNotes) (waits : Waiting) (before now : SinkTexts)
+    (line : List Tick) → SendsTexts made waits before now line
+    → HasSentFronts made before now line
+fronts_sent made waits before now line sends =
+    let rest = answered-begins waits.writer (made.other_line line) sends.text.answered
+    sends.text.written in
+    record {
+      are = sends.text.written.are;
+      text = record {
+        front = sends.text.text.front;
+        rest = waits.ticks ++ rest.0;
+        got = sends.text.text.got;
+        all = sym rest.1 ∙ ap (λ l. l ++ rest.0) sends.text.text.all
+            ∙ append_assoc sends.text.text.front waits.ticks rest.0;
+      };
+      note_text = record {
+        front = sends.note_text.front;
+        rest = waits.notes;
+        got = sends.note_text.got;
+        all = sends.note_text.all;
+      };
+      notes_first = sends.notes_first;
+    }
 
-  written_next : (pushed : List ℕ) → ((ticks : List Tick) (answered : List ℕ)
-      → HasWritten old.writer ticks answered
-      → HasWritten new.writer (ticks ++ answer) (answered ++ pushed))
-      → HasWritten new.writer (made.other_line next) (sends.text.answered ++ pushed)
-  written_next pushed push = subst
-      (λ ticks. HasWritten new.writer ticks (sends.text.answered ++ pushed)) (sym answers.ticks_are)
-      (push (made.other_line line) sends.text.answered sends.text.written)
-
-  all_with : (piece : List ℕ) → sends.text.answered ++ piece
-      ≡ sends.text.text.front ++ (old.ticks ++ piece)
-  all_with piece = ap (λ l. l ++ piece) sends.text.text.all
-      ∙ append_assoc sends.text.text.front old.ticks piece
-
-  -- All notes went to the log.
-  notes_of : s1.log ≡ append_known s0.log (old.notes ++ note)
-      → s1.log ≡ append_known before.log (made.note_lines next)
-  notes_of log = log ∙ ap (λ known. append_known known (old.notes ++ note)) sends.note_text.got
-      ∙ append_known-twice before.log sends.note_text.front (old.notes ++ note)
-      ∙ ap (append_known before.log) (sym (answers.note_is ∙ ap (λ l. l ++ note) sends.note_text.all
-      ∙ append_assoc sends.note_text.front old.notes note))
-
-  -- The ticks and the note were added.
-  pub sends_more : {T E : Type 0} (x : T) → Pushes {E = E} (Ok x)
-      → SendsTexts made new before s1 next
-  sends_more x pushed = elim pushed.pushes.notes_first [
-    | inl still ↦
-        let goes = pushed.pushes.notes_go in record {
-          text = record {
-            answered = sends.text.answered ++ pushed.line;
-            written = written_next pushed.line pushed.written;
-            text = record {
-              front = sends.text.text.front;
-              got = still.0 ∙ sends.text.text.got;
-              all = all_with pushed.line ∙ ap (λ l. sends.text.text.front ++ l) (sym still.1);
-            };
-          };
-          note_text = record {
-            front = sends.note_text.front ++ goes.front;
-            got = goes.got ∙ ap (λ known. append_known known goes.front) sends.note_text.got
-                ∙ append_known-twice before.log sends.note_text.front goes.front;
-            all = answers.note_is ∙ ap (λ l. l ++ note) sends.note_text.all
-                ∙ append_assoc sends.note_text.front old.notes note
-                ∙ ap (λ l. sends.note_text.front ++ l) goes.all
-                ∙ sym (append_assoc sends.note_text.front goes.front new.notes);
-          };
-          notes_first = notes_later made line run next sends.text.text.front
-              sends.note_text.front goes.front refl sends.notes_first;
-        }
-    | inr logged ↦
-        let goes = buffered_on before.out s0.out s1.out sends.text.answered old.ticks pushed.line
-        new.ticks sends.text.text
-        pushed.pushes.text_goes in
-        let has = written_next pushed.line pushed.written in record {
-          text = record {
-            answered = sends.text.answered ++ pushed.line;
-            written = has;
-            text = goes;
-          };
-          note_text = record {
-            front = made.note_lines next;
-            got = notes_of logged.0;
-            all = sym (append-nil (made.note_lines next))
-                ∙ ap (λ l. made.note_lines next ++ l) (sym logged.1);
-          };
-          notes_first = notes_all made next goes.front _ has.are
-              (text_on new.writer (made.other_line next) (sends.text.answered ++ pushed.line)
-              goes.front new.ticks has goes.all);
-        }
-  ]
-
-  -- A write failed, and a front was sent.
-  pub sent_in_part : {T E : Type 0} (e : E) → Pushes {T = T} (Err e)
-      → HasSentFronts made before s1 next
-  sent_in_part e pushed = elim pushed.pushes.notes_first [
-    | inl still ↦
-        let has = written_next pushed.line pushed.written in
-        let stops = pushed.pushes.notes_stop in record {
-          are = has.are;
-          text = record {
-            front = sends.text.text.front;
-            rest = _;
-            got = still.0 ∙ sends.text.text.got;
-            all = text_on new.writer (made.other_line next) (sends.text.answered ++ pushed.line)
-                sends.text.text.front
-                (old.ticks ++ pushed.line) has (all_with pushed.line);
-          };
-          note_text = record {
-            front = sends.note_text.front ++ stops.front;
-            rest = stops.rest;
-            got = stops.got ∙ ap (λ known. append_known known stops.front) sends.note_text.got
-                ∙ append_known-twice before.log sends.note_text.front stops.front;
-            all = answers.note_is ∙ ap (λ l. l ++ note) sends.note_text.all
-                ∙ append_assoc sends.note_text.front old.notes note
-                ∙ ap (λ l. sends.note_text.front ++ l) stops.all
-                ∙ sym (append_assoc sends.note_text.front stops.front stops.rest);
-          };
-          notes_first = notes_later made line run next sends.text.text.front
-              sends.note_text.front stops.front refl sends.notes_first;
-        }
-    | inr logged ↦
-        let stops = part_on before.out s0.out s1.out sends.text.answered old.ticks pushed.line
-        sends.text.text
-        pushed.pushes.text_stops in
-        let has = written_next pushed.line pushed.written in
-        let all = text_on new.writer (made.other_line next) (sends.text.answered ++ pushed.line)
-        stops.front stops.rest has stops.all in record {
-          are = has.are;
-          text = record { front = stops.front; rest = _; got = stops.got; all = all };
-          note_text = record {
-            front = made.note_lines next;
-            rest = [];
-            got = notes_of logged.0;
-            all = sym (append-nil (made.note_lines next));
-          };
-          notes_first = notes_all made next stops.front _ has.are all;
-        }
-  ]
-
--- ---- the end of a line
-
--- The last line of the ticks is added to what waits, and all is drained.
 module _ (made : LineAndNotes) (line : List Tick) (waits : Waiting) (before s0 s1 : SinkTexts)
-    (sends : SendsTexts made waits before s0 line)
-    (last : List ℕ) (whole : sends.text.answered ++ last
-    ≡ canonical_text (made.other_line line)) where
-  canonical_is : canonical_text (made.other_line line)
-      ≡ sends.text.text.front ++ (waits.ticks ++ last)
-  canonical_is = sym whole ∙ ap (λ l. l ++ last) sends.text.text.all
-      ∙ append_assoc sends.text.text.front waits.ticks last
+    (sends : SendsTexts made waits before s0 line) where
+  abbrev text : Buffered before.out s0.out waits.ticks sends.text.answered
+  text = sends.text.text
 
-  pub finish_sends : Buffered s0.out s1.out [] (waits.ticks ++ last)
-      → Buffered s0.log s1.log [] waits.notes → HasSent made before s1 line
-  finish_sends goes notes_go = record {
-    are = sends.text.written.are;
-    text = printed before.out s1.out _ (buffered_on before.out s0.out s1.out sends.text.answered
-        waits.ticks last [] sends.text.text goes)
-        ∙ ap (append_known before.out) whole;
-    note_text = printed before.log s1.log
-        _ (buffered_then before.log s0.log s1.log (made.note_lines line) waits.notes []
-        sends.note_text notes_go);
-  }
+  abbrev notes : Buffered before.log s0.log waits.notes (made.note_lines line)
+  notes = sends.note_text
 
-  -- Only a front of the notes was written.
-  pub finish_keeps : s1.out ≡ s0.out → GotPrefix s0.log s1.log waits.notes
-      → HasSentFronts made before s1 line
-  finish_keeps still stops = record {
-    are = sends.text.written.are;
-    text = record {
-      front = sends.text.text.front;
-      rest = waits.ticks ++ last;
-      got = still ∙ sends.text.text.got;
-      all = canonical_is;
-    };
-    note_text = record {
-      front = sends.note_text.front ++ stops.front;
-      rest = stops.rest;
-      got = stops.got ∙ ap (λ known. append_known known stops.front) sends.note_text.got
-          ∙ append_known-twice before.log sends.note_text.front stops.front;
-      all = sends.note_text.all ∙ ap (λ l. sends.note_text.front ++ l) stops.all
-          ∙ sym (append_assoc sends.note_text.front stops.front stops.rest);
-    };
-    notes_first = notes_later made line [] line sends.text.text.front sends.note_text.front
-        stops.front (sym (append-nil line)) sends.notes_first;
-  }
+  -- more of the ticks' text was written
+  went_out : (more : List ℕ) → s1.out ≡ append_known s0.out more
+      → s1.out ≡ append_known before.out (text.front ++ more)
+  went_out more is = is ∙ ap (λ known. append_known known more) text.got
+      ∙ append_known-twice before.out text.front more
 
-  -- All notes were written, and only a front of the ticks was.
-  pub finish_stops : GotPrefix s0.out s1.out (waits.ticks ++ last)
-      → Buffered s0.log s1.log [] waits.notes → HasSentFronts made before s1 line
-  finish_stops stops notes_go =
-      let text = part_on before.out s0.out s1.out sends.text.answered waits.ticks last
-      sends.text.text stops in
-      let all = sym whole ∙ text.all in record {
-        are = sends.text.written.are;
-        text = record { front = text.front; rest = text.rest; got = text.got; all = all };
+  -- all notes were written
+  logged : s1.log ≡ append_known s0.log waits.notes
+      → s1.log ≡ append_known before.log (made.note_lines line)
+  logged is = is ∙ ap (λ known. append_known known waits.notes) notes.got
+      ∙ append_known-twice before.log notes.front waits.notes
+      ∙ ap (append_known before.log) (sym notes.all)
+
+  -- All that waited was written.
+  all_sent : (writer : LineWriter) → writer ≡ waits.writer → WritesAll waits s0 s1
+      → SendsTexts made (waiting writer [] []) before s1 line
+  all_sent writer same all =
+      let front = text.front ++ waits.ticks in
+      let rest = answered-begins waits.writer (made.other_line line) sends.text.answered
+      sends.text.written in record {
+        text = record {
+          answered = sends.text.answered;
+          written = subst (λ w. HasWritten w (made.other_line line) sends.text.answered) (sym same)
+              sends.text.written;
+          text = record {
+            front = front;
+            got = went_out waits.ticks all.ticks;
+            all = text.all ∙ sym (append-nil front);
+          };
+        };
         note_text = record {
           front = made.note_lines line;
-          rest = [];
-          got = printed before.log s1.log
-              _ (buffered_then before.log s0.log s1.log (made.note_lines line) waits.notes []
-              sends.note_text notes_go);
+          got = logged all.notes;
           all = sym (append-nil (made.note_lines line));
         };
-        notes_first = notes_all made line text.front text.rest sends.text.written.are all;
+        notes_first = notes_all made line front rest.0 sends.text.written.are
+            (sym rest.1 ∙ ap (λ l. l ++ rest.0) text.all);
       }
+
+  -- The last line of the ticks waits too.
+  module _ (last : List ℕ)
+      (whole : sends.text.answered ++ last ≡ canonical_text (made.other_line line)) where
+    canonical_is : canonical_text (made.other_line line) ≡ text.front ++ (waits.ticks ++ last)
+    canonical_is = sym whole ∙ ap (λ l. l ++ last) text.all
+        ∙ append_assoc text.front waits.ticks last
+
+    abbrev ends : Waiting
+    ends = waiting waits.writer (waits.ticks ++ last) waits.notes
+
+    pub ends_all : WritesAll ends s0 s1 → HasSent made before s1 line
+    ends_all all = record {
+      are = sends.text.written.are;
+      text = went_out (waits.ticks ++ last) all.ticks
+          ∙ ap (append_known before.out) (sym canonical_is);
+      note_text = logged all.notes;
+    }
+
+    pub ends_part : WritesPart ends s0 s1 → HasSentFronts made before s1 line
+    ends_part (inl stops) =
+        let first = sends.notes_first in
+        let more = stops.1 in record {
+          are = sends.text.written.are;
+          text = record {
+            front = text.front;
+            rest = waits.ticks ++ last;
+            got = stops.0 ∙ text.got;
+            all = canonical_is;
+          };
+          note_text = record {
+            front = notes.front ++ more.front;
+            rest = more.rest;
+            got = more.got ∙ ap (λ known. append_known known more.front) notes.got
+                ∙ append_known-twice before.log notes.front more.front;
+            all = notes.all ∙ ap (λ l. notes.front ++ l) more.all
+                ∙ sym (append_assoc notes.front more.front more.rest);
+          };
+          notes_first = record {
+            early = first.early;
+            later = first.later;
+            is = first.is;
+            are = first.are;
+            rest = first.rest;
+            text = first.text;
+            more = first.more ++ more.front;
+            notes = ap (λ l. l ++ more.front) first.notes
+                ∙ append_assoc (made.note_lines first.early) first.more more.front;
+          };
+        }
+    ends_part (inr stops) =
+        let more = stops.0 in
+        let all = canonical_is ∙ ap (λ l. text.front ++ l) more.all
+        ∙ sym (append_assoc text.front more.front more.rest) in record {
+          are = sends.text.written.are;
+          text = record {
+            front = text.front ++ more.front;
+            rest = more.rest;
+            got = went_out more.front more.got;
+            all = all;
+          };
+          note_text = record {
+            front = made.note_lines line;
+            rest = [];
+            got = logged stops.1;
+            all = sym (append-nil (made.note_lines line));
+          };
+          notes_first = notes_all made line (text.front ++ more.front) more.rest
+              sends.text.written.are all;
+        }
+
+module _ {O L : Type 0} (o : Sink O) (l : Sink L) (made : LineAndNotes) (line : List Tick)
+    (old new : Writing O L) (before : SinkTexts)
+    (sends : SendsTexts made (waiting_in old.texts) before (texts_held o l old) line) where
+  -- what was handed out is still on its way, or has gone
+  pub sends_handed : HandsOut o l old new (Ok tt)
+      → SendsTexts made (waiting_in new.texts) before (texts_held o l new) line
+  sends_handed hands =
+      let writer = new.texts.writer in
+      let held = texts_held o l new in
+      subst (λ ticks. SendsTexts made (waiting writer ticks (waiting_bytes new.texts.notes)) before
+      held line) (sym hands.no_ticks)
+      (subst (λ notes. SendsTexts made (waiting writer [] notes) before held line)
+      (sym hands.no_notes)
+      (all_sent made line (waiting_in old.texts) before (texts_held o l old) held sends writer
+      hands.writer hands.all))
+
+  -- a write failed
+  pub sent_handed : (e : Failed) → HandsOut o l old new (Err e)
+      → HasSentFronts made before (texts_held o l new) line
+  sent_handed e hands =
+      let rest = answered-begins old.texts.writer (made.other_line line) sends.text.answered
+      sends.text.written in
+      ends_part made line (waiting_in old.texts) before (texts_held o l old) (texts_held o l new)
+      sends rest.0 rest.1 (elim hands.part as (λ _. WritesPart (waiting old.texts.writer
+      (old.texts.ticks.items ++ rest.0) (waiting_bytes old.texts.notes)) (texts_held o l old)
+      (texts_held o l new)) [
+        | inl stops ↦ inl stops
+        | inr stops ↦ inr (
+          prefix_of_more (o.held old.out) (o.held new.out) old.texts.ticks.items rest.0 stops.0,
+          stops.1,
+        )
+      ])

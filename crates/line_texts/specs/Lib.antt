@@ -1,4 +1,4 @@
 pub mod Writer
 pub mod Sending
 pub mod Texts
-pub mod Runs
+pub mod Adding

@@ -1,6 +1,6 @@
 -- The two texts that are made of a line: the text of another line, which goes to `out`, and the
 -- lines of notes, which go to the log.
-use Rattle.std.specs.Prelude.{◌≡◌, ℕ, ◌≤◌, ◌⊎◌, List, [], ◌++◌, Option, Result, OnOk, OnErr}
+use Rattle.std.specs.Prelude.{◌≡◌, ℕ, ◌≤◌, ◌⊎◌, List, ◌++◌, Option, Result, OnOk, OnErr}
 use Rattle.std.specs.Io.KnownBytes.{append_known}
 use Rattle.yasir_io.specs.Causes.{Rose}
 use Rattle.yasir_io.specs.Output.{Buffered, GotPrefix}
@@ -90,24 +90,15 @@ pub record HaveCause {T E : Type 0} (out_before out_now log_before log_now : ℕ
   pub out_same : OnOk result (out_now ≡ out_before)
   pub log_same : OnOk result (log_now ≡ log_before)
 
--- The texts of the ticks and of the notes are on their way. If a write failed, each sink has got a
--- front of its text. Either nothing has gone to `out`, or all notes went to the log before.
-pub record PushesTexts {T E : Type 0} (before now : SinkTexts)
-    (ticks_wait notes_wait text notes : List ℕ)
-    (result : Result T E) : Type 0 where
-  pub text_goes : OnOk result (Buffered before.out now.out ticks_wait text)
-  pub text_stops : OnErr result (GotPrefix before.out now.out text)
-  pub notes_go : OnOk result (Buffered before.log now.log notes_wait notes)
-  pub notes_stop : OnErr result (GotPrefix before.log now.log notes)
-  pub notes_first : ((now.out ≡ before.out) × OnOk result (ticks_wait ≡ text))
-      ⊎ ((now.log ≡ append_known before.log notes) × OnOk result (notes_wait ≡ []))
+-- All that waited was written.
+pub record WritesAll (waits : Waiting) (before now : SinkTexts) : Type 0 where
+  pub ticks : now.out ≡ append_known before.out waits.ticks
+  pub notes : now.log ≡ append_known before.log waits.notes
 
--- A run of ticks and a note were added: the lines that the ticks complete go to the text of the
--- ticks.
-pub record PushesTicks {T E : Type 0} (old new : Waiting) (before now : SinkTexts)
-    (run : List Tick) (note : List ℕ) (result : Result T E) : Type 0 where
-  pub line : List ℕ
-  pub written : (ticks : List Tick) (answered : List ℕ) → HasWritten old.writer ticks answered
-      → HasWritten new.writer (ticks ++ run) (answered ++ line)
-  pub pushes : PushesTexts before now new.ticks new.notes (old.ticks ++ line) (old.notes ++ note)
-      result
+-- A write failed: a front of the notes that waited was written and no tick, or all these notes and
+-- a front of the ticks that waited.
+abbrev pub WritesPart : Waiting → SinkTexts → SinkTexts → Type 0
+WritesPart waits before now =
+    ((now.out ≡ before.out) × GotPrefix before.log now.log waits.notes)
+    ⊎ (GotPrefix before.out now.out waits.ticks
+    × (now.log ≡ append_known before.log waits.notes))

@@ -1,5 +1,5 @@
 //! A room of fixed size for lines of tick text.
-ghost use Rattle.std.specs.Prelude.{◌≡◌, ◌+◌, ◌*◌, ◌≤◌, [], ◌++◌, length, take, true};
+ghost use Rattle.std.specs.Prelude.{◌≡◌, ◌+◌, ◌*◌, ◌<◌, ◌≤◌, [], ◌++◌, length, take, true, false};
 ghost use Rattle.yasir_ticks.specs.CanonicalText.{byte_line, silence_line};
 
 use itoa::Buffer;
@@ -33,7 +33,8 @@ impl Model for LineRoom {
 }
 
 impl LineRoom {
-    ghost use Rattle.std.specs.Prelude.{Option, ℕ, List, OnOk, OnErr};
+    ghost use Rattle.std.specs.Prelude.{OnOk, OnErr};
+    ghost use Rattle.std.specs.Io.KnownBytes.{append_known};
     ghost use Rattle.yasir_io.specs.Causes.{HasCause};
     ghost use Rattle.yasir_io.specs.Output.{Buffered, GotPrefix};
 
@@ -49,18 +50,20 @@ impl LineRoom {
 
     /// Returns the text that waits.
     #[inline]
-    fn as_slice(&self) -> &[u8]
+    pub(crate) fn as_slice(&self) -> &[u8]
         ensures { result.now ≡ self.now.items }
     {
         &self.bytes[..self.len]
     }
 
-    /// Whether there is room for any line.
+    /// Whether there is room for `count` bytes of lines.
     #[inline]
-    pub(crate) fn takes_a_line(&self) -> bool
-        ensures { result ≡ true → length self.now.items + 66 ≤ 65536 }
+    pub(crate) fn has_room(&self, count: usize) -> bool
+        requires { count ≤ 65536 }
+        ensures room { result ≡ true → length self.now.items + count ≤ 65536 }
+        ensures full { result ≡ false → 65536 < length self.now.items + count }
     {
-        self.len <= ROOM - LONGEST_LINE
+        self.len <= ROOM - count
     }
 
     // Appends the first `count` bytes of a piece. It copies the whole piece, since a copy of fixed
@@ -139,17 +142,14 @@ impl LineRoom {
 
     /// Makes room for a line: if there is none, writes what waits to the sink.
     pub(crate) fn make_room<S: Sink>(&mut self, sink: &mut S) -> Result<(), Failed>
-        ensures ok { OnOk result ((start : Option (List ℕ)) (text : List ℕ)
-            → Buffered start (S.held sink.old) self.old.items text
-            → Buffered start (S.held sink.new) self.new.items text) }
+        ensures ok { OnOk result (Buffered (S.held sink.old) (S.held sink.new) self.new.items
+            self.old.items) }
         ensures room { OnOk result (length self.new.items + 66 ≤ 65536) }
-        ensures err { OnErr result ((start : Option (List ℕ)) (text : List ℕ)
-            → Buffered start (S.held sink.old) self.old.items text
-            → GotPrefix start (S.held sink.new) text) }
+        ensures err { OnErr result (GotPrefix (S.held sink.old) (S.held sink.new) self.old.items) }
         ensures cause { HasCause (S.faults sink.old) (S.faults sink.new) result }
         ensures flushes { S.flushes sink.new ≡ S.flushes sink.old }
     {
-        if self.takes_a_line() {
+        if self.has_room(LONGEST_LINE) {
             return Ok(());
         }
         self.drain(sink)
@@ -157,13 +157,9 @@ impl LineRoom {
 
     /// Writes what waits to the sink, and leaves the flush to the caller.
     pub(crate) fn drain<S: Sink>(&mut self, sink: &mut S) -> Result<(), Failed>
-        ensures ok { OnOk result ((start : Option (List ℕ)) (text : List ℕ)
-            → Buffered start (S.held sink.old) self.old.items text
-            → Buffered start (S.held sink.new) [] text) }
+        ensures ok { OnOk result (S.held sink.new ≡ append_known (S.held sink.old) self.old.items) }
         ensures empty { OnOk result (self.new.items ≡ []) }
-        ensures err { OnErr result ((start : Option (List ℕ)) (text : List ℕ)
-            → Buffered start (S.held sink.old) self.old.items text
-            → GotPrefix start (S.held sink.new) text) }
+        ensures err { OnErr result (GotPrefix (S.held sink.old) (S.held sink.new) self.old.items) }
         ensures cause { HasCause (S.faults sink.old) (S.faults sink.new) result }
         ensures flushes { S.flushes sink.new ≡ S.flushes sink.old }
     {

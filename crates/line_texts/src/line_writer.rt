@@ -1,11 +1,9 @@
 //! Ticks as lines of canonical tick text.
 ghost use Rattle.std.specs.Prelude.{◌≡◌, ◌+◌, ◌<◌, ◌≤◌, [], length, map, take, true, false};
 ghost use Rattle.yasir_ticks.specs.Ticks.{silent};
-ghost use Rattle.yasir_ticks.specs.TickRun.{run_ticks};
 ghost use Rattle.yasir_ticks.specs.declared.tick.Tick.TheVariants.{Byte};
 
 use crate::line_room::LineRoom;
-use yasir_ticks::TickRun;
 
 /// The most bytes that one line represents.
 const MAX_BYTES: usize = 32;
@@ -27,7 +25,7 @@ pub struct LineWriter {
 }
 
 impl LineWriter {
-    ghost use Rattle.line_texts.specs.Writer.{HasWritten, Takes, TakesInto, Ends, Completes};
+    ghost use Rattle.line_texts.specs.Writer.{HasWritten, Takes, TakesInto, Ends};
 
     /// Returns a writer that has taken no tick.
     pub(crate) fn new() -> LineWriter
@@ -40,9 +38,9 @@ impl LineWriter {
         }
     }
 
-    // Takes bytes, one for each tick, if they complete no line. Returns whether it took them.
+    /// Takes bytes, one for each tick, if they complete no line. Returns whether it took them.
     #[inline(always)]
-    fn join_bytes(&mut self, bytes: &[u8]) -> bool
+    pub(crate) fn join_bytes(&mut self, bytes: &[u8]) -> bool
         ensures joined { result ≡ true → Takes self.old self.new (map Byte bytes.now) [] }
         ensures left { result ≡ false → self.new ≡ self.old }
         ensures some { result ≡ false → 0 < length bytes.now }
@@ -64,9 +62,9 @@ impl LineWriter {
         true
     }
 
-    // Takes silent ticks if they complete no line. Returns whether it took them.
+    /// Takes silent ticks if they complete no line. Returns whether it took them.
     #[inline(always)]
-    fn join_silence(&mut self, ticks: u32) -> bool
+    pub(crate) fn join_silence(&mut self, ticks: u32) -> bool
         ensures joined { result ≡ true → Takes self.old self.new (silent ticks) [] }
         ensures left { result ≡ false → self.new ≡ self.old }
         ensures some { result ≡ false → 0 < ticks }
@@ -95,6 +93,8 @@ impl LineWriter {
         requires room { length room.old.items + 66 ≤ 65536 }
         ensures some { 0 < result }
         ensures within { result ≤ length bytes.now }
+        ensures left { self.new.silence ≡ 0 }
+        ensures count { self.new.count ≡ result }
         ensures taken { TakesInto self.old self.new (map Byte (take result bytes.now))
             room.old.items room.new.items }
     {
@@ -116,6 +116,8 @@ impl LineWriter {
         requires room { length room.old.items + 66 ≤ 65536 }
         ensures some { 0 < result }
         ensures within { result ≤ length bytes.now }
+        ensures left { self.new.silence ≡ 0 }
+        ensures count { self.new.count + 32 ≡ self.old.count + result }
         ensures taken { TakesInto self.old self.new (map Byte (take result bytes.now))
             room.old.items room.new.items }
     {
@@ -135,6 +137,8 @@ impl LineWriter {
         requires room { length room.old.items + 66 ≤ 65536 }
         ensures some { 0 < result }
         ensures within { result ≤ length bytes.now }
+        ensures left { self.new.silence ≡ 0 }
+        ensures count { self.new.count + 32 ≡ self.old.count + result }
         ensures taken { TakesInto self.old self.new (map Byte (take result bytes.now))
             room.old.items room.new.items }
     {
@@ -145,14 +149,17 @@ impl LineWriter {
         taken
     }
 
-    // Writes the first line that these bytes complete, and returns how many of them it took.
+    /// Writes the first line that these bytes complete, and returns how many of them it took.
     #[inline(always)]
-    fn complete_by_bytes(&mut self, room: &mut LineRoom, bytes: &[u8]) -> usize
+    pub(crate) fn complete_by_bytes(&mut self, room: &mut LineRoom, bytes: &[u8]) -> usize
         requires some { 0 < length bytes.now }
         requires fills { self.old.silence ≡ 0 → 32 ≤ self.old.count + length bytes.now }
         requires room { length room.old.items + 66 ≤ 65536 }
         ensures some { 0 < result }
         ensures within { result ≤ length bytes.now }
+        ensures left { self.new.silence ≡ 0 }
+        ensures count { self.old.silence ≡ 0 → self.new.count + 32 ≡ self.old.count + result }
+        ensures begun { 0 < self.old.silence → self.new.count ≡ result }
         ensures taken { TakesInto self.old self.new (map Byte (take result bytes.now))
             room.old.items room.new.items }
     {
@@ -174,6 +181,8 @@ impl LineWriter {
         requires room { length room.old.items + 66 ≤ 65536 }
         ensures some { 0 < result }
         ensures within { result ≤ ticks }
+        ensures count { self.new.count ≡ 0 }
+        ensures silence { self.new.silence ≡ result }
         ensures taken { TakesInto self.old self.new (silent result) room.old.items
             room.new.items }
     {
@@ -184,14 +193,17 @@ impl LineWriter {
         taken
     }
 
-    // Writes the first line that these silent ticks complete, and returns how many of them it took.
+    /// Writes the first line that these silent ticks complete, and returns how many of them it
+    /// took.
     #[inline(always)]
-    fn complete_by_silence(&mut self, room: &mut LineRoom, ticks: u32) -> u32
+    pub(crate) fn complete_by_silence(&mut self, room: &mut LineRoom, ticks: u32) -> u32
         requires some { 0 < ticks }
         requires fills { self.old.count ≡ 0 → 1000000 ≤ self.old.silence + ticks }
         requires room { length room.old.items + 66 ≤ 65536 }
         ensures some { 0 < result }
         ensures within { result ≤ ticks }
+        ensures count { self.new.count ≡ 0 }
+        ensures silence { self.new.silence ≤ result }
         ensures taken { TakesInto self.old self.new (silent result) room.old.items
             room.new.items }
     {
@@ -202,36 +214,6 @@ impl LineWriter {
         room.push_silence_line(MAX_SILENCE);
         self.silence = 0;
         taken
-    }
-
-    /// Takes the ticks of a run if they complete no line. Returns whether it took them.
-    #[inline(always)]
-    pub(crate) fn join(&mut self, run: TickRun<'_>) -> bool
-        ensures joined { result ≡ true → Takes self.old self.new (run_ticks run.entry) [] }
-        ensures left { result ≡ false → self.new ≡ self.old }
-        ensures completes { result ≡ false → Completes self.old run.entry }
-    {
-        match run {
-            TickRun::Bytes(bytes) => self.join_bytes(bytes),
-            TickRun::Silence(ticks) => self.join_silence(ticks),
-        }
-    }
-
-    /// Writes the first line that the ticks of a run complete, and returns how many of them it
-    /// took.
-    #[inline(always)]
-    pub(crate) fn complete(&mut self, room: &mut LineRoom, run: TickRun<'_>) -> usize
-        requires completes { Completes self.old run }
-        requires room { length room.old.items + 66 ≤ 65536 }
-        ensures some { 0 < result }
-        ensures within { result ≤ length (run_ticks run.entry) }
-        ensures taken { TakesInto self.old self.new (take result (run_ticks run.entry))
-            room.old.items room.new.items }
-    {
-        match run {
-            TickRun::Bytes(bytes) => self.complete_by_bytes(room, bytes),
-            TickRun::Silence(ticks) => self.complete_by_silence(room, ticks) as usize,
-        }
     }
 
     /// Writes the line that isn't filled yet, if there is one.

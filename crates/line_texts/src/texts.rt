@@ -1,6 +1,7 @@
 //! The text of a line and the lines of notes, written so that a note goes out before the ticks into
 //! which it falls.
-ghost use Rattle.std.specs.Prelude.{◌≡◌, List, [], ◌∷◌, OnOk, OnErr};
+ghost use Rattle.std.specs.Prelude.{◌≡◌, ◌≤◌, List, [], length, true};
+ghost use Rattle.std.specs.Prelude.{OnOk, OnErr};
 ghost use Rattle.yasir_io.specs.Flushed.{NoneFlushed};
 ghost use Rattle.yasir_io.specs.TextBuffer.{waiting_bytes};
 ghost use Rattle.yasir_ticks.specs.TickRun.{run_ticks};
@@ -8,13 +9,21 @@ ghost use Rattle.yasir_ticks.specs.declared.tick.Tick.{Tick};
 ghost use Rattle.line_texts.specs.Writer.{HasWritten};
 ghost use Rattle.line_texts.specs.Sending.{LineAndNotes, SinkTexts, sink_texts, SendsTexts};
 ghost use Rattle.line_texts.specs.Sending.{HasSent, HasSentFronts, HaveCause};
-ghost use Rattle.line_texts.specs.Texts.{waiting_in, writing, Pushes, MakesRoom};
+ghost use Rattle.line_texts.specs.Texts.{waiting_in, writing, HandsOut};
+ghost use Rattle.line_texts.specs.Adding.{IsShort, HasRoom, HasLineRoom, Adds, Closes};
 
+use crate::adding::{add_bytes, add_silence};
 use crate::line_room::LineRoom;
 use crate::line_writer::LineWriter;
-use crate::runs::{push_run, skip_run};
 use yasir_io::{Failed, Sink, TextBuffer};
-use yasir_ticks::{Tick, TickRun};
+use yasir_ticks::TickRun;
+
+/// The most bytes of text that a short run completes, ten lines of 66 bytes, and of the line that
+/// isn't filled then.
+const MOST_OF_LINES: usize = 726;
+
+/// The most bytes that the line of a note has.
+const MOST_OF_NOTE: usize = 640;
 
 /// The other line as canonical tick text, and a line for each note. Before a byte of the ticks goes
 /// out, all notes so far go to the log.
@@ -31,6 +40,7 @@ impl Texts {
         ensures written { HasWritten result.writer [] [] }
         ensures ticks { result.ticks.items ≡ [] }
         ensures notes { waiting_bytes result.notes ≡ [] }
+        ensures room { HasRoom result }
     {
         Texts {
             writer: LineWriter::new(),
@@ -39,71 +49,101 @@ impl Texts {
         }
     }
 
-    // Writes the notes to the log, and then the ticks to `out`. It is a separate function, since
-    // few lines find no room.
+    /// Whether there is room for the ten lines of a short run and the line that isn't filled then,
+    /// and for the line of a note.
+    #[inline]
+    pub fn has_room(&self) -> bool
+        ensures room { result ≡ true → HasRoom self.now }
+        ensures full { HasRoom self.now → result ≡ true }
+    {
+        self.ticks.has_room(MOST_OF_LINES) && self.notes.text.has_room(MOST_OF_NOTE)
+    }
+
+    /// Adds a short run to the text of the other line. If its ticks complete no line, only the
+    /// writer takes them.
+    #[inline(always)]
+    pub fn add_run(&mut self, run: TickRun<'_>)
+        requires room { HasRoom self.old }
+        requires short { IsShort (run_ticks run) }
+        ensures adds { Adds (waiting_in self.old) (waiting_in self.new) (run_ticks run.entry) [] }
+        ensures line_room { HasLineRoom self.new }
+    {
+        match run {
+            TickRun::Bytes(bytes) => {
+                if !self.writer.join_bytes(bytes) {
+                    add_bytes(self, bytes);
+                }
+            }
+            TickRun::Silence(ticks) => {
+                if !self.writer.join_silence(ticks) {
+                    add_silence(self, ticks);
+                }
+            }
+        }
+    }
+
+    /// Adds a note's line to the text of the notes, and the short run into which the note falls to
+    /// the text of the other line.
+    #[inline(always)]
+    pub fn add_noted(&mut self, note: &[u8], run: TickRun<'_>)
+        requires room { HasRoom self.old }
+        requires short { IsShort (run_ticks run) }
+        requires line { length note.now ≤ 640 }
+        ensures adds { Adds (waiting_in self.old) (waiting_in self.new) (run_ticks run.entry)
+            note.now }
+        ensures line_room { HasLineRoom self.new }
+    {
+        self.add_run(run);
+        self.notes.text.append(note);
+    }
+
+    /// Returns the notes that wait.
+    #[inline]
+    pub fn note_text(&self) -> &[u8]
+        ensures { result.now ≡ waiting_bytes self.now.notes }
+    {
+        self.notes.text.as_slice()
+    }
+
+    /// Returns the lines of ticks that wait.
+    #[inline]
+    pub fn tick_text(&self) -> &[u8]
+        ensures { result.now ≡ self.now.ticks.items }
+    {
+        self.ticks.as_slice()
+    }
+
+    /// Adds the line that isn't filled to the text of the ticks. The next call must be `empty`.
+    pub fn close(&mut self)
+        requires { HasLineRoom self.old }
+        ensures { Closes (waiting_in self.old) (waiting_in self.new) }
+    {
+        self.writer.finish(&mut self.ticks);
+    }
+
+    /// Discards all that waits, once it has been written, so that the texts are as new.
+    pub fn empty(&mut self)
+        ensures written { HasWritten self.new.writer [] [] }
+        ensures ticks { self.new.ticks.items ≡ [] }
+        ensures notes { waiting_bytes self.new.notes ≡ [] }
+    {
+        self.writer = LineWriter::new();
+        self.ticks.empty();
+        if !self.notes.text.as_slice().is_empty() {
+            self.notes = TextBuffer::new();
+        }
+    }
+
+    /// Writes the notes that wait to the log, and then the lines of ticks that wait to `out`.
+    /// After that nothing waits but the line that isn't filled yet. It is up to the caller to flush
+    /// both sinks.
     #[inline(never)]
-    fn drain<O: Sink, L: Sink>(&mut self, out: &mut O, log: &mut L) -> Result<(), Failed>
-        ensures { MakesRoom O.Sink L.Sink (writing self.old out.old log.old)
+    pub fn hand_out<O: Sink, L: Sink>(&mut self, out: &mut O, log: &mut L) -> Result<(), Failed>
+        ensures { HandsOut O.Sink L.Sink (writing self.old out.old log.old)
             (writing self.new out.new log.new) result }
     {
         self.notes.drain(log)?;
         self.ticks.drain(out)
-    }
-
-    // Makes room for a line of the ticks' text.
-    #[inline(always)]
-    pub(crate) fn make_room<O: Sink, L: Sink>(
-        &mut self,
-        out: &mut O,
-        log: &mut L,
-    ) -> Result<(), Failed>
-        ensures { MakesRoom O.Sink L.Sink (writing self.old out.old log.old)
-            (writing self.new out.new log.new) result }
-    {
-        if self.ticks.takes_a_line() {
-            return Ok(());
-        }
-        self.drain(out, log)
-    }
-
-    /// Adds a tick to the text of the other line.
-    #[inline]
-    pub fn push_tick<O: Sink, L: Sink>(
-        &mut self,
-        out: &mut O,
-        log: &mut L,
-        tick: Tick,
-    ) -> Result<(), Failed>
-        ensures { Pushes O.Sink L.Sink (writing self.old out.old log.old)
-            (writing self.new out.new log.new) (tick ∷ []) [] result }
-    {
-        match tick {
-            Tick::Silent => push_run(self, out, log, TickRun::Silence(1)),
-            Tick::Byte(byte) => push_run(self, out, log, TickRun::Bytes(&[byte])),
-        }
-    }
-
-    /// Adds a note's line to the text of the notes, and then the run into which the note falls to
-    /// the text of the other line. Few ticks have a note, so the callers of this function are
-    /// separate functions.
-    #[inline(always)]
-    pub fn push_noted<O: Sink, L: Sink>(
-        &mut self,
-        out: &mut O,
-        log: &mut L,
-        note: &[u8],
-        run: TickRun<'_>,
-    ) -> Result<(), Failed>
-        ensures { Pushes O.Sink L.Sink (writing self.old out.old log.old)
-            (writing self.new out.new log.new) (run_ticks run.entry) note.now result }
-    {
-        match self.notes.push(log, note) {
-            Ok(()) => push_run(self, out, log, run),
-            Err(Failed) => {
-                skip_run(&mut self.writer, run);
-                Err(Failed)
-            }
-        }
     }
 
     /// Writes the last line of the ticks and all that waits, the notes first.

@@ -1,7 +1,7 @@
 -- If a box is given a right key, a journal that holds a number for its link and a right text, and
 -- nothing outside fails, the status is Done.
 use Rattle.{link_format.specs.declared.dir.Dir.Dir, link_format.specs.Setup.Setup}
-use Rattle.command_ends.specs.{Statuses.fault_line, declared.status.Status.Status}
+use Rattle.command_ends.specs.{Causes.DiskCause, Statuses.fault_line, declared.status.Status.Status}
 use Rattle.sequence_journal.specs.{Links.HasDirection, declared.link.LinkId.LinkId}
 use Rattle.std.proofs.Common.{◌≡◌, ◌∙◌, ℕ, ◌+◌, List, [], ◌∷◌, ◌++◌, length, Option, Some, None}
 use Rattle.std.proofs.Common.{inl, inr, refl, sym, ap, subst, arith, append_assoc, length-append}
@@ -17,7 +17,7 @@ use Rattle.yasir_ticks.specs.declared.{fault.BadTicks.BadTicks, tick.Tick.Tick}
 use Rattle.command_ends.specs.declared.status.Status.TheVariants as status
 use Rattle.line_commands.proofs.Replayable.{no_key_refused, no_journal_refused, wrong_link_refused}
 use Rattle.line_commands.specs.{Boxes.Boxed, LinkBoxes.seal_boxed, LinkBoxes.seal_rest}
-use Rattle.line_commands.specs.{LinkBoxes.check_boxed, LinkBoxes.check_rest, ReplaysBox.BoxDiskCause}
+use Rattle.line_commands.specs.{LinkBoxes.check_boxed, LinkBoxes.check_rest}
 use Rattle.link_live.specs.Able.{IsLiveText, IsLivable, MayDo, IsCalm}
 use Rattle.link_live.specs.FaultText.{TellsFault}
 use Rattle.link_live.specs.LiveCommand.{Around, around, LivesBox, PortCauses}
@@ -122,7 +122,7 @@ module _ {K P D : Type 0} (k : Source K) (p : Port P) (d : SlotDisk D) where
       (disk_calm : ¬ Rose (d.faults before.disk) (d.faults after.disk)) where
     lives_done : (end : Status)
         → LivesBox k p d boxed link dir rest key_before key_after before after end
-        → BoxDiskCause (d.faults before.disk) (d.faults after.disk) end
+        → DiskCause (d.faults before.disk) (d.faults after.disk) end
         → (end ≡ status.WriteFault → ⊥) → end ≡ status.Done
     lives_done status.Done lives disk no_write = refl
     lives_done (status.BadTicks bad) lives disk no_write =
@@ -151,7 +151,7 @@ module _ {K P D : Type 0} (k : Source K) (p : Port P) (d : SlotDisk D) where
   module _ (key_before key_after : K) (before after : Around P D) (noted : P) (end : Status)
       (calm : IsCalm k p d key_before key_after before after)
       (port : PortCauses p before.port noted end)
-      (disk : BoxDiskCause (d.faults before.disk) (d.faults after.disk) end)
+      (disk : DiskCause (d.faults before.disk) (d.faults after.disk) end)
       (tells : TellsFault p noted after.port end) where
     -- The writing of the fault line changes no count of failed reads.
     reads_same : p.read_faults after.port ≡ p.read_faults noted

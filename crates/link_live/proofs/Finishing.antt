@@ -2,16 +2,19 @@
 use Rattle.link_box.specs.declared.box_trait.LinkBox.{Ghosts as LinkBox}
 use Rattle.link_live.proofs.Heard.{goes_none, goes_of_text, goes_given, goes_stopped, goes_then}
 use Rattle.link_live.proofs.Heard.{heard_as, heard_more, stops_hearing}
+use Rattle.link_live.proofs.TextEndsLaws.{no_true}
+use Rattle.line_commands.specs.BoxLines.{MayDrive}
 use Rattle.link_live.specs.Filtering.{LiveOrigin, filtering}
 use Rattle.link_live.specs.LiveLine.{Live, outside_of, read_further, LiveGoes, StopsHearing}
-use Rattle.link_live.specs.LiveLine.{HeardAt, TakenAt, LastAt, Given, HoldsBack, GiveAnswer}
+use Rattle.link_live.specs.LiveLine.{HeardAt, TakenAt, LastAt, Given, GiveAnswer}
 use Rattle.link_live.specs.LiveLine.{HearsAll, HearAnswer, HaltsAt, EndsAt, Finishes, Drives}
+use Rattle.link_live.specs.LiveLine.{IsReady, TakesLast}
 use Rattle.link_live.specs.TextEnds.{EndsText}
 use Rattle.line_commands.proofs.Reading.{read_begins}
 use Rattle.line_commands.specs.Lines.{HasRead, FinishAnswer as TextAnswer, IsOfText}
 use Rattle.line_commands.specs.declared.{lines.LineReader.LineReader, port.Port.Ghosts as Port}
-use Rattle.std.proofs.Common.{◌≡◌, ◌∙◌, ◌⊎◌, ℕ, ◌+◌, ◌<◌, ◌≤◌, List, [], ◌∷◌, ◌++◌, length, Option}
-use Rattle.std.proofs.Common.{Ok, Err, true, false, refl, sym, ap, subst, inl, inr, arith}
+use Rattle.std.proofs.Common.{◌≡◌, ◌∙◌, ◌⊎◌, ℕ, List, [], ◌++◌, length}
+use Rattle.std.proofs.Common.{Ok, Err, refl, sym, ap, subst, inl, inr, arith}
 use Rattle.std.proofs.Common.{append_assoc, length-append}
 use Rattle.std.specs.Io.KnownBytes.{prepend_known, IsAtEnd}
 use Rattle.tick_drive.{proofs.ItemLaws.ticks_in-append, specs.Consumers.Gives}
@@ -21,8 +24,8 @@ use Rattle.tick_drive.specs.declared.end.TooMuch.TheVariants.{Ticks, Bytes}
 use Rattle.yasir_io.specs.{Disks.Slots, declared.disk.SlotDisk.Ghosts as SlotDisk}
 use Rattle.yasir_ticks.{proofs.TickRuns.ticks_in-run, specs.TickRun.run_items}
 use Rattle.yasir_ticks.specs.TickText.{IsTickText, BeginsTickText, lines_of, ended_items}
-use Rattle.yasir_ticks.specs.Ticks.{Item, ticks_in, silent, items_of_run}
-use Rattle.yasir_ticks.specs.declared.{run.Run.Run, tick.Tick.Tick}
+use Rattle.yasir_ticks.specs.Ticks.{Item, ticks_in, silent}
+use Rattle.yasir_ticks.specs.declared.{tick.Tick.Tick}
 use Rattle.yasir_ticks.specs.declared.tick_run.TickRun.TheVariants.{Silence}
 
 no_items : ended_items [] ≡ []
@@ -35,26 +38,30 @@ module _ {B N P D : Type 0} (b : LinkBox B N) (line_of : N → List ℕ) (p : Po
 
     pub finish_refused : (lines : LineReader) (rest : ℕ) (at : Live B P D) (end : End)
         → ((disk : D) (c : Slots) → d.left_since disk (d.moment disk) c → d.may_leave disk c)
-        → IsOfText end
+        → IsReady b line_of d at.live_box at.disk → IsOfText end
         → ((text : List ℕ) → HasRead lines text → TextAnswer text (Err end))
-        → Finishes b line_of p d lines rest at at end
-    finish_refused lines rest at (Refused bad) only_now of_text answer = record {
+        → TakesLast b line_of p d lines rest at at end
+    finish_refused lines rest at (Refused bad) only_now ready of_text answer = record {
+      no_read = refl;
+      able = λ e. ready.able;
       goes = goes_of_text p d at at (Refused bad) of_text (goes_none p d only_now at);
       left = refl;
       ends = λ origin text has. record { refused = answer text has.has_read; heard = has.heard };
     }
-    finish_refused lines rest at (TooLong what count) only_now of_text answer = record {
+    finish_refused lines rest at (TooLong what count) only_now ready of_text answer = record {
+      no_read = refl;
+      able = λ e. ready.able;
       goes = goes_of_text p d at at (TooLong what count) of_text (goes_none p d only_now at);
       left = refl;
       ends = λ origin text has. absurd (answer text has.has_read);
     }
-    finish_refused lines rest at Whole only_now of_text answer = absurd of_text
-    finish_refused lines rest at ReadFault only_now of_text answer = absurd of_text
-    finish_refused lines rest at (Stopped stop) only_now of_text answer = absurd of_text
+    finish_refused lines rest at Whole only_now ready of_text answer = absurd of_text
+    finish_refused lines rest at ReadFault only_now ready of_text answer = absurd of_text
+    finish_refused lines rest at (Stopped stop) only_now ready of_text answer = absurd of_text
 
     longer : (at : Live B P D) (stop : Stop) (origin : LiveOrigin) (line more : List Tick)
-        → StopsHearing b line_of at.live_box.filter (p.history at.port) (d.told at.disk) stop origin line
-        → StopsHearing b line_of at.live_box.filter (p.history at.port) (d.told at.disk) stop origin
+        → StopsHearing b line_of at.live_box.lines (p.history at.port) (d.told at.disk) stop origin line
+        → StopsHearing b line_of at.live_box.lines (p.history at.port) (d.told at.disk) stop origin
         (line ++ more)
     longer at stop origin line more stops = record {
       items = stops.items;
@@ -70,18 +77,21 @@ module _ {B N P D : Type 0} (b : LinkBox B N) (line_of : N → List ℕ) (p : Po
         (alike : ticks_in run ≡ ticks_in last)
         (right : (text : List ℕ) → HasRead lines text → IsTickText 0 text (ended_items text ++ last))
         (only_now : (disk : D) (c : Slots) → d.left_since disk (d.moment disk) c
-        → d.may_leave disk c) where
+        → d.may_leave disk c) (ready : IsReady b line_of d old.live_box old.disk) where
       all_ticks : (text : List ℕ) → ticks_in (ended_items text) ++ ticks_in run
           ≡ ticks_in (ended_items text ++ last)
       all_ticks text = ap (λ l. ticks_in (ended_items text) ++ l) alike
           ∙ sym (ticks_in-append (ended_items text) last)
 
       pub last_ended : (end : End) → GiveAnswer b line_of p d old mid run (Err end)
-          → Finishes b line_of p d lines rest old mid end
+          → TakesLast b line_of p d lines rest old mid end
       last_ended (TooLong Ticks count) holds = record {
         goes = subst (λ at. LiveGoes p d old at (TooLong Ticks count)) (sym holds.same)
             (goes_of_text p d old old (TooLong Ticks count) tt (goes_none p d only_now old));
         left = ap (λ (at : Live B P D). p.left at.port) holds.same;
+        no_read = refl;
+        able = λ e. subst (λ (at : Live B P D). MayDrive b line_of at.live_box.lines (d.told at.disk))
+            (sym holds.same) ready.able;
         ends = λ origin text has. record {
           items = ended_items text ++ last;
           right = right text has.has_read;
@@ -105,11 +115,13 @@ module _ {B N P D : Type 0} (b : LinkBox B N) (line_of : N → List ℕ) (p : Po
       last_ended (Stopped stop) stops = record {
         goes = goes_stopped p d old mid stop stops.went;
         left = stops.went.port.left_same;
+        no_read = refl;
+        able = λ e. cc;
         ends = λ origin text has. record {
           items = ended_items text ++ last;
           right = right text has.has_read;
           holds = longer mid stop origin (ticks_in (ended_items text ++ last)) (silent rest)
-              (subst (StopsHearing b line_of mid.live_box.filter (p.history mid.port)
+              (subst (StopsHearing b line_of mid.live_box.lines (p.history mid.port)
               (d.told mid.disk) stop origin) (all_ticks text)
               (stops_hearing b line_of p d old mid run stop stops origin
               (ticks_in (ended_items text)) has.heard));
@@ -131,15 +143,17 @@ module _ {B N P D : Type 0} (b : LinkBox B N) (line_of : N → List ℕ) (p : Po
         pub rest_stopped : (stop : Stop)
             → Gives (filtering b line_of p d) (outside_of mid) (outside_of new)
             (run_items (Silence rest)) (Err stop)
-            → Finishes b line_of p d lines rest old new (Stopped stop)
+            → TakesLast b line_of p d lines rest old new (Stopped stop)
         rest_stopped stop stops = record {
           goes = goes_then p d old mid new (Stopped stop) (goes_given p d old mid given.gives.went)
               (goes_stopped p d mid new stop stops.went);
           left = stops.went.port.left_same ∙ given.gives.went.port.left_same;
+          no_read = refl;
+          able = λ e. cc;
           ends = λ origin text has. record {
             items = ended_items text ++ last;
             right = right text has.has_read;
-            holds = subst (λ quiet. StopsHearing b line_of new.live_box.filter (p.history new.port)
+            holds = subst (λ quiet. StopsHearing b line_of new.live_box.lines (p.history new.port)
                 (d.told new.disk) stop origin (ticks_in (ended_items text ++ last) ++ quiet))
                 (ticks_in-run (Silence rest))
                 (stops_hearing b line_of p d mid new (run_items (Silence rest)) stop stops origin
@@ -149,11 +163,13 @@ module _ {B N P D : Type 0} (b : LinkBox B N) (line_of : N → List ℕ) (p : Po
 
         pub rest_given : Gives (filtering b line_of p d) (outside_of mid) (outside_of new)
             (run_items (Silence rest)) (Ok tt)
-            → Finishes b line_of p d lines rest old new Whole
+            → TakesLast b line_of p d lines rest old new Whole
         rest_given gives = record {
           goes = goes_then p d old mid new Whole (goes_given p d old mid given.gives.went)
               (goes_given p d mid new gives.went);
           left = gives.went.port.left_same ∙ given.gives.went.port.left_same;
+          no_read = refl;
+          able = λ e. gives.is_able;
           ends = λ origin text has.
               let heard = heard_last origin text has in
               let quiet : ticks_in (run_items (Silence rest)) ≡ silent rest =
@@ -191,6 +207,7 @@ module _ {B N P D : Type 0} (b : LinkBox B N) (line_of : N → List ℕ) (p : Po
         text = fails.more;
         came = fails.heard.came;
         goes = fails.heard.goes;
+        clear = λ e. fails.clear;
         ends = λ origin zero none heard.
             let taken = fails.heard.hears origin (at_start origin zero none heard) in
             let all : origin.read ++ fails.more ≡ fails.more = ap (λ l. l ++ fails.more) none in
@@ -205,6 +222,7 @@ module _ {B N P D : Type 0} (b : LinkBox B N) (line_of : N → List ℕ) (p : Po
         text = ends.more;
         came = ends.came;
         goes = ends.goes;
+        clear = ends.clear;
         ends = λ origin zero none heard. inl (subst (EndsAt b line_of p d new Whole
             (read_further origin ends.more)) (ap (λ l. l ++ ends.more) none)
             (ends.ends origin (at_start origin zero none heard)));
@@ -213,6 +231,7 @@ module _ {B N P D : Type 0} (b : LinkBox B N) (line_of : N → List ℕ) (p : Po
         text = ends.more;
         came = ends.came;
         goes = ends.goes;
+        clear = ends.clear;
         ends = λ origin zero none heard. inl (subst (EndsAt b line_of p d new (Refused bad)
             (read_further origin ends.more)) (ap (λ l. l ++ ends.more) none)
             (ends.ends origin (at_start origin zero none heard)));
@@ -221,6 +240,7 @@ module _ {B N P D : Type 0} (b : LinkBox B N) (line_of : N → List ℕ) (p : Po
         text = ends.more;
         came = ends.came;
         goes = ends.goes;
+        clear = ends.clear;
         ends = λ origin zero none heard. inl (subst (EndsAt b line_of p d new (TooLong what count)
             (read_further origin ends.more)) (ap (λ l. l ++ ends.more) none)
             (ends.ends origin (at_start origin zero none heard)));
@@ -229,6 +249,7 @@ module _ {B N P D : Type 0} (b : LinkBox B N) (line_of : N → List ℕ) (p : Po
         text = ends.more;
         came = ends.came;
         goes = ends.goes;
+        clear = ends.clear;
         ends = λ origin zero none heard. inl (subst (EndsAt b line_of p d new (Stopped stop)
             (read_further origin ends.more)) (ap (λ l. l ++ ends.more) none)
             (ends.ends origin (at_start origin zero none heard)));
@@ -241,12 +262,17 @@ module _ {B N P D : Type 0} (b : LinkBox B N) (line_of : N → List ℕ) (p : Po
         last_by : (end : End) → Finishes b line_of p d now rest mid new end
             → (origin : LiveOrigin) → old.live_box.ticks ≡ 0 → origin.read ≡ []
             → HeardAt b line_of p d old origin []
-            → LastAt b line_of p d rest new end (read_further origin all.more) all.more
+            → EndsAt b line_of p d new end (read_further origin all.more) all.more
+            ⊎ (IsAtEnd (p.left new.port)
+            × LastAt b line_of p d rest new end (read_further origin all.more) all.more)
         last_by end finishes origin zero none heard =
-            finishes.ends (read_further origin all.more) all.more
+            elim (finishes.ends (read_further origin all.more) all.more
             (subst (TakenAt b line_of p d now mid (read_further origin all.more))
             (ap (λ l. l ++ all.more) none)
-            (all.heard.hears origin (at_start origin zero none heard)))
+            (all.heard.hears origin (at_start origin zero none heard)))) [
+              | inl within ↦ inl within
+              | inr last ↦ inr (subst IsAtEnd (sym finishes.left) all.at_end, last)
+            ]
 
         ends_by : (end : End) → Finishes b line_of p d now rest mid new end
             → (origin : LiveOrigin) → old.live_box.ticks ≡ 0 → origin.read ≡ []
@@ -254,28 +280,11 @@ module _ {B N P D : Type 0} (b : LinkBox B N) (line_of : N → List ℕ) (p : Po
             → EndsText (HeardAt b line_of p d new (read_further origin all.more))
             (HaltsAt b line_of p d new (read_further origin all.more)) rest
             (IsAtEnd (p.left new.port)) end all.more
-        ends_by Whole finishes origin zero none heard =
-            inr (
-              subst IsAtEnd (sym finishes.left) all.at_end,
-              last_by Whole finishes origin zero none heard,
-            )
-        ends_by (Refused bad) finishes origin zero none heard =
-            inr (
-              subst IsAtEnd (sym finishes.left) all.at_end,
-              last_by (Refused bad) finishes origin zero none heard,
-            )
-        ends_by (TooLong what count) finishes origin zero none heard =
-            inr (
-              subst IsAtEnd (sym finishes.left) all.at_end,
-              last_by (TooLong what count) finishes origin zero none heard,
-            )
-        ends_by (Stopped stop) finishes origin zero none heard =
-            inr (
-              subst IsAtEnd (sym finishes.left) all.at_end,
-              last_by (Stopped stop) finishes origin zero none heard,
-            )
-        ends_by ReadFault finishes origin zero none heard =
-            absurd (last_by ReadFault finishes origin zero none heard)
+        ends_by Whole finishes = last_by Whole finishes
+        ends_by (Refused bad) finishes = last_by (Refused bad) finishes
+        ends_by (TooLong what count) finishes = last_by (TooLong what count) finishes
+        ends_by (Stopped stop) finishes = last_by (Stopped stop) finishes
+        ends_by ReadFault finishes = absurd (no_true finishes.no_read)
 
         pub drives_finished : (end : End) → Finishes b line_of p d now rest mid new end
             → Drives b line_of p d rest old new end
@@ -283,5 +292,6 @@ module _ {B N P D : Type 0} (b : LinkBox B N) (line_of : N → List ℕ) (p : Po
           text = all.more;
           came = all.heard.came ∙ ap (prepend_known all.more) (sym finishes.left);
           goes = goes_then p d old mid new end all.heard.goes finishes.goes;
+          clear = finishes.clear;
           ends = ends_by end finishes;
         }

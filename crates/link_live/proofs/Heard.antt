@@ -1,19 +1,20 @@
 -- What a box has heard of a line if one call more was made.
 use Rattle.link_box.specs.declared.box_trait.LinkBox.{Ghosts as LinkBox}
+use Rattle.line_commands.specs.BoxLines.{MayDrive}
 use Rattle.link_live.specs.Filtering.{LiveOrigin, GoesOn, filtering}
 use Rattle.link_live.specs.FilteringLaws.{images_none, images_then, outputs_none, outputs_then}
-use Rattle.link_live.specs.LiveLine.{Live, outside_of, read_further, IsReady, LiveGoes, HeardAt}
+use Rattle.link_live.specs.LiveLine.{Live, outside_of, IsReady, LiveGoes, HeardAt}
 use Rattle.link_live.specs.LiveLine.{TakenAt, EndsAt, Given, HoldsBack, StopsHearing, TakesBytes}
 use Rattle.link_live.specs.LiveLine.{EndsInBytes, TakesFirst, GiveAnswer}
 use Rattle.line_commands.proofs.Reading.{read_begins}
 use Rattle.line_commands.specs.Lines.{HasRead, ReadsLine, FeedAnswer, IsOfText}
 use Rattle.line_commands.specs.declared.{lines.LineReader.LineReader, port.Port.Ghosts as Port}
-use Rattle.std.proofs.Common.{inl, ◌≡◌, ◌∙◌, ℕ, suc, ◌+◌, ◌-◌, ◌<◌, ◌≤◌, List, [], ◌∷◌, ◌++◌}
-use Rattle.std.proofs.Common.{length, take, drop, get_or, Option, Result, Ok, Err, true, false}
+use Rattle.std.proofs.Common.{inl, ◌≡◌, ◌∙◌, ℕ, suc, ◌+◌, ◌-◌, ◌<◌, ◌≤◌, List, [], ◌++◌}
+use Rattle.std.proofs.Common.{length, take, drop, get_or, Ok, Err, false}
 use Rattle.std.proofs.Common.{refl, sym, ap, subst, arith, append-nil, append_assoc, drop-cons}
 use Rattle.std.proofs.{Common.length-append, Common.length-drop, lemmas.List.take-append-drop}
 use Rattle.{std.proofs.lemmas.List.take_all, tick_drive.proofs.Causes.disk_none}
-use Rattle.tick_drive.proofs.{Causes.disk_then, ItemLaws.ticks_in-append, ItemLaws.ticks_with}
+use Rattle.tick_drive.proofs.{Causes.disk_then, ItemLaws.ticks_in-append}
 use Rattle.tick_drive.specs.Consumers.{Gives, is_journal_fault, is_write_fault}
 use Rattle.tick_drive.specs.{Drive.answer_of, Input.is_read_fault}
 use Rattle.tick_drive.specs.declared.{consumer.Stop.Stop, end.End.End, end.End.TheVariants.Whole}
@@ -119,7 +120,7 @@ module _ {B N P D : Type 0} (b : LinkBox B N) (line_of : N → List ℕ) (p : Po
     pub stops_hearing : (old new : Live B P D) (run : List Item) (stop : Stop)
         → Gives (filtering b line_of p d) (outside_of old) (outside_of new) run (Err stop)
         → (origin : LiveOrigin) (line : List Tick) → HeardAt b line_of p d old origin line
-        → StopsHearing b line_of new.live_box.filter (p.history new.port) (d.told new.disk) stop
+        → StopsHearing b line_of new.live_box.lines (p.history new.port) (d.told new.disk) stop
         origin (line ++ ticks_in run)
     stops_hearing old new run stop stops origin line heard =
         let n : ℕ = stops.stopped.place + 1 in
@@ -222,7 +223,7 @@ module _ {B N P D : Type 0} (b : LinkBox B N) (line_of : N → List ℕ) (p : Po
         later = drop taken bytes;
         is = whole_is text;
         begins = begins_line text has.has_read;
-        ends = subst (StopsHearing b line_of new.live_box.filter (p.history new.port)
+        ends = subst (StopsHearing b line_of new.live_box.lines (p.history new.port)
             (d.told new.disk) stop origin) (sym (ended_by text has.has_read))
             (stops_hearing old new run stop stops origin (ticks_in (ended_items text)) has.heard);
       }
@@ -279,13 +280,14 @@ module _ {B N P D : Type 0} (b : LinkBox B N) (line_of : N → List ℕ) (p : Po
 
     pub feed_ended : (old_lines new_lines : LineReader) (at : Live B P D) (bytes : List ℕ) (end : End)
         → ((disk : D) (c : Slots) → d.left_since disk (d.moment disk) c → d.may_leave disk c)
-        → IsOfText end
+        → IsReady b line_of d at.live_box at.disk → IsOfText end
         → ((text : List ℕ) → HasRead old_lines text → FeedAnswer new_lines text bytes (Err end))
         → EndsInBytes b line_of p d old_lines at at end bytes
-    feed_ended old_lines new_lines at bytes end only_now of_text answer = record {
+    feed_ended old_lines new_lines at bytes end only_now ready of_text answer = record {
       goes = goes_of_text p d at at end of_text (goes_none p d only_now at);
       left = refl;
       no_read = no_read_of_text end of_text;
+      able = λ e. ready.able;
       ends = feed_ends old_lines new_lines at bytes end answer;
     }
 
@@ -295,7 +297,7 @@ module _ {B N P D : Type 0} (b : LinkBox B N) (line_of : N → List ℕ) (p : Po
         (reads : (text : List ℕ) → HasRead old_lines text
         → ReadsLine new_lines text bytes taken items)
         (only_now : (disk : D) (c : Slots) → d.left_since disk (d.moment disk) c
-        → d.may_leave disk c) where
+        → d.may_leave disk c) (ready : IsReady b line_of d old.live_box old.disk) where
       pub line_ended : (end : End) → GiveAnswer b line_of p d old new run (Err end)
           → EndsInBytes b line_of p d old_lines old new end bytes
       line_ended (TooLong Ticks count) holds = record {
@@ -303,12 +305,15 @@ module _ {B N P D : Type 0} (b : LinkBox B N) (line_of : N → List ℕ) (p : Po
             (goes_of_text p d old old (TooLong Ticks count) tt (goes_none p d only_now old));
         left = ap (λ (at : Live B P D). p.left at.port) holds.same;
         no_read = refl;
+        able = λ e. subst (λ (at : Live B P D). MayDrive b line_of at.live_box.lines (d.told at.disk))
+            (sym holds.same) ready.able;
         ends = line_held old_lines new_lines old new bytes taken items run alike reads count holds;
       }
       line_ended (Stopped stop) stops = record {
         goes = goes_stopped p d old new stop stops.went;
         left = stops.went.port.left_same;
         no_read = refl;
+        able = λ e. cc;
         ends = line_stopped old_lines new_lines old new bytes taken items run alike reads stop stops;
       }
       line_ended (TooLong Bytes count) none = absurd none
@@ -326,7 +331,7 @@ module _ {B N P D : Type 0} (b : LinkBox B N) (line_of : N → List ℕ) (p : Po
 
     pub takes_none : (lines : LineReader) (at : Live B P D)
         → ((disk : D) (c : Slots) → d.left_since disk (d.moment disk) c → d.may_leave disk c)
-        → IsReady b d at.live_box at.disk → TakesBytes b line_of p d lines lines at at []
+        → IsReady b line_of d at.live_box at.disk → TakesBytes b line_of p d lines lines at at []
     takes_none lines at only_now ready = record {
       ready = ready;
       goes = goes_none p d only_now at;
@@ -354,6 +359,7 @@ module _ {B N P D : Type 0} (b : LinkBox B N) (line_of : N → List ℕ) (p : Po
         goes = goes_then p d a c e end takes.goes then.goes;
         left = then.left ∙ takes.left;
         no_read = then.no_read;
+        able = then.able;
         ends = λ origin text has. subst (EndsAt b line_of p d e end origin)
             (append_assoc text first second)
             (then.ends origin (text ++ first) (takes.takes origin text has));
@@ -369,7 +375,7 @@ module _ {B N P D : Type 0} (b : LinkBox B N) (line_of : N → List ℕ) (p : Po
 
     pub so_none : (lines : LineReader) (at : Live B P D) (piece : List ℕ)
         → ((disk : D) (c : Slots) → d.left_since disk (d.moment disk) c → d.may_leave disk c)
-        → IsReady b d at.live_box at.disk → HasTakenSo lines lines at at piece piece
+        → IsReady b line_of d at.live_box at.disk → HasTakenSo lines lines at at piece piece
     so_none lines at piece only_now ready =
         record { done = []; are = refl; takes = takes_none lines at only_now ready }
 

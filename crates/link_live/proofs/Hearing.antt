@@ -2,17 +2,19 @@
 use Rattle.{command_ends.proofs.KeyLemmas.prepend_known-twice, line_texts.specs.Sending.LineAndNotes}
 use Rattle.link_box.specs.declared.box_trait.LinkBox.{Ghosts as LinkBox}
 use Rattle.link_live.proofs.Heard.{goes_none, goes_of_text, goes_then, takes_none}
-use Rattle.link_live.specs.Filtering.{LiveOrigin, KeepsImages, made_at}
+use Rattle.link_live.proofs.TextEndsLaws.{no_true}
+use Rattle.link_live.proofs.{Clear.all_handed, Clear.all_settled, Taken.nothing_more}
+use Rattle.link_live.specs.Filtering.{LiveOrigin, KeepsImages, IsClear, made_at}
 use Rattle.link_live.specs.FilteringLaws.{images_none}
 use Rattle.link_live.specs.LiveLine.{Live, live_of, outside_of, read_further, IsReady, LiveGoes}
 use Rattle.link_live.specs.LiveLine.{TakenAt, EndsAt, TakesBytes, EndsInBytes, Hears, HearsAll}
-use Rattle.link_live.specs.LiveLine.{FailsToHear, EndsHearing, HearAnswer}
+use Rattle.link_live.specs.LiveLine.{FailsToHear, EndsHearing, HearAnswer, TakesPiece, EndsPiece}
 use Rattle.link_live.specs.declared.live_box.TheConstants.{MAX_LIVE_BYTES}
 use Rattle.line_commands.proofs.Reading.{read_begins}
 use Rattle.line_commands.specs.{History.History, Order.Handed, declared.lines.LineReader.LineReader}
 use Rattle.line_commands.specs.declared.port.{Output.Output, Port.Ghosts as Port}
-use Rattle.std.proofs.Common.{inr, ◌≡◌, ◌∙◌, ℕ, ◌+◌, ◌<◌, ◌≤◌, List, [], ◌∷◌, ◌++◌, length, Option}
-use Rattle.std.proofs.Common.{Some, None, Ok, Err, true, false, refl, sym, ap, subst, arith}
+use Rattle.std.proofs.Common.{inr, ◌≡◌, ◌∙◌, ℕ, ◌+◌, ◌≤◌, List, [], ◌++◌, length, Option}
+use Rattle.std.proofs.Common.{Some, None, Ok, Err, false, refl, sym, ap, subst, arith}
 use Rattle.std.proofs.Common.{append-nil, append_assoc, length-append}
 use Rattle.std.specs.Io.KnownBytes.{prepend_known, IsAtEnd}
 use Rattle.tick_drive.proofs.Causes.{disk_none}
@@ -21,7 +23,7 @@ use Rattle.tick_drive.specs.declared.end.End.TheVariants.{Whole, Refused, TooLon
 use Rattle.tick_drive.specs.declared.end.{End.TheVariants.Stopped, TooMuch.TheVariants.Bytes}
 use Rattle.yasir_io.specs.{Causes.HasCause, Disks.Slots}
 use Rattle.yasir_io.specs.declared.{Failed.Failed, disk.SlotDisk.Ghosts as SlotDisk}
-use Rattle.yasir_ticks.specs.{TickText.ended_items, Ticks.ticks_in, declared.tick.Tick.Tick}
+use Rattle.yasir_ticks.specs.{TickText.ended_items, Ticks.ticks_in}
 
 prepend_then : (a c : List ℕ) (l m n : Option (List ℕ)) → l ≡ prepend_known a m
     → m ≡ prepend_known c n → l ≡ prepend_known (a ++ c) n
@@ -31,9 +33,6 @@ prepend_then a c l m n first then =
 prepend_none : (l : Option (List ℕ)) → l ≡ prepend_known [] l
 prepend_none None = refl
 prepend_none (Some xs) = refl
-
-no_true : true ≡ false → ⊥
-no_true e = cc
 
 -- the same box and disk, with the port as it is after a read
 abbrev pub behind_read : {B P D : Type 0} → Live B P D → P → Live B P D
@@ -84,26 +83,40 @@ module _ {B N P D : Type 0} (b : LinkBox B N) (line_of : N → List ℕ) (p : Po
     -- After a read its bytes are among those that were read, and the box has heard the same lines
     -- as before.
     read_taken : (lines : LineReader) (at : Live B P D) (port : P) (bytes : List ℕ)
+        → IsClear at.live_box.lines
         → ((made : LineAndNotes) (start : History) (read : List ℕ)
         → Handed made start (p.history at.port) read (ticks_in (ended_items read))
         → Handed made start (p.history port) (read ++ bytes) (ticks_in (ended_items read)))
         → (origin : LiveOrigin) → TakenAt b line_of p d lines at origin origin.read
         → TakenAt b line_of p d lines (behind_read at port) (read_further origin bytes) origin.read
-    read_taken lines at port bytes handed origin has =
+    read_taken lines at port bytes clear handed origin has =
         let heard = has.heard in
-        let filters = heard.filters in record {
+        let filters = heard.filters in
+        let made = made_at b line_of origin in
+        let all = all_handed b line_of at.live_box.lines (p.history at.port) origin
+        (ticks_in heard.items) clear filters.over in
+        record {
           has_read = has.has_read;
           heard = record {
             items = heard.items;
             are = heard.are;
             filters = record {
-              steps = filters.steps;
-              number_is = filters.number_is;
-              handed = subst (Handed (made_at b line_of origin) origin.start (p.history port)
-                  (origin.read ++ bytes)) (sym heard.are)
-                  (handed (made_at b line_of origin) origin.start origin.read
-                  (subst (Handed (made_at b line_of origin) origin.start (p.history at.port)
-                  origin.read) heard.are filters.handed));
+              stood = filters.stood;
+              over = record {
+                early = ticks_in heard.items;
+                later = [];
+                is = sym (append-nil (ticks_in heard.items));
+                handed = subst (Handed made origin.start (p.history port) (origin.read ++ bytes))
+                    (sym heard.are) (handed made origin.start origin.read
+                    (subst (Handed made origin.start (p.history at.port) origin.read) heard.are
+                    all));
+                settled = all_settled b line_of at.live_box.lines (p.history at.port) origin
+                    (ticks_in heard.items) clear filters.stood;
+                answer = [];
+                note = [];
+                noted = nothing_more made (ticks_in heard.items);
+                waits = clear.waits;
+              };
               link_is = filters.link_is;
               floor_told = filters.floor_told;
             };
@@ -113,18 +126,20 @@ module _ {B N P D : Type 0} (b : LinkBox B N) (line_of : N → List ℕ) (p : Po
 
     -- ---- reads, one after the other
 
-    -- Holds if this many bytes were read, and the box has heard their lines.
+    -- Holds if this many bytes were read, the box has heard their lines, and nothing waits.
     pub record HearsSo (old_lines now_lines : LineReader) (old now : Live B P D) (bytes : ℕ) :
         Type 0 where
       pub more : List ℕ
       pub heard : Hears b line_of p d old_lines now_lines old now Whole more
-      pub ready : IsReady b d now.live_box now.disk
+      pub ready : IsReady b line_of d now.live_box now.disk
+      pub clear : IsClear now.live_box.lines
       pub count : bytes ≡ length more
 
     pub hears_none : (lines : LineReader) (at : Live B P D)
         → ((disk : D) (c : Slots) → d.left_since disk (d.moment disk) c → d.may_leave disk c)
-        → IsReady b d at.live_box at.disk → HearsSo lines lines at at 0
-    hears_none lines at only_now ready = record {
+        → IsReady b line_of d at.live_box at.disk → IsClear at.live_box.lines
+        → HearsSo lines lines at at 0
+    hears_none lines at only_now ready clear = record {
       more = [];
       heard = record {
         goes = goes_none p d only_now at;
@@ -134,6 +149,7 @@ module _ {B N P D : Type 0} (b : LinkBox B N) (line_of : N → List ℕ) (p : Po
             (sym (append-nil origin.read)) has;
       };
       ready = ready;
+      clear = clear;
       count = refl;
     }
 
@@ -156,6 +172,7 @@ module _ {B N P D : Type 0} (b : LinkBox B N) (line_of : N → List ℕ) (p : Po
             heard = (so.heard.hears origin has).heard;
           };
         };
+        clear = λ e. so.clear;
       }
 
       module _ (port : P) (piece : List ℕ)
@@ -169,7 +186,8 @@ module _ {B N P D : Type 0} (b : LinkBox B N) (line_of : N → List ℕ) (p : Po
         read_so : (origin : LiveOrigin) → TakenAt b line_of p d lines0 old origin origin.read
             → TakenAt b line_of p d lines1 mid
             (record origin { read = (origin.read ++ so.more) ++ piece }) (origin.read ++ so.more)
-        read_so origin has = read_taken lines1 at port piece handed (read_further origin so.more)
+        read_so origin has = read_taken lines1 at port piece so.clear handed
+            (read_further origin so.more)
             (so.heard.hears origin has)
 
         module _ (goes : LiveGoes p d at mid Whole) (lines2 : LineReader) (new : Live B P D) where
@@ -188,20 +206,23 @@ module _ {B N P D : Type 0} (b : LinkBox B N) (line_of : N → List ℕ) (p : Po
           }
 
           pub hears_more : (n : ℕ) → n ≡ length piece → (lent : List ℕ)
-              → TakesBytes b line_of p d lines1 lines2 mid new lent → lent ≡ piece
+              → TakesPiece b line_of p d lines1 lines2 mid new lent → lent ≡ piece
               → HearsSo lines0 lines2 old new (bytes + n)
-          hears_more n long lent takes same = record {
+          hears_more n long lent took same = record {
             more = so.more ++ piece;
-            heard = hears_then (subst (TakesBytes b line_of p d lines1 lines2 mid new) same takes);
-            ready = takes.ready;
+            heard = hears_then
+                (subst (TakesBytes b line_of p d lines1 lines2 mid new) same took.takes);
+            ready = took.takes.ready;
+            clear = took.clear;
             count = omega (arith, so.count, length-append so.more piece, long);
           }
 
           pub hears_ended : (end : End) (lent : List ℕ)
-              → EndsInBytes b line_of p d lines1 mid new end lent → lent ≡ piece
+              → EndsPiece b line_of p d lines1 mid new end lent → lent ≡ piece
               → EndsHearing b line_of p d lines0 old new end
           hears_ended end lent ended same =
-              let ends = subst (EndsInBytes b line_of p d lines1 mid new end) same ended in record {
+              let ends = subst (EndsInBytes b line_of p d lines1 mid new end) same ended.ends in
+              record {
                 more = so.more ++ piece;
                 goes = goes_then p d old at new end so.heard.goes
                     (goes_then p d at mid new end goes ends.goes);
@@ -212,6 +233,7 @@ module _ {B N P D : Type 0} (b : LinkBox B N) (line_of : N → List ℕ) (p : Po
                     (append_assoc origin.read so.more piece)
                     (ends.ends (record origin { read = (origin.read ++ so.more) ++ piece })
                     (origin.read ++ so.more) (read_so origin has));
+                clear = ended.clear;
               }
 
         -- If a read gave no bytes, the input was read to its end.
@@ -225,6 +247,7 @@ module _ {B N P D : Type 0} (b : LinkBox B N) (line_of : N → List ℕ) (p : Po
               (subst (TakesBytes b line_of p d lines1 lines1 mid mid) (sym none)
               (takes_none b line_of p d lines1 mid only_now so.ready));
           ready = so.ready;
+          clear = so.clear;
           at_end = at_end;
         }
 
@@ -244,11 +267,12 @@ module _ {B N P D : Type 0} (b : LinkBox B N) (line_of : N → List ℕ) (p : Po
               subst (λ read. TakenAt b line_of p d lines1 (behind_read at port)
               (record origin { read = read }) (origin.read ++ so.more))
               (append-nil (origin.read ++ so.more))
-              (read_taken lines1 at port [] (λ made start read before.
+              (read_taken lines1 at port [] so.clear (λ made start read before.
               subst (λ read_now. Handed made start (p.history port) read_now
               (ticks_in (ended_items read))) (sym (append-nil read)) (handed made start read before))
               (read_further origin so.more) (so.heard.hears origin has));
         };
+        clear = so.clear;
       }
 
     -- What the result says of the reading, if the end isn't a failed read.

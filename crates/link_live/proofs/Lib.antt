@@ -1,5 +1,7 @@
 pub mod Able
 pub mod Asking
+pub mod Behind
+pub mod Clear
 pub mod LiveRuns
 pub mod Finishing
 pub mod Heard

@@ -4,25 +4,29 @@ use Rattle.link_box.specs.{Walking.frames_of, declared.box_trait.LinkBox.Ghosts 
 use Rattle.link_format.specs.{NumberedFrame.numbers_of, Setup.Setup, Setup.setup_of}
 use Rattle.sequence_journal.specs.Journal.{journal_link, journal_floor, HasFloorAtLeast, Fits}
 use Rattle.sequence_journal.specs.{Journal.IsCrashSafe, Loading.IsLoaded, Loading.KeepsLoadable}
+use Rattle.sequence_journal.specs.Late.{disk_journal, HasFloorBetween}
 use Rattle.sequence_journal.specs.{Slots.floor_of, Uptimes.RiseFrom}
 use Rattle.sequence_journal.specs.declared.{journal.Journal.Journal, link.LinkId.LinkId}
-use Rattle.std.proofs.Common.{◌≡◌, ◌∙◌, ℕ, inl, inr, List, [], ◌∷◌, ◌++◌, Option, Some, refl, sym}
-use Rattle.std.proofs.Common.{ap, subst, true}
+use Rattle.std.proofs.Common.{◌≡◌, ◌∙◌, ℕ, inl, inr, List, [], ◌++◌, Option, Some, refl, sym}
+use Rattle.std.proofs.Common.{ap, subst, true, false, ◌≤◌, arith, IfSome}
 use Rattle.tick_drive.specs.{Input.is_read_fault, declared.consumer.Stop.Stop}
 use Rattle.yasir_io.specs.{Causes.Rose, Disks.Slots, Disks.OneImage, Disks.LeavesOnly}
 use Rattle.yasir_io.specs.declared.disk.SlotDisk.{Ghosts as SlotDisk}
-use Rattle.yasir_ticks.specs.{Ticks.ticks_in, Ticks.Item.tick, declared.tick.Tick.Tick}
+use Rattle.yasir_ticks.specs.{Ticks.ticks_in, declared.tick.Tick.Tick}
 use Rattle.tick_drive.specs.declared.consumer.Stop.TheVariants as stops
 use Rattle.line_commands.proofs.Floors.{told_before, keeps_floor, keeps_from_load, keeps_throughout}
 use Rattle.line_commands.proofs.Walking.{walk-boxed}
 use Rattle.line_commands.specs.{BoxLines.ToldFloor, Boxes.Boxed, Boxes.IsBoxed, LinkBoxed.boxed_of}
 use Rattle.line_commands.specs.ReplaysBox.{boxed_with, KeepsFloor, LeavesUptime, KeepsFloorThroughout}
+use Rattle.line_commands.specs.{BoxLines.box_in, BoxLines.late_in, BoxLines.number_in}
+use Rattle.line_commands.specs.{BoxLinesLaws.floor_from_less, ReplaysBox.has_stopped}
+use Rattle.link_live.proofs.Clear.{all_handed, all_settled}
 use Rattle.link_live.proofs.TextEndsLaws.{text_by}
 use Rattle.link_live.specs.{Filtering.LiveOrigin, Filtering.Filters, LiveCommand.Around}
 use Rattle.link_live.specs.LiveCommand.{around, Carries, HaltsBox, EndsLine, RunsLine, PortCauses}
 use Rattle.link_live.specs.LiveLine.{Live, LiveGoes, HeardAt, HaltsAt, Drives}
 use Rattle.line_commands.specs.{History.History, declared.port.Port.Ghosts as Port}
-use Rattle.{command_ends.specs.Endings.status_of, tick_drive.proofs.ItemLaws.ticks_in-append}
+use Rattle.{command_ends.specs.Endings.status_of}
 use Rattle.tick_drive.specs.declared.end.End.{End, TheVariants.Whole}
 use Rattle.tick_drive.specs.declared.end.End.TheVariants.{Refused, TooLong, ReadFault, Stopped}
 
@@ -94,10 +98,10 @@ module _ {B N P D : Type 0} (b : LinkBox B N) (line_of : N → List ℕ) (p : Po
     (safe : OneImage (d.told before) (d.may_leave before)
     → IsCrashSafe journal (d.told old.disk) (d.may_leave old.disk))
     (fits : Fits journal (d.told old.disk))
-    (same : old.live_box.filter.journal ≡ journal) (zero : old.live_box.ticks ≡ 0)
+    (same : disk_journal (late_in old.live_box.lines) ≡ journal) (zero : old.live_box.ticks ≡ 0)
     (begins : (history : History) (link : LinkId) (told : Option Slots)
     → journal_link journal ≡ link → Fits journal told
-    → Filters b line_of old.live_box.filter history told (record {
+    → Filters b line_of old.live_box.lines history told (record {
       start = history;
       read = [];
       link = link;
@@ -125,26 +129,31 @@ module _ {B N P D : Type 0} (b : LinkBox B N) (line_of : N → List ℕ) (p : Po
   abbrev at_last : Around P D
   at_last = around new.port new.disk
 
-  begun : Filters b line_of old.live_box.filter (p.history old.port) (d.told old.disk) origin []
+  begun : Filters b line_of old.live_box.lines (p.history old.port) (d.told old.disk) origin []
   begun = begins (p.history old.port) link (d.told old.disk) load.link_is fits
 
   laws : IsBoxed box floor
   laws = walk-boxed b.walking line_of setup
-      (causal old.live_box.filter.line_box (journal_floor old.live_box.filter.journal) setup []
-      begun.steps) (rising setup)
+      (causal (box_in old.live_box.lines) (number_in old.live_box.lines) setup [] begun.stood.steps)
+      (rising setup)
 
-  keeps : (n : ℕ) → journal_link new.live_box.filter.journal ≡ link
-      → journal_floor new.live_box.filter.journal ≡ n → KeepsFloor d link n before new.disk
-  keeps n served is = subst (λ m. KeepsFloor d link m before new.disk) is
-      (keeps_floor d link journal before old.disk load safe old.live_box.filter.journal
-      new.live_box.filter.journal new.disk same drives.goes.images.is_kept served)
+  -- the disk's journal at the end
+  abbrev last : Journal
+  last = disk_journal (late_in new.live_box.lines)
+
+  keeps : (n : ℕ) → journal_link last ≡ link → n ≤ journal_floor last
+      → KeepsFloor d link n before new.disk
+  keeps n served is one c left = floor_from_less link n (journal_floor last) is c
+      (keeps_floor d link journal before old.disk load safe
+      (disk_journal (late_in old.live_box.lines)) last new.disk same drives.goes.images.is_kept
+      served one c left)
 
   floor_before : ToldFloor link floor (d.told before)
   floor_before = told_before d link journal before old.disk load safe
 
   -- Each image that the disk may leave makes an uptime with the numbers of the line.
-  uptime_to : (line : List Tick) → journal_link new.live_box.filter.journal ≡ link
-      → journal_floor new.live_box.filter.journal ≡ box.number line
+  uptime_to : (line : List Tick) → journal_link last ≡ link
+      → box.number line ≤ journal_floor last
       → LeavesUptime d link (box.numbers line) before new.disk
   uptime_to line served is one starts told image left = record {
     floor = floor;
@@ -154,40 +163,48 @@ module _ {B N P D : Type 0} (b : LinkBox B N) (line_of : N → List ℕ) (p : Po
         (keeps _ served is one image left);
   }
 
-  carries : (line : List Tick) → HeardAt b line_of p d new heard_of line
+  carries : has_stopped end ≡ false → (line : List Tick) → HeardAt b line_of p d new heard_of line
       → Carries p d link box at_first at_last drives.text line
-  carries line heard =
+  carries goes_on line heard =
       let filters = heard.filters in
+      let clear = drives.clear goes_on in
+      let settled : journal_floor last ≡ box.number (ticks_in heard.items) =
+      all_settled b line_of new.live_box.lines (p.history new.port) heard_of (ticks_in heard.items)
+      clear filters.stood in
+      let least : box.number (ticks_in heard.items) ≤ journal_floor last = omega (arith, settled) in
       subst (Carries p d link box at_first at_last drives.text) heard.are (record {
-        handed = filters.handed;
-        images = keeps _ filters.link_is filters.number_is;
-        uptime = uptime_to (ticks_in heard.items) filters.link_is filters.number_is;
-        floor_told = subst (λ n. ToldFloor link n (d.told new.disk)) filters.number_is
-            filters.floor_told;
+        handed = all_handed b line_of new.live_box.lines (p.history new.port) heard_of
+            (ticks_in heard.items) clear filters.over;
+        images = keeps _ filters.link_is least;
+        uptime = uptime_to (ticks_in heard.items) filters.link_is least;
+        floor_told = subst (λ n. ToldFloor link n (d.told new.disk)) settled filters.floor_told;
       })
 
   halts : (stop : Stop) (line : List Tick) → HaltsAt b line_of p d new heard_of stop line
       → HaltsBox p d link box at_first at_last drives.text stop line
   halts stops.JournalFault line halted =
       let at = halted.stops in record {
-        line = ticks_in at.front;
-        last = at.last;
+        line = at.early;
+        later = at.later;
         more = halted.more;
-        all = ap (λ l. l ++ halted.more) (sym (ap ticks_in at.is
-            ∙ ticks_in-append at.front (tick at.last ∷ []))) ∙ halted.are;
+        all = ap (λ l. l ++ halted.more) (sym at.is) ∙ halted.are;
         handed = at.handed;
-        images = keeps _ at.link_is at.floor;
-        uptime = uptime_to (ticks_in at.front) at.link_is at.floor;
-        fails = at.fails;
+        images = keeps _ at.link_is at.not_below;
+        uptime = uptime_to at.early at.link_is at.not_below;
+        floor_told = subst (λ l. IfSome (d.told new.disk) (HasFloorBetween link
+            (box.number at.early) (box.number l))) at.is at.floor_told;
       }
   halts stops.WriteFault line halted =
-      let at = halted.stops in record {
+      let at = halted.stops in
+      let floor = at.floor in
+      let least : box.number (ticks_in halted.items) ≤ journal_floor last = omega (arith, floor) in
+      record {
         line = ticks_in halted.items;
         more = halted.more;
         all = halted.are;
         fronts = at.fronts;
-        images = keeps _ at.link_is at.floor;
-        uptime = uptime_to (ticks_in halted.items) at.link_is at.floor;
+        images = keeps _ at.link_is least;
+        uptime = uptime_to (ticks_in halted.items) at.link_is least;
         floor_told = subst (λ n. ToldFloor link n (d.told new.disk)) at.floor at.floor_told;
       }
   halts stops.NoMemory line halted = halted.stops
@@ -201,10 +218,11 @@ module _ {B N P D : Type 0} (b : LinkBox B N) (line_of : N → List ℕ) (p : Po
     came = drives.came;
     ends = text_by (HeardAt b line_of p d new heard_of)
         (Carries p d link box at_first at_last drives.text) (HaltsAt b line_of p d new heard_of)
-        (HaltsBox p d link box at_first at_last drives.text) carries halts rest _ end drives.text
+        (HaltsBox p d link box at_first at_last drives.text) rest _ end carries
+        (λ stopped. halts) drives.text
         (drives.ends origin zero refl (record { items = []; are = refl; filters = begun }));
     from_load = keeps_from_load d link journal before old.disk load safe
-        old.live_box.filter.journal new.disk same drives.goes.images.any_moment;
+        (disk_journal (late_in old.live_box.lines)) new.disk same drives.goes.images.any_moment;
   }
 
   pub throughout : ((slots : Slots) (floor : ℕ) → d.told before ≡ Some slots
@@ -212,7 +230,8 @@ module _ {B N P D : Type 0} (b : LinkBox B N) (line_of : N → List ℕ) (p : Po
       → LeavesOnly d.moment d.left_since before old.disk (KeepsLoadable link slots floor))
       → KeepsFloorThroughout d link before new.disk
   throughout loading = keeps_throughout d link journal before old.disk load safe
-      old.live_box.filter.journal new.disk same loading drives.goes.images.any_moment
+      (disk_journal (late_in old.live_box.lines)) new.disk same loading
+      drives.goes.images.any_moment
 
   pub runs_line : RunsLine p d link (boxed_with (boxed_of b.walking line_of) key dir) rest at_first
       at_last (status_of end)

@@ -1,33 +1,32 @@
 -- A box that filters a live line.
-use Rattle.std.specs.Prelude.{◌≡◌, ℕ, ◌≤◌, List, [], ◌∷◌, ◌++◌, Option, Result, Bool, true, false}
+use Rattle.std.specs.Prelude.{◌≡◌, ℕ, ◌≤◌, List, [], ◌++◌, Option, IfSome, Result, OnOk, IfErr}
+use Rattle.std.specs.Prelude.{Bool, true, false}
 use Rattle.yasir_io.specs.Causes.{Rose}
 use Rattle.yasir_io.specs.Disks.{Slots, LeavesOnly}
 use Rattle.yasir_io.specs.declared.disk.SlotDisk.{Ghosts as SlotDisk}
 use Rattle.yasir_ticks.specs.Ticks.{Item, ticks_in}
-use Rattle.yasir_ticks.specs.Ticks.Item.{tick}
 use Rattle.yasir_ticks.specs.declared.tick.Tick.{Tick}
-use Rattle.sequence_journal.specs.declared.journal.Journal.{Journal}
 use Rattle.sequence_journal.specs.declared.link.LinkId.{LinkId}
-use Rattle.sequence_journal.specs.Journal.{journal_link, journal_floor, IsCrashSafe}
-use Rattle.sequence_journal.specs.Journal.{HasFloorFrom}
+use Rattle.sequence_journal.specs.Journal.{IsCrashSafe, HasFloorFrom}
+use Rattle.sequence_journal.specs.Late.{disk_journal, disk_floor, late_link, HasFloorBetween}
 use Rattle.link_format.specs.Setup.{Setup}
-use Rattle.link_box.specs.Stepping.{ServesLink}
-use Rattle.link_box.specs.Walking.{number_after}
 use Rattle.link_box.specs.declared.box_trait.LinkBox.{Ghosts as LinkBox}
 use Rattle.tick_drive.specs.Consumers.{Consuming, IsDiskCause, is_journal_fault, is_write_fault}
 use Rattle.tick_drive.specs.declared.consumer.Stop.{Stop}
 use Rattle.tick_drive.specs.declared.consumer.Stop.TheVariants.{WriteFault, JournalFault}
 use Rattle.tick_drive.specs.declared.consumer.Stop.TheVariants.{NoMemory}
-use Rattle.line_texts.specs.Sending.{LineAndNotes}
-use Rattle.line_commands.specs.Boxes.{Boxed, FailsBox}
-use Rattle.line_commands.specs.BoxLines.{ToldFloor}
+use Rattle.line_texts.specs.Adding.{Waits}
+use Rattle.line_texts.specs.Sending.{LineAndNotes, AnswersNoted}
+use Rattle.line_commands.specs.Boxes.{Boxed}
+use Rattle.line_commands.specs.BoxLines.{ToldFloor, StandsAfter, MayDrive, box_in, late_in}
+use Rattle.line_commands.specs.BoxLines.{waits_in, number_in}
 use Rattle.line_commands.specs.LinkBoxed.{boxed_of}
 use Rattle.line_commands.specs.Sending.{made_by}
+use Rattle.line_commands.specs.declared.box_lines.BoxLines.{BoxLines}
 use Rattle.line_commands.specs.History.{History}
 use Rattle.line_commands.specs.Order.{Handed, HandedFronts}
 use Rattle.line_commands.specs.declared.port.Output.{Output}
 use Rattle.line_commands.specs.declared.port.Port.{Ghosts as Port}
-use Rattle.link_live.specs.declared.filter.Filter.{Filter}
 
 -- how the history began, what was read since, the link of the box's journal, and the setup of the
 -- box
@@ -37,15 +36,20 @@ pub record LiveOrigin : Type 0 where
   pub link : LinkId
   pub setup : Setup
 
--- a box with its journal, the port that it reads from and writes to, and the disk
+-- a box with its journal and its texts, the port that it reads from and writes to, and the disk
 pub record Outside (B P D : Type 0) : Type 0 where
-  pub filter : Filter B
+  pub lines : BoxLines B
   pub port : P
   pub disk : D
 
--- the record with this filter, port and disk
-abbrev pub outside : {B P D : Type 0} → Filter B → P → D → Outside B P D
-outside filter port disk = record { filter = filter; port = port; disk = disk }
+-- the record with this box, port and disk
+abbrev pub outside : {B P D : Type 0} → BoxLines B → P → D → Outside B P D
+outside lines port disk = record { lines = lines; port = port; disk = disk }
+
+-- Nothing waits to be handed on, and the disk holds the last number that the box has used.
+pub record IsClear {B : Type 0} (lines : BoxLines B) : Type 0 where
+  pub waits : Waits (waits_in lines) [] []
+  pub settled : disk_floor (late_in lines) ≡ number_in lines
 
 -- A box, and the lines of its notes.
 module _ {B N : Type 0} (b : LinkBox B N) (line_of : N → List ℕ) where
@@ -57,45 +61,60 @@ module _ {B N : Type 0} (b : LinkBox B N) (line_of : N → List ℕ) where
   abbrev pub made_at : LiveOrigin → LineAndNotes
   made_at origin = made_by (box_at origin)
 
-  -- Holds if the box and its journal have taken the ticks of these items, and what the box makes of
-  -- them is handed on.
-  pub record Filters (filter : Filter B) (history : History) (slots : Option Slots)
+  -- What the box makes of the first ticks of a line, `early`, is handed on, and the floor of the
+  -- disk is the last number that it used for these. What it makes of the others waits.
+  pub record HandsOver (lines : BoxLines B) (history : History) (origin : LiveOrigin)
+      (line : List Tick) : Type 0 where
+    pub early : List Tick
+    pub later : List Tick
+    pub is : line ≡ early ++ later
+    pub handed : Handed (made_at origin) origin.start history origin.read early
+    pub settled : disk_floor (late_in lines) ≡ (box_at origin).number early
+    pub answer : List Tick
+    pub note : List ℕ
+    pub noted : AnswersNoted (made_at origin) early later answer note
+    pub waits : Waits (waits_in lines) answer note
+
+  -- Holds if the box has taken the ticks of these items, and what it makes of them is handed on or
+  -- waits.
+  pub record Filters (lines : BoxLines B) (history : History) (slots : Option Slots)
       (origin : LiveOrigin) (items : List Item) : Type 0 where
-    pub steps : b.stands filter.line_box (journal_floor filter.journal) origin.setup (ticks_in items)
-    pub number_is : journal_floor filter.journal
-        ≡ number_after b.walking origin.setup (ticks_in items)
-    pub handed : Handed (made_at origin) origin.start history origin.read (ticks_in items)
-    pub link_is : journal_link filter.journal ≡ origin.link
-    pub floor_told : ToldFloor origin.link (journal_floor filter.journal) slots
+    pub stood : StandsAfter b line_of lines origin.setup (ticks_in items)
+    pub over : HandsOver lines history origin (ticks_in items)
+    pub link_is : late_link (late_in lines) ≡ origin.link
+    pub floor_told : ToldFloor origin.link (disk_floor (late_in lines)) slots
 
-  -- Holds if the step of the last of these items failed to commit its number. What the box makes of
-  -- the items before it is handed on.
-  pub record StopsAtNumber (filter : Filter B) (history : History)
+  -- Holds if a settle failed after the box had taken the last of these items. What it makes of the
+  -- first ticks, `early`, was handed on before, and nothing since. The slots have a floor from the
+  -- last number used for these to the last number used.
+  pub record StopsAtSettle (lines : BoxLines B) (history : History)
       (slots : Option Slots) (origin : LiveOrigin) (items : List Item) : Type 0 where
-    pub front : List Item
-    pub last : Tick
-    pub is : items ≡ front ++ tick last ∷ []
-    pub handed : Handed (made_at origin) origin.start history origin.read (ticks_in front)
-    pub link_is : journal_link filter.journal ≡ origin.link
-    pub fails : FailsBox origin.link (box_at origin) (ticks_in front) last slots
-    pub floor : journal_floor filter.journal ≡ (box_at origin).number (ticks_in front)
+    pub early : List Tick
+    pub later : List Tick
+    pub is : ticks_in items ≡ early ++ later
+    pub handed : Handed (made_at origin) origin.start history origin.read early
+    pub link_is : late_link (late_in lines) ≡ origin.link
+    pub not_below : (box_at origin).number early ≤ disk_floor (late_in lines)
+    pub floor_told : IfSome slots (HasFloorBetween origin.link ((box_at origin).number early)
+        ((box_at origin).number (ticks_in items)))
 
-  -- Holds if a write failed after the step of the last of these items had returned.
-  pub record StopsAtWrite (filter : Filter B) (history : History)
+  -- Holds if a write failed after the box had taken the last of these items and the disk was
+  -- settled.
+  pub record StopsAtWrite (lines : BoxLines B) (history : History)
       (slots : Option Slots) (origin : LiveOrigin) (items : List Item) : Type 0 where
     pub fronts : HandedFronts (made_at origin) origin.start history origin.read (ticks_in items)
-    pub link_is : journal_link filter.journal ≡ origin.link
-    pub floor : journal_floor filter.journal ≡ (box_at origin).number (ticks_in items)
-    pub floor_told : ToldFloor origin.link (journal_floor filter.journal) slots
+    pub link_is : late_link (late_in lines) ≡ origin.link
+    pub floor : disk_floor (late_in lines) ≡ (box_at origin).number (ticks_in items)
+    pub floor_told : ToldFloor origin.link (disk_floor (late_in lines)) slots
 
   -- why a box was stopped at the last of these items; never for lack of memory, since it takes none
-  abbrev pub StopsFilter : Filter B → History → Option Slots → Stop → LiveOrigin
+  abbrev pub StopsFilter : BoxLines B → History → Option Slots → Stop → LiveOrigin
       → List Item → Type 0
-  StopsFilter filter history slots JournalFault origin items =
-      StopsAtNumber filter history slots origin items
-  StopsFilter filter history slots WriteFault origin items =
-      StopsAtWrite filter history slots origin items
-  StopsFilter filter history slots NoMemory origin items = ⊥
+  StopsFilter lines history slots JournalFault origin items =
+      StopsAtSettle lines history slots origin items
+  StopsFilter lines history slots WriteFault origin items =
+      StopsAtWrite lines history slots origin items
+  StopsFilter lines history slots NoMemory origin items = ⊥
 
 module _ {P : Type 0} (p : Port P) where
   -- Holds if some output's count of faults rose when an output is the cause, and no such count
@@ -114,15 +133,18 @@ module _ {P : Type 0} (p : Port P) where
 
 module _ {B P D : Type 0} (p : Port P) (d : SlotDisk D) where
   -- What holds of the disk's images at any moment of a call and after it, whether the box stopped
-  -- or not: no image has a floor below the journal's. The journal serves the same link, and its
+  -- or not: no image has a floor below the disk's. The journal serves the same link, and the disk's
   -- floor doesn't fall.
   pub record KeepsImages (old new : Outside B P D) : Type 0 where
-    pub link : journal_link new.filter.journal ≡ journal_link old.filter.journal
-    pub rises : journal_floor old.filter.journal ≤ journal_floor new.filter.journal
-    pub is_kept : IsCrashSafe old.filter.journal (d.told old.disk) (d.may_leave old.disk)
-        → IsCrashSafe new.filter.journal (d.told new.disk) (d.may_leave new.disk)
-    pub any_moment : IsCrashSafe old.filter.journal (d.told old.disk) (d.may_leave old.disk)
-        → LeavesOnly d.moment d.left_since old.disk new.disk (HasFloorFrom old.filter.journal)
+    pub link : late_link (late_in new.lines) ≡ late_link (late_in old.lines)
+    pub rises : disk_floor (late_in old.lines) ≤ disk_floor (late_in new.lines)
+    pub is_kept : IsCrashSafe (disk_journal (late_in old.lines)) (d.told old.disk)
+        (d.may_leave old.disk)
+        → IsCrashSafe (disk_journal (late_in new.lines)) (d.told new.disk) (d.may_leave new.disk)
+    pub any_moment : IsCrashSafe (disk_journal (late_in old.lines)) (d.told old.disk)
+        (d.may_leave old.disk)
+        → LeavesOnly d.moment d.left_since old.disk new.disk
+        (HasFloorFrom (disk_journal (late_in old.lines)))
 
   -- What calls do to the disk's images and to the counts of faults, if the last of them returned
   -- `result`.
@@ -137,10 +159,22 @@ module _ {B N P D : Type 0} (b : LinkBox B N) (line_of : N → List ℕ) (p : Po
     abbrev pub filtering : Consuming (Outside B P D)
     filtering = record {
       Origin = LiveOrigin;
-      stands = λ at origin. Filters b line_of at.filter (p.history at.port) (d.told at.disk) origin;
+      stands = λ at origin. Filters b line_of at.lines (p.history at.port) (d.told at.disk) origin;
       stopped = λ at stop origin.
-          StopsFilter b line_of at.filter (p.history at.port) (d.told at.disk) stop origin;
-      taken = λ at. b.taken at.filter.line_box;
-      able = λ at. ServesLink (b.link_of at.filter.line_box) at.filter.journal (d.told at.disk);
+          StopsFilter b line_of at.lines (p.history at.port) (d.told at.disk) stop origin;
+      taken = λ at. b.taken (box_in at.lines);
+      able = λ at. MayDrive b line_of at.lines (d.told at.disk);
       went = GoesOn p d;
     }
+
+    -- Holds if all that waited was handed on: the disk was brought to the journal, then the notes
+    -- were written and flushed, and then the text. The box has taken no tick.
+    pub record HandsOn (old new : Outside B P D) (result : Result (Unit {0}) Stop) : Type 0 where
+      pub filters : OnOk result ((origin : LiveOrigin) (items : List Item)
+          → filtering.stands old origin items → filtering.stands new origin items)
+      pub clear : OnOk result (IsClear new.lines)
+      pub stopped : IfErr result (λ stop. (origin : LiveOrigin) (items : List Item)
+          → filtering.stands old origin items → filtering.stopped new stop origin items)
+      pub able : OnOk result (filtering.able new)
+      pub taken : filtering.taken new ≡ filtering.taken old
+      pub went : GoesOn p d old new result

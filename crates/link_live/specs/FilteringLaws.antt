@@ -1,6 +1,6 @@
 -- Laws of what calls of a filter do to the disk's images and to the counts of faults: for no call,
 -- and for calls that follow other calls.
-use Rattle.std.specs.Prelude.{◌≡◌, ℕ, ◌≤◌, List, Bool, true, false, Result, Ok}
+use Rattle.std.specs.Prelude.{ℕ, List, Bool, false}
 use Rattle.std.proofs.Common.{◌∙◌, refl, subst, inl}
 use Rattle.std.proofs.Math.Nat.{le_refl, le_trans}
 use Rattle.yasir_io.specs.Causes.{Rose}
@@ -8,9 +8,11 @@ use Rattle.yasir_io.specs.Disks.{Slots}
 use Rattle.yasir_io.specs.declared.disk.SlotDisk.{Ghosts as SlotDisk}
 use Rattle.yasir_io.proofs.Moments.{leaves_then, leaves_weaker}
 use Rattle.sequence_journal.specs.Journal.{HasFloorFrom}
+use Rattle.sequence_journal.specs.Late.{disk_journal}
 use Rattle.link_box.specs.declared.box_trait.LinkBox.{Ghosts as LinkBox}
 use Rattle.tick_drive.specs.Consumers.{IsNoneDone, AreJoined, is_journal_fault, is_write_fault}
 use Rattle.tick_drive.proofs.Causes.{disk_none, disk_then}
+use Rattle.line_commands.specs.BoxLines.{late_in}
 use Rattle.line_commands.specs.BoxLinesLaws.{floor_from_later}
 use Rattle.line_commands.specs.declared.port.Port.{Ghosts as Port}
 use Rattle.link_live.specs.Filtering.{Outside, KeepsImages, OutputCause, PortCause, filtering}
@@ -64,9 +66,11 @@ module _ {B P D : Type 0} (p : Port P) (d : SlotDisk D) where
     is_kept = λ kept. second.is_kept (first.is_kept kept);
     any_moment = λ kept. leaves_then d.moment d.left_since a.disk b.disk c.disk _
         (first.any_moment kept)
-        (leaves_weaker d.moment d.left_since b.disk c.disk (HasFloorFrom b.filter.journal)
-        (HasFloorFrom a.filter.journal)
-        (floor_from_later a.filter.journal b.filter.journal first.link first.rises)
+        (leaves_weaker d.moment d.left_since b.disk c.disk
+        (HasFloorFrom (disk_journal (late_in b.lines)))
+        (HasFloorFrom (disk_journal (late_in a.lines)))
+        (floor_from_later (disk_journal (late_in a.lines)) (disk_journal (late_in b.lines))
+        first.link first.rises)
         (second.any_moment (first.is_kept kept)));
   }
 

@@ -1,6 +1,6 @@
 -- A command that drives a live line through a box: what each status says of the key, the port and
 -- the journal's disk.
-use Rattle.std.specs.Prelude.{◌≡◌, ℕ, ◌⊎◌, List, [], ◌∷◌, ◌++◌}
+use Rattle.std.specs.Prelude.{◌≡◌, ℕ, ◌⊎◌, List, ◌++◌, IfSome}
 use Rattle.std.specs.Io.KnownBytes.{prepend_known, IsAtEnd}
 use Rattle.yasir_io.specs.Causes.{Rose}
 use Rattle.yasir_io.specs.Disks.{Slots, NoMore}
@@ -10,6 +10,7 @@ use Rattle.yasir_ticks.specs.declared.tick.Tick.{Tick}
 use Rattle.link_format.specs.declared.dir.Dir.{Dir}
 use Rattle.link_format.specs.Setup.{Setup}
 use Rattle.sequence_journal.specs.declared.link.LinkId.{LinkId}
+use Rattle.sequence_journal.specs.Late.{HasFloorBetween}
 use Rattle.sequence_journal.specs.Loading.{MayTakeOver, FindsNone, FindsOther, MayLeaveLoading}
 use Rattle.tick_drive.specs.declared.consumer.Stop.{Stop}
 use Rattle.tick_drive.specs.declared.consumer.Stop.TheVariants as stops
@@ -22,7 +23,7 @@ use Rattle.command_ends.specs.declared.status.Status.TheVariants.{Done, BadTicks
 use Rattle.command_ends.specs.declared.status.Status.TheVariants.{WriteFault, JournalFault}
 use Rattle.command_ends.specs.declared.status.Status.TheVariants.{TooLong, BadKey, BadJournal}
 use Rattle.command_ends.specs.declared.status.Status.TheVariants.{WrongLink}
-use Rattle.line_commands.specs.Boxes.{Boxed, FailsBox}
+use Rattle.line_commands.specs.Boxes.{Boxed}
 use Rattle.line_commands.specs.BoxLines.{ToldFloor}
 use Rattle.line_commands.specs.ReplaysBox.{boxed_with, KeepsFloor, LeavesUptime, KeepsFloorFromLoad}
 use Rattle.line_commands.specs.Sending.{made_by}
@@ -53,21 +54,25 @@ module _ {P D : Type 0} (p : Port P) (d : SlotDisk D) (link : LinkId) where
     pub uptime : LeavesUptime d link (box.numbers line) before.disk after.disk
     pub floor_told : ToldFloor link (box.number line) (d.told after.disk)
 
-  -- Holds if the disk failed in the step of one of these ticks, which uses a number. What the box
-  -- makes of the ticks before it is written and flushed.
-  pub record FailsAtNumber (box : Boxed) (before after : Around P D) (text : List ℕ)
+  -- Holds if the disk failed in a settle, when the box had taken the ticks `later` of these after
+  -- those before, which are `line`. What it makes of `line` was written and flushed before the
+  -- settle, and nothing since. The floor of the slots is between the last number of `line` and that
+  -- of all ticks taken.
+  pub record FailsAtSettle (box : Boxed) (before after : Around P D) (text : List ℕ)
       (ticks : List Tick) : Type 0 where
     pub line : List Tick
-    pub last : Tick
+    pub later : List Tick
     pub more : List Tick
-    pub all : (line ++ last ∷ []) ++ more ≡ ticks
+    pub all : (line ++ later) ++ more ≡ ticks
     pub handed : Handed (made_by box) (p.history before.port) (p.history after.port) text line
     pub images : KeepsFloor d link (box.number line) before.disk after.disk
     pub uptime : LeavesUptime d link (box.numbers line) before.disk after.disk
-    pub fails : FailsBox link box line last (d.told after.disk)
+    pub floor_told : IfSome (d.told after.disk) (HasFloorBetween link (box.number line)
+        (box.number (line ++ later)))
 
-  -- Holds if a write or a flush failed after the step of one of these ticks. Each output has got a
-  -- front of what the box makes of the ticks up to that one, and the notes were written first.
+  -- Holds if a write or a flush failed when the box had taken the ticks `line`, the first of these,
+  -- and the disk was settled. Each output has got a front of what the box makes of `line`, and the
+  -- notes were written first.
   pub record WritesFronts (box : Boxed) (before after : Around P D) (text : List ℕ)
       (ticks : List Tick) : Type 0 where
     pub line : List Tick
@@ -80,7 +85,7 @@ module _ {P D : Type 0} (p : Port P) (d : SlotDisk D) (link : LinkId) where
 
   -- why the box was stopped at one of these ticks; never for lack of memory, since it takes none
   abbrev pub HaltsBox : Boxed → Around P D → Around P D → List ℕ → Stop → List Tick → Type 0
-  HaltsBox box before after text stops.JournalFault ticks = FailsAtNumber box before after text ticks
+  HaltsBox box before after text stops.JournalFault ticks = FailsAtSettle box before after text ticks
   HaltsBox box before after text stops.WriteFault ticks = WritesFronts box before after text ticks
   HaltsBox box before after text stops.NoMemory ticks = ⊥
 

@@ -1,13 +1,12 @@
 -- A live line that is driven into a filter: what was read of it, and what was handed on.
 use Rattle.std.specs.Prelude.{◌≡◌, ℕ, ◌+◌, ◌<◌, ◌≤◌, List, [], ◌++◌, length, take, Option}
-use Rattle.std.specs.Prelude.{Result, Ok, Err, false}
+use Rattle.std.specs.Prelude.{Result, Ok, Err, Bool, true, false, ◌⊎◌}
 use Rattle.std.specs.Io.KnownBytes.{prepend_known, IsAtEnd}
 use Rattle.yasir_io.specs.Disks.{Slots}
 use Rattle.yasir_io.specs.declared.disk.SlotDisk.{Ghosts as SlotDisk}
 use Rattle.yasir_ticks.specs.Ticks.{Item, ticks_in}
 use Rattle.yasir_ticks.specs.TickText.{ended_items}
 use Rattle.yasir_ticks.specs.declared.tick.Tick.{Tick}
-use Rattle.link_box.specs.Stepping.{ServesLink}
 use Rattle.link_box.specs.declared.box_trait.LinkBox.{Ghosts as LinkBox}
 use Rattle.tick_drive.specs.Consumers.{Gives, IsDiskCause, is_journal_fault, is_write_fault}
 use Rattle.tick_drive.specs.Drive.{answer_of}
@@ -21,9 +20,11 @@ use Rattle.line_commands.specs.History.{History}
 use Rattle.line_commands.specs.Lines.{HasRead}
 use Rattle.line_commands.specs.declared.lines.LineReader.{LineReader}
 use Rattle.line_commands.specs.declared.port.Port.{Ghosts as Port}
-use Rattle.link_live.specs.Filtering.{Outside, outside, LiveOrigin, Filters, StopsFilter}
-use Rattle.link_live.specs.Filtering.{KeepsImages, OutputCause, filtering}
-use Rattle.link_live.specs.declared.filter.Filter.{Filter}
+use Rattle.link_live.specs.Filtering.{Outside, outside, LiveOrigin, Filters, StopsFilter, IsClear}
+use Rattle.link_live.specs.Filtering.{KeepsImages, OutputCause, HandsOn, filtering}
+use Rattle.line_commands.specs.BoxLines.{MayDrive, box_in}
+use Rattle.line_commands.specs.ReplaysBox.{has_stopped}
+use Rattle.line_commands.specs.declared.box_lines.BoxLines.{BoxLines}
 use Rattle.link_live.specs.declared.live_box.LiveBox.{LiveBox}
 use Rattle.link_live.specs.declared.live_box.TheConstants.{MAX_LIVE_TICKS}
 use Rattle.link_live.specs.TextEnds.{EndsWithin, EndsAtLast, EndsText}
@@ -38,9 +39,19 @@ pub record Live (B P D : Type 0) : Type 0 where
 abbrev pub live_of : {B P D : Type 0} → LiveBox B → P → D → Live B P D
 live_of live_box port disk = record { live_box = live_box; port = port; disk = disk }
 
--- the filter of the box, with the port and the disk
+-- the box without its count, with the port and the disk
 abbrev pub outside_of : {B P D : Type 0} → Live B P D → Outside B P D
-outside_of at = outside at.live_box.filter at.port at.disk
+outside_of at = outside at.live_box.lines at.port at.disk
+
+-- whether calls that ended in this way stopped the box
+abbrev pub has_stopped_in : Result (Unit {0}) End → Bool
+has_stopped_in (Ok x) = false
+has_stopped_in (Err end) = has_stopped end
+
+-- how calls ended after which what waits was handed on with this result
+abbrev pub after_handing : Result (Unit {0}) End → Result (Unit {0}) Stop → Result (Unit {0}) End
+after_handing ended (Ok x) = ended
+after_handing ended (Err stop) = Err (Stopped stop)
 
 -- an origin with the same start, and with more bytes read
 abbrev pub read_further : LiveOrigin → List ℕ → LiveOrigin
@@ -48,34 +59,35 @@ read_further origin more = record origin { read = origin.read ++ more }
 
 -- What a box has heard of a line.
 module _ {B N : Type 0} (b : LinkBox B N) (line_of : N → List ℕ) where
-  -- Holds if the box has taken these ticks, and what it makes of them is handed on.
-  pub record HasHeard (filter : Filter B) (history : History) (slots : Option Slots)
+  -- Holds if the box has taken these ticks, and what it makes of them is handed on or waits.
+  pub record HasHeard (lines : BoxLines B) (history : History) (slots : Option Slots)
       (origin : LiveOrigin) (line : List Tick) : Type 0 where
     pub items : List Item
     pub are : ticks_in items ≡ line
-    pub filters : Filters b line_of filter history slots origin items
+    pub filters : Filters b line_of lines history slots origin items
 
   -- Holds if the box was stopped at one of these ticks.
-  pub record StopsHearing (filter : Filter B) (history : History) (slots : Option Slots)
+  pub record StopsHearing (lines : BoxLines B) (history : History) (slots : Option Slots)
       (stop : Stop) (origin : LiveOrigin) (line : List Tick) : Type 0 where
     pub items : List Item
     pub more : List Tick
     pub are : ticks_in items ++ more ≡ line
-    pub stops : StopsFilter b line_of filter history slots stop origin items
+    pub stops : StopsFilter b line_of lines history slots stop origin items
 
   -- Holds if the reader has read this text, and the box has heard the lines that ended in it.
   pub record HasTaken (lines : LineReader) (live_box : LiveBox B) (history : History)
       (slots : Option Slots) (origin : LiveOrigin) (text : List ℕ) : Type 0 where
     pub has_read : HasRead lines text
-    pub heard : HasHeard live_box.filter history slots origin (ticks_in (ended_items text))
+    pub heard : HasHeard live_box.lines history slots origin (ticks_in (ended_items text))
     pub count : live_box.ticks ≡ length (ticks_in (ended_items text))
 
-module _ {B N D : Type 0} (b : LinkBox B N) (d : SlotDisk D) where
-  -- Holds if the box may take more: it has counted its ticks, and its journal is that of its link.
+module _ {B N D : Type 0} (b : LinkBox B N) (line_of : N → List ℕ) (d : SlotDisk D) where
+  -- Holds if the box may take more: it has counted its ticks, its journal is that of its link, and
+  -- there is room for what the next ticks complete.
   pub record IsReady (live_box : LiveBox B) (disk : D) : Type 0 where
-    pub counted : b.taken live_box.filter.line_box ≡ live_box.ticks
+    pub counted : b.taken (box_in live_box.lines) ≡ live_box.ticks
     pub few : live_box.ticks ≤ MAX_LIVE_TICKS
-    pub able : ServesLink (b.link_of live_box.filter.line_box) live_box.filter.journal (d.told disk)
+    pub able : MayDrive b line_of live_box.lines (d.told disk)
 
 module _ {B P D : Type 0} (p : Port P) (d : SlotDisk D) where
   -- What holds after calls that ended in this way: the disk's images are kept, and each fault has
@@ -90,7 +102,7 @@ module _ {B N P D : Type 0} (b : LinkBox B N) (line_of : N → List ℕ) (p : Po
   where
     -- `HasHeard`, with the port's history and the slots that the disk tells
     abbrev pub HeardAt : Live B P D → LiveOrigin → List Tick → Type 0
-    HeardAt at = HasHeard b line_of at.live_box.filter (p.history at.port) (d.told at.disk)
+    HeardAt at = HasHeard b line_of at.live_box.lines (p.history at.port) (d.told at.disk)
 
     -- `HasTaken`, with the port's history and the slots that the disk tells
     abbrev pub TakenAt : LineReader → Live B P D → LiveOrigin → List ℕ → Type 0
@@ -98,7 +110,7 @@ module _ {B N P D : Type 0} (b : LinkBox B N) (line_of : N → List ℕ) (p : Po
 
     -- `StopsHearing`, with the port's history and the slots that the disk tells
     abbrev pub HaltsAt : Live B P D → LiveOrigin → Stop → List Tick → Type 0
-    HaltsAt at origin stop = StopsHearing b line_of at.live_box.filter (p.history at.port)
+    HaltsAt at origin stop = StopsHearing b line_of at.live_box.lines (p.history at.port)
         (d.told at.disk) stop origin
 
     -- Holds if this end came inside the text (`EndsWithin`).
@@ -113,7 +125,7 @@ module _ {B N P D : Type 0} (b : LinkBox B N) (line_of : N → List ℕ) (p : Po
     -- Holds if a run was given to the box.
     pub record Given (old new : Live B P D) (items : List Item) : Type 0 where
       pub gives : Gives (filtering b line_of p d) (outside_of old) (outside_of new) items (Ok tt)
-      pub ready : IsReady b d new.live_box new.disk
+      pub ready : IsReady b line_of d new.live_box new.disk
       pub count : new.live_box.ticks ≡ old.live_box.ticks + length (ticks_in items)
 
     -- Holds if the ticks of a run together with those before are too many, and nothing was done.
@@ -134,7 +146,7 @@ module _ {B N P D : Type 0} (b : LinkBox B N) (line_of : N → List ℕ) (p : Po
     -- text followed by these bytes is taken.
     pub record TakesBytes (old_lines new_lines : LineReader) (old new : Live B P D)
         (bytes : List ℕ) : Type 0 where
-      pub ready : IsReady b d new.live_box new.disk
+      pub ready : IsReady b line_of d new.live_box new.disk
       pub goes : LiveGoes p d old new Whole
       pub left : p.left new.port ≡ p.left old.port
       pub takes : (origin : LiveOrigin) (text : List ℕ) → TakenAt old_lines old origin text
@@ -146,6 +158,8 @@ module _ {B N P D : Type 0} (b : LinkBox B N) (line_of : N → List ℕ) (p : Po
       pub goes : LiveGoes p d old new end
       pub left : p.left new.port ≡ p.left old.port
       pub no_read : is_read_fault end ≡ false
+      pub able : has_stopped end ≡ false
+          → MayDrive b line_of new.live_box.lines (d.told new.disk)
       pub ends : (origin : LiveOrigin) (text : List ℕ) → TakenAt old_lines old origin text
           → EndsAt new end origin (text ++ bytes)
 
@@ -166,12 +180,49 @@ module _ {B N P D : Type 0} (b : LinkBox B N) (line_of : N → List ℕ) (p : Po
         EndsInBytes old_lines old new end bytes
 
     -- what each result says of taking all of these bytes
+    abbrev pub LinesAnswer : LineReader → LineReader → Live B P D → Live B P D → List ℕ
+        → Result (Unit {0}) End → Type 0
+    LinesAnswer old_lines new_lines old new bytes (Ok x) =
+        TakesBytes old_lines new_lines old new bytes
+    LinesAnswer old_lines new_lines old new bytes (Err end) =
+        EndsInBytes old_lines old new end bytes
+
+    -- Holds if what waited after calls that ended in this way was handed on.
+    pub record HandsAfter (old new : Live B P D) (ended result : Result (Unit {0}) End) : Type 0 where
+      pub goes_on : has_stopped_in ended ≡ false
+      pub ticks : new.live_box.ticks ≡ old.live_box.ticks
+      pub answer : Result (Unit {0}) Stop
+      pub hands : HandsOn b line_of p d (outside_of old) (outside_of new) answer
+      pub is : result ≡ after_handing ended answer
+
+    -- Holds if what waited after calls that ended in this way was handed on, or if these calls
+    -- stopped the box and nothing was done.
+    abbrev pub HandsBehind : Live B P D → Live B P D → Result (Unit {0}) End
+        → Result (Unit {0}) End → Type 0
+    HandsBehind old new ended result =
+        ((has_stopped_in ended ≡ true) × (new ≡ old) × (result ≡ ended))
+        ⊎ HandsAfter old new ended result
+
+    -- Holds if these bytes were taken, and what the box makes of their lines is handed on.
+    pub record TakesPiece (old_lines new_lines : LineReader) (old new : Live B P D)
+        (bytes : List ℕ) : Type 0 where
+      pub takes : TakesBytes old_lines new_lines old new bytes
+      pub clear : IsClear new.live_box.lines
+
+    -- Holds if calls ended in this way within these bytes, and, unless the box was stopped, what it
+    -- makes of the lines before is handed on.
+    pub record EndsPiece (old_lines : LineReader) (old new : Live B P D) (end : End)
+        (bytes : List ℕ) : Type 0 where
+      pub ends : EndsInBytes old_lines old new end bytes
+      pub clear : has_stopped end ≡ false → IsClear new.live_box.lines
+
+    -- what each result says of taking all of these bytes, and handing on what the box makes of them
     abbrev pub PieceAnswer : LineReader → LineReader → Live B P D → Live B P D → List ℕ
         → Result (Unit {0}) End → Type 0
     PieceAnswer old_lines new_lines old new bytes (Ok x) =
-        TakesBytes old_lines new_lines old new bytes
+        TakesPiece old_lines new_lines old new bytes
     PieceAnswer old_lines new_lines old new bytes (Err end) =
-        EndsInBytes old_lines old new end bytes
+        EndsPiece old_lines old new end bytes
 
     -- Holds if these bytes were read after those that were read before, and the box has heard their
     -- lines.
@@ -186,13 +237,15 @@ module _ {B N P D : Type 0} (b : LinkBox B N) (line_of : N → List ℕ) (p : Po
     pub record HearsAll (old_lines new_lines : LineReader) (old new : Live B P D) : Type 0 where
       pub more : List ℕ
       pub heard : Hears old_lines new_lines old new Whole more
-      pub ready : IsReady b d new.live_box new.disk
+      pub ready : IsReady b line_of d new.live_box new.disk
+      pub clear : IsClear new.live_box.lines
       pub at_end : IsAtEnd (p.left new.port)
 
     -- Holds if some bytes were read, and the read after them failed.
     pub record FailsToHear (old_lines new_lines : LineReader) (old new : Live B P D) : Type 0 where
       pub more : List ℕ
       pub heard : Hears old_lines new_lines old new ReadFault more
+      pub clear : IsClear new.live_box.lines
 
     -- Holds if the calls ended in this way within the bytes that were read.
     pub record EndsHearing (old_lines : LineReader) (old new : Live B P D) (end : End) :
@@ -202,6 +255,7 @@ module _ {B N P D : Type 0} (b : LinkBox B N) (line_of : N → List ℕ) (p : Po
       pub came : p.left old.port ≡ prepend_known more (p.left new.port)
       pub ends : (origin : LiveOrigin) → TakenAt old_lines old origin origin.read
           → EndsAt new end (read_further origin more) (origin.read ++ more)
+      pub clear : has_stopped end ≡ false → IsClear new.live_box.lines
 
     -- what each result says of reading the input to its end
     abbrev pub HearAnswer : LineReader → LineReader → Live B P D → Live B P D
@@ -213,14 +267,36 @@ module _ {B N P D : Type 0} (b : LinkBox B N) (line_of : N → List ℕ) (p : Po
 
     -- Holds if the calls that take the end of the text and then `rest` silent ticks ended in this
     -- way.
-    pub record Finishes (lines : LineReader) (rest : ℕ) (old new : Live B P D) (end : End) :
+    pub record TakesLast (lines : LineReader) (rest : ℕ) (old new : Live B P D) (end : End) :
         Type 0 where
       pub goes : LiveGoes p d old new end
       pub left : p.left new.port ≡ p.left old.port
+      pub no_read : is_read_fault end ≡ false
+      pub able : has_stopped end ≡ false
+          → MayDrive b line_of new.live_box.lines (d.told new.disk)
       pub ends : (origin : LiveOrigin) (text : List ℕ) → TakenAt lines old origin text
           → LastAt rest new end origin text
 
     -- what each result says of taking the end of the text and then `rest` silent ticks
+    abbrev pub TakeLastAnswer : LineReader → ℕ → Live B P D → Live B P D → Result (Unit {0}) End
+        → Type 0
+    TakeLastAnswer lines rest old new (Ok x) = TakesLast lines rest old new Whole
+    TakeLastAnswer lines rest old new (Err end) = TakesLast lines rest old new end
+
+    -- Holds if the calls that take the end of the text and then `rest` silent ticks, and hand on
+    -- what waits, ended in this way. If the last line isn't right, the box may be stopped behind the
+    -- lines before it.
+    pub record Finishes (lines : LineReader) (rest : ℕ) (old new : Live B P D) (end : End) :
+        Type 0 where
+      pub goes : LiveGoes p d old new end
+      pub left : p.left new.port ≡ p.left old.port
+      pub no_read : is_read_fault end ≡ false
+      pub clear : has_stopped end ≡ false → IsClear new.live_box.lines
+      pub ends : (origin : LiveOrigin) (text : List ℕ) → TakenAt lines old origin text
+          → EndsAt new end origin text ⊎ LastAt rest new end origin text
+
+    -- what each result says of taking the end of the text and then `rest` silent ticks, and handing
+    -- on what waits
     abbrev pub FinishAnswer : LineReader → ℕ → Live B P D → Live B P D → Result (Unit {0}) End
         → Type 0
     FinishAnswer lines rest old new (Ok x) = Finishes lines rest old new Whole
@@ -232,6 +308,7 @@ module _ {B N P D : Type 0} (b : LinkBox B N) (line_of : N → List ℕ) (p : Po
       pub text : List ℕ
       pub came : p.left old.port ≡ prepend_known text (p.left new.port)
       pub goes : LiveGoes p d old new end
+      pub clear : has_stopped end ≡ false → IsClear new.live_box.lines
       pub ends : (origin : LiveOrigin) → old.live_box.ticks ≡ 0 → origin.read ≡ []
           → HeardAt old origin []
           → EndsText (HeardAt new (read_further origin text)) (HaltsAt new (read_further origin text))

@@ -2,9 +2,10 @@
 use Rattle.std.specs.Prelude.{◌≡◌, Option, Some, None}
 use Rattle.yasir_io.specs.declared.source.Source.{Ghosts as Source}
 use Rattle.yasir_io.specs.declared.disk.SlotDisk.{Ghosts as SlotDisk}
+use Rattle.command_ends.specs.Causes.{DiskCause}
 use Rattle.command_ends.specs.declared.status.Status.{Status}
 use Rattle.command_ends.specs.declared.status.Status.TheVariants.{Usage}
-use Rattle.line_commands.specs.ReplaysBox.{KeepsFloorThroughout, BoxDiskCause}
+use Rattle.line_commands.specs.ReplaysBox.{KeepsFloorThroughout}
 use Rattle.line_commands.specs.declared.port.Port.{Ghosts as Port}
 use Rattle.link_live.specs.FaultText.{TellsFault}
 use Rattle.link_live.specs.LiveCommand.{Around, around, LivesBox, PortCauses}
@@ -39,5 +40,5 @@ module _ {K P D : Type 0} (k : Source K) (p : Port P) (d : SlotDisk D) where
     pub noted : P
     pub does : Does asked key_before key_after before (around noted after.disk) status
     pub port : PortCauses p before.port noted status
-    pub disk : BoxDiskCause (d.faults before.disk) (d.faults after.disk) status
+    pub disk : DiskCause (d.faults before.disk) (d.faults after.disk) status
     pub tells : TellsFault p noted after.port status

@@ -1,7 +1,7 @@
 -- How the reading of a live line ends, and what of its text a box has taken then. `Heard line`
 -- holds if a box has taken all ticks of `line`, and `Halts stop line` holds if a box was stopped at
 -- one of them.
-use Rattle.std.specs.Prelude.{◌≡◌, ℕ, ◌<◌, ◌≤◌, ◌⊎◌, List, [], ◌∷◌, ◌++◌, length}
+use Rattle.std.specs.Prelude.{◌≡◌, ℕ, ◌<◌, ◌≤◌, ◌⊎◌, List, ◌∷◌, ◌++◌, length}
 use Rattle.yasir_ticks.specs.Ticks.{Item, ticks_in, silent}
 use Rattle.yasir_ticks.specs.TickText.{IsTickText, BeginsTickText, IsRefusedAfter, ended_items}
 use Rattle.yasir_ticks.specs.TickText.{line_after, fault_after}

@@ -1,6 +1,7 @@
 //! The two boxes of a link on a live line: the transmitter of `seal`, and the receiver of `check`.
+ghost use Rattle.command_ends.specs.Causes.{DiskCause};
 ghost use Rattle.line_commands.specs.LinkBoxes.{seal_boxed, seal_rest, check_boxed, check_rest};
-ghost use Rattle.line_commands.specs.ReplaysBox.{KeepsFloorThroughout, BoxDiskCause};
+ghost use Rattle.line_commands.specs.ReplaysBox.{KeepsFloorThroughout};
 ghost use Rattle.link_live.specs.LiveCommand.{around, LivesBox, PortCauses};
 ghost use Rattle.link_live.specs.Words.{served};
 
@@ -62,7 +63,7 @@ pub fn seal<K: Source, P: Port, D: SlotDisk>(
         (around port.old disk.old) (around port.new disk.new) result }
     ensures any_moment { KeepsFloorThroughout D.SlotDisk (served of)
         disk.old disk.new }
-    ensures disk { BoxDiskCause (D.faults disk.old) (D.faults disk.new) result }
+    ensures disk { DiskCause (D.faults disk.old) (D.faults disk.new) result }
     ensures port { PortCauses P.Port port.old port.new result }
 {
     let Linked {
@@ -87,7 +88,7 @@ pub fn check<K: Source, P: Port, D: SlotDisk>(
         (around port.old disk.old) (around port.new disk.new) result }
     ensures any_moment { KeepsFloorThroughout D.SlotDisk (served of)
         disk.old disk.new }
-    ensures disk { BoxDiskCause (D.faults disk.old) (D.faults disk.new) result }
+    ensures disk { DiskCause (D.faults disk.old) (D.faults disk.new) result }
     ensures port { PortCauses P.Port port.old port.new result }
 {
     let Linked {

@@ -1,9 +1,10 @@
 //! The command of a box on a live line: it reads the key, loads the journal, and drives the line
 //! through the box as it comes.
 ghost use Rattle.std.specs.Prelude.{◌≡◌, ◌≤◌};
+ghost use Rattle.command_ends.specs.Causes.{DiskCause};
 ghost use Rattle.sequence_journal.specs.Links.{HasDirection};
 ghost use Rattle.line_commands.specs.LinkBoxed.{boxed_of};
-ghost use Rattle.line_commands.specs.ReplaysBox.{boxed_with, KeepsFloorThroughout, BoxDiskCause};
+ghost use Rattle.line_commands.specs.ReplaysBox.{boxed_with, KeepsFloorThroughout};
 ghost use Rattle.link_live.specs.LiveCommand.{around, RunsLine, LivesBox, PortCauses};
 
 use crate::live_box::LiveBox;
@@ -38,7 +39,7 @@ fn live_keyed<B: LineBox, P: Port, D: SlotDisk>(
         (boxed_with (boxed_of B.walking B.line_of) key.now of.now.dir) of.now.rest
         (around port.old disk.old) (around port.new disk.new) result }
     ensures any_moment { KeepsFloorThroughout D.SlotDisk of.now.link disk.old disk.new }
-    ensures disk { BoxDiskCause (D.faults disk.old) (D.faults disk.new) result }
+    ensures disk { DiskCause (D.faults disk.old) (D.faults disk.new) result }
     ensures port { PortCauses P.Port port.old port.new result }
 {
     let journal = match Journal::load(disk, &of.link) {
@@ -52,8 +53,8 @@ fn live_keyed<B: LineBox, P: Port, D: SlotDisk>(
 }
 
 /// Reads a key, loads the journal of this link that the disk holds, and drives a line through a box
-/// of this link as it comes. What the box makes of each line of text is written and flushed before
-/// the next read, the notes first.
+/// of this link as it comes. What the box makes of the lines of text that have ended is written and
+/// flushed before the next read, the notes first, and the disk holds its numbers before that.
 pub fn live_line<B: LineBox, K: Source, P: Port, D: SlotDisk>(
     of: &LiveLink,
     key: &mut K,
@@ -67,7 +68,7 @@ pub fn live_line<B: LineBox, K: Source, P: Port, D: SlotDisk>(
         of.now.dir of.now.rest key.old key.new (around port.old disk.old)
         (around port.new disk.new) result }
     ensures any_moment { KeepsFloorThroughout D.SlotDisk of.now.link disk.old disk.new }
-    ensures disk { BoxDiskCause (D.faults disk.old) (D.faults disk.new) result }
+    ensures disk { DiskCause (D.faults disk.old) (D.faults disk.new) result }
     ensures port { PortCauses P.Port port.old port.new result }
 {
     match read_key(key) {

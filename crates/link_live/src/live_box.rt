@@ -1,22 +1,23 @@
-//! A filter over a live line. The line is tick text that comes in pieces, and each line of that
-//! text goes to the box as soon as it has ended.
-ghost use Rattle.std.specs.Prelude.{◌≡◌, ◌<◌, ◌≤◌, List, [], length, Option};
+//! A box over a live line. The line is tick text that comes in pieces. What the box makes of the
+//! lines that have ended in a piece is handed on before the next piece is read.
+ghost use Rattle.std.specs.Prelude.{◌≡◌, ◌<◌, ◌≤◌, [], length, Option, false};
 ghost use Rattle.yasir_io.specs.Disks.{Slots};
 ghost use Rattle.yasir_ticks.specs.Reader.{items_of_content};
 ghost use Rattle.yasir_ticks.specs.TickRun.{run_ticks, run_items};
 ghost use Rattle.yasir_ticks.specs.Ticks.{ticks_in, items_of_run};
 ghost use Rattle.sequence_journal.specs.declared.link.LinkId.{LinkId};
-ghost use Rattle.sequence_journal.specs.Journal.{journal_link, journal_floor, Fits};
+ghost use Rattle.sequence_journal.specs.Journal.{journal_link, journal_floor, is_broken, Fits};
+ghost use Rattle.sequence_journal.specs.Late.{disk_journal};
 ghost use Rattle.link_format.specs.Setup.{setup_of};
 ghost use Rattle.line_commands.specs.History.{History};
-ghost use Rattle.line_commands.specs.Lines.{HasRead};
-ghost use Rattle.link_live.specs.Filtering.{outside, Filters};
-ghost use Rattle.link_live.specs.LiveLine.{IsReady, GiveAnswer, LineAnswer, PieceAnswer};
-ghost use Rattle.link_live.specs.LiveLine.{HearAnswer, FinishAnswer, Drives};
-ghost use Rattle.link_live.specs.LiveLine.{live_of};
+ghost use Rattle.line_commands.specs.BoxLines.{box_in, late_in, MayDrive};
+ghost use Rattle.link_live.specs.Filtering.{outside, Filters, IsClear};
+ghost use Rattle.link_live.specs.LiveLine.{IsReady, GiveAnswer, LineAnswer, LinesAnswer};
+ghost use Rattle.link_live.specs.LiveLine.{PieceAnswer, HearAnswer, FinishAnswer, Drives};
+ghost use Rattle.link_live.specs.LiveLine.{TakeLastAnswer, HandsBehind, has_stopped_in, live_of};
 
-use crate::filter::Filter;
-use line_commands::{LineBox, LineReader, Port, ReadBytes, read_on};
+use crate::filter::{hand_on_all, take_run};
+use line_commands::{BoxLines, LineBox, LineReader, Port, ReadBytes, read_on};
 use link_format::Dir;
 use sequence_journal::Journal;
 use tick_drive::{End, TooMuch};
@@ -54,24 +55,38 @@ fn run_of_last(last: &Run) -> TickRun<'_>
     }
 }
 
-/// A filter that counts its ticks.
+// Whether calls that ended in this way stopped the box.
+fn is_stopped(ended: &Result<(), End>) -> bool
+    ensures { result ≡ has_stopped_in ended.now }
+{
+    match ended {
+        Err(End::Stopped(_)) => true,
+        Ok(()) | Err(End::Whole | End::Refused(_) | End::TooLong { .. } | End::ReadFault) => false,
+    }
+}
+
+/// A box on a live line, with its journal and its texts, and how many ticks it has taken.
 #[derive(Drop)]
 pub struct LiveBox<B> {
-    filter: Filter<B>,
+    lines: BoxLines<B>,
     ticks: u64,
 }
 
 impl<B: LineBox> LiveBox<B> {
     /// Returns a live box over this journal that has taken no tick.
     pub fn new(key: &[u8], dir: Dir, journal: Journal) -> LiveBox<B>
-        requires { B.widths_fit }
+        requires widths { B.widths_fit }
+        requires link { journal_link journal ≡ B.link_in dir }
+        requires whole { is_broken journal ≡ false }
         ensures none { result.ticks ≡ 0 }
-        ensures taken { B.taken result.filter.line_box ≡ 0 }
-        ensures journal { result.filter.journal ≡ journal }
-        ensures link { B.link_of result.filter.line_box ≡ B.link_in dir }
+        ensures taken { B.taken (box_in result.lines) ≡ 0 }
+        ensures journal { disk_journal (late_in result.lines) ≡ journal }
+        ensures may { (told : Option Slots) → Fits journal told
+            → MayDrive B.LinkBox B.line_of result.lines told }
+        ensures clear { IsClear result.lines }
         ensures filters { (history : History) (link : LinkId) (told : Option Slots)
             → journal_link journal ≡ link → Fits journal told
-            → Filters B.LinkBox B.line_of result.filter history told (record {
+            → Filters B.LinkBox B.line_of result.lines history told (record {
               start = history;
               read = [];
               link = link;
@@ -79,7 +94,7 @@ impl<B: LineBox> LiveBox<B> {
             }) [] }
     {
         LiveBox {
-            filter: Filter::new(key, dir, journal),
+            lines: BoxLines::new(key, dir, journal),
             ticks: 0,
         }
     }
@@ -91,7 +106,7 @@ impl<B: LineBox> LiveBox<B> {
         disk: &mut D,
         run: TickRun<'_>,
     ) -> Result<(), End>
-        requires { IsReady B.LinkBox D.SlotDisk self.old disk.old }
+        requires { IsReady B.LinkBox B.line_of D.SlotDisk self.old disk.old }
         ensures { GiveAnswer B.LinkBox B.line_of P.Port D.SlotDisk
             (live_of self.old port.old disk.old) (live_of self.new port.new disk.new)
             (run_items run.entry) result }
@@ -103,7 +118,7 @@ impl<B: LineBox> LiveBox<B> {
                 count: sum,
             });
         }
-        match self.filter.take_run(port, disk, run) {
+        match take_run(&mut self.lines, port, disk, run) {
             Ok(()) => {}
             Err(stop) => return Err(End::Stopped(stop)),
         }
@@ -122,7 +137,7 @@ impl<B: LineBox> LiveBox<B> {
     ) -> Result<usize, End>
         requires some { 0 < length bytes.now }
         requires few { length bytes.now ≤ 65536 }
-        requires ready { IsReady B.LinkBox D.SlotDisk self.old disk.old }
+        requires ready { IsReady B.LinkBox B.line_of D.SlotDisk self.old disk.old }
         ensures { LineAnswer B.LinkBox B.line_of P.Port D.SlotDisk lines.old lines.new
             (live_of self.old port.old disk.old) (live_of self.new port.new disk.new) bytes.now
             result }
@@ -139,7 +154,7 @@ impl<B: LineBox> LiveBox<B> {
     }
 
     // Gives all lines that end in a piece to the box.
-    fn take_piece<P: Port, D: SlotDisk>(
+    fn take_lines<P: Port, D: SlotDisk>(
         &mut self,
         lines: &mut LineReader,
         port: &mut P,
@@ -147,8 +162,8 @@ impl<B: LineBox> LiveBox<B> {
         piece: &[u8],
     ) -> Result<(), End>
         requires few { length piece.now ≤ 65536 }
-        requires ready { IsReady B.LinkBox D.SlotDisk self.old disk.old }
-        ensures { PieceAnswer B.LinkBox B.line_of P.Port D.SlotDisk lines.old lines.new
+        requires ready { IsReady B.LinkBox B.line_of D.SlotDisk self.old disk.old }
+        ensures { LinesAnswer B.LinkBox B.line_of P.Port D.SlotDisk lines.old lines.new
             (live_of self.old port.old disk.old) (live_of self.new port.new disk.new) piece.now
             result }
     {
@@ -162,6 +177,46 @@ impl<B: LineBox> LiveBox<B> {
         Ok(())
     }
 
+    // Hands on all that waits, unless calls that ended in this way stopped the box. Returns how
+    // they ended, or why the box was stopped now.
+    fn hand_behind<P: Port, D: SlotDisk>(
+        &mut self,
+        port: &mut P,
+        disk: &mut D,
+        ended: Result<(), End>,
+    ) -> Result<(), End>
+        requires { has_stopped_in ended ≡ false
+            → MayDrive B.LinkBox B.line_of self.old.lines (D.told disk.old) }
+        ensures { HandsBehind B.LinkBox B.line_of P.Port D.SlotDisk
+            (live_of self.old port.old disk.old) (live_of self.new port.new disk.new) ended result }
+    {
+        if is_stopped(&ended) {
+            return ended;
+        }
+        match hand_on_all(&mut self.lines, port, disk) {
+            Ok(()) => ended,
+            Err(stop) => Err(End::Stopped(stop)),
+        }
+    }
+
+    // Gives all lines that end in a piece to the box, and hands on what it makes of them.
+    fn take_piece<P: Port, D: SlotDisk>(
+        &mut self,
+        lines: &mut LineReader,
+        port: &mut P,
+        disk: &mut D,
+        piece: &[u8],
+    ) -> Result<(), End>
+        requires few { length piece.now ≤ 65536 }
+        requires ready { IsReady B.LinkBox B.line_of D.SlotDisk self.old disk.old }
+        ensures { PieceAnswer B.LinkBox B.line_of P.Port D.SlotDisk lines.old lines.new
+            (live_of self.old port.old disk.old) (live_of self.new port.new disk.new) piece.now
+            result }
+    {
+        let taken = self.take_lines(lines, port, disk, piece);
+        self.hand_behind(port, disk, taken)
+    }
+
     // Reads the live line to its end. What the box makes of the lines of text that have ended is
     // handed on before each read.
     fn hear<P: Port, D: SlotDisk>(
@@ -170,7 +225,8 @@ impl<B: LineBox> LiveBox<B> {
         port: &mut P,
         disk: &mut D,
     ) -> Result<(), End>
-        requires { IsReady B.LinkBox D.SlotDisk self.old disk.old }
+        requires ready { IsReady B.LinkBox B.line_of D.SlotDisk self.old disk.old }
+        requires clear { IsClear self.old.lines }
         ensures { HearAnswer B.LinkBox B.line_of P.Port D.SlotDisk lines.old lines.new
             (live_of self.old port.old disk.old) (live_of self.new port.new disk.new) result }
     {
@@ -196,16 +252,16 @@ impl<B: LineBox> LiveBox<B> {
         })
     }
 
-    // Takes the end of the live line, and then `rest` silent ticks.
-    fn finish<P: Port, D: SlotDisk>(
+    // Takes the last line of the live line, and then `rest` silent ticks.
+    fn take_last<P: Port, D: SlotDisk>(
         &mut self,
         lines: LineReader,
         rest: u32,
         port: &mut P,
         disk: &mut D,
     ) -> Result<(), End>
-        requires { IsReady B.LinkBox D.SlotDisk self.old disk.old }
-        ensures { FinishAnswer B.LinkBox B.line_of P.Port D.SlotDisk lines rest
+        requires { IsReady B.LinkBox B.line_of D.SlotDisk self.old disk.old }
+        ensures { TakeLastAnswer B.LinkBox B.line_of P.Port D.SlotDisk lines rest
             (live_of self.old port.old disk.old) (live_of self.new port.new disk.new) result }
     {
         let last = match lines.finish() {
@@ -216,17 +272,35 @@ impl<B: LineBox> LiveBox<B> {
             Ok(()) => {}
             Err(end) => return Err(end),
         }
-        match self.filter.take_run(port, disk, TickRun::Silence(rest)) {
+        match take_run(&mut self.lines, port, disk, TickRun::Silence(rest)) {
             Ok(()) => Ok(()),
             Err(stop) => Err(End::Stopped(stop)),
         }
     }
 
+    // Takes the end of the live line, and then `rest` silent ticks, and hands on what the box makes
+    // of them.
+    fn finish<P: Port, D: SlotDisk>(
+        &mut self,
+        lines: LineReader,
+        rest: u32,
+        port: &mut P,
+        disk: &mut D,
+    ) -> Result<(), End>
+        requires { IsReady B.LinkBox B.line_of D.SlotDisk self.old disk.old }
+        ensures { FinishAnswer B.LinkBox B.line_of P.Port D.SlotDisk lines rest
+            (live_of self.old port.old disk.old) (live_of self.new port.new disk.new) result }
+    {
+        let taken = self.take_last(lines, rest, port, disk);
+        self.hand_behind(port, disk, taken)
+    }
+
     /// Drives a live line to its end, and then `rest` silent ticks, into the box, which has taken
-    /// no tick before. What the box makes of each line of text is handed on as soon as that line
-    /// has ended.
+    /// no tick before. What the box makes of the lines of text that have ended is handed on before
+    /// the next read.
     pub fn drive<P: Port, D: SlotDisk>(&mut self, rest: u32, port: &mut P, disk: &mut D) -> End
-        requires { IsReady B.LinkBox D.SlotDisk self.old disk.old }
+        requires ready { IsReady B.LinkBox B.line_of D.SlotDisk self.old disk.old }
+        requires clear { IsClear self.old.lines }
         ensures { Drives B.LinkBox B.line_of P.Port D.SlotDisk rest
             (live_of self.old port.old disk.old) (live_of self.new port.new disk.new) result }
     {

@@ -1,6 +1,6 @@
 //! `link_live`: a transmitter or a receiver on a live line. Tick text comes on standard input. What
-//! the box makes of each line of it leaves before the next read: first the notes on standard error,
-//! and then the other line on standard output.
+//! the box makes of the lines that have ended leaves before the next read: first its numbers go to
+//! the journal, then the notes to standard error, and then the other line to standard output.
 //!
 //!     link_replay init rtu ab sent.journal
 //!     link_live seal rtu ab key.txt sent.journal
@@ -23,7 +23,7 @@ pub use boxes::{check, seal};
 pub use command::{LiveLink, live_line};
 pub use command_ends::{NOT_GIVEN, Profile, Proto, Usage};
 pub use fault_text::log_fault;
-pub use filter::Filter;
+pub use filter::{hand_on_all, take_run};
 use line_commands::Streams;
 pub use live_box::{LiveBox, MAX_LIVE_BYTES, MAX_LIVE_TICKS};
 pub use over_files::run_over_files;

@@ -2,7 +2,7 @@
 //! ask for.
 ghost use Rattle.std.specs.Prelude.{◌≡◌, ◌↔◌, Option, Some, None, map};
 ghost use Rattle.std.specs.String.{string_bytes};
-ghost use Rattle.line_commands.specs.ReplaysBox.{BoxDiskCause};
+ghost use Rattle.command_ends.specs.Causes.{DiskCause};
 ghost use Rattle.link_live.specs.Able.{MayDo, IsCalm};
 ghost use Rattle.link_live.specs.LiveCommand.{around, PortCauses};
 ghost use Rattle.link_live.specs.Programs.{Does, KeepsDisk, Runs};
@@ -38,7 +38,7 @@ fn answer<K: Source, P: Port, D: SlotDisk>(
     ensures does { Does K.Source P.Port D.SlotDisk asked key.old key.new
         (around port.old disk.old) (around port.new disk.new) result }
     ensures any_moment { KeepsDisk D.SlotDisk asked disk.old disk.new }
-    ensures disk { BoxDiskCause (D.faults disk.old) (D.faults disk.new) result }
+    ensures disk { DiskCause (D.faults disk.old) (D.faults disk.new) result }
     ensures port { PortCauses P.Port port.old port.new result }
 {
     match asked {
@@ -50,8 +50,8 @@ fn answer<K: Source, P: Port, D: SlotDisk>(
 
 /// Runs the program: it reads its words, which are those after the program's name, and runs the box
 /// that they ask for on a live line. The port has the line's input and outputs. What the box makes
-/// of each line of text is written and flushed before the next read, the notes first. The program
-/// takes no memory.
+/// of the lines of text that have ended is written and flushed before the next read, the notes
+/// first, and the disk holds its numbers before that. The program takes no memory.
 pub fn run<K: Source, P: Port, D: SlotDisk>(
     words: &[String],
     key: &mut K,

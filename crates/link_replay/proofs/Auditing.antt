@@ -133,6 +133,7 @@ module _ (text : List ℕ) (before now : Option (List ℕ)) (finding : Finding) 
     | inr unclean ↦ let never = is.0 ∙ unclean.1 in cc
   ]
   input-of-verdict in_before in_now WriteFault is same = omega (arith, same)
+  input-of-verdict in_before in_now statuses.JournalFault is same = omega (arith, same)
   input-of-verdict in_before in_now status is same = same
 
 -- If the input was three recordings, and the text of the verdict on them was printed or broken off,

@@ -65,6 +65,7 @@ reads-input : (key before now : ℕ) (status : Status) → InputCause before now
     → ReadsCause key key before now status
 reads-input key before now ReadFault h = (inr h.0, omega arith, h.1)
 reads-input key before now WriteFault h = (refl, h)
+reads-input key before now JournalFault h = (refl, h)
 reads-input key before now status h = (refl, h)
 
 -- The causes of the status of a command that reads its input but touches neither its key nor its

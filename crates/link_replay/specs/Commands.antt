@@ -13,7 +13,7 @@ use Rattle.link_replay.specs.InitCommand.{Inits, IsBlank}
 use Rattle.command_ends.specs.Readable.{IsReadable}
 use Rattle.link_replay.specs.ReadCommand.{Reads}
 use Rattle.link_replay.specs.VectorsCommand.{Tabulates}
-use Rattle.line_commands.specs.ReplaysBox.{BoxDiskCause, IsReplayable, KeepsFloorThroughout}
+use Rattle.line_commands.specs.ReplaysBox.{IsReplayable, KeepsFloorThroughout}
 use Rattle.command_ends.specs.Links.{link_of}
 use Rattle.link_replay.specs.SealCommand.{Seals}
 use Rattle.link_replay.specs.CheckCommand.{Checks}
@@ -117,13 +117,13 @@ module _ {K S O L D : Type 0} (k : Source K) (s : Source S) (o : Sink O) (l : Si
       (s.faults before.input) (s.faults after.input) (o.faults before.out) (o.faults after.out)
       (l.faults before.log) (l.faults after.log) (d.faults before.disk) (d.faults after.disk)
 
-  -- The causes that depend on the command. `seal` and `check` have a cause of their own for the
-  -- disk, since a box may write after a call of the disk has failed.
+  -- The causes that depend on the command: that of the disk and, if the command reads no key, that of
+  -- the input.
   abbrev pub HasOwnCauses : Option Command → Outside K S O L D → Outside K S O L D → Status → Type 0
   HasOwnCauses (Some (Seal proto profile dir)) before after status =
-      BoxDiskCause (d.faults before.disk) (d.faults after.disk) status
+      DiskCause (d.faults before.disk) (d.faults after.disk) status
   HasOwnCauses (Some (Check proto profile dir)) before after status =
-      BoxDiskCause (d.faults before.disk) (d.faults after.disk) status
+      DiskCause (d.faults before.disk) (d.faults after.disk) status
   HasOwnCauses (Some (Replay proto profile dir)) before after status =
       DiskCause (d.faults before.disk) (d.faults after.disk) status
   HasOwnCauses (Some (Audit proto profile dir sent got)) before after status =

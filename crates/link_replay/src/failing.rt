@@ -337,12 +337,15 @@ const WRITTEN: Left = Left {
     ..NOTHING
 };
 
-// All slots are read, and then one is written and synced.
+/// The calls of a run that writes one number: all slots are read, and then one is written and
+/// synced. Nothing goes out before that.
+const ONE_NUMBER: [Left; 6] = [NOTHING, NOTHING, NOTHING, NOTHING, NOTHING, WRITTEN];
+
 const INIT_CASE: Case = Case {
     row: INIT,
     keyed: false,
     reads: &[],
-    disk_calls: &[NOTHING, NOTHING, NOTHING, NOTHING, NOTHING, WRITTEN],
+    disk_calls: &ONE_NUMBER,
 };
 
 // The first line has eight ticks and the second one four. The note falls into the last of these
@@ -368,20 +371,7 @@ const SEAL_CASE: Case = Case {
             },
         ),
     ],
-    disk_calls: &[
-        NOTHING,
-        NOTHING,
-        NOTHING,
-        NOTHING,
-        Left {
-            out: b"+01030000000ac5cd\n-3\n",
-            ..NOTHING
-        },
-        Left {
-            out: b"+01030000000ac5cd\n-3\n",
-            ..WRITTEN
-        },
-    ],
+    disk_calls: &ONE_NUMBER,
 };
 
 // The lines have 8, 3, 14 and 11 ticks. The note falls into the last tick of the trailer, the 25th
@@ -422,20 +412,7 @@ const CHECK_CASE: Case = Case {
             },
         ),
     ],
-    disk_calls: &[
-        NOTHING,
-        NOTHING,
-        NOTHING,
-        NOTHING,
-        Left {
-            out: b"-18\n+01030000000a\n",
-            ..NOTHING
-        },
-        Left {
-            out: b"-18\n+01030000000a\n",
-            ..WRITTEN
-        },
-    ],
+    disk_calls: &ONE_NUMBER,
 };
 
 // One frame and its packet. Nothing is printed before the end of the input.

@@ -6,7 +6,7 @@ use sequence_journal::{LinkId, slot_of};
 use std::alloc::Global;
 use std::process::Abort;
 use std::test::Fail;
-use yasir_io::{MemSink, SteadySlots, SteadySource};
+use yasir_io::{MemSink, SlotDisk, SteadySlots, SteadySource};
 
 /// How many frames each recording has. Together they have 70,000 bytes.
 const FRAMES: u64 = 2000;
@@ -20,20 +20,24 @@ const REQUEST: &[u8] = b"+01100000000d1a000102030405060708090a0b0c0d0e0f10111213
 const FRAME: &str = "01100000000d1a000102030405060708090a0b0c0d0e0f10111213141516171819096d";
 
 /// How many ticks a request has, with its silence.
-const PERIOD: u64 = 35 + 40;
+pub const PERIOD: u64 = 35 + 40;
 
 /// The receiver's delay: how many ticks after it came in a byte leaves.
 const DELAY: u64 = 18;
 
-// Runs the program with these words over this text, with ample room for what is written.
-fn run_over(alloc: Global, words: &str, text: &[u8]) -> Result<Ran, Fail> {
+/// Runs the program with these words over this text and this disk, with ample room for what is
+/// written.
+pub fn run_on<D: SlotDisk>(
+    alloc: Global,
+    words: &str,
+    text: &[u8],
+    disk: &mut D,
+) -> Result<Ran, Fail> {
     let words = words_of(alloc, words)?;
     let mut key = SteadySource::new(KEY);
     let mut input = SteadySource::new(text);
     let mut out = MemSink::with_room(alloc, 1_000_000, 512, plan(0))?;
     let mut log = MemSink::with_room(alloc, 1_000_000, 512, plan(0))?;
-    let served = LinkId::of_no_file();
-    let mut disk = SteadySlots::new(slot_of(0, &served), [0; 24]);
     let status = run(
         alloc,
         words.as_slice(),
@@ -41,15 +45,22 @@ fn run_over(alloc: Global, words: &str, text: &[u8]) -> Result<Ran, Fail> {
         &mut input,
         &mut out,
         &mut log,
-        &mut disk,
+        disk,
     );
     Ok(Ran { status, out, log })
 }
 
-// Returns the device's line: requests, each with its silence.
-fn requests(alloc: Global) -> Result<Vec<u8>, Fail> {
+// Runs the program with these words over this text and a new journal.
+fn run_over(alloc: Global, words: &str, text: &[u8]) -> Result<Ran, Fail> {
+    let served = LinkId::of_no_file();
+    let mut disk = SteadySlots::new(slot_of(0, &served), [0; 24]);
+    run_on(alloc, words, text, &mut disk)
+}
+
+/// Returns the line of a device: so many requests, each with its silence.
+pub fn requests(alloc: Global, count: u64) -> Result<Vec<u8>, Fail> {
     let mut text = Vec::new(alloc);
-    for _ in 0..FRAMES {
+    for _ in 0..count {
         text.extend_from_slice(REQUEST)?;
     }
     Ok(text)
@@ -110,7 +121,7 @@ fn done_over(rt: &impl Abort, alloc: Global, words: &str, text: &[u8]) -> Result
 
 // Returns both recordings: the device's line, and the link that the transmitter makes of it.
 fn recordings(rt: &impl Abort, alloc: Global) -> Result<Vec<u8>, Fail> {
-    let mut text = requests(alloc)?;
+    let mut text = requests(alloc, FRAMES)?;
     let sealed = done_over(rt, alloc, "seal rtu ab key journal", text.as_slice())?;
     text.extend_from_slice(b"%\n")?;
     text.extend_from_slice(sealed.out.held())?;

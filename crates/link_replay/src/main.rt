@@ -25,6 +25,8 @@ mod recording_tests;
 #[cfg(test)]
 mod running;
 #[cfg(test)]
+mod settling;
+#[cfg(test)]
 mod space_tests;
 #[cfg(test)]
 mod tests;

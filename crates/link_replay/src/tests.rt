@@ -55,7 +55,7 @@ pub fn slots_at(numbers: (Option<u64>, Option<u64>), link: &LinkId) -> ([u8; 24]
 pub fn disk_of(alloc: Global, row: &Row, fail: Plan) -> Result<MemSlots, Fail> {
     let old = if row.is_old { OLD_5 } else { OLD_NONE };
     let (a, b) = slots_at(row.slots, &row.link);
-    Ok(MemSlots::with_room(alloc, old, OLD_NONE, a, b, 16, fail)?)
+    Ok(MemSlots::with_room(alloc, old, OLD_NONE, a, b, 32, fail)?)
 }
 
 /// What a run is given, except its disk: its words, the key, the input, and the call of the output
@@ -645,12 +645,12 @@ const BOXES: [Row; 14] = [
         slots_now: (Some(0), None),
         ..CHECK
     },
-    // The number isn't committed, so the frame doesn't pass.
+    // The number isn't settled, so the frame doesn't pass.
     Row {
         disk_fails: 6,
         status: Status::JournalFault,
         exit_status: 7,
-        out: b"-18\n+01030000000a\n",
+        out: b"",
         log: b"fault: journal\n",
         ..CHECK
     },

@@ -1,8 +1,8 @@
 //! Tests of the receiver over links of Modbus RTU, with an attacker and with faults outside.
 use crate::outside::{Failing, STEADY};
 use crate::over_boxes::{
-    AT_0, AT_1, AT_2, AT_LIMIT, BoxKind, DiskFault, FRESH, Held, KEY, NO_NUMBER, NOTHING, Reading,
-    Row, ThreeFrames, compare_all, fail_each_call, has_passed,
+    AT_0, AT_1, AT_2, AT_3, AT_LIMIT, BoxKind, FRESH, Held, KEY, NO_NUMBER, NOTHING, Reading, Row,
+    compare_all, fail_each_call, has_passed,
 };
 use command_ends::Status;
 use device_model::RtuDevice;
@@ -11,8 +11,6 @@ use std::test::Fail;
 use yasir_ticks::{BadTicks, TickFault};
 
 /// Slots that hold these numbers.
-const AT_3: Held = Held::Number(3);
-
 const AT_65536: Held = Held::Number(65_536);
 
 const AT_BEFORE_LIMIT: Held = Held::Number(281_474_976_710_654);
@@ -339,52 +337,19 @@ fn a_device_reads_what_passed(rt: HostRuntime) -> Result<(), Fail> {
     Ok(())
 }
 
-const THREE_PACKETS: ThreeFrames = ThreeFrames {
+const THREE_PACKETS: Row = Row {
     text: b"+01030000000ac5cd\n-3\n+0001014c5b8d33c6d29a347013b0\n-4\n+010300000001840a\n-3\n\
         +0002ee5b1d1d6fc159af2411aeb5\n-4\n+1103006b00037687\n-3\n+00037f89dbbfa5b4b19474035c96\n\
         -7\n",
-    notes: &[
-        b"",
-        b"passed 1 at 0 len 8\n",
-        b"passed 1 at 0 len 8\npassed 2 at 29 len 8\n",
-        b"passed 1 at 0 len 8\npassed 2 at 29 len 8\npassed 3 at 58 len 8\n",
-    ],
+    out: b"-18\n+01030000000ac5cd\n-21\n+010300000001840a\n-21\n+1103006b00037687\n-326\n",
+    log: b"passed 1 at 0 len 8\npassed 2 at 29 len 8\npassed 3 at 58 len 8\n",
+    slots_now: (AT_2, AT_3),
+    ..WHOLE
 };
-
-/// What the receiver sends for three packets before the tick of the last byte of the first trailer,
-/// of the second and of the third, and up to the end.
-const BEFORE_ONE: &[u8] = b"-18\n+01030000000a\n";
-
-const BEFORE_TWO: &[u8] = b"-18\n+01030000000ac5cd\n-21\n+010300000001\n";
-
-const BEFORE_THREE: &[u8] = b"-18\n+01030000000ac5cd\n-21\n+010300000001840a\n-21\n+1103006b0003\n";
-
-const THREE_PASSED: &[u8] =
-    b"-18\n+01030000000ac5cd\n-21\n+010300000001840a\n-21\n+1103006b00037687\n-326\n";
-
-const DISK_FAULTS: [DiskFault; 11] = [
-    (1, b"", 0, 0),
-    (2, b"", 0, 0),
-    (3, b"", 0, 0),
-    (4, b"", 0, 0),
-    (5, BEFORE_ONE, 0, 0),
-    (6, BEFORE_ONE, 0, 1),
-    (7, BEFORE_TWO, 1, 1),
-    (8, BEFORE_TWO, 1, 2),
-    (9, BEFORE_THREE, 2, 2),
-    (10, BEFORE_THREE, 2, 3),
-    (11, THREE_PASSED, 3, 3),
-];
 
 #[test]
 fn a_failed_call_of_the_disk_passes_no_number_twice(rt: HostRuntime) -> Result<(), Fail> {
-    fail_each_call(
-        &rt,
-        rt.alloc(),
-        BoxKind::CheckRtu,
-        &THREE_PACKETS,
-        &DISK_FAULTS,
-    )
+    fail_each_call(&rt, rt.alloc(), BoxKind::CheckRtu, &THREE_PACKETS)
 }
 
 /// A row in which nothing is written but the fault line.

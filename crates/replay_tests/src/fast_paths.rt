@@ -558,9 +558,9 @@ const REQUESTS: u64 = 7000;
 /// and one of silence.
 const LINK_TEXT: u64 = 18 + 3 + 30 + 4;
 
-/// How many bytes at least wait when a buffer is written: 65,536 less the longest line, which is
-/// that of a note and has 80.
-const LEAST_WRITTEN: u64 = 65_536 - 80;
+/// How many bytes of ticks at least wait when they are written since there is no room for more:
+/// 65,536 less eleven lines of 66 bytes.
+const LEAST_WRITTEN: u64 = 65_536 - 726;
 
 // Seals the line of this text, and counts what is written.
 fn seal_counted(text: &[u8], out: &mut CountedSink, log: &mut CountedSink) -> Status {

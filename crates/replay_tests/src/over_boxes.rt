@@ -13,7 +13,7 @@ use link_format::{Dir, HmacSha1, HmacSha256};
 use rtu_frame::Rtu;
 use seal_transmitter::Sealer;
 use sequence_journal::{Journal, LIMIT, LinkId, slot_of};
-use std::alloc::{AllocError, Global};
+use std::alloc::Global;
 use std::process::Abort;
 use std::test::Fail;
 use yasir_io::{MemSink, MemSlots, MemSource, NoMemory, Sink, Slot, SlotDisk, Source, SteadySlots};
@@ -35,6 +35,8 @@ pub const AT_0: Held = Held::Number(0);
 pub const AT_1: Held = Held::Number(1);
 
 pub const AT_2: Held = Held::Number(2);
+
+pub const AT_3: Held = Held::Number(3);
 
 pub const AT_LIMIT: Held = Held::Number(281_474_976_710_655);
 
@@ -261,15 +263,20 @@ fn has_results(rt: &impl Abort, ran: &Ran, kind: BoxKind, row: &Row) {
     has_slots(rt, &ran.disk, row.slots_now, kind, row.dir);
 }
 
-/// Runs a box over the line of a row, and checks that the results are those of the row.
-pub fn compare(rt: &impl Abort, alloc: Global, kind: BoxKind, row: &Row) -> Result<(), Fail> {
+// Runs a box over the line of a row.
+fn run_row(alloc: Global, kind: BoxKind, row: &Row) -> Result<Ran, Fail> {
     let given = Given {
         dir: row.dir,
         key: row.key,
         text: row.text,
         failing: &row.failing,
     };
-    let ran = replay(alloc, kind, &given, row.slots)?;
+    replay(alloc, kind, &given, row.slots)
+}
+
+/// Runs a box over the line of a row, and checks that the results are those of the row.
+pub fn compare(rt: &impl Abort, alloc: Global, kind: BoxKind, row: &Row) -> Result<(), Fail> {
+    let ran = run_row(alloc, kind, row)?;
     has_results(rt, &ran, kind, row);
     Ok(())
 }
@@ -319,26 +326,25 @@ fn floor_of(a: [u8; 24], b: [u8; 24], link: &LinkId) -> Option<u64>
     }
 }
 
-/// The text of a line of three frames, and the notes on none of the frames, on one, on two and on
-/// all three.
-#[derive(Clone, Copy)]
-pub struct ThreeFrames {
-    pub text: &'static [u8],
-    pub notes: &'static [&'static [u8]; 4],
-}
+/// Which call of the disk fails, and what slots A and B hold then.
+type DiskFault = (u32, Numbers);
 
-/// Which call of the disk fails, what the box sends, how many notes are written, and the floor that
-/// a later run loads.
-pub type DiskFault = (u32, &'static [u8], usize, u64);
+/// A journal is loaded with four calls. All that is made of a short line goes out at its end, and
+/// so the disk is brought to three numbers at once: first the last of them is written over the slot
+/// that doesn't hold the floor, and synced, and then the one before it over the other slot.
+const DISK_FAULTS: [DiskFault; 8] = [
+    (1, FRESH),
+    (2, FRESH),
+    (3, FRESH),
+    (4, FRESH),
+    (5, FRESH),
+    (6, (AT_0, AT_3)),
+    (7, (AT_0, AT_3)),
+    (8, (AT_2, AT_3)),
+];
 
-// The text of the log: these notes, and the fault line after them if the journal failed.
-fn log_of(alloc: Global, notes: &[u8], has_failed: bool) -> Result<Vec<u8>, AllocError> {
-    let mut log = notes.to_vec(alloc)?;
-    if has_failed {
-        log.extend_from_slice(b"fault: journal\n")?;
-    }
-    Ok(log)
-}
+/// A call of the disk that isn't made.
+const NO_CALL: u32 = 9;
 
 /// A slot that was being written when the program ended.
 const TORN: [u8; 24] = [0x11; 24];
@@ -350,95 +356,61 @@ fn has_floor(rt: &impl Abort, a: [u8; 24], b: [u8; 24], link: &LinkId, floor: u6
     assert!(rt; floor_of(a, b, link) == Some(floor));
 }
 
-// Checks that a later run loads this floor. If a sync failed, the slot that was written may be
-// torn, and the floor before it is loaded.
-fn loads(rt: &impl Abort, disk: &MemSlots, link: &LinkId, call: u32, floor: u64)
+// Checks the floor that a later run loads. If a sync failed, the slot that was written may be torn:
+// then that is the floor before it, or the floor that the other slot holds by now.
+fn loads(rt: &impl Abort, disk: &MemSlots, link: &LinkId, call: u32)
     requires { HasDirection link.now }
 {
     let (a, b) = (disk.slot(Slot::A), disk.slot(Slot::B));
-    has_floor(rt, a, b, link, floor);
+    has_floor(rt, a, b, link, if call < 6 { 0 } else { 3 });
     match call {
         6 => has_floor(rt, a, TORN, link, 0),
-        8 => has_floor(rt, TORN, b, link, 1),
+        8 => has_floor(rt, TORN, b, link, 3),
         _ => {}
     }
 }
 
-// Checks that a run ended because its journal failed, or else that it is done.
-fn has_ended(rt: &impl Abort, status: &Status, has_failed: bool) {
-    if has_failed {
-        has_status(rt, status, &Status::JournalFault, 7);
-    } else {
-        assert!(rt; *status == Status::Done);
-    }
-}
-
-// Checks that the log holds these notes, and the fault line after them if the journal failed.
-fn has_logged(
-    rt: &impl Abort,
-    alloc: Global,
-    log: &MemSink,
-    notes: &[u8],
-    has_failed: bool,
-) -> Result<(), Fail> {
-    let text = log_of(alloc, notes, has_failed)?;
-    holds(rt, log, text.as_slice());
-    Ok(())
-}
-
-// Checks the status, the output and the log of a run in which this call of the disk was to fail.
-fn has_ended_at(
-    rt: &impl Abort,
-    alloc: Global,
-    ran: &Ran,
-    notes: &[u8],
-    fault: &DiskFault,
-) -> Result<(), Fail> {
-    let (_, out, noted, _) = *fault;
-    has_ended(rt, &ran.status, noted < 3);
-    holds(rt, &ran.out, out);
-    has_logged(rt, alloc, &ran.log, notes, noted < 3)
-}
-
-// The notes that are written if this call of the disk fails.
-fn notes_at(rt: &impl Abort, line: &ThreeFrames, fault: &DiskFault) -> &'static [u8] {
-    let noted = fault.2;
-    assert!(rt; noted < 4);
-    line.notes[noted]
-}
-
-// Runs a box over a line of three frames, with a fresh journal, and lets this call of the disk
-// fail.
+// Checks a run over the line of a row in which this call of the disk fails. Nothing goes out.
 fn fail_call(
     rt: &impl Abort,
     alloc: Global,
     kind: BoxKind,
-    line: &ThreeFrames,
+    row: &Row,
     fault: &DiskFault,
 ) -> Result<(), Fail> {
-    let (call, _, _, floor) = *fault;
-    let failing = Failing {
-        disk: call,
-        ..STEADY
+    let (disk, slots_now) = *fault;
+    let failed = Row {
+        failing: Failing { disk, ..STEADY },
+        status: Status::JournalFault,
+        exit_status: 7,
+        out: b"",
+        log: b"fault: journal\n",
+        slots_now,
+        ..*row
     };
-    let notes = notes_at(rt, line, fault);
-    let ran = replay(alloc, kind, &line_given(line.text, &failing), FRESH)?;
-    has_ended_at(rt, alloc, &ran, notes, fault)?;
-    loads(rt, &ran.disk, &link_of(kind, Dir::Ab), call, floor);
+    let ran = run_row(alloc, kind, &failed)?;
+    has_results(rt, &ran, kind, &failed);
+    loads(rt, &ran.disk, &link_of(kind, row.dir), disk);
     Ok(())
 }
 
-/// Runs a box over a line of three frames, with a fresh journal, and lets each call of the disk
-/// fail in turn. A journal is loaded with four calls, and each number costs a write and a sync.
+/// Runs a box over the line of a row, which has three frames and a fresh journal, and lets each
+/// call of the disk fail in turn, and one that isn't made.
 pub fn fail_each_call(
     rt: &impl Abort,
     alloc: Global,
     kind: BoxKind,
-    line: &ThreeFrames,
-    faults: &[DiskFault; 11],
+    row: &Row,
 ) -> Result<(), Fail> {
-    for fault in faults {
-        fail_call(rt, alloc, kind, line, fault)?;
+    for fault in &DISK_FAULTS {
+        fail_call(rt, alloc, kind, row, fault)?;
     }
-    Ok(())
+    let whole = Row {
+        failing: Failing {
+            disk: NO_CALL,
+            ..STEADY
+        },
+        ..*row
+    };
+    compare(rt, alloc, kind, &whole)
 }

@@ -1,8 +1,8 @@
 //! Tests of the transmitter over lines of Modbus RTU, with faults outside.
 use crate::outside::{Failing, STEADY};
 use crate::over_boxes::{
-    AT_0, AT_1, AT_2, AT_LIMIT, BoxKind, DiskFault, FRESH, Held, KEY, NO_NUMBER, NOTHING, Ran, Row,
-    ThreeFrames, compare_all, fail_each_call, holds, line_given, replay,
+    AT_0, AT_1, AT_2, AT_3, AT_LIMIT, BoxKind, FRESH, Held, KEY, NO_NUMBER, NOTHING, Ran, Row,
+    compare_all, fail_each_call, holds, line_given, replay,
 };
 use crate::texts::repeated;
 use command_ends::Status;
@@ -146,55 +146,19 @@ fn seals_the_longest_frame(rt: HostRuntime) -> Result<(), Fail> {
     Ok(())
 }
 
-const THREE_FRAMES: ThreeFrames = ThreeFrames {
+const THREE_FRAMES: Row = Row {
     text: b"+01030000000ac5cd\n-21\n+010300000001840a\n-21\n+1103006b00037687\n",
-    notes: &[
-        b"",
-        b"sealed 1 at 0 len 8\n",
-        b"sealed 1 at 0 len 8\nsealed 2 at 29 len 8\n",
-        b"sealed 1 at 0 len 8\nsealed 2 at 29 len 8\nsealed 3 at 58 len 8\n",
-    ],
-};
-
-/// What the transmitter sends for three frames before the tick that closes the first, the second
-/// and the third, and up to the end.
-const ONE_CLOSED: &[u8] = b"+01030000000ac5cd\n-3\n";
-
-const TWO_CLOSED: &[u8] =
-    b"+01030000000ac5cd\n-3\n+0001014c5b8d33c6d29a347013b0\n-4\n+010300000001840a\n-3\n";
-
-const THREE_CLOSED: &[u8] =
-    b"+01030000000ac5cd\n-3\n+0001014c5b8d33c6d29a347013b0\n-4\n+010300000001840a\n-3\n\
-        +0002ee5b1d1d6fc159af2411aeb5\n-4\n+1103006b00037687\n-3\n";
-
-const THREE_SEALED: &[u8] =
-    b"+01030000000ac5cd\n-3\n+0001014c5b8d33c6d29a347013b0\n-4\n+010300000001840a\n-3\n\
+    out: b"+01030000000ac5cd\n-3\n+0001014c5b8d33c6d29a347013b0\n-4\n+010300000001840a\n-3\n\
         +0002ee5b1d1d6fc159af2411aeb5\n-4\n+1103006b00037687\n-3\n+00037f89dbbfa5b4b19474035c96\n\
-        -7\n";
-
-const DISK_FAULTS: [DiskFault; 11] = [
-    (1, b"", 0, 0),
-    (2, b"", 0, 0),
-    (3, b"", 0, 0),
-    (4, b"", 0, 0),
-    (5, ONE_CLOSED, 0, 0),
-    (6, ONE_CLOSED, 0, 1),
-    (7, TWO_CLOSED, 1, 1),
-    (8, TWO_CLOSED, 1, 2),
-    (9, THREE_CLOSED, 2, 2),
-    (10, THREE_CLOSED, 2, 3),
-    (11, THREE_SEALED, 3, 3),
-];
+        -7\n",
+    log: b"sealed 1 at 0 len 8\nsealed 2 at 29 len 8\nsealed 3 at 58 len 8\n",
+    slots_now: (AT_2, AT_3),
+    ..WHOLE
+};
 
 #[test]
 fn a_failed_call_of_the_disk_loses_no_number(rt: HostRuntime) -> Result<(), Fail> {
-    fail_each_call(
-        &rt,
-        rt.alloc(),
-        BoxKind::SealRtu,
-        &THREE_FRAMES,
-        &DISK_FAULTS,
-    )
+    fail_each_call(&rt, rt.alloc(), BoxKind::SealRtu, &THREE_FRAMES)
 }
 
 /// A row in which nothing is written but the fault line.

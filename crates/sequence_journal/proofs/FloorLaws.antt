@@ -120,12 +120,12 @@ pub kept_where_synced : (journal : Journal) (told : Option Slots) (images : Slot
 kept_where_synced journal told images synced c image =
     rw (synced c image) (same_as_is (other_slot (kept_slot journal)) c)
 
-kept_of_but : (slot : Slot) (slots : Slots) (bytes : List ℕ)
+pub kept_of_but : (slot : Slot) (slots : Slots) (bytes : List ℕ)
     → slot_in (with_slot slots (other_slot slot) bytes) slot ≡ slot_in slots slot
 kept_of_but A slots bytes = refl
 kept_of_but B slots bytes = refl
 
-old_of_but : (slot : Slot) (slots : Slots) (bytes : List ℕ)
+pub old_of_but : (slot : Slot) (slots : Slots) (bytes : List ℕ)
     → old_floor (with_slot slots slot bytes) ≡ old_floor slots
 old_of_but A slots bytes = refl
 old_of_but B slots bytes = refl

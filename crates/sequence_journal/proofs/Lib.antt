@@ -1,5 +1,6 @@
 pub mod FailedCallLaws
 pub mod FloorLaws
+pub mod LateLemmas
 pub mod LoadLemmas
 pub mod NumberLaws
 pub mod SlotLemmas

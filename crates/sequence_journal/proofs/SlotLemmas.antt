@@ -120,7 +120,7 @@ no_own_floor link slots right none =
     let both = neither (any_number_held slots.a) (any_number_held slots.b) none in
     rw (none_of_own link slots.a right both.0, none_of_own link slots.b right both.1) refl
 
-other_twice : (slot : Slot) → other_slot (other_slot slot) ≡ slot
+pub other_twice : (slot : Slot) → other_slot (other_slot slot) ≡ slot
 other_twice A = refl
 other_twice B = refl
 
@@ -150,7 +150,7 @@ if_some_weaker P Q None weaker holds = tt
 if_some_weaker P Q (Some x) weaker holds = weaker x holds
 
 -- the floor isn't below the number of the link, and a number above the floor becomes the floor
-below_floor : (m floor : ℕ) (old : Option ℕ) → greater (Some m) old ≡ Some floor → m ≤ floor
+pub below_floor : (m floor : ℕ) (old : Option ℕ) → greater (Some m) old ≡ Some floor → m ≤ floor
 below_floor m floor None is = let same : m ≡ floor = ap (λ o. unwrap_or o m) is in omega arith
 below_floor m floor (Some o) is =
     let same : max m o ≡ floor = ap (λ o. unwrap_or o m) is in omega arith

@@ -1,6 +1,8 @@
+pub mod Ahead
 pub mod Commits
 pub mod FailedCalls
 pub mod Journal
+pub mod Late
 pub mod Links
 pub mod Loading
 pub mod Numbers

@@ -55,11 +55,16 @@ pub struct Journal {
 
 impl Journal {
     ghost use Rattle.std.specs.Prelude.{◌≡◌, ℕ, ◌≤◌, ◌<◌, [], ◌∷◌, true, false, Some, None, Err};
-    ghost use Rattle.std.specs.Prelude.{OnOk, OnErr, IfOk, IfErr, IfSome};
+    ghost use Rattle.std.specs.Prelude.{OnOk, OnErr, IfOk, IfErr, IfSome, is_err};
     ghost use Rattle.yasir_io.specs.declared.disk.Slot.TheVariants.{A, B};
     ghost use Rattle.yasir_io.specs.Causes.{HasCause};
-    ghost use Rattle.yasir_io.specs.Disks.{Slots, NoMore, OneImage, LeavesOnly};
+    ghost use Rattle.yasir_io.specs.Disks.{Slots, NoMore, OneImage, LeavesOnly, other_slot};
     ghost use Rattle.sequence_journal.specs.Links.{HasDirection};
+    ghost use Rattle.sequence_journal.specs.declared.late.Owed.TheVariants.{Even, Odd};
+    ghost use Rattle.sequence_journal.specs.Late.{HasFloorBetween, HoldsFloor, with_owed};
+    ghost use Rattle.sequence_journal.specs.Late.{HoldsInOther, MayOwe};
+    ghost use Rattle.sequence_journal.specs.Ahead.{OldWithin};
+    ghost use Rattle.sequence_journal.specs.Journal.{HasFloorAtLeast, IsEitherFloor};
     ghost use Rattle.sequence_journal.specs.Slots.{slot_bytes, greatest, floor_of};
     ghost use Rattle.sequence_journal.specs.Journal.{journal_link, journal_floor, kept_slot};
     ghost use Rattle.sequence_journal.specs.Journal.{is_broken, Fits, IsKept, IsBut, HasFloorFrom};
@@ -107,6 +112,22 @@ impl Journal {
             return Err(InitError::Fault);
         };
         Ok(journal)
+    }
+
+    /// Returns a journal at the same floor that goes on in memory, over a disk that tells nothing.
+    pub fn in_memory(&self) -> Journal
+        requires whole { is_broken self.now ≡ false }
+        ensures floor { journal_floor result ≡ journal_floor self.now }
+        ensures link { journal_link result ≡ journal_link self.now }
+        ensures fits { Fits result None }
+        ensures same { result ≡ self.now }
+    {
+        Journal {
+            link: self.link,
+            floor: self.floor,
+            kept: self.kept,
+            broken: false,
+        }
     }
 
     // Begins a journal of a link, at floor `n` and in slot A.
@@ -248,5 +269,186 @@ impl Journal {
         self.floor = n;
         self.kept = slot;
         Ok(())
+    }
+
+    fn fail(&mut self) -> JournalFault
+        ensures { self.new ≡ record self.old { broken = true } }
+    {
+        self.broken = true;
+        JournalFault
+    }
+
+    // Writes a number below the floor into the slot that doesn't keep the floor, and then syncs.
+    fn fill<D: SlotDisk>(&mut self, disk: &mut D, n: u64) -> Result<(), JournalFault>
+        requires fits { Fits self.old (D.told disk.old) }
+        requires holds { HoldsFloor self.old (D.told disk.old) }
+        requires below { n < journal_floor self.old }
+        requires within { n ≤ LIMIT }
+
+        ensures link { journal_link self.new ≡ journal_link self.old }
+        ensures floor { journal_floor self.new ≡ journal_floor self.old }
+        ensures kept_slot { kept_slot self.new ≡ kept_slot self.old }
+        ensures fits { OnOk result (Fits self.new (D.told disk.new)) }
+        ensures set { OnOk result (D.told disk.new ≡ told_with (D.told disk.old)
+            (other_slot (kept_slot self.old)) (slot_bytes n (journal_link self.old))) }
+        ensures synced { OnOk result (OneImage (D.told disk.new) (D.may_leave disk.new)) }
+        ensures failed { OnErr result (IfSome (D.told disk.new) (λ slots.
+            floor_of (journal_link self.old) slots ≡ Some (journal_floor self.old))) }
+        ensures may_set { OnErr result (MaySet (D.told disk.old)
+            (other_slot (kept_slot self.old)) (slot_bytes n (journal_link self.old))
+            (D.told disk.new)) }
+        ensures broken { is_broken self.new ≡ is_err result }
+        ensures any_moment { IsKept self.old (D.told disk.old) (D.may_leave disk.old)
+            → LeavesOnly D.moment D.left_since disk.old disk.new (HasFloorFrom self.old) }
+        ensures crash_safe { IsCrashSafe self.old (D.told disk.old) (D.may_leave disk.old)
+            → IsCrashSafe self.new (D.told disk.new) (D.may_leave disk.new) }
+        ensures cause { HasCause (D.faults disk.old) (D.faults disk.new) result }
+    {
+        let other = self.kept.other();
+        let Ok(()) = write_and_sync(disk, other, &slot_of(n, &self.link)) else {
+            return Err(self.fail());
+        };
+        Ok(())
+    }
+
+    /// Commits two numbers, one after the other.
+    pub(crate) fn commit_both<D: SlotDisk>(
+        &mut self,
+        disk: &mut D,
+        first: u64,
+        second: u64,
+    ) -> Result<(), JournalFault>
+        requires fits { Fits self.old (D.told disk.old) }
+        requires rises { journal_floor self.old < first }
+        requires more { first < second }
+        requires within { second ≤ LIMIT }
+
+        ensures link { journal_link self.new ≡ journal_link self.old }
+        ensures floor { OnOk result (journal_floor self.new ≡ second) }
+        ensures turned { OnOk result (kept_slot self.new ≡ kept_slot self.old) }
+        ensures fits { OnOk result (Fits self.new (D.told disk.new)) }
+        ensures set { OnOk result (D.told disk.new ≡ with_owed (journal_link self.old)
+            (kept_slot self.old) (Even first second) (D.told disk.old)) }
+        ensures synced { OnOk result (OneImage (D.told disk.new) (D.may_leave disk.new)) }
+        ensures failed { OnErr result (IfSome (D.told disk.new)
+            (HasFloorBetween (journal_link self.old) (journal_floor self.old) second)) }
+        ensures writes { OnErr result (MayOwe (journal_link self.old) (kept_slot self.old)
+            (Even first second) (D.told disk.old) (D.told disk.new)) }
+        ensures broken { is_broken self.new ≡ is_err result }
+        ensures not_below { journal_floor self.old ≤ journal_floor self.new }
+        ensures any_moment { IsCrashSafe self.old (D.told disk.old) (D.may_leave disk.old)
+            → LeavesOnly D.moment D.left_since disk.old disk.new
+            (HasFloorFrom self.old) }
+        ensures crash_safe { IsCrashSafe self.old (D.told disk.old) (D.may_leave disk.old)
+            → IsCrashSafe self.new (D.told disk.new) (D.may_leave disk.new) }
+        ensures cause { HasCause (D.faults disk.old) (D.faults disk.new) result }
+    {
+        self.commit(disk, first)?;
+        self.commit(disk, second)
+    }
+
+    /// Commits the last of some numbers, an odd number of them, and then writes the one before it
+    /// where a commit for each would have left it.
+    pub(crate) fn commit_last<D: SlotDisk>(
+        &mut self,
+        disk: &mut D,
+        before: u64,
+        last: u64,
+    ) -> Result<(), JournalFault>
+        requires fits { Fits self.old (D.told disk.old) }
+        requires rises { journal_floor self.old < before }
+        requires more { before < last }
+        requires within { last ≤ LIMIT }
+
+        ensures link { journal_link self.new ≡ journal_link self.old }
+        ensures floor { OnOk result (journal_floor self.new ≡ last) }
+        ensures turned { OnOk result (kept_slot self.new ≡ other_slot (kept_slot self.old)) }
+        ensures fits { OnOk result (Fits self.new (D.told disk.new)) }
+        ensures set { OnOk result (D.told disk.new ≡ with_owed (journal_link self.old)
+            (kept_slot self.old) (Odd before last) (D.told disk.old)) }
+        ensures synced { OnOk result (OneImage (D.told disk.new) (D.may_leave disk.new)) }
+        ensures failed { OnErr result (IfSome (D.told disk.new)
+            (HasFloorBetween (journal_link self.old) (journal_floor self.old) last)) }
+        ensures writes { OnErr result (MayOwe (journal_link self.old) (kept_slot self.old)
+            (Odd before last) (D.told disk.old) (D.told disk.new)) }
+        ensures broken { is_broken self.new ≡ is_err result }
+        ensures not_below { journal_floor self.old ≤ journal_floor self.new }
+        ensures any_moment { IsCrashSafe self.old (D.told disk.old) (D.may_leave disk.old)
+            → LeavesOnly D.moment D.left_since disk.old disk.new
+            (HasFloorFrom self.old) }
+        ensures crash_safe { IsCrashSafe self.old (D.told disk.old) (D.may_leave disk.old)
+            → IsCrashSafe self.new (D.told disk.new) (D.may_leave disk.new) }
+        ensures cause { HasCause (D.faults disk.old) (D.faults disk.new) result }
+    {
+        self.commit(disk, last)?;
+        self.fill(disk, before)
+    }
+
+    // Writes a number below the floor into the slot that keeps the floor, and then syncs, if the
+    // other slot holds the number already.
+    fn drop_to<D: SlotDisk>(&mut self, disk: &mut D, n: u64) -> Result<(), JournalFault>
+        requires fits { Fits self.old (D.told disk.old) }
+        requires other { HoldsInOther self.old n (D.told disk.old) }
+        requires old_within { OldWithin n (D.told disk.old) }
+        requires synced { OneImage (D.told disk.old) (D.may_leave disk.old) }
+        requires below { n < journal_floor self.old }
+
+        ensures link { journal_link self.new ≡ journal_link self.old }
+        ensures floor { journal_floor self.new ≡ n }
+        ensures fits { OnOk result (Fits self.new (D.told disk.new)) }
+        ensures set { OnOk result (D.told disk.new ≡ told_with (D.told disk.old)
+            (kept_slot self.old) (slot_bytes n (journal_link self.old))) }
+        ensures synced { OnOk result (OneImage (D.told disk.new) (D.may_leave disk.new)) }
+        ensures failed { OnErr result (IfSome (D.told disk.new)
+            (IsEitherFloor (journal_link self.old) (journal_floor self.old) n)) }
+        ensures may_set { OnErr result (MaySet (D.told disk.old) (kept_slot self.old)
+            (slot_bytes n (journal_link self.old)) (D.told disk.new)) }
+        ensures broken { is_broken self.new ≡ is_err result }
+        ensures any_moment { LeavesOnly D.moment D.left_since disk.old disk.new
+            (HasFloorAtLeast (journal_link self.old) n) }
+        ensures crash_safe { IsCrashSafe self.new (D.told disk.new) (D.may_leave disk.new) }
+        ensures cause { HasCause (D.faults disk.old) (D.faults disk.new) result }
+    {
+        let kept = self.kept;
+        // If the write fails, it is the other slot that holds the number for sure.
+        self.floor = n;
+        self.kept = kept.other();
+        let Ok(()) = write_and_sync(disk, kept, &slot_of(n, &self.link)) else {
+            return Err(self.fail());
+        };
+        // Both slots hold the same number now, and then A counts.
+        self.kept = Slot::A;
+        Ok(())
+    }
+
+    /// Brings the floor down to `n`: first the slot that doesn't keep the floor is written and
+    /// synced, and then the one that does.
+    pub(crate) fn lower<D: SlotDisk>(&mut self, disk: &mut D, n: u64) -> Result<(), JournalFault>
+        requires fits { Fits self.old (D.told disk.old) }
+        requires old_within { OldWithin n (D.told disk.old) }
+        requires below { n < journal_floor self.old }
+
+        ensures link { journal_link self.new ≡ journal_link self.old }
+        ensures floor { OnOk result (journal_floor self.new ≡ n) }
+        ensures fits { OnOk result (Fits self.new (D.told disk.new)) }
+        ensures old_within { OnOk result (OldWithin n (D.told disk.new)) }
+        ensures set { OnOk result (D.told disk.new ≡ with_owed (journal_link self.old)
+            (kept_slot self.old) (Even n n) (D.told disk.old)) }
+        ensures writes { OnErr result (MayOwe (journal_link self.old) (kept_slot self.old)
+            (Even n n) (D.told disk.old) (D.told disk.new)) }
+        ensures synced { OnOk result (OneImage (D.told disk.new) (D.may_leave disk.new)) }
+        ensures failed { OnErr result (IfSome (D.told disk.new)
+            (HasFloorBetween (journal_link self.old) n (journal_floor self.old))) }
+        ensures not_below { n ≤ journal_floor self.new }
+        ensures broken { is_broken self.new ≡ is_err result }
+        ensures any_moment { IsCrashSafe self.old (D.told disk.old) (D.may_leave disk.old)
+            → LeavesOnly D.moment D.left_since disk.old disk.new
+            (HasFloorAtLeast (journal_link self.old) n) }
+        ensures crash_safe { IsCrashSafe self.old (D.told disk.old) (D.may_leave disk.old)
+            → IsCrashSafe self.new (D.told disk.new) (D.may_leave disk.new) }
+        ensures cause { HasCause (D.faults disk.old) (D.faults disk.new) result }
+    {
+        self.fill(disk, n)?;
+        self.drop_to(disk, n)
     }
 }

@@ -12,14 +12,20 @@
 //! The number is used after the commit, and not before.
 #![tactic(auto)]
 
+mod ahead;
 mod journal;
+mod late;
 pub mod laws;
 mod link;
+mod no_slots;
 mod numbers;
 mod slots;
 
+pub use ahead::AheadJournal;
 pub use journal::{InitError, Journal, JournalFault, LoadError};
+pub use late::LateJournal;
 pub use link::LinkId;
+pub use no_slots::NoSlots;
 pub use numbers::{
     LIMIT, full_number, full_number_wide, full_with, link_in, number_in, number_in_old, slot_of,
 };

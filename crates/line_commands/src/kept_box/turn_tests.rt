@@ -57,13 +57,13 @@ fn calls_of<X: LineBox>(alloc: Global) -> Result<Calls, Fail>
     Ok(kept.line_box.calls)
 }
 
-// The transmitter is asked six times to forward: the first silence, the 256 live bytes of the burst,
-// the bytes after them, the three silent ticks before the one that closes the burst, that tick, and
+// The transmitter is asked eight times to forward: twice in the first silence, since a run has at
+// most 999,999 silent ticks, once for the 256 live bytes of the burst, for the bytes after them,
+// for the three silent ticks before the one that closes the burst, and for that tick, and twice in
 // the silence after it. It forwards neither the bytes that aren't live nor the tick that closes the
-// burst. So it is asked twice to pass, and this tick is a step of its own. The bounds leave room for
-// two more calls of either kind, but not for live bytes in runs of 64, with which it would be asked
-// nine times to forward. The receiver takes the first byte or two in steps of their own, and also a
-// few ticks when the burst is judged.
+// burst. So it is asked twice to pass, and this tick is a step of its own. The bounds leave no room
+// for live bytes in runs of 64, with which it would be asked eleven times to forward. The receiver
+// takes the first byte or two in steps of their own, and also a few ticks when the burst is judged.
 #[test]
 fn long_silence_and_long_bursts_cost_few_calls(rt: HostRuntime) -> Result<(), Fail> {
     let sealing = calls_of::<Sealer<Rtu, HmacSha1, 2>>(rt.alloc())?;

@@ -1,7 +1,17 @@
-use Rattle.std.proofs.Common.{arith, take}
+use Rattle.std.proofs.Common.{arith, take, refl}
 use Rattle.line_capture.proofs.CollectedBytes.{item_parts, item_front, length-front}
-use Rattle.line_capture.proofs.PlacedBytes.{one_more, one_stops, one_fails, next_so_far}
+use Rattle.line_capture.proofs.PlacedBytes.{none_so_far, one_more, one_stops, one_fails, next_so_far}
 use Rattle.line_capture.proofs.placing.place_bytes.Goals as goal
+
+pub loop-byte-init : goal.loop-byte-init
+loop-byte-init g c = record {
+  count = refl;
+  so_far = none_so_far g.O.Sink g.L.Sink c.args.timing _ _ c.requires c.new-placer.ensures.timing
+      c.new-placer.ensures.start;
+}
+
+pub place_next-requires-clause-room : goal.place_next-requires-clause-room
+place_next-requires-clause-room g c = c.loop-byte.invariant.so_far.room
 
 pub returns-in-Ok-Unplaced : goal.returns-in-Ok-Unplaced
 returns-in-Ok-Unplaced g c =

@@ -1,19 +1,31 @@
 use Rattle.line_commands.proofs.{Behind.drives_behind, Floors.disk_cause_of_end}
-use Rattle.line_commands.proofs.Outcomes.{BoxDrive, HasDriven, IsRun, is_run, write_stops}
-use Rattle.line_commands.proofs.Outcomes.{finish_fails, refusal_runs, whole_runs}
-use Rattle.line_commands.specs.{BoxLines.state_of, ReplaysBox.around}
-use Rattle.command_ends.proofs.EndCauses.{input_cause, sink_cause_of_end}
+use Rattle.line_commands.proofs.Floors.{disk_cause_of_whole}
+use Rattle.line_commands.proofs.Outcomes.{BoxDrive, HasDriven, IsRun, is_run, answer_ok, not_whole}
+use Rattle.line_commands.proofs.Outcomes.{sink_cause_of_stop, went_then, drive_stops, finish_stops}
+use Rattle.line_commands.proofs.Outcomes.{input_of_stop, refusal_runs, whole_runs, begun_state}
+use Rattle.line_commands.specs.BoxLines.{State, state_of, KeepsImages}
+use Rattle.line_commands.specs.{ReplaysBox.around, ReplaysBox.has_stopped}
+use Rattle.command_ends.proofs.EndCauses.{input_cause, input_cause_of_whole, sink_cause_of_end}
+use Rattle.command_ends.proofs.EndCauses.{sink_cause_of_whole}
 use Rattle.command_ends.proofs.FlushLaws.{flushes_of_whole, flushes_of_end}
-use Rattle.std.proofs.Common.{◌≡◌, ◌∙◌, ap, inl, refl, true, false}
-use Rattle.tick_drive.specs.{Consumers.is_write_fault, Drive.answer_of}
-use Rattle.yasir_io.proofs.FlushLaws.{none_flushed_then}
+use Rattle.std.proofs.Common.{◌≡◌, ◌∙◌, ap, refl, sym, subst, true, false, Err, Ok}
+use Rattle.tick_drive.specs.{Consumers.is_write_fault, Consumers.is_journal_fault}
+use Rattle.tick_drive.specs.{Consumers.IsDiskCause, Input.is_read_fault}
+use Rattle.tick_drive.specs.declared.end.End.TheVariants.{Stopped}
 use Rattle.line_commands.proofs.command.replay_keyed.Goals as goal
-use Rattle.line_commands.proofs.command.replay_keyed.Goals.{After-is_write_stop}
+use Rattle.line_commands.proofs.command.replay_keyed.Goals.{After-is_stopped}
 
--- the drive of the box
-abbrev drive : (g : _) → After-is_write_stop g
+-- the box, the sinks and the disk when the input had ended, or the box was stopped
+abbrev driven_state : (g : _) → After-is_stopped g
+    → State g.row.B.Denot g.row.O.Denot g.row.L.Denot g.row.D.Denot
+driven_state g c =
+    state_of c.lines-2-1.given.0 c.out-1.given.0 c.log-1.given.0 c.disk-1.given.0
+
+-- the drive of the box, and how it was left
+abbrev drive : (g : _) → After-is_stopped g
+    → State g.row.B.Denot g.row.O.Denot g.row.L.Denot g.row.D.Denot
     → BoxDrive g.row.B.Denot g.row.S.Denot g.row.O.Denot g.row.L.Denot g.row.D.Denot
-drive g c = record {
+drive g c last = record {
   link = c.args.link.now;
   key = c.args.key.now;
   dir = c.args.dir;
@@ -21,15 +33,17 @@ drive g c = record {
   rest = c.args.rest;
   before = around c.args.ends.input.now c.args.ends.out.now c.args.ends.log.now
       c.args.ends.disk.now;
-  ended = around c.drive_to_rest-end.new.input c.out-1.given.0 c.log-1.given.0 c.disk-1.given.0;
   loaded = c.load.new.disk;
   old = c.new-lines.result;
-  new = c.lines-2-1.given.0;
+  last = last.lines;
+  ended = around c.drive_to_rest-end.new.input last.out last.log last.disk;
 }
 
-driven : (g : _) (c : After-is_write_stop g) → HasDriven g.B.LinkBox g.B.LineBox.line_of
-    g.S.Source g.O.Sink g.L.Sink g.D.SlotDisk (drive g c) c.drive_to_rest-end.result
-driven g c =
+driven : (g : _) (c : After-is_stopped g)
+    (last : State g.row.B.Denot g.row.O.Denot g.row.L.Denot g.row.D.Denot)
+    → HasDriven g.B.LinkBox g.B.LineBox.line_of g.S.Source g.O.Sink g.L.Sink g.D.SlotDisk
+    (drive g c last) (driven_state g c) c.drive_to_rest-end.result
+driven g c last =
     let made = c.new-driven.ensures in
     drives_behind g.B.LinkBox g.B.LineBox.line_of g.O.Sink g.L.Sink g.D.SlotDisk
     c.new-driven.result c.drive_to_rest-end.new.consumer
@@ -39,93 +53,124 @@ driven g c =
     c.lines-2-1.given c.out-1.given c.log-1.given c.disk-1.given 0 c.args.rest _ _
     c.drive_to_rest-end.result c.drive_to_rest-end.ensures.driven
 
-run : (g : _) (c : After-is_write_stop g) → IsRun g.B.LinkBox g.B.LineBox.line_of
-    g.S.Source g.O.Sink g.L.Sink g.D.SlotDisk (drive g c)
-run g c = is_run g.B.LinkBox g.B.LineBox.line_of g.S.Source g.O.Sink g.L.Sink g.D.SlotDisk
-    (drive g c) g.met.B.LineBox.causal g.met.B.LineBox.rising c.in-Ok.ensures.loaded
-    c.in-Ok.ensures.crash_safe c.in-Ok.ensures.fits c.in-Ok.ensures.crash
-    c.new-lines.ensures.journal c.new-lines.ensures.drives c.drive_to_rest-end.result (driven g c)
+run : (g : _) (c : After-is_stopped g)
+    (last : State g.row.B.Denot g.row.O.Denot g.row.L.Denot g.row.D.Denot)
+    → KeepsImages g.O.Sink g.L.Sink g.D.SlotDisk (begun_state (drive g c last)) last
+    → IsRun g.B.LinkBox g.B.LineBox.line_of g.S.Source g.O.Sink g.L.Sink g.D.SlotDisk
+    (drive g c last)
+run g c last images = is_run g.B.LinkBox g.B.LineBox.line_of g.S.Source g.O.Sink g.L.Sink
+    g.D.SlotDisk (drive g c last) g.met.B.LineBox.causal g.met.B.LineBox.rising
+    c.in-Ok.ensures.loaded c.in-Ok.ensures.crash_safe c.in-Ok.ensures.crash
+    c.new-lines.ensures.disk c.new-lines.ensures.drives images
 
-pub returns-then-is_write_stop-clause-runs : goal.returns-then-is_write_stop-clause-runs
-returns-then-is_write_stop-clause-runs g c =
-    let at = (goal.at.returns-then-is_write_stop-clause-runs g c).After-is_write_stop in
-    let write : is_write_fault (answer_of c.drive_to_rest-end.result) ≡ true = cc in
-    write_stops g.B.LinkBox g.B.LineBox.line_of g.S.Source g.O.Sink g.L.Sink g.D.SlotDisk
-    (drive g at) (run g at) c.out-1.given.0 c.log-1.given.0 c.drive_to_rest-end.result write
-    (driven g at) refl
-
-pub returns-in-Err-clause-runs : goal.returns-in-Err-clause-runs
-returns-in-Err-clause-runs g c =
-    let at = (goal.at.returns-in-Err-clause-runs g c).After-is_write_stop in
-    let other : is_write_fault (answer_of c.drive_to_rest-end.result) ≡ false = cc in
-    finish_fails g.B.LinkBox g.B.LineBox.line_of g.S.Source g.O.Sink g.L.Sink g.D.SlotDisk
-    (drive g at) (run g at) c.finish.new.out c.finish.new.log c.drive_to_rest-end.result other
-    (driven g at) (λ line sends. c.in-Err.ensures.err _ _ line sends)
-
-pub returns-clause-runs : goal.returns-clause-runs
-returns-clause-runs g c =
-    let at = (goal.at.returns-clause-runs g c).After-is_write_stop in
-    whole_runs g.B.LinkBox g.B.LineBox.line_of g.S.Source g.O.Sink g.L.Sink g.D.SlotDisk
-    (drive g at) (run g at) c.flush_both.new.out c.flush_both.new.log c.flush_both.result
-    c.flush_both.ensures.status (rw c.in-Whole.is at (driven g at))
-    (λ line sends. rw (c.flush_both.ensures.out, c.flush_both.ensures.log)
-    (c.in-Ok-finish.ensures.ok _ _ line sends))
-
-pub returns-in_default : goal.returns-in_default
-returns-in_default g c =
-    let at = (goal.at.returns-in_default g c).After-is_write_stop in
-    let other : is_write_fault (answer_of c.drive_to_rest-end.result) ≡ false = cc in
-    let went = (driven g at).gives.went in rw c.status_of.ensures (record {
-      runs = refusal_runs g.B.LinkBox g.B.LineBox.line_of g.S.Source g.O.Sink g.L.Sink
-          g.D.SlotDisk (drive g at) (run g at) c.finish.new.out c.finish.new.log
-          c.drive_to_rest-end.result other c.in_default.not-Whole (driven g at)
-          (λ line sends. c.in-Ok-finish.ensures.ok _ _ line sends);
-      any_moment = (run g at).throughout;
+pub returns-then-is_stopped : goal.returns-then-is_stopped
+returns-then-is_stopped g c =
+    let at = (goal.at.returns-then-is_stopped g c).After-is_stopped in
+    let end = c.drive_to_rest-end.result in
+    let stopped : has_stopped c.drive_to_rest-end.result ≡ true =
+    sym c.is_stopped.ensures ∙ c.if-is_stopped.true in
+    let last = driven_state g at in
+    let drove = driven g at last in
+    let ran = run g at last drove.gives.went.images in
+    rw c.status_of.ensures (record {
+      runs = drive_stops g.B.LinkBox g.B.LineBox.line_of g.S.Source g.O.Sink g.L.Sink g.D.SlotDisk
+          (drive g at last) ran c.drive_to_rest-end.result stopped drove;
+      any_moment = ran.throughout;
       key = refl;
       input = input_cause _ _ c.drive_to_rest-end.result c.drive_to_rest-end.ensures.read;
       disk = rw (← c.in-Ok.ensures.same)
-          (disk_cause_of_end _ _ c.drive_to_rest-end.result went.disk);
-      sinks = sink_cause_of_end _ _ _ _ c.drive_to_rest-end.result other c.in_default.not-Whole
-          (c.in-Ok-finish.ensures.cause.out_same ∙ went.sinks.out_same other)
-          (c.in-Ok-finish.ensures.cause.log_same ∙ went.sinks.log_same other);
+          (disk_cause_of_end _ _ c.drive_to_rest-end.result drove.gives.went.disk);
+      sinks = sink_cause_of_stop _ _ _ _ c.drive_to_rest-end.result stopped drove.gives.went.sinks;
       flushes = flushes_of_end g.O.Sink g.L.Sink _ _ _ _ c.drive_to_rest-end.result
-          c.in_default.not-Whole
-          (none_flushed_then g.O.Sink g.L.Sink _ _ _ _ _ _ went.flushes
-          c.in-Ok-finish.ensures.flushes);
+          (not_whole c.drive_to_rest-end.result stopped) drove.gives.went.flushes;
     })
 
-pub returns-then-is_write_stop-clause-flushes : goal.returns-then-is_write_stop-clause-flushes
-returns-then-is_write_stop-clause-flushes g c =
-    let at = (goal.at.returns-then-is_write_stop-clause-flushes g c).After-is_write_stop in
-    inl (driven g at).gives.went.flushes
+pub returns-in-Err : goal.returns-in-Err
+returns-in-Err g c =
+    let at = (goal.at.returns-in-Err g c).After-is_stopped in
+    let other : has_stopped c.drive_to_rest-end.result ≡ false =
+    sym c.is_stopped.ensures ∙ c.if-is_stopped.false in
+    let fin = c.in-Err.ensures in
+    let last : State g.row.B.Denot g.row.O.Denot g.row.L.Denot g.row.D.Denot =
+    state_of fin.last c.finish.new.out c.finish.new.log c.finish.new.disk in
+    let drove = driven g at last in
+    let all = went_then g.B.LinkBox g.B.LineBox.line_of g.O.Sink g.L.Sink g.D.SlotDisk
+    c.args.rest _ _ (begun_state (drive g at last)) (driven_state g at) c.drive_to_rest-end.result
+    other drove last (Err c.in-Err.stop) fin.went in
+    let ran = run g at last all.images in
+    let runs = finish_stops g.B.LinkBox g.B.LineBox.line_of g.S.Source g.O.Sink g.L.Sink
+    g.D.SlotDisk (drive g at last) ran c.drive_to_rest-end.result other (driven_state g at) drove
+    c.in-Err.stop fin.stopped in
+    rw c.status_of-in-Err.ensures (record {
+      runs = runs;
+      any_moment = ran.throughout;
+      key = refl;
+      input = input_of_stop g.B.LinkBox g.B.LineBox.line_of g.S.Source g.O.Sink g.L.Sink
+          g.D.SlotDisk (drive g at last) ran _ _ c.drive_to_rest-end.ensures.read.never_falls
+          c.in-Err.stop runs;
+      disk = rw (← c.in-Ok.ensures.same) (disk_cause_of_end _ _ (Stopped c.in-Err.stop) all.disk);
+      sinks = sink_cause_of_stop _ _ _ _ (Stopped c.in-Err.stop) refl all.sinks;
+      flushes = flushes_of_end g.O.Sink g.L.Sink _ _ _ _ (Stopped c.in-Err.stop)
+          (not_whole (Stopped c.in-Err.stop) refl) all.flushes;
+    })
 
-pub returns-in-Err-clause-flushes : goal.returns-in-Err-clause-flushes
-returns-in-Err-clause-flushes g c =
-    let at = (goal.at.returns-in-Err-clause-flushes g c).After-is_write_stop in
-    inl (none_flushed_then g.O.Sink g.L.Sink _ _ _ _ _ _
-    (driven g at).gives.went.flushes c.in-Err.ensures.flushes)
+pub returns-in_default : goal.returns-in_default
+returns-in_default g c =
+    let at = (goal.at.returns-in_default g c).After-is_stopped in
+    let other : has_stopped c.drive_to_rest-end.result ≡ false =
+    sym c.is_stopped.ensures ∙ c.if-is_stopped.false in
+    let calm = answer_ok c.drive_to_rest-end.result other in
+    let fin = c.in-Ok-finish.ensures in
+    let last : State g.row.B.Denot g.row.O.Denot g.row.L.Denot g.row.D.Denot =
+    state_of fin.last c.finish.new.out c.finish.new.log c.finish.new.disk in
+    let drove = driven g at last in
+    let all = went_then g.B.LinkBox g.B.LineBox.line_of g.O.Sink g.L.Sink g.D.SlotDisk
+    c.args.rest _ _ (begun_state (drive g at last)) (driven_state g at) c.drive_to_rest-end.result
+    other drove last (Ok tt) fin.went in
+    let ran = run g at last all.images in
+    rw c.status_of-in_default.ensures (record {
+      runs = refusal_runs g.B.LinkBox g.B.LineBox.line_of g.S.Source g.O.Sink g.L.Sink
+          g.D.SlotDisk (drive g at last) ran c.drive_to_rest-end.result other
+          c.in_default.not-Whole (driven_state g at) drove fin.finished;
+      any_moment = ran.throughout;
+      key = refl;
+      input = input_cause _ _ c.drive_to_rest-end.result c.drive_to_rest-end.ensures.read;
+      disk = rw (← c.in-Ok.ensures.same) (disk_cause_of_end _ _ c.drive_to_rest-end.result
+          (subst (λ r. IsDiskCause (g.D.SlotDisk.faults c.load.new.disk)
+          (g.D.SlotDisk.faults c.finish.new.disk) (is_journal_fault r)) (sym calm) all.disk));
+      sinks = sink_cause_of_end _ _ _ _ c.drive_to_rest-end.result (ap is_write_fault calm)
+          c.in_default.not-Whole (all.sinks.out_same refl) (all.sinks.log_same refl);
+      flushes = flushes_of_end g.O.Sink g.L.Sink _ _ _ _ c.drive_to_rest-end.result
+          c.in_default.not-Whole all.flushes;
+    })
 
-pub returns-clause-flushes : goal.returns-clause-flushes
-returns-clause-flushes g c =
-    let at = (goal.at.returns-clause-flushes g c).After-is_write_stop in
-    let other : is_write_fault (answer_of c.drive_to_rest-end.result) ≡ false = cc in
-    let went = (driven g at).gives.went in
-    flushes_of_whole g.O.Sink g.L.Sink _ _ _ _ _ _
-    (none_flushed_then g.O.Sink g.L.Sink _ _ _ _ _ _ went.flushes c.in-Ok-finish.ensures.flushes)
-    (c.in-Ok-finish.ensures.cause.log_same ∙ went.sinks.log_same other)
-    c.flush_both.result c.flush_both.ensures.flushes
-
-pub returns-then-is_write_stop-clause-any_moment : goal.returns-then-is_write_stop-clause-any_moment
-returns-then-is_write_stop-clause-any_moment g c =
-    let at = (goal.at.returns-then-is_write_stop-clause-any_moment g c).After-is_write_stop in
-    (run g at).throughout
-
-pub returns-in-Err-clause-any_moment : goal.returns-in-Err-clause-any_moment
-returns-in-Err-clause-any_moment g c =
-    let at = (goal.at.returns-in-Err-clause-any_moment g c).After-is_write_stop in
-    (run g at).throughout
-
-pub returns-clause-any_moment : goal.returns-clause-any_moment
-returns-clause-any_moment g c =
-    let at = (goal.at.returns-clause-any_moment g c).After-is_write_stop in
-    (run g at).throughout
+pub returns : goal.returns
+returns g c =
+    let at = (goal.at.returns g c).After-is_stopped in
+    let other : has_stopped c.drive_to_rest-end.result ≡ false =
+    sym c.is_stopped.ensures ∙ c.if-is_stopped.false in
+    let fin = c.in-Ok-finish.ensures in
+    let last : State g.row.B.Denot g.row.O.Denot g.row.L.Denot g.row.D.Denot =
+    state_of fin.last c.finish.new.out c.finish.new.log c.finish.new.disk in
+    let drove = driven g at last in
+    let all = went_then g.B.LinkBox g.B.LineBox.line_of g.O.Sink g.L.Sink g.D.SlotDisk
+    c.args.rest _ _ (begun_state (drive g at last)) (driven_state g at) c.drive_to_rest-end.result
+    other drove last (Ok tt) fin.went in
+    let ran = run g at last all.images in
+    let flushed = c.flush_both.ensures in
+    record {
+      runs = whole_runs g.B.LinkBox g.B.LineBox.line_of g.S.Source g.O.Sink g.L.Sink g.D.SlotDisk
+          (drive g at last) ran c.flush_both.new.out c.flush_both.new.log flushed.out flushed.log
+          (driven_state g at) (rw c.in-Whole.is at drove) fin.finished c.flush_both.result
+          flushed.status;
+      any_moment = ran.throughout;
+      key = refl;
+      input = input_cause_of_whole _ _ c.flush_both.result flushed.status
+          (c.drive_to_rest-end.ensures.read.same (ap is_read_fault c.in-Whole.is));
+      disk = disk_cause_of_whole _ _ c.flush_both.result flushed.status
+          (all.disk.same refl ∙ c.in-Ok.ensures.same);
+      sinks = sink_cause_of_whole _ _ _ _ _ _ (all.sinks.out_same refl) (all.sinks.log_same refl)
+          c.flush_both.result flushed.sinks;
+      flushes = flushes_of_whole g.O.Sink g.L.Sink _ _ _ _ _ _ all.flushes
+          (all.sinks.log_same refl) c.flush_both.result flushed.flushes;
+    }

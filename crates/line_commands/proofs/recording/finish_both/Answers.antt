@@ -20,9 +20,9 @@ returns-in-Ok-merge_lines g c = λ setups device link keeps.
     (subst (λ line. AreTextsOf sent line c.in-Ok-finish.link)
     (filled-by _ _ steps device keeps.outgoing.counted refl)
     (c.in-Ok-finish.ensures.texts setups.outgoing _
-    (c.in-Ok.ensures.keeps setups.outgoing device keeps.outgoing)))
+    (c.in-Ok.ensures.goes.keeps setups.outgoing device keeps.outgoing)))
     (subst (λ line. AreTextsOf got line c.in-Ok-finish-2.device)
     (filled-by _ _ steps link keeps.incoming.counted refl)
     (c.in-Ok-finish-2.ensures.texts setups.incoming _
-    (c.in-Ok-wait.ensures.keeps setups.incoming link keeps.incoming)))
+    (c.in-Ok-wait.ensures.goes.keeps setups.incoming link keeps.incoming)))
     refl refl c.in-Ok-merge_lines.ensures

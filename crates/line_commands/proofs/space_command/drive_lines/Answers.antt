@@ -1,7 +1,12 @@
-use Rattle.line_commands.proofs.SpaceEnds.{drives_stopped, drives_all, drives_failed}
+use Rattle.line_commands.proofs.SpaceEnds.{room_at_end, drives_stopped, drives_all, drives_failed}
 use Rattle.line_commands.specs.DrivenLines.{DrivesLines}
 use Rattle.std.proofs.Common.{refl, subst, sym}
 use Rattle.line_commands.proofs.space_command.drive_lines.Goals as goal
+
+pub write_rest-requires : goal.write_rest-requires
+write_rest-requires g c = room_at_end g.B.LineSpacer g.O.Sink g.L.Sink _ _ c.args.lines.now
+    c.drive_to_rest-end.new.consumer c.drive_to_rest-end.result c.in_default.not-Stopped
+    c.drive_to_rest-end.ensures.driven
 
 pub returns-in-Stopped-clause-driven : goal.returns-in-Stopped-clause-driven
 returns-in-Stopped-clause-driven g c =

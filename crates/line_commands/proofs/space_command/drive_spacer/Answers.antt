@@ -1,9 +1,20 @@
-use Rattle.line_texts.specs.{Sending.sink_texts, Texts.waiting_in}
+use Rattle.line_texts.specs.{Adding.HasRoom, Sending.sink_texts, Texts.waiting_in}
 use Rattle.line_commands.specs.{SpacedTexts.spaced_texts, SpacesLine.DrivesSpacer}
-use Rattle.std.proofs.Common.{◌≡◌, ◌∙◌, [], ap, refl, subst, sym}
+use Rattle.std.proofs.Common.{◌≡◌, ◌∙◌, [], ap, refl, subst, sym, arith}
 use Rattle.tick_drive.specs.{Consumers.IsSinkCause, Consumers.is_write_fault, Drive.answer_of}
 use Rattle.yasir_io.specs.Flushed.{NoneFlushed}
 use Rattle.line_commands.proofs.space_command.drive_spacer.Goals as goal
+
+pub drive_lines-requires : goal.drive_lines-requires
+drive_lines-requires g c =
+    let begun = c.new-lines.ensures in
+    record {
+      none = ap (λ m. g.B.LineSpacer.taken m.now) begun.spacer ∙ c.requires.fresh;
+      able = record {
+        few = omega (arith, begun.owed);
+        room = subst (λ m. HasRoom m.now) (sym begun.texts) c.requires.room;
+      };
+    }
 
 pub returns-clause-driven : goal.returns-clause-driven
 returns-clause-driven g c =

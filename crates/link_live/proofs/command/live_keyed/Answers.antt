@@ -1,20 +1,14 @@
-use Rattle.std.proofs.Common.{◌∙◌, ap, sym, subst, arith}
-use Rattle.sequence_journal.specs.Journal.{journal_link, Fits}
+use Rattle.std.proofs.Common.{◌∙◌, sym, arith}
 use Rattle.line_commands.proofs.Floors.{disk_cause_of_end}
 use Rattle.link_live.specs.LiveLine.{live_of}
 use Rattle.link_live.proofs.LiveRuns.{runs_line, throughout, port_causes}
 use Rattle.link_live.proofs.command.live_keyed.Goals as goal
 
-pub drive-requires : goal.drive-requires
-drive-requires g c = let made = c.new-live_box.ensures in record {
+pub drive-requires-clause-ready : goal.drive-requires-clause-ready
+drive-requires-clause-ready g c = let made = c.new-live_box.ensures in record {
   counted = made.taken ∙ sym made.none;
   few = omega (arith, made.none);
-  able = record {
-    of_link = ap journal_link made.journal ∙ (c.in-Ok.ensures.loaded.link_is
-        ∙ (c.requires.of_box ∙ sym made.link));
-    fits = subst (λ journal. Fits journal (g.D.SlotDisk.told c.load.new.disk)) (sym made.journal)
-        c.in-Ok.ensures.fits;
-  };
+  able = made.may _ c.in-Ok.ensures.fits;
 }
 
 pub returns-clause-runs : goal.returns-clause-runs

@@ -1,40 +1,30 @@
-use Rattle.line_commands.proofs.Fronts.{run_given, run_stopped, none_taken}
-use Rattle.{line_commands.specs.BoxLines.state_of, line_texts.proofs.PushedRuns.pushed_as}
-use Rattle.std.proofs.Common.{length, take, ap, refl, arith}
-use Rattle.yasir_ticks.{proofs.TickRuns.ticks_in-run, specs.TickRun.run_ticks}
+use Rattle.line_commands.proofs.InMemory.{front_taken, none_taken}
+use Rattle.line_texts.proofs.Added.{adds_as, short_take}
+use Rattle.line_texts.specs.Adding.{IsShort}
+use Rattle.std.proofs.Common.{[], take, sym, subst, arith}
+use Rattle.yasir_ticks.specs.TickRun.{run_ticks}
 use Rattle.line_commands.proofs.box_lines.BoxLines.forward.Goals as goal
 
-pub forward-count-requires : goal.forward-count-requires
-forward-count-requires g c =
-    omega (arith, c.requires.room, ap length (ticks_in-run c.args.run))
+pub add_run-requires-clause-short : goal.add_run-requires-clause-short
+add_run-requires-clause-short g c = subst IsShort (sym c.front.ensures)
+    (short_take c.forward-count.result (run_ticks c.args.run) c.requires.short)
 
-pub returns-then-count-eq0 : goal.returns-then-count-eq0
-returns-then-count-eq0 g c =
-    none_taken g.B.LinkBox g.B.LineBox.line_of g.O.Sink g.L.Sink g.D.SlotDisk
-    g.met.B.LineBox.causal g.met.D.SlotDisk.only_now
-    (state_of c.args.self.now c.args.out.now c.args.log.now c.args.disk.now)
-    c.forward-count.new.self c.args.run c.forward-count.result _ refl c.forward-count.ensures.within
-    c.forward-count.ensures.taken c.requires.able c.forward-count.ensures.link c.if-count-eq0.true _ c.forward-count.ensures.run
+pub returns-then-count-gt0-clause-takes : goal.returns-then-count-gt0-clause-takes
+returns-then-count-gt0-clause-takes g c =
+    front_taken g.B.LinkBox g.B.LineBox.line_of c.args.self.now c.forward-count.new.self
+    c.add_run.new.self (run_ticks c.args.run) c.forward-count.result
+    (take c.forward-count.result (run_ticks c.args.run)) g.met.B.LineBox.causal
+    c.forward-count.ensures.within c.forward-count.ensures.run c.forward-count.ensures.taken
+    c.forward-count.ensures.link c.requires.ready
+    (adds_as _ _ _ _ [] c.front.ensures c.add_run.ensures.adds)
 
-pub returns-in-Ok : goal.returns-in-Ok
-returns-in-Ok g c =
-    run_given g.B.LinkBox g.B.LineBox.line_of g.O.Sink g.L.Sink g.D.SlotDisk
-    g.met.B.LineBox.causal g.met.D.SlotDisk.only_now
-    (state_of c.args.self.now c.args.out.now c.args.log.now c.args.disk.now)
-    c.forward-count.new.self c.args.run c.forward-count.result _ refl c.forward-count.ensures.within
-    c.forward-count.ensures.taken c.requires.able c.forward-count.ensures.link
-    c.push_run.new.texts c.push_run.new.out c.push_run.new.log
-    (take c.forward-count.result (run_ticks c.args.run)) c.forward-count.ensures.run
-    (pushed_as g.O.Sink g.L.Sink _ _ _ _ _ c.front-front.ensures c.in-Ok.ensures)
+pub returns-else-count-gt0-clause-takes : goal.returns-else-count-gt0-clause-takes
+returns-else-count-gt0-clause-takes g c =
+    none_taken g.B.LinkBox g.B.LineBox.line_of c.args.self.now c.forward-count.new.self
+    (run_ticks c.args.run) c.forward-count.result (omega (arith, c.if-count-gt0.false))
+    g.met.B.LineBox.causal _ c.forward-count.ensures.run c.forward-count.ensures.taken
+    c.forward-count.ensures.link c.requires.ready
 
-pub returns-in-Err : goal.returns-in-Err
-returns-in-Err g c =
-    run_stopped g.B.LinkBox g.B.LineBox.line_of g.O.Sink g.L.Sink g.D.SlotDisk
-    g.met.B.LineBox.causal g.met.D.SlotDisk.only_now
-    (state_of c.args.self.now c.args.out.now c.args.log.now c.args.disk.now)
-    c.forward-count.new.self c.args.run c.forward-count.result _ refl c.forward-count.ensures.within
-    c.forward-count.ensures.taken c.requires.able c.forward-count.ensures.link
-    c.push_run.new.texts c.push_run.new.out c.push_run.new.log
-    (take c.forward-count.result (run_ticks c.args.run)) c.forward-count.ensures.run
-    c.in-Err.field-0 (omega (arith, c.if-count-eq0.false))
-    (pushed_as g.O.Sink g.L.Sink _ _ _ _ _ c.front-front.ensures c.in-Err.ensures)
+pub returns-else-count-gt0-clause-line_room : goal.returns-else-count-gt0-clause-line_room
+returns-else-count-gt0-clause-line_room g c =
+    let room = c.requires.room.ticks in omega (arith, room)

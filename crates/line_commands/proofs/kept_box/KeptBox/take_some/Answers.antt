@@ -1,42 +1,32 @@
-use Rattle.line_commands.proofs.Kept.{some-one, up-again}
-use Rattle.std.proofs.Common.{◌≡◌, ap, arith, length, take}
+use Rattle.line_commands.proofs.Kept.{handed-on}
+use Rattle.line_texts.{proofs.Sending.sends_handed, specs.Texts.writing}
+use Rattle.std.proofs.Common.{[], Some}
 use Rattle.yasir_ticks.specs.TickRun.{run_ticks}
+use Rattle.line_texts.specs.Sending.{sink_texts}
 use Rattle.line_commands.proofs.kept_box.KeptBox.take_some.Goals as goal
 
-pub pass-requires-clause-room : goal.pass-requires-clause-room
-pass-requires-clause-room g c =
-    let none : c.in-Ok.count ≡ 0 = omega (arith, c.if-forwarded-gt0.false) in
-    let front = ap (λ k. length (take k (run_ticks c.args.run))) none in
-    omega (arith, c.requires.room, c.in-Ok.ensures.goes.counted, front)
-
-pub pass-requires-clause-steady : goal.pass-requires-clause-steady
-pass-requires-clause-steady g c = c.in-Ok.ensures.goes.steady
-
-pub returns-then-passed-gt0 : goal.returns-then-passed-gt0
-returns-then-passed-gt0 g c = record {
-  some = c.if-passed-gt0.true;
-  front = up-again g.B.LinkBox g.B.LineBox.line_of c.args.self.now c.forward.new.self
-      c.pass.new.self (run_ticks c.args.run) c.in-Ok.count c.in-Ok-pass.count
-      (omega (arith, c.if-forwarded-gt0.false)) c.in-Ok.ensures c.in-Ok-pass.ensures;
+pub returns-then-has_room : goal.returns-then-has_room
+returns-then-has_room g c = record {
+  some = c.in-Ok.ensures.some;
+  front = c.in-Ok.ensures.front;
+  steady = record {
+    served = c.in-Ok.ensures.front.goes.served;
+    room = c.has_room.ensures.room c.if-has_room.true;
+  };
 }
 
-pub step-requires-clause-room : goal.step-requires-clause-room
-step-requires-clause-room g c =
-    let both = up-again g.B.LinkBox g.B.LineBox.line_of c.args.self.now c.forward.new.self
-    c.pass.new.self (run_ticks c.args.run) c.in-Ok.count c.in-Ok-pass.count
-    (omega (arith, c.if-forwarded-gt0.false)) c.in-Ok.ensures c.in-Ok-pass.ensures in
-    let none : c.in-Ok-pass.count ≡ 0 = omega (arith, c.if-passed-gt0.false) in
-    let front = ap (λ k. length (take k (run_ticks c.args.run))) none in
-    omega (arith, c.requires.room, c.requires.some, both.goes.counted, front)
-
-pub step-requires-clause-steady : goal.step-requires-clause-steady
-step-requires-clause-steady g c = c.in-Ok-pass.ensures.goes.steady
-
-pub returns-in-Ok-step : goal.returns-in-Ok-step
-returns-in-Ok-step g c =
-    let both = up-again g.B.LinkBox g.B.LineBox.line_of c.args.self.now c.forward.new.self
-    c.pass.new.self (run_ticks c.args.run) c.in-Ok.count c.in-Ok-pass.count
-    (omega (arith, c.if-forwarded-gt0.false)) c.in-Ok.ensures c.in-Ok-pass.ensures in
-    some-one g.B.LinkBox g.B.LineBox.line_of c.args.self.now c.pass.new.self c.step.new.self
-    (run_ticks c.args.run) c.in-Ok-pass.count (omega (arith, c.if-passed-gt0.false)) both
-    c.first-first.result _ c.first-first.ensures c.in-Ok-step.ensures
+pub returns-in-Ok-hand_out : goal.returns-in-Ok-hand_out
+returns-in-Ok-hand_out g c =
+    let mid = c.take_short.new.self in
+    let hands = c.in-Ok-hand_out.ensures in
+    let front = handed-on g.B.LinkBox g.B.LineBox.line_of c.args.self.now mid c.hand_out.new.self
+    c.hand_out.new.out c.hand_out.new.log (run_ticks c.args.run) c.in-Ok.count
+    c.in-Ok.ensures.front (λ made line sends. sends_handed _ _ made line
+    (writing mid.texts mid.text mid.log)
+    (writing c.hand_out.new.self c.hand_out.new.out c.hand_out.new.log)
+    (sink_texts (Some []) (Some [])) sends hands) in
+    record {
+      some = c.in-Ok.ensures.some;
+      front = front;
+      steady = record { served = front.goes.served; room = hands.room };
+    }

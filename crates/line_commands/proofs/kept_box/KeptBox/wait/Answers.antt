@@ -11,5 +11,5 @@ pub loop-left-preserved : goal.loop-left-preserved
 loop-left-preserved g c = record {
   waits = waits-some g.B.LinkBox g.B.LineBox.line_of c.args.self.now c.loop-left.self
       c.take_some.new.self c.args.ticks c.loop-left.left c.in-Ok.count
-      c.loop-left.invariant.waits c.in-Ok.ensures.front;
+      c.loop-left.invariant.waits c.in-Ok.ensures;
 }

@@ -13,6 +13,9 @@ hear_front-taken-requires-clause-room g c = omega (
   ap length (ticks_in-run c.args.run),
 )
 
+pub write_owed-requires-clause-room : goal.write_owed-requires-clause-room
+write_owed-requires-clause-room g c = c.requires.may.able.room
+
 pub returns-in_default : goal.returns-in_default
 returns-in_default g c =
     let heard = c.hear_front-taken in
@@ -26,7 +29,7 @@ returns-in_default g c =
       log = refl;
       sinks = (keeps-none g.B.LineSpacer g.O.Sink g.L.Sink c.args.self.now).sinks;
       flushes = (keeps-none g.B.LineSpacer g.O.Sink g.L.Sink c.args.self.now).flushes;
-    }) c.in_default.is c.requires.may.able
+    }) c.in_default.is c.requires.may.able c.requires.may.able.room
 
 pub returns-then-queue_read : goal.returns-then-queue_read
 returns-then-queue_read g c =
@@ -51,7 +54,7 @@ returns-then-queue_read g c =
       log = refl;
       sinks = (keeps-none g.B.LineSpacer g.O.Sink g.L.Sink c.args.self.now).sinks;
       flushes = (keeps-none g.B.LineSpacer g.O.Sink g.L.Sink c.args.self.now).flushes;
-    }) refl c.requires.may.able
+    }) refl c.requires.may.able c.requires.may.able.room
 
 pub returns-in-Ok : goal.returns-in-Ok
 returns-in-Ok g c =

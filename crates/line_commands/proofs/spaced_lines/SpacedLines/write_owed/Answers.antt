@@ -3,7 +3,11 @@ use Rattle.std.proofs.Common.{refl}
 use Rattle.line_commands.proofs.spaced_lines.SpacedLines.write_owed.Goals as goal
 
 pub loop-left-init : goal.loop-left-init
-loop-left-init g c = none_written g.B.LineSpacer g.O.Sink g.L.Sink _ _ c.args.read c.requires
+loop-left-init g c = none_written g.B.LineSpacer g.O.Sink g.L.Sink _ _ c.args.read
+    c.requires.some c.requires.room
+
+pub write_some-requires-clause-room : goal.write_some-requires-clause-room
+write_some-requires-clause-room g c = c.loop-left.invariant.room
 
 pub loop-left-preserved : goal.loop-left-preserved
 loop-left-preserved g c = some_more g.B.LineSpacer g.O.Sink g.L.Sink _ _ _ _ _ c.args.read
@@ -24,6 +28,7 @@ returns g c =
           c.loop-left-test.false start line ticks long before in
           record { owes = all.owes; sends = all.sends };
       counts = wrote.counts;
+      room = wrote.room;
       keeps = record {
         spacer = kept.spacer;
         texts = kept.texts;

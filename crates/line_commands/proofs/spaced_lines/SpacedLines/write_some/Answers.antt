@@ -1,61 +1,74 @@
-use Rattle.{frame_ending.specs.Answered.answered, device_model.specs.Frames.frames_lent}
-use Rattle.line_commands.proofs.Spacing.{spacing_noted, some_written, some_stopped}
-use Rattle.line_commands.specs.SpacedTexts.{lost_lines}
-use Rattle.std.proofs.Common.{◌+◌, ◌-◌, length, take, refl}
+use Rattle.line_texts.{proofs.Sending.sends_handed, proofs.Sending.sent_handed, specs.Texts.writing}
+use Rattle.line_commands.proofs.Spacing.{some_written, some_stopped}
+use Rattle.line_commands.specs.{SpacedLinesLaws.keeps-none, SpacedTexts.spaced_texts}
+use Rattle.std.proofs.Common.{refl}
 use Rattle.line_commands.proofs.spaced_lines.SpacedLines.write_some.Goals as goal
+
+pub returns-then-has_room : goal.returns-then-has_room
+returns-then-has_room g c =
+    let gave = c.give_front-answer.ensures in
+    let none = keeps-none g.B.LineSpacer g.O.Sink g.L.Sink c.args.self.now in
+    some_written g.B.LineSpacer g.O.Sink g.L.Sink c.args.self.now _ c.add_answer.new.texts
+    c.args.owed c.args.read c.give_front-answer.result.taken _ _ gave.owes gave.answer
+    c.add_answer.ensures gave.some gave.within gave.taken gave.lent
+    (c.has_room.ensures.room c.if-has_room.true) (λ start line sends. sends)
+    (record {
+      spacer = refl;
+      texts = refl;
+      out = refl;
+      log = refl;
+      sinks = none.sinks;
+      flushes = none.flushes;
+    })
 
 pub returns-in-Ok : goal.returns-in-Ok
 returns-in-Ok g c =
-    let gave = c.give_front-answer in
-    let spacer = g.B.LineSpacer in
-    let n = gave.result.taken in
-    let left = spacer.sent gave.new.self in
-    let lost = frames_lent gave.result.lost (spacer.lent gave.new.self) in
-    let wrote = c.in-Ok.ensures.writes in
-    some_written spacer g.O.Sink g.L.Sink c.args.self.now _ c.args.owed c.args.read n
-    (answered n left) (lost_lines lost) gave.ensures.owes
-    (λ line ticks long owes. spacing_noted spacer.reads spacer.gap line (take n ticks)
-    (answered n left) (length line + (n - 1)) lost (gave.ensures.answer line ticks long owes))
-    gave.ensures.some gave.ensures.within gave.ensures.taken gave.ensures.lent c.in-Ok.ensures
+    let gave = c.give_front-answer.ensures in
+    let hands = c.in-Ok.ensures in
+    some_written g.B.LineSpacer g.O.Sink g.L.Sink c.args.self.now _ c.add_answer.new.texts
+    c.args.owed c.args.read c.give_front-answer.result.taken _ _ gave.owes gave.answer
+    c.add_answer.ensures gave.some gave.within gave.taken gave.lent
+    hands.room (λ start line sends. sends_handed g.O.Sink g.L.Sink (spaced_texts g.B.LineSpacer.reads
+    g.B.LineSpacer.gap) line
+    (writing c.add_answer.new.texts c.args.self.now.out.now c.args.self.now.log.now) _ start sends
+    hands)
     (record {
       spacer = refl;
       texts = refl;
       out = refl;
       log = refl;
       sinks = record {
-        out_never_falls = wrote.cause.out_never_falls;
-        log_never_falls = wrote.cause.log_never_falls;
+        out_never_falls = hands.writes.cause.out_never_falls;
+        log_never_falls = hands.writes.cause.log_never_falls;
         failed = λ e. cc;
-        out_same = λ _. wrote.cause.out_same;
-        log_same = λ _. wrote.cause.log_same;
+        out_same = λ _. hands.writes.cause.out_same;
+        log_same = λ _. hands.writes.cause.log_same;
       };
-      flushes = wrote.flushes;
+      flushes = hands.writes.flushes;
     })
 
 pub returns-in-Err : goal.returns-in-Err
 returns-in-Err g c =
-    let gave = c.give_front-answer in
-    let spacer = g.B.LineSpacer in
-    let n = gave.result.taken in
-    let left = spacer.sent gave.new.self in
-    let lost = frames_lent gave.result.lost (spacer.lent gave.new.self) in
-    let wrote = c.in-Err.ensures.writes in
-    some_stopped spacer g.O.Sink g.L.Sink c.args.self.now _ c.args.owed c.args.read n
-    (answered n left) (lost_lines lost) gave.ensures.owes
-    (λ line ticks long owes. spacing_noted spacer.reads spacer.gap line (take n ticks)
-    (answered n left) (length line + (n - 1)) lost (gave.ensures.answer line ticks long owes))
-    c.in-Err.field-0 c.in-Err.ensures
+    let gave = c.give_front-answer.ensures in
+    let hands = c.in-Err.ensures in
+    some_stopped g.B.LineSpacer g.O.Sink g.L.Sink c.args.self.now _ c.add_answer.new.texts
+    c.args.owed c.args.read c.give_front-answer.result.taken _ _ gave.owes gave.answer
+    c.add_answer.ensures
+    (λ start line sends. sent_handed g.O.Sink g.L.Sink (spaced_texts g.B.LineSpacer.reads
+    g.B.LineSpacer.gap) line
+    (writing c.add_answer.new.texts c.args.self.now.out.now c.args.self.now.log.now) _ start sends
+    c.in-Err.field-0 hands)
     (record {
       spacer = refl;
       texts = refl;
       out = refl;
       log = refl;
       sinks = record {
-        out_never_falls = wrote.cause.out_never_falls;
-        log_never_falls = wrote.cause.log_never_falls;
-        failed = λ _. wrote.cause.failed;
+        out_never_falls = hands.writes.cause.out_never_falls;
+        log_never_falls = hands.writes.cause.log_never_falls;
+        failed = λ _. hands.writes.cause.failed;
         out_same = λ e. cc;
         log_same = λ e. cc;
       };
-      flushes = wrote.flushes;
+      flushes = hands.writes.flushes;
     })

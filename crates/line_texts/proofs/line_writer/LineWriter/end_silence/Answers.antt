@@ -1,4 +1,4 @@
-use Rattle.line_texts.proofs.LineWriters.{silence_ended}
+use Rattle.line_texts.proofs.{LineRooms.silence_line_short, LineWriters.silence_ended}
 use Rattle.std.proofs.Common.{◌∙◌, length, take, refl, ap, arith}
 use Rattle.std.proofs.lemmas.List.{take_at, length-take-le}
 use Rattle.yasir_ticks.{proofs.RightTicks.are_bytes, specs.CanonicalText.silence_line}
@@ -18,4 +18,5 @@ returns-clause-taken c =
           (take_at c.copy_from_slice.new.self _ count (omega (arith, ap length copied, size))
           ∙ copied)
           (omega arith);
+      short = silence_line_short c.args.self.now.silence (omega (arith, c.args.self.now.short));
     }

@@ -1,4 +1,4 @@
-use Rattle.line_texts.proofs.LineWriters.{bytes_filled}
+use Rattle.line_texts.proofs.{LineRooms.byte_line_short, LineWriters.bytes_filled}
 use Rattle.std.proofs.Common.{◌∙◌, ◌-◌, ◌++◌, length, take, refl, ap, arith}
 use Rattle.std.proofs.lemmas.{List.length-append, List.length-take-le, Slice.take-put_mid}
 use Rattle.yasir_ticks.{proofs.RightTicks.are_bytes, specs.CanonicalText.byte_line}
@@ -22,4 +22,5 @@ returns-clause-taken c =
           (are_bytes _ c.args.bytes.now (λ i. let fit = c.type_inv.bytes i in omega arith))
           c.requires.no_silence refl c.requires.no_silence is
           (omega (arith, long, front, size));
+      short = byte_line_short 32 _ (omega arith);
     }

@@ -1,4 +1,4 @@
-use Rattle.line_texts.proofs.LineWriters.{bytes_filled}
+use Rattle.line_texts.proofs.{LineRooms.byte_line_short, LineWriters.bytes_filled}
 use Rattle.std.proofs.Common.{◌≡◌, ◌∙◌, ◌++◌, length, take, sym, ap, arith}
 use Rattle.std.proofs.lemmas.List.{take_all, length-take-le}
 use Rattle.yasir_ticks.{proofs.RightTicks.are_bytes, specs.CanonicalText.byte_line}
@@ -20,4 +20,5 @@ returns-clause-taken c =
           c.requires.no_silence c.requires.none c.requires.no_silence
           (is ∙ sym (ap (λ n. take n before.bytes ++ take 32 c.args.bytes.now) c.requires.none))
           (ap length is ∙ size);
+      short = byte_line_short 32 whole (omega arith);
     }

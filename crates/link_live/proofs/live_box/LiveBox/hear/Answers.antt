@@ -7,7 +7,7 @@ use Rattle.link_live.proofs.live_box.LiveBox.hear.Goals as goal
 pub loop-bytes-init : goal.loop-bytes-init
 loop-bytes-init g c = hears_none g.B.LinkBox g.B.LineBox.line_of g.P.Port g.D.SlotDisk
     c.args.lines.now (live_of c.args.self.now c.args.port.now c.args.disk.now) g.met.D.SlotDisk.only_now
-    c.requires
+    c.requires.ready c.requires.clear
 
 pub returns-in-Err : goal.returns-in-Err
 returns-in-Err g c = hears_failed g.B.LinkBox g.B.LineBox.line_of g.P.Port g.D.SlotDisk
@@ -35,7 +35,7 @@ returns-in-Err-take_piece g c = let ended = c.in-Err-take_piece.ensures in
     hear_answer g.B.LinkBox g.B.LineBox.line_of g.P.Port g.D.SlotDisk c.args.lines.now
     c.take_piece.new.lines (live_of c.args.self.now c.args.port.now c.args.disk.now)
     (live_of c.take_piece.new.self c.take_piece.new.port c.take_piece.new.disk)
-    c.in-Err-take_piece.end ended.no_read (hears_ended g.B.LinkBox g.B.LineBox.line_of g.P.Port g.D.SlotDisk
+    c.in-Err-take_piece.end ended.ends.no_read (hears_ended g.B.LinkBox g.B.LineBox.line_of g.P.Port g.D.SlotDisk
     c.args.lines.now c.loop-bytes.lines (live_of c.args.self.now c.args.port.now c.args.disk.now)
     (live_of c.loop-bytes.self c.loop-bytes.port c.loop-bytes.disk)
     c.loop-bytes.bytes c.loop-bytes.invariant c.read_on.new.port

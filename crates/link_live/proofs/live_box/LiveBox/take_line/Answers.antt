@@ -7,7 +7,7 @@ use Rattle.link_live.proofs.live_box.LiveBox.take_line.Goals as goal
 pub returns-in-Err : goal.returns-in-Err
 returns-in-Err g c = feed_ended g.B.LinkBox g.B.LineBox.line_of g.P.Port g.D.SlotDisk
     c.args.lines.now c.feed.new.self (live_of c.args.self.now c.args.port.now c.args.disk.now)
-    c.args.bytes.now c.in-Err.end g.met.D.SlotDisk.only_now c.in-Err.ensures.of_text
+    c.args.bytes.now c.in-Err.end g.met.D.SlotDisk.only_now c.requires.ready c.in-Err.ensures.of_text
     c.in-Err.ensures.answer
 
 pub returns-in-Ok-give : goal.returns-in-Ok-give
@@ -17,7 +17,7 @@ returns-in-Ok-give g c = line_taken g.B.LinkBox g.B.LineBox.line_of g.P.Port g.D
     c.in-Ok.found.taken (items_of_content c.in-Ok.found.content (lent c.feed.new.self))
     (run_items c.run_of-run.result) (ticks_in-run c.run_of-run.result ∙ (c.run_of-run.ensures
     ∙ ap (λ l. ticks_in (items_of_content c.in-Ok.found.content l)) c.line_bytes.ensures.bytes))
-    c.in-Ok.ensures.answer g.met.D.SlotDisk.only_now c.in-Ok.ensures.progress
+    c.in-Ok.ensures.answer g.met.D.SlotDisk.only_now c.requires.ready c.in-Ok.ensures.progress
     c.in-Ok.ensures.within c.in-Ok-give.ensures
 
 pub returns-in-Err-give : goal.returns-in-Err-give
@@ -27,4 +27,4 @@ returns-in-Err-give g c = line_ended g.B.LinkBox g.B.LineBox.line_of g.P.Port g.
     c.in-Ok.found.taken (items_of_content c.in-Ok.found.content (lent c.feed.new.self))
     (run_items c.run_of-run.result) (ticks_in-run c.run_of-run.result ∙ (c.run_of-run.ensures
     ∙ ap (λ l. ticks_in (items_of_content c.in-Ok.found.content l)) c.line_bytes.ensures.bytes))
-    c.in-Ok.ensures.answer g.met.D.SlotDisk.only_now c.in-Err-give.end c.in-Err-give.ensures
+    c.in-Ok.ensures.answer g.met.D.SlotDisk.only_now c.requires.ready c.in-Err-give.end c.in-Err-give.ensures

@@ -1,0 +1,141 @@
+-- What a box that takes ticks in memory, and then hands out what waits, does as a consumer.
+use Rattle.line_commands.proofs.InMemory.{taken_on}
+use Rattle.line_commands.specs.BoxLines.{BoxOrigin, State, HasTaken, DrivesBox, KeepsImages}
+use Rattle.line_commands.specs.BoxLines.{TakesSome, HandsOn, GoesOn, outputs_of, texts_in, driving}
+use Rattle.line_commands.specs.BoxLinesLaws.{images_none, drives-then}
+use Rattle.line_commands.specs.declared.box_lines.BoxLines.{BoxLines}
+use Rattle.line_texts.specs.Adding.{HasRoom}
+use Rattle.link_box.specs.declared.box_trait.LinkBox.{Ghosts as LinkBox}
+use Rattle.sequence_journal.specs.Journal.{journal_link, journal_floor, Fits, IsCrashSafe}
+use Rattle.sequence_journal.specs.Late.{disk_journal}
+use Rattle.std.proofs.Common.{◌≡◌, ◌∙◌, ℕ, ◌+◌, ◌-◌, ◌≤◌, List, ◌++◌, length, take, Ok, Err}
+use Rattle.std.proofs.Common.{sym, ap, subst, append_assoc, arith}
+use Rattle.std.proofs.Math.Nat.{le_refl}
+use Rattle.tick_drive.proofs.{Causes.disk_none, Causes.sinks_none, ItemLaws.ticks_in-append}
+use Rattle.tick_drive.proofs.ItemLaws.{ticks_in-front}
+use Rattle.tick_drive.specs.{Consumers.GivesSome, Consumers.MayTake, declared.consumer.Stop.Stop}
+use Rattle.yasir_io.proofs.FlushLaws.{none_flushed}
+use Rattle.yasir_io.specs.{Disks.Slots, declared.disk.SlotDisk.Ghosts as SlotDisk}
+use Rattle.yasir_io.specs.declared.sink.Sink.{Ghosts as Sink}
+use Rattle.yasir_ticks.proofs.TickRuns.{length-run_items}
+use Rattle.yasir_ticks.specs.{TickRun.run_ticks, TickRun.run_items, Ticks.Item, Ticks.ticks_in}
+use Rattle.yasir_ticks.specs.declared.tick_run.TickRun.{TickRun}
+
+-- The box took the first `n` ticks of a run, in memory alone.
+module _ {B N O L D : Type 0} (b : LinkBox B N) (line_of : N → List ℕ) (o : Sink O) (l : Sink L)
+    (d : SlotDisk D)
+    (only_now : (disk : D) (c : Slots) → d.left_since disk (d.moment disk) c → d.may_leave disk c)
+    (old : State B O L D) (lines : BoxLines B) (run : TickRun) (n : ℕ)
+    (may : MayTake (driving b line_of o l d) old (run_items run))
+    (takes : TakesSome b line_of old.lines lines (run_ticks run) n) where
+  abbrev next : State B O L D
+  next = record old { lines = lines }
+
+  abbrev front : List Item
+  front = take n (run_items run)
+
+  more : (before : List Item)
+      → ticks_in before ++ take n (run_ticks run) ≡ ticks_in (before ++ front)
+  more before = sym (ticks_in-append before front
+      ∙ ap (λ ticks. ticks_in before ++ ticks) (ticks_in-front run n))
+
+  within : n ≤ length (run_items run)
+  within = omega (arith, takes.front.within, length-run_items run)
+
+  drives : (origin : BoxOrigin) (before : List Item)
+      → DrivesBox b line_of old.lines origin (outputs_of o l d old) before
+      → DrivesBox b line_of lines origin (outputs_of o l d next) (before ++ front)
+  drives origin before stood = record {
+    took = subst (HasTaken b line_of lines origin (texts_in (outputs_of o l d old))) (more before)
+        (taken_on b line_of old.lines lines (take n (run_ticks run)) takes.front.goes origin
+        (texts_in (outputs_of o l d old)) (ticks_in before) stood.took);
+    link_is = ap journal_link takes.front.goes.disk ∙ stood.link_is;
+    handed = record {
+      early = stood.handed.early;
+      later = stood.handed.later ++ take n (run_ticks run);
+      is = sym (append_assoc stood.handed.early stood.handed.later (take n (run_ticks run)))
+          ∙ ap (λ ticks. ticks ++ take n (run_ticks run)) stood.handed.is ∙ more before;
+      sent = stood.handed.sent;
+      settled = ap journal_floor takes.front.goes.disk ∙ stood.handed.settled;
+    };
+  }
+
+  counted : b.taken lines.line_box ≡ b.taken old.lines.line_box + length (ticks_in front)
+  counted = takes.front.goes.counted
+      ∙ ap (λ ticks. b.taken old.lines.line_box + length ticks) (sym (ticks_in-front run n))
+
+  images : KeepsImages o l d old next
+  images =
+      let is = takes.front.goes.disk in
+      record {
+        link = ap journal_link is;
+        rises = subst (λ j. journal_floor (disk_journal old.lines.late) ≤ journal_floor j) (sym is)
+            (le_refl _);
+        is_kept = subst (λ j. IsCrashSafe (disk_journal old.lines.late) (d.told old.disk)
+            (d.may_leave old.disk) → IsCrashSafe j (d.told old.disk) (d.may_leave old.disk))
+            (sym is) (λ kept. kept);
+        any_moment = (images_none o l d only_now old).any_moment;
+      }
+
+  went : GoesOn o l d old next (Ok tt)
+  went = record {
+    images = images;
+    disk = disk_none (d.faults old.disk);
+    sinks = sinks_none (o.faults old.out) (l.faults old.log);
+    flushes = none_flushed o l old.out old.log;
+  }
+
+  -- There is room for more.
+  pub taken_some : HasRoom lines.texts
+      → GivesSome (driving b line_of o l d) old next (run_items run) (Ok n)
+  taken_some room = record {
+    some = takes.some;
+    within = within;
+    gives = record {
+      moved = drives;
+      stopped = tt;
+      counted = counted;
+      is_able = record {
+        ready = takes.front.goes.ready;
+        room = room;
+        fits = subst (λ j. Fits j (d.told old.disk)) (sym takes.front.goes.disk) may.able.fits;
+      };
+      went = went;
+    };
+  }
+
+  -- What waited was handed out.
+  pub handed_some : (new : State B O L D) → HandsOn b line_of o l d next new (Ok tt)
+      → GivesSome (driving b line_of o l d) old new (run_items run) (Ok n)
+  handed_some new hands = record {
+    some = takes.some;
+    within = within;
+    gives = record {
+      moved = λ origin before stood.
+          hands.drives origin (before ++ front) (drives origin before stood);
+      stopped = tt;
+      counted = hands.taken ∙ counted;
+      is_able = hands.able;
+      went = drives-then b line_of o l d old next new (Ok tt) went hands.went;
+    };
+  }
+
+  -- The disk or a write failed.
+  pub stopped_some : (new : State B O L D) (stop : Stop)
+      → HandsOn b line_of o l d next new (Err stop)
+      → GivesSome (driving b line_of o l d) old new (run_items run) (Err stop)
+  stopped_some new stop hands =
+      let last : (n - 1) + 1 ≡ n = omega (arith, takes.some) in
+      record {
+        moved = tt;
+        stopped = record {
+          place = n - 1;
+          within = omega (arith, takes.some, within);
+          at = λ origin before stood. subst
+              (λ k. (driving b line_of o l d).stopped new stop origin (before ++ take k (run_items run)))
+              (sym last) (hands.stopped origin (before ++ front) (drives origin before stood));
+        };
+        counted = tt;
+        is_able = tt;
+        went = drives-then b line_of o l d old next new (Err stop) went hands.went;
+      }
