@@ -60,6 +60,7 @@ CHECKS = [
     Check("journal_faults", ("program", "library", "cc"), *same("PROGRAM", "LIVE")),
     Check("filter_words", ("program", "library", "cc"), ["PROGRAM"], ["PROGRAM", "1000", "2"], ["PROGRAM", "10000", "3"]),
     Check("bridge_faults", ("program", "library", "cc"), None, ["PROGRAM"], ["PROGRAM"]),
+    Check("tty_ticks_check", ("cc",), None, [], ["planted"]),
     Check("live", ("library", "libmodbus", "mbpoll"), None, None, []),
     Check("live_kinds", ("library", "cc"), None, None, []),
     Check("captures", ("line_capture", "tshark", "text2pcap", "editcap", "sigrok-cli"), None, [], []),

@@ -14,7 +14,7 @@ depends only on the build, not on what else the machine does. With OTHER, the la
 PERCENT % (5 % if not given) more than OTHER for some command. A command that OTHER doesn't know is counted without a comparison.
 
 PROGRAM and OTHER are programs, or checkouts of this repository in which `make demo` has built one.
-FOLDER should be in memory (/dev/shm), since each committed number is synced. The lines are the same in each run.
+FOLDER should be in memory (/dev/shm), since numbers are synced. The lines are the same in each run.
 It ends with 1 if a run doesn't end well or the two programs write different things, and with 2 if a program isn't there, or valgrind
 is needed and isn't installed. It is no part of the gate.
 """
