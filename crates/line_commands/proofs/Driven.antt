@@ -1,5 +1,7 @@
 -- What a box that takes ticks in memory, and then hands out what waits, does as a consumer.
 use Rattle.line_commands.proofs.InMemory.{taken_on}
+use Rattle.line_commands.proofs.RunsGiven.{ticks_more, first_given, last_stopped}
+use Rattle.std.proofs.lemmas.List.{length-take-le}
 use Rattle.line_commands.specs.BoxLines.{BoxOrigin, State, HasTaken, DrivesBox, KeepsImages}
 use Rattle.line_commands.specs.BoxLines.{TakesSome, HandsOn, GoesOn, outputs_of, texts_in, driving}
 use Rattle.line_commands.specs.BoxLinesLaws.{images_none, drives-then}
@@ -8,16 +10,14 @@ use Rattle.line_texts.specs.Adding.{HasRoom}
 use Rattle.link_box.specs.declared.box_trait.LinkBox.{Ghosts as LinkBox}
 use Rattle.sequence_journal.specs.Journal.{journal_link, journal_floor, Fits, IsCrashSafe}
 use Rattle.sequence_journal.specs.Late.{disk_journal}
-use Rattle.std.proofs.Common.{◌≡◌, ◌∙◌, ℕ, ◌+◌, ◌-◌, ◌≤◌, List, ◌++◌, length, take, Ok, Err}
-use Rattle.std.proofs.Common.{sym, ap, subst, append_assoc, arith}
+use Rattle.std.proofs.Common.{◌≡◌, ◌∙◌, ℕ, ◌+◌, ◌≤◌, List, ◌++◌, take, Ok, Err}
+use Rattle.std.proofs.Common.{sym, ap, subst, append_assoc}
 use Rattle.std.proofs.Math.Nat.{le_refl}
-use Rattle.tick_drive.proofs.{Causes.disk_none, Causes.sinks_none, ItemLaws.ticks_in-append}
-use Rattle.tick_drive.proofs.ItemLaws.{ticks_in-front}
+use Rattle.tick_drive.proofs.{Causes.disk_none, Causes.sinks_none}
 use Rattle.tick_drive.specs.{Consumers.GivesSome, Consumers.MayTake, declared.consumer.Stop.Stop}
 use Rattle.yasir_io.proofs.FlushLaws.{none_flushed}
 use Rattle.yasir_io.specs.{Disks.Slots, declared.disk.SlotDisk.Ghosts as SlotDisk}
 use Rattle.yasir_io.specs.declared.sink.Sink.{Ghosts as Sink}
-use Rattle.yasir_ticks.proofs.TickRuns.{length-run_items}
 use Rattle.yasir_ticks.specs.{TickRun.run_ticks, TickRun.run_items, Ticks.Item, Ticks.ticks_in}
 use Rattle.yasir_ticks.specs.declared.tick_run.TickRun.{TickRun}
 
@@ -36,11 +36,7 @@ module _ {B N O L D : Type 0} (b : LinkBox B N) (line_of : N → List ℕ) (o : 
 
   more : (before : List Item)
       → ticks_in before ++ take n (run_ticks run) ≡ ticks_in (before ++ front)
-  more before = sym (ticks_in-append before front
-      ∙ ap (λ ticks. ticks_in before ++ ticks) (ticks_in-front run n))
-
-  within : n ≤ length (run_items run)
-  within = omega (arith, takes.front.within, length-run_items run)
+  more before = sym (ticks_more before run n)
 
   drives : (origin : BoxOrigin) (before : List Item)
       → DrivesBox b line_of old.lines origin (outputs_of o l d old) before
@@ -60,9 +56,9 @@ module _ {B N O L D : Type 0} (b : LinkBox B N) (line_of : N → List ℕ) (o : 
     };
   }
 
-  counted : b.taken lines.line_box ≡ b.taken old.lines.line_box + length (ticks_in front)
+  counted : b.taken lines.line_box ≡ b.taken old.lines.line_box + n
   counted = takes.front.goes.counted
-      ∙ ap (λ ticks. b.taken old.lines.line_box + length ticks) (sym (ticks_in-front run n))
+      ∙ ap (λ k. b.taken old.lines.line_box + k) (length-take-le n (run_ticks run) takes.front.within)
 
   images : KeepsImages o l d old next
   images =
@@ -88,54 +84,27 @@ module _ {B N O L D : Type 0} (b : LinkBox B N) (line_of : N → List ℕ) (o : 
   -- There is room for more.
   pub taken_some : HasRoom lines.texts
       → GivesSome (driving b line_of o l d) old next (run_items run) (Ok n)
-  taken_some room = record {
-    some = takes.some;
-    within = within;
-    gives = record {
-      moved = drives;
-      stopped = tt;
-      counted = counted;
-      is_able = record {
+  taken_some room = first_given (driving b line_of o l d) old next run n takes.some
+      takes.front.within drives counted (record {
         ready = takes.front.goes.ready;
         room = room;
         fits = subst (λ j. Fits j (d.told old.disk)) (sym takes.front.goes.disk) may.able.fits;
-      };
-      went = went;
-    };
-  }
+      }) went
 
   -- What waited was handed out.
   pub handed_some : (new : State B O L D) → HandsOn b line_of o l d next new (Ok tt)
       → GivesSome (driving b line_of o l d) old new (run_items run) (Ok n)
-  handed_some new hands = record {
-    some = takes.some;
-    within = within;
-    gives = record {
-      moved = λ origin before stood.
-          hands.drives origin (before ++ front) (drives origin before stood);
-      stopped = tt;
-      counted = hands.taken ∙ counted;
-      is_able = hands.able;
-      went = drives-then b line_of o l d old next new (Ok tt) went hands.went;
-    };
-  }
+  handed_some new hands = first_given (driving b line_of o l d) old new run n takes.some
+      takes.front.within
+      (λ origin before stood. hands.drives origin (before ++ front) (drives origin before stood))
+      (hands.taken ∙ counted) hands.able
+      (drives-then b line_of o l d old next new (Ok tt) went hands.went)
 
   -- The disk or a write failed.
   pub stopped_some : (new : State B O L D) (stop : Stop)
       → HandsOn b line_of o l d next new (Err stop)
       → GivesSome (driving b line_of o l d) old new (run_items run) (Err stop)
-  stopped_some new stop hands =
-      let last : (n - 1) + 1 ≡ n = omega (arith, takes.some) in
-      record {
-        moved = tt;
-        stopped = record {
-          place = n - 1;
-          within = omega (arith, takes.some, within);
-          at = λ origin before stood. subst
-              (λ k. (driving b line_of o l d).stopped new stop origin (before ++ take k (run_items run)))
-              (sym last) (hands.stopped origin (before ++ front) (drives origin before stood));
-        };
-        counted = tt;
-        is_able = tt;
-        went = drives-then b line_of o l d old next new (Err stop) went hands.went;
-      }
+  stopped_some new stop hands = last_stopped (driving b line_of o l d) old new run n takes.some
+      takes.front.within stop
+      (λ origin before stood. hands.stopped origin (before ++ front) (drives origin before stood))
+      (drives-then b line_of o l d old next new (Err stop) went hands.went)

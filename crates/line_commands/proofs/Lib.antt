@@ -1,10 +1,11 @@
+pub mod OverInput
+pub mod FrontsSent
+pub mod RunsGiven
 pub mod Printing
 pub mod ReadEnds
-pub mod ReadableFrames
 pub mod Spacing
 pub mod Owed
 pub mod SpaceEnds
-pub mod ReadableSpaced
 pub mod Texts
 pub mod BehindReads
 pub mod Reading

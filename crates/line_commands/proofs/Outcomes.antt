@@ -9,14 +9,13 @@ use Rattle.sequence_journal.specs.Late.{disk_journal, disk_floor, late_link, Has
 use Rattle.sequence_journal.specs.Loading.{IsLoaded, KeepsLoadable}
 use Rattle.sequence_journal.specs.{Slots.floor_of, Uptimes.RiseFrom}
 use Rattle.sequence_journal.specs.declared.{journal.Journal.Journal, link.LinkId.LinkId}
-use Rattle.std.proofs.Common.{◌≡◌, ◌∙◌, ℕ, ◌+◌, ◌≤◌, ◌⊎◌, inl, inr, true, false, List, [], ◌++◌}
+use Rattle.std.proofs.Common.{◌≡◌, ◌∙◌, ℕ, ◌≤◌, inl, true, false, List, [], ◌++◌}
 use Rattle.std.proofs.Common.{length, length-append, map, take, drop, Option, Some, None, Result}
-use Rattle.std.proofs.Common.{Ok, OnOk}
-use Rattle.std.proofs.Common.{refl, sym, ap, subst, append_assoc, append-nil, arith}
-use Rattle.std.proofs.Math.Seq.{take-append_seam}
-use Rattle.std.proofs.lemmas.List.{take-append-drop, take-append-le}
+use Rattle.std.proofs.Common.{OnOk}
+use Rattle.std.proofs.Common.{refl, sym, ap, subst, append-nil, arith}
+use Rattle.std.proofs.lemmas.List.{take-append-drop}
 use Rattle.{std.specs.Prelude.IfSome, tick_drive.specs.declared.consumer.Stop.Stop}
-use Rattle.tick_drive.specs.{Consumers.Moves, Drive.Drives, Drive.answer_of, Input.Takes}
+use Rattle.tick_drive.specs.{Drive.Drives, Drive.answer_of}
 use Rattle.tick_drive.specs.Consumers.{IsSinkCause, is_write_fault}
 use Rattle.yasir_io.specs.Disks.{Slots, OneImage, LeavesOnly}
 use Rattle.yasir_io.specs.declared.{disk.SlotDisk.Ghosts as SlotDisk, sink.Sink.Ghosts as Sink}
@@ -35,15 +34,16 @@ use Rattle.line_commands.specs.{BoxLines.driving, BoxLines.state_of, BoxLinesLaw
 use Rattle.line_commands.specs.{Boxes.Boxed, Boxes.IsBoxed, LinkBoxed.boxed_of}
 use Rattle.line_commands.specs.ReplaysBox.{Around, around, KeepsFloor, KeepsFloorFromLoad}
 use Rattle.line_commands.specs.ReplaysBox.{LeavesUptime, KeepsFloorThroughout, boxed_with, texts_of}
-use Rattle.line_commands.specs.ReplaysBox.{EndsBox, FailsAtSettle, WritesFronts, RunsBox}
-use Rattle.line_commands.specs.ReplaysBox.{has_stopped}
-use Rattle.line_commands.specs.Sending.{made_by, HasSent, HasSentFronts}
+use Rattle.line_commands.specs.ReplaysBox.{EndsBox, SendsFronts, HaltsBox, OtherwiseRuns, RunsBox}
+use Rattle.line_commands.specs.OverInput.{has_stopped, OfFront, MakesAll, MakesFront, EndsAs}
+use Rattle.line_commands.proofs.OverInput.{answer_ok, front-take, all_driven, stop_driven}
+use Rattle.line_commands.proofs.OverInput.{front_of_all, ends_over}
+use Rattle.line_commands.proofs.FrontsSent.{fronts_of_all}
+use Rattle.line_commands.specs.Sending.{made_by, HasSentFronts}
 use Rattle.line_commands.specs.declared.box_lines.BoxLines.{BoxLines}
-use Rattle.line_texts.proofs.Sending.{notes_all}
 use Rattle.line_texts.specs.{Sending.SinkTexts, Sending.sink_texts}
 use Rattle.command_ends.specs.{Causes.InputCause, Causes.SinkCause, Endings.status_of}
 use Rattle.command_ends.specs.declared.status.Status.{Status}
-use Rattle.command_ends.specs.declared.status.Status.TheVariants.{Done, WriteFault}
 use Rattle.tick_drive.proofs.ItemLaws.{ticks_in-append}
 use Rattle.tick_drive.specs.declared.end.End.{End, TheVariants.Whole}
 use Rattle.tick_drive.specs.declared.end.End.TheVariants.{Refused, TooLong, ReadFault, Stopped}
@@ -70,71 +70,20 @@ number-take box floor line p laws =
     subst (λ l. box.number (take p line) ≤ box.number l) (take-append-drop p line)
     (laws.rises (take p line) (drop p line))
 
--- If the whole lines that `out` got have `p` ticks, the last number of the first `p` ticks isn't
--- above that of the ticks taken, since a box makes as many ticks as it takes.
-number_of_lines : (box : Boxed) (floor : ℕ) (all : List Tick) (k : ℕ) (before now : SinkTexts)
-    → IsBoxed box floor
-    → (sent : HasSentFronts box before now (take k all))
-    → box.number (take (length (ticks_in (ended_items sent.text.front))) all)
-    ≤ box.number (take k all)
-number_of_lines box floor all k before now laws sent =
-    let p : ℕ = length (ticks_in (ended_items sent.text.front)) in
-    let begins = whole_lines-begin (box.other_line (take k all)) sent.text.front sent.text.rest
+-- The whole lines that `out` got have no more ticks than the line, since a box makes as many ticks
+-- as it takes.
+few_in_lines : (box : Boxed) (floor : ℕ) (line : List Tick) (before now : SinkTexts)
+    → IsBoxed box floor → (sent : HasSentFronts box before now line)
+    → length (ticks_in (ended_items sent.text.front)) ≤ length line
+few_in_lines box floor line before now laws sent =
+    let begins = whole_lines-begin (box.other_line line) sent.text.front sent.text.rest
     sent.are sent.text.all in
     let sum = ap length begins.1 ∙ length-append (ticks_in (ended_items sent.text.front))
     begins.0 in
-    let same = laws.long (take k all) in
-    let within : p ≤ length (take k all) = omega (arith, sum, same) in
-    subst (λ l. box.number l ≤ box.number (take k all)) (front_of_front all k p within)
-    (number-take box floor (take k all) p laws)
-  where
-    front_of_front : (all : List Tick) (k p : ℕ) → p ≤ length (take k all)
-        → take p (take k all) ≡ take p all
-    front_of_front all k p within =
-        sym (ap (take p) (sym (take-append-drop k all))
-        ∙ take-append-le p (take k all) (drop k all) within)
-
--- ---- parts of what was taken
-
--- The first ticks of a line are as many of its ticks as they are.
-front-take : (line more all : List Tick) → all ≡ line ++ more → line ≡ take (length line) all
-front-take line more all is = sym (ap (take (length line)) is ∙ take-append_seam line more)
-
--- The ticks of some items are those of the first of them and then those of the others.
-ticks_in-cut : (items front rest : List Item) → items ≡ front ++ rest
-    → ticks_in items ≡ ticks_in front ++ ticks_in rest
-ticks_in-cut items front rest is = ap ticks_in is ∙ ticks_in-append front rest
-
--- If all of two texts was sent, fronts of them were.
-fronts_of_all : (box : Boxed) (before now : SinkTexts) (line : List Tick)
-    → HasSent box before now line
-    → HasSentFronts box before now line
-fronts_of_all box before now line sent = record {
-  are = sent.are;
-  text = record {
-    front = canonical_text (box.other_line line);
-    rest = [];
-    got = sent.text;
-    all = sym (append-nil _);
-  };
-  note_text = record {
-    front = box.note_lines line;
-    rest = [];
-    got = sent.note_text;
-    all = sym (append-nil _);
-  };
-  notes_first = notes_all (made_by box) line (canonical_text (box.other_line line)) [] sent.are
-      (sym (append-nil _));
-}
+    let same = laws.long line in
+    omega (arith, sum, same)
 
 -- ---- a drive that wasn't stopped, and causes
-
-pub answer_ok : (end : End) → has_stopped end ≡ false → answer_of end ≡ Ok tt
-answer_ok Whole other = refl
-answer_ok (Refused bad) other = refl
-answer_ok (TooLong what count) other = refl
-answer_ok ReadFault other = refl
-answer_ok (Stopped stop) other = cc
 
 -- A drive that was stopped didn't take a whole input.
 pub not_whole : (end : End) → has_stopped end ≡ true → end ≡ Whole → ⊥
@@ -283,15 +232,12 @@ module _ {B N S O L D : Type 0} (b : LinkBox B N) (line_of : N → List ℕ) (s 
   abbrev Driven : State B O L D → End → Type 0
   Driven = HasDriven b line_of s o l d drive
 
-  abbrev Took : List Item → End → Type 0
-  Took items end =
-      Takes 0 drive.rest (s.left drive.before.input) (s.left drive.ended.input) items end
+  -- what the input had left at first, and had left at the end
+  abbrev at_first : Option (List ℕ)
+  at_first = s.left drive.before.input
 
-  -- what the box stands for after the items of a drive
-  stood : (state : State B O L D) (items : List Item)
-      → Moves (driving b line_of o l d) (begun_state drive) state items
-      → DrivesBox b line_of state.lines origin (outputs_of o l d state) items
-  stood state items moved = moved origin [] (run.begun texts)
+  abbrev at_last : Option (List ℕ)
+  at_last = s.left drive.ended.input
 
   -- No image has a floor below one that isn't above the disk's.
   keeps : (n : ℕ) → late_link drive.last.late ≡ drive.link → n ≤ disk_floor drive.last.late
@@ -321,116 +267,89 @@ module _ {B N S O L D : Type 0} (b : LinkBox B N) (line_of : N → List ℕ) (s 
     outputs = record { out = o.held out; log = l.held log; slots = slots }
 
     abbrev Runs : Status → Type 0
-    Runs = RunsBox s o l d drive.link boxes drive.rest drive.before after
+    Runs = RunsBox s o l d drive.link boxes drive.before after drive.rest
 
-    abbrev Fronts : Type 0
-    Fronts = WritesFronts s o l d drive.link boxes drive.rest drive.before after
+    abbrev Ends : List Tick → Type 0
+    Ends = EndsBox s o l d drive.link boxes drive.before after
+
+    abbrev Halts : Stop → List Tick → Type 0
+    Halts = HaltsBox s o l d drive.link boxes drive.before after
+
+    abbrev Finished : List Tick → Type 0
+    Finished = HasFinished b line_of drive.last origin outputs
 
     -- All that waited was written.
-    pub ends_box : (end : End) (items : List Item) → Took items end
-        → HasFinished b line_of drive.last origin outputs items
-        → EndsBox s o l d drive.link boxes drive.rest drive.before after end
-    ends_box end items takes at =
+    ends_box : (line : List Tick) → Finished line → Ends line
+    ends_box line at =
         let served = at.settled.link_is in
-        let within : box.number (ticks_in items) ≤ disk_floor drive.last.late =
+        let within : box.number line ≤ disk_floor drive.last.late =
         omega (arith, at.settled.floor) in
         record {
           floor = journal_floor drive.journal;
-          items = items;
           floor_before = run.floor_before;
-          takes = takes;
           replays = record {
             sent = at.sent;
             images = keeps _ served within;
-            uptime = uptime_to (ticks_in items) served within;
+            uptime = uptime_to line served within;
           };
           from_load = run.since_load;
           floor_told = at.settled.floor_told;
         }
 
-    -- Of the items that were taken, the box had taken `front` when something failed. The sinks have
-    -- got fronts of what the box makes of `line`, the first of the ticks of these.
-    module _ (end : End) (items : List Item) (takes : Took items end) (line more : List Tick)
-        (all : ticks_in items ≡ line ++ more)
-        (sent : HasSentFronts box texts (texts_of o l after) line)
-        (served : late_link drive.last.late ≡ drive.link)
-        (within : box.number line ≤ disk_floor drive.last.late) where
-      front : line ≡ take (length line) (ticks_in items)
-      front = front-take line more (ticks_in items) all
-
-      fronts : HasSentFronts box texts (texts_of o l after) (take (length line) (ticks_in items))
-      fronts = subst (HasSentFronts box texts (texts_of o l after)) front sent
-
-      less : box.number (take (length line) (ticks_in items)) ≤ disk_floor drive.last.late
-      less = subst (λ t. box.number t ≤ disk_floor drive.last.late) front within
-
-      lines : KeepsFloor d drive.link
-          (box.number (take (length (ticks_in (ended_items fronts.text.front))) (ticks_in items)))
-          drive.before.disk drive.ended.disk
+    -- The sinks have got fronts of what the box makes of this line.
+    fronts : (line : List Tick) → HasSentFronts box texts (texts_of o l after) line
+        → late_link drive.last.late ≡ drive.link → box.number line ≤ disk_floor drive.last.late
+        → SendsFronts s o l d drive.link boxes drive.before after (journal_floor drive.journal) line
+    fronts line sent served within = record {
+      floor_before = run.floor_before;
+      sent = sent;
+      images = keeps _ served within;
+      uptime = uptime_to line served within;
+      from_load = run.since_load;
+      few = few_in_lines box (journal_floor drive.journal) line texts (texts_of o l after) run.laws
+          sent;
       lines =
-          let below = number_of_lines box (journal_floor drive.journal) (ticks_in items) (length line)
-          texts (texts_of o l after) run.laws fronts in
-          keeps _ served (omega (arith, below, less))
+          let below = number-take box (journal_floor drive.journal) line
+          (length (ticks_in (ended_items sent.text.front))) run.laws in
+          keeps _ served (omega (arith, below, within));
+    }
 
-      writes_fronts : ToldFloor drive.link (box.number line) slots → Fronts
-      writes_fronts told = record {
-        floor = journal_floor drive.journal;
-        items = items;
-        end = end;
-        ticks = length line;
-        floor_before = run.floor_before;
-        takes = takes;
-        sent = fronts;
-        images = keeps _ served less;
-        uptime = uptime_to _ served less;
-        from_load = run.since_load;
-        lines = lines;
-        floor_told = subst (λ t. ToldFloor drive.link (box.number t) slots) front told;
-      }
+    -- The box was stopped when it had taken the last of these items.
+    halts_box : (stop : Stop) (items : List Item)
+        → StopsBox b line_of drive.last stop origin outputs items → Halts stop (ticks_in items)
+    halts_box stops.JournalFault items at =
+        let early = front-take at.early at.later (ticks_in items) (sym at.is) in record {
+          floor = journal_floor drive.journal;
+          early = length at.early;
+          fronts = subst (SendsFronts s o l d drive.link boxes drive.before after
+              (journal_floor drive.journal)) early
+              (fronts at.early at.sent at.link_is at.not_below);
+          floor_told = subst (λ t. IfSome slots (HasFloorBetween drive.link (box.number t)
+              (box.number (ticks_in items)))) early at.floor_told;
+        }
+    halts_box stops.WriteFault items at = record {
+      floor = journal_floor drive.journal;
+      fronts = fronts (ticks_in items) at.sent at.settled.link_is
+          (omega (arith, at.settled.floor));
+      floor_told = at.settled.floor_told;
+    }
+    halts_box stops.NoMemory items at = absurd at
 
-      fails_at_settle : (taken : List Tick) (others : List Tick)
-          → ticks_in items ≡ taken ++ others → length line ≤ length taken
-          → IfSome slots (HasFloorBetween drive.link (box.number line) (box.number taken))
-          → FailsAtSettle s o l d drive.link boxes drive.rest drive.before after
-      fails_at_settle taken others are more told = record {
-        floor = journal_floor drive.journal;
-        items = items;
-        end = end;
-        early = length line;
-        ticks = length taken;
-        not_more = more;
-        floor_before = run.floor_before;
-        takes = takes;
-        sent = fronts;
-        images = keeps _ served less;
-        uptime = uptime_to _ served less;
-        from_load = run.since_load;
-        lines = lines;
-        floor_told = subst (λ t. IfSome slots (HasFloorBetween drive.link
-            (box.number (take (length line) (ticks_in items))) (box.number t)))
-            (front-take taken others (ticks_in items) are)
-            (subst (λ t. IfSome slots (HasFloorBetween drive.link (box.number t) (box.number taken)))
-            front told);
-      }
+    halts_at : (stop : Stop) (items : List Item)
+        → StopsBox b line_of drive.last stop origin outputs items
+        → OfFront (Halts stop) (ticks_in items)
+    halts_at stop items at = record {
+      early = ticks_in items;
+      later = [];
+      is = append-nil (ticks_in items);
+      makes = halts_box stop items at;
+    }
 
-    -- The box was stopped at the last of the items `front`.
-    pub stops_box : (end : End) (items front rest : List Item) → Took items end
-        → items ≡ front ++ rest → (stop : Stop)
-        → StopsBox b line_of drive.last stop origin outputs front
+    of_stop : (stop : Stop) → MakesFront drive.rest at_first at_last (Halts stop)
         → Runs (status_of (Stopped stop))
-    stops_box end items front rest takes is stops.JournalFault at =
-        let cut = ticks_in-cut items front rest is in
-        let all : ticks_in items ≡ at.early ++ (at.later ++ ticks_in rest) =
-        cut ∙ ap (λ t. t ++ ticks_in rest) (sym at.is)
-        ∙ append_assoc at.early at.later (ticks_in rest) in
-        inl (fails_at_settle end items takes at.early (at.later ++ ticks_in rest) all at.sent
-        at.link_is at.not_below (ticks_in front) (ticks_in rest) cut
-        (omega (arith, ap length at.is, length-append at.early at.later)) at.floor_told)
-    stops_box end items front rest takes is stops.WriteFault at =
-        writes_fronts end items takes (ticks_in front) (ticks_in rest)
-        (ticks_in-cut items front rest is) at.sent at.settled.link_is
-        (omega (arith, at.settled.floor)) at.settled.floor_told
-    stops_box end items front rest takes is stops.NoMemory at = absurd at
+    of_stop stops.WriteFault made = made
+    of_stop stops.JournalFault made = inl made
+    of_stop stops.NoMemory made = absurd made.makes
 
   -- ---- the drive was stopped
 
@@ -441,21 +360,23 @@ module _ {B N S O L D : Type 0} (b : LinkBox B N) (line_of : N → List ℕ) (s 
   drive_stops (TooLong what count) stopped driven = cc
   drive_stops ReadFault stopped driven = cc
   drive_stops (Stopped stop) stopped driven =
-      let at = driven.gives.stopped in
-      stops_box drive.ended.out drive.ended.log (Stopped stop) driven.items
-      (take (at.place + 1) driven.items) (drop (at.place + 1) driven.items) driven.takes
-      (sym (take-append-drop (at.place + 1) driven.items)) stop
-      (at.at origin [] (run.begun texts))
+      of_stop drive.ended.out drive.ended.log stop
+      (stop_driven drive.rest at_first at_last (driving b line_of o l d) (begun_state drive)
+      (last_state drive) origin (run.begun texts) (Finished drive.ended.out drive.ended.log)
+      (Halts drive.ended.out drive.ended.log) stop driven
+      (λ stop items at. halts_at drive.ended.out drive.ended.log stop items at))
 
   -- ---- the input ended, and then all that waited was to be written
 
-  -- what the box had taken when the input had ended
-  taken_at : (end : End) → has_stopped end ≡ false → (state : State B O L D)
-      → (driven : Driven state end)
-      → DrivesBox b line_of state.lines origin (outputs_of o l d state) driven.items
-  taken_at end other state driven = stood state driven.items
-      (subst (λ r. OnOk r (Moves (driving b line_of o l d) (begun_state drive) state driven.items))
-      (answer_ok end other) driven.gives.moved)
+  -- What follows from what the box had taken when the input had ended.
+  taken_at : (made : List Tick → Type 0) (end : End) → has_stopped end ≡ false
+      → (state : State B O L D) → Driven state end
+      → ((items : List Item) → DrivesBox b line_of state.lines origin (outputs_of o l d state) items
+      → made (ticks_in items))
+      → MakesAll drive.rest at_first at_last made end
+  taken_at made end other state driven then = all_driven drive.rest at_first at_last
+      (driving b line_of o l d) (begun_state drive) state origin (run.begun texts) made
+      (λ stop line. ⊥) end other driven then
 
   -- The disk or a write failed.
   pub finish_stops : (end : End) → has_stopped end ≡ false → (state : State B O L D)
@@ -465,9 +386,10 @@ module _ {B N S O L D : Type 0} (b : LinkBox B N) (line_of : N → List ℕ) (s 
       → StopsBox b line_of drive.last stop origin (outputs_of o l d (last_state drive)) items)
       → Runs drive.ended.out drive.ended.log (status_of (Stopped stop))
   finish_stops end other state driven stop stops =
-      stops_box drive.ended.out drive.ended.log end driven.items driven.items [] driven.takes
-      (sym (append-nil driven.items)) stop
-      (stops origin driven.items (taken_at end other state driven))
+      of_stop drive.ended.out drive.ended.log stop
+      (front_of_all drive.rest at_first at_last (Halts drive.ended.out drive.ended.log stop) end
+      (taken_at (OfFront (Halts drive.ended.out drive.ended.log stop)) end other state driven
+      (λ items at. halts_at drive.ended.out drive.ended.log stop items (stops origin items at))))
 
   -- A box never stops for lack of memory, so the input's count isn't below the one before.
   pub input_of_stop : (before now : ℕ) → before ≤ now → (stop : Stop)
@@ -477,43 +399,26 @@ module _ {B N S O L D : Type 0} (b : LinkBox B N) (line_of : N → List ℕ) (s 
   input_of_stop before now never_falls stops.WriteFault runs = never_falls
   input_of_stop before now never_falls stops.NoMemory runs = absurd runs
 
-  abbrev Finished : State B O L D → Type 0
-  Finished state = (origin : BoxOrigin) (items : List Item)
-      → DrivesBox b line_of state.lines origin (outputs_of o l d state) items
-      → HasFinished b line_of drive.last origin (outputs_of o l d (last_state drive)) items
-
-  -- All that waited was written, and the input isn't a whole one.
-  pub refusal_runs : (end : End) → has_stopped end ≡ false → (end ≡ Whole → ⊥)
-      → (state : State B O L D) → Driven state end → Finished state
-      → Runs drive.ended.out drive.ended.log (status_of end)
-  refusal_runs Whole other partial state driven finish = absurd (partial refl)
-  refusal_runs (Refused bad) other partial state driven finish =
-      ends_box drive.ended.out drive.ended.log (Refused bad) driven.items driven.takes
-      (finish origin driven.items (taken_at (Refused bad) other state driven))
-  refusal_runs (TooLong what count) other partial state driven finish =
-      ends_box drive.ended.out drive.ended.log (TooLong what count) driven.items driven.takes
-      (finish origin driven.items (taken_at (TooLong what count) other state driven))
-  refusal_runs ReadFault other partial state driven finish =
-      ends_box drive.ended.out drive.ended.log ReadFault driven.items driven.takes
-      (finish origin driven.items (taken_at ReadFault other state driven))
-  refusal_runs (Stopped stop) other partial state driven finish = cc
-
   -- What waited was written, and the sinks were flushed, or a flush failed.
-  module _ (out : O) (log : L) (out_same : o.held out ≡ o.held drive.ended.out)
-      (log_same : l.held log ≡ l.held drive.ended.log) (state : State B O L D)
-      (driven : Driven state Whole) (finish : Finished state) where
-    finished : HasFinished b line_of drive.last origin (outputs out log) driven.items
-    finished = rw (out_same, log_same) (finish origin driven.items (taken_at Whole refl state driven))
-
-    pub whole_runs : (status : Status) → (status ≡ Done) ⊎ (status ≡ WriteFault)
-        → Runs out log status
-    whole_runs status (inl done) =
-        subst (Runs out log) (sym done) (ends_box out log Whole driven.items driven.takes finished)
-    whole_runs status (inr fault) =
-        subst (Runs out log) (sym fault)
-        (stops_box out log Whole driven.items driven.items [] driven.takes
-        (sym (append-nil driven.items)) stops.WriteFault (record {
-          sent = fronts_of_all box texts (texts_of o l (after out log)) (ticks_in driven.items)
-              finished.sent;
-          settled = finished.settled;
-        }))
+  pub all_runs : (out : O) (log : L) → o.held out ≡ o.held drive.ended.out
+      → l.held log ≡ l.held drive.ended.log → (end : End) → has_stopped end ≡ false
+      → (state : State B O L D) → Driven state end
+      → ((origin : BoxOrigin) (items : List Item)
+      → DrivesBox b line_of state.lines origin (outputs_of o l d state) items
+      → HasFinished b line_of drive.last origin (outputs_of o l d (last_state drive))
+      (ticks_in items))
+      → (status : Status) → EndsAs end status → Runs out log status
+  all_runs out log out_same log_same end other state driven finish status is =
+      ends_over drive.rest at_first at_last (Finished out log) (Ends out log)
+      (Halts out log stops.WriteFault)
+      (OtherwiseRuns s o l d drive.link boxes drive.before (after out log) drive.rest) end other
+      (taken_at (Finished out log) end other state driven
+      (λ items at. rw (out_same, log_same) (finish origin items at)))
+      (λ line at. ends_box out log line at)
+      (λ line at. record {
+        floor = journal_floor drive.journal;
+        fronts = fronts out log line
+            (fronts_of_all (made_by box) texts (texts_of o l (after out log)) line at.sent)
+            at.settled.link_is (omega (arith, at.settled.floor));
+        floor_told = at.settled.floor_told;
+      }) status is

@@ -18,7 +18,7 @@ use Rattle.sequence_journal.specs.Slots.{any_floor, old_floor, floor_by, floor_o
 use Rattle.sequence_journal.specs.declared.link.LinkId.{LinkId}
 use Rattle.std.proofs.Common.{◌≡◌, ◌∙◌, ◌⊎◌, ℕ, List, Option, Some, None, inl, inr, refl, sym, ap}
 use Rattle.std.proofs.Common.{subst}
-use Rattle.{std.proofs.Common.⊎_elim, tick_drive.specs.declared.end.End.End}
+use Rattle.{std.proofs.Common.⊎_elim}
 use Rattle.yasir_io.specs.Disks.{Slots, OneImage}
 use Rattle.yasir_io.specs.declared.disk.{Slot.TheVariants.A, SlotDisk.Ghosts as SlotDisk}
 use Rattle.yasir_io.specs.declared.{sink.Sink.Ghosts as Sink, source.Source.Ghosts as Source}
@@ -38,8 +38,8 @@ floor-of-old link n slots right is_old =
     ∙ ap (λ o. floor_by None o (old_floor slots)) is_old.none ∙ is_old.number
 
 module _ {S O L D : Type 0} (s : Source S) (o : Sink O) (l : Sink L) (d : SlotDisk D)
-    (link : LinkId) (right : HasDirection link) (box : ℕ → Boxed) (rest : ℕ)
-    (before after : Around S O L D) (begins image : Slots)
+    (link : LinkId) (right : HasDirection link) (box : ℕ → Boxed)
+    (before after : Around S O L D) (rest : ℕ) (begins image : Slots)
     (told : d.told before.disk ≡ Some begins)
     (one : OneImage (d.told before.disk) (d.may_leave before.disk))
     (left : d.may_leave after.disk image) where
@@ -53,11 +53,11 @@ module _ {S O L D : Type 0} (s : Source S) (o : Sink O) (l : Sink L) (d : SlotDi
     is = leaves one begins told image left;
   }
 
-  ended : (end : End) → EndsBox s o l d link box rest before after end
+  ended : (line : List Tick) → EndsBox s o l d link box before after line
       → WasUptime link box begins image
-  ended end h = was h.floor _ h.floor_before h.replays.uptime
+  ended line h = was h.floor line h.floor_before h.replays.uptime
 
-  looked : LooksAtJournal s o l d link box rest before after → image ≡ begins
+  looked : LooksAtJournal s o l d link box before after → image ≡ begins
   looked h =
       let same : Some begins ≡ Some image = sym told ∙ one image (h.images image left) in
       cc
@@ -66,7 +66,7 @@ module _ {S O L D : Type 0} (s : Source S) (o : Sink O) (l : Sink L) (d : SlotDi
   still : d.may_leave before.disk image → image ≡ begins
   still was = let same : Some begins ≡ Some image = sym told ∙ one image was in cc
 
-  failed-load : FailsAtLoad s o l d link box rest before after
+  failed-load : FailsAtLoad s o l d link box before after
       → (image ≡ begins) ⊎ WasTakenOver link begins image
   failed-load h = elim (h.images image left) as (λ _. (image ≡ begins)
       ⊎ WasTakenOver link begins image) [
@@ -89,20 +89,22 @@ module _ {S O L D : Type 0} (s : Source S) (o : Sink O) (l : Sink L) (d : SlotDi
       ]
 
   -- The run was an uptime with the line that the box took.
-  abbrev Was : (status : Status) → RunsBox s o l d link box rest before after status → Type 0
+  abbrev Was : (status : Status) → RunsBox s o l d link box before after rest status → Type 0
   Was status ran = (was : WasUptime link box begins image)
-      × TookLine s o l d link box rest before after status ran was.line
+      × TookLine s o l d link box before after rest status ran was.line
 
-  run-is : (status : Status) (ran : RunsBox s o l d link box rest before after status)
+  run-is : (status : Status) (ran : RunsBox s o l d link box before after rest status)
       → Was status ran ⊎ ((image ≡ begins) ⊎ WasTakenOver link begins image)
   unfolding ended was
-  run-is Done h = inl (ended _ h, refl)
-  run-is (BadTicks bad) h = inl (ended _ h, refl)
-  run-is (TooLong what count) h = inl (ended _ h, refl)
-  run-is ReadFault h = inl (ended _ h, refl)
-  run-is JournalFault (inl h) = inl (was h.floor _ h.floor_before h.uptime, refl)
+  run-is Done h = inl (ended _ h.makes, refl)
+  run-is (BadTicks bad) h = inl (ended _ h.makes, refl)
+  run-is (TooLong what count) h = inl (ended _ h.makes, refl)
+  run-is ReadFault h = inl (ended _ h.makes, refl)
+  run-is JournalFault (inl h) =
+      inl (was h.makes.floor _ h.makes.fronts.floor_before h.makes.fronts.uptime, refl)
   run-is JournalFault (inr h) = inr (failed-load h)
-  run-is WriteFault h = inl (was h.floor _ h.floor_before h.uptime, refl)
+  run-is WriteFault h =
+      inl (was h.makes.floor _ h.makes.fronts.floor_before h.makes.fronts.uptime, refl)
   run-is (BadJournal a b) h = inr (inl (looked h.1))
   run-is (WrongLink slot) h = inr (inl (looked h.1))
   run-is status h = absurd h
@@ -128,9 +130,8 @@ module _ {K S O L D : Type 0} (k : Source K) (s : Source S) (o : Sink O) (l : Si
   keyed status ran = ⊎_elim
       (λ was. inl (record { ran = ran; was = was.0; took = was.1 }))
       (λ same. inr same)
-      (run-is s o l d link right (boxed_with boxed ran.key dir) rest (around_of before)
-      (around_of after)
-      begins image told one left status ran.runs)
+      (run-is s o l d link right (boxed_with boxed ran.key dir) (around_of before)
+      (around_of after) rest begins image told one left status ran.runs)
 
   pub uptime-or-none : (status : Status)
       → ReplaysBox k s o l d boxed link dir rest before after status

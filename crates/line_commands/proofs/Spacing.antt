@@ -6,8 +6,9 @@ use Rattle.line_texts.proofs.Sending.{sends_added}
 use Rattle.line_texts.specs.{Adding.Adds, Adding.HasRoom, Sending.AnswersNoted, Sending.SinkTexts}
 use Rattle.line_texts.specs.Sending.{SendsTexts, HasSentFronts}
 use Rattle.line_texts.specs.{Texts.texts_held, Texts.waiting_in, declared.texts.Texts.Texts}
+use Rattle.line_commands.proofs.RunsGiven.{ticks_more, first_given, last_stopped}
 use Rattle.line_commands.specs.OwedTexts.{StopsWriting, WritesAll, WritesFirst, frames_of}
-use Rattle.line_commands.specs.SpacedLines.{KeepsHeld, MaySpace, OwesTexts, SpacesItems, StopsSpacing}
+use Rattle.line_commands.specs.SpacedLines.{KeepsHeld, MaySpace, OwesTexts}
 use Rattle.line_commands.specs.SpacedLines.{StopsWithin, spacing, writing_behind}
 use Rattle.line_commands.specs.{SpacedLinesLaws.holds-then, SpacedTexts.most_waiting}
 use Rattle.line_commands.specs.SpacedTexts.{lost_line, lost_lines, arrival_lines, spaced_texts}
@@ -17,12 +18,11 @@ use Rattle.std.proofs.Common.{◌≡◌, ◌∙◌, ℕ, ◌+◌, ◌-◌, ◌<�
 use Rattle.std.proofs.Common.{drop, map, Ok, Err, Option, None, refl, sym, ap, subst, arith}
 use Rattle.std.proofs.Common.{append-nil, append_assoc, length-append, take-append-drop}
 use Rattle.std.proofs.lemmas.{Grind.flat_map-append, List.length-take-le}
-use Rattle.tick_drive.proofs.ItemLaws.{ticks_in-append, ticks_in-mark, ticks_in-front, length-front}
 use Rattle.tick_drive.specs.Consumers.{Gives, GivesFirst}
 use Rattle.tick_drive.specs.declared.consumer.Stop.{Stop, TheVariants.WriteFault}
 use Rattle.yasir_io.specs.declared.sink.Sink.{Ghosts as Sink}
-use Rattle.yasir_ticks.{proofs.TickRuns.length-run_items, specs.TickRun.run_ticks}
-use Rattle.yasir_ticks.specs.{TickRun.run_items, Ticks.Item, Ticks.ticks_in, Ticks.Item.mark}
+use Rattle.yasir_ticks.{specs.TickRun.run_ticks}
+use Rattle.yasir_ticks.specs.{TickRun.run_items, Ticks.Item, Ticks.ticks_in}
 use Rattle.yasir_ticks.specs.declared.{tick.Tick.Tick, tick_run.TickRun.TickRun}
 
 -- the lines for frames that are lost in one step
@@ -43,18 +43,6 @@ spacing_noted reads gap line run answer step lost answers = record {
       (map (arriving step) lost)
       ∙ ap (λ l. arrival_lines (lost_of reads gap most_waiting line) ++ l)
       (lines_of_step step lost);
-}
-
--- A mark isn't a tick of the line, so it changes nothing.
-pub spaces_at_mark : {B O L : Type 0} (b : LineSpacer B) (o : Sink O) (l : Sink L)
-    (lines : SpacedLines B O L) (start : SinkTexts) (items : List Item)
-    → SpacesItems b o l lines start items → SpacesItems b o l lines start (items ++ mark ∷ [])
-spaces_at_mark b o l lines start items before = record {
-  line = before.line;
-  behind = before.behind;
-  are = ticks_in-mark items ∙ before.are;
-  many = before.many;
-  texts = before.texts;
 }
 
 -- For a spacer that has given the answers to the first n of the `owed` ticks, and whose texts have
@@ -111,11 +99,11 @@ module _ {B O L : Type 0} (b : LineSpacer B) (o : Sink O) (l : Sink L) (old new 
   some_stopped stops keeps = record {
     why = refl;
     stopped = λ start line ticks long before. record {
-      line = line ++ take n ticks;
-      behind = drop n ticks;
-      are = ap (λ x. line ++ x) (sym (take-append-drop n ticks))
-          ∙ sym (append_assoc line (take n ticks) (drop n ticks));
-      sent = stops start (line ++ take n ticks) (added_sends start line ticks long before);
+      early = line ++ take n ticks;
+      later = drop n ticks;
+      is = append_assoc line (take n ticks) (drop n ticks)
+          ∙ ap (λ x. line ++ x) (take-append-drop n ticks);
+      makes = stops start (line ++ take n ticks) (added_sends start line ticks long before);
     };
     keeps = keeps;
   }
@@ -138,15 +126,10 @@ module _ {B O L : Type 0} (b : LineSpacer B) (o : Sink O) (l : Sink L)
   abbrev given : List Tick
   given = take n (run_ticks run)
 
-  few : n ≤ length (run_items run)
-  few = omega (arith, within, length-run_items run)
-
   -- the first n ticks of the run are those of its first n items
   all : (items : List Item) (before : List Tick) → ticks_in items ≡ before
       → ticks_in (items ++ take n (run_items run)) ≡ before ++ given
-  all items before are = ticks_in-append items (take n (run_items run))
-      ∙ (ap (λ x. x ++ ticks_in (take n (run_items run))) are
-      ∙ ap (λ x. before ++ x) (ticks_in-front run n))
+  all items before are = ticks_more items run n ∙ ap (λ x. x ++ given) are
 
   long : (behind : List Tick) → length behind ≡ old.owed → length (behind ++ given) ≡ heard.owed
   long behind many =
@@ -154,10 +137,6 @@ module _ {B O L : Type 0} (b : LineSpacer B) (o : Sink O) (l : Sink L)
       let as_many : length given ≡ n = length-take-le n (run_ticks run) within in
       let sums = more in
       omega arith
-
-  counted : b.taken heard.spacer.now
-      ≡ b.taken old.spacer.now + length (ticks_in (take n (run_items run)))
-  counted = counts ∙ ap (λ k. b.taken old.spacer.now + k) (sym (length-front run n within))
 
   owing : (start : SinkTexts) (line behind : List Tick) → length behind ≡ old.owed
       → OwesTexts b o l old [] start line behind
@@ -170,11 +149,8 @@ module _ {B O L : Type 0} (b : LineSpacer B) (o : Sink O) (l : Sink L)
   -- Nothing was read, and no answer is added yet.
   pub none_read : read ≡ None → MaySpace b o l old → HasRoom heard.texts.now
       → GivesFirst (spacing b o l) old heard (run_items run) n
-  none_read none able room = record {
-    some = some;
-    within = few;
-    gives = record {
-      moved = λ start items before. record {
+  none_read none able room = first_given (spacing b o l) old heard run n some within
+      (λ start items before. record {
         line = before.line;
         behind = before.behind ++ given;
         are = all items (before.line ++ before.behind) before.are
@@ -183,22 +159,13 @@ module _ {B O L : Type 0} (b : LineSpacer B) (o : Sink O) (l : Sink L)
         texts = subst (λ r. OwesTexts b o l heard (frames_of b o l heard r) start before.line
             (before.behind ++ given)) none
             (owing start before.line before.behind before.many before.texts);
-      };
-      stopped = tt;
-      counted = counted;
-      is_able = record { few = omega (arith, counts, more, able.few); room = room };
-      went = keeps;
-    };
-  }
+      }) counts (record { few = omega (arith, counts, more, able.few); room = room }) keeps
 
   -- The answers that were owed are added.
   pub read_written : (new : SpacedLines B O L) → WritesAll b o l heard new read
       → GivesFirst (spacing b o l) old new (run_items run) n
-  read_written new wrote = record {
-    some = some;
-    within = few;
-    gives = record {
-      moved = λ start items before. record {
+  read_written new wrote = first_given (spacing b o l) old new run n some within
+      (λ start items before. record {
         line = before.line ++ (before.behind ++ given);
         behind = [];
         are = all items (before.line ++ before.behind) before.are
@@ -208,37 +175,20 @@ module _ {B O L : Type 0} (b : LineSpacer B) (o : Sink O) (l : Sink L)
         texts = wrote.moved start before.line (before.behind ++ given)
             (long before.behind before.many)
             (owing start before.line before.behind before.many before.texts);
-      };
-      stopped = tt;
-      counted = wrote.counts ∙ counted;
-      is_able = record { few = omega (arith, wrote.none); room = wrote.room };
-      went = holds-then b o l old heard new (Ok tt) keeps wrote.keeps;
-    };
-  }
+      }) (wrote.counts ∙ counts) (record { few = omega (arith, wrote.none); room = wrote.room })
+      (holds-then b o l old heard new (Ok tt) keeps wrote.keeps)
 
   -- A write failed when the answers were added.
   pub read_stopped : (new : SpacedLines B O L) (stop : Stop)
       → StopsWriting b o l heard new heard.owed read stop
       → Gives (spacing b o l) old new (run_items run) (Err stop)
-  read_stopped new stop wrote =
-      let last : n - 1 + 1 ≡ n = omega arith in record {
-        moved = tt;
-        stopped = record {
-          place = n - 1;
-          within = omega (arith, few, some);
-          at = λ start items before. subst
-              (λ k. StopsSpacing b o l new stop start (items ++ take k (run_items run)))
-              (sym last) (record {
-                why = wrote.why;
-                within = subst (StopsWithin b o l new start)
-                    (sym (all items (before.line ++ before.behind) before.are
-                    ∙ append_assoc before.line before.behind given))
-                    (wrote.stopped start before.line (before.behind ++ given)
-                    (long before.behind before.many)
-                    (owing start before.line before.behind before.many before.texts));
-              });
-        };
-        counted = tt;
-        is_able = tt;
-        went = holds-then b o l old heard new (Err stop) keeps wrote.keeps;
-      }
+  read_stopped new stop wrote = last_stopped (spacing b o l) old new run n some within stop
+      (λ start items before. record {
+        why = wrote.why;
+        within = subst (StopsWithin b o l new start)
+            (sym (all items (before.line ++ before.behind) before.are
+            ∙ append_assoc before.line before.behind given))
+            (wrote.stopped start before.line (before.behind ++ given)
+            (long before.behind before.many)
+            (owing start before.line before.behind before.many before.texts));
+      }) (holds-then b o l old heard new (Err stop) keeps wrote.keeps)

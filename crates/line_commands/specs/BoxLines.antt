@@ -155,12 +155,11 @@ module _ {B N : Type 0} (b : LinkBox B N) (line_of : N → List ℕ) where
   StopsBox lines WriteFault origin outputs items = StopsAtWrite lines origin outputs items
   StopsBox lines NoMemory origin outputs items = ⊥
 
-  -- All that the box makes of the ticks of these items has gone to the sinks, and the disk was
-  -- settled for it.
+  -- All that the box makes of this line has gone to the sinks, and the disk was settled for it.
   pub record HasFinished (lines : BoxLines B) (origin : BoxOrigin) (outputs : Outputs)
-      (items : List Item) : Type 0 where
-    pub sent : HasSent (made_of origin) origin.texts (texts_in outputs) (ticks_in items)
-    pub settled : IsSettled lines origin outputs.slots (ticks_in items)
+      (line : List Tick) : Type 0 where
+    pub sent : HasSent (made_of origin) origin.texts (texts_in outputs) line
+    pub settled : IsSettled lines origin outputs.slots line
 
   -- A box whose numbers go on in memory: its journal in memory and the one that the disk is to hold
   -- serve the box's link, and both have the same last number.
@@ -307,7 +306,7 @@ module _ {B N O L D : Type 0} (b : LinkBox B N) (line_of : N → List ℕ) (o : 
     pub last : BoxLines B
     pub finished : OnOk result ((origin : BoxOrigin) (items : List Item)
         → driving.stands old origin items → HasFinished b line_of last origin
-        (outputs_of o l d (state_of last out log disk)) items)
+        (outputs_of o l d (state_of last out log disk)) (ticks_in items))
     pub stopped : IfErr result (λ stop. (origin : BoxOrigin) (items : List Item)
         → driving.stands old origin items
         → driving.stopped (state_of last out log disk) stop origin items)

@@ -5,7 +5,8 @@ use Rattle.yasir_io.specs.Flushed.{IsNotFlushed}
 use Rattle.yasir_io.specs.Output.{Buffered, GotPrefix}
 use Rattle.yasir_io.specs.TextBuffer.{waiting_bytes}
 use Rattle.yasir_io.specs.declared.sink.Sink.{Ghosts as Sink}
-use Rattle.yasir_ticks.specs.Ticks.{Item, ticks_in}
+use Rattle.yasir_ticks.specs.Ticks.{ticks_in}
+use Rattle.yasir_ticks.specs.declared.tick.Tick.{Tick}
 use Rattle.device_model.specs.declared.device.Device.{Ghosts as Device}
 use Rattle.tick_drive.specs.Consumers.{Consuming}
 use Rattle.tick_drive.specs.declared.consumer.Stop.{Stop}
@@ -24,27 +25,26 @@ pub record KeepsHeld {V O : Type 0} (o : Sink O) (old new : FrameLines V O)
   pub flushes : IsNotFlushed o old.out.now new.out.now
 
 module _ {V O : Type 0} (device : Device V) (o : Sink O) where
-  -- Holds if the device has heard the ticks among these items, and the lines of what it read are on
-  -- their way to `out`, which held `start` at first.
-  pub record PrintsReads (printer : FrameLines V O) (start : Option (List ℕ)) (items : List Item) :
+  -- Holds if the device has heard these ticks, and the lines of what it read are on their way to
+  -- `out`, which held `start` at first.
+  pub record PrintsReads (printer : FrameLines V O) (start : Option (List ℕ)) (line : List Tick) :
       Type 0 where
-    pub hears : device.stands printer.device.now (ticks_in items)
+    pub hears : device.stands printer.device.now line
     pub lines : Buffered start (o.held printer.out.now) (waiting_bytes printer.lines.now)
-        (frame_lines (device.reads (ticks_in items)))
+        (frame_lines (device.reads line))
 
-  -- Holds if a write failed at the last of these items, and `out` has got a front of the lines.
+  -- Holds if a write failed at the last of these ticks, and `out` has got a front of the lines.
   pub record StopsPrinting (printer : FrameLines V O) (stop : Stop) (start : Option (List ℕ))
-      (items : List Item) : Type 0 where
+      (line : List Tick) : Type 0 where
     pub why : stop ≡ WriteFault
-    pub lines : GotPrefix start (o.held printer.out.now)
-        (frame_lines (device.reads (ticks_in items)))
+    pub lines : GotPrefix start (o.held printer.out.now) (frame_lines (device.reads line))
 
   -- What is said of such a printer, as the loop over an input needs it.
   abbrev pub printing : Consuming (FrameLines V O)
   printing = record {
     Origin = Option (List ℕ);
-    stands = PrintsReads;
-    stopped = StopsPrinting;
+    stands = λ printer start items. PrintsReads printer start (ticks_in items);
+    stopped = λ printer stop start items. StopsPrinting printer stop start (ticks_in items);
     taken = λ printer. device.taken printer.device.now;
     able = λ printer. ⊤;
     went = KeepsHeld o;

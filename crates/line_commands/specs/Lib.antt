@@ -1,3 +1,4 @@
+pub mod OverInput
 pub mod FrameLines
 pub mod FrameLinesLaws
 pub mod PrintsFrames

@@ -1,13 +1,12 @@
 -- A command that replays its input through a box: what each status says of the key, the input, the
 -- two sinks and the journal's disk.
-use Rattle.std.specs.Prelude.{◌≡◌, ℕ, ◌≤◌, ◌⊎◌, List, length, take, Option, Some, IfSome, Bool, true}
-use Rattle.std.specs.Prelude.{false}
+use Rattle.std.specs.Prelude.{◌≡◌, ℕ, ◌≤◌, ◌⊎◌, List, length, take, Option, Some, IfSome}
 use Rattle.yasir_io.specs.Causes.{Rose}
 use Rattle.yasir_io.specs.Disks.{Slots, NoMore, OneImage, LeavesOnly}
 use Rattle.yasir_io.specs.declared.source.Source.{Ghosts as Source}
 use Rattle.yasir_io.specs.declared.sink.Sink.{Ghosts as Sink}
 use Rattle.yasir_io.specs.declared.disk.SlotDisk.{Ghosts as SlotDisk}
-use Rattle.yasir_ticks.specs.Ticks.{Item, ticks_in}
+use Rattle.yasir_ticks.specs.Ticks.{ticks_in}
 use Rattle.yasir_ticks.specs.TickText.{ended_items}
 use Rattle.yasir_ticks.specs.declared.tick.Tick.{Tick}
 use Rattle.link_format.specs.declared.dir.Dir.{Dir}
@@ -19,28 +18,21 @@ use Rattle.sequence_journal.specs.Late.{HasFloorBetween}
 use Rattle.sequence_journal.specs.Loading.{MayTakeOver, FindsNone, FindsOther, MayLeaveLoading}
 use Rattle.sequence_journal.specs.Loading.{KeepsLoadable}
 use Rattle.sequence_journal.specs.Uptimes.{IsUptime}
-use Rattle.tick_drive.specs.Input.{Takes}
-use Rattle.tick_drive.specs.declared.end.End.{End}
-use Rattle.tick_drive.specs.declared.end.End.TheVariants.{Whole, Refused, Stopped}
-use Rattle.tick_drive.specs.declared.end.End.TheVariants as ends
+use Rattle.tick_drive.specs.declared.consumer.Stop.{Stop}
+use Rattle.tick_drive.specs.declared.consumer.Stop.TheVariants as stops
 use Rattle.command_ends.specs.KeyText.{IsKeyMet, IsKeyText, IsNoKey, IsCutShort}
 use Rattle.command_ends.specs.Outside.{Outside}
 use Rattle.command_ends.specs.Readable.{IsReadable}
 use Rattle.command_ends.specs.declared.status.Status.{Status}
-use Rattle.command_ends.specs.declared.status.Status.TheVariants.{Done, BadTicks, ReadFault}
-use Rattle.command_ends.specs.declared.status.Status.TheVariants.{WriteFault, JournalFault}
-use Rattle.command_ends.specs.declared.status.Status.TheVariants.{TooLong, BadKey, BadJournal}
-use Rattle.command_ends.specs.declared.status.Status.TheVariants.{WrongLink}
+use Rattle.command_ends.specs.declared.status.Status.TheVariants.{ReadFault, JournalFault}
+use Rattle.command_ends.specs.declared.status.Status.TheVariants.{BadKey, BadJournal, WrongLink}
 use Rattle.line_commands.specs.Boxes.{Boxed}
 use Rattle.line_commands.specs.Given.{HasKey, HoldsJournal}
 use Rattle.line_texts.specs.Sending.{SinkTexts, sink_texts}
 use Rattle.line_commands.specs.Sending.{HasSent, HasSentFronts}
 use Rattle.line_commands.specs.BoxLines.{ToldFloor}
-
--- whether the consumer stopped the drive that ended like this
-abbrev pub has_stopped : End → Bool
-has_stopped (Stopped stop) = true
-has_stopped end = false
+use Rattle.line_commands.specs.OverInput.{MakesFront, RunsOver}
+pub use Rattle.line_commands.specs.OverInput.{has_stopped}
 
 -- what a run of a box is given apart from the key
 pub record Around (S O L D : Type 0) : Type 0 where
@@ -102,74 +94,54 @@ module _ {S O L D : Type 0} (s : Source S) (o : Sink O) (l : Sink L) (d : SlotDi
     pub images : KeepsFloor d link (box.number line) before.disk after.disk
     pub uptime : LeavesUptime d link (box.numbers line) before.disk after.disk
 
-  -- `box` is what the box makes of a line, by the floor of its journal, and `rest` is how many
-  -- silent ticks follow a whole input.
-  module _ (box : ℕ → Boxed) (rest : ℕ) (before after : Around S O L D) where
-    -- The input ended as `end` says, and the sinks have got what the box makes of all ticks that it
-    -- took.
-    pub record EndsBox (end : End) : Type 0 where
+  -- `box` is what the box makes of a line, by the floor of its journal.
+  module _ (box : ℕ → Boxed) (before after : Around S O L D) where
+    -- The sinks have got what the box makes of this line, and the disk's floor is its last number.
+    pub record EndsBox (line : List Tick) : Type 0 where
       pub floor : ℕ
-      pub items : List Item
       pub floor_before : ToldFloor link floor (d.told before.disk)
-      pub takes : Takes 0 rest (s.left before.input) (s.left after.input) items end
-      pub replays : Replays (box floor) before after (ticks_in items)
+      pub replays : Replays (box floor) before after line
       pub from_load : KeepsFloorFromLoad d link floor before.disk after.disk
-      pub floor_told : ToldFloor link ((box floor).number (ticks_in items)) (d.told after.disk)
+      pub floor_told : ToldFloor link ((box floor).number line) (d.told after.disk)
 
-    -- The disk failed in a settle, when the box had taken the first `ticks` ticks. The sinks have
-    -- got fronts of what the box makes of the first `early` ticks, for which the disk was settled
-    -- before, and nothing since. `end` is how the input ended, or that the box was stopped. No
-    -- image has a floor below the last number of the first `early` ticks, and each makes an uptime
-    -- with the numbers of these. If the whole lines that `out` got have `m` ticks, no image has a
-    -- floor below the last number of the first `m` ticks. The floor of the slots is from the last
-    -- number of the first `early` ticks to that of all ticks taken.
-    pub record FailsAtSettle : Type 0 where
+    -- The sinks have got fronts of what the box with this floor makes of this line, for which the
+    -- disk was settled before. No image has a floor below the last number of the line, and each
+    -- makes an uptime with the numbers of it. If the whole lines that `out` got have `m` ticks,
+    -- these are no more than the line has: the box has returned them for its first `m` ticks, one
+    -- for each, and no image has a floor below the last number of those.
+    pub record SendsFronts (floor : ℕ) (line : List Tick) : Type 0 where
+      pub floor_before : ToldFloor link floor (d.told before.disk)
+      pub sent : HasSentFronts (box floor) (texts_of o l before) (texts_of o l after) line
+      pub images : KeepsFloor d link ((box floor).number line) before.disk after.disk
+      pub uptime : LeavesUptime d link ((box floor).numbers line) before.disk after.disk
+      pub from_load : KeepsFloorFromLoad d link floor before.disk after.disk
+      pub few : length (ticks_in (ended_items sent.text.front)) ≤ length line
+      pub lines : KeepsFloor d link ((box floor).number
+          (take (length (ticks_in (ended_items sent.text.front))) line)) before.disk after.disk
+
+    -- A write failed when the box had taken this line, and the disk was settled for it before: its
+    -- floor is the last number of the line.
+    pub record WritesFronts (line : List Tick) : Type 0 where
       pub floor : ℕ
-      pub items : List Item
-      pub end : End
+      pub fronts : SendsFronts floor line
+      pub floor_told : ToldFloor link ((box floor).number line) (d.told after.disk)
+
+    -- The disk failed in a settle, when the box had taken this line. The sinks have got fronts of
+    -- what the box makes of the first `early` ticks, for which the disk was settled before, and
+    -- nothing since. The floor of the slots is from the last number of these ticks to that of the
+    -- line.
+    pub record FailsAtSettle (line : List Tick) : Type 0 where
+      pub floor : ℕ
       pub early : ℕ
-      pub ticks : ℕ
-      pub not_more : early ≤ ticks
-      pub floor_before : ToldFloor link floor (d.told before.disk)
-      pub takes : Takes 0 rest (s.left before.input) (s.left after.input) items end
-      pub sent : HasSentFronts (box floor) (texts_of o l before) (texts_of o l after)
-          (take early (ticks_in items))
-      pub images : KeepsFloor d link ((box floor).number (take early (ticks_in items)))
-          before.disk after.disk
-      pub uptime : LeavesUptime d link ((box floor).numbers (take early (ticks_in items)))
-          before.disk after.disk
-      pub from_load : KeepsFloorFromLoad d link floor before.disk after.disk
-      pub lines : KeepsFloor d link ((box floor).number
-          (take (length (ticks_in (ended_items sent.text.front))) (ticks_in items)))
-          before.disk after.disk
+      pub fronts : SendsFronts floor (take early line)
       pub floor_told : IfSome (d.told after.disk) (HasFloorBetween link
-          ((box floor).number (take early (ticks_in items)))
-          ((box floor).number (take ticks (ticks_in items))))
+          ((box floor).number (take early line)) ((box floor).number line))
 
-    -- A write failed. The sinks have got a front of what the box makes of the first `ticks` ticks,
-    -- for which the disk was settled before: its floor is the last number of these ticks. Each image
-    -- makes an uptime with the numbers of these ticks. If the whole lines that `out` got have `m`
-    -- ticks, the box has returned these for the first `m` ticks, one for each, and no image has a
-    -- floor below the last number of those.
-    pub record WritesFronts : Type 0 where
-      pub floor : ℕ
-      pub items : List Item
-      pub end : End
-      pub ticks : ℕ
-      pub floor_before : ToldFloor link floor (d.told before.disk)
-      pub takes : Takes 0 rest (s.left before.input) (s.left after.input) items end
-      pub sent : HasSentFronts (box floor) (texts_of o l before) (texts_of o l after)
-          (take ticks (ticks_in items))
-      pub images : KeepsFloor d link ((box floor).number (take ticks (ticks_in items)))
-          before.disk after.disk
-      pub uptime : LeavesUptime d link ((box floor).numbers (take ticks (ticks_in items)))
-          before.disk after.disk
-      pub from_load : KeepsFloorFromLoad d link floor before.disk after.disk
-      pub lines : KeepsFloor d link ((box floor).number
-          (take (length (ticks_in (ended_items sent.text.front))) (ticks_in items)))
-          before.disk after.disk
-      pub floor_told : ToldFloor link ((box floor).number (take ticks (ticks_in items)))
-          (d.told after.disk)
+    -- why the box was stopped when it had taken this line, which is never for lack of memory
+    abbrev pub HaltsBox : Stop → List Tick → Type 0
+    HaltsBox stops.WriteFault line = WritesFronts line
+    HaltsBox stops.JournalFault line = FailsAtSettle line
+    HaltsBox stops.NoMemory line = ⊥
 
     -- The journal was looked at, and nothing was changed.
     pub record LooksAtJournal : Type 0 where
@@ -190,18 +162,21 @@ module _ {S O L D : Type 0} (s : Source S) (o : Sink O) (l : Sink L) (d : SlotDi
       pub images : (c : Slots) → d.may_leave after.disk c
           → MayLeaveLoading (d.told before.disk) (d.may_leave before.disk) c
 
-    -- What each status says of a run of this box, from the loading of the journal on.
-    abbrev pub RunsBox : Status → Type 0
-    RunsBox Done = EndsBox Whole
-    RunsBox (BadTicks bad) = EndsBox (Refused bad)
-    RunsBox (TooLong what count) = EndsBox (ends.TooLong what count)
-    RunsBox ReadFault = EndsBox ends.ReadFault
-    -- in a settle, or while the journal was loaded
-    RunsBox JournalFault = FailsAtSettle ⊎ FailsAtLoad
-    RunsBox WriteFault = WritesFronts
-    RunsBox (BadJournal a b) = FindsNone (d.told before.disk) a b × LooksAtJournal
-    RunsBox (WrongLink slot) = FindsOther link (d.told before.disk) slot × LooksAtJournal
-    RunsBox status = ⊥
+    -- `rest` is how many silent ticks follow a whole input.
+    module _ (rest : ℕ) where
+      -- What the statuses say that aren't those of an input's end or of a failed write.
+      abbrev pub OtherwiseRuns : Status → Type 0
+      -- in a settle, or while the journal was loaded
+      OtherwiseRuns JournalFault = MakesFront rest (s.left before.input) (s.left after.input)
+          FailsAtSettle ⊎ FailsAtLoad
+      OtherwiseRuns (BadJournal a b) = FindsNone (d.told before.disk) a b × LooksAtJournal
+      OtherwiseRuns (WrongLink slot) = FindsOther link (d.told before.disk) slot × LooksAtJournal
+      OtherwiseRuns status = ⊥
+
+      -- What each status says of a run of this box, from the loading of the journal on.
+      abbrev pub RunsBox : Status → Type 0
+      RunsBox = RunsOver rest (s.left before.input) (s.left after.input) EndsBox WritesFronts
+          OtherwiseRuns
 
 module _ {K S O L D : Type 0} (k : Source K) (s : Source S) (o : Sink O) (l : Sink L)
     (d : SlotDisk D)
@@ -214,8 +189,8 @@ module _ {K S O L D : Type 0} (k : Source K) (s : Source S) (o : Sink O) (l : Si
     pub met : IsKeyMet (k.left before.key) (k.left after.key) text
     pub right : IsKeyText text key
     pub calm : k.faults after.key ≡ k.faults before.key
-    pub runs : RunsBox s o l d link (boxed_with boxed key dir) rest (around_of before)
-        (around_of after) status
+    pub runs : RunsBox s o l d link (boxed_with boxed key dir) (around_of before) (around_of after)
+        rest status
 
   -- What was read of the key isn't a key text, and nothing else was touched.
   pub record RefusesKey (place : ℕ) : Type 0 where

@@ -12,6 +12,7 @@ use Rattle.tick_drive.specs.declared.consumer.Stop.TheVariants.{WriteFault}
 use Rattle.line_texts.specs.Adding.{HasRoom}
 use Rattle.line_texts.specs.Sending.{SinkTexts, SendsTexts, HasSentFronts}
 use Rattle.line_texts.specs.Texts.{Writing, writing, texts_held, waiting_in}
+use Rattle.line_commands.specs.OverInput.{OfFront}
 use Rattle.line_commands.specs.SpacedTexts.{spaced_texts}
 use Rattle.line_commands.specs.declared.spacers.LineSpacer.{Ghosts as LineSpacer}
 use Rattle.line_commands.specs.declared.spaced_lines.SpacedLines.{SpacedLines}
@@ -43,24 +44,27 @@ module _ {B O L : Type 0} (b : LineSpacer B) (o : Sink O) (l : Sink L) where
     pub sends : SendsTexts (spaced_texts b.reads b.gap) (waiting_in lines.texts.now) start
         (texts_held o l (writing_behind lines)) line
 
-  -- Holds if the spacer has taken the ticks of these items. It owes the answers to the last of
-  -- them, and has taken in all frames that were read there.
-  pub record SpacesItems (lines : SpacedLines B O L) (start : SinkTexts) (items : List Item) :
-      Type 0 where
-    pub line : List Tick
-    pub behind : List Tick
-    pub are : ticks_in items ≡ line ++ behind
-    pub many : length behind ≡ lines.owed
-    pub texts : OwesTexts lines [] start line behind
-
-  -- Holds if a write failed: the sinks have got a front of each text of a front of these ticks.
-  pub record StopsWithin (lines : SpacedLines B O L) (start : SinkTexts) (ticks : List Tick) :
+  -- Holds if the spacer has taken these ticks. It owes the answers to the last of them, and has
+  -- taken in all frames that were read there.
+  pub record SpacesTicks (lines : SpacedLines B O L) (start : SinkTexts) (ticks : List Tick) :
       Type 0 where
     pub line : List Tick
     pub behind : List Tick
     pub are : ticks ≡ line ++ behind
-    pub sent : HasSentFronts (spaced_texts b.reads b.gap) start
-        (texts_held o l (writing_behind lines)) line
+    pub many : length behind ≡ lines.owed
+    pub texts : OwesTexts lines [] start line behind
+
+  abbrev pub SpacesItems : SpacedLines B O L → SinkTexts → List Item → Type 0
+  SpacesItems lines start items = SpacesTicks lines start (ticks_in items)
+
+  -- Each of the two sinks has got a front of its text of this line, the notes first.
+  abbrev pub HasSpacedFronts : SpacedLines B O L → SinkTexts → List Tick → Type 0
+  HasSpacedFronts lines start =
+      HasSentFronts (spaced_texts b.reads b.gap) start (texts_held o l (writing_behind lines))
+
+  -- Holds if a write failed: the sinks have got a front of each text of a front of these ticks.
+  abbrev pub StopsWithin : SpacedLines B O L → SinkTexts → List Tick → Type 0
+  StopsWithin lines start = OfFront (HasSpacedFronts lines start)
 
   -- Holds if a write failed, at the last of these items or before.
   pub record StopsSpacing (lines : SpacedLines B O L) (stop : Stop) (start : SinkTexts)

@@ -41,19 +41,20 @@ pub record WasTakenOver (link : LinkId) (begins image : Slots) : Type 0 where
   pub idle : IsIdle link begins [] image
 
 module _ {S O L D : Type 0} (s : Source S) (o : Sink O) (l : Sink L) (d : SlotDisk D)
-    (link : LinkId) (box : ℕ → Boxed) (rest : ℕ) (before after : Around S O L D) where
+    (link : LinkId) (box : ℕ → Boxed) (before after : Around S O L D) (rest : ℕ) where
   -- Holds if the box took this line, for which it used its numbers, in a run that ended with this
   -- status: all ticks that were taken of the input, or those for which the disk was settled before
   -- a settle failed, or those that the box had taken when a write failed.
-  abbrev pub TookLine : (status : Status) → RunsBox s o l d link box rest before after status
+  abbrev pub TookLine : (status : Status) → RunsBox s o l d link box before after rest status
       → List Tick → Type 0
   TookLine Done ran line = line ≡ ticks_in ran.items
   TookLine (BadTicks bad) ran line = line ≡ ticks_in ran.items
   TookLine (TooLong what count) ran line = line ≡ ticks_in ran.items
   TookLine ReadFault ran line = line ≡ ticks_in ran.items
-  TookLine JournalFault (inl failed) line = line ≡ take failed.early (ticks_in failed.items)
+  TookLine JournalFault (inl failed) line =
+      line ≡ take failed.makes.early (take failed.count (ticks_in failed.items))
   TookLine JournalFault (inr failed) line = ⊥
-  TookLine WriteFault ran line = line ≡ take ran.ticks (ticks_in ran.items)
+  TookLine WriteFault ran line = line ≡ take ran.count (ticks_in ran.items)
   TookLine status ran line = ⊥
 
 module _ {K S O L D : Type 0} (k : Source K) (s : Source S) (o : Sink O) (l : Sink L)
@@ -65,8 +66,8 @@ module _ {K S O L D : Type 0} (k : Source K) (s : Source S) (o : Sink O) (l : Si
   pub record RanAsUptime (status : Status) (begins image : Slots) : Type 0 where
     pub ran : RunsKeyed k s o l d boxed link dir rest before after status
     pub was : WasUptime link (boxed_with boxed ran.key dir) begins image
-    pub took : TookLine s o l d link (boxed_with boxed ran.key dir) rest (around_of before)
-        (around_of after) status ran.runs was.line
+    pub took : TookLine s o l d link (boxed_with boxed ran.key dir) (around_of before)
+        (around_of after) rest status ran.runs was.line
 
   -- The run was an uptime, or it left the slots as they were, or a fault cut it off while it took
   -- over an old journal.

@@ -3,7 +3,8 @@
 ghost use Rattle.std.specs.Prelude.{◌≡◌, List};
 ghost use Rattle.line_commands.specs.LinkBoxed.{boxed_of};
 ghost use Rattle.line_commands.specs.ReplaysBox.{around_of, boxed_with, RunsBox, ReplaysBox};
-ghost use Rattle.line_commands.specs.ReplaysBox.{KeepsFloorThroughout, has_stopped};
+ghost use Rattle.line_commands.specs.ReplaysBox.{KeepsFloorThroughout};
+ghost use Rattle.line_commands.specs.OverInput.{has_stopped};
 ghost use Rattle.sequence_journal.specs.Links.{HasDirection};
 ghost use Rattle.command_ends.specs.Causes.{InputCause, DiskCause, SinkCause};
 ghost use Rattle.command_ends.specs.Flushes.{FlushesAtEnd};
@@ -13,7 +14,8 @@ ghost use Rattle.command_ends.specs.StreamCauses.{HasStreamCauses};
 use crate::box_lines::BoxLines;
 use crate::driven_box::DrivenBox;
 use crate::line_box::LineBox;
-use command_ends::{Ends, KeyError, Status, flush_both, read_key, status_of};
+use crate::run_end::end_run;
+use command_ends::{Ends, KeyError, Status, read_key, status_of};
 use link_format::Dir;
 use sequence_journal::{Journal, LinkId, LoadError};
 use tick_drive::{End, drive_to_rest};
@@ -41,8 +43,8 @@ fn replay_keyed<B: LineBox, K: Source, S: Source, O: Sink, L: Sink, D: SlotDisk>
     requires link { HasDirection link.now }
     requires of_box { link.now ≡ B.link_in dir }
     ensures runs { RunsBox S.Source O.Sink L.Sink D.SlotDisk link.now
-        (boxed_with (boxed_of B.walking B.line_of) key.now dir) rest (around_of (outside_before ends.entry))
-        (around_of (outside_after ends.exit)) result }
+        (boxed_with (boxed_of B.walking B.line_of) key.now dir)
+        (around_of (outside_before ends.entry)) (around_of (outside_after ends.exit)) rest result }
     ensures any_moment { KeepsFloorThroughout D.SlotDisk link.now ends.entry.disk.now
         (outside_after ends.exit).disk }
     ensures key { (outside_after ends.exit).key ≡ ends.entry.key.now }
@@ -79,11 +81,7 @@ fn replay_keyed<B: LineBox, K: Source, S: Source, O: Sink, L: Sink, D: SlotDisk>
         Ok(()) => {}
         Err(stop) => return status_of(End::Stopped(stop)),
     }
-    match end {
-        End::Whole => {}
-        _ => return status_of(end),
-    }
-    flush_both(out, log)
+    end_run(end, out, log)
 }
 
 /// Reads a key, loads the journal of this link that the disk holds, and replays the input through a

@@ -54,6 +54,7 @@ mod port;
 mod read_command;
 mod receiving;
 mod recording;
+mod run_end;
 mod seal_lines;
 mod sending;
 mod space_command;

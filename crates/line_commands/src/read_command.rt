@@ -9,7 +9,8 @@ ghost use Rattle.command_ends.specs.Causes.{InputCause, SinkCause};
 ghost use Rattle.command_ends.specs.Flushes.{FlushesAtEnd};
 
 use crate::frame_lines::FrameLines;
-use command_ends::{Status, flush_both, status_of};
+use crate::run_end::end_run;
+use command_ends::Status;
 use device_model::Device;
 use tick_drive::{End, drive_to_rest};
 use yasir_io::{Failed, Sink, Source, TextBuffer};
@@ -60,11 +61,7 @@ pub fn read_frames<V: Device + Drop, S: Source, O: Sink, L: Sink>(
         return Status::WriteFault;
     }
     match lines.drain(out) {
-        Ok(()) => {}
-        Err(Failed) => return Status::WriteFault,
-    }
-    match end {
-        End::Whole => flush_both(out, log),
-        _ => status_of(end),
+        Ok(()) => end_run(end, out, log),
+        Err(Failed) => Status::WriteFault,
     }
 }

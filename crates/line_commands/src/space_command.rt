@@ -1,11 +1,9 @@
 //! The command `space`: a spacer over the whole input.
-ghost use Rattle.std.specs.Prelude.{◌≡◌, ◌≤◌, []};
+ghost use Rattle.std.specs.Prelude.{◌≡◌, ◌≤◌, [], false};
 ghost use Rattle.yasir_io.specs.Flushed.{NoneFlushed};
 ghost use Rattle.tick_drive.specs.Consumers.{IsSinkCause, is_write_fault};
 ghost use Rattle.tick_drive.specs.Drive.{IsFresh, answer_of};
 ghost use Rattle.tick_drive.specs.Input.{IsReadCause, is_read_fault};
-ghost use Rattle.tick_drive.specs.declared.consumer.Stop.{Stop};
-ghost use Rattle.tick_drive.specs.declared.end.End.TheVariants.{Stopped};
 ghost use Rattle.line_texts.specs.Adding.{HasRoom};
 ghost use Rattle.line_texts.specs.Sending.{SinkTexts, sink_texts, SendsTexts};
 ghost use Rattle.line_texts.specs.Texts.{waiting_in};
@@ -13,13 +11,15 @@ ghost use Rattle.command_ends.specs.Causes.{InputCause, SinkCause};
 ghost use Rattle.command_ends.specs.Flushes.{FlushesAtEnd};
 ghost use Rattle.command_ends.specs.declared.status.Status.TheVariants.{NoMemory as no_memory};
 ghost use Rattle.line_commands.specs.DrivenLines.{DrivesLines};
+ghost use Rattle.line_commands.specs.OverInput.{has_stopped};
 ghost use Rattle.line_commands.specs.SpacedLines.{spacing};
 ghost use Rattle.line_commands.specs.SpacedTexts.{spaced_texts};
 ghost use Rattle.line_commands.specs.SpacesLine.{DrivesSpacer, SpacesLine};
 
+use crate::run_end::end_run;
 use crate::spaced_lines::SpacedLines;
 use crate::spacers::LineSpacer;
-use command_ends::{Status, flush_both, status_of};
+use command_ends::Status;
 use line_texts::Texts;
 use std::alloc::Global;
 use tick_drive::{End, drive_to_rest};
@@ -39,7 +39,7 @@ fn drive_lines<B: LineSpacer, S: Source, O: Sink, L: Sink>(
     ensures driven { DrivesLines B.LineSpacer O.Sink L.Sink lines.old lines.new
         (S.left input.old) (S.left input.new) result }
     ensures falls { S.faults input.old ≤ S.faults input.new }
-    ensures read { ((stop : Stop) → result ≡ Stopped stop → ⊥)
+    ensures read { has_stopped result ≡ false
         → IsReadCause (S.faults input.old) (S.faults input.new) (is_read_fault result) }
 {
     let end = drive_to_rest(0, REST, input, lines);
@@ -69,7 +69,7 @@ fn drive_spacer<B: LineSpacer, S: Source, O: Sink, L: Sink>(
         (S.left input.new) (sink_texts (O.held out.old) (L.held log.old))
         (sink_texts (O.held out.new) (L.held log.new)) (waiting_in texts.new) result }
     ensures falls { S.faults input.old ≤ S.faults input.new }
-    ensures read { ((stop : Stop) → result ≡ Stopped stop → ⊥)
+    ensures read { has_stopped result ≡ false
         → IsReadCause (S.faults input.old) (S.faults input.new) (is_read_fault result) }
     ensures sinks { IsSinkCause (O.faults out.old) (O.faults out.new) (L.faults log.old)
         (L.faults log.new) (is_write_fault (answer_of result)) }
@@ -109,11 +109,7 @@ pub fn space_frames<B: LineSpacer, S: Source, O: Sink, L: Sink>(
         return Status::WriteFault;
     }
     match texts.finish(out, log) {
-        Ok(()) => {}
-        Err(Failed) => return Status::WriteFault,
-    }
-    match end {
-        End::Whole => flush_both(out, log),
-        _ => status_of(end),
+        Ok(()) => end_run(end, out, log),
+        Err(Failed) => Status::WriteFault,
     }
 }

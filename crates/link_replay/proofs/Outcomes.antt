@@ -2,7 +2,7 @@
 -- well: its status is `Done`, or for an audit that of its verdict, or for some commands `NoMemory`.
 use Rattle.line_commands.proofs.Replayable.{replayable_done}
 use Rattle.line_commands.specs.LinkBoxes.{seal_boxed, seal_rest, check_boxed, check_rest}
-use Rattle.line_commands.proofs.ReadableFrames.{readable_done}
+use Rattle.line_commands.proofs.OverInput.{right_input_done}
 use Rattle.link_replay.proofs.Duplexed.{duplex_done}
 use Rattle.link_replay.proofs.Listable.{listable_done, auditable_done}
 use Rattle.link_replay.{proofs.Spaced.whole-spaces, specs.AuditCommand.audited}
@@ -19,10 +19,14 @@ use Rattle.command_ends.specs.Causes.{SinkCause, DiskCause, NoneRose}
 use Rattle.command_ends.specs.{Outside.Outside, PrintsText.PrintsText, Statuses.fault_line}
 use Rattle.command_ends.specs.declared.status.Status.{Status}
 use Rattle.command_ends.specs.declared.status.Status.TheVariants.{Done, WriteFault, JournalFault}
-use Rattle.command_ends.specs.declared.status.Status.TheVariants.{HasJournal}
+use Rattle.command_ends.specs.declared.status.Status.TheVariants.{HasJournal, NoMemory}
 use Rattle.sequence_journal.specs.{Slots.greatest, declared.link.LinkId.LinkId}
-use Rattle.line_commands.proofs.ReadableSpaced.{spaced_done}
-use Rattle.std.proofs.Common.{◌≡◌, ◌∙◌, ℕ, ◌≤◌, List, [], Option, Some, None, IfSome, inl, inr}
+use Rattle.line_commands.proofs.SpaceEnds.{nothing_taken}
+use Rattle.line_commands.specs.PrintsFrames.{HasPrinted, HasPrintedFront, read_rest}
+use Rattle.line_commands.specs.SpacesLine.{TakesNothing, space_rest}
+use Rattle.line_texts.specs.Sending.{HasSent, HasSentFronts}
+use Rattle.std.proofs.Common.{◌≡◌, ◌∙◌, ℕ, ◌≤◌, ◌⊎◌, List, [], Option, Some, None}
+use Rattle.std.proofs.Common.{IfSome, inl, inr}
 use Rattle.std.proofs.Common.{refl, sym, ap, subst, arith}
 use Rattle.yasir_io.specs.{Causes.Rose, Disks.Slots, Flushed.IsNotFlushed}
 use Rattle.yasir_io.specs.declared.{disk.SlotDisk.Ghosts as SlotDisk, sink.Sink.Ghosts as Sink}
@@ -116,8 +120,12 @@ module _ {K S O L D : Type 0} (k : Source K) (s : Source S) (o : Sink O) (l : Si
       journal_done _ _ _ _ _ _ _ _ _ _ calm _ _ _ _ _ status may does.journal causes.streams.sinks
       causes.own.1
   asked_done (Some (Read proto)) before after status may calm does causes =
-      readable_done (device_reads proto) _ _ _ _ _ _ _ _ _ _ _ _ _ _ may calm status
-      does.frames causes.own.0 causes.streams.sinks
+      elim (right_input_done read_rest _ _ (HasPrinted (device_reads proto) _ _)
+      (HasPrintedFront (device_reads proto) _ _) (λ status. ⊥) _ _ _ _ _ _ _ _ _ _ may calm status
+      does.frames causes.own.0 causes.streams.sinks) [
+        | inl done ↦ done
+        | inr none ↦ absurd none
+      ]
   asked_done (Some Vectors) before after status may calm does causes =
       text_done _ _ _ _ _ _ _ _ _ _ calm _ _ _ status does.printed causes.streams.sinks
   asked_done (Some Help) before after status may calm does causes =
@@ -135,8 +143,13 @@ module _ {K S O L D : Type 0} (k : Source K) (s : Source S) (o : Sink O) (l : Si
   asked_done (Some (Trial proto profile seed count)) before after status may calm does causes =
       text_done _ _ _ _ _ _ _ _ _ _ calm _ _ _ status does.line.printed causes.streams.sinks
   asked_done (Some (Space proto profile)) before after status may calm does causes =
-      spaced_done (spaced_by proto profile) _ _ _ _ _ _ _ _ _ _ _ _ _ _ may calm status
-      (whole-spaces proto profile _ _ _ _ status does.line) causes.own.0 causes.streams.sinks
+      elim (right_input_done space_rest _ _ (HasSent (spaced_by proto profile) _ _)
+      (HasSentFronts (spaced_by proto profile) _ _) (TakesNothing (spaced_by proto profile) _ _ _ _)
+      _ _ _ _ _ _ _ _ _ _ may calm status (whole-spaces proto profile _ _ _ _ status does.line)
+      causes.own.0 causes.streams.sinks) as (λ _. (status ≡ Done) ⊎ (status ≡ NoMemory)) [
+        | inl done ↦ inl done
+        | inr none ↦ inr (nothing_taken (spaced_by proto profile) _ _ _ _ status none)
+      ]
   asked_done (Some (Replay proto profile dir)) before after status may calm does causes =
       listable_done k s o l d before after calm proto profile dir may status does
       causes.streams.reads causes.streams.sinks

@@ -51,14 +51,14 @@ module _ (proto : Proto) (profile : Profile) (in_before in_now : Option (List �
   spaces-by Done h = record {
     items = h.items;
     takes = h.takes;
-    sent = h.sent;
+    sent = h.makes;
     left = whole-left proto profile in_before in_now h.items h.takes;
   }
   spaces-by status h = h
 
   pub whole-spaces : (status : Status) → SpacesBy proto profile in_before in_now before now status
       → SpacesLine (spaced_by proto profile) in_before in_now before now status
-  whole-spaces Done h = record { items = h.items; takes = h.takes; sent = h.sent }
+  whole-spaces Done h = record { items = h.items; takes = h.takes; makes = h.sent }
   whole-spaces status h = h
 
 -- If the input and the sinks are as they were, and nothing else was touched, so is the outside.

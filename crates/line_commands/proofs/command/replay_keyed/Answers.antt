@@ -1,16 +1,13 @@
 use Rattle.line_commands.proofs.{Behind.drives_behind, Floors.disk_cause_of_end}
-use Rattle.line_commands.proofs.Floors.{disk_cause_of_whole}
-use Rattle.line_commands.proofs.Outcomes.{BoxDrive, HasDriven, IsRun, is_run, answer_ok, not_whole}
+use Rattle.line_commands.proofs.Outcomes.{BoxDrive, HasDriven, IsRun, is_run, not_whole}
 use Rattle.line_commands.proofs.Outcomes.{sink_cause_of_stop, went_then, drive_stops, finish_stops}
-use Rattle.line_commands.proofs.Outcomes.{input_of_stop, refusal_runs, whole_runs, begun_state}
+use Rattle.line_commands.proofs.Outcomes.{input_of_stop, all_runs, begun_state}
 use Rattle.line_commands.specs.BoxLines.{State, state_of, KeepsImages}
-use Rattle.line_commands.specs.{ReplaysBox.around, ReplaysBox.has_stopped}
-use Rattle.command_ends.proofs.EndCauses.{input_cause, input_cause_of_whole, sink_cause_of_end}
+use Rattle.line_commands.specs.{OverInput.has_stopped, ReplaysBox.around}
+use Rattle.command_ends.proofs.EndCauses.{input_cause}
 use Rattle.command_ends.proofs.EndCauses.{sink_cause_of_whole}
 use Rattle.command_ends.proofs.FlushLaws.{flushes_of_whole, flushes_of_end}
-use Rattle.std.proofs.Common.{◌≡◌, ◌∙◌, ap, refl, sym, subst, true, false, Err, Ok}
-use Rattle.tick_drive.specs.{Consumers.is_write_fault, Consumers.is_journal_fault}
-use Rattle.tick_drive.specs.{Consumers.IsDiskCause, Input.is_read_fault}
+use Rattle.std.proofs.Common.{◌≡◌, ◌∙◌, ap, refl, sym, true, false, Err, Ok}
 use Rattle.tick_drive.specs.declared.end.End.TheVariants.{Stopped}
 use Rattle.line_commands.proofs.command.replay_keyed.Goals as goal
 use Rattle.line_commands.proofs.command.replay_keyed.Goals.{After-is_stopped}
@@ -85,6 +82,38 @@ returns-then-is_stopped g c =
           (not_whole c.drive_to_rest-end.result stopped) drove.gives.went.flushes;
     })
 
+pub returns : goal.returns
+returns g c =
+    let at = (goal.at.returns g c).After-is_stopped in
+    let other : has_stopped c.drive_to_rest-end.result ≡ false =
+    sym c.is_stopped.ensures ∙ c.if-is_stopped.false in
+    let fin = c.in-Ok-finish.ensures in
+    let last : State g.row.B.Denot g.row.O.Denot g.row.L.Denot g.row.D.Denot =
+    state_of fin.last c.finish.new.out c.finish.new.log c.finish.new.disk in
+    let drove = driven g at last in
+    let all = went_then g.B.LinkBox g.B.LineBox.line_of g.O.Sink g.L.Sink g.D.SlotDisk
+    c.args.rest _ _ (begun_state (drive g at last)) (driven_state g at) c.drive_to_rest-end.result
+    other drove last (Ok tt) fin.went in
+    let ran = run g at last all.images in
+    let ended = c.end_run.ensures in
+    record {
+      runs = all_runs g.B.LinkBox g.B.LineBox.line_of g.S.Source g.O.Sink g.L.Sink g.D.SlotDisk
+          (drive g at last) ran c.end_run.new.out c.end_run.new.log ended.out ended.log
+          c.drive_to_rest-end.result other (driven_state g at) drove fin.finished
+          c.end_run.result ended.status;
+      any_moment = ran.throughout;
+      key = refl;
+      input = ended.input _ _ c.drive_to_rest-end.ensures.read;
+      disk = ended.disk _ _ (all.disk.same refl ∙ c.in-Ok.ensures.same);
+      sinks = sink_cause_of_whole _ _ _ _ _ _ (all.sinks.out_same refl) (all.sinks.log_same refl)
+          c.end_run.result ended.sinks;
+      flushes = flushes_of_whole g.O.Sink g.L.Sink _ _ _ _ _ _ all.flushes
+          (all.sinks.log_same refl) c.end_run.result ended.flushes;
+    }
+
+pub end_run-requires : goal.end_run-requires
+end_run-requires g c = sym c.is_stopped.ensures ∙ c.if-is_stopped.false
+
 pub returns-in-Err : goal.returns-in-Err
 returns-in-Err g c =
     let at = (goal.at.returns-in-Err g c).After-is_stopped in
@@ -113,64 +142,3 @@ returns-in-Err g c =
       flushes = flushes_of_end g.O.Sink g.L.Sink _ _ _ _ (Stopped c.in-Err.stop)
           (not_whole (Stopped c.in-Err.stop) refl) all.flushes;
     })
-
-pub returns-in_default : goal.returns-in_default
-returns-in_default g c =
-    let at = (goal.at.returns-in_default g c).After-is_stopped in
-    let other : has_stopped c.drive_to_rest-end.result ≡ false =
-    sym c.is_stopped.ensures ∙ c.if-is_stopped.false in
-    let calm = answer_ok c.drive_to_rest-end.result other in
-    let fin = c.in-Ok-finish.ensures in
-    let last : State g.row.B.Denot g.row.O.Denot g.row.L.Denot g.row.D.Denot =
-    state_of fin.last c.finish.new.out c.finish.new.log c.finish.new.disk in
-    let drove = driven g at last in
-    let all = went_then g.B.LinkBox g.B.LineBox.line_of g.O.Sink g.L.Sink g.D.SlotDisk
-    c.args.rest _ _ (begun_state (drive g at last)) (driven_state g at) c.drive_to_rest-end.result
-    other drove last (Ok tt) fin.went in
-    let ran = run g at last all.images in
-    rw c.status_of-in_default.ensures (record {
-      runs = refusal_runs g.B.LinkBox g.B.LineBox.line_of g.S.Source g.O.Sink g.L.Sink
-          g.D.SlotDisk (drive g at last) ran c.drive_to_rest-end.result other
-          c.in_default.not-Whole (driven_state g at) drove fin.finished;
-      any_moment = ran.throughout;
-      key = refl;
-      input = input_cause _ _ c.drive_to_rest-end.result c.drive_to_rest-end.ensures.read;
-      disk = rw (← c.in-Ok.ensures.same) (disk_cause_of_end _ _ c.drive_to_rest-end.result
-          (subst (λ r. IsDiskCause (g.D.SlotDisk.faults c.load.new.disk)
-          (g.D.SlotDisk.faults c.finish.new.disk) (is_journal_fault r)) (sym calm) all.disk));
-      sinks = sink_cause_of_end _ _ _ _ c.drive_to_rest-end.result (ap is_write_fault calm)
-          c.in_default.not-Whole (all.sinks.out_same refl) (all.sinks.log_same refl);
-      flushes = flushes_of_end g.O.Sink g.L.Sink _ _ _ _ c.drive_to_rest-end.result
-          c.in_default.not-Whole all.flushes;
-    })
-
-pub returns : goal.returns
-returns g c =
-    let at = (goal.at.returns g c).After-is_stopped in
-    let other : has_stopped c.drive_to_rest-end.result ≡ false =
-    sym c.is_stopped.ensures ∙ c.if-is_stopped.false in
-    let fin = c.in-Ok-finish.ensures in
-    let last : State g.row.B.Denot g.row.O.Denot g.row.L.Denot g.row.D.Denot =
-    state_of fin.last c.finish.new.out c.finish.new.log c.finish.new.disk in
-    let drove = driven g at last in
-    let all = went_then g.B.LinkBox g.B.LineBox.line_of g.O.Sink g.L.Sink g.D.SlotDisk
-    c.args.rest _ _ (begun_state (drive g at last)) (driven_state g at) c.drive_to_rest-end.result
-    other drove last (Ok tt) fin.went in
-    let ran = run g at last all.images in
-    let flushed = c.flush_both.ensures in
-    record {
-      runs = whole_runs g.B.LinkBox g.B.LineBox.line_of g.S.Source g.O.Sink g.L.Sink g.D.SlotDisk
-          (drive g at last) ran c.flush_both.new.out c.flush_both.new.log flushed.out flushed.log
-          (driven_state g at) (rw c.in-Whole.is at drove) fin.finished c.flush_both.result
-          flushed.status;
-      any_moment = ran.throughout;
-      key = refl;
-      input = input_cause_of_whole _ _ c.flush_both.result flushed.status
-          (c.drive_to_rest-end.ensures.read.same (ap is_read_fault c.in-Whole.is));
-      disk = disk_cause_of_whole _ _ c.flush_both.result flushed.status
-          (all.disk.same refl ∙ c.in-Ok.ensures.same);
-      sinks = sink_cause_of_whole _ _ _ _ _ _ (all.sinks.out_same refl) (all.sinks.log_same refl)
-          c.flush_both.result flushed.sinks;
-      flushes = flushes_of_whole g.O.Sink g.L.Sink _ _ _ _ _ _ all.flushes
-          (all.sinks.log_same refl) c.flush_both.result flushed.flushes;
-    }

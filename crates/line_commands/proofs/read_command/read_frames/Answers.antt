@@ -1,63 +1,54 @@
-use Rattle.std.proofs.Common.{refl, ◌∙◌, inl}
-use Rattle.line_commands.proofs.ReadEnds.{drain_fails, refusal_prints, whole_prints}
-use Rattle.line_commands.proofs.ReadEnds.{no_write_failed}
-use Rattle.command_ends.proofs.EndCauses.{input_cause, input_cause_of_whole, sink_cause_of_end}
-use Rattle.command_ends.proofs.EndCauses.{sink_cause_of_whole}
-use Rattle.command_ends.proofs.FlushLaws.{flushes_of_whole, flushes_of_end}
+use Rattle.std.proofs.Common.{refl, ◌∙◌, inl, [], sym, append-nil}
+use Rattle.line_commands.proofs.OverInput.{no_stop, answer_ok, fails_over, writes_over}
 use Rattle.line_commands.proofs.read_command.read_frames.Goals as goal
+use Rattle.line_commands.specs.PrintsFrames.{HasPrinted, HasPrintedFront, read_rest}
+use Rattle.command_ends.specs.FrameLine.{frame_lines}
+use Rattle.command_ends.proofs.EndCauses.{sink_cause_of_whole}
+use Rattle.command_ends.proofs.FlushLaws.{flushes_of_whole}
+use Rattle.yasir_io.proofs.OutputLemmas.{printed}
 
-pub returns-in-Err : goal.returns-in-Err
-returns-in-Err g c =
-    let before = no_write_failed _ _ c.drive_frames-end.result c.in_default.not-Stopped
-    c.drive_frames-end.ensures.sink in record {
-      frames = drain_fails g.V.Device.reads _ _ _ _ _ _ c.drive_frames-end.result
-          c.in_default.not-Stopped c.drive_frames-end.ensures.driven
-          (λ text lines. c.in-Err.ensures.err _ text lines);
+pub end_run-requires : goal.end_run-requires
+end_run-requires g c = no_stop c.drive_frames-end.result c.in_default.not-Stopped
+
+pub returns : goal.returns
+returns g c =
+    let driven = c.drive_frames-end.ensures in
+    let other = no_stop c.drive_frames-end.result c.in_default.not-Stopped in
+    let sink = rw (answer_ok c.drive_frames-end.result other) at driven.sink in record {
+      frames = fails_over read_rest _ _ _ _ c.drive_frames-end.result other driven.driven
+          (HasPrintedFront g.V.Device.reads _ _)
+          (λ line lines. c.in-Err.ensures.err _ _ lines);
       log = refl;
-      input = c.drive_frames-end.ensures.read.never_falls;
-      sinks = inl (rw (← before.1) c.in-Err.ensures.cause.failed);
+      input = driven.read.never_falls;
+      sinks = inl (rw (← sink.same) c.in-Err.ensures.cause.failed);
       flushes = inl (record {
-        out = c.in-Err.ensures.flushes ∙ c.drive_frames-end.ensures.flushes;
+        out = c.in-Err.ensures.flushes ∙ driven.flushes;
         log = refl;
       });
     }
 
-pub returns-in-Whole : goal.returns-in-Whole
-returns-in-Whole g c =
-    let driven = rw c.in-Whole.is at c.drive_frames-end.ensures.driven in
-    let before = no_write_failed _ _ c.drive_frames-end.result c.in_default.not-Stopped
-    c.drive_frames-end.ensures.sink in record {
-      frames = rw c.flush_both.ensures.out
-          (whole_prints g.V.Device.reads _ _ _ _ _ _ c.flush_both.result c.flush_both.ensures.status
-          driven
-          (λ text lines. c.in-Ok.ensures.ok _ text lines));
-      log = c.flush_both.ensures.log;
-      input = input_cause_of_whole _ _ c.flush_both.result c.flush_both.ensures.status
-          (c.drive_frames-end.ensures.read.same (rw c.in-Whole.is refl));
-      sinks = sink_cause_of_whole _ _ _ _ _ _ (c.in-Ok.ensures.cause.same ∙ before.1) refl
-          c.flush_both.result c.flush_both.ensures.sinks;
+pub returns-in-Ok : goal.returns-in-Ok
+returns-in-Ok g c =
+    let driven = c.drive_frames-end.ensures in
+    let ended = c.end_run.ensures in
+    let other = no_stop c.drive_frames-end.result c.in_default.not-Stopped in
+    let sink = rw (answer_ok c.drive_frames-end.result other) at driven.sink in record {
+      frames = rw ended.out (writes_over read_rest _ _ _ _ c.drive_frames-end.result other
+          driven.driven (HasPrinted g.V.Device.reads _ _)
+          (HasPrintedFront g.V.Device.reads _ _) (λ status. ⊥)
+          (λ line lines. printed _ _ _ (c.in-Ok.ensures.ok _ _ lines)) (λ line lines. record {
+            front = frame_lines (g.V.Device.reads line);
+            rest = [];
+            got = printed _ _ _ (c.in-Ok.ensures.ok _ _ lines);
+            all = sym (append-nil _);
+          })
+          c.end_run.result ended.status);
+      log = ended.log;
+      input = ended.input _ _ driven.read;
+      sinks = sink_cause_of_whole _ _ _ _ _ _ (c.in-Ok.ensures.cause.same ∙ sink.same) refl
+          c.end_run.result ended.sinks;
       flushes = flushes_of_whole g.O.Sink g.L.Sink _ _ _ _ _ _ (record {
-        out = c.in-Ok.ensures.flushes ∙ c.drive_frames-end.ensures.flushes;
+        out = c.in-Ok.ensures.flushes ∙ driven.flushes;
         log = refl;
-      }) refl c.flush_both.result c.flush_both.ensures.flushes;
-    }
-
-pub returns : goal.returns
-returns g c =
-    let before = no_write_failed _ _ c.drive_frames-end.result c.in_default.not-Stopped
-    c.drive_frames-end.ensures.sink in record {
-      frames = rw c.status_of.ensures (refusal_prints g.V.Device.reads
-          _ _ _ _ _ _ c.drive_frames-end.result c.in_default.not-Stopped c.in_default-end.not-Whole
-          c.drive_frames-end.ensures.driven (λ text lines. c.in-Ok.ensures.ok _ text lines));
-      log = refl;
-      input = rw c.status_of.ensures (input_cause _ _ c.drive_frames-end.result
-          c.drive_frames-end.ensures.read);
-      sinks = rw c.status_of.ensures (sink_cause_of_end _ _ _ _ c.drive_frames-end.result before.0
-          c.in_default-end.not-Whole
-          (c.in-Ok.ensures.cause.same ∙ before.1) refl);
-      flushes = rw c.status_of.ensures (flushes_of_end g.O.Sink g.L.Sink _ _ _ _
-          c.drive_frames-end.result c.in_default-end.not-Whole (record {
-            out = c.in-Ok.ensures.flushes ∙ c.drive_frames-end.ensures.flushes;
-            log = refl;
-          }));
+      }) refl c.end_run.result ended.flushes;
     }
