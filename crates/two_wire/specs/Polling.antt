@@ -119,8 +119,8 @@ module _ (rules : Rules) (p : Polling) where
     pub apart_b : AreApart (said_later p.ab p.late p.master) (all_said p.devices)
     pub apart_link : AreApart (on_wires p.late requests_sent) (on_wires p.late answers_sent)
 
-  -- Holds if the two boxes do just that: nobody talks while another does, all frames are sealed and
-  -- pass, and each is heard at the other end whole, later by the delay.
+  -- Holds if the two boxes do just that: at both ends nobody talks while another does, all frames
+  -- are sealed and pass, and each is heard at the other end whole, later by the delay.
   pub record PollsAreDelivered : Type 0 where
     pub box_a : IsTwoWire rules (end_a p) wires_a
     pub box_b : IsTwoWire rules (end_b p) wires_b

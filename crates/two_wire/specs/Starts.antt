@@ -13,8 +13,8 @@ pub record WaitsFirst (window : ℕ) (own heard : List Tick) : Type 0 where
   pub heard_is : take window (drop before heard) ≡ silent window
 
 -- Holds if a device that has heard these ticks, and then nothing for `down` ticks, reads the others
--- as one does that has heard nothing before. Besides, it reads what it had read, and at most so many
--- more frames of what it had heard.
+-- as one does that has heard nothing before. Before these it reads what it had read, and at most
+-- `most` more frames, of whatever bytes.
 pub record ReadsAnew (reads : List Tick → List FrameRead) (most down : ℕ) (before own : List Tick) :
     Type 0 where
   pub more : List (List ℕ)

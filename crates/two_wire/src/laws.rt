@@ -166,9 +166,9 @@ pub fn four_wire_devices_read_what_was_sealed()
 /// delay and three ticks at least, and before that gate takes the answer to have ended. Behind an
 /// answer the master goes on when the gate at the devices' end takes it to have ended, as it hears
 /// it, or where nobody answers, when that gate no longer waits and the request can be sealed. The
-/// first request comes when that gate has waited for as long. Then nobody ever talks while another
-/// does on any pair of wires. All frames are sealed and pass, and each is heard at the other end
-/// whole, T ticks later (*delivered*).
+/// first request comes when that gate has waited for as long. Then on the pairs of wires at both ends
+/// nobody ever talks while another does. All frames are sealed and pass, and each is heard at the
+/// other end whole, T ticks later (*delivered*).
 ///
 /// The same holds whenever both gates let all through, and on no pair of wires anybody talks while
 /// another does (*in_turn*).
@@ -187,7 +187,7 @@ pub fn polls_are_delivered<R: LineRules>()
 /// before the box was stopped, in mid-burst or not, and however long the box was down: a device that
 /// begins anew after `cut` silent ticks reads what the box says then as one that has heard nothing
 /// before, if `cut` isn't above `window`. Besides, a DNP3 device reads only what it had read (*dnp*),
-/// and a Modbus RTU device at most one frame more, of the burst that the stop cut short (*rtu*).
+/// and a Modbus RTU device at most one frame more (*rtu*).
 pub fn gates_wait_at_first()
     ensures waits { (waits : Waits) (ticks heard : List Tick)
         → (gated Asks waits at_rest ticks heard
