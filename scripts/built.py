@@ -4,7 +4,7 @@ import os, sys
 ROOT = os.path.dirname(os.path.dirname(os.path.abspath(__file__)))
 
 # What proves and builds each program.
-BUILDERS = {"link_replay": "`make demo`", "link_live": "`rt run` in crates/link_live", "line_capture": "`rt run` in crates/line_capture"}
+BUILDERS = {"link_replay": "`make demo`", "line_capture": "`rt run` in crates/line_capture"}
 
 
 def path_of(name, checkout=ROOT):

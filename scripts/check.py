@@ -24,8 +24,8 @@ MEMORY = "/dev/shm"
 TOOLS = ("cc", "nm", "strace", "valgrind", "mbpoll", "tshark", "text2pcap", "editcap", "sigrok-cli")
 LIBRARY = os.path.join(ROOT, "crates", "yasir_c", "out", "libyasir_c.a")
 
-# A script, what it needs, and its words at each level, or None if the level doesn't run it. PROGRAM, LIVE, BEFORE and MEMORY are
-# replaced by paths.
+# A script, what it needs, and its words at each level, or None if the level doesn't run it. PROGRAM, BEFORE and MEMORY are replaced
+# by paths.
 Check = collections.namedtuple("Check", "name needs quick change release")
 
 
@@ -44,9 +44,9 @@ CHECKS = [
     Check("audit", ("program",), ["330", "PROGRAM"], ["3300", "PROGRAM", "2"], ["13200", "PROGRAM", "3"]),
     Check("duplex", ("program",), ["150", "PROGRAM"], ["1500", "PROGRAM", "2"], ["6000", "PROGRAM", "3"]),
     Check("try_check", ("program", "line_capture"), *same("PROGRAM")),
-    Check("closed_streams", ("program", "link_live"), *same("PROGRAM", "LIVE")),
+    Check("closed_streams", ("program",), *same("PROGRAM")),
     Check("init_over", ("program",), *same("PROGRAM")),
-    Check("live_pipe", ("program", "link_live"), *same("LIVE", "PROGRAM")),
+    Check("live_pipe", ("program",), *same("PROGRAM")),
     Check("two_runs", ("program",), ["PROGRAM", "2"], ["PROGRAM", "10"], ["PROGRAM", "60"]),
     Check("taken_over", ("program", "cc"), *same("PROGRAM")),
     Check("settles", ("program", "strace"), *same("PROGRAM")),
@@ -57,7 +57,7 @@ CHECKS = [
     Check("guard", ("program", "libmodbus"), None, ["PROGRAM"], ["PROGRAM", "2000", "2"]),
     Check("clib_check", ("program", "library", "cc"), None, ["PROGRAM", "10000"], ["PROGRAM"]),
     Check("clib_spacer", ("library", "cc"), None, ["2000"], ["20000", "2"]),
-    Check("journal_faults", ("program", "library", "cc"), *same("PROGRAM", "LIVE")),
+    Check("journal_faults", ("program", "library", "cc"), *same("PROGRAM")),
     Check("filter_words", ("program", "library", "cc"), ["PROGRAM"], ["PROGRAM", "1000", "2"], ["PROGRAM", "10000", "3"]),
     Check("bridge_faults", ("program", "library", "cc"), None, ["PROGRAM"], ["PROGRAM"]),
     Check("tty_ticks_check", ("cc",), None, [], ["planted"]),
@@ -78,7 +78,7 @@ def lacking(need, program, before=None):
         return "no program of the last version is named, by --before"
     if need == "program":
         return built.lacking(program)
-    if need in ("link_live", "line_capture"):
+    if need == "line_capture":
         return built.lacking(built.path_of(need), need)
     if need == "memory" and not os.path.isdir(MEMORY):
         return "there is no folder in memory, %s" % MEMORY
@@ -107,7 +107,7 @@ def older(program):
 
 def run(check, words, program, before):
     """Runs one script. Returns whether it passed, how many seconds it took, and the end of what it printed."""
-    paths = {"PROGRAM": program, "BEFORE": before, "MEMORY": MEMORY, "LIVE": built.path_of("link_live")}
+    paths = {"PROGRAM": program, "BEFORE": before, "MEMORY": MEMORY}
     line = [sys.executable, os.path.join("scripts", check.name + ".py")] + [paths.get(word, word) for word in words]
     log, began = os.path.join(LOGS, check.name + ".log"), time.monotonic()
     with open(log, "w") as file:

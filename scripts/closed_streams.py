@@ -1,15 +1,14 @@
 #!/usr/bin/env python3
-"""Runs `link_replay` and `link_live` with any of standard input, output and error closed, and checks what each run leaves.
+"""Runs `link_replay` with any of standard input, output and error closed, and checks what each run leaves.
 
-    python3 scripts/closed_streams.py [PROGRAM] [LIVE]
+    python3 scripts/closed_streams.py [PROGRAM]
 
 A file that a program opens gets the lowest file descriptor that is free. So if a stream is closed, a file of the run could
 take its place: a note would be written into the journal, or the key would be read as the input. Each command must end with
 status 5 if it needs its input and this is closed, and with status 6 if it must write and can't. The key must stay as it was,
 and the journal as it was or as a right run leaves it. What is in an open stream must be the front of what a right run writes,
 perhaps followed by a fault line. It ends with 1 if a run leaves anything else. It is no part of the gate: which descriptor a
-file gets is the system's choice. PROGRAM is crates/link_replay/out/link_replay and LIVE, a link_live, is
-crates/link_live/out/link_live unless they are given.
+file gets is the system's choice. PROGRAM is crates/link_replay/out/link_replay unless it is given.
 """
 import itertools, os, subprocess, sys, tempfile
 
@@ -24,6 +23,8 @@ FAULTS = {5: b"fault: read\n", 11: b"fault: journal stands at 0\n"}
 COMMANDS = [
     ("seal rtu ab KEY JOURNAL", NEW, (0, 1, 2)),
     ("check rtu ab KEY JOURNAL", NEW, (0, 1, 2)),
+    ("live seal rtu ab KEY JOURNAL", NEW, (0, 1, 2)),
+    ("live check rtu ab KEY JOURNAL", NEW, (0, 1, 2)),
     ("init rtu ab JOURNAL", None, ()),
     ("init rtu ab JOURNAL", NEW, ()),
     ("read rtu", NEW, (0, 1)),
@@ -36,9 +37,6 @@ COMMANDS = [
     ("version", NEW, (1,)),
     ("trial rtu 7 3", NEW, (1,)),
 ]
-
-# The commands of `link_live`.
-LIVE_COMMANDS = COMMANDS[:2]
 
 
 def bytes_of(path):
@@ -99,15 +97,15 @@ def texts(replay):
     """The input of each command, other than the request, by a `link_replay`."""
     link = replay.run("seal rtu ab KEY JOURNAL", REQUEST, NEW, ())[1]
     received = replay.run("check rtu ab KEY JOURNAL", link, NEW, ())[1]
-    lists = {"check": [link], "replay": [REQUEST, link], "duplex": [REQUEST, link], "audit": [REQUEST, link, received]}
+    lists = {"check": [link], "live check": [link], "replay": [REQUEST, link], "duplex": [REQUEST, link], "audit": [REQUEST, link, received]}
     return {command: b"%\n".join(parts) for command, parts in lists.items()}
 
 
-def try_all(runs, name, commands, inputs):
+def try_all(runs, commands, inputs):
     """Runs each command with each choice of closed streams. Returns how many runs were made, and how many commands were wrong."""
     wrong = runs_made = 0
     for words, before, needed in commands:
-        text = inputs.get(words.split()[0], REQUEST)
+        text = inputs.get(words.split(" rtu")[0], REQUEST)
         right, ends = runs.run(words, text, before, ()), []
         wrong_here = right[0] != (11 if words.startswith("init") and before else 0)
         for closed in itertools.chain.from_iterable(itertools.combinations(range(3), n) for n in range(4)):
@@ -116,23 +114,20 @@ def try_all(runs, name, commands, inputs):
             runs_made += 1
             ends.append("%s: %d" % ("".join(map(str, closed)) or "none", seen[0]))
             for fault in faults:
-                print("wrong: %s %s with %s closed: %s" % (name, words, closed, fault))
+                print("wrong: %s with %s closed: %s" % (words, closed, fault))
             wrong_here += bool(faults)
         journal = "no journal" if before is None else "journal"
-        print("%-11s %-26s %s  closed and status  %s" % (name, words, journal, ", ".join(ends)))
+        print("%-30s %s  closed and status  %s" % (words, journal, ", ".join(ends)))
         wrong += wrong_here
     return runs_made, wrong
 
 
 def main():
-    program, live = built.program(sys.argv, 1), built.program(sys.argv, 2, "link_live")
+    program = built.program(sys.argv, 1)
     with tempfile.TemporaryDirectory() as folder:
         replay = Runs(program, folder)
-        inputs = texts(replay)
-        tried = [try_all(replay, "link_replay", COMMANDS, inputs),
-                 try_all(Runs(live, folder), "link_live", LIVE_COMMANDS, inputs)]
-    wrong = sum(wrong for _, wrong in tried)
-    print("%d runs, %d wrong" % (sum(made for made, _ in tried), wrong))
+        made, wrong = try_all(replay, COMMANDS, texts(replay))
+    print("%d runs, %d wrong" % (made, wrong))
     sys.exit(wrong > 0)
 
 

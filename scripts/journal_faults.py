@@ -1,9 +1,9 @@
 #!/usr/bin/env python3
 """Makes the calls of the C programs on their journals and keys fail, and compares them with `link_replay`.
 
-    python3 scripts/journal_faults.py [PROGRAM [LIVE]]
+    python3 scripts/journal_faults.py [PROGRAM]
 
-PROGRAM is a link_replay and LIVE a link_live, those in crates/*/out unless they are given; without a link_live the rest is done. They and
+PROGRAM is crates/link_replay/out/link_replay unless it is given. Its `seal` and `check`, over recordings and over live lines, and
 bridge/out/filter seal and check three frames. Each call on the journal fails in turn, a write also after some bytes: no number may be
 noted that the journal doesn't hold, the slot that keeps the last number must stay, and the next run must go on above all numbers that
 were noted. Each number must be synced before its note. The filter commits each number by itself. PROGRAM must bring its journal to the
@@ -26,12 +26,13 @@ STANDING = OLD + slot_of(6) + slot_of(5)
 # A journal whose last number is in slot A, and one whose last number is in slot B.
 KEPT = {"slot A": STANDING, "slot B": OLD + slot_of(5) + slot_of(6)}
 NO_PORT = "/no/such/port"
+# PROGRAM, with the words of a live line.
+LIVE = "live"
 DIGITS = "0123456789abcdefFEDCBA9876543210" * 5
 
 
 class Tried:
-    def __init__(self, folder, program, live):
-        self.live = [] if built.lacking(live, "link_live") else [live]
+    def __init__(self, folder, program):
         self.program, self.filter, self.bridge = program, bridge_build.build("filter"), bridge_build.build("bridge")
         self.key, self.journal, self.got = (os.path.join(folder, name) for name in ("key.txt", "journal", "got"))
         self.calls, self.made, self.wrong = Calls(folder, self.journal), 0, 0
@@ -56,7 +57,8 @@ class Tried:
             print("WRONG: %s" % what, flush=True)
 
     def words(self, command, program=None):
-        return [program or self.filter, command, *LINK, self.key, self.journal]
+        start = [self.program, "live"] if program == LIVE else [program or self.filter]
+        return [*start, command, *LINK, self.key, self.journal]
 
     def run(self, command, text, program=None, **how):
         return self.calls.run(self.words(command, program), text, **how)
@@ -115,7 +117,7 @@ def failed(tried, program, command, text, content, fault):
     tried.see(floor is not None and floor >= max([6] + used), "%s: floor %s, noted %s" % (what, floor, used))
     if program == tried.filter:
         tried.see(used == list(range(7, 7 + max(0, commits - 1))), "%s: %d commits, noted %s" % (what, commits, used))
-    else:
+    elif program == tried.program:
         tried.see((run.out, run.log) == (b"", b"fault: journal\n"), "%s: wrote %r" % (what, run[1:3]))
     again = tried.run(command, text, program)
     used += numbers(again.log)
@@ -151,7 +153,7 @@ def faults(tried):
     for command in ("seal", "check"):
         other = in_order(tried, command, text)
         for content in KEPT.values():
-            for program in (tried.filter, tried.program, *tried.live):
+            for program in (tried.filter, tried.program, LIVE):
                 each_fails(tried, program, command, text, content)
         moved_on(tried, command, text)
         text = other
@@ -159,7 +161,7 @@ def faults(tried):
 
 def second_runs(tried):
     """Holds a journal by one program, and gives it to each."""
-    programs = [tried.filter, tried.program, *tried.live]
+    programs = [tried.filter, tried.program, LIVE]
     for holder in programs:
         tried.put(tried.journal, STANDING)
         first = subprocess.Popen(tried.words("seal", holder), stdin=subprocess.PIPE, stdout=subprocess.PIPE, stderr=subprocess.PIPE,
@@ -260,8 +262,7 @@ def keys(tried):
 def main():
     program = built.program(sys.argv, 1)
     with tempfile.TemporaryDirectory(dir="/dev/shm" if os.path.isdir("/dev/shm") else None) as folder:
-        tried = Tried(folder, program, sys.argv[2] if len(sys.argv) > 2 else built.path_of("link_live"))
-        print("with link_live" if tried.live else "without link_live")
+        tried = Tried(folder, program)
         for part in (faults, second_runs, other_files, disk_tried, keys):
             before, begun = tried.made, time.monotonic()
             part(tried)

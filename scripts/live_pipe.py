@@ -1,19 +1,18 @@
 #!/usr/bin/env python3
-"""Runs both boxes of `link_live` one after the other on pipes, with a writer that waits for the ticks of the other line before it goes on.
+"""Runs `link_replay live seal` and then `link_replay live check` on pipes, with a writer that waits for the ticks of the other line before it goes on.
 
-    python3 scripts/live_pipe.py [PROGRAM] [BEFORE]
+    python3 scripts/live_pipe.py [PROGRAM]
 
-A frame goes into `link_live seal` tick by tick. The next tick is sent only after the ticks of the other line at all places so far
+A frame goes into `live seal` tick by tick. The next tick is sent only after the ticks of the other line at all places so far
 have come. So if a box held anything back until its next read, it would stand still, and the run would end with a failure after 20
-seconds. What `seal` wrote goes into `link_live check` in the same way. At the end each text must have the same ticks as the
-canonical text that `link_replay` writes for the same line, with the same notes and the same journal. This is done for both
-protocols, both profiles and both directions. It ends with 1 if anything differs. PROGRAM is crates/link_live/out/link_live and
-BEFORE, a link_replay, is crates/link_replay/out/link_replay unless they are given.
+seconds. What it wrote goes into `live check` in the same way. At the end each text must have the same ticks as the canonical text
+that `seal` or `check` writes for the same line, with the same notes and the same floor of the journal. This is done for both protocols, both
+profiles and both directions. It ends with 1 if anything differs. PROGRAM is crates/link_replay/out/link_replay unless it is given.
 """
 import os, select, subprocess, sys, tempfile, time
 
 import built
-from killed import KEY
+from killed import KEY, floor_of
 from model import ticks_of
 
 PATIENCE = 20
@@ -28,7 +27,7 @@ def lines_of(ticks):
 
 
 class Box:
-    """A run of `link_live`. A line goes in, and the caller waits for each tick of the other line that is due."""
+    """A run of a box on a live line. A line goes in, and the caller waits for each tick of the other line that is due."""
 
     def __init__(self, program, words):
         self.run = subprocess.Popen([program] + words, stdin=subprocess.PIPE, stdout=subprocess.PIPE, stderr=subprocess.PIPE)
@@ -66,32 +65,33 @@ def recorded(program, words, text):
     return run.returncode, run.stdout.decode(), run.stderr
 
 
-def tried(live, replay, folder, word, direction, command, ticks):
+def tried(program, folder, word, direction, command, ticks):
     """What differs between a live run and a recorded one, and the ticks of the other line."""
     key = os.path.join(folder, "key")
     open(key, "w").write(KEY)
     journals = [os.path.join(folder, "%s.%s.%s.%d" % (word, direction, command, n)) for n in (0, 1)]
     for journal in journals:
-        subprocess.check_call([replay, "init", word, direction, journal])
-    box = Box(live, [command, word, direction, key, journals[0]])
+        subprocess.check_call([program, "init", word, direction, journal])
+    box = Box(program, ["live", command, word, direction, key, journals[0]])
     stood = not all(box.pass_on(line, 1) for line in lines_of(ticks))
     if stood:
         box.run.kill()
         return ["it stood still after %d of %d ticks" % (box.taken - 1, len(ticks))], []
     status, text, notes = box.end()
-    right = recorded(replay, [command, word, direction, key, journals[1]], b"".join(lines_of(ticks)))
+    right = recorded(program, [command, word, direction, key, journals[1]], b"".join(lines_of(ticks)))
     faults = []
     if (status, notes) != (right[0], right[2]):
         faults.append("status %d with notes %r, not %d with %r" % (status, notes, right[0], right[2]))
     if ticks_of(text) != ticks_of(right[1]):
         faults.append("the other line differs")
-    if open(journals[0], "rb").read() != open(journals[1], "rb").read():
-        faults.append("the journals differ")
+    floors = [floor_of(journal, (word, direction)) for journal in journals]
+    if floors[0] is None or floors[0] != floors[1]:
+        faults.append("the journals have the floors %s and %s" % tuple(floors))
     return faults, ticks_of(text)
 
 
 def main():
-    live, replay = built.program(sys.argv, 1, "link_live"), built.program(sys.argv, 2)
+    program = built.program(sys.argv, 1)
     failed = 0
     with tempfile.TemporaryDirectory() as folder:
         for word, protocol in LINKS.items():
@@ -99,7 +99,7 @@ def main():
                 frame = list(bytes.fromhex(FRAMES[protocol]))
                 ticks = (frame + [None] * 40) * 2
                 for command in ("seal", "check"):
-                    faults, ticks = tried(live, replay, folder, word, direction, command, ticks)
+                    faults, ticks = tried(program, folder, word, direction, command, ticks)
                     for fault in faults:
                         print("%s %s %s: %s" % (command, word, direction, fault))
                     failed += len(faults)

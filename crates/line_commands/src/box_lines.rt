@@ -8,6 +8,7 @@ ghost use Rattle.link_format.specs.Setup.{setup_of};
 ghost use Rattle.sequence_journal.specs.declared.link.LinkId.{LinkId};
 ghost use Rattle.sequence_journal.specs.Journal.{journal_link, journal_floor, is_broken, Fits};
 ghost use Rattle.sequence_journal.specs.Late.{disk_journal};
+ghost use Rattle.sequence_journal.specs.declared.numbers.TheConstants.{LIMIT};
 ghost use Rattle.line_texts.specs.Adding.{HasRoom, HasLineRoom, IsShort, Waits};
 ghost use Rattle.line_texts.specs.Sending.{SinkTexts};
 ghost use Rattle.line_commands.specs.BoxLines.{state_of, DrivesBox, IsReady, MayDrive, TakesOn};
@@ -165,6 +166,14 @@ impl<B: LineBox> BoxLines<B> {
             }
             Err(JournalFault) => Err(JournalFault),
         }
+    }
+
+    /// Returns the last number that the box has used.
+    pub fn number(&self) -> u64
+        ensures value { result ≡ number_in self.now }
+        ensures within { result ≤ LIMIT }
+    {
+        self.journal.floor()
     }
 
     /// Returns the notes that wait.

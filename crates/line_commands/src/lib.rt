@@ -17,7 +17,7 @@
 //!
 //! Notes are handed on before the ticks into which they fall:
 //!
-//!     let mut port = Streams::new(&mut input, &mut out, &mut log);
+//!     let mut port = Streams { input, out, log };
 //!     let count = read_on(&mut port, &mut buffer)?;
 //!     let found = lines.feed(&buffer[..count])?;
 //!     hand_on(&mut port, notes, text)?;

@@ -9,31 +9,23 @@ ghost use Rattle.line_commands.specs.Streams.{stream_faults, stream_history};
 use crate::{Output, Port};
 use yasir_io::{Failed, Sink, Source, write_all};
 
-/// References to an input and two outputs.
+/// An input and two outputs.
 #[derive(Drop)]
-pub struct Streams<'a, S, O, L> {
-    input: &'a mut S,
-    out: &'a mut O,
-    log: &'a mut L,
+pub struct Streams<S, O, L> {
+    /// Where a line comes from.
+    pub input: S,
+    /// Where the other line goes.
+    pub out: O,
+    /// Where the notes go.
+    pub log: L,
 }
 
-impl<'a, S, O, L> Streams<'a, S, O, L> {
-    /// Returns a port over this input and these outputs.
-    pub fn new(input: &'a mut S, out: &'a mut O, log: &'a mut L) -> Streams<'a, S, O, L>
-        ensures input { result.input ≡ input.entry }
-        ensures out { result.out ≡ out.entry }
-        ensures log { result.log ≡ log.entry }
-    {
-        Streams { input, out, log }
-    }
-}
-
-impl<'a, S: Source, O: Sink, L: Sink> Port for Streams<'a, S, O, L> {
+impl<S: Source, O: Sink, L: Sink> Port for Streams<S, O, L> {
     ghost history = { λ streams. stream_history O.Sink L.Sink streams };
 
-    ghost left = { λ streams. S.left streams.input.now };
+    ghost left = { λ streams. S.left streams.input };
 
-    ghost read_faults = { λ streams. S.faults streams.input.now };
+    ghost read_faults = { λ streams. S.faults streams.input };
 
     ghost write_faults = { λ streams to. stream_faults O.Sink L.Sink streams to };
 
@@ -43,8 +35,8 @@ impl<'a, S: Source, O: Sink, L: Sink> Port for Streams<'a, S, O, L> {
 
     fn write(&mut self, to: Output, piece: &[u8]) -> Result<(), Failed> {
         match to {
-            Output::Out => write_all(self.out, piece),
-            Output::Log => write_all(self.log, piece),
+            Output::Out => write_all(&mut self.out, piece),
+            Output::Log => write_all(&mut self.log, piece),
         }
     }
 

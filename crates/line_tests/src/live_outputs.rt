@@ -2,7 +2,7 @@
 use line_commands::{Streams, hand_on};
 use std::alloc::Global;
 use std::test::Fail;
-use yasir_io::{MemSink, MemSource, Plan, Sink};
+use yasir_io::{MemSink, MemSource, Plan};
 
 // A plan by which call `fails` fails, or no call if `fails` is 0.
 fn plan_of(fails: u32) -> Plan {
@@ -13,20 +13,17 @@ fn plan_of(fails: u32) -> Plan {
     plan
 }
 
-// Hands on a note and a text to these sinks. Returns whether both were handed on.
-fn hand<O: Sink, L: Sink>(out: &mut O, log: &mut L) -> bool {
-    let mut input = MemSource::new(b"".as_slice(), 1, Plan::new());
-    let mut streams = Streams::new(&mut input, out, log);
-    hand_on(&mut streams, b"note\n", b"-1\n").is_ok()
-}
-
 /// Hands on a note and a text. Returns the sink of the text, the sink of the note, and whether both
 /// were handed on. The log takes two bytes a call, and its call `fails` fails, or no call if
 /// `fails` is 0.
 fn handed(alloc: Global, fails: u32) -> Result<(MemSink, MemSink, bool), Fail> {
-    let mut out = MemSink::with_room(alloc, 100, 512, Plan::new())?;
-    let mut log = MemSink::with_room(alloc, 100, 2, plan_of(fails))?;
-    let well = hand(&mut out, &mut log);
+    let mut streams = Streams {
+        input: MemSource::new(b"".as_slice(), 1, Plan::new()),
+        out: MemSink::with_room(alloc, 100, 512, Plan::new())?,
+        log: MemSink::with_room(alloc, 100, 2, plan_of(fails))?,
+    };
+    let well = hand_on(&mut streams, b"note\n", b"-1\n").is_ok();
+    let Streams { out, log, .. } = streams;
     Ok((out, log, well))
 }
 

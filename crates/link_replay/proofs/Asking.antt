@@ -3,7 +3,8 @@ use Rattle.{link_format.specs.declared.dir.Dir.Dir, link_replay.specs.Words.IsCo
 use Rattle.link_replay.specs.{Words.Asks, Words.AreFloors, declared.words.Command.Command}
 use Rattle.link_replay.specs.declared.words.Command.TheVariants.{Init, Read, Vectors, Seal, Check}
 use Rattle.link_replay.specs.declared.words.Command.TheVariants.{Replay, Trial, Space, Audit}
-use Rattle.link_replay.specs.declared.words.Command.TheVariants.{Duplex, Help, Version}
+use Rattle.link_replay.specs.declared.words.Command.TheVariants.{Duplex, LiveSeal, LiveCheck}
+use Rattle.link_replay.specs.declared.words.Command.TheVariants.{Help, Version}
 use Rattle.command_ends.proofs.Telling.{is_word, proto_by, profile_by, dir_by, proto-by, profile-by}
 use Rattle.command_ends.proofs.Telling.{dir-by}
 use Rattle.command_ends.specs.{Words.dir_word, Words.link_word, declared.words.Profile.Profile}
@@ -32,12 +33,16 @@ command_by verb first second third fourth fifth =
     (digits_value 10 fifth))
     (cond (is_word (codes "duplex") verb)
     (Duplex (proto_by first) (profile_by first) (dir_by second))
+    (cond (is_word (codes "live") verb)
+    (cond (is_word (codes "seal") first)
+    (LiveSeal (proto_by second) (profile_by second) (dir_by third))
+    (LiveCheck (proto_by second) (profile_by second) (dir_by third)))
     (cond (is_word (codes "help") verb) Help
     (cond (is_word (codes "--help") verb) Help
     (cond (is_word (codes "-h") verb) Help
     (cond (is_word (codes "version") verb) Version
     (cond (is_word (codes "--version") verb) Version
-    (Replay (proto_by first) (profile_by first) (dir_by second)))))))))))))))
+    (Replay (proto_by first) (profile_by first) (dir_by second))))))))))))))))
 
 abbrev word_at : ℕ → List (List ℕ) → List ℕ
 word_at zero [] = []
@@ -75,6 +80,10 @@ command-in words (Seal proto profile dir) h = ap command_in h.4 ∙ box-by Seal 
 command-in words (Check proto profile dir) h = ap command_in h.4 ∙ box-by Check proto profile dir
 command-in words (Replay proto profile dir) h = ap command_in h.2 ∙ box-by Replay proto profile dir
 command-in words (Duplex proto profile dir) h = ap command_in h.2 ∙ box-by Duplex proto profile dir
+command-in words (LiveSeal proto profile dir) h =
+    ap command_in h.4 ∙ box-by LiveSeal proto profile dir
+command-in words (LiveCheck proto profile dir) h =
+    ap command_in h.4 ∙ box-by LiveCheck proto profile dir
 command-in words (Space proto profile) h =
     ap command_in h ∙ rw (proto-by proto profile, profile-by proto profile) refl
 command-in words (Trial proto profile seed count) h =
@@ -112,6 +121,8 @@ asked-floors words (Some (Trial proto profile seed count)) asks = tt
 asked-floors words (Some (Space proto profile)) asks = tt
 asked-floors words (Some (Audit proto profile dir sent got)) asks = (asks.2, asks.3)
 asked-floors words (Some (Duplex proto profile dir)) asks = tt
+asked-floors words (Some (LiveSeal proto profile dir)) asks = tt
+asked-floors words (Some (LiveCheck proto profile dir)) asks = tt
 asked-floors words (Some Help) asks = tt
 asked-floors words (Some Version) asks = tt
 

@@ -2,7 +2,7 @@
 -- them, and which objects aren't among the causes of its status.
 use Rattle.{device_model.specs.Frames.FrameRead, line_commands.specs.PrintsFrames.PrintsFrames}
 use Rattle.line_texts.specs.Sending.{LineAndNotes, SinkTexts}
-use Rattle.link_replay.specs.Commands.{HasCauses, HasOwnCauses}
+use Rattle.link_replay.specs.Commands.{HasRecordedCauses, HasOwnCauses}
 use Rattle.link_replay.specs.InitCommand.{LeavesSinks, MakesJournal, IsNewJournal}
 use Rattle.link_replay.specs.declared.words.Command.{Command}
 use Rattle.command_ends.specs.Causes.{InputCause, ReadsCause, DiskCause, SinkCause}
@@ -78,7 +78,7 @@ module _ {K S O L D : Type 0} (k : Source K) (s : Source S) (o : Sink O) (l : Si
       → FlushesAtEnd o l out0 out1 log0 log1 status
       → HasOwnCauses k s o l d (Some asked) (outside key in0 out0 log0 disk)
       (outside key in1 out1 log1 disk) status
-      → HasCauses k s o l d (Some asked) (outside key in0 out0 log0 disk)
+      → HasRecordedCauses k s o l d (Some asked) (outside key in0 out0 log0 disk)
       (outside key in1 out1 log1 disk) status
   input-causes status input sinks flushes own = record {
     streams = record {

@@ -6,13 +6,18 @@ use Rattle.line_commands.proofs.OverInput.{right_input_done}
 use Rattle.link_replay.proofs.Duplexed.{duplex_done}
 use Rattle.link_replay.proofs.Listable.{listable_done, auditable_done}
 use Rattle.link_replay.{proofs.Spaced.whole-spaces, specs.AuditCommand.audited}
-use Rattle.link_replay.specs.Commands.{Does, MayDo, IsCalm, HasOwnCauses, HasCauses, EndsWell}
+use Rattle.link_replay.specs.Commands.{Does, MayDo, IsCalm, HasOwnCauses, HasRecordedCauses}
+use Rattle.link_replay.specs.Commands.{HasCauses, EndsWell, EndsLog, FlushesLog}
+use Rattle.link_replay.specs.LiveCommands.{HasLiveCauses}
+use Rattle.live_commands.proofs.Able.{lives_done}
+use Rattle.live_commands.specs.LineEnds.{ends_port, line_around}
 use Rattle.link_replay.specs.InitCommand.{MakesJournal, IsBlank}
 use Rattle.link_replay.specs.{ReadCommand.device_reads, SpaceCommand.spaced_by}
 use Rattle.link_replay.specs.declared.words.Command.{Command}
 use Rattle.link_replay.specs.declared.words.Command.TheVariants.{Init, Read, Vectors, Seal, Check}
 use Rattle.link_replay.specs.declared.words.Command.TheVariants.{Replay, Trial, Space, Audit}
-use Rattle.link_replay.specs.declared.words.Command.TheVariants.{Duplex, Help, Version}
+use Rattle.link_replay.specs.declared.words.Command.TheVariants.{Duplex, LiveSeal, LiveCheck}
+use Rattle.link_replay.specs.declared.words.Command.TheVariants.{Help, Version}
 use Rattle.command_ends.{proofs.Links.link-right, specs.Links.link_of}
 use Rattle.command_ends.proofs.{FlushLaws.flushes_after, Logging.sinks_after}
 use Rattle.command_ends.specs.Causes.{SinkCause, DiskCause, NoneRose}
@@ -77,26 +82,97 @@ module _ {K S O L D : Type 0} (k : Source K) (s : Source S) (o : Sink O) (l : Si
   own-after (Some (Init proto profile dir)) before after noted status h = h
   own-after (Some (Read proto)) before after noted status h = h
   own-after (Some Vectors) before after noted status h = h
+  own-after (Some (LiveSeal proto profile dir)) before after noted status h = h
+  own-after (Some (LiveCheck proto profile dir)) before after noted status h = h
   own-after (Some Help) before after noted status h = h
   own-after (Some Version) before after noted status h = h
 
   -- The causes still hold after the fault line, whether it was written or its write failed.
-  pub causes_after : (asked : Option Command) (before after : Outside K S O L D) (noted : L)
-      (status : Status) → HasCauses k s o l d asked before (record after { log = noted }) status
-      → l.faults noted ≤ l.faults after.log → (fault_line status ≡ [] → after.log ≡ noted)
-      → IsNotFlushed l noted after.log
-      → HasCauses k s o l d asked before after status
-  causes_after asked before after noted status h rises same not_flushed = record {
+  recorded_after : (asked : Option Command) (before after : Outside K S O L D) (noted : L)
+      (status : Status)
+      → HasRecordedCauses k s o l d asked before (record after { log = noted }) status
+      → EndsLog l noted after.log status → IsNotFlushed l noted after.log
+      → HasRecordedCauses k s o l d asked before after status
+  recorded_after asked before after noted status h ends not_flushed = record {
     streams = record {
       reads = h.streams.reads;
       sinks = sinks_after (o.faults before.out) (o.faults after.out) (l.faults before.log)
-          (l.faults noted) (l.faults after.log) status h.streams.sinks rises
-          (λ empty. ap l.faults (same empty));
+          (l.faults noted) (l.faults after.log) status h.streams.sinks ends.never_falls
+          (λ empty. ap l.faults (ends.same empty));
       flushes = flushes_after o l before.out after.out before.log noted after.log status
-          h.streams.flushes same not_flushed;
+          h.streams.flushes ends.same not_flushed;
     };
     own = own-after asked before after noted status h.own;
   }
+
+  live_after : (before after : Outside K S O L D) (noted : L) (status : Status)
+      → HasLiveCauses k s o l d before (record after { log = noted }) status
+      → EndsLog l noted after.log status → HasLiveCauses k s o l d before after status
+  live_after before after noted status h ends = record {
+    counts = record {
+      reads = h.counts.reads;
+      sinks = sinks_after (o.faults before.out) (o.faults after.out) (l.faults before.log)
+          (l.faults noted) (l.faults after.log) status h.counts.sinks ends.never_falls
+          (λ empty. ap l.faults (ends.same empty));
+    };
+    disk = h.disk;
+  }
+
+  pub causes_after : (asked : Option Command) (before after : Outside K S O L D) (noted : L)
+      (status : Status) → HasCauses k s o l d asked before (record after { log = noted }) status
+      → EndsLog l noted after.log status → FlushesLog l asked noted after.log status
+      → HasCauses k s o l d asked before after status
+  causes_after None before after noted status h ends flushed =
+      recorded_after None before after noted status h ends flushed
+  causes_after (Some (Init proto profile dir)) before after noted status h ends flushed =
+      recorded_after (Some (Init proto profile dir)) before after noted status h ends flushed
+  causes_after (Some (Read proto)) before after noted status h ends flushed =
+      recorded_after (Some (Read proto)) before after noted status h ends flushed
+  causes_after (Some Vectors) before after noted status h ends flushed =
+      recorded_after (Some Vectors) before after noted status h ends flushed
+  causes_after (Some (Seal proto profile dir)) before after noted status h ends flushed =
+      recorded_after (Some (Seal proto profile dir)) before after noted status h ends flushed
+  causes_after (Some (Check proto profile dir)) before after noted status h ends flushed =
+      recorded_after (Some (Check proto profile dir)) before after noted status h ends flushed
+  causes_after (Some (Replay proto profile dir)) before after noted status h ends flushed =
+      recorded_after (Some (Replay proto profile dir)) before after noted status h ends flushed
+  causes_after (Some (Trial proto profile seed count)) before after noted status h ends flushed =
+      recorded_after (Some (Trial proto profile seed count)) before after noted status h ends flushed
+  causes_after (Some (Space proto profile)) before after noted status h ends flushed =
+      recorded_after (Some (Space proto profile)) before after noted status h ends flushed
+  causes_after (Some (Audit proto profile dir sent got)) before after noted status h ends flushed =
+      recorded_after (Some (Audit proto profile dir sent got)) before after noted status h ends flushed
+  causes_after (Some (Duplex proto profile dir)) before after noted status h ends flushed =
+      recorded_after (Some (Duplex proto profile dir)) before after noted status h ends flushed
+  causes_after (Some (LiveSeal proto profile dir)) before after noted status h ends flushed =
+      live_after before after noted status h ends
+  causes_after (Some (LiveCheck proto profile dir)) before after noted status h ends flushed =
+      live_after before after noted status h ends
+  causes_after (Some Help) before after noted status h ends flushed =
+      recorded_after (Some Help) before after noted status h ends flushed
+  causes_after (Some Version) before after noted status h ends flushed =
+      recorded_after (Some Version) before after noted status h ends flushed
+
+  -- What the causes say of the sinks, for whatever command.
+  pub sinks_in : (asked : Option Command) (before after : Outside K S O L D) (status : Status)
+      → HasCauses k s o l d asked before after status
+      → SinkCause (o.faults before.out) (o.faults after.out) (l.faults before.log)
+      (l.faults after.log) status
+  sinks_in None before after status h = h.streams.sinks
+  sinks_in (Some (Init proto profile dir)) before after status h = h.streams.sinks
+  sinks_in (Some (Read proto)) before after status h = h.streams.sinks
+  sinks_in (Some Vectors) before after status h = h.streams.sinks
+  sinks_in (Some (Seal proto profile dir)) before after status h = h.streams.sinks
+  sinks_in (Some (Check proto profile dir)) before after status h = h.streams.sinks
+  sinks_in (Some (Replay proto profile dir)) before after status h = h.streams.sinks
+  sinks_in (Some (Trial proto profile seed count)) before after status h = h.streams.sinks
+  sinks_in (Some (Space proto profile)) before after status h = h.streams.sinks
+  sinks_in (Some (Audit proto profile dir sent got)) before after status h = h.streams.sinks
+  sinks_in (Some (Duplex proto profile dir)) before after status h = h.streams.sinks
+  sinks_in (Some (LiveSeal proto profile dir)) before after status h = h.counts.sinks
+  sinks_in (Some (LiveCheck proto profile dir)) before after status h = h.counts.sinks
+  sinks_in (Some Help) before after status h = h.streams.sinks
+  sinks_in (Some Version) before after status h = h.streams.sinks
 
   -- If no count of faults rose in a run, none had risen before the fault line was written.
   pub calm_before : (before after : Outside K S O L D) (noted : L)
@@ -110,6 +186,17 @@ module _ {K S O L D : Type 0} (k : Source K) (s : Source S) (o : Sink O) (l : Si
         rose rises);
     disk = calm.disk;
   }
+
+  -- Where nothing outside failed, no write did.
+  no_write : (before after : Outside K S O L D) (status : Status)
+      → IsCalm k s o l d before after
+      → SinkCause (o.faults before.out) (o.faults after.out) (l.faults before.log)
+      (l.faults after.log) status → status ≡ WriteFault → ⊥
+  no_write before after status calm sinks is = elim (subst (SinkCause (o.faults before.out)
+      (o.faults after.out) (l.faults before.log) (l.faults after.log)) is sinks) [
+        | inl out ↦ calm.out out
+        | inr log ↦ calm.log log
+      ]
 
   pub asked_done : (asked : Option Command) (before after : Outside K S O L D) (status : Status)
       → MayDo k s o l d asked before → IsCalm k s o l d before after
@@ -128,6 +215,16 @@ module _ {K S O L D : Type 0} (k : Source K) (s : Source S) (o : Sink O) (l : Si
       ]
   asked_done (Some Vectors) before after status may calm does causes =
       text_done _ _ _ _ _ _ _ _ _ _ calm _ _ _ status does.printed causes.streams.sinks
+  asked_done (Some (LiveSeal proto profile dir)) before after status may calm does causes =
+      lives_done k (ends_port s o l) d (seal_boxed proto profile) (link_of proto profile dir)
+      (link-right proto profile dir) dir (seal_rest profile) before.key after.key (line_around before)
+      (line_around after) may calm.key calm.input calm.disk status does causes.disk
+      (λ is. no_write before after status calm causes.counts.sinks is)
+  asked_done (Some (LiveCheck proto profile dir)) before after status may calm does causes =
+      lives_done k (ends_port s o l) d (check_boxed proto profile) (link_of proto profile dir)
+      (link-right proto profile dir) dir check_rest before.key after.key (line_around before)
+      (line_around after) may calm.key calm.input calm.disk status does causes.disk
+      (λ is. no_write before after status calm causes.counts.sinks is)
   asked_done (Some Help) before after status may calm does causes =
       text_done _ _ _ _ _ _ _ _ _ _ calm _ _ _ status does.1.printed causes.streams.sinks
   asked_done (Some Version) before after status may calm does causes =

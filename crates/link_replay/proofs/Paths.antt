@@ -4,7 +4,8 @@ use Rattle.link_replay.specs.{OverFiles.journal_kind, Words.IsCommand, Words.Ask
 use Rattle.link_replay.specs.{Words.Asks, Words.word_in, declared.words.Command.Command}
 use Rattle.link_replay.specs.declared.words.Command.TheVariants.{Init, Read, Vectors, Seal, Check}
 use Rattle.link_replay.specs.declared.words.Command.TheVariants.{Replay, Trial, Space, Audit}
-use Rattle.link_replay.specs.declared.words.Command.TheVariants.{Duplex, Help, Version}
+use Rattle.link_replay.specs.declared.words.Command.TheVariants.{Duplex, LiveSeal, LiveCheck}
+use Rattle.link_replay.specs.declared.words.Command.TheVariants.{Help, Version}
 use Rattle.std.proofs.Common.{◌≡◌, ℕ, List, Option, Some, None, refl, sym, ap}
 use Rattle.yasir_io.specs.declared.files.SlotFile.TheVariants.{Standing, New}
 
@@ -39,5 +40,7 @@ kind-kept words (Some (Audit proto profile dir sent got)) other asks = refl
 kind-kept words (Some (Trial proto profile seed count)) other asks = refl
 kind-kept words (Some (Space proto profile)) other asks = refl
 kind-kept words (Some (Duplex proto profile dir)) other asks = refl
+kind-kept words (Some (LiveSeal proto profile dir)) other asks = refl
+kind-kept words (Some (LiveCheck proto profile dir)) other asks = refl
 kind-kept words (Some Help) other asks = refl
 kind-kept words (Some Version) other asks = refl

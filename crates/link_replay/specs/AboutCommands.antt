@@ -8,7 +8,8 @@ use Rattle.link_replay.specs.declared.commands.about.TheConstants.{HELP_PAGE}
 use Rattle.link_replay.specs.declared.words.Command.{Command}
 use Rattle.link_replay.specs.declared.words.Command.TheVariants.{Init, Read, Vectors, Seal, Check}
 use Rattle.link_replay.specs.declared.words.Command.TheVariants.{Replay, Trial, Space}
-use Rattle.link_replay.specs.declared.words.Command.TheVariants.{Audit, Duplex, Help, Version}
+use Rattle.link_replay.specs.declared.words.Command.TheVariants.{Audit, Duplex, LiveSeal, LiveCheck}
+use Rattle.link_replay.specs.declared.words.Command.TheVariants.{Help, Version}
 
 -- the words that ask for a command, as the page of `help` names them
 abbrev pub named_words : Command → List ℕ
@@ -20,6 +21,8 @@ named_words (Space proto profile) = codes "space P"
 named_words (Replay proto profile dir) = codes "replay P DIR KEY"
 named_words (Audit proto profile dir sent got) = codes "audit P DIR KEY F G"
 named_words (Duplex proto profile dir) = codes "duplex P DIR KEY"
+named_words (LiveSeal proto profile dir) = codes "live seal P DIR KEY JOURNAL"
+named_words (LiveCheck proto profile dir) = codes "live check P DIR KEY JOURNAL"
 named_words (Trial proto profile seed count) = codes "trial P SEED COUNT"
 named_words Vectors = codes "vectors"
 named_words Help = codes "help"

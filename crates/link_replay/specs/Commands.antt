@@ -1,10 +1,11 @@
 -- What the program does for each command that its words may ask for, or if they ask for none.
-use Rattle.std.specs.Prelude.{◌≡◌, ◌⊎◌, Option, Some, None}
+use Rattle.std.specs.Prelude.{◌≡◌, ◌⊎◌, ◌≤◌, [], Option, Some, None}
 use Rattle.yasir_io.specs.declared.source.Source.{Ghosts as Source}
 use Rattle.yasir_io.specs.declared.sink.Sink.{Ghosts as Sink}
 use Rattle.yasir_io.specs.declared.disk.SlotDisk.{Ghosts as SlotDisk}
 use Rattle.yasir_io.specs.declared.disk.Slot.TheVariants.{A}
 use Rattle.yasir_io.specs.Disks.{LeavesOnly}
+use Rattle.yasir_io.specs.Flushed.{IsNotFlushed}
 use Rattle.sequence_journal.specs.Journal.{IsBut}
 use Rattle.command_ends.specs.Outside.{Outside}
 use Rattle.command_ends.specs.Causes.{InputCause, DiskCause, LogsFault, NoneRose}
@@ -15,7 +16,9 @@ use Rattle.link_replay.specs.ReadCommand.{Reads}
 use Rattle.link_replay.specs.VectorsCommand.{Tabulates}
 use Rattle.line_commands.specs.ReplaysBox.{IsReplayable, KeepsFloorThroughout}
 use Rattle.command_ends.specs.Links.{link_of}
+use Rattle.live_commands.specs.Able.{IsLivable}
 use Rattle.link_replay.specs.SealCommand.{Seals}
+use Rattle.link_replay.specs.LiveCommands.{SealsLive, ChecksLive, HasLiveCauses, FlushesFault}
 use Rattle.link_replay.specs.CheckCommand.{Checks}
 use Rattle.link_replay.specs.ReplayCommand.{Replays, IsListable}
 use Rattle.link_replay.specs.TrialCommand.{Tries}
@@ -23,12 +26,14 @@ use Rattle.link_replay.specs.SpaceCommand.{Spaces}
 use Rattle.link_replay.specs.AuditCommand.{Audits, EndsWithVerdict, audited}
 use Rattle.link_replay.specs.DuplexCommand.{Duplexes}
 use Rattle.link_replay.specs.AboutCommands.{Helps, TellsVersion}
+use Rattle.command_ends.specs.Statuses.{fault_line}
 use Rattle.command_ends.specs.declared.status.Status.{Status}
 use Rattle.command_ends.specs.declared.status.Status.TheVariants.{Usage, Done, NoMemory}
 use Rattle.link_replay.specs.declared.words.Command.{Command}
 use Rattle.link_replay.specs.declared.words.Command.TheVariants.{Init, Read, Vectors, Seal, Check}
 use Rattle.link_replay.specs.declared.words.Command.TheVariants.{Replay, Trial, Space}
-use Rattle.link_replay.specs.declared.words.Command.TheVariants.{Audit, Duplex, Help, Version}
+use Rattle.link_replay.specs.declared.words.Command.TheVariants.{Audit, Duplex, LiveSeal, LiveCheck}
+use Rattle.link_replay.specs.declared.words.Command.TheVariants.{Help, Version}
 
 -- What a crash may leave of the disk, at any moment of the run or at its end.
 abbrev pub KeepsDisk : {D : Type 0} → SlotDisk D → Option Command → D → D → Type 0
@@ -38,7 +43,25 @@ KeepsDisk d (Some (Seal proto profile dir)) old new =
     KeepsFloorThroughout d (link_of proto profile dir) old new
 KeepsDisk d (Some (Check proto profile dir)) old new =
     KeepsFloorThroughout d (link_of proto profile dir) old new
+KeepsDisk d (Some (LiveSeal proto profile dir)) old new =
+    KeepsFloorThroughout d (link_of proto profile dir) old new
+KeepsDisk d (Some (LiveCheck proto profile dir)) old new =
+    KeepsFloorThroughout d (link_of proto profile dir) old new
 KeepsDisk d asked old new = new ≡ old
+
+-- Holds if the log has got the fault line of a status, or a front of it, and nothing was done if the
+-- status has none.
+pub record EndsLog {L : Type 0} (l : Sink L) (noted now : L) (status : Status) : Type 0 where
+  pub logs : LogsFault (l.held noted) (l.held now) (l.faults noted) (l.faults now) status
+  pub never_falls : l.faults noted ≤ l.faults now
+  pub same : fault_line status ≡ [] → now ≡ noted
+
+-- What was done to the log between a command's end and the end of the run: the fault line was
+-- written to it, and for a live line's command it was flushed behind that line.
+abbrev pub FlushesLog : {L : Type 0} → Sink L → Option Command → L → L → Status → Type 0
+FlushesLog l (Some (LiveSeal proto profile dir)) noted now status = FlushesFault l noted now status
+FlushesLog l (Some (LiveCheck proto profile dir)) noted now status = FlushesFault l noted now status
+FlushesLog l asked noted now status = IsNotFlushed l noted now
 
 module _ {K S O L D : Type 0} (k : Source K) (s : Source S) (o : Sink O) (l : Sink L)
     (d : SlotDisk D) where
@@ -63,6 +86,10 @@ module _ {K S O L D : Type 0} (k : Source K) (s : Source S) (o : Sink O) (l : Si
       Audits k s o l (audited proto profile dir sent got) before after status
   Does (Some (Duplex proto profile dir)) before after status =
       Duplexes k s o l proto profile dir before after status
+  Does (Some (LiveSeal proto profile dir)) before after status =
+      SealsLive k s o l d proto profile dir before after status
+  Does (Some (LiveCheck proto profile dir)) before after status =
+      ChecksLive k s o l d proto profile dir before after status
   Does (Some Help) before after status = Helps o l before after status
   Does (Some Version) before after status = TellsVersion o l before after status
 
@@ -75,6 +102,7 @@ module _ {K S O L D : Type 0} (k : Source K) (s : Source S) (o : Sink O) (l : Si
     pub does : Does asked before (record after { log = noted }) status
     pub faults : LogsFault (l.held noted) (l.held after.log)
         (l.faults before.log) (l.faults after.log) status
+    pub flushed : FlushesLog l asked noted after.log status
 
   -- Holds if all that the command is given is right.
   abbrev pub MayDo : Option Command → Outside K S O L D → Type 0
@@ -95,6 +123,12 @@ module _ {K S O L D : Type 0} (k : Source K) (s : Source S) (o : Sink O) (l : Si
   MayDo (Some (Audit proto profile dir sent got)) before = IsListable 2 (k.left before.key)
       (s.left before.input)
   MayDo (Some (Duplex proto profile dir)) before = IsListable 1 (k.left before.key)
+      (s.left before.input)
+  MayDo (Some (LiveSeal proto profile dir)) before =
+      IsLivable (link_of proto profile dir) (k.left before.key) (d.told before.disk)
+      (s.left before.input)
+  MayDo (Some (LiveCheck proto profile dir)) before =
+      IsLivable (link_of proto profile dir) (k.left before.key) (d.told before.disk)
       (s.left before.input)
   MayDo (Some Help) before = Unit {0}
   MayDo (Some Version) before = Unit {0}
@@ -134,10 +168,18 @@ module _ {K S O L D : Type 0} (k : Source K) (s : Source S) (o : Sink O) (l : Si
       InputCause (s.faults before.input) (s.faults after.input) status
       × DiskCause (d.faults before.disk) (d.faults after.disk) status
 
-  -- For each status, which counts of faults rose, and which flushes were made. Both sinks are
-  -- flushed on the way to Done and to Unclean, once each, after all that was written, and nowhere
-  -- else.
-  pub record HasCauses (asked : Option Command) (before after : Outside K S O L D)
+  -- For each status of a command that isn't one of a live line, which counts of faults rose, and
+  -- which flushes were made. Both sinks are flushed on the way to Done and to Unclean, once each,
+  -- after all that was written, and nowhere else.
+  pub record HasRecordedCauses (asked : Option Command) (before after : Outside K S O L D)
       (status : Status) : Type 0 where
     pub streams : HasStreamCauses k s o l before after status
     pub own : HasOwnCauses asked before after status
+
+  -- For each status, which counts of faults rose, and, but for a live line, which flushes were made.
+  abbrev pub HasCauses : Option Command → Outside K S O L D → Outside K S O L D → Status → Type 0
+  HasCauses (Some (LiveSeal proto profile dir)) before after status =
+      HasLiveCauses k s o l d before after status
+  HasCauses (Some (LiveCheck proto profile dir)) before after status =
+      HasLiveCauses k s o l d before after status
+  HasCauses asked before after status = HasRecordedCauses asked before after status

@@ -8,6 +8,7 @@ pub mod Printing
 pub mod VectorsCommand
 pub mod SealCommand
 pub mod CheckCommand
+pub mod LiveCommands
 pub mod ReplayCommand
 pub mod TrialCommand
 pub mod AboutCommands

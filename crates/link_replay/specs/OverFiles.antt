@@ -8,6 +8,7 @@ use Rattle.yasir_io.specs.declared.files.FileSlots.{FileSlots}
 use Rattle.yasir_io.specs.declared.files.SlotFile.{SlotFile}
 use Rattle.yasir_io.specs.declared.files.SlotFile.TheVariants.{Standing, New}
 use Rattle.command_ends.specs.Outside.{Outside, outside}
+use Rattle.line_commands.specs.declared.streams.Streams.{Streams}
 use Rattle.command_ends.specs.Given.{IsKeyFile, IsJournalFile}
 use Rattle.command_ends.specs.Statuses.{exit_status_of}
 use Rattle.command_ends.specs.declared.status.Status.{Status}
@@ -28,19 +29,13 @@ abbrev pub journal_kind : Option Command → SlotFile
 journal_kind (Some (Init proto profile dir)) = New
 journal_kind asked = Standing
 
--- the input and the two sinks
-pub record Streams (S O L : Type 0) : Type 0 where
-  pub input : S
-  pub out : O
-  pub log : L
+-- the outside of a run: a key, streams and a disk
+abbrev pub outside_of : {K S O L D : Type 0} → K → Streams S O L → D → Outside K S O L D
+outside_of key streams disk = outside key streams.input streams.out streams.log disk
 
--- the streams with this input and these sinks
-abbrev pub streams : {S O L : Type 0} → S → O → L → Streams S O L
-streams input out log = record { input = input; out = out; log = log }
-
--- the outside of a run: these streams, and the files of the key and the journal
+-- the outside of a run over the files of the key and the journal
 abbrev pub with_files : {K S O L D : Type 0} → Streams S O L → K → D → Outside K S O L D
-with_files ends key disk = outside key ends.input ends.out ends.log disk
+with_files streams key disk = outside_of key streams disk
 
 module _ {R F D S O L : Type 0}
     (k : Source (FileSource R F D)) (s : Source S) (o : Sink O) (l : Sink L)

@@ -9,7 +9,8 @@ use Rattle.command_ends.specs.Words.{proto_word, link_word, dir_word}
 use Rattle.link_replay.specs.declared.words.Command.{Command}
 use Rattle.link_replay.specs.declared.words.Command.TheVariants.{Init, Read, Vectors, Seal, Check}
 use Rattle.link_replay.specs.declared.words.Command.TheVariants.{Replay, Trial, Space}
-use Rattle.link_replay.specs.declared.words.Command.TheVariants.{Audit, Duplex, Help, Version}
+use Rattle.link_replay.specs.declared.words.Command.TheVariants.{Audit, Duplex, LiveSeal, LiveCheck}
+use Rattle.link_replay.specs.declared.words.Command.TheVariants.{Help, Version}
 
 -- Holds if the words ask for a box: its name, a protocol and a profile, a direction, and the paths
 -- of its key and its journal, which aren't empty.
@@ -17,6 +18,13 @@ abbrev pub AskForBox : List ℕ → Proto → Profile → Dir → List (List ℕ
 AskForBox name proto profile dir words =
     (key : List ℕ) × (path : List ℕ) × (key ≢ []) × (path ≢ [])
     × (words ≡ name ∷ link_word proto profile ∷ dir_word dir ∷ key ∷ path ∷ [])
+
+-- Holds if the words ask for a box on a live line: `live`, its name, a protocol and a profile, a
+-- direction, and the paths of its key and its journal, which aren't empty.
+abbrev pub AskForLiveBox : List ℕ → Proto → Profile → Dir → List (List ℕ) → Type 0
+AskForLiveBox name proto profile dir words =
+    (key : List ℕ) × (path : List ℕ) × (key ≢ []) × (path ≢ [])
+    × (words ≡ codes "live" ∷ name ∷ link_word proto profile ∷ dir_word dir ∷ key ∷ path ∷ [])
 
 -- Holds if the words ask for the command.
 abbrev pub IsCommand : List (List ℕ) → Command → Type 0
@@ -40,6 +48,10 @@ IsCommand words Help = (words ≡ codes "help" ∷ []) ⊎ (words ≡ codes "--h
 IsCommand words Version = (words ≡ codes "version" ∷ []) ⊎ (words ≡ codes "--version" ∷ [])
 IsCommand words (Duplex proto profile dir) = (key : List ℕ) × (key ≢ [])
     × (words ≡ codes "duplex" ∷ link_word proto profile ∷ dir_word dir ∷ key ∷ [])
+IsCommand words (LiveSeal proto profile dir) =
+    AskForLiveBox (codes "seal") proto profile dir words
+IsCommand words (LiveCheck proto profile dir) =
+    AskForLiveBox (codes "check") proto profile dir words
 
 -- Holds if the words ask for a new journal, for whatever link.
 abbrev pub AskForJournal : List (List ℕ) → Type 0
@@ -50,6 +62,12 @@ AskForJournal words = (proto : Proto) × (profile : Profile) × (dir : Dir)
 abbrev pub Asks : List (List ℕ) → Option Command → Type 0
 Asks words None = (command : Command) → IsCommand words command → ⊥
 Asks words (Some command) = IsCommand words command
+
+-- Holds if a command isn't one of a live line.
+abbrev pub IsRecorded : Command → Type 0
+IsRecorded (LiveSeal proto profile dir) = ⊥
+IsRecorded (LiveCheck proto profile dir) = ⊥
+IsRecorded command = Unit {0}
 
 -- Holds if the floors of an audit that is asked for are 0 or numbers of frames.
 abbrev pub AreFloors : Option Command → Type 0
@@ -68,6 +86,8 @@ key_place (Trial proto profile seed count) = None
 key_place (Space proto profile) = None
 key_place (Audit proto profile dir sent got) = Some 3
 key_place (Duplex proto profile dir) = Some 3
+key_place (LiveSeal proto profile dir) = Some 4
+key_place (LiveCheck proto profile dir) = Some 4
 key_place Help = None
 key_place Version = None
 
@@ -84,6 +104,8 @@ journal_place (Trial proto profile seed count) = None
 journal_place (Space proto profile) = None
 journal_place (Audit proto profile dir sent got) = None
 journal_place (Duplex proto profile dir) = None
+journal_place (LiveSeal proto profile dir) = Some 5
+journal_place (LiveCheck proto profile dir) = Some 5
 journal_place Help = None
 journal_place Version = None
 

@@ -17,11 +17,13 @@ const VERSION_WORDS: [&str; 2] = ["version", "--version"];
 const VERSION: &[u8] = b"link_replay 0.7.0\n";
 
 /// The words of each command as docs/USAGE.md has them, each followed by a blank.
-const COMMANDS: [&str; 12] = [
+const COMMANDS: [&str; 14] = [
     "read P ",
     "init P DIR JOURNAL ",
     "seal P DIR KEY JOURNAL ",
     "check P DIR KEY JOURNAL ",
+    "live seal P DIR KEY JOURNAL ",
+    "live check P DIR KEY JOURNAL ",
     "space P ",
     "replay P DIR KEY ",
     "audit P DIR KEY F G ",
@@ -37,7 +39,7 @@ fn run_about(alloc: Global, words: &str, fail: u32) -> Result<Ran, Fail> {
     let ends = Ends {
         key: MemSource::new(KEY, 512, Plan::new()),
         input: MemSource::new(b"+00\n", 512, Plan::new()),
-        out: MemSink::with_room(alloc, 2000, 512, plan(fail))?,
+        out: MemSink::with_room(alloc, 2400, 512, plan(fail))?,
         log: MemSink::with_room(alloc, 200, 512, Plan::new())?,
     };
     let mut disk = SteadySlots::new([0; 24], [0; 24]);

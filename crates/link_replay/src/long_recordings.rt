@@ -2,6 +2,7 @@
 use crate::run;
 use crate::running::{KEY, Ran, has_status, plan, words_of};
 use command_ends::Status;
+use line_commands::Streams;
 use sequence_journal::{LinkId, slot_of};
 use std::alloc::Global;
 use std::process::Abort;
@@ -35,18 +36,13 @@ pub fn run_on<D: SlotDisk>(
 ) -> Result<Ran, Fail> {
     let words = words_of(alloc, words)?;
     let mut key = SteadySource::new(KEY);
-    let mut input = SteadySource::new(text);
-    let mut out = MemSink::with_room(alloc, 1_000_000, 512, plan(0))?;
-    let mut log = MemSink::with_room(alloc, 1_000_000, 512, plan(0))?;
-    let status = run(
-        alloc,
-        words.as_slice(),
-        &mut key,
-        &mut input,
-        &mut out,
-        &mut log,
-        disk,
-    );
+    let mut streams = Streams {
+        input: SteadySource::new(text),
+        out: MemSink::with_room(alloc, 1_000_000, 512, plan(0))?,
+        log: MemSink::with_room(alloc, 1_000_000, 512, plan(0))?,
+    };
+    let status = run(alloc, words.as_slice(), &mut key, &mut streams, disk);
+    let Streams { out, log, .. } = streams;
     Ok(Ran { status, out, log })
 }
 

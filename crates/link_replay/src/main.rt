@@ -1,4 +1,5 @@
-//! `link_replay`: a program that runs the boxes, and models of the devices, over recorded lines.
+//! `link_replay`: a program that runs the boxes, and models of the devices, over recorded lines,
+//! and the boxes over lines as they come.
 //! `docs/USAGE.md` describes its words, and `link_replay help` prints a page of them:
 //!
 //!     link_replay init rtu ab sent.journal
@@ -14,6 +15,8 @@ mod commands;
 mod duplex_tests;
 #[cfg(test)]
 mod failing;
+#[cfg(test)]
+mod live_tests;
 #[cfg(test)]
 mod long_recordings;
 mod over_files;
@@ -35,6 +38,7 @@ mod trial_tests;
 mod words;
 
 pub use command_ends::{NOT_GIVEN, Profile, Proto, Usage};
+use line_commands::Streams;
 pub use link_format::Dir;
 pub use over_files::run_over_files;
 pub use program::run;
@@ -43,11 +47,10 @@ pub use words::{Command, journal_word, key_word, makes_journal, read_words};
 use yasir_io::{StderrSink, StdinSource, StdoutSink};
 
 fn main(rt: HostRuntime) -> ExitCode {
-    ExitCode::from(run_over_files(
-        &rt,
-        std::env::args(&rt),
-        &mut StdinSource::new(rt.stdin()),
-        &mut StdoutSink::new(rt.stdout()),
-        &mut StderrSink::new(rt.stderr()),
-    ))
+    let mut streams = Streams {
+        input: StdinSource::new(rt.stdin()),
+        out: StdoutSink::new(rt.stdout()),
+        log: StderrSink::new(rt.stderr()),
+    };
+    ExitCode::from(run_over_files(&rt, std::env::args(&rt), &mut streams))
 }

@@ -5,11 +5,12 @@ ghost use Rattle.std.specs.String.{string_bytes};
 ghost use Rattle.command_ends.specs.Given.{words_after, IsKeyFile, IsJournalFile};
 ghost use Rattle.link_replay.specs.declared.words.Command.{Command};
 ghost use Rattle.link_replay.specs.Words.{Asks, word_in, key_place, journal_place};
-ghost use Rattle.link_replay.specs.OverFiles.{path_in, journal_kind, streams, RunsOverFiles};
+ghost use Rattle.link_replay.specs.OverFiles.{path_in, journal_kind, RunsOverFiles};
 ghost use Rattle.link_replay.specs.OverFiles.{EndsOverFiles};
 
 use crate::{journal_word, key_word, makes_journal, run};
 use command_ends::{NOT_GIVEN, Status, take_places, words_after_name};
+use line_commands::Streams;
 use std::alloc::AllocError;
 use std::env::Args;
 use std::io;
@@ -75,9 +76,7 @@ where
 fn run_words<'a, R: OpensFiles + AllocGlobal, S: Source, O: Sink, L: Sink>(
     system: &'a R,
     words: &[String],
-    input: &mut S,
-    out: &mut O,
-    log: &mut L,
+    streams: &mut Streams<S, O, L>,
 ) -> Result<Status, AllocError>
 where
     R::File: Lock + Durable,
@@ -85,13 +84,13 @@ where
         → Asks (map string_bytes words.now) asked
         → RunsOverFiles ⟦<FileSource<'a, R> as Source>⟧ S.Source O.Sink L.Sink
         ⟦<FileSlots<'a, R> as SlotDisk>⟧ (map string_bytes words.now) asked
-        (streams input.old out.old log.old) (streams input.new out.new log.new) status) }
+        streams.old streams.new status) }
     ensures no_memory { OnErr result
-        (streams input.new out.new log.new ≡ streams input.old out.old log.old) }
+        (streams.new ≡ streams.old) }
 {
     let mut key = key_file(system, words)?;
     let mut disk = journal_file(system, words)?;
-    Ok(run(system.alloc(), words, &mut key, input, out, log, &mut disk))
+    Ok(run(system.alloc(), words, &mut key, streams, &mut disk))
 }
 
 /// Runs the program with the words after the first argument, which is its name. The key and the
@@ -99,22 +98,20 @@ where
 pub fn run_over_files<'a, R: OpensFiles + AllocGlobal, S: Source, O: Sink, L: Sink>(
     system: &'a R,
     args: io::Result<Args>,
-    input: &mut S,
-    out: &mut O,
-    log: &mut L,
+    streams: &mut Streams<S, O, L>,
 ) -> u8
 where
     R::File: Lock + Durable,
     // If the runtime gives no words, nothing is done.
     ensures no_words { IsErr args → result ≡ 13 }
     ensures untouched { IsErr args
-        → streams input.new out.new log.new ≡ streams input.old out.old log.old }
+        → streams.new ≡ streams.old }
 
     // What was done, and the exit status, for each command that the words may ask for.
     ensures ends { IfOk args (λ given. (asked : Option Command) → Asks (words_after given) asked
         → EndsOverFiles ⟦<FileSource<'a, R> as Source>⟧ S.Source O.Sink L.Sink
         ⟦<FileSlots<'a, R> as SlotDisk>⟧ (words_after given) asked
-        (streams input.old out.old log.old) (streams input.new out.new log.new) result) }
+        streams.old streams.new result) }
 {
     // The files stay open as long as the run lasts.
     let Ok(_places) = take_places(system) else {
@@ -126,7 +123,7 @@ where
     let Ok(words) = words_after_name(system.alloc(), args) else {
         return NOT_GIVEN;
     };
-    match run_words(system, words.as_slice(), input, out, log) {
+    match run_words(system, words.as_slice(), streams) {
         Ok(status) => status.exit_status(),
         Err(AllocError) => Status::NoMemory.exit_status(),
     }

@@ -5,6 +5,7 @@ ghost use Rattle.std.specs.Io.{ReadsAtMost, WritesAtMost};
 
 use crate::run_over_files;
 use crate::running::{KEY, holds, plan, words_of};
+use line_commands::Streams;
 use std::alloc::{Allocator, Global};
 use std::cell::Cell;
 use std::env::Args;
@@ -459,12 +460,14 @@ fn run_into(
     alloc: Global,
     args: io::Result<Args>,
     disk: &Disk,
-    mut out: MemSink,
-    mut log: MemSink,
+    out: MemSink,
+    log: MemSink,
 ) -> Ended {
     let system = Folder(disk, alloc);
-    let mut input = MemSource::new(REQUEST, 512, Plan::new());
-    let exit_status = run_over_files(&system, args, &mut input, &mut out, &mut log);
+    let input = MemSource::new(REQUEST, 512, Plan::new());
+    let mut streams = Streams { input, out, log };
+    let exit_status = run_over_files(&system, args, &mut streams);
+    let Streams { out, log, .. } = streams;
     Ended {
         exit_status,
         out,

@@ -2,17 +2,19 @@
 ghost use Rattle.std.specs.Prelude.{◌≡◌, ◌↔◌, Option, Some, None, map};
 ghost use Rattle.std.specs.String.{string_bytes};
 ghost use Rattle.command_ends.specs.Ends.{outside_before, outside_after};
-ghost use Rattle.command_ends.specs.Outside.{outside};
+ghost use Rattle.link_replay.specs.OverFiles.{outside_of};
 ghost use Rattle.link_replay.specs.declared.words.Command.{Command};
-ghost use Rattle.link_replay.specs.Words.{Asks, AreFloors};
+ghost use Rattle.link_replay.specs.Words.{Asks, AreFloors, IsRecorded};
 ghost use Rattle.link_replay.specs.Commands.{Does, Runs, KeepsDisk, MayDo, IsCalm, EndsWell};
-ghost use Rattle.link_replay.specs.Commands.{HasCauses};
+ghost use Rattle.link_replay.specs.Commands.{HasCauses, FlushesLog, EndsLog};
+ghost use Rattle.link_replay.specs.LiveCommands.{FlushesFault};
 
 use crate::commands::about::{print_help, print_version};
 use crate::commands::audit::{Audited, audit};
 use crate::commands::check::check;
 use crate::commands::duplex::duplex;
 use crate::commands::init::make_journal;
+use crate::commands::live::{Linked, live_check, live_seal};
 use crate::commands::read::read_line;
 use crate::commands::replay::replay;
 use crate::commands::seal::seal;
@@ -20,17 +22,20 @@ use crate::commands::space::space;
 use crate::commands::tables::print_tables;
 use crate::commands::trial::try_link;
 use crate::{Command, read_words};
-use command_ends::{Ends, Status, write_fault};
+use command_ends::{Ends, Status, fault_line, write_fault};
+use line_commands::Streams;
 use std::alloc::Global;
-use yasir_io::{Sink, SlotDisk, Source};
+use yasir_io::{Failed, Sink, SlotDisk, Source, write_all};
 
-// Does what a command asks for. It doesn't write the fault line.
+// Does what a command over a recording asks for, or one that reads no line. It doesn't write the
+// fault line.
 fn perform<K: Source, S: Source, O: Sink, L: Sink, D: SlotDisk>(
     alloc: Global,
     command: Command,
     ends: Ends<K, S, O, L, D>,
 ) -> Status
-    requires { AreFloors (Some command) }
+    requires floors { AreFloors (Some command) }
+    requires recorded { IsRecorded command }
     ensures used { result ≡ Status.Usage → ⊥ }
     ensures does { Does K.Source S.Source O.Sink L.Sink D.SlotDisk (Some command)
         (outside_before ends.entry) (outside_after ends.exit) result }
@@ -61,6 +66,7 @@ fn perform<K: Source, S: Source, O: Sink, L: Sink, D: SlotDisk>(
             audit(alloc, asked, ends)
         }
         Command::Duplex(proto, profile, dir) => duplex(alloc, proto, profile, dir, ends),
+        Command::LiveSeal(..) | Command::LiveCheck(..) => unreachable!(),
         Command::Help => print_help(ends),
         Command::Version => print_version(ends),
     }
@@ -71,20 +77,48 @@ fn perform<K: Source, S: Source, O: Sink, L: Sink, D: SlotDisk>(
 fn answer<K: Source, S: Source, O: Sink, L: Sink, D: SlotDisk>(
     alloc: Global,
     asked: Option<Command>,
-    ends: Ends<K, S, O, L, D>,
+    key: &mut K,
+    streams: &mut Streams<S, O, L>,
+    disk: &mut D,
 ) -> Status
     requires { AreFloors asked }
     ensures usage { (result ≡ Status.Usage) ↔ (asked ≡ None) }
     ensures does { Does K.Source S.Source O.Sink L.Sink D.SlotDisk asked
-        (outside_before ends.entry) (outside_after ends.exit) result }
-    ensures any_moment { KeepsDisk D.SlotDisk asked ends.entry.disk.now
-        (outside_after ends.exit).disk }
+        (outside_of key.old streams.old disk.old) (outside_of key.new streams.new disk.new)
+        result }
+    ensures any_moment { KeepsDisk D.SlotDisk asked disk.old disk.new }
     ensures causes { HasCauses K.Source S.Source O.Sink L.Sink D.SlotDisk asked
-        (outside_before ends.entry) (outside_after ends.exit) result }
+        (outside_of key.old streams.old disk.old) (outside_of key.new streams.new disk.new)
+        result }
 {
     match asked {
-        Some(command) => perform(alloc, command, ends),
         None => Status::Usage,
+        Some(Command::LiveSeal(proto, profile, dir)) => {
+            let of = Linked {
+                proto,
+                profile,
+                dir,
+            };
+            live_seal(of, key, streams, disk)
+        }
+        Some(Command::LiveCheck(proto, profile, dir)) => {
+            let of = Linked {
+                proto,
+                profile,
+                dir,
+            };
+            live_check(of, key, streams, disk)
+        }
+        Some(command) => {
+            let ends = Ends {
+                key,
+                input: &mut streams.input,
+                out: &mut streams.out,
+                log: &mut streams.log,
+                disk,
+            };
+            perform(alloc, command, ends)
+        }
     }
 }
 
@@ -99,6 +133,34 @@ fn asked_by(words: &[String]) -> Option<Command>
     }
 }
 
+// Writes the fault line of a status, if it has one, to the log, and flushes the log behind it. If
+// the write fails, nothing more is done, and the status stays the same if a call fails.
+fn send_fault<L: Sink>(log: &mut L, status: &Status)
+    ensures ends { EndsLog L.Sink log.old log.new status.now }
+    ensures flushes { FlushesFault L.Sink log.old log.new status.now }
+{
+    let line = fault_line(status);
+    if line.is_empty() {
+        return;
+    }
+    match write_all(log, line.as_slice()) {
+        Ok(()) => {}
+        Err(Failed) => return,
+    }
+    let _ = log.flush();
+}
+
+// Writes the fault line of a status to the log, behind what the command has written.
+fn log_fault<L: Sink>(asked: Option<Command>, log: &mut L, status: &Status)
+    ensures ends { EndsLog L.Sink log.old log.new status.now }
+    ensures flushes { FlushesLog L.Sink asked log.old log.new status.now }
+{
+    match asked {
+        Some(Command::LiveSeal(..) | Command::LiveCheck(..)) => send_fault(log, status),
+        _ => write_fault(log, status),
+    }
+}
+
 /// Runs the program: it reads its words, which are those after the program's name, and does what
 /// they ask for. Only `space`, `audit`, `duplex` and `replay` take memory. The clause of `replay`
 /// in `runs` is the program's headline: the record `Headline` of `specs/ReplayCommand.antt`.
@@ -106,9 +168,7 @@ pub fn run<K: Source, S: Source, O: Sink, L: Sink, D: SlotDisk>(
     alloc: Global,
     words: &[String],
     key: &mut K,
-    input: &mut S,
-    out: &mut O,
-    log: &mut L,
+    streams: &mut Streams<S, O, L>,
     disk: &mut D,
 ) -> Status
     // The status is Usage exactly if the words ask for no command.
@@ -117,8 +177,8 @@ pub fn run<K: Source, S: Source, O: Sink, L: Sink, D: SlotDisk>(
     // What was read, written and kept, for each command, and then the fault line.
     ensures runs { (asked : Option Command) → Asks (map string_bytes words.now) asked
         → Runs K.Source S.Source O.Sink L.Sink D.SlotDisk asked
-        (outside key.old input.old out.old log.old disk.old)
-        (outside key.new input.new out.new log.new disk.new) result }
+        (outside_of key.old streams.old disk.old)
+        (outside_of key.new streams.new disk.new) result }
 
     // What a crash may leave of the disk, at any moment of the run or at its end.
     ensures any_moment { (asked : Option Command) → Asks (map string_bytes words.now) asked
@@ -129,28 +189,21 @@ pub fn run<K: Source, S: Source, O: Sink, L: Sink, D: SlotDisk>(
     // end for lack of memory instead.
     ensures done { (asked : Option Command) → Asks (map string_bytes words.now) asked
         → MayDo K.Source S.Source O.Sink L.Sink D.SlotDisk asked
-        (outside key.old input.old out.old log.old disk.old)
+        (outside_of key.old streams.old disk.old)
         → IsCalm K.Source S.Source O.Sink L.Sink D.SlotDisk
-        (outside key.old input.old out.old log.old disk.old)
-        (outside key.new input.new out.new log.new disk.new)
+        (outside_of key.old streams.old disk.old)
+        (outside_of key.new streams.new disk.new)
         → EndsWell K.Source S.Source O.Sink L.Sink D.SlotDisk asked
-        (outside key.old input.old out.old log.old disk.old) result }
+        (outside_of key.old streams.old disk.old) result }
 
     // The causes of the status: which counts of faults rose, and which flushes were made.
     ensures causes { (asked : Option Command) → Asks (map string_bytes words.now) asked
         → HasCauses K.Source S.Source O.Sink L.Sink D.SlotDisk asked
-        (outside key.old input.old out.old log.old disk.old)
-        (outside key.new input.new out.new log.new disk.new) result }
+        (outside_of key.old streams.old disk.old)
+        (outside_of key.new streams.new disk.new) result }
 {
     let asked = asked_by(words);
-    let ends = Ends {
-        key,
-        input,
-        out,
-        log,
-        disk,
-    };
-    let status = answer(alloc, asked, ends);
-    write_fault(log, &status);
+    let status = answer(alloc, asked, key, streams, disk);
+    log_fault(asked, &mut streams.log, &status);
     status
 }

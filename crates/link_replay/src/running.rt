@@ -3,6 +3,7 @@
 //! to a minute and a half longer.
 use crate::{Command, Usage, key_word, read_words, run};
 use command_ends::Status;
+use line_commands::Streams;
 use std::alloc::{AllocError, Global};
 use std::process::Abort;
 use std::test::Fail;
@@ -87,19 +88,13 @@ pub fn run_words<D: SlotDisk>(
     let words = words_of(alloc, words)?;
     let Ends {
         mut key,
-        mut input,
-        mut out,
-        mut log,
+        input,
+        out,
+        log,
     } = ends;
-    let status = run(
-        alloc,
-        words.as_slice(),
-        &mut key,
-        &mut input,
-        &mut out,
-        &mut log,
-        disk,
-    );
+    let mut streams = Streams { input, out, log };
+    let status = run(alloc, words.as_slice(), &mut key, &mut streams, disk);
+    let Streams { out, log, .. } = streams;
     Ok(Ran { status, out, log })
 }
 

@@ -42,6 +42,10 @@ pub enum Command {
     Audit(Proto, Profile, Dir, u64, u64),
     /// Seals a device's line in one direction, and checks a link in the other.
     Duplex(Proto, Profile, Dir),
+    /// Seals the frames of a device's live line on their way to the link.
+    LiveSeal(Proto, Profile, Dir),
+    /// Checks the packets of a live link, and sends on what passes.
+    LiveCheck(Proto, Profile, Dir),
     /// Prints the page that lists the program's words.
     Help,
     /// Prints the program's name and version.
@@ -238,9 +242,8 @@ fn read_five(
     }
 }
 
-// Reads a command of six words: `audit`, a link, the path of a key, which must not be empty, and
-// two floors.
-fn read_six(
+// Reads the words of `audit`: a link, the path of a key, which must not be empty, and two floors.
+fn read_audit(
     first: &str,
     second: &str,
     third: &str,
@@ -248,14 +251,12 @@ fn read_six(
     sent: &str,
     got: &str,
 ) -> Result<Command, Usage>
+    requires { first.now ≡ codes "audit" }
     ensures ok { IfOk result (λ command. IsCommand
         (first.now ∷ second.now ∷ third.now ∷ key.now ∷ sent.now ∷ got.now ∷ []) command) }
     ensures usage { OnErr result ((command : Command) → IsCommand
         (first.now ∷ second.now ∷ third.now ∷ key.now ∷ sent.now ∷ got.now ∷ []) command → ⊥) }
 {
-    if first != "audit" {
-        return Err(Usage);
-    }
     if key.is_empty() {
         return Err(Usage);
     }
@@ -264,6 +265,59 @@ fn read_six(
     let sent = read_floor(sent)?;
     let got = read_floor(got)?;
     Ok(Command::Audit(proto, profile, dir, sent, got))
+}
+
+// Reads the words of `live`: a box, a link, and the paths of a key and a journal, which must not be
+// empty.
+fn read_live(
+    first: &str,
+    second: &str,
+    third: &str,
+    fourth: &str,
+    key: &str,
+    path: &str,
+) -> Result<Command, Usage>
+    requires { first.now ≡ codes "live" }
+    ensures ok { IfOk result (λ command. IsCommand
+        (first.now ∷ second.now ∷ third.now ∷ fourth.now ∷ key.now ∷ path.now ∷ []) command) }
+    ensures usage { OnErr result ((command : Command) → IsCommand
+        (first.now ∷ second.now ∷ third.now ∷ fourth.now ∷ key.now ∷ path.now ∷ []) command → ⊥) }
+{
+    if key.is_empty() {
+        return Err(Usage);
+    }
+    if path.is_empty() {
+        return Err(Usage);
+    }
+    let (proto, profile) = read_link(third)?;
+    let dir = read_dir(fourth)?;
+    match second {
+        "seal" => Ok(Command::LiveSeal(proto, profile, dir)),
+        "check" => Ok(Command::LiveCheck(proto, profile, dir)),
+        _ => Err(Usage),
+    }
+}
+
+// Reads a command of six words.
+fn read_six(
+    first: &str,
+    second: &str,
+    third: &str,
+    fourth: &str,
+    fifth: &str,
+    sixth: &str,
+) -> Result<Command, Usage>
+    ensures ok { IfOk result (λ command. IsCommand
+        (first.now ∷ second.now ∷ third.now ∷ fourth.now ∷ fifth.now ∷ sixth.now ∷ []) command) }
+    ensures usage { OnErr result ((command : Command) → IsCommand
+        (first.now ∷ second.now ∷ third.now ∷ fourth.now ∷ fifth.now ∷ sixth.now ∷ []) command
+        → ⊥) }
+{
+    match first {
+        "audit" => read_audit(first, second, third, fourth, fifth, sixth),
+        "live" => read_live(first, second, third, fourth, fifth, sixth),
+        _ => Err(Usage),
+    }
 }
 
 /// Returns the command that the words after the program's name ask for. Each word is compared byte
@@ -289,13 +343,13 @@ pub fn read_words(words: &[String]) -> Result<Command, Usage>
             key.as_str(),
             path.as_str(),
         ),
-        [first, second, third, key, sent, got] => read_six(
+        [first, second, third, fourth, fifth, sixth] => read_six(
             first.as_str(),
             second.as_str(),
             third.as_str(),
-            key.as_str(),
-            sent.as_str(),
-            got.as_str(),
+            fourth.as_str(),
+            fifth.as_str(),
+            sixth.as_str(),
         ),
         _ => Err(Usage),
     }
@@ -314,6 +368,7 @@ pub fn key_word(words: &[String]) -> Option<usize>
         Ok(Command::Seal(..) | Command::Check(..) | Command::Replay(..)) => Some(3),
         Ok(Command::Audit(..)) => Some(3),
         Ok(Command::Duplex(..)) => Some(3),
+        Ok(Command::LiveSeal(..) | Command::LiveCheck(..)) => Some(4),
         Err(Usage) => None,
     }
 }
@@ -332,6 +387,7 @@ pub fn journal_word(words: &[String]) -> Option<usize>
         Ok(Command::Replay(..) | Command::Trial(..) | Command::Space(..)) => None,
         Ok(Command::Audit(..)) => None,
         Ok(Command::Duplex(..)) => None,
+        Ok(Command::LiveSeal(..) | Command::LiveCheck(..)) => Some(5),
         Err(Usage) => None,
     }
 }
@@ -347,6 +403,7 @@ pub fn makes_journal(words: &[String]) -> bool
         Ok(Command::Seal(..) | Command::Check(..) | Command::Replay(..)) => false,
         Ok(Command::Audit(..)) => false,
         Ok(Command::Duplex(..)) => false,
+        Ok(Command::LiveSeal(..) | Command::LiveCheck(..)) => false,
         Err(Usage) => false,
     }
 }

@@ -46,6 +46,19 @@ impl AheadJournal {
         }
     }
 
+    /// Uses the numbers up to this one, in memory alone.
+    pub fn follow(&mut self, n: u64)
+        requires not_below { ahead_number self.old ≤ n }
+        requires within { n ≤ LIMIT }
+        ensures number { ahead_number self.new ≡ n }
+        ensures ahead { ahead_by self.new ≡ ahead_by self.old }
+        ensures disk { ahead_disk self.new ≡ ahead_disk self.old }
+        ensures stands { (told : Option Slots) → StandsAhead self.old told
+            → StandsAhead self.new told }
+    {
+        self.number = n;
+    }
+
     /// Uses a number, in memory alone.
     pub fn use_number(&mut self, n: u64)
         requires rises { ahead_number self.old < n }

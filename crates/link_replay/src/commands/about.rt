@@ -13,21 +13,24 @@ use yasir_io::{Sink, SlotDisk, Source};
 pub const VERSION_LINE: [u8; 18] = *b"link_replay 0.7.0\n";
 
 /// The page that `help` prints.
-pub const HELP_PAGE: [u8; 1674] =
-    *b"link_replay runs the boxes that protect a serial line, over recorded lines.
+pub const HELP_PAGE: [u8; 1888] =
+    *b"link_replay runs the boxes that protect a serial line, over recorded lines and
+over lines as they come.
 
-  read P                   print the frames that a device reads
-  init P DIR JOURNAL       make a new journal
-  seal P DIR KEY JOURNAL   the transmitter: turn a device's line into the link
-  check P DIR KEY JOURNAL  the receiver: turn the link into a device's line
-  space P                  a spacer: send on what is read, frame by frame
-  replay P DIR KEY         list what was sealed, passed, read and forged
-  audit P DIR KEY F G      judge a session by three recordings of it
-  duplex P DIR KEY         one box for both directions
-  trial P SEED COUNT       attack a session that is made from a number
-  vectors                  check the known answers of the standards
-  help                     print this page (also --help, -h)
-  version                  print the version (also --version)
+  read P                        print the frames that a device reads
+  init P DIR JOURNAL            make a new journal
+  seal P DIR KEY JOURNAL        transmitter: turn a device's line into the link
+  check P DIR KEY JOURNAL       receiver: turn the link into a device's line
+  live seal P DIR KEY JOURNAL   the transmitter, on a line as it comes
+  live check P DIR KEY JOURNAL  the receiver, on a line as it comes
+  space P                       a spacer: send on what is read, frame by frame
+  replay P DIR KEY              list what was sealed, passed, read and forged
+  audit P DIR KEY F G           judge a session by three recordings of it
+  duplex P DIR KEY              one box for both directions
+  trial P SEED COUNT            attack a session that is made from a number
+  vectors                       check the known answers of the standards
+  help                          print this page (also --help, -h)
+  version                       print the version (also --version)
 
 P        rtu or dnp3; with longer tags rtu24 or dnp24, but not for read
 DIR      ab or ba
@@ -37,8 +40,8 @@ F, G     the last numbers of transmitter and receiver before the session
 SEED     0 to 4294967295
 COUNT    1 to 10000
 
-Recordings are read from standard input. Results go to standard output, notes
-and one fault line to standard error. The status is 0 only if all is done.
+Lines are read from standard input. Results go to standard output, notes and
+one fault line to standard error. The status is 0 only if all is done.
 
   link_replay read rtu < line.ticks
   link_replay init rtu ab sent.journal

@@ -5,6 +5,7 @@ pub mod audit;
 pub mod check;
 pub mod duplex;
 pub mod init;
+pub mod live;
 mod printing;
 pub mod read;
 pub mod replay;

@@ -1,8 +1,9 @@
 use Rattle.link_replay.proofs.Asking.{asks-one}
-use Rattle.link_replay.proofs.Outcomes.{calm_before, causes_after, asked_done}
+use Rattle.link_replay.proofs.Outcomes.{calm_before, causes_after, sinks_in, asked_done}
 use Rattle.link_replay.specs.Commands.{Runs, KeepsDisk, HasCauses, MayDo, EndsWell}
 use Rattle.{link_replay.specs.Words.Asks, command_ends.proofs.Logging.logs-from}
-use Rattle.{command_ends.specs.Outside.outside, std.proofs.Common.subst, std.proofs.Common.sym}
+use Rattle.{command_ends.specs.Outside.outside, link_replay.specs.OverFiles.outside_of}
+use Rattle.std.proofs.Common.{subst, sym}
 use Rattle.std.specs.{Prelude.map, String.string_bytes}
 use Rattle.link_replay.proofs.program.run.Goals as goal
 
@@ -16,51 +17,53 @@ returns-clause-usage g c = (
 pub returns-clause-runs : goal.returns-clause-runs
 returns-clause-runs g c = λ asked asks.
     let same = asks-one _ _ _ c.asked_by-asked.ensures.asks asks in
-    let before = outside c.args.key.now c.args.input.now c.args.out.now c.args.log.now
-    c.args.disk.now in
-    let ends = c.answer-status.new.ends in
-    let after = outside ends.0 ends.1.0 ends.1.1.0 c.write_fault.new.log ends.1.1.1.1.0 in
+    let before = outside_of c.args.key.now c.args.streams.now c.args.disk.now in
+    let ends = c.answer-status.new.streams in
+    let after = outside c.answer-status.new.key ends.input ends.out c.log_fault.new.log
+    c.answer-status.new.disk in
     subst (λ a. Runs g.K.Source g.S.Source g.O.Sink g.L.Sink g.D.SlotDisk a before after
     c.answer-status.result) same (record {
-      noted = ends.1.1.1.0;
+      noted = ends.log;
       does = c.answer-status.ensures.does;
       faults = logs-from _ _ _ _ _ _ _ c.answer-status.result
-          c.answer-status.ensures.causes.streams.sinks c.write_fault.ensures.logs;
+          (sinks_in g.K.Source g.S.Source g.O.Sink g.L.Sink g.D.SlotDisk c.asked_by-asked.result
+          before (outside_of c.answer-status.new.key ends c.answer-status.new.disk)
+          c.answer-status.result c.answer-status.ensures.causes) c.log_fault.ensures.ends.logs;
+      flushed = c.log_fault.ensures.flushes;
     })
 
 pub returns-clause-any_moment : goal.returns-clause-any_moment
 returns-clause-any_moment g c = λ asked asks.
-    subst (λ a. KeepsDisk g.D.SlotDisk a c.args.disk.now c.answer-status.new.ends.1.1.1.1.0)
+    subst (λ a. KeepsDisk g.D.SlotDisk a c.args.disk.now c.answer-status.new.disk)
     (asks-one _ _ _ c.asked_by-asked.ensures.asks asks) c.answer-status.ensures.any_moment
 
 pub returns-clause-causes : goal.returns-clause-causes
 returns-clause-causes g c = λ asked asks.
     let same = asks-one _ _ _ c.asked_by-asked.ensures.asks asks in
-    let before = outside c.args.key.now c.args.input.now c.args.out.now c.args.log.now
-    c.args.disk.now in
-    let ends = c.answer-status.new.ends in
-    let after = outside ends.0 ends.1.0 ends.1.1.0 c.write_fault.new.log ends.1.1.1.1.0 in
+    let before = outside_of c.args.key.now c.args.streams.now c.args.disk.now in
+    let ends = c.answer-status.new.streams in
+    let after = outside c.answer-status.new.key ends.input ends.out c.log_fault.new.log
+    c.answer-status.new.disk in
     subst (λ a. HasCauses g.K.Source g.S.Source g.O.Sink g.L.Sink g.D.SlotDisk a before after
     c.answer-status.result) same
     (causes_after g.K.Source g.S.Source g.O.Sink g.L.Sink g.D.SlotDisk c.asked_by-asked.result
-    before after ends.1.1.1.0 c.answer-status.result
-    c.answer-status.ensures.causes c.write_fault.ensures.never_falls c.write_fault.ensures.same
-    c.write_fault.ensures.flushes)
+    before after ends.log c.answer-status.result
+    c.answer-status.ensures.causes c.log_fault.ensures.ends c.log_fault.ensures.flushes)
 
 pub returns-clause-done : goal.returns-clause-done
 returns-clause-done g c = λ asked asks may calm.
     let same = asks-one _ _ _ c.asked_by-asked.ensures.asks asks in
-    let before = outside c.args.key.now c.args.input.now c.args.out.now c.args.log.now
-    c.args.disk.now in
-    let ends = c.answer-status.new.ends in
-    let after = outside ends.0 ends.1.0 ends.1.1.0 c.write_fault.new.log ends.1.1.1.1.0 in
+    let before = outside_of c.args.key.now c.args.streams.now c.args.disk.now in
+    let ends = c.answer-status.new.streams in
+    let after = outside c.answer-status.new.key ends.input ends.out c.log_fault.new.log
+    c.answer-status.new.disk in
     let right = subst (λ a. MayDo g.K.Source g.S.Source g.O.Sink g.L.Sink g.D.SlotDisk a before)
     (sym same) may in
-    let mid = outside ends.0 ends.1.0 ends.1.1.0 ends.1.1.1.0 ends.1.1.1.1.0 in
+    let mid = outside_of c.answer-status.new.key ends c.answer-status.new.disk in
     subst (λ a. EndsWell g.K.Source g.S.Source g.O.Sink g.L.Sink g.D.SlotDisk a before
     c.answer-status.result) same
     (asked_done g.K.Source g.S.Source g.O.Sink g.L.Sink g.D.SlotDisk c.asked_by-asked.result before
     mid c.answer-status.result right
     (calm_before g.K.Source g.S.Source g.O.Sink g.L.Sink g.D.SlotDisk before after
-    ends.1.1.1.0 c.write_fault.ensures.never_falls calm)
+    ends.log c.log_fault.ensures.ends.never_falls calm)
     c.answer-status.ensures.does c.answer-status.ensures.causes)

@@ -1,0 +1,13 @@
+pub mod Able
+pub mod Behind
+pub mod Clear
+pub mod Lowering
+pub mod LiveRuns
+pub mod SeenEnds
+pub mod EndCounts
+pub mod Finishing
+pub mod Heard
+pub mod Hearing
+pub mod RunTicks
+pub mod Taken
+pub mod TextEndsLaws

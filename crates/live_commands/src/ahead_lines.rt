@@ -1,0 +1,123 @@
+//! A box whose numbers go on in memory, with the texts that are made of its line, and its journal,
+//! whose disk holds a number ahead of them.
+ghost use Rattle.std.specs.Prelude.{◌≡◌, ◌+◌, ◌<◌, ◌≤◌, [], length, true, false, Option};
+ghost use Rattle.yasir_io.specs.Disks.{Slots};
+ghost use Rattle.yasir_ticks.specs.TickRun.{run_ticks};
+ghost use Rattle.yasir_ticks.specs.declared.TheConstants.{MAX_TICKS};
+ghost use Rattle.link_format.specs.Setup.{setup_of};
+ghost use Rattle.sequence_journal.specs.Journal.{journal_link, journal_floor, is_broken, Fits};
+ghost use Rattle.sequence_journal.specs.Ahead.{StandsAhead};
+ghost use Rattle.line_texts.specs.Adding.{HasRoom, Waits};
+ghost use Rattle.line_commands.specs.BoxLines as memory;
+ghost use Rattle.live_commands.specs.AheadLines.{box_in, waits_in, texts_at, number_in, settled_in};
+ghost use Rattle.live_commands.specs.AheadLines.{disk_in, floor_in, most_in, StandsAfter, MayDrive};
+ghost use Rattle.live_commands.specs.AheadLines.{MayHandOn, TakesSome, Empties, Settles, Lowers};
+ghost use Rattle.live_commands.specs.AheadLines.{IsAhead};
+
+use line_commands::{BoxLines, LineBox};
+use link_format::Dir;
+use sequence_journal::{AheadJournal, Journal, JournalFault, NoSlots};
+use yasir_io::SlotDisk;
+use yasir_ticks::TickRun;
+
+/// A box with its texts, whose numbers go on in memory, and its journal.
+#[derive(Drop)]
+pub struct AheadLines<B> {
+    lines: BoxLines<B>,
+    kept: AheadJournal,
+}
+
+impl<B: LineBox> AheadLines<B> {
+    /// Returns a box that has taken no tick, with no text yet. This journal, which serves the box's
+    /// link, is what the disk holds. A settle writes a number that is `ahead` above the last one
+    /// used.
+    pub fn new(key: &[u8], dir: Dir, journal: Journal, ahead: u64) -> AheadLines<B>
+        requires widths { B.widths_fit }
+        requires link { journal_link journal ≡ B.link_in dir }
+        requires whole { is_broken journal ≡ false }
+        ensures taken { B.taken (box_in result) ≡ 0 }
+        ensures disk { disk_in result ≡ journal }
+        ensures most { most_in result ≡ ahead }
+        ensures may { (told : Option Slots) → Fits journal told
+            → MayDrive B.LinkBox B.line_of result told }
+        ensures stands { StandsAfter B.LinkBox B.line_of result
+            (setup_of key.now dir (journal_floor journal)) [] }
+        ensures waits { Waits (waits_in result) [] [] }
+        ensures number { number_in result ≡ journal_floor journal }
+        ensures settled { settled_in result ≡ journal_floor journal }
+    {
+        let memory = journal.in_memory();
+        AheadLines {
+            lines: BoxLines::new(key, dir, memory),
+            kept: AheadJournal::new(journal, ahead),
+        }
+    }
+
+    /// Takes the first ticks of this run, in memory alone: as many of a few as the box takes at
+    /// once, or one tick if that is none. Returns how many.
+    pub fn take_some(&mut self, run: TickRun<'_>) -> usize
+        requires some { 0 < length (run_ticks run) }
+        requires count { B.taken (box_in self.old) + length (run_ticks run) ≤ MAX_TICKS }
+        requires ready { memory.IsReady B.LinkBox B.line_of self.old.lines }
+        requires room { HasRoom (texts_at self.old) }
+        ensures { TakesSome B.LinkBox B.line_of self.old self.new (run_ticks run.entry) result }
+    {
+        self.lines.take_some(run)
+    }
+
+    /// Brings the floor of the disk to the last number used, or to a number ahead of it, and then
+    /// adds the line that isn't filled to the text that waits. All that waits may go out then,
+    /// before the call of `empty` that must come next.
+    pub fn settle<D: SlotDisk>(&mut self, disk: &mut D) -> Result<(), JournalFault>
+        requires { MayHandOn B.LinkBox B.line_of self.old (D.told disk.old) }
+        ensures { Settles B.LinkBox B.line_of D.SlotDisk self.old self.new disk.old disk.new
+            result }
+    {
+        let number = self.lines.number();
+        self.kept.follow(number);
+        match self.kept.settle_ahead(disk) {
+            Ok(()) => {}
+            Err(JournalFault) => return Err(JournalFault),
+        }
+        self.lines.settle(&mut NoSlots)
+    }
+
+    /// Brings the floor of the disk down to the last number used, at the end of the input. Nothing
+    /// waits, and the disk is settled for all numbers used.
+    pub fn lower<D: SlotDisk>(&mut self, disk: &mut D) -> Result<(), JournalFault>
+        requires ahead { IsAhead self.old }
+        requires stands { StandsAhead self.old.kept (D.told disk.old) }
+        ensures { Lowers B.LinkBox B.line_of D.SlotDisk self.old self.new disk.old disk.new result }
+    {
+        self.kept.lower(disk)
+    }
+
+    /// Returns the notes that wait.
+    pub fn note_text(&self) -> &[u8]
+        ensures { result.now ≡ (waits_in self.now).notes }
+    {
+        self.lines.note_text()
+    }
+
+    /// Returns the lines of ticks that wait.
+    pub fn tick_text(&self) -> &[u8]
+        ensures { result.now ≡ (waits_in self.now).ticks }
+    {
+        self.lines.tick_text()
+    }
+
+    /// Discards the texts that wait, once they have been written.
+    pub fn empty(&mut self)
+        ensures { Empties B.LinkBox B.line_of self.old self.new }
+    {
+        self.lines.empty();
+    }
+
+    /// Whether there is room for what the next ticks complete.
+    pub fn has_room(&self) -> bool
+        ensures room { result ≡ true → HasRoom (texts_at self.now) }
+        ensures full { result ≡ false → HasRoom (texts_at self.now) → ⊥ }
+    {
+        self.lines.has_room()
+    }
+}
