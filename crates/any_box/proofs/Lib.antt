@@ -6,3 +6,4 @@ mod Taking
 mod Arms
 mod Written
 mod SpacerArms
+pub mod OfKinds

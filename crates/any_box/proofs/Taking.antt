@@ -1,10 +1,6 @@
 -- The front of a run.
+use Rattle.any_box.specs.declared.defined.DefinedBox.{Ghosts as DefinedBox}
 use Rattle.any_box.specs.{Boxes.TakesRun, declared.any_box.AnyBox.AnyBox}
-use Rattle.dnp_link_frame.specs.declared.dnp.Dnp.{Dnp}
-use Rattle.link_format.specs.declared.{macs.HmacSha1.HmacSha1, macs.HmacSha256.HmacSha256}
-use Rattle.link_format.specs.declared.tag.Mac.{Ghosts as Mac}
-use Rattle.line_rules.specs.declared.line_rules.LineRules.{Ghosts as LineRules}
-use Rattle.rtu_frame.specs.declared.rtu.Rtu.{Rtu}
 use Rattle.std.proofs.Common.{◌≡◌, ◌∙◌, ℕ, ◌+◌, ◌≤◌, List, length, take, sym, ap, subst, arith}
 use Rattle.std.proofs.lemmas.List.{length-take-le, length-take, take-take}
 use Rattle.yasir_ticks.specs.declared.tick.Tick.{Tick}
@@ -21,13 +17,12 @@ module _ (n m : ℕ) (xs ys : List Tick) (front : ys ≡ take m xs) (within : n 
       let less : n ≤ m = omega (arith, fewer, length-take m xs) in
       ap (take n) front ∙ take-take n m xs less
 
-  pub takes_front : (rtu : LineRules Rtu) (dnp : LineRules Dnp)
-      (short : Mac HmacSha1) (long : Mac HmacSha256)
+  pub takes_front : (boxes : DefinedBox AnyBox)
       (old new : AnyBox) (answer : List Tick)
-      → TakesRun rtu dnp short long old new (take n ys) answer
-      → TakesRun rtu dnp short long old new (take n xs) answer
-  takes_front rtu dnp short long old new answer takes =
-      subst (λ run. TakesRun rtu dnp short long old new run answer) same-front takes
+      → TakesRun boxes old new (take n ys) answer
+      → TakesRun boxes old new (take n xs) answer
+  takes_front boxes old new answer takes =
+      subst (λ run. TakesRun boxes old new run answer) same-front takes
 
 -- n ticks are taken, and so n are counted
 pub taken_counted : (a b n : ℕ) (xs : List Tick) → a ≡ b + length (take n xs) → n ≤ length xs

@@ -1,12 +1,11 @@
 -- What a caller writes: it makes the slots the box's again, and loses no floor.
+use Rattle.any_box.specs.declared.any_box.AnyBox.{AnyBox}
+use Rattle.any_box.specs.declared.defined.DefinedBox.{Ghosts as DefinedBox}
 use Rattle.any_box.{proofs.Places.fits_back, specs.Commits.OwesDisk, specs.Commits.IsOwed}
 use Rattle.any_box.specs.Held.{slots_held, link_held, floor_held, StepsHeld}
 use Rattle.any_box.specs.declared.held_box.{HeldBox.HeldBox, HeldStep.HeldStep}
-use Rattle.{any_box.specs.declared.owed.Commit.Commit, dnp_link_frame.specs.declared.dnp.Dnp.Dnp}
-use Rattle.link_format.specs.declared.{macs.HmacSha1.HmacSha1, macs.HmacSha256.HmacSha256}
-use Rattle.link_format.specs.declared.tag.Mac.{Ghosts as Mac}
-use Rattle.line_rules.specs.declared.line_rules.LineRules.{Ghosts as LineRules}
-use Rattle.{rtu_frame.specs.declared.rtu.Rtu.Rtu, sequence_journal.proofs.FloorLaws.floor_of_images}
+use Rattle.any_box.specs.declared.owed.Commit.{Commit}
+use Rattle.sequence_journal.proofs.FloorLaws.{floor_of_images}
 use Rattle.sequence_journal.specs.Journal.{kept_slot, AreSameBut, HasFloorAtLeast}
 use Rattle.sequence_journal.specs.Slots.{floor_of}
 use Rattle.std.proofs.Common.{◌≡◌, ◌∙◌, ℕ, List, refl, sym, ap, subst}
@@ -21,9 +20,8 @@ but-set : (slot : Slot) (slots : Slots) (bytes : List ℕ)
 but-set A slots bytes = refl
 but-set B slots bytes = refl
 
-module _ (rtu : LineRules Rtu) (dnp : LineRules Dnp) (short : Mac HmacSha1)
-    (long : Mac HmacSha256) (old new : HeldBox) (t : Tick) (step : HeldStep)
-    (commit : Commit) (steps : StepsHeld rtu dnp short long old new t step)
+module _ (boxes : DefinedBox AnyBox) (old new : HeldBox) (t : Tick) (step : HeldStep)
+    (commit : Commit) (steps : StepsHeld boxes old new t step)
     (is : step.commit ≡ Some commit) where
   owed : IsOwed old.journal new.journal old.disk new.disk commit
   owed = subst (λ c. OwesDisk old.journal new.journal old.disk new.disk c) is steps.owes

@@ -22,6 +22,7 @@ use Rattle.any_box.specs.declared.any_box.AnyBox.TheVariants.{RtuChecker24, DnpC
 use Rattle.any_box.specs.declared.any_note.AnyNote.{AnyNote}
 use Rattle.any_box.specs.declared.any_note.AnyNote.TheVariants.{OfSealer, OfChecker}
 use Rattle.any_box.specs.Noting.{Definition, defined_by, StepsOn, TakesOn}
+use Rattle.any_box.specs.declared.defined.DefinedBox.{Ghosts as DefinedBox}
 use Rattle.any_box.specs.declared.kind.Kind.{Kind}
 use Rattle.any_box.specs.declared.kind.Part.{Part}
 use Rattle.any_box.specs.declared.kind.Part.TheVariants.{Sealer, Checker}
@@ -92,6 +93,8 @@ module _ (rtu : LineRules Rtu) (dnp : LineRules Dnp) (short : Mac HmacSha1)
   StandsAt (RtuChecker24 value) = ChecksAt rtu long value
   StandsAt (DnpChecker24 value) = ChecksAt dnp long value
 
+-- What the boxes are by the definitions.
+module _ (boxes : DefinedBox AnyBox) where
   -- Holds if a box has taken this tick after whatever line it had taken, and is still the same one
   -- of the eight.
   pub record Steps (old : AnyBox) (before : ℕ) (new : AnyBox) (after : ℕ) (t tick : Tick)
@@ -99,7 +102,7 @@ module _ (rtu : LineRules Rtu) (dnp : LineRules Dnp) (short : Mac HmacSha1)
     pub kind_is : kind_of new ≡ kind_of old
     pub link_is : own_link new ≡ own_link old
     pub counted : ticks_in new ≡ ticks_in old + 1
-    pub steps : StepsOn (definition_of (kind_of new)) (StandsAt old) (StandsAt new) before after t
+    pub steps : StepsOn (boxes.defined (kind_of new)) (boxes.stands old) (boxes.stands new) before after t
         tick note
 
   -- Holds if a box has taken this run after whatever line it had taken, and is still the same one
@@ -108,4 +111,4 @@ module _ (rtu : LineRules Rtu) (dnp : LineRules Dnp) (short : Mac HmacSha1)
     pub kind_is : kind_of new ≡ kind_of old
     pub link_is : own_link new ≡ own_link old
     pub counted : ticks_in new ≡ ticks_in old + length run
-    pub takes : TakesOn (definition_of (kind_of new)) (StandsAt old) (StandsAt new) run answer
+    pub takes : TakesOn (boxes.defined (kind_of new)) (boxes.stands old) (boxes.stands new) run answer

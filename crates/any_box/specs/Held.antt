@@ -1,21 +1,18 @@
 -- A box with its journal in memory: how it begins, and what its calls do.
+use Rattle.any_box.specs.declared.any_box.AnyBox.{AnyBox}
+use Rattle.any_box.specs.declared.defined.DefinedBox.{Ghosts as DefinedBox}
 use Rattle.std.specs.Prelude.{◌≡◌, ℕ, ◌+◌, List, [], Some, length}
 use Rattle.yasir_ticks.specs.declared.tick.Tick.{Tick}
 use Rattle.yasir_io.specs.Disks.{Slots}
 use Rattle.yasir_io.specs.Steady.{steady_slots, blank_old}
-use Rattle.rtu_frame.specs.declared.rtu.Rtu.{Rtu}
-use Rattle.dnp_link_frame.specs.declared.dnp.Dnp.{Dnp}
-use Rattle.line_rules.specs.declared.line_rules.LineRules.{Ghosts as LineRules}
 use Rattle.link_format.specs.declared.dir.Dir.{Dir}
-use Rattle.link_format.specs.declared.tag.Mac.{Ghosts as Mac}
-use Rattle.link_format.specs.declared.macs.{HmacSha1.HmacSha1, HmacSha256.HmacSha256}
 use Rattle.link_format.specs.Setup.{Setup, setup_of}
 use Rattle.sequence_journal.specs.Journal.{journal_link, journal_floor}
 use Rattle.sequence_journal.specs.Slots.{floor_of}
 use Rattle.sequence_journal.specs.declared.link.LinkId.{LinkId}
 use Rattle.any_box.specs.Kinds.{link_for}
 use Rattle.any_box.specs.Commits.{OwesDisk}
-use Rattle.any_box.specs.Boxes.{kind_of, StandsAt, Steps, TakesRun}
+use Rattle.any_box.specs.Boxes.{kind_of, Steps, TakesRun}
 use Rattle.any_box.specs.declared.held_box.HeldBox.{HeldBox}
 use Rattle.any_box.specs.declared.held_box.HeldStep.{HeldStep}
 use Rattle.any_box.specs.declared.kind.Kind.{Kind}
@@ -40,12 +37,11 @@ ticks_held held = held.ticks
 abbrev pub link_held : HeldBox → LinkId
 link_held held = journal_link held.journal
 
--- The rules of the two protocols, and the MACs of the two profiles.
-module _ (rtu : LineRules Rtu) (dnp : LineRules Dnp) (short : Mac HmacSha1)
-    (long : Mac HmacSha256) where
+-- What the boxes are by the definitions.
+module _ (boxes : DefinedBox AnyBox) where
   -- Holds if a box with this setup has taken this line.
   abbrev pub Holds : HeldBox → Setup → List Tick → Type 0
-  Holds held setup line = StandsAt rtu dnp short long held.line_box (floor_held held) setup line
+  Holds held setup line = boxes.stands held.line_box (floor_held held) setup line
 
   -- Holds if this is how a box begins. It is this one of the eight, and has taken no tick. Its
   -- journal serves the link of the box and has the floor of the slots, which are as they were
@@ -62,7 +58,7 @@ module _ (rtu : LineRules Rtu) (dnp : LineRules Dnp) (short : Mac HmacSha1)
   -- and what its caller must write.
   pub record StepsHeld (old new : HeldBox) (t : Tick) (step : HeldStep) : Type 0 where
     pub counted : ticks_held new ≡ ticks_held old + 1
-    pub steps : Steps rtu dnp short long old.line_box (floor_held old) new.line_box
+    pub steps : Steps boxes old.line_box (floor_held old) new.line_box
         (floor_held new) t step.tick step.note
     pub link : link_held new ≡ link_held old
     pub owes : OwesDisk old.journal new.journal old.disk new.disk step.commit
@@ -71,6 +67,6 @@ module _ (rtu : LineRules Rtu) (dnp : LineRules Dnp) (short : Mac HmacSha1)
   -- with nothing to write.
   pub record TakesHeld (old new : HeldBox) (run answer : List Tick) : Type 0 where
     pub counted : ticks_held new ≡ ticks_held old + length run
-    pub takes : TakesRun rtu dnp short long old.line_box new.line_box run answer
+    pub takes : TakesRun boxes old.line_box new.line_box run answer
     pub journal : new.journal ≡ old.journal
     pub disk : new.disk ≡ old.disk

@@ -1,32 +1,30 @@
 -- A spacer that counts its ticks: how it begins, and what a step does.
+use Rattle.any_box.specs.declared.any_spacer.AnySpacer.{AnySpacer}
+use Rattle.any_box.specs.declared.defined.DefinedSpacer.{Ghosts as DefinedSpacer}
 use Rattle.std.specs.Prelude.{◌≡◌, ℕ, ◌+◌, [], Option, Some, None}
 use Rattle.yasir_ticks.specs.declared.TheConstants.{MAX_TICKS}
 use Rattle.yasir_ticks.specs.declared.tick.Tick.{Tick}
-use Rattle.device_model.specs.declared.device.Device.{Ghosts as Device}
-use Rattle.device_model.specs.declared.rtu.RtuDevice.{RtuDevice}
 use Rattle.line_spacer.specs.declared.spacer.SpaceStep.{SpaceStep}
-use Rattle.any_box.specs.Spacers.{kind_of, StandsAt, StepsOn}
+use Rattle.any_box.specs.Spacers.{kind_of, StepsOn}
 use Rattle.any_box.specs.declared.any_spacer.SpacerKind.{SpacerKind}
-use Rattle.dnp_link_frame.specs.declared.dnp.Dnp.{Dnp}
-use Rattle.any_box.specs.declared.forgetful.ForgetfulDevice.{ForgetfulDevice}
 use Rattle.any_box.specs.declared.held_spacer.HeldSpacer.{HeldSpacer}
 
 -- how many ticks it has taken
 abbrev pub spacer_ticks : HeldSpacer → ℕ
 spacer_ticks held = held.ticks
 
-module _ (rtu : Device RtuDevice) (dnp : Device (ForgetfulDevice Dnp)) where
+module _ (spacers : DefinedSpacer AnySpacer) where
   -- Holds for a spacer of this kind, with room for `room` frames to wait, that has taken no tick.
   pub record BeginsSpacer (kind : SpacerKind) (room : ℕ) (held : HeldSpacer) : Type 0 where
     pub none_taken : spacer_ticks held ≡ 0
     pub kind_is : kind_of held.spacer ≡ kind
-    pub stands : StandsAt rtu dnp room held.spacer []
+    pub stands : spacers.stands room held.spacer []
 
   -- Holds if a step takes tick `t` and returns the next tick of the spaced line, whatever line the
   -- spacer had taken.
   pub record StepsSpacer (old new : HeldSpacer) (t : Tick) (step : SpaceStep) : Type 0 where
     pub counted : spacer_ticks new ≡ spacer_ticks old + 1
-    pub steps : StepsOn rtu dnp old.spacer new.spacer t step
+    pub steps : StepsOn spacers old.spacer new.spacer t step
 
   -- Holds if a step takes the tick, or if the spacer had taken as many ticks as it can take and is
   -- as it was.

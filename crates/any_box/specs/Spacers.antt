@@ -11,6 +11,7 @@ use Rattle.line_spacer.specs.declared.spacer.SpaceStep.{SpaceStep}
 use Rattle.any_box.specs.declared.any_spacer.AnySpacer.{AnySpacer}
 use Rattle.any_box.specs.declared.any_spacer.AnySpacer.TheVariants as Which
 use Rattle.any_box.specs.declared.any_spacer.SpacerKind.{SpacerKind}
+use Rattle.any_box.specs.declared.defined.DefinedSpacer.{Ghosts as DefinedSpacer}
 use Rattle.any_box.specs.declared.any_spacer.SpacerKind.TheVariants.{Rtu, RtuWide, Dnp3, Dnp3Wide}
 use Rattle.dnp_link_frame.specs.declared.dnp.Dnp.{Dnp}
 use Rattle.any_box.specs.declared.forgetful.ForgetfulDevice.{ForgetfulDevice}
@@ -37,6 +38,7 @@ kind_of (Which.RtuWide spacer) = RtuWide
 kind_of (Which.Dnp3 spacer) = Dnp3
 kind_of (Which.Dnp3Wide spacer) = Dnp3Wide
 
+-- The devices as which a spacer hears a line.
 module _ (rtu : Device RtuDevice) (dnp : Device (ForgetfulDevice Dnp)) where
   -- how many ticks a spacer has taken
   abbrev pub ticks_in : AnySpacer → ℕ
@@ -52,11 +54,13 @@ module _ (rtu : Device RtuDevice) (dnp : Device (ForgetfulDevice Dnp)) where
   StandsAt room (Which.Dnp3 spacer) line = StandsFor dnp room spacer line
   StandsAt room (Which.Dnp3Wide spacer) line = StandsFor dnp room spacer line
 
+-- What the spacers are by the definitions.
+module _ (spacers : DefinedSpacer AnySpacer) where
   -- Holds if a step takes tick `t` after this line, and returns the next tick of the spaced line
   -- and the frame that is lost, if one is, which has the bytes `bytes`.
   pub record Adds (kind : SpacerKind) (room : ℕ) (new : AnySpacer) (line : List Tick) (t : Tick)
       (step : SpaceStep) : Type 0 where
-    pub stands : StandsAt room new (line ++ t ∷ [])
+    pub stands : spacers.stands room new (line ++ t ∷ [])
     pub bytes : List ℕ
     pub answers : AnswersSpaced (reads_of kind) (gap_of kind) room line (t ∷ []) (step.tick ∷ [])
         (length line) (frames_lent step.lost bytes)
@@ -65,5 +69,5 @@ module _ (rtu : Device RtuDevice) (dnp : Device (ForgetfulDevice Dnp)) where
   -- spacer's kind stays the same.
   pub record StepsOn (old new : AnySpacer) (t : Tick) (step : SpaceStep) : Type 0 where
     pub kind_is : kind_of new ≡ kind_of old
-    pub adds : (room : ℕ) (line : List Tick) → StandsAt room old line
+    pub adds : (room : ℕ) (line : List Tick) → spacers.stands room old line
         → Adds (kind_of old) room new line t step

@@ -10,6 +10,7 @@ ghost use Rattle.any_box.specs.Commits.{CommitsOneOrNone};
 
 use crate::any_note::AnyNote;
 use crate::committing::{CommittingBox, step_any, take_any};
+use crate::defined::DefinedBox;
 use crate::kind::{Kind, Part};
 use check_receiver::Checker;
 use command_ends::{Profile, Proto};
@@ -61,8 +62,18 @@ macro_rules! with_box {
     };
 }
 
+impl DefinedBox for AnyBox {
+    ghost use Rattle.any_box.specs.Boxes.{definition_of, StandsAt};
+
+    ghost defined = { definition_of ⟦<Rtu as LineRules>⟧ ⟦<Dnp as LineRules>⟧
+        ⟦<HmacSha1 as Mac>⟧ ⟦<HmacSha256 as Mac>⟧ };
+
+    ghost stands = { StandsAt ⟦<Rtu as LineRules>⟧ ⟦<Dnp as LineRules>⟧
+        ⟦<HmacSha1 as Mac>⟧ ⟦<HmacSha256 as Mac>⟧ };
+}
+
 impl AnyBox {
-    ghost use Rattle.any_box.specs.Boxes.{kind_of, ticks_in, own_link, StandsAt, Steps, TakesRun};
+    ghost use Rattle.any_box.specs.Boxes.{kind_of, ticks_in, own_link, Steps, TakesRun};
     ghost use Rattle.any_box.specs.Kinds.{link_for};
 
     /// Returns a box that has taken no tick, for a key of any length and a direction.
@@ -70,8 +81,7 @@ impl AnyBox {
         ensures kind { kind_of result ≡ kind }
         ensures link { own_link result ≡ link_for kind dir }
         ensures taken { ticks_in result ≡ 0 }
-        ensures stands { (floor : ℕ) → StandsAt ⟦<Rtu as LineRules>⟧ ⟦<Dnp as LineRules>⟧
-            ⟦<HmacSha1 as Mac>⟧ ⟦<HmacSha256 as Mac>⟧
+        ensures stands { (floor : ℕ) → ⟦<AnyBox as DefinedBox>⟧.stands
             result floor (setup_of key.now dir floor) [] }
     {
         match (kind.part, kind.proto, kind.profile) {
@@ -105,8 +115,7 @@ impl AnyBox {
         requires room { ticks_in self.old < MAX_TICKS }
         requires of_link { journal_link journal.old ≡ own_link self.old }
         requires fits { Fits journal.old (Some (steady_slots disk.old)) }
-        ensures steps { Steps ⟦<Rtu as LineRules>⟧ ⟦<Dnp as LineRules>⟧
-            ⟦<HmacSha1 as Mac>⟧ ⟦<HmacSha256 as Mac>⟧
+        ensures steps { Steps ⟦<AnyBox as DefinedBox>⟧
             self.old (journal_floor journal.old) self.new (journal_floor journal.new)
             t result.tick result.note }
         ensures link { journal_link journal.new ≡ journal_link journal.old }
@@ -124,8 +133,7 @@ impl AnyBox {
     pub(crate) fn take_alike(&mut self, run: TickRun<'_>, sent: &mut RunBytes) -> usize
         requires room { ticks_in self.old + length (run_ticks run) ≤ MAX_TICKS }
         ensures within { result ≤ length (run_ticks run.entry) }
-        ensures run { TakesRun ⟦<Rtu as LineRules>⟧ ⟦<Dnp as LineRules>⟧
-            ⟦<HmacSha1 as Mac>⟧ ⟦<HmacSha256 as Mac>⟧
+        ensures run { TakesRun ⟦<AnyBox as DefinedBox>⟧
             self.old self.new (take result (run_ticks run.entry)) (answered result sent.new.items) }
     {
         with_box!(self, line_box => take_any(line_box, run, sent))

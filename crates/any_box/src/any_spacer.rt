@@ -1,8 +1,10 @@
 //! One of the four spacers of a live line.
 ghost use Rattle.any_box.specs.Spacers.{kind_of, StandsAt, ticks_in, StepsOn};
 
-use crate::forgetful::ForgetfulDnp;
+use crate::defined::DefinedSpacer;
+use crate::forgetful::ForgetfulDevice;
 use device_model::{Device, RtuDevice};
+use dnp_link_frame::Dnp;
 use line_spacer::{SpaceStep, Spacer};
 use std::alloc::Global;
 use yasir_io::NoMemory;
@@ -31,9 +33,15 @@ pub enum AnySpacer {
     /// Of kind `SpacerKind::RtuWide`: it reads Modbus RTU, and leaves 27 silent ticks or more.
     RtuWide(Spacer<RtuDevice, 27>),
     /// Of kind `SpacerKind::Dnp3`: it reads DNP3, and leaves 21 silent ticks or more.
-    Dnp3(Spacer<ForgetfulDnp, 21>),
+    Dnp3(Spacer<ForgetfulDevice<Dnp>, 21>),
     /// Of kind `SpacerKind::Dnp3Wide`: it reads DNP3, and leaves 27 silent ticks or more.
-    Dnp3Wide(Spacer<ForgetfulDnp, 27>),
+    Dnp3Wide(Spacer<ForgetfulDevice<Dnp>, 27>),
+}
+
+impl DefinedSpacer for AnySpacer {
+    ghost taken = { ticks_in ⟦<RtuDevice as Device>⟧ ⟦<ForgetfulDevice<Dnp> as Device>⟧ };
+
+    ghost stands = { StandsAt ⟦<RtuDevice as Device>⟧ ⟦<ForgetfulDevice<Dnp> as Device>⟧ };
 }
 
 impl AnySpacer {
@@ -43,10 +51,9 @@ impl AnySpacer {
     /// here, and none later.
     pub fn new(alloc: Global, kind: SpacerKind, room: usize) -> Result<AnySpacer, NoMemory>
         ensures taken { IfOk result (λ spacer.
-            ticks_in ⟦<RtuDevice as Device>⟧ ⟦<ForgetfulDnp as Device>⟧ spacer ≡ 0) }
+            ⟦<AnySpacer as DefinedSpacer>⟧.taken spacer ≡ 0) }
         ensures kind { IfOk result (λ spacer. kind_of spacer ≡ kind) }
-        ensures stands { IfOk result (λ spacer. StandsAt ⟦<RtuDevice as Device>⟧
-            ⟦<ForgetfulDnp as Device>⟧ room spacer []) }
+        ensures stands { IfOk result (λ spacer. ⟦<AnySpacer as DefinedSpacer>⟧.stands room spacer []) }
     {
         Ok(match kind {
             SpacerKind::Rtu => AnySpacer::Rtu(Spacer::new(alloc, room)?),
@@ -60,11 +67,11 @@ impl AnySpacer {
     /// If a frame is lost in this step, since too many wait, it also returns the tick of the
     /// frame's first byte. Fewer than `MAX_TICKS` ticks were taken before.
     pub fn step(&mut self, t: Tick) -> SpaceStep
-        requires { ticks_in ⟦<RtuDevice as Device>⟧ ⟦<ForgetfulDnp as Device>⟧ self.old
+        requires { ⟦<AnySpacer as DefinedSpacer>⟧.taken self.old
             < MAX_TICKS }
-        ensures taken { ticks_in ⟦<RtuDevice as Device>⟧ ⟦<ForgetfulDnp as Device>⟧ self.new
-            ≡ ticks_in ⟦<RtuDevice as Device>⟧ ⟦<ForgetfulDnp as Device>⟧ self.old + 1 }
-        ensures steps { StepsOn ⟦<RtuDevice as Device>⟧ ⟦<ForgetfulDnp as Device>⟧ self.old
+        ensures taken { ⟦<AnySpacer as DefinedSpacer>⟧.taken self.new
+            ≡ ⟦<AnySpacer as DefinedSpacer>⟧.taken self.old + 1 }
+        ensures steps { StepsOn ⟦<AnySpacer as DefinedSpacer>⟧ self.old
             self.new t result }
     {
         match self {

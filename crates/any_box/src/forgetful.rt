@@ -1,6 +1,5 @@
 //! The device as which a spacer of a live line hears a protocol whose devices hunt for frames.
 use device_model::{Device, Hunted, HuntingFamily};
-use dnp_link_frame::Dnp;
 use yasir_ticks::Tick;
 
 /// A device that hunts for frames, and forgets what it has taken at 18 silent ticks in a row. The
@@ -8,10 +7,6 @@ use yasir_ticks::Tick;
 /// 292 of the bytes that follow.
 #[derive(Drop)]
 pub struct ForgetfulDevice<R>(HuntingFamily<R>);
-
-/// A DNP3 device that hunts for frames, and after 18 silent ticks in a row forgets a frame that was
-/// cut off.
-pub type ForgetfulDnp = ForgetfulDevice<Dnp>;
 
 impl<R: Hunted> Device for ForgetfulDevice<R> {
     ghost use Rattle.device_model.specs.HuntFamily.{hunt_family, FamilyStandsFor, family_ticks};

@@ -10,13 +10,11 @@ ghost use Rattle.any_box.specs.Places.{slot_number};
 
 use crate::any_box::AnyBox;
 use crate::any_note::AnyNote;
+use crate::defined::DefinedBox;
 use crate::kind::Kind;
 use crate::owed::Commit;
-use dnp_link_frame::Dnp;
 use frame_ending::RunBytes;
-use line_rules::LineRules;
-use link_format::{Dir, HmacSha1, HmacSha256, Mac};
-use rtu_frame::Rtu;
+use link_format::Dir;
 use sequence_journal::{Journal, LoadError};
 use yasir_io::{Slot, SlotBytes, SteadySlots};
 use yasir_ticks::{MAX_TICKS, Tick, TickRun};
@@ -74,8 +72,7 @@ impl HeldBox {
         a: SlotBytes,
         b: SlotBytes,
     ) -> Result<HeldBox, LoadError>
-        ensures begins { IfOk result (Begins ⟦<Rtu as LineRules>⟧ ⟦<Dnp as LineRules>⟧
-            ⟦<HmacSha1 as Mac>⟧ ⟦<HmacSha256 as Mac>⟧ kind dir key.now a b) }
+        ensures begins { IfOk result (Begins ⟦<AnyBox as DefinedBox>⟧ kind dir key.now a b) }
         ensures refused { IfErr result (RefusesLoad (link_for kind dir)
             (Some (slots_given a b)) (Some (slots_given a b)) 0 0) }
     {
@@ -99,8 +96,7 @@ impl HeldBox {
     /// It fails if the box has taken `MAX_TICKS` ticks, and then changes nothing.
     #[tactic(auto, using(crate::proofs::Places::fits_back, crate::proofs::Places::fits_kept, crate::proofs::Places::own_back, crate::proofs::Places::label_kept, crate::proofs::Places::dir_kept, crate::proofs::Places::profile_kept))]
     pub fn step(&mut self, t: Tick) -> Result<HeldStep, Full>
-        ensures steps { IfOk result (StepsHeld ⟦<Rtu as LineRules>⟧ ⟦<Dnp as LineRules>⟧
-            ⟦<HmacSha1 as Mac>⟧ ⟦<HmacSha256 as Mac>⟧ self.old self.new t) }
+        ensures steps { IfOk result (StepsHeld ⟦<AnyBox as DefinedBox>⟧ self.old self.new t) }
         ensures full { OnErr result ((ticks_held self.old ≡ MAX_TICKS) × (self.new ≡ self.old)) }
     {
         if self.ticks >= MAX_TICKS {
@@ -125,8 +121,7 @@ impl HeldBox {
     #[tactic(auto, using(crate::proofs::Places::label_kept, crate::proofs::Places::dir_kept, crate::proofs::Places::profile_kept, crate::proofs::Taking::within_whole, crate::proofs::Taking::takes_front, crate::proofs::Taking::taken_counted, crate::proofs::Taking::counted_taken))]
     pub fn take_alike(&mut self, run: TickRun<'_>, sent: &mut RunBytes) -> usize
         ensures within { result ≤ length (run_ticks run.entry) }
-        ensures takes { TakesHeld ⟦<Rtu as LineRules>⟧ ⟦<Dnp as LineRules>⟧
-            ⟦<HmacSha1 as Mac>⟧ ⟦<HmacSha256 as Mac>⟧ self.old self.new
+        ensures takes { TakesHeld ⟦<AnyBox as DefinedBox>⟧ self.old self.new
             (take result (run_ticks run.entry)) (answered result sent.new.items) }
     {
         let room = MAX_TICKS - self.ticks;

@@ -1,11 +1,9 @@
 //! A spacer that counts its ticks, for a caller that can't.
 ghost use Rattle.std.specs.Prelude.{◌≡◌, ◌≤◌};
 ghost use Rattle.yasir_ticks.specs.declared.TheConstants.{MAX_TICKS};
-ghost use Rattle.any_box.specs.Spacers.{ticks_in};
 
 use crate::any_spacer::{AnySpacer, SpacerKind};
-use crate::forgetful::ForgetfulDnp;
-use device_model::{Device, RtuDevice};
+use crate::defined::DefinedSpacer;
 use line_spacer::SpaceStep;
 use std::alloc::Global;
 use yasir_io::NoMemory;
@@ -16,7 +14,7 @@ use yasir_ticks::{MAX_TICKS, Tick};
 pub struct HeldSpacer {
     spacer: AnySpacer,
     ticks: u64,
-    ghost counted: { ticks_in ⟦<RtuDevice as Device>⟧ ⟦<ForgetfulDnp as Device>⟧ spacer ≡ ticks },
+    ghost counted: { ⟦<AnySpacer as DefinedSpacer>⟧.taken spacer ≡ ticks },
     ghost within: { ticks ≤ MAX_TICKS },
 }
 
@@ -27,7 +25,7 @@ impl HeldSpacer {
     /// A spacer that has taken no tick, with room for `room` frames to wait. It takes its memory
     /// here, and none later.
     pub fn new(alloc: Global, kind: SpacerKind, room: usize) -> Result<HeldSpacer, NoMemory>
-        ensures { IfOk result (BeginsSpacer ⟦<RtuDevice as Device>⟧ ⟦<ForgetfulDnp as Device>⟧
+        ensures { IfOk result (BeginsSpacer ⟦<AnySpacer as DefinedSpacer>⟧
             kind room) }
     {
         let spacer = AnySpacer::new(alloc, kind, room)?;
@@ -39,7 +37,7 @@ impl HeldSpacer {
     ///
     /// Returns `None` if the spacer has taken `MAX_TICKS` ticks. It is then as it was.
     pub fn step(&mut self, t: Tick) -> Option<SpaceStep>
-        ensures { StepsOrFull ⟦<RtuDevice as Device>⟧ ⟦<ForgetfulDnp as Device>⟧ self.old self.new t
+        ensures { StepsOrFull ⟦<AnySpacer as DefinedSpacer>⟧ self.old self.new t
             result }
     {
         if self.ticks >= MAX_TICKS {

@@ -9,10 +9,8 @@ ghost use Rattle.any_box.specs.declared.held_box.HeldBox.{HeldBox};
 ghost use Rattle.any_box.specs.declared.held_box.HeldStep.{HeldStep};
 ghost use Rattle.any_box.specs.declared.owed.Commit.{Commit};
 
-use dnp_link_frame::Dnp;
-use line_rules::LineRules;
-use link_format::{HmacSha1, HmacSha256, Mac};
-use rtu_frame::Rtu;
+use crate::any_box::AnyBox;
+use crate::defined::DefinedBox;
 
 /// A caller has the slots of a box on its disk, and writes what a step says. *written*: after that
 /// they are again the slots of the box, and their floor is the last number that it used. *torn*:
@@ -20,15 +18,13 @@ use rtu_frame::Rtu;
 /// before the step.
 pub fn writes_keep_the_floor()
     ensures written { (old new : HeldBox) (t : Tick) (step : HeldStep) (commit : Commit)
-        → StepsHeld ⟦<Rtu as LineRules>⟧ ⟦<Dnp as LineRules>⟧
-        ⟦<HmacSha1 as Mac>⟧ ⟦<HmacSha256 as Mac>⟧ old new t step
+        → StepsHeld ⟦<AnyBox as DefinedBox>⟧ old new t step
         → step.commit ≡ Some commit
         → (with_slot (slots_held old) commit.slot commit.bytes ≡ slots_held new)
         × (floor_of (link_held old) (slots_held new) ≡ Some (floor_held new)) }
     ensures torn { (old new : HeldBox) (t : Tick) (step : HeldStep) (commit : Commit)
         (bytes : List ℕ)
-        → StepsHeld ⟦<Rtu as LineRules>⟧ ⟦<Dnp as LineRules>⟧
-        ⟦<HmacSha1 as Mac>⟧ ⟦<HmacSha256 as Mac>⟧ old new t step
+        → StepsHeld ⟦<AnyBox as DefinedBox>⟧ old new t step
         → step.commit ≡ Some commit
         → HasFloorAtLeast (link_held old) (floor_held old)
         (with_slot (slots_held old) commit.slot bytes) }

@@ -1,14 +1,11 @@
 -- Calls that take no tick, and return no answer.
+use Rattle.any_box.specs.declared.any_spacer.AnySpacer.{AnySpacer}
+use Rattle.any_box.specs.declared.defined.DefinedSpacer.{Ghosts as DefinedSpacer}
+use Rattle.any_box.specs.declared.any_box.AnyBox.{AnyBox}
+use Rattle.any_box.specs.declared.defined.DefinedBox.{Ghosts as DefinedBox}
 use Rattle.any_box.specs.HeldSpacers.{StepsOrFull}
-use Rattle.any_box.specs.declared.forgetful.ForgetfulDevice.{ForgetfulDevice}
 use Rattle.any_box.specs.declared.held_spacer.HeldSpacer.{HeldSpacer}
-use Rattle.device_model.specs.declared.{device.Device.Ghosts as Device, rtu.RtuDevice.RtuDevice}
-use Rattle.dnp_link_frame.specs.declared.dnp.Dnp.{Dnp}
-use Rattle.link_format.specs.declared.{macs.HmacSha1.HmacSha1, macs.HmacSha256.HmacSha256}
-use Rattle.link_format.specs.declared.tag.Mac.{Ghosts as Mac}
-use Rattle.line_rules.specs.declared.line_rules.LineRules.{Ghosts as LineRules}
 use Rattle.{line_spacer.specs.declared.spacer.SpaceStep.SpaceStep, std.proofs.Common.◌≡◌}
-use Rattle.rtu_frame.specs.declared.rtu.Rtu.{Rtu}
 use Rattle.std.proofs.Common.{◌∙◌, ℕ, List, IfOk, IfErr, refl, sym, ap}
 use Rattle.std.specs.Prelude.{Option, Some, None, ok_or}
 use Rattle.yasir_c.specs.Edge.{StepsBy, CommittedBy}
@@ -33,12 +30,11 @@ hands-nothing old new ok answer Is.Waiting why = (refl, why)
 hands-nothing old new ok answer Is.Stopped why = (refl, why)
 hands-nothing old new ok answer Is.Empty why = (refl, why)
 
-module _ (rtu : LineRules Rtu) (dnp : LineRules Dnp) (short : Mac HmacSha1)
-    (long : Mac HmacSha256) where
+module _ (boxes : DefinedBox AnyBox) where
   -- a box takes no tick
   pub takes-none : (old new : Option Held) (number : ℕ) (answer : Answer) (slot : List ℕ)
       (status : Status) → new ≡ old → TakesNoTick old status
-      → StepsBy rtu dnp short long old new number answer answer slot slot status
+      → StepsBy boxes old new number answer answer slot slot status
   takes-none old new number answer slot Is.Done is why = absurd why
   takes-none old new number answer slot Is.BadArgument is why = absurd why
   takes-none old new number answer slot Is.NoJournal is why = absurd why
@@ -54,11 +50,11 @@ module _ (rtu : LineRules Rtu) (dnp : LineRules Dnp) (short : Mac HmacSha1)
   takes-none old new number answer slot Is.Empty is why =
       (record { box_is = is; answer_is = refl; slot_is = refl }, why)
 
-module _ (rtu : Device RtuDevice) (dnp : Device (ForgetfulDevice Dnp)) where
+module _ (spacers : DefinedSpacer AnySpacer) where
   -- a spacer takes no tick
   pub spaces-none : (old new : Option Held) (number : ℕ) (answer : Spaced) (status : Status)
       → new ≡ old → SpacesNoTick old status
-      → SpacesBy rtu dnp old new number answer answer status
+      → SpacesBy spacers old new number answer answer status
   spaces-none old new number answer Is.Done is why = absurd why
   spaces-none old new number answer Is.BadArgument is why = absurd why
   spaces-none old new number answer Is.NoJournal is why = absurd why
@@ -72,8 +68,8 @@ module _ (rtu : Device RtuDevice) (dnp : Device (ForgetfulDevice Dnp)) where
 
   -- a step of the spacer that is held
   pub spaces : (old : Held) (before after : HeldSpacer) (t : Tick) (result : Option SpaceStep)
-      → old ≡ Spacer before → StepsOrFull rtu dnp before after t result
-      → IfOk (ok_or result Is.Full) (SpacesTick rtu dnp (Some old) (Some (Spacer after)) t)
+      → old ≡ Spacer before → StepsOrFull spacers before after t result
+      → IfOk (ok_or result Is.Full) (SpacesTick spacers (Some old) (Some (Spacer after)) t)
   spaces old before after t (Some step) is steps = record {
     before = before;
     after = after;
@@ -85,7 +81,7 @@ module _ (rtu : Device RtuDevice) (dnp : Device (ForgetfulDevice Dnp)) where
 
   pub spaces-full : (old : Held) (before after : HeldSpacer) (t : Tick)
       (result : Option SpaceStep) → old ≡ Spacer before
-      → StepsOrFull rtu dnp before after t result
+      → StepsOrFull spacers before after t result
       → IfErr (ok_or result Is.Full)
       (λ why. (Spacer after ≡ old) × SpacesNoTick (Some old) why)
   spaces-full old before after t (Some step) is steps = tt

@@ -1,34 +1,24 @@
 -- All that C reads of a box is what the definition of the box says.
+use Rattle.any_box.specs.declared.any_box.AnyBox.{AnyBox}
+use Rattle.any_box.specs.declared.defined.DefinedBox.{Ghosts as DefinedBox}
 use Rattle.std.proofs.Common.{◌≡◌, ◌∙◌, ℕ, ◌+◌, List, [], ◌∷◌, ◌++◌, suc, length, map, take}
 use Rattle.std.proofs.Common.{refl, sym, ap, subst, arith, append_assoc}
 use Rattle.std.proofs.lemmas.List.{append-nil, map-append, length-map}
 use Rattle.{std.specs.Prelude.Option}
 use Rattle.std.specs.Prelude.{Some, None, nat_eq, if◌then◌else◌}
-use Rattle.any_box.specs.Boxes.{kind_of, definition_of, definition_by, StandsAt}
+use Rattle.any_box.specs.Boxes.{kind_of}
 use Rattle.any_box.specs.Noting.{Definition}
 use Rattle.any_box.specs.Held.{floor_held, Begins, Holds, StepsHeld}
 use Rattle.any_box.specs.declared.any_note.AnyNote.{AnyNote}
 use Rattle.any_box.specs.declared.any_note.AnyNote.TheVariants.{OfSealer, OfChecker}
 use Rattle.any_box.specs.declared.{held_box.HeldBox.HeldBox, held_box.HeldStep.HeldStep}
 use Rattle.any_box.specs.declared.{kind.Kind.Kind, owed.Commit.Commit}
-use Rattle.any_box.specs.declared.kind.Part.{Part, TheVariants.Sealer, TheVariants.Checker}
-use Rattle.frame_ending.{proofs.Longer.length-line_of, specs.Answered.answered}
+use Rattle.frame_ending.specs.Answered.{answered}
 use Rattle.frame_ending.specs.{Answers.told_notes, Answers.note_in, Walk.Noted}
-use Rattle.dnp_link_frame.specs.declared.dnp.Dnp.{Dnp}
-use Rattle.link_format.specs.declared.{macs.HmacSha1.HmacSha1, macs.HmacSha256.HmacSha256}
-use Rattle.link_format.specs.declared.tag.Mac.{Ghosts as Mac}
-use Rattle.line_rules.specs.declared.line_rules.LineRules.{Ghosts as LineRules}
 use Rattle.link_format.specs.declared.dir.Dir.{Dir}
-use Rattle.check_receiver.specs.Boxed.{check_walking}
-use Rattle.link_box.specs.Walking.{Walking, other_line}
 use Rattle.link_format.specs.Setup.{Setup, setup_of}
-use Rattle.seal_transmitter.specs.Boxed.{seal_walking}
 use Rattle.sequence_journal.specs.Journal.{journal_floor}
 use Rattle.link_box.specs.declared.check_note.CheckNote.TheVariants.{Passed, Refused, Dropped}
-use Rattle.command_ends.specs.declared.words.Profile.{Profile, TheVariants.Y18, TheVariants.Y24}
-use Rattle.command_ends.specs.declared.words.Proto.{Proto}
-use Rattle.command_ends.specs.declared.words.Proto.TheVariants as Of
-use Rattle.rtu_frame.specs.declared.rtu.Rtu.{Rtu}
 use Rattle.link_box.specs.declared.seal_note.SealNote.TheVariants.{Sealed, Unsealed}
 use Rattle.yasir_c.specs.Answers.{answer_of, numbers_in, tick_bytes}
 use Rattle.yasir_c.specs.Holding.{TakesTick, TakesFront, HandsOut, Stops}
@@ -38,7 +28,7 @@ use Rattle.yasir_c.specs.Withholding.{ready, readiness_after}
 use Rattle.yasir_c.specs.declared.answer.{Answer.Answer, NoteNumbers.NoteNumbers}
 use Rattle.yasir_c.specs.declared.held.Held.{Held, TheVariants.LineBox, TheVariants.Spacer}
 use Rattle.yasir_c.specs.declared.withholding.WithholdingBox.{WithholdingBox}
-use Rattle.yasir_ticks.specs.{Bursts.bursts_from, declared.tick.Tick.Tick}
+use Rattle.yasir_ticks.specs.declared.tick.Tick.{Tick}
 use Rattle.yasir_ticks.specs.declared.tick.Tick.TheVariants.{Silent, Byte}
 
 -- the tick of a step is the one that C reads
@@ -110,50 +100,30 @@ box_or other (Some (Spacer spacer)) = other
 same-box : (one two : WithholdingBox) → Some (LineBox one) ≡ Some (LineBox two) → one ≡ two
 same-box one two e = ap (box_or one) e
 
-length-walked : {A : Type 0} (walking : Walking A) (setup : Setup) (line : List Tick)
-    → length (other_line walking setup line) ≡ length line
-length-walked walking setup line =
-    length-line_of (walking.walker setup) (walking.begun setup) line
-
 no-length : {A : Type 0} (l : List A) → length l ≡ 0 → l ≡ []
 no-length [] e = refl
 no-length (x ∷ l) e = absurd (omega (arith, e))
 
-module _ (rtu : LineRules Rtu) (dnp : LineRules Dnp) (short : Mac HmacSha1)
-    (long : Mac HmacSha256) where
+module _ (boxes : DefinedBox AnyBox)
+    (as-long : (kind : Kind) (setup : Setup) (line : List Tick)
+    → length ((boxes.defined kind).other setup line) ≡ length line)
+    (none-noted : (kind : Kind) (setup : Setup) → (boxes.defined kind).notes setup [] ≡ []) where
   abbrev made : Kind → Definition
-  made kind = definition_of rtu dnp short long kind
-
-  length-by : (part : Part) (proto : Proto) (profile : Profile) (setup : Setup) (line : List Tick)
-      → length ((definition_by rtu dnp short long part proto profile).other setup line)
-      ≡ length line
-  length-by Sealer Of.Rtu Y18 setup line = length-walked (seal_walking rtu short 2) setup line
-  length-by Sealer Of.Dnp3 Y18 setup line = length-walked (seal_walking dnp short 2) setup line
-  length-by Checker Of.Rtu Y18 setup line = length-walked (check_walking rtu short 2) setup line
-  length-by Checker Of.Dnp3 Y18 setup line = length-walked (check_walking dnp short 2) setup line
-  length-by Sealer Of.Rtu Y24 setup line = length-walked (seal_walking rtu long 4) setup line
-  length-by Sealer Of.Dnp3 Y24 setup line = length-walked (seal_walking dnp long 4) setup line
-  length-by Checker Of.Rtu Y24 setup line = length-walked (check_walking rtu long 4) setup line
-  length-by Checker Of.Dnp3 Y24 setup line = length-walked (check_walking dnp long 4) setup line
-
-  -- the other line is as long as the line
-  length-other : (kind : Kind) (setup : Setup) (line : List Tick)
-      → length ((made kind).other setup line) ≡ length line
-  length-other kind setup line = length-by kind.part kind.proto kind.profile setup line
+  made kind = boxes.defined kind
 
   -- there is an answer for each tick
   length-answers : (kind : Kind) (setup : Setup) (line : List Tick) (some : List Answer)
       → AreAnswers (made kind) setup line some → 0 + length some ≡ length line
   length-answers kind setup line some are =
       let e = sym (length-map some tick_told) ∙ (ap length are.ticks_are
-      ∙ length-other kind setup line) in
+      ∙ as-long kind setup line) in
       omega (arith, e)
 
   -- one more answer to one more tick
   answers-step : (kind : Kind) (setup : Setup) (before after : HeldBox) (line : List Tick)
       (some : List Answer) (t : Tick) (step : HeldStep) → kind_of before.line_box ≡ kind
-      → Holds rtu dnp short long before setup line
-      → StepsHeld rtu dnp short long before after t step
+      → Holds boxes before setup line
+      → StepsHeld boxes before after t step
       → AreAnswers (made kind) setup line some
       → AreAnswers (made kind) setup (line ++ t ∷ []) (some ++ answer_of step ∷ [])
   answers-step kind setup before after line some t step kind_is holds steps are =
@@ -178,23 +148,23 @@ module _ (rtu : LineRules Rtu) (dnp : LineRules Dnp) (short : Mac HmacSha1)
   record Stepped (kind : Kind) (setup : Setup) (new : WithholdingBox) (line : List Tick)
       (some : List Answer) : Type 0 where
     kind_is : kind_of new.line_box.line_box ≡ kind
-    holds : Holds rtu dnp short long new.line_box setup line
+    holds : Holds boxes new.line_box setup line
     are : AreAnswers (made kind) setup line some
 
   stepped : (kind : Kind) (setup : Setup) (old new : WithholdingBox) (line : List Tick)
       (some : List Answer) (t : Tick) (step : HeldStep)
-      → Tells rtu dnp short long kind setup old line some
-      → TakesTick rtu dnp short long (Some (LineBox old)) (Some (LineBox new)) t step
+      → Tells boxes kind setup old line some
+      → TakesTick boxes (Some (LineBox old)) (Some (LineBox new)) t step
       → Stepped kind setup new (line ++ t ∷ []) (some ++ answer_of step ∷ [])
   stepped kind setup old new line some t step tells takes =
-      let was = subst (λ b. Tells rtu dnp short long kind setup b line some)
+      let was = subst (λ b. Tells boxes kind setup b line some)
       (same-box _ _ takes.old_is) tells in
       let is : takes.after ≡ new.line_box =
       sym (ap (λ (b : WithholdingBox). b.line_box) (same-box _ _ takes.new_is)) in
       record {
         kind_is = subst (λ (h : HeldBox). kind_of h.line_box ≡ kind) is
             (takes.steps.steps.kind_is ∙ was.kind_is);
-        holds = subst (λ h. Holds rtu dnp short long h setup (line ++ t ∷ [])) is
+        holds = subst (λ h. Holds boxes h setup (line ++ t ∷ [])) is
             (takes.steps.steps.steps setup line was.holds).stands;
         are = answers-step kind setup takes.before takes.after line some t step was.kind_is
             was.holds takes.steps was.told;
@@ -202,7 +172,7 @@ module _ (rtu : LineRules Rtu) (dnp : LineRules Dnp) (short : Mac HmacSha1)
 
   readiness-is : (new : WithholdingBox) (t : Tick) (step : HeldStep) (old : WithholdingBox)
       (commit : Option Commit)
-      → TakesTick rtu dnp short long (Some (LineBox old)) (Some (LineBox new)) t step
+      → TakesTick boxes (Some (LineBox old)) (Some (LineBox new)) t step
       → step.commit ≡ commit → new.readiness ≡ readiness_after commit (answer_of step)
   readiness-is new t step old commit takes is =
       ap (λ (b : WithholdingBox). b.readiness) (same-box _ _ takes.new_is)
@@ -210,10 +180,10 @@ module _ (rtu : LineRules Rtu) (dnp : LineRules Dnp) (short : Mac HmacSha1)
 
   pub tells-answer : (kind : Kind) (setup : Setup) (old new : WithholdingBox) (line : List Tick)
       (some : List Answer) (t : Tick) (step : HeldStep)
-      → Tells rtu dnp short long kind setup old line some
-      → TakesTick rtu dnp short long (Some (LineBox old)) (Some (LineBox new)) t step
+      → Tells boxes kind setup old line some
+      → TakesTick boxes (Some (LineBox old)) (Some (LineBox new)) t step
       → step.commit ≡ None
-      → Tells rtu dnp short long kind setup new (line ++ t ∷ []) (some ++ answer_of step ∷ [])
+      → Tells boxes kind setup new (line ++ t ∷ []) (some ++ answer_of step ∷ [])
   tells-answer kind setup old new line some t step tells takes is =
       let has = stepped kind setup old new line some t step tells takes in
       record {
@@ -226,10 +196,10 @@ module _ (rtu : LineRules Rtu) (dnp : LineRules Dnp) (short : Mac HmacSha1)
 
   pub tells-less : (kind : Kind) (setup : Setup) (old new : WithholdingBox) (line : List Tick)
       (some : List Answer) (t : Tick) (step : HeldStep) (commit : Commit)
-      → Tells rtu dnp short long kind setup old line some
-      → TakesTick rtu dnp short long (Some (LineBox old)) (Some (LineBox new)) t step
+      → Tells boxes kind setup old line some
+      → TakesTick boxes (Some (LineBox old)) (Some (LineBox new)) t step
       → step.commit ≡ Some commit
-      → Tells rtu dnp short long kind setup new (line ++ t ∷ []) some
+      → Tells boxes kind setup new (line ++ t ∷ []) some
   tells-less kind setup old new line some t step commit tells takes is =
       let has = stepped kind setup old new line some t step tells takes in
       record {
@@ -241,35 +211,35 @@ module _ (rtu : LineRules Rtu) (dnp : LineRules Dnp) (short : Mac HmacSha1)
 
   pub tells-withheld : (kind : Kind) (setup : Setup) (old new : WithholdingBox) (line : List Tick)
       (some : List Answer) (answer : Answer)
-      → Tells rtu dnp short long kind setup old line some
+      → Tells boxes kind setup old line some
       → HandsOut (Some (LineBox old)) (Some (LineBox new)) answer
-      → Tells rtu dnp short long kind setup new line (some ++ answer ∷ [])
+      → Tells boxes kind setup new line (some ++ answer ∷ [])
   tells-withheld kind setup old new line some answer tells hands =
-      let was = subst (λ b. Tells rtu dnp short long kind setup b line some)
+      let was = subst (λ b. Tells boxes kind setup b line some)
       (same-box _ _ hands.old_is) tells in
-      subst (λ b. Tells rtu dnp short long kind setup b line (some ++ answer ∷ []))
+      subst (λ b. Tells boxes kind setup b line (some ++ answer ∷ []))
       (sym (same-box new _ hands.new_is))
       (record { kind_is = was.kind_is; holds = was.holds; told = was.told })
 
   pub tells-no-more : (kind : Kind) (setup : Setup) (old new : WithholdingBox) (line : List Tick)
-      (some : List Answer) → Tells rtu dnp short long kind setup old line some
+      (some : List Answer) → Tells boxes kind setup old line some
       → Stops (Some (LineBox old)) (Some (LineBox new))
-      → Tells rtu dnp short long kind setup new line some
+      → Tells boxes kind setup new line some
   tells-no-more kind setup old new line some tells stops =
-      let was = subst (λ b. Tells rtu dnp short long kind setup b line some)
+      let was = subst (λ b. Tells boxes kind setup b line some)
       (same-box _ _ stops.old_is) tells in
-      subst (λ b. Tells rtu dnp short long kind setup b line some)
+      subst (λ b. Tells boxes kind setup b line some)
       (sym (same-box new _ stops.new_is))
       (record { kind_is = was.kind_is; holds = was.holds; told = (stops.answer, was.told) })
 
   pub tells-run : (kind : Kind) (setup : Setup) (old new : WithholdingBox) (line : List Tick)
       (some : List Answer) (run : List Tick) (sent : List ℕ) (taken : ℕ)
-      → Tells rtu dnp short long kind setup old line some
-      → TakesFront rtu dnp short long (Some (LineBox old)) (Some (LineBox new)) run sent taken
-      → Tells rtu dnp short long kind setup new (line ++ take taken run)
+      → Tells boxes kind setup old line some
+      → TakesFront boxes (Some (LineBox old)) (Some (LineBox new)) run sent taken
+      → Tells boxes kind setup new (line ++ take taken run)
       (some ++ map (λ t. quiet t) (answered taken sent))
   tells-run kind setup old new line some run sent taken tells takes =
-      let was = subst (λ b. Tells rtu dnp short long kind setup b line some)
+      let was = subst (λ b. Tells boxes kind setup b line some)
       (same-box _ _ takes.old_is) tells in
       let front = take taken run in let ticks = answered taken sent in
       let more = map (λ t. quiet t) ticks in
@@ -285,34 +255,22 @@ module _ (rtu : LineRules Rtu) (dnp : LineRules Dnp) (short : Mac HmacSha1)
       (ap told no_note ∙ (sym (append-nil (told ((made kind).notes setup line)))
       ∙ ap (λ ns. told ((made kind).notes setup line) ++ ns)
       (sym (notes-quiet (0 + length some) ticks)))) in
-      subst (λ b. Tells rtu dnp short long kind setup b (line ++ front) (some ++ more))
+      subst (λ b. Tells boxes kind setup b (line ++ front) (some ++ more))
       (sym (same-box new _ takes.new_is))
       (record {
         kind_is = e;
-        holds = subst (λ n. StandsAt rtu dnp short long takes.after.line_box n setup
+        holds = subst (λ n. boxes.stands takes.after.line_box n setup
             (line ++ front)) (sym (ap journal_floor takes.takes.journal)) one.stands;
         told = are;
       })
 
   -- nothing is made of no line
   no-other : (kind : Kind) (setup : Setup) → (made kind).other setup [] ≡ []
-  no-other kind setup = no-length ((made kind).other setup []) (length-other kind setup [])
-
-  no-notes : (part : Part) (proto : Proto) (profile : Profile) (setup : Setup)
-      → (definition_by rtu dnp short long part proto profile).notes setup [] ≡ []
-  unfolding bursts_from
-  no-notes Sealer Of.Rtu Y18 setup = refl
-  no-notes Sealer Of.Dnp3 Y18 setup = refl
-  no-notes Checker Of.Rtu Y18 setup = refl
-  no-notes Checker Of.Dnp3 Y18 setup = refl
-  no-notes Sealer Of.Rtu Y24 setup = refl
-  no-notes Sealer Of.Dnp3 Y24 setup = refl
-  no-notes Checker Of.Rtu Y24 setup = refl
-  no-notes Checker Of.Dnp3 Y24 setup = refl
+  no-other kind setup = no-length ((made kind).other setup []) (as-long kind setup [])
 
   pub tells-none : (kind : Kind) (dir : Dir) (key a b : List ℕ) (held : HeldBox)
-      → Begins rtu dnp short long kind dir key a b held
-      → Tells rtu dnp short long kind (setup_of key dir (floor_held held)) (ready held) [] []
+      → Begins boxes kind dir key a b held
+      → Tells boxes kind (setup_of key dir (floor_held held)) (ready held) [] []
   tells-none kind dir key a b held begins =
       let setup = setup_of key dir (floor_held held) in
       record {
@@ -320,6 +278,6 @@ module _ (rtu : LineRules Rtu) (dnp : LineRules Dnp) (short : Mac HmacSha1)
         holds = begins.holds;
         told = record {
           ticks_are = sym (no-other kind setup);
-          notes_are = sym (ap told (no-notes kind.part kind.proto kind.profile setup));
+          notes_are = sym (ap told (none-noted kind setup));
         };
       }

@@ -1,15 +1,12 @@
 -- What the functions that C calls do: the clauses of a box, for the values that its handle holds.
+use Rattle.any_box.specs.declared.any_box.AnyBox.{AnyBox}
+use Rattle.any_box.specs.declared.defined.DefinedBox.{Ghosts as DefinedBox}
 use Rattle.std.specs.Prelude.{◌≡◌, ◌≢◌, ℕ, ◌*◌, ◌≤◌, ◌⊎◌, List, length, take, drop, replicate}
 use Rattle.std.specs.Prelude.{Option, Some, None}
 use Rattle.yasir_ticks.specs.declared.tick.Tick.{Tick}
 use Rattle.yasir_io.specs.declared.disk.Slot.{Slot}
 use Rattle.yasir_io.specs.declared.disk.TheConstants.{SLOT_LEN}
-use Rattle.rtu_frame.specs.declared.rtu.Rtu.{Rtu}
-use Rattle.dnp_link_frame.specs.declared.dnp.Dnp.{Dnp}
-use Rattle.line_rules.specs.declared.line_rules.LineRules.{Ghosts as LineRules}
 use Rattle.link_format.specs.declared.dir.Dir.{Dir}
-use Rattle.link_format.specs.declared.tag.Mac.{Ghosts as Mac}
-use Rattle.link_format.specs.declared.macs.{HmacSha1.HmacSha1, HmacSha256.HmacSha256}
 use Rattle.sequence_journal.specs.Slots.{slot_bytes, any_floor, wrong_slot}
 use Rattle.sequence_journal.specs.declared.journal.LoadError.{LoadError}
 use Rattle.sequence_journal.specs.declared.journal.LoadError.TheVariants as Load
@@ -117,9 +114,8 @@ pub record TakesNothing (old new : Option Held) (sent_old sent_new : List ℕ)
   pub box_is : new ≡ old
   pub sent_is : sent_new ≡ sent_old
 
--- The rules of the two protocols, and the MACs of the two profiles.
-module _ (rtu : LineRules Rtu) (dnp : LineRules Dnp) (short : Mac HmacSha1)
-    (long : Mac HmacSha256) where
+-- What the boxes are by the definitions.
+module _ (boxes : DefinedBox AnyBox) where
   -- Holds if a box that was asked for begins from both slots of its journal, and the handle holds
   -- it, ready for the first tick.
   pub record Makes (numbers : KindNumbers) (key slots : List ℕ) (old new : Option Held)
@@ -129,7 +125,7 @@ module _ (rtu : LineRules Rtu) (dnp : LineRules Dnp) (short : Mac HmacSha1)
     pub dir : Dir
     pub new_is : new ≡ Some (LineBox (ready held))
     pub asks : AsksFor numbers slots old kind dir
-    pub begins : Begins rtu dnp short long kind dir key (first_slot slots) (second_slot slots) held
+    pub begins : Begins boxes kind dir key (first_slot slots) (second_slot slots) held
 
   -- What has happened, by the status: the handle holds a box that begins, or there is a cause for
   -- none, and the handle holds what it held.
@@ -148,7 +144,7 @@ module _ (rtu : LineRules Rtu) (dnp : LineRules Dnp) (short : Mac HmacSha1)
     pub t : Tick
     pub step : HeldStep
     pub tick_is : tick_in number ≡ Some t
-    pub takes : TakesTick rtu dnp short long old new t step
+    pub takes : TakesTick boxes old new t step
     pub tells : TellsStep step answer slot status
 
   -- What has happened, by the status: the box has taken a tick, or there is a cause not to, and
@@ -169,7 +165,7 @@ module _ (rtu : LineRules Rtu) (dnp : LineRules Dnp) (short : Mac HmacSha1)
   -- 64 bytes, begins with what leaves.
   pub record TakesAt (old new : Option Held) (run : List Tick) (sent_old sent_new : List ℕ)
       (sent_count result : ℕ) : Type 0 where
-    pub takes : TakesFront rtu dnp short long old new run (take sent_count sent_new) result
+    pub takes : TakesFront boxes old new run (take sent_count sent_new) result
     pub room : 64 ≤ length sent_old
     pub within : sent_count ≤ length sent_new
     pub rest : drop sent_count sent_new ≡ drop sent_count sent_old

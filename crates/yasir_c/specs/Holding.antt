@@ -1,21 +1,17 @@
 -- What a handle holds, a box of a link or a spacer or nothing, and what their calls do.
+use Rattle.any_box.specs.declared.any_spacer.AnySpacer.{AnySpacer}
+use Rattle.any_box.specs.declared.defined.DefinedSpacer.{Ghosts as DefinedSpacer}
+use Rattle.any_box.specs.declared.any_box.AnyBox.{AnyBox}
+use Rattle.any_box.specs.declared.defined.DefinedBox.{Ghosts as DefinedBox}
 use Rattle.std.specs.Prelude.{◌≡◌, ℕ, ◌<◌, ◌≤◌, ◌⊎◌, List, [], length, take, Option, Some, None}
 use Rattle.yasir_ticks.specs.declared.TheConstants.{MAX_TICKS}
 use Rattle.yasir_ticks.specs.declared.tick.Tick.{Tick}
 use Rattle.frame_ending.specs.Answered.{answered}
-use Rattle.rtu_frame.specs.declared.rtu.Rtu.{Rtu}
-use Rattle.dnp_link_frame.specs.declared.dnp.Dnp.{Dnp}
-use Rattle.line_rules.specs.declared.line_rules.LineRules.{Ghosts as LineRules}
-use Rattle.link_format.specs.declared.tag.Mac.{Ghosts as Mac}
-use Rattle.link_format.specs.declared.macs.{HmacSha1.HmacSha1, HmacSha256.HmacSha256}
-use Rattle.device_model.specs.declared.device.Device.{Ghosts as Device}
-use Rattle.device_model.specs.declared.rtu.RtuDevice.{RtuDevice}
 use Rattle.line_spacer.specs.declared.spacer.SpaceStep.{SpaceStep}
 use Rattle.any_box.specs.Held.{floor_held, ticks_held, StepsHeld, TakesHeld}
 use Rattle.any_box.specs.declared.held_box.HeldBox.{HeldBox}
 use Rattle.any_box.specs.declared.held_box.HeldStep.{HeldStep}
 use Rattle.any_box.specs.HeldSpacers.{spacer_ticks, StepsSpacer}
-use Rattle.any_box.specs.declared.forgetful.ForgetfulDevice.{ForgetfulDevice}
 use Rattle.any_box.specs.declared.held_spacer.HeldSpacer.{HeldSpacer}
 use Rattle.yasir_c.specs.Withholding.{ready, withholding, stopped, after_step}
 use Rattle.yasir_c.specs.declared.answer.Answer.{Answer}
@@ -99,9 +95,8 @@ HandsNothing ok old new Is.BadArgument = (new ≡ old) × (TellsNothing ok ⊎ H
 HandsNothing ok old new Is.Empty = (new ≡ old) × HoldsNoBox old
 HandsNothing ok old new status = ⊥
 
--- The rules of the two protocols, and the MACs of the two profiles.
-module _ (rtu : LineRules Rtu) (dnp : LineRules Dnp) (short : Mac HmacSha1)
-    (long : Mac HmacSha256) where
+-- What the boxes are by the definitions.
+module _ (boxes : DefinedBox AnyBox) where
   -- Holds if the box in a handle has taken a tick by this step. If the caller must write something,
   -- the box then withholds the answer of the step.
   pub record TakesTick (old new : Option Held) (t : Tick) (step : HeldStep) : Type 0 where
@@ -109,7 +104,7 @@ module _ (rtu : LineRules Rtu) (dnp : LineRules Dnp) (short : Mac HmacSha1)
     pub after : HeldBox
     pub old_is : old ≡ Some (LineBox (ready before))
     pub new_is : new ≡ Some (LineBox (after_step step after))
-    pub steps : StepsHeld rtu dnp short long before after t step
+    pub steps : StepsHeld boxes before after t step
 
   -- Holds if the box in a handle has taken the first ticks of a run, `taken` of them, and returned
   -- these bytes, one for each, or silence.
@@ -120,22 +115,22 @@ module _ (rtu : LineRules Rtu) (dnp : LineRules Dnp) (short : Mac HmacSha1)
     pub old_is : old ≡ Some (LineBox (ready before))
     pub new_is : new ≡ Some (LineBox (ready after))
     pub within : taken ≤ length run
-    pub takes : TakesHeld rtu dnp short long before after (take taken run) (answered taken sent)
+    pub takes : TakesHeld boxes before after (take taken run) (answered taken sent)
 
   -- Holds if the box has done so, or if nothing was taken and nothing has changed.
   abbrev pub TakesRun : Option Held → Option Held → List Tick → List ℕ → ℕ → Type 0
   TakesRun old new run sent taken =
       TakesFront old new run sent taken ⊎ ((taken ≡ 0) × (sent ≡ []) × (new ≡ old))
 
--- The devices as which a spacer hears a line.
-module _ (rtu : Device RtuDevice) (dnp : Device (ForgetfulDevice Dnp)) where
+-- What the spacers are by the definitions.
+module _ (spacers : DefinedSpacer AnySpacer) where
   -- Holds if the spacer in a handle has taken a tick by this step.
   pub record SpacesTick (old new : Option Held) (t : Tick) (step : SpaceStep) : Type 0 where
     pub before : HeldSpacer
     pub after : HeldSpacer
     pub old_is : old ≡ Some (Spacer before)
     pub new_is : new ≡ Some (Spacer after)
-    pub steps : StepsSpacer rtu dnp before after t step
+    pub steps : StepsSpacer spacers before after t step
 
 -- Why the spacer in a handle takes no tick, by the status.
 abbrev pub SpacesNoTick : Option Held → Status → Type 0

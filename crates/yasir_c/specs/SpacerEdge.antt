@@ -1,14 +1,12 @@
 -- What the functions that C calls for a spacer do.
+use Rattle.any_box.specs.declared.any_spacer.AnySpacer.{AnySpacer}
+use Rattle.any_box.specs.declared.defined.DefinedSpacer.{Ghosts as DefinedSpacer}
 use Rattle.std.specs.Prelude.{◌≡◌, ◌≢◌, ℕ, ◌≤◌, ◌⊎◌, Option, Some, None}
 use Rattle.yasir_ticks.specs.declared.tick.Tick.{Tick}
-use Rattle.device_model.specs.declared.device.Device.{Ghosts as Device}
-use Rattle.device_model.specs.declared.rtu.RtuDevice.{RtuDevice}
 use Rattle.line_spacer.specs.declared.spacer.SpaceStep.{SpaceStep}
-use Rattle.dnp_link_frame.specs.declared.dnp.Dnp.{Dnp}
 use Rattle.any_box.specs.HeldSpacers.{BeginsSpacer}
 use Rattle.any_box.specs.declared.any_spacer.SpacerKind.{SpacerKind}
 use Rattle.any_box.specs.declared.any_spacer.SpacerKind.TheVariants.{Rtu, RtuWide, Dnp3, Dnp3Wide}
-use Rattle.any_box.specs.declared.forgetful.ForgetfulDevice.{ForgetfulDevice}
 use Rattle.any_box.specs.declared.held_spacer.HeldSpacer.{HeldSpacer}
 use Rattle.yasir_c.specs.Answers.{tick_bytes, tick_in}
 use Rattle.yasir_c.specs.Holding.{HoldsOne, SpacesTick, SpacesNoTick}
@@ -49,8 +47,8 @@ spaced_of step = record {
   unused = 0;
 }
 
--- The devices as which a spacer hears a line.
-module _ (rtu : Device RtuDevice) (dnp : Device (ForgetfulDevice Dnp)) where
+-- What the spacers are by the definitions.
+module _ (spacers : DefinedSpacer AnySpacer) where
   -- Holds if a spacer begins with room for a frame or more, and the handle, which held nothing,
   -- holds it.
   pub record MakesSpacer (protocol profile room : ℕ) (old new : Option Held) : Type 0 where
@@ -60,7 +58,7 @@ module _ (rtu : Device RtuDevice) (dnp : Device (ForgetfulDevice Dnp)) where
     pub new_is : new ≡ Some (Spacer held)
     pub kind_is : (protocol, profile) ≡ spacer_numbers kind
     pub some_room : 1 ≤ room
-    pub begins : BeginsSpacer rtu dnp kind room held
+    pub begins : BeginsSpacer spacers kind room held
 
   -- What has happened, by the status: the handle holds a spacer that begins, or there is a cause
   -- for none, and the handle holds what it held.
@@ -77,7 +75,7 @@ module _ (rtu : Device RtuDevice) (dnp : Device (ForgetfulDevice Dnp)) where
     pub t : Tick
     pub step : SpaceStep
     pub tick_is : tick_in number ≡ Some t
-    pub takes : SpacesTick rtu dnp old new t step
+    pub takes : SpacesTick spacers old new t step
     pub answer_is : answer ≡ spaced_of step
 
   -- What has happened, by the status: the spacer has taken a tick, or there is a cause not to, and

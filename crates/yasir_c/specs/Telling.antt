@@ -1,18 +1,15 @@
 -- What C has read of a box in all: the answers to all ticks that the box has taken, but for one that
 -- is withheld.
+use Rattle.any_box.specs.declared.any_box.AnyBox.{AnyBox}
+use Rattle.any_box.specs.declared.defined.DefinedBox.{Ghosts as DefinedBox}
 use Rattle.std.specs.Prelude.{◌≡◌, ℕ, ◌+◌, List, [], ◌∷◌, ◌++◌, map, Some, None}
 use Rattle.std.specs.Prelude.{nat_eq, if◌then◌else◌}
 use Rattle.yasir_ticks.specs.declared.tick.Tick.{Tick}
 use Rattle.yasir_ticks.specs.declared.tick.Tick.TheVariants.{Silent, Byte}
 use Rattle.frame_ending.specs.Answers.{told_notes}
 use Rattle.frame_ending.specs.Walk.{Noted}
-use Rattle.rtu_frame.specs.declared.rtu.Rtu.{Rtu}
-use Rattle.dnp_link_frame.specs.declared.dnp.Dnp.{Dnp}
-use Rattle.line_rules.specs.declared.line_rules.LineRules.{Ghosts as LineRules}
-use Rattle.link_format.specs.declared.tag.Mac.{Ghosts as Mac}
-use Rattle.link_format.specs.declared.macs.{HmacSha1.HmacSha1, HmacSha256.HmacSha256}
 use Rattle.link_format.specs.Setup.{Setup}
-use Rattle.any_box.specs.Boxes.{kind_of, definition_of}
+use Rattle.any_box.specs.Boxes.{kind_of}
 use Rattle.any_box.specs.Held.{Holds}
 use Rattle.any_box.specs.Noting.{Definition}
 use Rattle.any_box.specs.declared.kind.Kind.{Kind}
@@ -67,12 +64,11 @@ HasTold made setup line (Withholds last) answers =
 HasTold made setup line Stopped answers =
     (last : Answer) × AreAnswers made setup line (answers ++ last ∷ [])
 
--- The rules of the two protocols, and the MACs of the two profiles.
-module _ (rtu : LineRules Rtu) (dnp : LineRules Dnp) (short : Mac HmacSha1)
-    (long : Mac HmacSha256) where
+-- What the boxes are by the definitions.
+module _ (boxes : DefinedBox AnyBox) where
   -- Holds if a box of this kind with this setup has taken this line, and C has read these answers.
   pub record Tells (kind : Kind) (setup : Setup) (value : WithholdingBox) (line : List Tick)
       (answers : List Answer) : Type 0 where
     pub kind_is : kind_of value.line_box.line_box ≡ kind
-    pub holds : Holds rtu dnp short long value.line_box setup line
-    pub told : HasTold (definition_of rtu dnp short long kind) setup line value.readiness answers
+    pub holds : Holds boxes value.line_box setup line
+    pub told : HasTold (boxes.defined kind) setup line value.readiness answers

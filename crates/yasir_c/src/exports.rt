@@ -16,12 +16,8 @@ use crate::held::Held;
 use crate::kind::KindNumbers;
 use crate::status::Status;
 use crate::withholding::WithholdingBox;
-use any_box::{HeldBox, HeldStep};
-use dnp_link_frame::Dnp;
+use any_box::{AnyBox, DefinedBox, HeldBox, HeldStep};
 use frame_ending::RunBytes;
-use line_rules::LineRules;
-use link_format::{HmacSha1, HmacSha256, Mac};
-use rtu_frame::Rtu;
 use sequence_journal::{LoadError, slot_of};
 use std::alloc::Global;
 use yasir_io::{SLOT_LEN, SlotBytes};
@@ -72,8 +68,7 @@ pub(crate) fn make(
     key: &[u8],
     slots: &[u8],
 ) -> Status
-    ensures { MakesBy ⟦<Rtu as LineRules>⟧ ⟦<Dnp as LineRules>⟧ ⟦<HmacSha1 as Mac>⟧
-        ⟦<HmacSha256 as Mac>⟧ kind.now key.now slots.now handle.old.held.value
+    ensures { MakesBy ⟦<AnyBox as DefinedBox>⟧ kind.now key.now slots.now handle.old.held.value
         handle.new.held.value result }
 {
     let Some((kind, dir)) = kind.known() else {
@@ -107,8 +102,7 @@ pub extern "C" fn yasir_new(
     key: &[u8],
     slots: &[u8],
 ) -> u8
-    ensures { Returns (MakesBy ⟦<Rtu as LineRules>⟧ ⟦<Dnp as LineRules>⟧ ⟦<HmacSha1 as Mac>⟧
-        ⟦<HmacSha256 as Mac>⟧ kind.now key.now slots.now handle.old.held.value
+    ensures { Returns (MakesBy ⟦<AnyBox as DefinedBox>⟧ kind.now key.now slots.now handle.old.held.value
         handle.new.held.value) result }
 {
     make(alloc, handle, kind, key, slots).number()
@@ -154,8 +148,7 @@ pub(crate) fn step(
     answer: &mut Answer,
     slot: &mut [u8],
 ) -> Status
-    ensures { StepsBy ⟦<Rtu as LineRules>⟧ ⟦<Dnp as LineRules>⟧ ⟦<HmacSha1 as Mac>⟧
-        ⟦<HmacSha256 as Mac>⟧ handle.old.held.value handle.new.held.value tick answer.old
+    ensures { StepsBy ⟦<AnyBox as DefinedBox>⟧ handle.old.held.value handle.new.held.value tick answer.old
         answer.new slot.old slot.new result }
 {
     let Some(tick) = tick_in(tick) else {
@@ -185,8 +178,7 @@ pub extern "C" fn yasir_step(
     answer: &mut Answer,
     slot: &mut [u8],
 ) -> u8
-    ensures { Returns (StepsBy ⟦<Rtu as LineRules>⟧ ⟦<Dnp as LineRules>⟧ ⟦<HmacSha1 as Mac>⟧
-        ⟦<HmacSha256 as Mac>⟧ handle.old.held.value handle.new.held.value tick answer.old
+    ensures { Returns (StepsBy ⟦<AnyBox as DefinedBox>⟧ handle.old.held.value handle.new.held.value tick answer.old
         answer.new slot.old slot.new) result }
 {
     step(alloc, handle, tick, answer, slot).number()
@@ -248,8 +240,7 @@ fn take_run(
     sent: &mut [u8],
     sent_count: &mut usize,
 ) -> usize
-    ensures { TakesBy ⟦<Rtu as LineRules>⟧ ⟦<Dnp as LineRules>⟧ ⟦<HmacSha1 as Mac>⟧
-        ⟦<HmacSha256 as Mac>⟧ handle.old.held.value handle.new.held.value (run_ticks run.entry)
+    ensures { TakesBy ⟦<AnyBox as DefinedBox>⟧ handle.old.held.value handle.new.held.value (run_ticks run.entry)
         sent.old sent.new sent_count.new result }
 {
     *sent_count = 0;
@@ -276,8 +267,7 @@ pub extern "C" fn yasir_take_bytes(
     sent: &mut [u8],
     sent_count: &mut usize,
 ) -> usize
-    ensures { TakesBy ⟦<Rtu as LineRules>⟧ ⟦<Dnp as LineRules>⟧ ⟦<HmacSha1 as Mac>⟧
-        ⟦<HmacSha256 as Mac>⟧ handle.old.held.value handle.new.held.value (map Byte bytes.now)
+    ensures { TakesBy ⟦<AnyBox as DefinedBox>⟧ handle.old.held.value handle.new.held.value (map Byte bytes.now)
         sent.old sent.new sent_count.new result }
 {
     take_run(alloc, handle, TickRun::Bytes(bytes), sent, sent_count)
@@ -293,8 +283,7 @@ pub extern "C" fn yasir_take_silence(
     sent: &mut [u8],
     sent_count: &mut usize,
 ) -> usize
-    ensures { TakesBy ⟦<Rtu as LineRules>⟧ ⟦<Dnp as LineRules>⟧ ⟦<HmacSha1 as Mac>⟧
-        ⟦<HmacSha256 as Mac>⟧ handle.old.held.value handle.new.held.value (silent ticks)
+    ensures { TakesBy ⟦<AnyBox as DefinedBox>⟧ handle.old.held.value handle.new.held.value (silent ticks)
         sent.old sent.new sent_count.new result }
 {
     take_run(alloc, handle, TickRun::Silence(ticks), sent, sent_count)

@@ -7,14 +7,9 @@ ghost use Rattle.yasir_c.specs.Holding.{floor_told, SpacesTick, SpacesNoTick};
 use crate::answer::Answer;
 use crate::status::Status;
 use crate::withholding::WithholdingBox;
-use any_box::{ForgetfulDnp, HeldSpacer, HeldStep};
-use device_model::{Device, RtuDevice};
-use dnp_link_frame::Dnp;
+use any_box::{AnyBox, AnySpacer, DefinedBox, DefinedSpacer, HeldSpacer, HeldStep};
 use frame_ending::RunBytes;
-use line_rules::LineRules;
 use line_spacer::SpaceStep;
-use link_format::{HmacSha1, HmacSha256, Mac};
-use rtu_frame::Rtu;
 use yasir_ticks::{Tick, TickRun};
 
 /// What a handle holds.
@@ -30,8 +25,7 @@ impl Held {
     /// Takes the next tick with the box that is held. If the step uses a number, its answer is then
     /// withheld.
     pub(crate) fn step(&mut self, t: Tick) -> Result<HeldStep, Status>
-        ensures steps { IfOk result (TakesTick ⟦<Rtu as LineRules>⟧ ⟦<Dnp as LineRules>⟧
-            ⟦<HmacSha1 as Mac>⟧ ⟦<HmacSha256 as Mac>⟧ (Some self.old) (Some self.new) t) }
+        ensures steps { IfOk result (TakesTick ⟦<AnyBox as DefinedBox>⟧ (Some self.old) (Some self.new) t) }
         ensures kept { IfErr result (λ why. (self.new ≡ self.old)
             × TakesNoTick (Some self.old) why) }
     {
@@ -57,8 +51,7 @@ impl Held {
     /// Takes the first of these ticks with the box that is held, as long as it returns silence for
     /// all of them or bytes for all of them, and returns how many.
     pub(crate) fn take_alike(&mut self, run: TickRun<'_>, sent: &mut RunBytes) -> usize
-        ensures { TakesRun ⟦<Rtu as LineRules>⟧ ⟦<Dnp as LineRules>⟧ ⟦<HmacSha1 as Mac>⟧
-            ⟦<HmacSha256 as Mac>⟧ (Some self.old) (Some self.new) (run_ticks run.entry)
+        ensures { TakesRun ⟦<AnyBox as DefinedBox>⟧ (Some self.old) (Some self.new) (run_ticks run.entry)
             sent.new.items result }
     {
         match self {
@@ -82,8 +75,7 @@ impl Held {
 
     /// Takes the next tick with the spacer that is held.
     pub(crate) fn space(&mut self, t: Tick) -> Result<SpaceStep, Status>
-        ensures steps { IfOk result (SpacesTick ⟦<RtuDevice as Device>⟧
-            ⟦<ForgetfulDnp as Device>⟧ (Some self.old) (Some self.new) t) }
+        ensures steps { IfOk result (SpacesTick ⟦<AnySpacer as DefinedSpacer>⟧ (Some self.old) (Some self.new) t) }
         ensures kept { IfErr result (λ why. (self.new ≡ self.old)
             × SpacesNoTick (Some self.old) why) }
     {

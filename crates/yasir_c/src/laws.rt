@@ -17,10 +17,7 @@ ghost use Rattle.yasir_c.specs.declared.answer.Answer.{Answer};
 ghost use Rattle.yasir_c.specs.declared.held.Held.TheVariants.{LineBox};
 ghost use Rattle.yasir_c.specs.declared.withholding.WithholdingBox.{WithholdingBox};
 
-use dnp_link_frame::Dnp;
-use line_rules::LineRules;
-use link_format::{HmacSha1, HmacSha256, Mac};
-use rtu_frame::Rtu;
+use any_box::{AnyBox, DefinedBox};
 
 /// What C reads of a box in all, whatever it calls. *begins*: C has read nothing of a box that has
 /// taken no tick. *answers*: after a step that uses no number it has read the answer of the step
@@ -29,49 +26,34 @@ use rtu_frame::Rtu;
 /// *runs*: after a run it has read the ticks that the box returned for it.
 pub fn all_answers_are_told()
     ensures begins { (kind : Kind) (dir : Dir) (key a b : List ℕ) (held : HeldBox)
-        → Begins ⟦<Rtu as LineRules>⟧ ⟦<Dnp as LineRules>⟧ ⟦<HmacSha1 as Mac>⟧
-        ⟦<HmacSha256 as Mac>⟧ kind dir key a b held
-        → Tells ⟦<Rtu as LineRules>⟧ ⟦<Dnp as LineRules>⟧ ⟦<HmacSha1 as Mac>⟧
-        ⟦<HmacSha256 as Mac>⟧ kind (setup_of key dir (floor_held held)) (ready held) [] [] }
+        → Begins ⟦<AnyBox as DefinedBox>⟧ kind dir key a b held
+        → Tells ⟦<AnyBox as DefinedBox>⟧ kind (setup_of key dir (floor_held held)) (ready held) [] [] }
     ensures answers { (kind : Kind) (setup : Setup) (old new : WithholdingBox) (line : List Tick)
         (told : List Answer) (t : Tick) (step : HeldStep)
-        → Tells ⟦<Rtu as LineRules>⟧ ⟦<Dnp as LineRules>⟧ ⟦<HmacSha1 as Mac>⟧
-        ⟦<HmacSha256 as Mac>⟧ kind setup old line told
-        → TakesTick ⟦<Rtu as LineRules>⟧ ⟦<Dnp as LineRules>⟧ ⟦<HmacSha1 as Mac>⟧
-        ⟦<HmacSha256 as Mac>⟧ (Some (LineBox old)) (Some (LineBox new)) t step
+        → Tells ⟦<AnyBox as DefinedBox>⟧ kind setup old line told
+        → TakesTick ⟦<AnyBox as DefinedBox>⟧ (Some (LineBox old)) (Some (LineBox new)) t step
         → step.commit ≡ None
-        → Tells ⟦<Rtu as LineRules>⟧ ⟦<Dnp as LineRules>⟧ ⟦<HmacSha1 as Mac>⟧
-        ⟦<HmacSha256 as Mac>⟧ kind setup new (line ++ t ∷ []) (told ++ answer_of step ∷ []) }
+        → Tells ⟦<AnyBox as DefinedBox>⟧ kind setup new (line ++ t ∷ []) (told ++ answer_of step ∷ []) }
     ensures withholds { (kind : Kind) (setup : Setup) (old new : WithholdingBox) (line : List Tick)
         (told : List Answer) (t : Tick) (step : HeldStep) (commit : Commit)
-        → Tells ⟦<Rtu as LineRules>⟧ ⟦<Dnp as LineRules>⟧ ⟦<HmacSha1 as Mac>⟧
-        ⟦<HmacSha256 as Mac>⟧ kind setup old line told
-        → TakesTick ⟦<Rtu as LineRules>⟧ ⟦<Dnp as LineRules>⟧ ⟦<HmacSha1 as Mac>⟧
-        ⟦<HmacSha256 as Mac>⟧ (Some (LineBox old)) (Some (LineBox new)) t step
+        → Tells ⟦<AnyBox as DefinedBox>⟧ kind setup old line told
+        → TakesTick ⟦<AnyBox as DefinedBox>⟧ (Some (LineBox old)) (Some (LineBox new)) t step
         → step.commit ≡ Some commit
-        → Tells ⟦<Rtu as LineRules>⟧ ⟦<Dnp as LineRules>⟧ ⟦<HmacSha1 as Mac>⟧
-        ⟦<HmacSha256 as Mac>⟧ kind setup new (line ++ t ∷ []) told }
+        → Tells ⟦<AnyBox as DefinedBox>⟧ kind setup new (line ++ t ∷ []) told }
     ensures hands { (kind : Kind) (setup : Setup) (old new : WithholdingBox) (line : List Tick)
         (told : List Answer) (answer : Answer)
-        → Tells ⟦<Rtu as LineRules>⟧ ⟦<Dnp as LineRules>⟧ ⟦<HmacSha1 as Mac>⟧
-        ⟦<HmacSha256 as Mac>⟧ kind setup old line told
+        → Tells ⟦<AnyBox as DefinedBox>⟧ kind setup old line told
         → HandsOut (Some (LineBox old)) (Some (LineBox new)) answer
-        → Tells ⟦<Rtu as LineRules>⟧ ⟦<Dnp as LineRules>⟧ ⟦<HmacSha1 as Mac>⟧
-        ⟦<HmacSha256 as Mac>⟧ kind setup new line (told ++ answer ∷ []) }
+        → Tells ⟦<AnyBox as DefinedBox>⟧ kind setup new line (told ++ answer ∷ []) }
     ensures stops { (kind : Kind) (setup : Setup) (old new : WithholdingBox) (line : List Tick)
         (told : List Answer)
-        → Tells ⟦<Rtu as LineRules>⟧ ⟦<Dnp as LineRules>⟧ ⟦<HmacSha1 as Mac>⟧
-        ⟦<HmacSha256 as Mac>⟧ kind setup old line told
+        → Tells ⟦<AnyBox as DefinedBox>⟧ kind setup old line told
         → Stops (Some (LineBox old)) (Some (LineBox new))
-        → Tells ⟦<Rtu as LineRules>⟧ ⟦<Dnp as LineRules>⟧ ⟦<HmacSha1 as Mac>⟧
-        ⟦<HmacSha256 as Mac>⟧ kind setup new line told }
+        → Tells ⟦<AnyBox as DefinedBox>⟧ kind setup new line told }
     ensures runs { (kind : Kind) (setup : Setup) (old new : WithholdingBox) (line : List Tick)
         (told : List Answer) (run : List Tick) (sent : List ℕ) (taken : ℕ)
-        → Tells ⟦<Rtu as LineRules>⟧ ⟦<Dnp as LineRules>⟧ ⟦<HmacSha1 as Mac>⟧
-        ⟦<HmacSha256 as Mac>⟧ kind setup old line told
-        → TakesFront ⟦<Rtu as LineRules>⟧ ⟦<Dnp as LineRules>⟧ ⟦<HmacSha1 as Mac>⟧
-        ⟦<HmacSha256 as Mac>⟧ (Some (LineBox old)) (Some (LineBox new)) run sent taken
-        → Tells ⟦<Rtu as LineRules>⟧ ⟦<Dnp as LineRules>⟧ ⟦<HmacSha1 as Mac>⟧
-        ⟦<HmacSha256 as Mac>⟧ kind setup new (line ++ take taken run)
+        → Tells ⟦<AnyBox as DefinedBox>⟧ kind setup old line told
+        → TakesFront ⟦<AnyBox as DefinedBox>⟧ (Some (LineBox old)) (Some (LineBox new)) run sent taken
+        → Tells ⟦<AnyBox as DefinedBox>⟧ kind setup new (line ++ take taken run)
         (told ++ map (λ tick. quiet tick) (answered taken sent)) }
 {}

@@ -7,8 +7,7 @@ use crate::handle::{Handle, put_in, taken_out};
 use crate::held::Held;
 use crate::spaced::Spaced;
 use crate::status::Status;
-use any_box::{ForgetfulDnp, HeldSpacer, SpacerKind};
-use device_model::{Device, RtuDevice};
+use any_box::{AnySpacer, DefinedSpacer, HeldSpacer, SpacerKind};
 use std::alloc::Global;
 
 // Returns the spacer of a protocol and a profile, by their numbers, or `None` if there is none.
@@ -32,7 +31,7 @@ pub(crate) fn make_spacer(
     profile: u8,
     room: u32,
 ) -> Status
-    ensures { MakesSpacerBy ⟦<RtuDevice as Device>⟧ ⟦<ForgetfulDnp as Device>⟧ protocol profile room
+    ensures { MakesSpacerBy ⟦<AnySpacer as DefinedSpacer>⟧ protocol profile room
         handle.old.held.value handle.new.held.value result }
 {
     let Some(kind) = kind_in(protocol, profile) else {
@@ -63,7 +62,7 @@ pub extern "C" fn yasir_spacer_new(
     profile: u8,
     room: u32,
 ) -> u8
-    ensures { Returns (MakesSpacerBy ⟦<RtuDevice as Device>⟧ ⟦<ForgetfulDnp as Device>⟧ protocol
+    ensures { Returns (MakesSpacerBy ⟦<AnySpacer as DefinedSpacer>⟧ protocol
         profile room handle.old.held.value handle.new.held.value) result }
 {
     make_spacer(alloc, handle, protocol, profile, room).number()
@@ -71,7 +70,7 @@ pub extern "C" fn yasir_spacer_new(
 
 // Takes the next tick with the spacer in a handle.
 pub(crate) fn space(alloc: Global, handle: &mut Handle, tick: u16, answer: &mut Spaced) -> Status
-    ensures { SpacesBy ⟦<RtuDevice as Device>⟧ ⟦<ForgetfulDnp as Device>⟧ handle.old.held.value
+    ensures { SpacesBy ⟦<AnySpacer as DefinedSpacer>⟧ handle.old.held.value
         handle.new.held.value tick answer.old answer.new result }
 {
     let Some(tick) = tick_in(tick) else {
@@ -99,7 +98,7 @@ pub extern "C" fn yasir_spacer_step(
     tick: u16,
     answer: &mut Spaced,
 ) -> u8
-    ensures { Returns (SpacesBy ⟦<RtuDevice as Device>⟧ ⟦<ForgetfulDnp as Device>⟧
+    ensures { Returns (SpacesBy ⟦<AnySpacer as DefinedSpacer>⟧
         handle.old.held.value handle.new.held.value tick answer.old answer.new) result }
 {
     space(alloc, handle, tick, answer).number()

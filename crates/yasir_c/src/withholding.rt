@@ -8,12 +8,8 @@ ghost use Rattle.yasir_c.specs.declared.held.Held.TheVariants.{LineBox};
 
 use crate::answer::Answer;
 use crate::status::Status;
-use any_box::{HeldBox, HeldStep};
-use dnp_link_frame::Dnp;
+use any_box::{AnyBox, DefinedBox, HeldBox, HeldStep};
 use frame_ending::RunBytes;
-use line_rules::LineRules;
-use link_format::{HmacSha1, HmacSha256, Mac};
-use rtu_frame::Rtu;
 use yasir_ticks::{Tick, TickRun};
 
 /// Whether a box takes the next tick.
@@ -47,8 +43,7 @@ impl WithholdingBox {
 
     /// Takes the next tick. If the step uses a number, its answer is then withheld.
     pub(crate) fn step(&mut self, t: Tick) -> Result<HeldStep, Status>
-        ensures steps { IfOk result (TakesTick ⟦<Rtu as LineRules>⟧ ⟦<Dnp as LineRules>⟧
-            ⟦<HmacSha1 as Mac>⟧ ⟦<HmacSha256 as Mac>⟧ (Some (LineBox self.old))
+        ensures steps { IfOk result (TakesTick ⟦<AnyBox as DefinedBox>⟧ (Some (LineBox self.old))
             (Some (LineBox self.new)) t) }
         ensures kept { IfErr result (λ why. (self.new ≡ self.old)
             × TakesNoTick (Some (LineBox self.old)) why) }
@@ -94,8 +89,7 @@ impl WithholdingBox {
     /// Takes the first of these ticks, as long as the box returns silence for all of them or bytes
     /// for all of them, without a note and with nothing to write, and returns how many.
     pub(crate) fn take_alike(&mut self, run: TickRun<'_>, sent: &mut RunBytes) -> usize
-        ensures { TakesRun ⟦<Rtu as LineRules>⟧ ⟦<Dnp as LineRules>⟧ ⟦<HmacSha1 as Mac>⟧
-            ⟦<HmacSha256 as Mac>⟧ (Some (LineBox self.old)) (Some (LineBox self.new))
+        ensures { TakesRun ⟦<AnyBox as DefinedBox>⟧ (Some (LineBox self.old)) (Some (LineBox self.new))
             (run_ticks run.entry) sent.new.items result }
     {
         let Readiness::Ready = self.readiness else {

@@ -3,10 +3,10 @@ use Rattle.any_box.proofs.laws.writes_keep_the_floor.Goals as goal
 
 pub returns-clause-written : goal.returns-clause-written
 returns-clause-written c old new t step commit steps is = (
-  written-slots _ _ _ _ old new t step commit steps is,
-  written-floor _ _ _ _ old new t step commit steps is,
+  written-slots _ old new t step commit steps is,
+  written-floor _ old new t step commit steps is,
 )
 
 pub returns-clause-torn : goal.returns-clause-torn
 returns-clause-torn c old new t step commit bytes steps is =
-    torn-floor _ _ _ _ old new t step commit steps is bytes
+    torn-floor _ old new t step commit steps is bytes

@@ -5,7 +5,7 @@ use Rattle.yasir_c.proofs.exports.step.Goals as goal
 pub returns-in-Err : goal.returns-in-Err
 returns-in-Err c =
     let kept = c.in-Err.ensures.kept in
-    takes-none _ _ _ _ _ _ c.args.tick c.args.answer.now c.args.slot.now c.in-Err.status
+    takes-none _ _ _ c.args.tick c.args.answer.now c.args.slot.now c.in-Err.status
     (back-is _ _ _ _ _ c.in-Some-taken_out.ensures.out c.deref_mut.ensures.value
     c.put_in.ensures kept.0)
     (held-so (λ o. TakesNoTick o c.in-Err.status) _ _ _ c.in-Some-taken_out.ensures.out

@@ -7,9 +7,9 @@ use Rattle.yasir_c.proofs.held.Held.space.Goals as goal
 pub returns-in-Spacer-clause-steps : goal.returns-in-Spacer-clause-steps
 returns-in-Spacer-clause-steps c =
     subst (λ r. IfOk r
-    (SpacesTick _ _ (Some c.args.self.now) (Some (Spacer c.step.new.self)) c.args.t))
+    (SpacesTick _ (Some c.args.self.now) (Some (Spacer c.step.new.self)) c.args.t))
     (sym c.ok_or.ensures.value)
-    (spaces _ _ c.args.self.now c.in-Spacer.spacer c.step.new.self c.args.t c.step.result
+    (spaces _ c.args.self.now c.in-Spacer.spacer c.step.new.self c.args.t c.step.result
     c.in-Spacer.is c.step.ensures)
 
 pub returns-in-Spacer-clause-kept : goal.returns-in-Spacer-clause-kept
@@ -17,5 +17,5 @@ returns-in-Spacer-clause-kept c =
     subst (λ r. IfErr r (λ why. (Spacer c.step.new.self ≡ c.args.self.now)
     × SpacesNoTick (Some c.args.self.now) why))
     (sym c.ok_or.ensures.value)
-    (spaces-full _ _ c.args.self.now c.in-Spacer.spacer c.step.new.self c.args.t c.step.result
+    (spaces-full _ c.args.self.now c.in-Spacer.spacer c.step.new.self c.args.t c.step.result
     c.in-Spacer.is c.step.ensures)
