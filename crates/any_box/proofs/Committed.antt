@@ -1,11 +1,11 @@
 -- What a step commits over slots in memory.
 use Rattle.any_box.specs.Commits.{CommitsOne, CommitsOneOrNone}
-use Rattle.check_receiver.specs.Checkings.{CommitsNoted as CheckCommits}
+use Rattle.check_receiver.specs.Checkings.{CheckerCommitsNoted}
 use Rattle.link_box.specs.declared.check_note.CheckNote.{CheckNote}
 use Rattle.link_box.specs.declared.check_note.CheckNote.TheVariants.{Passed, Refused, Dropped}
 use Rattle.link_box.specs.declared.seal_note.SealNote.{SealNote}
 use Rattle.link_box.specs.declared.seal_note.SealNote.TheVariants.{Sealed, Unsealed}
-use Rattle.seal_transmitter.specs.Answers.{CommitsNoted as SealCommits}
+use Rattle.seal_transmitter.specs.Answers.{SealerCommitsNoted}
 use Rattle.sequence_journal.specs.Commits.{HasCommitted}
 use Rattle.sequence_journal.specs.Journal.{journal_link, journal_floor, kept_slot, told_with}
 use Rattle.sequence_journal.specs.{Slots.slot_bytes, declared.journal.Journal.Journal}
@@ -47,13 +47,13 @@ module _ (d : SlotDisk SteadySlots)
         turned = h.turned;
       }
 
-  pub seals : (note : Option SealNote) → SealCommits d old new disk_old disk_new note
+  pub seals : (note : Option SealNote) → SealerCommitsNoted d old new disk_old disk_new note
       → CommitsOneOrNone old new disk_old disk_new
   seals (Some (Sealed number start len)) c = inr (one number (d.may_leave disk_new) c.1)
   seals (Some (Unsealed start why)) c = inl c
   seals None c = inl c
 
-  pub checks : (note : Option CheckNote) → CheckCommits d old new disk_old disk_new note
+  pub checks : (note : Option CheckNote) → CheckerCommitsNoted d old new disk_old disk_new note
       → CommitsOneOrNone old new disk_old disk_new
   checks (Some (Passed number start len)) c = inr (one number (d.may_leave disk_new) c)
   checks (Some (Refused start why)) c = inl c

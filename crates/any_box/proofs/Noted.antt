@@ -1,8 +1,8 @@
 -- The notes of one of the boxes as notes of any box.
-use Rattle.any_box.specs.Noting.{defined_by, StepsOn, TakesOn}
+use Rattle.any_box.specs.Noting.{defined_by, StepsOn, AnyTakesOn}
 use Rattle.any_box.specs.declared.any_note.AnyNote.{AnyNote}
 use Rattle.frame_ending.specs.{Answers.told_notes, Answers.note_in, Walk.Noted}
-use Rattle.link_box.specs.{Runs.TakesRun, Stepping.Steps, Walking.Walking, Walking.full_notes}
+use Rattle.link_box.specs.{Runs.TakesRun, Stepping.BoxSteps, Walking.Walking, Walking.full_notes}
 use Rattle.link_format.specs.Setup.{Setup}
 use Rattle.std.proofs.Common.{◌≡◌, ◌∙◌, ℕ, List, [], ◌∷◌, ◌++◌, length, map, refl, sym, ap}
 use Rattle.std.proofs.lemmas.List.{map-append}
@@ -43,7 +43,7 @@ module _ {X A : Type 0} (walking : Walking A) (standing : X → ℕ → Setup �
     (noted : A → AnyNote) (old new : X) where
   pub steps-on : (before after : ℕ) (t tick : Tick) (note : Option A) (told : Option AnyNote)
       → told ≡ option_map noted note
-      → Steps walking standing old before new after t tick note
+      → BoxSteps walking standing old before new after t tick note
       → StepsOn (defined_by walking noted) (standing old) (standing new) before after t tick told
   steps-on before after t tick note told is steps = λ setup line stands.
       let done = steps setup line stands in
@@ -59,7 +59,7 @@ module _ {X A : Type 0} (walking : Walking A) (standing : X → ℕ → Setup �
       }
 
   pub takes-on : (run answer : List Tick) → TakesRun walking standing old new run answer
-      → TakesOn (defined_by walking noted) (standing old) (standing new) run answer
+      → AnyTakesOn (defined_by walking noted) (standing old) (standing new) run answer
   takes-on run answer takes = λ last setup line stands.
       let done = takes last setup line stands in
       record {

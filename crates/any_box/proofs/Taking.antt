@@ -1,6 +1,6 @@
 -- The front of a run.
 use Rattle.any_box.specs.declared.defined.DefinedBox.{Ghosts as DefinedBox}
-use Rattle.any_box.specs.{Boxes.TakesRun, declared.any_box.AnyBox.AnyBox}
+use Rattle.any_box.specs.{Boxes.AnyTakesRun, declared.any_box.AnyBox.AnyBox}
 use Rattle.std.proofs.Common.{◌≡◌, ◌∙◌, ℕ, ◌+◌, ◌≤◌, List, length, take, sym, ap, subst, arith}
 use Rattle.std.proofs.lemmas.List.{length-take-le, length-take, take-take}
 use Rattle.yasir_ticks.specs.declared.tick.Tick.{Tick}
@@ -19,10 +19,10 @@ module _ (n m : ℕ) (xs ys : List Tick) (front : ys ≡ take m xs) (within : n 
 
   pub takes_front : (boxes : DefinedBox AnyBox)
       (old new : AnyBox) (answer : List Tick)
-      → TakesRun boxes old new (take n ys) answer
-      → TakesRun boxes old new (take n xs) answer
+      → AnyTakesRun boxes old new (take n ys) answer
+      → AnyTakesRun boxes old new (take n xs) answer
   takes_front boxes old new answer takes =
-      subst (λ run. TakesRun boxes old new run answer) same-front takes
+      subst (λ run. AnyTakesRun boxes old new run answer) same-front takes
 
 -- n ticks are taken, and so n are counted
 pub taken_counted : (a b n : ℕ) (xs : List Tick) → a ≡ b + length (take n xs) → n ≤ length xs

@@ -2,7 +2,7 @@
 use Rattle.any_box.specs.declared.any_box.AnyBox.{AnyBox}
 use Rattle.any_box.specs.declared.defined.DefinedBox.{Ghosts as DefinedBox}
 use Rattle.any_box.{proofs.Places.fits_back, specs.Commits.OwesDisk, specs.Commits.IsOwed}
-use Rattle.any_box.specs.Held.{slots_held, link_held, floor_held, StepsHeld}
+use Rattle.any_box.specs.Held.{slots_held, link_of_held, floor_held, StepsHeld}
 use Rattle.any_box.specs.declared.held_box.{HeldBox.HeldBox, HeldStep.HeldStep}
 use Rattle.any_box.specs.declared.owed.Commit.{Commit}
 use Rattle.sequence_journal.proofs.FloorLaws.{floor_of_images}
@@ -31,11 +31,11 @@ module _ (boxes : DefinedBox AnyBox) (old new : HeldBox) (t : Tick) (step : Held
       ∙ ap (with_slot (slots_held old) (other_slot (kept_slot old.journal))) owed.bytes_are
       ∙ sym owed.commits.set
 
-  pub written-floor : floor_of (link_held old) (slots_held new) ≡ Some (floor_held new)
+  pub written-floor : floor_of (link_of_held old) (slots_held new) ≡ Some (floor_held new)
   written-floor =
       subst (λ link. floor_of link (slots_held new) ≡ Some (floor_held new)) steps.link new.floor_is
 
-  pub torn-floor : (bytes : List ℕ) → HasFloorAtLeast (link_held old) (floor_held old)
+  pub torn-floor : (bytes : List ℕ) → HasFloorAtLeast (link_of_held old) (floor_held old)
       (with_slot (slots_held old) commit.slot bytes)
   torn-floor bytes =
       let free = other_slot (kept_slot old.journal) in
@@ -44,5 +44,5 @@ module _ (boxes : DefinedBox AnyBox) (old new : HeldBox) (t : Tick) (step : Held
       let kept = floor_of_images old.journal (Some (slots_held old)) (λ (c : Slots). c ≡ image) fits
       (λ c e. subst (λ (d : Slots). AreSameBut free (slots_held old) d) (sym e)
       (but-set free (slots_held old) bytes)) image refl in
-      subst (λ (slot : Slot). HasFloorAtLeast (link_held old) (floor_held old)
+      subst (λ (slot : Slot). HasFloorAtLeast (link_of_held old) (floor_held old)
       (with_slot (slots_held old) slot bytes)) (sym owed.slot_is) kept

@@ -8,11 +8,11 @@ use Rattle.link_format.specs.declared.tag.Mac.{Ghosts as Mac}
 use Rattle.link_format.specs.declared.macs.{HmacSha1.HmacSha1, HmacSha256.HmacSha256}
 use Rattle.link_format.specs.Setup.{Setup}
 use Rattle.seal_transmitter.specs.Boxed.{seal_walking}
-use Rattle.seal_transmitter.specs.Stands.{StandsAt as SealsAt, ticks_taken as seal_ticks}
-use Rattle.seal_transmitter.specs.Stands.{direction_of as seal_direction}
+use Rattle.seal_transmitter.specs.Stands.{SealerStandsAt, sealer_ticks}
+use Rattle.seal_transmitter.specs.Stands.{sealer_direction}
 use Rattle.check_receiver.specs.Boxed.{check_walking}
-use Rattle.check_receiver.specs.Stands.{StandsAt as ChecksAt, ticks_taken as check_ticks}
-use Rattle.check_receiver.specs.Stands.{direction_of as check_direction}
+use Rattle.check_receiver.specs.Stands.{CheckerStandsAt, checker_ticks}
+use Rattle.check_receiver.specs.Stands.{checker_direction}
 use Rattle.sequence_journal.specs.declared.link.LinkId.{LinkId}
 use Rattle.any_box.specs.declared.any_box.AnyBox.{AnyBox}
 use Rattle.any_box.specs.declared.any_box.AnyBox.TheVariants.{RtuSealer18, DnpSealer18}
@@ -21,7 +21,7 @@ use Rattle.any_box.specs.declared.any_box.AnyBox.TheVariants.{RtuChecker18, DnpC
 use Rattle.any_box.specs.declared.any_box.AnyBox.TheVariants.{RtuChecker24, DnpChecker24}
 use Rattle.any_box.specs.declared.any_note.AnyNote.{AnyNote}
 use Rattle.any_box.specs.declared.any_note.AnyNote.TheVariants.{OfSealer, OfChecker}
-use Rattle.any_box.specs.Noting.{Definition, defined_by, StepsOn, TakesOn}
+use Rattle.any_box.specs.Noting.{Definition, defined_by, StepsOn, AnyTakesOn}
 use Rattle.any_box.specs.declared.defined.DefinedBox.{Ghosts as DefinedBox}
 use Rattle.any_box.specs.declared.kind.Kind.{Kind}
 use Rattle.any_box.specs.declared.kind.Part.{Part}
@@ -32,37 +32,37 @@ use Rattle.command_ends.specs.declared.words.Profile.{Profile}
 use Rattle.command_ends.specs.declared.words.Profile.TheVariants.{Y18, Y24}
 
 -- which of the eight a box is
-abbrev pub kind_of : AnyBox → Kind
-kind_of (RtuSealer18 value) = record { part = Sealer; proto = Of.Rtu; profile = Y18 }
-kind_of (DnpSealer18 value) = record { part = Sealer; proto = Of.Dnp3; profile = Y18 }
-kind_of (RtuSealer24 value) = record { part = Sealer; proto = Of.Rtu; profile = Y24 }
-kind_of (DnpSealer24 value) = record { part = Sealer; proto = Of.Dnp3; profile = Y24 }
-kind_of (RtuChecker18 value) = record { part = Checker; proto = Of.Rtu; profile = Y18 }
-kind_of (DnpChecker18 value) = record { part = Checker; proto = Of.Dnp3; profile = Y18 }
-kind_of (RtuChecker24 value) = record { part = Checker; proto = Of.Rtu; profile = Y24 }
-kind_of (DnpChecker24 value) = record { part = Checker; proto = Of.Dnp3; profile = Y24 }
+abbrev pub box_kind : AnyBox → Kind
+box_kind (RtuSealer18 value) = record { part = Sealer; proto = Of.Rtu; profile = Y18 }
+box_kind (DnpSealer18 value) = record { part = Sealer; proto = Of.Dnp3; profile = Y18 }
+box_kind (RtuSealer24 value) = record { part = Sealer; proto = Of.Rtu; profile = Y24 }
+box_kind (DnpSealer24 value) = record { part = Sealer; proto = Of.Dnp3; profile = Y24 }
+box_kind (RtuChecker18 value) = record { part = Checker; proto = Of.Rtu; profile = Y18 }
+box_kind (DnpChecker18 value) = record { part = Checker; proto = Of.Dnp3; profile = Y18 }
+box_kind (RtuChecker24 value) = record { part = Checker; proto = Of.Rtu; profile = Y24 }
+box_kind (DnpChecker24 value) = record { part = Checker; proto = Of.Dnp3; profile = Y24 }
 
 -- how many ticks a box has taken
-abbrev pub ticks_in : AnyBox → ℕ
-ticks_in (RtuSealer18 value) = seal_ticks value
-ticks_in (DnpSealer18 value) = seal_ticks value
-ticks_in (RtuSealer24 value) = seal_ticks value
-ticks_in (DnpSealer24 value) = seal_ticks value
-ticks_in (RtuChecker18 value) = check_ticks value
-ticks_in (DnpChecker18 value) = check_ticks value
-ticks_in (RtuChecker24 value) = check_ticks value
-ticks_in (DnpChecker24 value) = check_ticks value
+abbrev pub box_ticks_in : AnyBox → ℕ
+box_ticks_in (RtuSealer18 value) = sealer_ticks value
+box_ticks_in (DnpSealer18 value) = sealer_ticks value
+box_ticks_in (RtuSealer24 value) = sealer_ticks value
+box_ticks_in (DnpSealer24 value) = sealer_ticks value
+box_ticks_in (RtuChecker18 value) = checker_ticks value
+box_ticks_in (DnpChecker18 value) = checker_ticks value
+box_ticks_in (RtuChecker24 value) = checker_ticks value
+box_ticks_in (DnpChecker24 value) = checker_ticks value
 
 -- the link of a box: the label of its protocol, its direction, and the delay of its profile
 abbrev pub own_link : AnyBox → LinkId
-own_link (RtuSealer18 value) = record { label = 1; dir = seal_direction value; profile = 18 }
-own_link (DnpSealer18 value) = record { label = 2; dir = seal_direction value; profile = 18 }
-own_link (RtuSealer24 value) = record { label = 1; dir = seal_direction value; profile = 24 }
-own_link (DnpSealer24 value) = record { label = 2; dir = seal_direction value; profile = 24 }
-own_link (RtuChecker18 value) = record { label = 1; dir = check_direction value; profile = 18 }
-own_link (DnpChecker18 value) = record { label = 2; dir = check_direction value; profile = 18 }
-own_link (RtuChecker24 value) = record { label = 1; dir = check_direction value; profile = 24 }
-own_link (DnpChecker24 value) = record { label = 2; dir = check_direction value; profile = 24 }
+own_link (RtuSealer18 value) = record { label = 1; dir = sealer_direction value; profile = 18 }
+own_link (DnpSealer18 value) = record { label = 2; dir = sealer_direction value; profile = 18 }
+own_link (RtuSealer24 value) = record { label = 1; dir = sealer_direction value; profile = 24 }
+own_link (DnpSealer24 value) = record { label = 2; dir = sealer_direction value; profile = 24 }
+own_link (RtuChecker18 value) = record { label = 1; dir = checker_direction value; profile = 18 }
+own_link (DnpChecker18 value) = record { label = 2; dir = checker_direction value; profile = 18 }
+own_link (RtuChecker24 value) = record { label = 1; dir = checker_direction value; profile = 24 }
+own_link (DnpChecker24 value) = record { label = 2; dir = checker_direction value; profile = 24 }
 
 -- The rules of the two protocols, and the MACs of the two profiles.
 module _ (rtu : LineRules Rtu) (dnp : LineRules Dnp) (short : Mac HmacSha1)
@@ -83,32 +83,32 @@ module _ (rtu : LineRules Rtu) (dnp : LineRules Dnp) (short : Mac HmacSha1)
 
   -- Holds if a box with this setup has taken these ticks, and the last number that it used is this
   -- one.
-  abbrev pub StandsAt : AnyBox → ℕ → Setup → List Tick → Type 0
-  StandsAt (RtuSealer18 value) = SealsAt rtu short value
-  StandsAt (DnpSealer18 value) = SealsAt dnp short value
-  StandsAt (RtuSealer24 value) = SealsAt rtu long value
-  StandsAt (DnpSealer24 value) = SealsAt dnp long value
-  StandsAt (RtuChecker18 value) = ChecksAt rtu short value
-  StandsAt (DnpChecker18 value) = ChecksAt dnp short value
-  StandsAt (RtuChecker24 value) = ChecksAt rtu long value
-  StandsAt (DnpChecker24 value) = ChecksAt dnp long value
+  abbrev pub AnyBoxStandsAt : AnyBox → ℕ → Setup → List Tick → Type 0
+  AnyBoxStandsAt (RtuSealer18 value) = SealerStandsAt rtu short value
+  AnyBoxStandsAt (DnpSealer18 value) = SealerStandsAt dnp short value
+  AnyBoxStandsAt (RtuSealer24 value) = SealerStandsAt rtu long value
+  AnyBoxStandsAt (DnpSealer24 value) = SealerStandsAt dnp long value
+  AnyBoxStandsAt (RtuChecker18 value) = CheckerStandsAt rtu short value
+  AnyBoxStandsAt (DnpChecker18 value) = CheckerStandsAt dnp short value
+  AnyBoxStandsAt (RtuChecker24 value) = CheckerStandsAt rtu long value
+  AnyBoxStandsAt (DnpChecker24 value) = CheckerStandsAt dnp long value
 
 -- What the boxes are by the definitions.
 module _ (boxes : DefinedBox AnyBox) where
   -- Holds if a box has taken this tick after whatever line it had taken, and is still the same one
   -- of the eight.
-  pub record Steps (old : AnyBox) (before : ℕ) (new : AnyBox) (after : ℕ) (t tick : Tick)
+  pub record AnySteps (old : AnyBox) (before : ℕ) (new : AnyBox) (after : ℕ) (t tick : Tick)
       (note : Option AnyNote) : Type 0 where
-    pub kind_is : kind_of new ≡ kind_of old
+    pub kind_is : box_kind new ≡ box_kind old
     pub link_is : own_link new ≡ own_link old
-    pub counted : ticks_in new ≡ ticks_in old + 1
-    pub steps : StepsOn (boxes.defined (kind_of new)) (boxes.stands old) (boxes.stands new) before after t
+    pub counted : box_ticks_in new ≡ box_ticks_in old + 1
+    pub steps : StepsOn (boxes.defined (box_kind new)) (boxes.stands old) (boxes.stands new) before after t
         tick note
 
   -- Holds if a box has taken this run after whatever line it had taken, and is still the same one
   -- of the eight.
-  pub record TakesRun (old new : AnyBox) (run answer : List Tick) : Type 0 where
-    pub kind_is : kind_of new ≡ kind_of old
+  pub record AnyTakesRun (old new : AnyBox) (run answer : List Tick) : Type 0 where
+    pub kind_is : box_kind new ≡ box_kind old
     pub link_is : own_link new ≡ own_link old
-    pub counted : ticks_in new ≡ ticks_in old + length run
-    pub takes : TakesOn (boxes.defined (kind_of new)) (boxes.stands old) (boxes.stands new) run answer
+    pub counted : box_ticks_in new ≡ box_ticks_in old + length run
+    pub takes : AnyTakesOn (boxes.defined (box_kind new)) (boxes.stands old) (boxes.stands new) run answer

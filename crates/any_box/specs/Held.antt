@@ -12,7 +12,7 @@ use Rattle.sequence_journal.specs.Slots.{floor_of}
 use Rattle.sequence_journal.specs.declared.link.LinkId.{LinkId}
 use Rattle.any_box.specs.Kinds.{link_for}
 use Rattle.any_box.specs.Commits.{OwesDisk}
-use Rattle.any_box.specs.Boxes.{kind_of, Steps, TakesRun}
+use Rattle.any_box.specs.Boxes.{box_kind, AnySteps, AnyTakesRun}
 use Rattle.any_box.specs.declared.held_box.HeldBox.{HeldBox}
 use Rattle.any_box.specs.declared.held_box.HeldStep.{HeldStep}
 use Rattle.any_box.specs.declared.kind.Kind.{Kind}
@@ -34,39 +34,39 @@ abbrev pub ticks_held : HeldBox → ℕ
 ticks_held held = held.ticks
 
 -- the link that the journal of the box serves
-abbrev pub link_held : HeldBox → LinkId
-link_held held = journal_link held.journal
+abbrev pub link_of_held : HeldBox → LinkId
+link_of_held held = journal_link held.journal
 
 -- What the boxes are by the definitions.
 module _ (boxes : DefinedBox AnyBox) where
-  -- Holds if a box with this setup has taken this line.
-  abbrev pub Holds : HeldBox → Setup → List Tick → Type 0
-  Holds held setup line = boxes.stands held.line_box (floor_held held) setup line
+  -- HeldHolds if a box with this setup has taken this line.
+  abbrev pub HeldHolds : HeldBox → Setup → List Tick → Type 0
+  HeldHolds held setup line = boxes.stands held.line_box (floor_held held) setup line
 
-  -- Holds if this is how a box begins. It is this one of the eight, and has taken no tick. Its
+  -- HeldHolds if this is how a box begins. It is this one of the eight, and has taken no tick. Its
   -- journal serves the link of the box and has the floor of the slots, which are as they were
   -- given.
-  pub record Begins (kind : Kind) (dir : Dir) (key a b : List ℕ) (held : HeldBox) : Type 0 where
-    pub kind_is : kind_of held.line_box ≡ kind
-    pub link_is : link_held held ≡ link_for kind dir
+  pub record HeldBegins (kind : Kind) (dir : Dir) (key a b : List ℕ) (held : HeldBox) : Type 0 where
+    pub kind_is : box_kind held.line_box ≡ kind
+    pub link_is : link_of_held held ≡ link_for kind dir
     pub floor_is : floor_of (link_for kind dir) (slots_given a b) ≡ Some (floor_held held)
     pub slots_are : slots_held held ≡ slots_given a b
     pub none_taken : ticks_held held ≡ 0
-    pub holds : Holds held (setup_of key dir (floor_held held)) []
+    pub holds : HeldHolds held (setup_of key dir (floor_held held)) []
 
-  -- Holds if a step returns what the definition of the box adds, whatever line the box had taken,
+  -- HeldHolds if a step returns what the definition of the box adds, whatever line the box had taken,
   -- and what its caller must write.
   pub record StepsHeld (old new : HeldBox) (t : Tick) (step : HeldStep) : Type 0 where
     pub counted : ticks_held new ≡ ticks_held old + 1
-    pub steps : Steps boxes old.line_box (floor_held old) new.line_box
+    pub steps : AnySteps boxes old.line_box (floor_held old) new.line_box
         (floor_held new) t step.tick step.note
-    pub link : link_held new ≡ link_held old
+    pub link : link_of_held new ≡ link_of_held old
     pub owes : OwesDisk old.journal new.journal old.disk new.disk step.commit
 
-  -- Holds if a run is taken, and these ticks of the other line are returned, without a note and
+  -- HeldHolds if a run is taken, and these ticks of the other line are returned, without a note and
   -- with nothing to write.
   pub record TakesHeld (old new : HeldBox) (run answer : List Tick) : Type 0 where
     pub counted : ticks_held new ≡ ticks_held old + length run
-    pub takes : TakesRun boxes old.line_box new.line_box run answer
+    pub takes : AnyTakesRun boxes old.line_box new.line_box run answer
     pub journal : new.journal ≡ old.journal
     pub disk : new.disk ≡ old.disk

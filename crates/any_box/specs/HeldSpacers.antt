@@ -5,7 +5,7 @@ use Rattle.std.specs.Prelude.{◌≡◌, ℕ, ◌+◌, [], Option, Some, None}
 use Rattle.yasir_ticks.specs.declared.TheConstants.{MAX_TICKS}
 use Rattle.yasir_ticks.specs.declared.tick.Tick.{Tick}
 use Rattle.line_spacer.specs.declared.spacer.SpaceStep.{SpaceStep}
-use Rattle.any_box.specs.Spacers.{kind_of, StepsOn}
+use Rattle.any_box.specs.Spacers.{spacer_kind, StepsOn}
 use Rattle.any_box.specs.declared.any_spacer.SpacerKind.{SpacerKind}
 use Rattle.any_box.specs.declared.held_spacer.HeldSpacer.{HeldSpacer}
 
@@ -17,7 +17,7 @@ module _ (spacers : DefinedSpacer AnySpacer) where
   -- Holds for a spacer of this kind, with room for `room` frames to wait, that has taken no tick.
   pub record BeginsSpacer (kind : SpacerKind) (room : ℕ) (held : HeldSpacer) : Type 0 where
     pub none_taken : spacer_ticks held ≡ 0
-    pub kind_is : kind_of held.spacer ≡ kind
+    pub kind_is : spacer_kind held.spacer ≡ kind
     pub stands : spacers.stands room held.spacer []
 
   -- Holds if a step takes tick `t` and returns the next tick of the spaced line, whatever line the

@@ -5,7 +5,7 @@ use Rattle.yasir_ticks.specs.declared.tick.Tick.{Tick}
 use Rattle.frame_ending.specs.Answers.{told_notes, note_in}
 use Rattle.frame_ending.specs.Walk.{Noted}
 use Rattle.link_format.specs.Setup.{Setup}
-use Rattle.link_box.specs.Walking.{Walking, full_notes, other_line, number_after}
+use Rattle.link_box.specs.Walking.{Walking, full_notes, other_line, number_used_after}
 use Rattle.any_box.specs.declared.any_note.AnyNote.{AnyNote}
 
 -- What a box with a setup makes of a line by the definitions: the other line, the notes, and the
@@ -21,7 +21,7 @@ defined_by walking noted = record {
   other = λ setup line. other_line walking setup line;
   notes = λ setup line. told_notes (λ full. noted (walking.brief full))
       (full_notes walking setup line);
-  number = λ setup line. number_after walking setup line;
+  number = λ setup line. number_used_after walking setup line;
 }
 
 -- `made` is what a box makes of a line. `standing` holds of the last number that the box used, its
@@ -30,7 +30,7 @@ module _ (made : Definition) (standing : ℕ → Setup → List Tick → Type 0)
   -- Holds if a box has taken one more tick after this line. The last number that it used is that of
   -- the definition, and it has returned the tick of the other line and the note that the definition
   -- adds.
-  pub record HasStepped (last : ℕ) (setup : Setup) (line : List Tick) (t tick : Tick)
+  pub record AnyHasStepped (last : ℕ) (setup : Setup) (line : List Tick) (t tick : Tick)
       (note : Option AnyNote) : Type 0 where
     pub stands : standing last setup (line ++ t ∷ [])
     pub number : last ≡ made.number setup (line ++ t ∷ [])
@@ -40,7 +40,7 @@ module _ (made : Definition) (standing : ℕ → Setup → List Tick → Type 0)
 
   -- Holds if a box has taken this run after this line, and used no number. It has returned these
   -- ticks of the other line, and no note falls into them.
-  pub record HasTakenRun (last : ℕ) (setup : Setup) (line run answer : List Tick) : Type 0 where
+  pub record AnyHasTakenRun (last : ℕ) (setup : Setup) (line run answer : List Tick) : Type 0 where
     pub stands : standing last setup (line ++ run)
     pub ticks_are : made.other setup (line ++ run) ≡ made.other setup line ++ answer
     pub no_note : made.notes setup (line ++ run) ≡ made.notes setup line
@@ -51,8 +51,8 @@ module _ (made : Definition) (standing : ℕ → Setup → List Tick → Type 0)
 module _ (made : Definition) (before since : ℕ → Setup → List Tick → Type 0) where
   abbrev pub StepsOn : ℕ → ℕ → Tick → Tick → Option AnyNote → Type 0
   StepsOn old new t tick note = (setup : Setup) (line : List Tick)
-      → before old setup line → HasStepped made since new setup line t tick note
+      → before old setup line → AnyHasStepped made since new setup line t tick note
 
-  abbrev pub TakesOn : List Tick → List Tick → Type 0
-  TakesOn run answer = (last : ℕ) (setup : Setup) (line : List Tick)
-      → before last setup line → HasTakenRun made since last setup line run answer
+  abbrev pub AnyTakesOn : List Tick → List Tick → Type 0
+  AnyTakesOn run answer = (last : ℕ) (setup : Setup) (line : List Tick)
+      → before last setup line → AnyHasTakenRun made since last setup line run answer

@@ -6,7 +6,7 @@ use Rattle.device_model.specs.RtuReads.{rtu_reads}
 use Rattle.device_model.specs.HuntFamily.{dnp_family_reads}
 use Rattle.device_model.specs.declared.device.Device.{Ghosts as Device}
 use Rattle.device_model.specs.declared.rtu.RtuDevice.{RtuDevice}
-use Rattle.line_spacer.specs.Stands.{StandsFor, AnswersSpaced, ticks_taken}
+use Rattle.line_spacer.specs.Stands.{SpacerStandsFor, AnswersSpaced, ticks_spaced}
 use Rattle.line_spacer.specs.declared.spacer.SpaceStep.{SpaceStep}
 use Rattle.any_box.specs.declared.any_spacer.AnySpacer.{AnySpacer}
 use Rattle.any_box.specs.declared.any_spacer.AnySpacer.TheVariants as Which
@@ -25,49 +25,49 @@ reads_of Dnp3 = dnp_family_reads 18
 reads_of Dnp3Wide = dnp_family_reads 18
 
 -- the least number of silent ticks that it leaves between two frames
-abbrev pub gap_of : SpacerKind → ℕ
-gap_of Rtu = 21
-gap_of RtuWide = 27
-gap_of Dnp3 = 21
-gap_of Dnp3Wide = 27
+abbrev pub spacer_gap : SpacerKind → ℕ
+spacer_gap Rtu = 21
+spacer_gap RtuWide = 27
+spacer_gap Dnp3 = 21
+spacer_gap Dnp3Wide = 27
 
 -- the kind of a spacer
-abbrev pub kind_of : AnySpacer → SpacerKind
-kind_of (Which.Rtu spacer) = Rtu
-kind_of (Which.RtuWide spacer) = RtuWide
-kind_of (Which.Dnp3 spacer) = Dnp3
-kind_of (Which.Dnp3Wide spacer) = Dnp3Wide
+abbrev pub spacer_kind : AnySpacer → SpacerKind
+spacer_kind (Which.Rtu spacer) = Rtu
+spacer_kind (Which.RtuWide spacer) = RtuWide
+spacer_kind (Which.Dnp3 spacer) = Dnp3
+spacer_kind (Which.Dnp3Wide spacer) = Dnp3Wide
 
 -- The devices as which a spacer hears a line.
 module _ (rtu : Device RtuDevice) (dnp : Device (ForgetfulDevice Dnp)) where
   -- how many ticks a spacer has taken
-  abbrev pub ticks_in : AnySpacer → ℕ
-  ticks_in (Which.Rtu spacer) = ticks_taken rtu spacer
-  ticks_in (Which.RtuWide spacer) = ticks_taken rtu spacer
-  ticks_in (Which.Dnp3 spacer) = ticks_taken dnp spacer
-  ticks_in (Which.Dnp3Wide spacer) = ticks_taken dnp spacer
+  abbrev pub spacer_ticks_in : AnySpacer → ℕ
+  spacer_ticks_in (Which.Rtu spacer) = ticks_spaced rtu spacer
+  spacer_ticks_in (Which.RtuWide spacer) = ticks_spaced rtu spacer
+  spacer_ticks_in (Which.Dnp3 spacer) = ticks_spaced dnp spacer
+  spacer_ticks_in (Which.Dnp3Wide spacer) = ticks_spaced dnp spacer
 
   -- Holds if a spacer, with room for `room` frames to wait, has taken this line.
-  abbrev pub StandsAt : ℕ → AnySpacer → List Tick → Type 0
-  StandsAt room (Which.Rtu spacer) line = StandsFor rtu room spacer line
-  StandsAt room (Which.RtuWide spacer) line = StandsFor rtu room spacer line
-  StandsAt room (Which.Dnp3 spacer) line = StandsFor dnp room spacer line
-  StandsAt room (Which.Dnp3Wide spacer) line = StandsFor dnp room spacer line
+  abbrev pub AnySpacerStandsAt : ℕ → AnySpacer → List Tick → Type 0
+  AnySpacerStandsAt room (Which.Rtu spacer) line = SpacerStandsFor rtu room spacer line
+  AnySpacerStandsAt room (Which.RtuWide spacer) line = SpacerStandsFor rtu room spacer line
+  AnySpacerStandsAt room (Which.Dnp3 spacer) line = SpacerStandsFor dnp room spacer line
+  AnySpacerStandsAt room (Which.Dnp3Wide spacer) line = SpacerStandsFor dnp room spacer line
 
 -- What the spacers are by the definitions.
 module _ (spacers : DefinedSpacer AnySpacer) where
   -- Holds if a step takes tick `t` after this line, and returns the next tick of the spaced line
   -- and the frame that is lost, if one is, which has the bytes `bytes`.
-  pub record Adds (kind : SpacerKind) (room : ℕ) (new : AnySpacer) (line : List Tick) (t : Tick)
+  pub record SpacerAdds (kind : SpacerKind) (room : ℕ) (new : AnySpacer) (line : List Tick) (t : Tick)
       (step : SpaceStep) : Type 0 where
     pub stands : spacers.stands room new (line ++ t ∷ [])
     pub bytes : List ℕ
-    pub answers : AnswersSpaced (reads_of kind) (gap_of kind) room line (t ∷ []) (step.tick ∷ [])
+    pub answers : AnswersSpaced (reads_of kind) (spacer_gap kind) room line (t ∷ []) (step.tick ∷ [])
         (length line) (frames_lent step.lost bytes)
 
   -- Holds if a step takes tick `t` as `Adds` says, whatever line the spacer had taken, and the
   -- spacer's kind stays the same.
   pub record StepsOn (old new : AnySpacer) (t : Tick) (step : SpaceStep) : Type 0 where
-    pub kind_is : kind_of new ≡ kind_of old
+    pub kind_is : spacer_kind new ≡ spacer_kind old
     pub adds : (room : ℕ) (line : List Tick) → spacers.stands room old line
-        → Adds (kind_of old) room new line t step
+        → SpacerAdds (spacer_kind old) room new line t step

@@ -63,24 +63,24 @@ macro_rules! with_box {
 }
 
 impl DefinedBox for AnyBox {
-    ghost use Rattle.any_box.specs.Boxes.{definition_of, StandsAt};
+    ghost use Rattle.any_box.specs.Boxes.{definition_of, AnyBoxStandsAt};
 
     ghost defined = { definition_of ⟦<Rtu as LineRules>⟧ ⟦<Dnp as LineRules>⟧
         ⟦<HmacSha1 as Mac>⟧ ⟦<HmacSha256 as Mac>⟧ };
 
-    ghost stands = { StandsAt ⟦<Rtu as LineRules>⟧ ⟦<Dnp as LineRules>⟧
+    ghost stands = { AnyBoxStandsAt ⟦<Rtu as LineRules>⟧ ⟦<Dnp as LineRules>⟧
         ⟦<HmacSha1 as Mac>⟧ ⟦<HmacSha256 as Mac>⟧ };
 }
 
 impl AnyBox {
-    ghost use Rattle.any_box.specs.Boxes.{kind_of, ticks_in, own_link, Steps, TakesRun};
+    ghost use Rattle.any_box.specs.Boxes.{box_kind, box_ticks_in, own_link, AnySteps, AnyTakesRun};
     ghost use Rattle.any_box.specs.Kinds.{link_for};
 
     /// Returns a box that has taken no tick, for a key of any length and a direction.
     pub(crate) fn new(kind: Kind, key: &[u8], dir: Dir) -> AnyBox
-        ensures kind { kind_of result ≡ kind }
+        ensures kind { box_kind result ≡ kind }
         ensures link { own_link result ≡ link_for kind dir }
-        ensures taken { ticks_in result ≡ 0 }
+        ensures taken { box_ticks_in result ≡ 0 }
         ensures stands { (floor : ℕ) → ⟦<AnyBox as DefinedBox>⟧.stands
             result floor (setup_of key.now dir floor) [] }
     {
@@ -112,10 +112,10 @@ impl AnyBox {
         journal: &mut Journal,
         disk: &mut SteadySlots,
     ) -> BoxStep<AnyNote>
-        requires room { ticks_in self.old < MAX_TICKS }
+        requires room { box_ticks_in self.old < MAX_TICKS }
         requires of_link { journal_link journal.old ≡ own_link self.old }
         requires fits { Fits journal.old (Some (steady_slots disk.old)) }
-        ensures steps { Steps ⟦<AnyBox as DefinedBox>⟧
+        ensures steps { AnySteps ⟦<AnyBox as DefinedBox>⟧
             self.old (journal_floor journal.old) self.new (journal_floor journal.new)
             t result.tick result.note }
         ensures link { journal_link journal.new ≡ journal_link journal.old }
@@ -131,9 +131,9 @@ impl AnyBox {
     /// taken, the caller goes on by `step`. There must be room for all of these ticks: the box
     /// takes at most `MAX_TICKS`.
     pub(crate) fn take_alike(&mut self, run: TickRun<'_>, sent: &mut RunBytes) -> usize
-        requires room { ticks_in self.old + length (run_ticks run) ≤ MAX_TICKS }
+        requires room { box_ticks_in self.old + length (run_ticks run) ≤ MAX_TICKS }
         ensures within { result ≤ length (run_ticks run.entry) }
-        ensures run { TakesRun ⟦<AnyBox as DefinedBox>⟧
+        ensures run { AnyTakesRun ⟦<AnyBox as DefinedBox>⟧
             self.old self.new (take result (run_ticks run.entry)) (answered result sent.new.items) }
     {
         with_box!(self, line_box => take_any(line_box, run, sent))

@@ -1,5 +1,5 @@
 //! One of the four spacers of a live line.
-ghost use Rattle.any_box.specs.Spacers.{kind_of, StandsAt, ticks_in, StepsOn};
+ghost use Rattle.any_box.specs.Spacers.{spacer_kind, AnySpacerStandsAt, spacer_ticks_in, StepsOn};
 
 use crate::defined::DefinedSpacer;
 use crate::forgetful::ForgetfulDevice;
@@ -39,9 +39,9 @@ pub enum AnySpacer {
 }
 
 impl DefinedSpacer for AnySpacer {
-    ghost taken = { ticks_in ⟦<RtuDevice as Device>⟧ ⟦<ForgetfulDevice<Dnp> as Device>⟧ };
+    ghost taken = { spacer_ticks_in ⟦<RtuDevice as Device>⟧ ⟦<ForgetfulDevice<Dnp> as Device>⟧ };
 
-    ghost stands = { StandsAt ⟦<RtuDevice as Device>⟧ ⟦<ForgetfulDevice<Dnp> as Device>⟧ };
+    ghost stands = { AnySpacerStandsAt ⟦<RtuDevice as Device>⟧ ⟦<ForgetfulDevice<Dnp> as Device>⟧ };
 }
 
 impl AnySpacer {
@@ -52,7 +52,7 @@ impl AnySpacer {
     pub fn new(alloc: Global, kind: SpacerKind, room: usize) -> Result<AnySpacer, NoMemory>
         ensures taken { IfOk result (λ spacer.
             ⟦<AnySpacer as DefinedSpacer>⟧.taken spacer ≡ 0) }
-        ensures kind { IfOk result (λ spacer. kind_of spacer ≡ kind) }
+        ensures kind { IfOk result (λ spacer. spacer_kind spacer ≡ kind) }
         ensures stands { IfOk result (λ spacer. ⟦<AnySpacer as DefinedSpacer>⟧.stands room spacer []) }
     {
         Ok(match kind {

@@ -4,9 +4,9 @@ ghost use Rattle.yasir_io.specs.Steady.{steady_slots};
 ghost use Rattle.yasir_ticks.specs.TickRun.{run_ticks};
 ghost use Rattle.frame_ending.specs.Answered.{answered};
 ghost use Rattle.sequence_journal.specs.Journal.{journal_link, journal_floor, Fits};
-ghost use Rattle.link_box.specs.Stepping.{MayStep, Steps};
+ghost use Rattle.link_box.specs.Stepping.{MayStep, BoxSteps};
 ghost use Rattle.any_box.specs.Commits.{CommitsOneOrNone};
-ghost use Rattle.any_box.specs.Noting.{defined_by, StepsOn, TakesOn};
+ghost use Rattle.any_box.specs.Noting.{defined_by, StepsOn, AnyTakesOn};
 ghost use Rattle.any_box.specs.declared.any_note.AnyNote.{AnyNote};
 ghost use Rattle.any_box.specs.declared.any_note.AnyNote.TheVariants.{OfSealer, OfChecker};
 
@@ -42,7 +42,7 @@ pub(crate) trait CommittingBox: LinkBox {
             (Some (steady_slots disk.old)) }
         ensures taken { Self.taken self.new ≡ Self.taken self.old + 1 }
         ensures link_of { Self.link_of self.new ≡ Self.link_of self.old }
-        ensures steps { Steps Self.walking Self.stands
+        ensures steps { BoxSteps Self.walking Self.stands
             self.old (journal_floor journal.old) self.new (journal_floor journal.new)
             t result.tick result.note }
         ensures link { journal_link journal.new ≡ journal_link journal.old }
@@ -133,7 +133,7 @@ pub(crate) fn take_any<X: CommittingBox>(
     ensures taken { X.taken line_box.new
         ≡ X.taken line_box.old + length (take result (run_ticks run.entry)) }
     ensures link_of { X.link_of line_box.new ≡ X.link_of line_box.old }
-    ensures takes { TakesOn (defined_by X.walking X.noted) (X.stands line_box.old)
+    ensures takes { AnyTakesOn (defined_by X.walking X.noted) (X.stands line_box.old)
         (X.stands line_box.new)
         (take result (run_ticks run.entry)) (answered result sent.new.items) }
 {

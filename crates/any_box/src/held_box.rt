@@ -5,7 +5,7 @@ ghost use Rattle.yasir_ticks.specs.declared.TheConstants.{MAX_TICKS};
 ghost use Rattle.yasir_io.specs.Steady.{steady_slots};
 ghost use Rattle.sequence_journal.specs.Journal.{journal_link, journal_floor, kept_slot, is_broken};
 ghost use Rattle.sequence_journal.specs.Slots.{floor_of, floor_slot};
-ghost use Rattle.any_box.specs.Boxes.{ticks_in, own_link};
+ghost use Rattle.any_box.specs.Boxes.{box_ticks_in, own_link};
 ghost use Rattle.any_box.specs.Places.{slot_number};
 
 use crate::any_box::AnyBox;
@@ -41,7 +41,7 @@ pub struct HeldBox {
     journal: Journal,
     disk: SteadySlots,
     ticks: u64,
-    ghost counted: { ticks_in line_box ≡ ticks },
+    ghost counted: { box_ticks_in line_box ≡ ticks },
     ghost own_label: { (journal_link journal).label ≡ (own_link line_box).label },
     ghost own_dir: { (journal_link journal).dir ≡ (own_link line_box).dir },
     ghost own_profile: { (journal_link journal).profile ≡ (own_link line_box).profile },
@@ -59,7 +59,7 @@ impl HeldBox {
     ghost use Rattle.frame_ending.specs.Answered.{answered};
     ghost use Rattle.sequence_journal.specs.Loading.{RefusesLoad};
     ghost use Rattle.any_box.specs.Kinds.{link_for};
-    ghost use Rattle.any_box.specs.Held.{slots_given, floor_held, ticks_held, Begins};
+    ghost use Rattle.any_box.specs.Held.{slots_given, floor_held, ticks_held, HeldBegins};
     ghost use Rattle.any_box.specs.Held.{StepsHeld, TakesHeld};
 
     /// Returns a box that has taken no tick, for a key of any length and a direction. Its journal
@@ -72,7 +72,7 @@ impl HeldBox {
         a: SlotBytes,
         b: SlotBytes,
     ) -> Result<HeldBox, LoadError>
-        ensures begins { IfOk result (Begins ⟦<AnyBox as DefinedBox>⟧ kind dir key.now a b) }
+        ensures begins { IfOk result (HeldBegins ⟦<AnyBox as DefinedBox>⟧ kind dir key.now a b) }
         ensures refused { IfErr result (RefusesLoad (link_for kind dir)
             (Some (slots_given a b)) (Some (slots_given a b)) 0 0) }
     {

@@ -4,7 +4,7 @@ ghost use Rattle.yasir_ticks.specs.declared.tick.Tick.{Tick};
 ghost use Rattle.yasir_io.specs.Disks.{with_slot};
 ghost use Rattle.sequence_journal.specs.Journal.{HasFloorAtLeast};
 ghost use Rattle.sequence_journal.specs.Slots.{floor_of};
-ghost use Rattle.any_box.specs.Held.{slots_held, link_held, floor_held, StepsHeld};
+ghost use Rattle.any_box.specs.Held.{slots_held, link_of_held, floor_held, StepsHeld};
 ghost use Rattle.any_box.specs.declared.held_box.HeldBox.{HeldBox};
 ghost use Rattle.any_box.specs.declared.held_box.HeldStep.{HeldStep};
 ghost use Rattle.any_box.specs.declared.owed.Commit.{Commit};
@@ -21,11 +21,11 @@ pub fn writes_keep_the_floor()
         → StepsHeld ⟦<AnyBox as DefinedBox>⟧ old new t step
         → step.commit ≡ Some commit
         → (with_slot (slots_held old) commit.slot commit.bytes ≡ slots_held new)
-        × (floor_of (link_held old) (slots_held new) ≡ Some (floor_held new)) }
+        × (floor_of (link_of_held old) (slots_held new) ≡ Some (floor_held new)) }
     ensures torn { (old new : HeldBox) (t : Tick) (step : HeldStep) (commit : Commit)
         (bytes : List ℕ)
         → StepsHeld ⟦<AnyBox as DefinedBox>⟧ old new t step
         → step.commit ≡ Some commit
-        → HasFloorAtLeast (link_held old) (floor_held old)
+        → HasFloorAtLeast (link_of_held old) (floor_held old)
         (with_slot (slots_held old) commit.slot bytes) }
 {}

@@ -2,7 +2,7 @@
 ghost use Rattle.std.specs.Prelude.{◌≡◌, ◌+◌, ◌≤◌, length, Some, OnOk, IfOk};
 ghost use Rattle.yasir_io.specs.Steady.{steady_slots};
 ghost use Rattle.sequence_journal.specs.Journal.{journal_link, Fits};
-ghost use Rattle.seal_transmitter.specs.Stands.{direction_of, ticks_taken};
+ghost use Rattle.seal_transmitter.specs.Stands.{sealer_direction, sealer_ticks};
 
 use line_rules::FourBytes;
 use link_box::LinkBox;
@@ -49,11 +49,11 @@ struct Line {
 
 // Makes a transmitter that has taken no tick, over a journal with floor 7.
 fn new_line(alloc: Global) -> Result<Line, Fail>
-    ensures taken { IfOk result (λ line. ticks_taken line.sealer ≡ 0) }
+    ensures taken { IfOk result (λ line. sealer_ticks line.sealer ≡ 0) }
     ensures of_link { IfOk result (λ line. journal_link line.journal
         ≡ (record {
           label = 1;
-          dir = direction_of line.sealer;
+          dir = sealer_direction line.sealer;
           profile = 18;
         })) }
     ensures fits { IfOk result (λ line. Fits line.journal (Some (steady_slots line.disk))) }
@@ -71,19 +71,19 @@ fn new_line(alloc: Global) -> Result<Line, Fail>
 
 // Takes a tick by a step.
 fn step(line: &mut Line, tick: Tick) -> Result<(), Fail>
-    requires room { ticks_taken line.old.sealer + 1 ≤ 1000 }
+    requires room { sealer_ticks line.old.sealer + 1 ≤ 1000 }
     requires of_link { journal_link line.old.journal ≡ (record {
       label = 1;
-      dir = direction_of line.old.sealer;
+      dir = sealer_direction line.old.sealer;
       profile = 18;
     }) }
     requires fits { Fits line.old.journal (Some (steady_slots line.old.disk)) }
-    ensures taken { OnOk result (ticks_taken line.new.sealer
-        ≡ ticks_taken line.old.sealer + 1) }
+    ensures taken { OnOk result (sealer_ticks line.new.sealer
+        ≡ sealer_ticks line.old.sealer + 1) }
     ensures of_link { OnOk result (journal_link line.new.journal
         ≡ (record {
           label = 1;
-          dir = direction_of line.new.sealer;
+          dir = sealer_direction line.new.sealer;
           profile = 18;
         })) }
     ensures fits { OnOk result (Fits line.new.journal (Some (steady_slots line.new.disk))) }
@@ -95,19 +95,19 @@ fn step(line: &mut Line, tick: Tick) -> Result<(), Fail>
 
 // Takes the same tick this many times, with a step for each.
 fn step_times(line: &mut Line, tick: Tick, times: u32) -> Result<(), Fail>
-    requires room { ticks_taken line.old.sealer + times ≤ 1000 }
+    requires room { sealer_ticks line.old.sealer + times ≤ 1000 }
     requires of_link { journal_link line.old.journal ≡ (record {
       label = 1;
-      dir = direction_of line.old.sealer;
+      dir = sealer_direction line.old.sealer;
       profile = 18;
     }) }
     requires fits { Fits line.old.journal (Some (steady_slots line.old.disk)) }
-    ensures taken { OnOk result (ticks_taken line.new.sealer
-        ≡ ticks_taken line.old.sealer + times) }
+    ensures taken { OnOk result (sealer_ticks line.new.sealer
+        ≡ sealer_ticks line.old.sealer + times) }
     ensures of_link { OnOk result (journal_link line.new.journal
         ≡ (record {
           label = 1;
-          dir = direction_of line.new.sealer;
+          dir = sealer_direction line.new.sealer;
           profile = 18;
         })) }
     ensures fits { OnOk result (Fits line.new.journal (Some (steady_slots line.new.disk))) }
@@ -120,11 +120,11 @@ fn step_times(line: &mut Line, tick: Tick, times: u32) -> Result<(), Fail>
 
 // Takes the first of this many silent ticks, by runs. Returns how many it took.
 fn silence_by_runs(sealer: &mut FourSealer, ticks: u32, link: &mut Vec<Tick>) -> Result<u32, Fail>
-    requires room { ticks_taken sealer.old + ticks ≤ 1000 }
+    requires room { sealer_ticks sealer.old + ticks ≤ 1000 }
     ensures within { IfOk result (λ count. count ≤ ticks) }
-    ensures taken { IfOk result (λ count. ticks_taken sealer.new
-        ≡ ticks_taken sealer.old + count) }
-    ensures direction { OnOk result (direction_of sealer.new ≡ direction_of sealer.old) }
+    ensures taken { IfOk result (λ count. sealer_ticks sealer.new
+        ≡ sealer_ticks sealer.old + count) }
+    ensures direction { OnOk result (sealer_direction sealer.new ≡ sealer_direction sealer.old) }
 {
     let mut sent = RunBytes::new();
     let passed = sealer.pass_silence(ticks, &mut sent);
@@ -136,19 +136,19 @@ fn silence_by_runs(sealer: &mut FourSealer, ticks: u32, link: &mut Vec<Tick>) ->
 
 // Takes this many silent ticks: by runs if asked, with steps for those that no run takes.
 fn wait(line: &mut Line, by_runs: bool, ticks: u32) -> Result<(), Fail>
-    requires room { ticks_taken line.old.sealer + ticks ≤ 1000 }
+    requires room { sealer_ticks line.old.sealer + ticks ≤ 1000 }
     requires of_link { journal_link line.old.journal ≡ (record {
       label = 1;
-      dir = direction_of line.old.sealer;
+      dir = sealer_direction line.old.sealer;
       profile = 18;
     }) }
     requires fits { Fits line.old.journal (Some (steady_slots line.old.disk)) }
-    ensures taken { OnOk result (ticks_taken line.new.sealer
-        ≡ ticks_taken line.old.sealer + ticks) }
+    ensures taken { OnOk result (sealer_ticks line.new.sealer
+        ≡ sealer_ticks line.old.sealer + ticks) }
     ensures of_link { OnOk result (journal_link line.new.journal
         ≡ (record {
           label = 1;
-          dir = direction_of line.new.sealer;
+          dir = sealer_direction line.new.sealer;
           profile = 18;
         })) }
     ensures fits { OnOk result (Fits line.new.journal (Some (steady_slots line.new.disk))) }
@@ -162,11 +162,11 @@ fn wait(line: &mut Line, by_runs: bool, ticks: u32) -> Result<(), Fail>
 
 // Takes the first of these bytes, by runs. Returns how many it took.
 fn bytes_by_runs(sealer: &mut FourSealer, bytes: &[u8], link: &mut Vec<Tick>) -> Result<usize, Fail>
-    requires room { ticks_taken sealer.old + length bytes.now ≤ 1000 }
+    requires room { sealer_ticks sealer.old + length bytes.now ≤ 1000 }
     ensures within { IfOk result (λ count. count ≤ length bytes.now) }
-    ensures taken { IfOk result (λ count. ticks_taken sealer.new
-        ≡ ticks_taken sealer.old + count) }
-    ensures direction { OnOk result (direction_of sealer.new ≡ direction_of sealer.old) }
+    ensures taken { IfOk result (λ count. sealer_ticks sealer.new
+        ≡ sealer_ticks sealer.old + count) }
+    ensures direction { OnOk result (sealer_direction sealer.new ≡ sealer_direction sealer.old) }
 {
     let forwarded = sealer.forward(bytes);
     add(link, Tick::Byte(BYTE), forwarded)?;
@@ -179,19 +179,19 @@ fn bytes_by_runs(sealer: &mut FourSealer, bytes: &[u8], link: &mut Vec<Tick>) ->
 // Takes this many bytes, by runs or one by one.
 fn hear(line: &mut Line, by_runs: bool, count: u32) -> Result<(), Fail>
     requires few { count ≤ 8 }
-    requires room { ticks_taken line.old.sealer + count ≤ 1000 }
+    requires room { sealer_ticks line.old.sealer + count ≤ 1000 }
     requires of_link { journal_link line.old.journal ≡ (record {
       label = 1;
-      dir = direction_of line.old.sealer;
+      dir = sealer_direction line.old.sealer;
       profile = 18;
     }) }
     requires fits { Fits line.old.journal (Some (steady_slots line.old.disk)) }
-    ensures taken { OnOk result (ticks_taken line.new.sealer
-        ≡ ticks_taken line.old.sealer + count) }
+    ensures taken { OnOk result (sealer_ticks line.new.sealer
+        ≡ sealer_ticks line.old.sealer + count) }
     ensures of_link { OnOk result (journal_link line.new.journal
         ≡ (record {
           label = 1;
-          dir = direction_of line.new.sealer;
+          dir = sealer_direction line.new.sealer;
           profile = 18;
         })) }
     ensures fits { OnOk result (Fits line.new.journal (Some (steady_slots line.new.disk))) }
@@ -208,10 +208,10 @@ fn hear(line: &mut Line, by_runs: bool, count: u32) -> Result<(), Fail>
 // Takes bytes, given in two parts of these lengths, and then silence.
 fn take_last(line: &mut Line, by_runs: bool, bytes: (u32, u32)) -> Result<(), Fail>
     requires bytes { bytes.0 + bytes.1 ≤ 8 }
-    requires room { ticks_taken line.old.sealer ≤ 900 }
+    requires room { sealer_ticks line.old.sealer ≤ 900 }
     requires of_link { journal_link line.old.journal ≡ (record {
       label = 1;
-      dir = direction_of line.old.sealer;
+      dir = sealer_direction line.old.sealer;
       profile = 18;
     }) }
     requires fits { Fits line.old.journal (Some (steady_slots line.old.disk)) }

@@ -3,7 +3,7 @@ ghost use Rattle.std.specs.Prelude.{◌≡◌, ◌<◌, length};
 ghost use Rattle.link_box.specs.Links.{link_by};
 ghost use Rattle.sequence_journal.specs.Journal.{journal_link, Fits};
 ghost use Rattle.sequence_journal.specs.Links.{HasDirection};
-ghost use Rattle.seal_transmitter.specs.Stands.{direction_of, ticks_taken};
+ghost use Rattle.seal_transmitter.specs.Stands.{sealer_direction, sealer_ticks};
 
 use line_rules::{FourBytes, LineRules};
 use link_box::LinkBox;
@@ -31,9 +31,9 @@ fn steps<R: LineRules, M: Mac, D: SlotDisk, const B: usize>(
     disk: &mut D,
     line: &[u8],
 ) -> Result<Vec<BoxStep<SealNote>>, Fail>
-    requires begun { ticks_taken sealer.old ≡ 0 }
+    requires begun { sealer_ticks sealer.old ≡ 0 }
     requires of_link { journal_link journal.old
-        ≡ link_by R.LineRules M.Mac B (direction_of sealer.old) }
+        ≡ link_by R.LineRules M.Mac B (sealer_direction sealer.old) }
     requires fits { Fits journal.old (D.told disk.old) }
     requires short { length line.now < 1000 }
 {

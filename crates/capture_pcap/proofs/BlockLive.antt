@@ -1,5 +1,5 @@
 -- What must hold at the place of a reader, so that its pcapng file can still have a right end.
-use Rattle.capture_pcap.specs.BlockStep.{Stepped, takes_bytes, unread_or_end, is_size, in_section}
+use Rattle.capture_pcap.specs.BlockStep.{SteppedBlock, takes_bytes, unread_or_end, is_size, in_section}
 use Rattle.capture_pcap.specs.BlockStep.{after_order, after_kind, after_size, after_options}
 use Rattle.capture_pcap.specs.BlockStep.{next_option_at, over_fields, has_room, after_option}
 use Rattle.capture_pcap.specs.BlockStep.{after_value, at_resolution, block_field_at, block_byte_at}
@@ -60,7 +60,7 @@ Live (b.Packet s size left body) = HasField s.order size × (has_more body ≡ t
 Live (b.Unread s size left) = HasField s.order size × (0 < left)
 Live (b.End s size) = HasField s.order size
 
-abbrev pub LiveStep : Stepped → Type 0
+abbrev pub LiveStep : SteppedBlock → Type 0
 LiveStep (Ok next) = Live next.0
 LiveStep (Err why) = Unit {0}
 

@@ -1,5 +1,5 @@
 -- What a pcapng file so far is after one more field or byte, at each place of its reader.
-use Rattle.capture_pcap.specs.BlockStep.{Stepped, takes_bytes, unread_or_end, is_size, in_section}
+use Rattle.capture_pcap.specs.BlockStep.{SteppedBlock, takes_bytes, unread_or_end, is_size, in_section}
 use Rattle.capture_pcap.specs.BlockStep.{after_order, of_kind, after_kind, after_size, after_link}
 use Rattle.capture_pcap.specs.BlockStep.{after_options, next_option_at, over_fields, after_option}
 use Rattle.capture_pcap.specs.BlockStep.{after_value, at_resolution, after_resolution, after_low}
@@ -190,7 +190,7 @@ option_goes s size left counts text field items whole some four =
     let code : ℕ = short_number s.order field in
     let long : ℕ = short_number s.order (drop 2 field) in
     let fields : ℕ = (long + 3) / 4 in
-    let P : Stepped → Type 0 = BlockGoes (text ++ field) items in
+    let P : SteppedBlock → Type 0 = BlockGoes (text ++ field) items in
     cond_both (code == 0) (after_options s size (left - 1) counts) _ P
     (λ e. ended_goes s size left counts text field items whole some four (eqb-true code 0 e))
     (λ e. cond_both (code == 9) _ _ P
@@ -376,7 +376,7 @@ kind_goes : (s : Section) (text field : List ℕ) (items : List Seen)
     → AreBlocks (Some s) text items → length field ≡ 4
     → BlockGoes (text ++ field) items (after_kind s field)
 kind_goes s text field items blocks four =
-    let P : Stepped → Type 0 = BlockGoes (text ++ field) items in
+    let P : SteppedBlock → Type 0 = BlockGoes (text ++ field) items in
     let kind : ℕ = number s.order field in
     cond_both (is_field 0x0A 0x0D 0x0D 0x0A field) (Ok (b.SectionSize, None)) (of_kind s kind) P
     (λ e. same b.SectionSize (text ++ field) items

@@ -1,6 +1,6 @@
 -- Where a reader gets to over the blocks of a right pcapng file.
 use Rattle.line_stamps.{proofs.FieldLaws.single_walk, specs.Walks.walk}
-use Rattle.capture_pcap.specs.BlockStep.{Stepped, unread_or_end, is_size, after_order, after_kind}
+use Rattle.capture_pcap.specs.BlockStep.{SteppedBlock, unread_or_end, is_size, after_order, after_kind}
 use Rattle.capture_pcap.specs.BlockStep.{after_options, next_option_at, over_fields, after_option}
 use Rattle.capture_pcap.specs.BlockStep.{after_value, after_captured, after_original}
 use Rattle.capture_pcap.specs.BlockStep.{block_field_at, after_section_size, has_room}
@@ -398,7 +398,7 @@ packet_kind s kind four e h small =
     ) refl
 
 -- what comes after the kind of a block, by the results of the tests for kinds
-abbrev picked : Section → Bool → Bool → Bool → Stepped
+abbrev picked : Section → Bool → Bool → Bool → SteppedBlock
 picked s t u v =
     if t && has_room s InterfaceKind then Ok (b.Size s InterfaceKind, None)
     else if u && has_room s PacketKind then Ok (b.Size s PacketKind, None)

@@ -1,5 +1,5 @@
 -- What may follow a pcapng file so far at each place of its reader.
-use Rattle.capture_pcap.specs.BlockStep.{Stepped, is_size}
+use Rattle.capture_pcap.specs.BlockStep.{SteppedBlock, is_size}
 use Rattle.capture_pcap.specs.Blocks.{padded, counts_at, IsOrderMark, AreOptions, section_with}
 use Rattle.capture_pcap.specs.{Blocks.fresh, Blocks.AreBlocks, Record.IsRecord, Words.number}
 use Rattle.capture_pcap.specs.{Words.short_number, declared.block.Block.Block}
@@ -134,7 +134,7 @@ AtBlock (b.Unread s size left) text items = (0 < left) × RestsAs s size left te
 AtBlock (b.End s size) text items = EndsAs s size text items
 
 -- what holds of the file after one more field: nothing, if the field is refused
-abbrev pub BlockGoes : List ℕ → List Seen → Stepped → Type 0
+abbrev pub BlockGoes : List ℕ → List Seen → SteppedBlock → Type 0
 BlockGoes text items (Ok next) = AtBlock next.0 text (items ++ option_to_list next.1)
 BlockGoes text items (Err why) = Unit {0}
 

@@ -2,14 +2,14 @@
 use Rattle.line_stamps.proofs.FieldLaws.{ReachedSpot, reached_spot}
 use Rattle.line_stamps.proofs.WalkLaws.{walk-more, reads_begins, reads_none, reads_each, reads_open}
 use Rattle.line_stamps.specs.Fields.{Spot, before_field, at_spot, RefusesField, AreFieldsSoFar}
-use Rattle.line_stamps.specs.Walks.{walk, ReadsFormat, Begins, BeginsNone}
+use Rattle.line_stamps.specs.Walks.{walk, ReadsFormat, WalkBegins, WalkBeginsNone}
 use Rattle.capture_pcap.proofs.Stages.{AtStage, Moves, field_goes, byte_goes, field_cause}
 use Rattle.capture_pcap.proofs.Stages.{byte_taken}
 use Rattle.capture_pcap.proofs.Stages.AtStage.{magic, free, link, seconds, fraction, captured}
 use Rattle.capture_pcap.proofs.Stages.AtStage.{original, packet, blocks}
 use Rattle.capture_pcap.specs.{BlockStep.may_end as may_end_block, Blocks.section_kind}
 use Rattle.capture_pcap.specs.Pcap.{IsCapture, IsCause, IsCapture.pcap, IsCapture.pcapng}
-use Rattle.capture_pcap.specs.PcapStep.{Stepped, takes_bytes, field_at, byte_at, step_at, may_end}
+use Rattle.capture_pcap.specs.PcapStep.{SteppedPcap, takes_bytes, field_at, byte_at, step_at, pcap_may_end}
 use Rattle.capture_pcap.specs.PcapStep.{may_end_at}
 use Rattle.capture_pcap.specs.declared.{block.Block.Block, fault.PcapFault.PcapFault}
 use Rattle.capture_pcap.specs.declared.stage.Stage.{Stage, TheVariants.Magic}
@@ -28,14 +28,14 @@ pub fields : (stage next : Stage) (front field : List ℕ) (items : List Seen) (
     → field_at stage field ≡ Ok (next, item)
     → AtStage next (front ++ field) (items ++ option_to_list item)
 fields stage next front field items item at h four e =
-    let Q : Stepped → Type 0 = λ s. Moves front field items s in
+    let Q : SteppedPcap → Type 0 = λ s. Moves front field items s in
     subst Q e (field_goes stage front field items at h four)
 
 pub bytes : (stage next : Stage) (front : List ℕ) (items : List Seen) (b : ℕ) (item : Option Seen)
     → AtStage stage front items → takes_bytes stage ≡ true → byte_at stage b ≡ Ok (next, item)
     → AtStage next (front ++ b ∷ []) (items ++ option_to_list item)
 bytes stage next front items b item at h e =
-    let Q : Stepped → Type 0 = λ s. Moves front (b ∷ []) items s in
+    let Q : SteppedPcap → Type 0 = λ s. Moves front (b ∷ []) items s in
     subst Q e (byte_goes stage front items b at h)
 
 -- what a file so far is, if its reader has reached this spot
@@ -69,7 +69,7 @@ block_ends (b.End s size) file items at m = cc
 
 -- If a file may end here, it is a pcap or pcapng file.
 ends_so : (stage : Stage) (front : List ℕ) (items : List Seen) → AtStage stage front items
-    → may_end stage ≡ true → IsCapture front items
+    → pcap_may_end stage ≡ true → IsCapture front items
 ends_so stage front items magic m = cc
 ends_so stage front items (free clock before word words g long few) m = cc
 ends_so stage front items (link clock word words g long) m = cc
@@ -91,7 +91,7 @@ sound : (file : List ℕ) (spot : Spot Stage) (items : List Seen)
     → IsCapture file items
 sound file spot items e m =
     let r = reached spot file items e in
-    let parts = and_parts (may_end spot.stage) (length spot.partial == 0) m in
+    let parts = and_parts (pcap_may_end spot.stage) (length spot.partial == 0) m in
     let whole : file ≡ r.front = r.text_is
     ∙ ap (λ x. r.front ++ x) (nothing_left spot.partial parts.1) ∙ append-nil r.front in
     let Q : List ℕ → Type 0 = λ x. IsCapture x items in
@@ -130,7 +130,7 @@ module _ (spot : Spot Stage) (file : List ℕ) (items : List Seen)
 
   pub front_begins : (front : List ℕ) (stage : Stage) → AtStage stage front items
       → walk step_at (before_field Magic) front ≡ Ok (before_field stage, items)
-      → Begins IsCapture front items
+      → WalkBegins IsCapture front items
   front_begins front stage at came =
       reads_begins step_at (before_field Magic) may_end_at IsCapture reads_pcap front
       (before_field stage) items came
@@ -152,7 +152,7 @@ module _ (spot : Spot Stage) (file : List ℕ) (items : List Seen)
   bool_cases true = inl refl
   bool_cases false = inr refl
 
-  err_of : (r : Stepped) (why : PcapFault) → at_spot r ≡ Err why → r ≡ Err why
+  err_of : (r : SteppedPcap) (why : PcapFault) → at_spot r ≡ Err why → r ≡ Err why
   err_of (Ok next) why e = cc
   err_of (Err other) why e = ap (λ f. Err f) (ap (fault_of other) e)
     where
@@ -191,7 +191,7 @@ module _ (spot : Spot Stage) (file : List ℕ) (items : List Seen)
       let r = reached spot file items walks in
       let whole : file ++ b ∷ [] ≡ r.front ++ (spot.partial ++ b ∷ []) =
       ap (λ x. x ++ b ∷ []) r.text_is ∙ append_assoc r.front spot.partial (b ∷ []) in
-      let Q : List ℕ → Type 0 = λ x. BeginsNone IsCapture x in
+      let Q : List ℕ → Type 0 = λ x. WalkBeginsNone IsCapture x in
       record {
         front = r.front;
         field = spot.partial ++ b ∷ [];
@@ -211,7 +211,7 @@ module _ (spot : Spot Stage) (file : List ℕ) (items : List Seen)
   file_open m = reads_open step_at (before_field Magic) may_end_at IsCapture reads_pcap file spot items
       walks m
 
-pub nothing_begins : Begins IsCapture [] []
+pub nothing_begins : WalkBegins IsCapture [] []
 unfolding walk
 nothing_begins = front_begins (before_field Magic) [] [] refl [] Magic magic refl
 

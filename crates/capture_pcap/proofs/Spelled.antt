@@ -1,7 +1,7 @@
 -- Where a reader gets to over the parts of a right file.
 use Rattle.capture_pcap.proofs.Bodies.{record_walk}
 use Rattle.capture_pcap.proofs.Walked.{Walks, one_field, both, four_of}
-use Rattle.capture_pcap.specs.Pcap.{IsMagic, IsHeader, IsTime, AreLengths, IsPacket, ArePackets}
+use Rattle.capture_pcap.specs.Pcap.{IsMagic, IsPcapHeader, IsTime, AreLengths, IsPcapPacket, ArePackets}
 use Rattle.capture_pcap.specs.Pcap.ArePackets.{none, more}
 use Rattle.capture_pcap.specs.Pcap.IsMagic.{big_micro, little_micro, big_nano, little_nano}
 use Rattle.capture_pcap.specs.PcapStep.{takes_bytes, field_at, byte_at, after_length}
@@ -61,7 +61,7 @@ free_walk clock bytes long =
     (free_on clock 2 three.first (omega arith) three.first_long)
     (free_last clock three.rest three.rest_long))))
 
-header_walk : (clock : Clock) (header : List ℕ) → IsHeader clock header
+header_walk : (clock : Clock) (header : List ℕ) → IsPcapHeader clock header
     → Walks Magic header (Seconds clock) []
 unfolding field_at
 header_walk clock header h =
@@ -126,7 +126,7 @@ body_walk clock start count packet items r = record {
       (λ body field. refl) (λ body b. refl) start count packet items r;
 }
 
-packet_walk : (clock : Clock) (packet : List ℕ) (items : List Seen) → IsPacket clock packet items
+packet_walk : (clock : Clock) (packet : List ℕ) (items : List Seen) → IsPcapPacket clock packet items
     → Walks (Seconds clock) packet (Seconds clock) items
 packet_walk clock packet items p =
     let body : Stage = Packet clock (RtacSeconds p.start p.count) in

@@ -8,8 +8,8 @@ use Rattle.capture_pcap.specs.Pcap.{IsMagic, IsTime, AreLengths, ArePackets, IsC
 use Rattle.capture_pcap.specs.Pcap.{ArePackets.none, ArePackets.more, IsCause.no_magic}
 use Rattle.capture_pcap.specs.Pcap.IsCause.{other_link, short_packet, cut_packet, in_block}
 use Rattle.capture_pcap.specs.Pcap.IsMagic.{big_micro, little_micro, big_nano, little_nano}
-use Rattle.capture_pcap.specs.PcapStep.{Stepped, takes_bytes, field_at, byte_at, free_at}
-use Rattle.capture_pcap.specs.PcapStep.{after_magic_at, in_blocks, pcap_magic_at, step_at}
+use Rattle.capture_pcap.specs.PcapStep.{SteppedPcap, takes_bytes, field_at, byte_at, free_at}
+use Rattle.capture_pcap.specs.PcapStep.{after_magic_at, in_pcap_blocks, pcap_magic_at, step_at}
 use Rattle.capture_pcap.specs.Words.{number, nanoseconds, is_field}
 use Rattle.capture_pcap.specs.declared.block.Block.{Block, TheVariants.SectionSize}
 use Rattle.capture_pcap.specs.declared.body.Body.{Body, TheVariants.Seconds as RtacSeconds}
@@ -63,24 +63,24 @@ pub data AtStage : Stage → List ℕ → List Seen → Type 0 where
       → AtStage (Blocks block) (section_kind ++ bytes) items
 
 -- what holds of a file after one more field: the cause is right, if the field is refused
-abbrev pub Goes : List ℕ → List ℕ → List Seen → Stepped → Type 0
+abbrev pub Goes : List ℕ → List ℕ → List Seen → SteppedPcap → Type 0
 Goes front field items (Ok next) = AtStage next.0 (front ++ field) (items ++ option_to_list next.1)
 Goes front field items (Err why) = IsCause front field why
 
 -- what holds of a file after one more field: nothing, if the field is refused
-abbrev pub Moves : List ℕ → List ℕ → List Seen → Stepped → Type 0
+abbrev pub Moves : List ℕ → List ℕ → List Seen → SteppedPcap → Type 0
 Moves front field items (Ok next) = AtStage next.0 (front ++ field) (items ++ option_to_list next.1)
 Moves front field items (Err why) = Unit {0}
 
-moves_so : (front field : List ℕ) (items : List Seen) (r : Stepped) → Goes front field items r
+moves_so : (front field : List ℕ) (items : List Seen) (r : SteppedPcap) → Goes front field items r
     → Moves front field items r
 moves_so front field items (Ok next) goes = goes
 moves_so front field items (Err why) goes = tt
 
-cause_in : (front field : List ℕ) (items : List Seen) (r : Stepped) (why : PcapFault)
+cause_in : (front field : List ℕ) (items : List Seen) (r : SteppedPcap) (why : PcapFault)
     → Goes front field items r → r ≡ Err why → IsCause front field why
 cause_in front field items r why goes e =
-    let Q : Stepped → Type 0 = λ s. Goes front field items s in subst Q e goes
+    let Q : SteppedPcap → Type 0 = λ s. Goes front field items s in subst Q e goes
 
 same_items : (stage : Stage) (front : List ℕ) (items : List Seen) → AtStage stage front items
     → AtStage stage front (items ++ [])
@@ -287,7 +287,7 @@ moved stage front bytes last items these others at =
 -- A field or a byte of a pcapng file leads to what comes next.
 block_goes : (bytes field : List ℕ) (items : List Seen) (r : Result (Block × Option Seen) PcapFault)
     → BlockGoes ((section_kind ++ bytes) ++ field) items r → LiveStep r
-    → Moves (section_kind ++ bytes) field items (in_blocks r)
+    → Moves (section_kind ++ bytes) field items (in_pcap_blocks r)
 block_goes bytes field items (Ok next) goes live =
     blocks next.0 (bytes ++ field) (items ++ option_to_list next.1) goes live
 block_goes bytes field items (Err why) goes live = tt
@@ -334,11 +334,11 @@ field_goes stage front field items (blocks block bytes _ at live) h four =
 -- ---- why a field is refused
 
 refused_in_block : (r : Result (Block × Option Seen) PcapFault) (why : PcapFault)
-    → in_blocks r ≡ Err why → r ≡ Err why
+    → in_pcap_blocks r ≡ Err why → r ≡ Err why
 refused_in_block (Ok next) why e = cc
 refused_in_block (Err other) why e = ap (λ f. Err f) (ap (fault_of other) e)
   where
-    fault_of : PcapFault → Stepped → PcapFault
+    fault_of : PcapFault → SteppedPcap → PcapFault
     fault_of d (Ok next) = d
     fault_of d (Err f) = f
 

@@ -1,7 +1,7 @@
 -- The header of a packet that is written, and the data after it, are a packet.
 use Rattle.byteorder.specs.{Endian.big_bytes, Endian.little_bytes, Numbers.little_number-reads_back}
 use Rattle.byteorder.specs.Numbers.{length-bytes_low_first, length-bytes_high_first}
-use Rattle.capture_pcap.specs.{Pcap.IsPacket, Record.seen_of, Record.seen_bytes, Words.number}
+use Rattle.capture_pcap.specs.{Pcap.IsPcapPacket, Record.seen_of, Record.seen_bytes, Words.number}
 use Rattle.capture_pcap.specs.Writing.{written_clock, data_event, AppendsNumber, AppendsFour}
 use Rattle.capture_pcap.specs.Writing.{packet_front, written_packet as as_written}
 use Rattle.capture_pcap.specs.declared.words.Order.TheVariants.{Little}
@@ -33,7 +33,7 @@ pub written_packet : (way : Way) (start whole rest count : ℕ)
     → AppendsFour h4 h5 → AppendsFour h5 h6
     → start ≡ whole * 1000000000 + rest
     → (payload : List ℕ) → length payload ≡ count
-    → IsPacket written_clock ((h6 ++ data_event way ∷ 0 ∷ 0 ∷ 0 ∷ []) ++ payload)
+    → IsPcapPacket written_clock ((h6 ++ data_event way ∷ 0 ∷ 0 ∷ 0 ∷ []) ++ payload)
     (seen_bytes start way true payload)
 written_packet way start whole rest count none h1 h2 h3 h4 h5 h6 e a b c d f g time payload long =
     record {
@@ -115,7 +115,7 @@ four_added old n = record {
 -- What is written for a record is a packet of its bytes.
 pub packet_is : (way : Way) (start : ℕ) (bytes : List ℕ) → start < 2 ^ 32 * 1000000000
     → length bytes + 12 < 2 ^ 32
-    → IsPacket written_clock (as_written way start bytes) (seen_bytes start way true bytes)
+    → IsPcapPacket written_clock (as_written way start bytes) (seen_bytes start way true bytes)
 packet_is way start bytes early few =
     written_packet way start (start / 1000000000) (start % 1000000000) (length bytes) [] _ _ _ _ _ _
     refl (number_added [] (start / 1000000000) (omega arith))

@@ -28,8 +28,8 @@ use Rattle.capture_pcap.specs.declared.block.Block.{Block}
 use Rattle.capture_pcap.specs.declared.block.Block.TheVariants as b
 
 -- what a field or a byte leads to: what comes next and what was seen, or why it is refused
-abbrev pub Stepped : Type 0
-Stepped = Result (Block × Option Seen) PcapFault
+abbrev pub SteppedBlock : Type 0
+SteppedBlock = Result (Block × Option Seen) PcapFault
 
 -- whether single bytes come next, rather than a field of four
 abbrev pub takes_bytes : Block → Bool
@@ -67,34 +67,34 @@ abbrev pub in_interface : Section → Bool
 in_interface section = nat_lt section.interfaces 4294967295
 
 -- whether the numbers that a place has are within the bounds that each step keeps
-abbrev pub is_sound : Block → Bool
-is_sound (b.Size section kind) = has_room section kind
-is_sound (b.Snap section size) = nat_le 20 size && in_interface section
-is_sound (b.Link section size) = nat_le 20 size && in_interface section
-is_sound (b.Option section size left counts) =
+abbrev pub is_sound_block_step : Block → Bool
+is_sound_block_step (b.Size section kind) = has_room section kind
+is_sound_block_step (b.Snap section size) = nat_le 20 size && in_interface section
+is_sound_block_step (b.Link section size) = nat_le 20 size && in_interface section
+is_sound_block_step (b.Option section size left counts) =
     nat_lt 0 left && nat_lt (4 * left) (2 ^ 32) && in_interface section
-is_sound (b.Value section size left counts fields) =
+is_sound_block_step (b.Value section size left counts fields) =
     nat_lt 0 fields && nat_lt (4 * left) (2 ^ 32) && in_interface section
-is_sound (b.Resolution section size left) =
+is_sound_block_step (b.Resolution section size left) =
     nat_lt 0 left && nat_lt (4 * left) (2 ^ 32) && in_interface section
-is_sound (b.Interface section size) = nat_le 44 size
-is_sound (b.High section size) = nat_le 44 size
-is_sound (b.Low section size high) =
+is_sound_block_step (b.Interface section size) = nat_le 44 size
+is_sound_block_step (b.High section size) = nat_le 44 size
+is_sound_block_step (b.Low section size high) =
     nat_le 44 size && nat_lt (high * 4294967296 * section.counts) (2 ^ 64)
-is_sound (b.Captured section size start) = nat_le 44 size
-is_sound (b.Original section size start captured) =
+is_sound_block_step (b.Captured section size start) = nat_le 44 size
+is_sound_block_step (b.Original section size start captured) =
     nat_le 12 captured && nat_le (captured + 32) size
-is_sound (b.Packet section size left body) = has_more body
-is_sound (b.Unread section size left) = nat_lt 0 left
-is_sound b.SectionSize = true
-is_sound (b.SectionOrder big little) = is_size big 28 || is_size little 28
-is_sound (b.Kind section) = true
-is_sound (b.End section size) = true
+is_sound_block_step (b.Packet section size left body) = has_more body
+is_sound_block_step (b.Unread section size left) = nat_lt 0 left
+is_sound_block_step b.SectionSize = true
+is_sound_block_step (b.SectionOrder big little) = is_size big 28 || is_size little 28
+is_sound_block_step (b.Kind section) = true
+is_sound_block_step (b.End section size) = true
 
 -- Holds if a step leads to a sound place, or refuses.
-abbrev pub IsSoundStep : Stepped → Type 0
-IsSoundStep (Ok next) = is_sound next.0 ≡ true
-IsSoundStep (Err why) = Unit {0}
+abbrev pub IsSoundBlock : SteppedBlock → Type 0
+IsSoundBlock (Ok next) = is_sound_block_step next.0 ≡ true
+IsSoundBlock (Err why) = Unit {0}
 
 -- what comes next if this many bytes that say nothing of the line come before the end of the block
 abbrev pub unread_or_end : Section → ℕ → ℕ → Block
@@ -102,7 +102,7 @@ unread_or_end section size left =
     if nat_lt 0 left then b.Unread section size left else b.End section size
 
 -- what comes after the order of a section whose header has this length
-abbrev pub in_section : Order → ℕ → Stepped
+abbrev pub in_section : Order → ℕ → SteppedBlock
 in_section order size =
     if is_size size 28
     then Ok (
@@ -113,14 +113,14 @@ in_section order size =
 
 -- what comes after the order of a section, whose header has the first length if it is big-endian,
 -- and otherwise the second one
-abbrev pub after_order : List ℕ → ℕ → ℕ → Stepped
+abbrev pub after_order : List ℕ → ℕ → ℕ → SteppedBlock
 after_order field big little =
     if is_field 0x1A 0x2B 0x3C 0x4D field then in_section Big big
     else if is_field 0x4D 0x3C 0x2B 0x1A field then in_section Little little
     else Err NoOrder
 
 -- what comes after the kind of a block that isn't the header of a section
-abbrev pub of_kind : Section → ℕ → Stepped
+abbrev pub of_kind : Section → ℕ → SteppedBlock
 of_kind section kind =
     if (kind == 1) && has_room section InterfaceKind
     then Ok (b.Size section InterfaceKind, None)
@@ -131,13 +131,13 @@ of_kind section kind =
     else Ok (b.Size section OtherKind, None)
 
 -- what comes after the kind of a block
-abbrev pub after_kind : Section → List ℕ → Stepped
+abbrev pub after_kind : Section → List ℕ → SteppedBlock
 after_kind section field =
     if is_field 0x0A 0x0D 0x0D 0x0A field then Ok (b.SectionSize, None)
     else of_kind section (number section.order field)
 
 -- what comes after the length of a block
-abbrev pub after_size : Section → Kind → ℕ → Stepped
+abbrev pub after_size : Section → Kind → ℕ → SteppedBlock
 after_size section InterfaceKind size =
     if is_size size 20 then Ok (b.Link section size, None) else Err WrongSize
 after_size section PacketKind size =
@@ -146,29 +146,29 @@ after_size section OtherKind size =
     if is_size size 12 then Ok (unread_or_end section size (size - 12), None) else Err WrongSize
 
 -- what comes after the link type of an interface
-abbrev pub after_link : Section → ℕ → ℕ → Stepped
+abbrev pub after_link : Section → ℕ → ℕ → SteppedBlock
 after_link section size link =
     if link == 250 then Ok (b.Snap section size, None) else Err NoLink
 
 -- what comes after the options of an interface, if this many fields that aren't read follow them
-abbrev pub after_options : Section → ℕ → ℕ → ℕ → Stepped
+abbrev pub after_options : Section → ℕ → ℕ → ℕ → SteppedBlock
 after_options section size left counts =
     Ok (unread_or_end (section_with section counts) size (4 * left), None)
 
 -- what comes after an option, if this many fields are left of the options
-abbrev pub next_option_at : Section → ℕ → ℕ → ℕ → Stepped
+abbrev pub next_option_at : Section → ℕ → ℕ → ℕ → SteppedBlock
 next_option_at section size left counts =
     if left == 0 then after_options section size left counts
     else Ok (b.Option section size left counts, None)
 
 -- what comes after the head of an option whose value has this many of the fields that are left
-abbrev pub over_fields : Section → ℕ → ℕ → ℕ → ℕ → Stepped
+abbrev pub over_fields : Section → ℕ → ℕ → ℕ → ℕ → SteppedBlock
 over_fields section size left counts fields =
     if fields == 0 then next_option_at section size left counts
     else Ok (b.Value section size (left - fields) counts fields, None)
 
 -- what comes after the head of an option, if this many fields are left after the head
-abbrev pub after_option : Section → ℕ → ℕ → ℕ → List ℕ → Stepped
+abbrev pub after_option : Section → ℕ → ℕ → ℕ → List ℕ → SteppedBlock
 after_option section size left counts field =
     let code = short_number section.order field in
     let long = short_number section.order (drop 2 field) in
@@ -182,72 +182,72 @@ after_option section size left counts field =
 
 -- what comes after a field of an option's value, if this many fields of the value were left, that
 -- one included
-abbrev pub after_value : Section → ℕ → ℕ → ℕ → ℕ → Stepped
+abbrev pub after_value : Section → ℕ → ℕ → ℕ → ℕ → SteppedBlock
 after_value section size left counts fields =
     if nat_lt 1 fields then Ok (b.Value section size left counts (fields - 1), None)
     else next_option_at section size left counts
 
 -- what comes after the resolution of an interface's times, given how many nanoseconds a unit is, if
 -- it is a resolution that may be
-abbrev pub at_resolution : Section → ℕ → ℕ → Option ℕ → Stepped
+abbrev pub at_resolution : Section → ℕ → ℕ → Option ℕ → SteppedBlock
 at_resolution section size left (Some counts) = next_option_at section size (left - 1) counts
 at_resolution section size left None = Err OtherResolution
 
 -- what comes after the resolution of an interface's times, with 10 to this power of units in a
 -- second
-abbrev pub after_resolution : Section → ℕ → ℕ → ℕ → Stepped
+abbrev pub after_resolution : Section → ℕ → ℕ → ℕ → SteppedBlock
 after_resolution section size left digits = at_resolution section size left (counts_at digits)
 
 -- what comes after the time of a packet
-abbrev pub after_low : Section → ℕ → ℕ → ℕ → Stepped
+abbrev pub after_low : Section → ℕ → ℕ → ℕ → SteppedBlock
 after_low section size high low =
     let start = (high * 4294967296 + low) * section.counts in
     if nat_lt start (2 ^ 64) then Ok (b.Captured section size start, None) else Err Late
 
 -- what comes after the number of bytes of a packet that the file has
-abbrev pub after_captured : Section → ℕ → ℕ → ℕ → Stepped
+abbrev pub after_captured : Section → ℕ → ℕ → ℕ → SteppedBlock
 after_captured section size start captured =
     if nat_lt captured 12 then Err Short
     else if nat_lt size (padded captured + 32) then Err WrongSize
     else Ok (b.Original section size start captured, None)
 
 -- what comes after the number of bytes that a packet had
-abbrev pub after_original : Section → ℕ → ℕ → ℕ → ℕ → Stepped
+abbrev pub after_original : Section → ℕ → ℕ → ℕ → ℕ → SteppedBlock
 after_original section size start captured original =
     if original == captured
     then Ok (b.Packet section size (size - 32 - captured) (RtacSeconds start (captured - 12)), None)
     else Err Cut
 
 -- what comes after a field or a byte of a packet
-abbrev pub after_body : Section → ℕ → ℕ → Next → Stepped
+abbrev pub after_body : Section → ℕ → ℕ → Next → SteppedBlock
 after_body section size left next =
     Ok (body_or (b.Packet section size left) (unread_or_end section size left) next.0, next.1)
 
 -- what comes after the interface of a packet
-abbrev pub after_interface : Section → ℕ → ℕ → Stepped
+abbrev pub after_interface : Section → ℕ → ℕ → SteppedBlock
 after_interface section size interface =
     if nat_le section.first interface && nat_lt interface section.interfaces
     then Ok (b.High section size, None) else Err NoInterface
 
 -- what comes after the high half of a packet's time
-abbrev pub after_high : Section → ℕ → ℕ → Stepped
+abbrev pub after_high : Section → ℕ → ℕ → SteppedBlock
 after_high section size high =
     if nat_lt (high * 4294967296 * section.counts) (2 ^ 64)
     then Ok (b.Low section size high, None) else Err Late
 
 -- what comes after the length of a section's header, which is the first number if the section is
 -- big-endian, and otherwise the second one
-abbrev pub after_section_size : ℕ → ℕ → Stepped
+abbrev pub after_section_size : ℕ → ℕ → SteppedBlock
 after_section_size big little =
     if is_size big 28 || is_size little 28 then Ok (b.SectionOrder big little, None)
     else Err WrongSize
 
 -- what comes after the length at the end of a block, which must be the one at its beginning
-abbrev pub after_end : Section → ℕ → ℕ → Stepped
+abbrev pub after_end : Section → ℕ → ℕ → SteppedBlock
 after_end section size again = if again == size then Ok (b.Kind section, None) else Err WrongSize
 
 -- what a field of four bytes leads to
-unfoldable pub block_field_at : Block → List ℕ → Stepped
+unfoldable pub block_field_at : Block → List ℕ → SteppedBlock
 block_field_at b.SectionSize field =
     after_section_size (number Big field) (number Little field)
 block_field_at (b.SectionOrder big little) field = after_order field big little
@@ -279,7 +279,7 @@ block_field_at (b.End section size) field =
     after_end section size (number section.order field)
 
 -- what a single byte leads to
-abbrev pub block_byte_at : Block → ℕ → Stepped
+abbrev pub block_byte_at : Block → ℕ → SteppedBlock
 block_byte_at (b.Packet section size left body) byte =
     after_body section size left (body_byte_at body byte)
 block_byte_at (b.Unread section size left) byte = Ok (unread_or_end section size (left - 1), None)

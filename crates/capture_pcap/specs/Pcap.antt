@@ -31,7 +31,7 @@ pub data IsMagic : Clock → List ℕ → Type 0 where
 
 -- The header of a file: its magic number, sixteen bytes that say nothing of its packets (version,
 -- time zone, figures, and how many bytes of a packet are taken at most), and the link type.
-pub record IsHeader (clock : Clock) (bytes : List ℕ) : Type 0 where
+pub record IsPcapHeader (clock : Clock) (bytes : List ℕ) : Type 0 where
   pub magic : List ℕ
   pub free : List ℕ
   pub link : List ℕ
@@ -63,7 +63,7 @@ pub record AreLengths (clock : Clock) (bytes : List ℕ) (size : ℕ) : Type 0 w
   pub original_is : number clock.order original ≡ size
 
 -- a packet with its header
-pub record IsPacket (clock : Clock) (bytes : List ℕ) (items : List Seen) : Type 0 where
+pub record IsPcapPacket (clock : Clock) (bytes : List ℕ) (items : List Seen) : Type 0 where
   pub time : List ℕ
   pub lengths : List ℕ
   pub body : List ℕ
@@ -76,9 +76,9 @@ pub record IsPacket (clock : Clock) (bytes : List ℕ) (items : List Seen) : Typ
 
 -- a header, and packets one after the other
 pub data ArePackets (clock : Clock) : List ℕ → List Seen → Type 0 where
-  none : (header : List ℕ) → IsHeader clock header → ArePackets clock header []
+  none : (header : List ℕ) → IsPcapHeader clock header → ArePackets clock header []
   more : (front packet : List ℕ) (items others : List Seen) → ArePackets clock front items
-      → IsPacket clock packet others → ArePackets clock (front ++ packet) (items ++ others)
+      → IsPcapPacket clock packet others → ArePackets clock (front ++ packet) (items ++ others)
 
 -- A pcap file of link type 250 in which these bytes of the line and events are seen.
 pub record IsPcap (file : List ℕ) (items : List Seen) : Type 0 where

@@ -3,7 +3,7 @@
 
 ghost use Rattle.std.specs.Prelude.{◌≡◌, ◌+◌, ◌*◌, ◌<◌, ◌≤◌, ◌^◌, length, true, false, Some, None};
 ghost use Rattle.capture_pcap.specs.BlockStep.{block_field_at, block_byte_at, takes_bytes};
-ghost use Rattle.capture_pcap.specs.BlockStep.{is_sound, IsSoundStep, is_head, unread_or_end, is_size};
+ghost use Rattle.capture_pcap.specs.BlockStep.{is_sound_block_step, IsSoundBlock, is_head, unread_or_end, is_size};
 ghost use Rattle.capture_pcap.specs.BlockStep.{after_order, after_kind, after_size, after_link};
 ghost use Rattle.capture_pcap.specs.BlockStep.{after_options, next_option_at};
 ghost use Rattle.capture_pcap.specs.BlockStep.{after_option, after_value, after_resolution};
@@ -97,7 +97,7 @@ pub type Step = Result<(Block, Option<Seen>), PcapFault>;
 #[inline]
 fn unread(section: Section, size: u32, left: u32) -> Block
     ensures unread { result ≡ unread_or_end section size left }
-    ensures sound { is_sound result ≡ true }
+    ensures sound { is_sound_block_step result ≡ true }
 {
     if left > 0 {
         Block::Unread(section, size, left)
@@ -117,7 +117,7 @@ fn is_size(size: u32, least: u32) -> bool
 /// order.
 fn after_section_size(big: u32, little: u32) -> Step
     ensures step { result ≡ after_section_size big little }
-    ensures sound { IsSoundStep result }
+    ensures sound { IsSoundBlock result }
 {
     if is_size(big, 28) || is_size(little, 28) {
         Ok((Block::SectionOrder(big, little), None))
@@ -130,7 +130,7 @@ fn after_section_size(big: u32, little: u32) -> Step
 fn after_order(word: &[u8], big: u32, little: u32) -> Step
     requires { length word.now ≡ 4 }
     ensures step { result ≡ after_order word.now big little }
-    ensures sound { IsSoundStep result }
+    ensures sound { IsSoundBlock result }
 {
     let (order, size) = match word {
         [0x1A, 0x2B, 0x3C, 0x4D] => (Order::Big, big),
@@ -153,7 +153,7 @@ fn after_order(word: &[u8], big: u32, little: u32) -> Step
 fn after_kind(section: Section, word: &[u8]) -> Step
     requires { length word.now ≡ 4 }
     ensures step { result ≡ after_kind section word.now }
-    ensures sound { IsSoundStep result }
+    ensures sound { IsSoundBlock result }
 {
     if let [0x0A, 0x0D, 0x0D, 0x0A] = word {
         return Ok((Block::SectionSize, None));
@@ -171,7 +171,7 @@ fn after_kind(section: Section, word: &[u8]) -> Step
 fn after_size(section: Section, kind: Kind, size: u32) -> Step
     requires { has_room section kind ≡ true }
     ensures step { result ≡ after_size section kind size }
-    ensures sound { IsSoundStep result }
+    ensures sound { IsSoundBlock result }
 {
     match kind {
         Kind::Interface if is_size(size, 20) => Ok((Block::Link(section, size), None)),
@@ -204,7 +204,7 @@ fn after_options(section: Section, size: u32, left: u32, counts: u32) -> Step
     requires small { 4 * left < 2 ^ 32 }
     requires room { section.interfaces < 4294967295 }
     ensures step { result ≡ after_options section size left counts }
-    ensures sound { IsSoundStep result }
+    ensures sound { IsSoundBlock result }
 {
     Ok((
         unread(with_interface(section, counts), size, 4 * left),
@@ -217,7 +217,7 @@ fn next_option(section: Section, size: u32, left: u32, counts: u32) -> Step
     requires small { 4 * left < 2 ^ 32 }
     requires room { section.interfaces < 4294967295 }
     ensures step { result ≡ next_option_at section size left counts }
-    ensures sound { IsSoundStep result }
+    ensures sound { IsSoundBlock result }
 {
     if left == 0 {
         after_options(section, size, left, counts)
@@ -232,7 +232,7 @@ fn after_option(section: Section, size: u32, left: u32, counts: u32, word: &[u8]
     requires small { 4 * left < 2 ^ 32 }
     requires room { section.interfaces < 4294967295 }
     ensures step { result ≡ after_option section size left counts word.now }
-    ensures sound { IsSoundStep result }
+    ensures sound { IsSoundBlock result }
 {
     let code = section.order.short_number(word);
     let long = u32::from(section.order.short_number(&word[2..]));
@@ -283,7 +283,7 @@ fn after_resolution(section: Section, size: u32, left: u32, digits: u8) -> Step
     requires small { 4 * left < 2 ^ 32 }
     requires room { section.interfaces < 4294967295 }
     ensures step { result ≡ after_resolution section size left digits }
-    ensures sound { IsSoundStep result }
+    ensures sound { IsSoundBlock result }
 {
     match counts_of(digits) {
         Some(counts) => next_option(section, size, left - 1, counts),
@@ -295,7 +295,7 @@ fn after_resolution(section: Section, size: u32, left: u32, digits: u8) -> Step
 fn after_interface(section: Section, size: u32, interface: u32) -> Step
     requires { 44 ≤ size }
     ensures step { result ≡ after_interface section size interface }
-    ensures sound { IsSoundStep result }
+    ensures sound { IsSoundBlock result }
 {
     if section.first <= interface && interface < section.interfaces {
         Ok((Block::High(section, size), None))
@@ -308,7 +308,7 @@ fn after_interface(section: Section, size: u32, interface: u32) -> Step
 fn after_high(section: Section, size: u32, high: u32) -> Step
     requires { 44 ≤ size }
     ensures step { result ≡ after_high section size high }
-    ensures sound { IsSoundStep result }
+    ensures sound { IsSoundBlock result }
 {
     let units = u64::from(high) * 4_294_967_296;
     match units.checked_mul(u64::from(section.counts)) {
@@ -321,7 +321,7 @@ fn after_high(section: Section, size: u32, high: u32) -> Step
 fn after_low(section: Section, size: u32, high: u32, low: u32) -> Step
     requires { 44 ≤ size }
     ensures step { result ≡ after_low section size high low }
-    ensures sound { IsSoundStep result }
+    ensures sound { IsSoundBlock result }
 {
     let units = u64::from(high) * 4_294_967_296 + u64::from(low);
     match units.checked_mul(u64::from(section.counts)) {
@@ -333,7 +333,7 @@ fn after_low(section: Section, size: u32, high: u32, low: u32) -> Step
 /// What comes after the number of bytes of a packet that the file has.
 fn after_captured(section: Section, size: u32, start: u64, captured: u32) -> Step
     ensures step { result ≡ after_captured section size start captured }
-    ensures sound { IsSoundStep result }
+    ensures sound { IsSoundBlock result }
 {
     if captured < 12 {
         return Err(PcapFault::Short);
@@ -350,7 +350,7 @@ fn after_original(section: Section, size: u32, start: u64, captured: u32, origin
     requires header { 12 ≤ captured }
     requires fits { captured + 32 ≤ size }
     ensures step { result ≡ after_original section size start captured original }
-    ensures sound { IsSoundStep result }
+    ensures sound { IsSoundBlock result }
 {
     if original != captured {
         return Err(PcapFault::Cut);
@@ -365,7 +365,7 @@ fn after_original(section: Section, size: u32, start: u64, captured: u32, origin
 fn behind(section: Section, size: u32, left: u32, next: Next) -> Step
     requires { IsSoundNext next }
     ensures step { result ≡ after_body section size left next }
-    ensures sound { IsSoundStep result }
+    ensures sound { IsSoundBlock result }
 {
     match next.0 {
         Some(body) => Ok((Block::Packet(section, size, left, body), next.1)),
@@ -378,7 +378,7 @@ fn after_link(section: Section, size: u32, link: u16) -> Step
     requires most { 20 ≤ size }
     requires room { section.interfaces < 4294967295 }
     ensures step { result ≡ after_link section size link }
-    ensures sound { IsSoundStep result }
+    ensures sound { IsSoundBlock result }
 {
     if link == RTAC_SERIAL {
         Ok((Block::Snap(section, size), None))
@@ -392,7 +392,7 @@ fn after_value(section: Section, size: u32, left: u32, counts: u32, fields: u32)
     requires small { 4 * left < 2 ^ 32 }
     requires room { section.interfaces < 4294967295 }
     ensures step { result ≡ after_value section size left counts fields }
-    ensures sound { IsSoundStep result }
+    ensures sound { IsSoundBlock result }
 {
     if fields > 1 {
         let value = Block::Value(section, size, left, counts, fields - 1);
@@ -418,10 +418,10 @@ impl Block {
     /// Takes a single byte.
     #[inline]
     pub fn byte(self, b: u8) -> Step
-        requires sound { is_sound self ≡ true }
+        requires sound { is_sound_block_step self ≡ true }
         requires single { takes_bytes self ≡ true }
         ensures step { result ≡ block_byte_at self b }
-        ensures sound { IsSoundStep result }
+        ensures sound { IsSoundBlock result }
     {
         match self {
             Block::Packet(section, size, left, body) => behind(section, size, left, body.byte(b)),
@@ -433,11 +433,11 @@ impl Block {
     /// Takes a field of a section's header or of an interface, or the kind or the length of a
     /// block.
     fn head_field(self, word: &[u8]) -> Step
-        requires sound { is_sound self ≡ true }
+        requires sound { is_sound_block_step self ≡ true }
         requires four { length word.now ≡ 4 }
         requires head { is_head self ≡ true }
         ensures step { result ≡ block_field_at self word.now }
-        ensures sound { IsSoundStep result }
+        ensures sound { IsSoundBlock result }
     {
         match self {
             Block::SectionSize => {
@@ -465,11 +465,11 @@ impl Block {
 
     /// Takes a field of four bytes.
     pub fn field(self, word: &[u8]) -> Step
-        requires sound { is_sound self ≡ true }
+        requires sound { is_sound_block_step self ≡ true }
         requires four { length word.now ≡ 4 }
         requires field { takes_bytes self ≡ false }
         ensures step { result ≡ block_field_at self word.now }
-        ensures sound { IsSoundStep result }
+        ensures sound { IsSoundBlock result }
     {
         match self {
             Block::Interface(section, size) => {

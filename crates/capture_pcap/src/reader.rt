@@ -2,7 +2,7 @@
 ghost use Rattle.std.specs.Prelude.{◌≡◌, ℕ, ◌+◌, ◌<◌, ◌≤◌, ◌++◌, ◌∷◌, [], List, true, length};
 ghost use Rattle.std.specs.Prelude.{Some, None, OnOk, IfOk, IfErr, Err, ◌==◌, false};
 ghost use Rattle.std.specs.Option.{option_to_list};
-ghost use Rattle.capture_pcap.specs.PcapStep.{is_sound, takes_bytes};
+ghost use Rattle.capture_pcap.specs.PcapStep.{is_sound_pcap, takes_bytes};
 ghost use Rattle.line_stamps.specs.declared.TheConstants.{MAX_BYTES};
 
 use crate::stage::Stage;
@@ -19,7 +19,7 @@ pub struct PcapReader {
     partial: ArrayVec<u8, 4>,
     refused: Option<BadPcap>,
     taken: u64,
-    ghost sound: { is_sound stage ≡ true },
+    ghost sound: { is_sound_pcap stage ≡ true },
     ghost short: { length partial.items < 4 },
     ghost alone: { takes_bytes stage ≡ true → length partial.items ≡ 0 },
     ghost fewer: { length partial.items ≤ taken },
@@ -27,20 +27,20 @@ pub struct PcapReader {
 }
 
 impl PcapReader {
-    ghost use Rattle.line_stamps.specs.Walks.{Begins, BeginsNone};
+    ghost use Rattle.line_stamps.specs.Walks.{WalkBegins, WalkBeginsNone};
     ghost use Rattle.line_stamps.specs.Fields.{RefusesField, AreFieldsSoFar, before_field, Spot};
     ghost use Rattle.capture_pcap.specs.Pcap.{IsCapture, IsCause};
     ghost use Rattle.capture_pcap.specs.PcapStep.{step_at, may_end_at};
-    ghost use Rattle.capture_pcap.specs.Reader.{StandsFor, HasRefused, bytes_taken, spot_of};
-    ghost use Rattle.capture_pcap.specs.Reader.{Takes};
+    ghost use Rattle.capture_pcap.specs.Reader.{PcapReaderStandsFor, PcapReaderHasRefused, pcap_bytes_taken, pcap_spot_of};
+    ghost use Rattle.capture_pcap.specs.Reader.{PcapReaderTakes};
     ghost use Rattle.line_stamps.specs.declared.seen.Seen.{Seen};
     ghost use Rattle.capture_pcap.specs.declared.fault.BadPcap.{BadPcap};
 
     /// Returns a reader that has taken nothing yet.
     pub fn new() -> PcapReader
-        ensures stands { StandsFor result [] [] }
-        ensures begins { Begins IsCapture [] [] }
-        ensures taken { bytes_taken result ≡ 0 }
+        ensures stands { PcapReaderStandsFor result [] [] }
+        ensures begins { WalkBegins IsCapture [] [] }
+        ensures taken { pcap_bytes_taken result ≡ 0 }
     {
         PcapReader {
             stage: Stage::Magic,
@@ -52,7 +52,7 @@ impl PcapReader {
 
     /// Returns how many bytes the reader has taken.
     pub fn taken(&self) -> u64
-        ensures { result ≡ bytes_taken self.now }
+        ensures { result ≡ pcap_bytes_taken self.now }
     {
         self.taken
     }
@@ -60,8 +60,8 @@ impl PcapReader {
     /// Takes one byte: at once, or with its field.
     #[inline]
     fn step(&mut self, b: u8) -> Result<Option<Seen>, PcapFault>
-        requires { bytes_taken self.old < MAX_BYTES }
-        ensures { Takes self.old b result self.new }
+        requires { pcap_bytes_taken self.old < MAX_BYTES }
+        ensures { PcapReaderTakes self.old b result self.new }
     {
         if self.stage.is_data() {
             let (stage, seen) = self.stage.byte(b)?;
@@ -79,10 +79,10 @@ impl PcapReader {
 
     /// Takes the last byte of a field.
     fn end_field(&mut self, b: u8) -> Result<Option<Seen>, PcapFault>
-        requires taken { bytes_taken self.old < MAX_BYTES }
+        requires taken { pcap_bytes_taken self.old < MAX_BYTES }
         requires field { takes_bytes self.old.stage ≡ false }
         requires three { length self.old.partial.items ≡ 3 }
-        ensures { Takes self.old b result self.new }
+        ensures { PcapReaderTakes self.old b result self.new }
     {
         let field = [self.partial[0], self.partial[1], self.partial[2], b];
         let (stage, seen) = self.stage.field(&field)?;
@@ -96,27 +96,27 @@ impl PcapReader {
     /// the line or an event. A refusal is for good: each later call returns it too.
     #[inline]
     pub fn feed(&mut self, b: u8) -> Result<Option<Seen>, BadPcap>
-        requires { bytes_taken self.old < MAX_BYTES }
+        requires { pcap_bytes_taken self.old < MAX_BYTES }
         // The bytes so far represent the items that were returned.
-        ensures stands { (file : List ℕ) (items : List Seen) → StandsFor self.old file items
-            → IfOk result (λ seen. StandsFor self.new (file ++ b ∷ [])
+        ensures stands { (file : List ℕ) (items : List Seen) → PcapReaderStandsFor self.old file items
+            → IfOk result (λ seen. PcapReaderStandsFor self.new (file ++ b ∷ [])
             (items ++ option_to_list seen)) }
         // The bytes up to the last whole field begin a capture, with these items.
-        ensures begins { (file : List ℕ) (items : List Seen) → StandsFor self.old file items
+        ensures begins { (file : List ℕ) (items : List Seen) → PcapReaderStandsFor self.old file items
             → IfOk result (λ seen. AreFieldsSoFar IsCapture (file ++ b ∷ [])
             (items ++ option_to_list seen)) }
         // Each capture that begins with the bytes so far has these items first.
-        ensures each { (file : List ℕ) (items : List Seen) → StandsFor self.old file items
+        ensures each { (file : List ℕ) (items : List Seen) → PcapReaderStandsFor self.old file items
             → IfOk result (λ seen. (more : List ℕ) (all : List Seen)
             → IsCapture ((file ++ b ∷ []) ++ more) all
             → (others : List Seen) × (all ≡ (items ++ option_to_list seen) ++ others)) }
         // It refuses only the first field with which no capture begins. The bytes before that field
         // begin one, with all the items that were returned.
-        ensures refused { (file : List ℕ) (items : List Seen) → StandsFor self.old file items
+        ensures refused { (file : List ℕ) (items : List Seen) → PcapReaderStandsFor self.old file items
             → IfErr result (λ bad. RefusesField IsCapture IsCause file items b bad.offset bad.why) }
-        ensures taken { OnOk result (bytes_taken self.new ≡ bytes_taken self.old + 1) }
-        ensures remembered { IfErr result (λ bad. HasRefused self.new bad) }
-        ensures for_good { (bad : BadPcap) → HasRefused self.old bad
+        ensures taken { OnOk result (pcap_bytes_taken self.new ≡ pcap_bytes_taken self.old + 1) }
+        ensures remembered { IfErr result (λ bad. PcapReaderHasRefused self.new bad) }
+        ensures for_good { (bad : BadPcap) → PcapReaderHasRefused self.old bad
             → (result ≡ Err bad) × (self.new ≡ self.old) }
     {
         if let Some(bad) = self.refused {
@@ -137,19 +137,19 @@ impl PcapReader {
 
     /// Whether the file may end here.
     fn may_end(&self) -> bool
-        ensures { result ≡ may_end_at (spot_of self.now) }
+        ensures { result ≡ may_end_at (pcap_spot_of self.now) }
     {
         self.stage.may_end() && self.partial.is_empty()
     }
 
     /// Takes the end of the file. It refuses it only if the bytes so far aren't a whole capture.
     pub fn finish(self) -> Result<(), BadPcap>
-        ensures right { (file : List ℕ) (items : List Seen) → StandsFor self file items
+        ensures right { (file : List ℕ) (items : List Seen) → PcapReaderStandsFor self file items
             → OnOk result (IsCapture file items) }
-        ensures refused { (file : List ℕ) (items : List Seen) → StandsFor self file items
+        ensures refused { (file : List ℕ) (items : List Seen) → PcapReaderStandsFor self file items
             → IfErr result (λ bad. ((all : List Seen) → IsCapture file all → ⊥)
             × (bad.offset ≡ length file) × (bad.why ≡ PcapFault.End)) }
-        ensures again { (bad : BadPcap) → HasRefused self bad → result ≡ Err bad }
+        ensures again { (bad : BadPcap) → PcapReaderHasRefused self bad → result ≡ Err bad }
     {
         if let Some(bad) = self.refused {
             return Err(bad);
@@ -167,8 +167,8 @@ impl PcapReader {
 impl CaptureReader for PcapReader {
     ghost use Rattle.line_stamps.specs.Fields.{AreFieldsSoFar};
     ghost use Rattle.capture_pcap.specs.Pcap.{IsCapture};
-    ghost use Rattle.capture_pcap.specs.Reader.{StandsFor, Refuses, HasRefused};
-    ghost use Rattle.capture_pcap.specs.Reader.{bytes_taken as taken_by};
+    ghost use Rattle.capture_pcap.specs.Reader.{PcapReaderStandsFor, PcapReaderRefuses, PcapReaderHasRefused};
+    ghost use Rattle.capture_pcap.specs.Reader.{pcap_bytes_taken};
 
     type Refusal = BadPcap;
 
@@ -176,13 +176,13 @@ impl CaptureReader for PcapReader {
 
     ghost begins = { AreFieldsSoFar IsCapture };
 
-    ghost stands = { StandsFor };
+    ghost stands = { PcapReaderStandsFor };
 
-    ghost refuses = { Refuses };
+    ghost refuses = { PcapReaderRefuses };
 
-    ghost has_refused = { HasRefused };
+    ghost has_refused = { PcapReaderHasRefused };
 
-    ghost bytes_taken = { taken_by };
+    ghost bytes_taken = { pcap_bytes_taken };
 
     fn start() -> PcapReader {
         PcapReader::new()

@@ -3,10 +3,10 @@
 
 ghost use Rattle.std.specs.Prelude.{◌≡◌, ◌+◌, ◌<◌, ◌≤◌, ◌*◌, length, true, false};
 ghost use Rattle.capture_pcap.specs.PcapStep.{field_at, byte_at, after_magic_at, takes_bytes};
-ghost use Rattle.capture_pcap.specs.PcapStep.{may_end};
-ghost use Rattle.capture_pcap.specs.PcapStep.{is_sound, IsSoundStep, after_body, after_length};
-ghost use Rattle.capture_pcap.specs.PcapStep.{in_blocks};
-ghost use Rattle.capture_pcap.specs.BlockStep.{IsSoundStep as IsSoundBlockStep};
+ghost use Rattle.capture_pcap.specs.PcapStep.{pcap_may_end};
+ghost use Rattle.capture_pcap.specs.PcapStep.{is_sound_pcap, IsSoundPcapStep, after_body, after_length};
+ghost use Rattle.capture_pcap.specs.PcapStep.{in_pcap_blocks};
+ghost use Rattle.capture_pcap.specs.BlockStep.{IsSoundBlock};
 ghost use Rattle.capture_pcap.specs.BodyStep.{IsSoundNext};
 ghost use Rattle.capture_pcap.specs.Words.{nanoseconds};
 
@@ -78,7 +78,7 @@ fn after_magic(word: &[u8]) -> Step
 fn behind(clock: Clock, next: Next) -> Step
     requires { IsSoundNext next }
     ensures step { result ≡ after_body clock next }
-    ensures sound { IsSoundStep result }
+    ensures sound { IsSoundPcapStep result }
 {
     match next.0 {
         Some(body) => Ok((Stage::Packet(clock, body), next.1)),
@@ -89,9 +89,9 @@ fn behind(clock: Clock, next: Next) -> Step
 /// What comes after a field or a byte of a pcapng file.
 #[inline]
 fn in_blocks(step: block::Step) -> Step
-    requires { IsSoundBlockStep step }
-    ensures step { result ≡ in_blocks step }
-    ensures sound { IsSoundStep result }
+    requires { IsSoundBlock step }
+    ensures step { result ≡ in_pcap_blocks step }
+    ensures sound { IsSoundPcapStep result }
 {
     match step {
         Ok((block, seen)) => Ok((Stage::Blocks(block), seen)),
@@ -103,7 +103,7 @@ fn in_blocks(step: block::Step) -> Step
 fn behind_length(clock: Clock, start: u64, captured: u32, original: u32) -> Step
     requires { 12 ≤ captured }
     ensures step { result ≡ after_length clock start captured original }
-    ensures sound { IsSoundStep result }
+    ensures sound { IsSoundPcapStep result }
 {
     if original == captured {
         let body = Body::Seconds(start, captured - RTAC_HEADER);
@@ -128,7 +128,7 @@ impl Stage {
 
     /// Whether a file may end here, before what comes next.
     pub fn may_end(self) -> bool
-        ensures { result ≡ may_end self }
+        ensures { result ≡ pcap_may_end self }
     {
         matches!(self, Stage::Seconds(_) | Stage::Blocks(Block::Kind(_)))
     }
@@ -136,10 +136,10 @@ impl Stage {
     /// Takes a single byte.
     #[inline]
     pub fn byte(self, b: u8) -> Step
-        requires sound { is_sound self ≡ true }
+        requires sound { is_sound_pcap self ≡ true }
         requires payload { takes_bytes self ≡ true }
         ensures step { result ≡ byte_at self b }
-        ensures sound { IsSoundStep result }
+        ensures sound { IsSoundPcapStep result }
     {
         match self {
             Stage::Packet(clock, body) => behind(clock, body.byte(b)),
@@ -150,11 +150,11 @@ impl Stage {
 
     /// Takes a field of four bytes.
     pub fn field(self, word: &[u8]) -> Step
-        requires sound { is_sound self ≡ true }
+        requires sound { is_sound_pcap self ≡ true }
         requires four { length word.now ≡ 4 }
         requires field { takes_bytes self ≡ false }
         ensures step { result ≡ field_at self word.now }
-        ensures sound { IsSoundStep result }
+        ensures sound { IsSoundPcapStep result }
     {
         match self {
             Stage::Magic => after_magic(word),

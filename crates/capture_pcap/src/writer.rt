@@ -4,7 +4,7 @@ ghost use Rattle.std.specs.Prelude.{true};
 ghost use Rattle.byteorder.specs.Endian.{big_bytes, little_bytes};
 ghost use Rattle.capture_pcap.specs.Writing.{AppendsNumber, AppendsFour, written_clock, data_event};
 ghost use Rattle.capture_pcap.specs.Writing.{packet_front, file_header};
-ghost use Rattle.capture_pcap.specs.Pcap.{IsHeader, IsPacket};
+ghost use Rattle.capture_pcap.specs.Pcap.{IsPcapHeader, IsPcapPacket};
 ghost use Rattle.capture_pcap.specs.Record.{seen_bytes};
 
 use arrayvec::ArrayVec;
@@ -23,7 +23,7 @@ pub type PacketHeader = ArrayVec<u8, 28>;
 /// A law: `FILE_HEADER` is the header of a little-endian file whose times count nanoseconds, and has
 /// these very bytes.
 pub fn written_header()
-    ensures header { IsHeader written_clock FILE_HEADER }
+    ensures header { IsPcapHeader written_clock FILE_HEADER }
     ensures bytes { FILE_HEADER ≡ file_header }
 {}
 
@@ -74,7 +74,7 @@ pub fn packet_header(way: Way, start: u64, count: u32) -> PacketHeader
     requires time { start < 2 ^ 32 * 1000000000 }
     requires size { count + 12 < 2 ^ 32 }
     ensures packet { (payload : List ℕ) → length payload ≡ count
-        → IsPacket written_clock (result.items ++ payload) (seen_bytes start way true payload) }
+        → IsPcapPacket written_clock (result.items ++ payload) (seen_bytes start way true payload) }
     ensures front { result.items ≡ packet_front way start count }
 {
     let seconds = (start / 1_000_000_000) as u32;

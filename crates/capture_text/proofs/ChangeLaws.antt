@@ -1,6 +1,6 @@
 -- The changes of a line, tick by tick.
 use Rattle.capture_text.proofs.LevelLaws.{last_level, line_ends_high, length_line}
-use Rattle.capture_text.specs.Changes.{bit_start, quiet, changes_at, changes_from, padded}
+use Rattle.capture_text.specs.Changes.{bit_start, quiet_rows, changes_at, changes_from, padded_rows}
 use Rattle.capture_text.specs.{Changes.ticks_changes, Levels.tick_levels, Levels.line_levels}
 use Rattle.capture_text.specs.declared.changes.{BothLevels.BothLevels, Change.Change}
 use Rattle.line_stamps.specs.declared.rate.Rate.{Rate}
@@ -91,11 +91,11 @@ line_more bits line tick =
     flat_map-append (tick_levels bits) line (tick ∷ [])
     ∙ ap (λ x. line_levels bits line ++ x) (append-nil (tick_levels bits tick))
 
--- One more tick adds the changes in it, as they are after a bit in which both wires are quiet.
+-- One more tick adds the changes in it, as they are after a bit in which both wires are quiet_rows.
 pub ticks_more : (rate : Rate) (xs ys : List Tick) (a b : Tick) (n : ℕ) → length xs ≡ n
     → length ys ≡ n
     → ticks_changes rate (xs ++ a ∷ []) (ys ++ b ∷ [])
-    ≡ ticks_changes rate xs ys ++ changes_from rate ((n + 1) * rate.bits) quiet
+    ≡ ticks_changes rate xs ys ++ changes_from rate ((n + 1) * rate.bits) quiet_rows
     (tick_levels rate.bits a) (tick_levels rate.bits b)
 ticks_more rate xs ys a b n of_a of_b =
     let la : List Bool = line_levels rate.bits xs in
@@ -110,20 +110,20 @@ ticks_more rate xs ys a b n of_a of_b =
     let place : rate.bits + length la ≡ (n + 1) * rate.bits = omega (arith, long_a, more) in
     let high_a : last_level true la ≡ true = line_ends_high rate.bits xs in
     let high_b : last_level true lb ≡ true = line_ends_high rate.bits ys in
-    let ends : last_of quiet la lb ≡ quiet =
+    let ends : last_of quiet_rows la lb ≡ quiet_rows =
     ap (λ x. record { a = x; b = last_level true lb }) high_a
     ∙ ap (λ x. record { a = true; b = x }) high_b in
-    ap (λ x. changes_from rate rate.bits quiet x (line_levels rate.bits (ys ++ b ∷ [])))
+    ap (λ x. changes_from rate rate.bits quiet_rows x (line_levels rate.bits (ys ++ b ∷ [])))
     (line_more rate.bits xs a)
-    ∙ ap (λ x. changes_from rate rate.bits quiet (la ++ ta) x) (line_more rate.bits ys b)
-    ∙ changes_both rate rate.bits quiet la lb ta tb (long_a ∙ sym long_b)
-    ∙ ap (λ k. changes_from rate rate.bits quiet la lb
-    ++ changes_from rate k (last_of quiet la lb) ta tb) place
-    ∙ ap (λ q. changes_from rate rate.bits quiet la lb
+    ∙ ap (λ x. changes_from rate rate.bits quiet_rows (la ++ ta) x) (line_more rate.bits ys b)
+    ∙ changes_both rate rate.bits quiet_rows la lb ta tb (long_a ∙ sym long_b)
+    ∙ ap (λ k. changes_from rate rate.bits quiet_rows la lb
+    ++ changes_from rate k (last_of quiet_rows la lb) ta tb) place
+    ∙ ap (λ q. changes_from rate rate.bits quiet_rows la lb
     ++ changes_from rate ((n + 1) * rate.bits) q ta tb) ends
 
 -- the length of a line with the silence after it
-pub length_padded : (line other : List Tick) → length (padded line other)
+pub length_padded : (line other : List Tick) → length (padded_rows line other)
     ≡ length line + (length other - length line)
 length_padded line other =
     length-append line (replicate (length other - length line) Silent)

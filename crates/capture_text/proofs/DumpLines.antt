@@ -1,6 +1,6 @@
 -- What a writer has written of two lines, tick by tick.
 use Rattle.capture_text.proofs.TextLaws.{front_more, front_all, dump_padded}
-use Rattle.capture_text.specs.{Changes.padded, Dump.dump_text, Writer.HasWritten}
+use Rattle.capture_text.specs.{Changes.padded_rows, Dump.dump_text, Writer.HasWritten}
 use Rattle.capture_text.specs.declared.text.Wires.{Wires}
 use Rattle.capture_text.specs.declared.dump_writer.DumpWriter.{DumpWriter}
 use Rattle.line_stamps.specs.declared.rate.Rate.{Rate}
@@ -20,22 +20,22 @@ written_so writer xs ys more_x more_y text more s of_x of_y is =
 -- one more tick of both lines
 pub tick_more : (writer : DumpWriter) (a b : List Tick) (n : ℕ) (x y : Tick) (text more : List ℕ)
     → n < max (length a) (length b) → x ≡ get_or a n Silent → y ≡ get_or b n Silent
-    → HasWritten writer (take n (padded a b) ++ x ∷ []) (take n (padded b a) ++ y ∷ []) text
-    → more ≡ text → HasWritten writer (take (n + 1) (padded a b)) (take (n + 1) (padded b a)) more
+    → HasWritten writer (take n (padded_rows a b) ++ x ∷ []) (take n (padded_rows b a) ++ y ∷ []) text
+    → more ≡ text → HasWritten writer (take (n + 1) (padded_rows a b)) (take (n + 1) (padded_rows b a)) more
 tick_more writer a b n x y text more h of_x of_y s is =
-    written_so writer (take n (padded a b) ++ x ∷ []) (take n (padded b a) ++ y ∷ [])
-    (take (n + 1) (padded a b)) (take (n + 1) (padded b a)) text more s
-    (ap (λ t. take n (padded a b) ++ t ∷ []) of_x ∙ front_more a b n h)
-    (ap (λ t. take n (padded b a) ++ t ∷ []) of_y ∙ front_more b a n (omega arith)) is
+    written_so writer (take n (padded_rows a b) ++ x ∷ []) (take n (padded_rows b a) ++ y ∷ [])
+    (take (n + 1) (padded_rows a b)) (take (n + 1) (padded_rows b a)) text more s
+    (ap (λ t. take n (padded_rows a b) ++ t ∷ []) of_x ∙ front_more a b n h)
+    (ap (λ t. take n (padded_rows b a) ++ t ∷ []) of_y ∙ front_more b a n (omega arith)) is
 
 -- all ticks of both lines, and the end of their dump
 pub lines_end : (rate from : Rate) (wires those : Wires) (a b : List Tick) (n : ℕ)
     (text end : List ℕ) → n ≡ max (length a) (length b) → from ≡ rate → those ≡ wires
-    → text ++ end ≡ dump_text from those (take n (padded a b)) (take n (padded b a))
+    → text ++ end ≡ dump_text from those (take n (padded_rows a b)) (take n (padded_rows b a))
     → text ++ end ≡ dump_text rate wires a b
 lines_end rate from wires those a b n text end h of_rate of_wires is =
-    is ∙ ap (λ r. dump_text r those (take n (padded a b)) (take n (padded b a))) of_rate
-    ∙ ap (λ w. dump_text rate w (take n (padded a b)) (take n (padded b a))) of_wires
-    ∙ ap (λ x. dump_text rate wires x (take n (padded b a))) (front_all a b n h)
-    ∙ ap (dump_text rate wires (padded a b)) (front_all b a n (omega arith))
+    is ∙ ap (λ r. dump_text r those (take n (padded_rows a b)) (take n (padded_rows b a))) of_rate
+    ∙ ap (λ w. dump_text rate w (take n (padded_rows a b)) (take n (padded_rows b a))) of_wires
+    ∙ ap (λ x. dump_text rate wires x (take n (padded_rows b a))) (front_all a b n h)
+    ∙ ap (dump_text rate wires (padded_rows a b)) (front_all b a n (omega arith))
     ∙ dump_padded rate wires a b

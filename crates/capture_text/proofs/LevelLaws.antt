@@ -1,6 +1,6 @@
 -- The levels of ticks: how many there are, that they end high, and that they give the ticks back.
 use Rattle.capture_text.specs.Levels.{data_levels, parity_levels, byte_levels, tick_levels}
-use Rattle.capture_text.specs.{Levels.line_levels, Looks.value_of, Looks.tick_of}
+use Rattle.capture_text.specs.{Levels.line_levels, Looks.value_of, Looks.tick_of_look}
 use Rattle.std.proofs.Common.{◌≡◌, ◌∙◌, ℕ, zero, suc, ◌+◌, ◌-◌, ◌*◌, ◌/◌, ◌%◌, ◌^◌, ◌<◌, ◌≤◌, ◌==◌}
 use Rattle.std.proofs.Common.{⊎_elim, Bool, true, count_ones, false, cond, List, [], ◌∷◌, ◌++◌}
 use Rattle.std.proofs.Common.{length, get_or, take, replicate, refl, ap, sym, arith, append_assoc}
@@ -145,15 +145,15 @@ value_back (suc n) byte h =
     let bit = bit_value byte in
     omega (arith, rest, bit)
 
-silent_back : (bits : ℕ) → 0 < bits → tick_of (replicate bits true) ≡ Silent
+silent_back : (bits : ℕ) → 0 < bits → tick_of_look (replicate bits true) ≡ Silent
 silent_back zero h = absurd (omega arith)
 silent_back (suc bits) h = refl
 
-byte_back : (bits byte : ℕ) → byte < 256 → tick_of (byte_levels bits byte) ≡ Byte byte
+byte_back : (bits byte : ℕ) → byte < 256 → tick_of_look (byte_levels bits byte) ≡ Byte byte
 unfolding data_levels
 byte_back bits byte h = ap Byte (value_back 8 byte h)
 
 pub tick_back : (bits : ℕ) (tick : Tick) → 10 ≤ bits → IsTick tick
-    → tick_of (tick_levels bits tick) ≡ tick
+    → tick_of_look (tick_levels bits tick) ≡ tick
 tick_back bits Silent few h = silent_back bits (omega arith)
 tick_back bits (Byte byte) few h = byte_back bits byte h

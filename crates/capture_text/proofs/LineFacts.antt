@@ -1,5 +1,5 @@
 -- Which bytes a line can have, and what follows from this for the causes of its refusals.
-use Rattle.capture_text.specs.CaptureText.{point, is_blank, with_point, IsTime, ArePairs, IsPair}
+use Rattle.capture_text.specs.CaptureText.{point, is_blank, with_point, IsRowTime, ArePairs, IsPair}
 use Rattle.capture_text.specs.CaptureText.{fraction_value, stays_in_line, behind_blank}
 use Rattle.hex.specs.Hex.{hex_digit_value}
 use Rattle.std.proofs.Common.{◌≡◌, ◌∙◌, ℕ, ◌+◌, ◌*◌, ◌-◌, ◌/◌, ◌==◌, ◌||◌, Bool, true, false, List}
@@ -100,7 +100,7 @@ fraction_bytes [] h = refl
 fraction_bytes (d ∷ fraction) h =
     all_weaker is_decimal_digit is_time_byte digit_is_time_byte (d ∷ fraction) h
 
-pub time_bytes : (text : List ℕ) (time : ℕ) → IsTime text time → list_all is_time_byte text ≡ true
+pub time_bytes : (text : List ℕ) (time : ℕ) → IsRowTime text time → list_all is_time_byte text ≡ true
 time_bytes text time t =
     ap (list_all is_time_byte) t.is
     ∙ all_both is_time_byte t.whole (with_point t.fraction)

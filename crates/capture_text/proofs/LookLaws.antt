@@ -1,7 +1,7 @@
 -- Whoever looks at a wire of a dump within a bit sees the level of this bit.
 use Rattle.capture_text.proofs.ChangeLaws.{changes_none, changes_one, changes_more, length_padded}
 use Rattle.capture_text.proofs.LevelLaws.{length_line, level_in_line}
-use Rattle.capture_text.specs.Changes.{bit_start, quiet, change_if, changes_at, changes_from, padded}
+use Rattle.capture_text.specs.Changes.{bit_start, quiet_rows, change_if, changes_at, changes_from, padded_rows}
 use Rattle.capture_text.specs.{Changes.dump_changes, Levels.tick_levels, Levels.line_levels}
 use Rattle.capture_text.specs.Looks.{same_way, is_past, level_at, IsWithin}
 use Rattle.capture_text.specs.declared.changes.{BothLevels.BothLevels, Change.Change}
@@ -179,14 +179,14 @@ look way time rate bit (suc k) n before (a ∷ xs) (b ∷ ys) e within at from t
 
 module _ (rate : Rate) (a b : List Tick) (tick bit time : ℕ) (small : bit < rate.bits)
     (within : IsWithin rate tick bit time) where
-  same_length : length (line_levels rate.bits (padded a b))
-      ≡ length (line_levels rate.bits (padded b a))
+  same_length : length (line_levels rate.bits (padded_rows a b))
+      ≡ length (line_levels rate.bits (padded_rows b a))
   same_length =
-      let long : length (padded a b) ≡ length (padded b a) =
+      let long : length (padded_rows a b) ≡ length (padded_rows b a) =
       omega (arith, length_padded a b, length_padded b a) in
-      length_line rate.bits (padded a b) rate.fewest_bits rate.most_bits
+      length_line rate.bits (padded_rows a b) rate.fewest_bits rate.most_bits
       ∙ ap (λ k. k * rate.bits) long
-      ∙ sym (length_line rate.bits (padded b a) rate.fewest_bits rate.most_bits)
+      ∙ sym (length_line rate.bits (padded_rows b a) rate.fewest_bits rate.most_bits)
 
   below : (line : List Tick) → tick < length line
       → tick * rate.bits + bit < length (line_levels rate.bits line)
@@ -201,21 +201,21 @@ module _ (rate : Rate) (a b : List Tick) (tick bit time : ℕ) (small : bit < ra
   place = let more : (tick + 1) * rate.bits ≡ tick * rate.bits + rate.bits = omega arith in
       omega (arith, more)
 
-  pub looked_a : tick < length (padded a b) → level_at A time true (dump_changes rate a b)
-      ≡ get_or (tick_levels rate.bits (get_or (padded a b) tick Silent)) bit true
+  pub looked_a : tick < length (padded_rows a b) → level_at A time true (dump_changes rate a b)
+      ≡ get_or (tick_levels rate.bits (get_or (padded_rows a b) tick Silent)) bit true
   looked_a h =
-      look A time rate rate.bits (tick * rate.bits + bit) ((tick + 1) * rate.bits + bit) quiet
-      (line_levels rate.bits (padded a b)) (line_levels rate.bits (padded b a)) same_length
-      (below (padded a b) h) place within.started within.open_yet
-      ∙ level_in_line rate.bits rate.fewest_bits rate.most_bits (padded a b) tick bit
+      look A time rate rate.bits (tick * rate.bits + bit) ((tick + 1) * rate.bits + bit) quiet_rows
+      (line_levels rate.bits (padded_rows a b)) (line_levels rate.bits (padded_rows b a)) same_length
+      (below (padded_rows a b) h) place within.started within.open_yet
+      ∙ level_in_line rate.bits rate.fewest_bits rate.most_bits (padded_rows a b) tick bit
       (tick * rate.bits + bit) refl h small
 
-  pub looked_b : tick < length (padded b a) → level_at B time true (dump_changes rate a b)
-      ≡ get_or (tick_levels rate.bits (get_or (padded b a) tick Silent)) bit true
+  pub looked_b : tick < length (padded_rows b a) → level_at B time true (dump_changes rate a b)
+      ≡ get_or (tick_levels rate.bits (get_or (padded_rows b a) tick Silent)) bit true
   looked_b h =
-      look B time rate rate.bits (tick * rate.bits + bit) ((tick + 1) * rate.bits + bit) quiet
-      (line_levels rate.bits (padded a b)) (line_levels rate.bits (padded b a)) same_length
-      (let shorter = below (padded b a) h in omega (arith, shorter, same_length)) place
+      look B time rate rate.bits (tick * rate.bits + bit) ((tick + 1) * rate.bits + bit) quiet_rows
+      (line_levels rate.bits (padded_rows a b)) (line_levels rate.bits (padded_rows b a)) same_length
+      (let shorter = below (padded_rows b a) h in omega (arith, shorter, same_length)) place
       within.started within.open_yet
-      ∙ level_in_line rate.bits rate.fewest_bits rate.most_bits (padded b a) tick bit
+      ∙ level_in_line rate.bits rate.fewest_bits rate.most_bits (padded_rows b a) tick bit
       (tick * rate.bits + bit) refl h small

@@ -6,14 +6,14 @@ use Rattle.capture_text.proofs.LineFacts.{ends_in_return-more, ends_in_return-no
 use Rattle.capture_text.proofs.LineFacts.{behind_blank-none, behind_blank-some, time_bytes}
 use Rattle.capture_text.proofs.LineFacts.{counts_after, fraction_value-more, counts_after-more}
 use Rattle.capture_text.{proofs.LineFacts.pairs_more, specs.CaptureText.point}
-use Rattle.capture_text.specs.CaptureText.{is_blank, ends_line, IsTime, ArePairs, nanoseconds}
-use Rattle.capture_text.specs.CaptureText.{stays_in_line, behind_blank, fault_in_line, IsComment}
-use Rattle.capture_text.specs.CaptureText.{IsContent, IsLine, IsRecord, recorded, capture_byte}
+use Rattle.capture_text.specs.CaptureText.{is_blank, ends_line, IsRowTime, ArePairs, row_nanoseconds}
+use Rattle.capture_text.specs.CaptureText.{stays_in_line, behind_blank, row_fault_in, IsRowComment}
+use Rattle.capture_text.specs.CaptureText.{IsContent, IsLine, IsRowRecord, recorded, capture_byte}
 use Rattle.capture_text.specs.CaptureText.IsContent.{nothing, comment, stamped}
 use Rattle.capture_text.specs.CaptureText.IsLine.{plain, returned}
-use Rattle.capture_text.specs.TextStep.{Stepped, step_at, whole_time, fault_without_bytes}
+use Rattle.capture_text.specs.TextStep.{Stepped, text_step_at, whole_time, fault_without_bytes}
 use Rattle.capture_text.specs.TextStep.{fault_in_pair, after_line, after_time, to_whole}
-use Rattle.capture_text.specs.TextStep.{to_fraction, after_fraction, to_half, to_pairs, may_end}
+use Rattle.capture_text.specs.TextStep.{to_fraction, after_fraction, to_half, to_pairs, text_may_end}
 use Rattle.capture_text.specs.{TextStep.end_fault_at, declared.fault.TextFault.TextFault}
 use Rattle.capture_text.specs.declared.fault.TextFault.TheVariants.{Char, Late, Odd, Empty}
 use Rattle.capture_text.specs.declared.place.Place.{Place, TheVariants.Start}
@@ -45,7 +45,7 @@ pub record IsFraction (line : List ℕ) (time counts : ℕ) : Type 0 where
   pub digits : list_all is_decimal_digit whole ≡ true
   pub fraction_digits : list_all is_decimal_digit (first ∷ others) ≡ true
   pub some : 0 < length whole
-  pub value : time ≡ nanoseconds whole (first ∷ others)
+  pub value : time ≡ row_nanoseconds whole (first ∷ others)
   pub counts_is : counts ≡ counts_after 100000000 (first ∷ others)
   pub fits : time < 2 ^ 64
 
@@ -58,7 +58,7 @@ pub record IsHalf (line : List ℕ) (time : ℕ) (first : Bool) (high : ℕ) (it
   pub bytes : List ℕ
   pub digit : ℕ
   pub is : line ≡ seconds ++ blank ∷ (digits ++ digit ∷ [])
-  pub stamped : IsTime seconds time
+  pub stamped : IsRowTime seconds time
   pub apart : is_blank blank ≡ true
   pub pairs : ArePairs digits bytes
   pub digit_is : hex_digit_value digit ≡ Some high
@@ -68,15 +68,15 @@ pub record IsHalf (line : List ℕ) (time : ℕ) (first : Bool) (high : ℕ) (it
 -- The line so far brings its reader to this place, and represents these bytes.
 pub data At : Place → List ℕ → List CaptureByte → Type 0 where
   start : At Start [] []
-  in_comment : (line : List ℕ) → IsComment line → At Comment line []
+  in_comment : (line : List ℕ) → IsRowComment line → At Comment line []
   whole : (line : List ℕ) (time : ℕ) → IsWhole line time → At (Whole time) line []
   after_point : (line : List ℕ) (time : ℕ) → IsWhole line time
       → At (Point time) (line ++ point ∷ []) []
   fraction : (line : List ℕ) (time counts : ℕ) → IsFraction line time counts
       → At (Fraction time counts) line []
-  after_blank : (seconds : List ℕ) (blank time : ℕ) → IsTime seconds time
+  after_blank : (seconds : List ℕ) (blank time : ℕ) → IsRowTime seconds time
       → is_blank blank ≡ true → At (Blank time) (seconds ++ blank ∷ []) []
-  pairs : (line : List ℕ) (time : ℕ) (items : List CaptureByte) → IsRecord line time items
+  pairs : (line : List ℕ) (time : ℕ) (items : List CaptureByte) → IsRowRecord line time items
       → At (Pairs time) line items
   half : (line : List ℕ) (time : ℕ) (first : Bool) (high : ℕ) (items : List CaptureByte)
       → IsHalf line time first high items → At (Half time first high) line items
@@ -99,29 +99,29 @@ pub record GoesOn (line : List ℕ) (items : List CaptureByte) (b : ℕ)
 -- what one more byte makes of a line
 abbrev pub Goes : List ℕ → List CaptureByte → ℕ → Stepped → Type 0
 Goes line items b (Ok next) = Ends line items b next ⊎ GoesOn line items b next
-Goes line items b (Err why) = fault_in_line line (Some b) ≡ why
+Goes line items b (Err why) = row_fault_in line (Some b) ≡ why
 
 -- ---- causes
 
 -- If a line doesn't end in CR and has nothing after a blank, a byte other than a digit is refused
 -- as in a line without bytes.
 fault_plain : (line : List ℕ) (b : ℕ) → ends_in_return line ≡ false → behind_blank line ≡ []
-    → is_decimal_digit b ≡ false → fault_in_line line (Some b) ≡ fault_without_bytes b
+    → is_decimal_digit b ≡ false → row_fault_in line (Some b) ≡ fault_without_bytes b
 fault_plain line b h g d = rw (h, g, d) refl
 
 fault_late : (line : List ℕ) (b : ℕ) → ends_in_return line ≡ false → is_decimal_digit b ≡ true
-    → fault_in_line line (Some b) ≡ Late
+    → row_fault_in line (Some b) ≡ Late
 fault_late line b h d = rw (h, d) refl
 
 fault_odd : (line rest : List ℕ) (b : ℕ) → ends_in_return line ≡ false → behind_blank line ≡ rest
     → 0 < length rest → is_decimal_digit b ≡ false
-    → fault_in_line line (Some b) ≡ fault_in_pair b
+    → row_fault_in line (Some b) ≡ fault_in_pair b
 fault_odd line rest b h g some d =
     let test : nat_lt 0 (length rest) ≡ true = lt-ltb 0 (length rest) some in
     rw (h, g, d, test) refl
 
 fault_char : (line : List ℕ) (b : ℕ) → is_decimal_digit b ≡ false → ends_line b ≡ false
-    → fault_in_line line (Some b) ≡ Char
+    → row_fault_in line (Some b) ≡ Char
 fault_char line b d e =
     cond_both (ends_in_return line) Char (cond (is_decimal_digit b) Late
     (cond (ends_line b) (cond (nat_lt 0 (length (behind_blank line))) Odd Empty) Char))
@@ -166,7 +166,7 @@ line_goes line items b content d =
     (λ f. fault_char line b d (no_end b e f)))
 
 -- at the end of a time
-time_goes : (line : List ℕ) (b time : ℕ) → IsTime line time → is_decimal_digit b ≡ false
+time_goes : (line : List ℕ) (b time : ℕ) → IsRowTime line time → is_decimal_digit b ≡ false
     → Goes line [] b (after_time time b)
 time_goes line b time t d =
     let bytes = time_bytes line time t in
@@ -175,7 +175,7 @@ time_goes line b time t d =
     (λ e. fault_plain line b (ends_in_return-none is_time_byte time_byte_no_return line bytes)
     (behind_blank-none line bytes) d)
 
-pub whole_is_time : (line : List ℕ) (time : ℕ) → IsWhole line time → IsTime line time
+pub whole_is_time : (line : List ℕ) (time : ℕ) → IsWhole line time → IsRowTime line time
 whole_is_time line time w = record {
   whole = line;
   fraction = [];
@@ -188,7 +188,7 @@ whole_is_time line time w = record {
 }
 
 pub fraction_is_time : (line : List ℕ) (time counts : ℕ) → IsFraction line time counts
-    → IsTime line time
+    → IsRowTime line time
 fraction_is_time line time counts f = record {
   whole = f.whole;
   fraction = f.first ∷ f.others;
@@ -200,7 +200,7 @@ fraction_is_time line time counts f = record {
   fits = f.fits;
 }
 
-no_return : (line : List ℕ) (time : ℕ) → IsTime line time → ends_in_return line ≡ false
+no_return : (line : List ℕ) (time : ℕ) → IsRowTime line time → ends_in_return line ≡ false
 no_return line time t =
     ends_in_return-none is_time_byte time_byte_no_return line (time_bytes line time t)
 
@@ -208,8 +208,8 @@ some_more : (x : List ℕ) (b : ℕ) → 0 < length (x ++ b ∷ [])
 some_more x b = omega (arith, length-append x (b ∷ []))
 
 -- at the start of a line
-start_goes : (b : ℕ) → Goes [] [] b (step_at Start b)
-unfolding step_at
+start_goes : (b : ℕ) → Goes [] [] b (text_step_at Start b)
+unfolding text_step_at
 start_goes b =
     cond_both (b == 35) (Ok (Comment, None))
     (cond (is_decimal_digit b) (Ok (Whole ((b - 48) * 1000000000), None)) (after_line b))
@@ -238,8 +238,8 @@ start_goes b =
     small : (b : ℕ) → is_decimal_digit b ≡ true → (b - 48) * 1000000000 < 2 ^ 64
     small b d = grind arith
 
-comment_goes : (line : List ℕ) (b : ℕ) → IsComment line → Goes line [] b (step_at Comment b)
-unfolding step_at
+comment_goes : (line : List ℕ) (b : ℕ) → IsRowComment line → Goes line [] b (text_step_at Comment b)
+unfolding text_step_at
 comment_goes line b c =
     cond_both (b == 10) (Ok (Start, None)) (Ok (Comment, None)) (Goes line [] b)
     (λ e. inl (record {
@@ -274,8 +274,8 @@ whole_digit line b time w d =
     (λ e. fault_late line b (no_return line time (whole_is_time line time w)) d)
 
 whole_goes : (line : List ℕ) (b time : ℕ) → IsWhole line time
-    → Goes line [] b (step_at (Whole time) b)
-unfolding step_at
+    → Goes line [] b (text_step_at (Whole time) b)
+unfolding text_step_at
 whole_goes line b time w =
     cond_both (is_decimal_digit b) (to_whole (whole_time time b))
     (cond (b == point) (Ok (Point time, None)) (after_time time b)) (Goes line [] b)
@@ -320,8 +320,8 @@ fraction_digit line b time counts f d =
     (λ e. fault_late line b (no_return line time (fraction_is_time line time counts f)) d)
 
 fraction_goes : (line : List ℕ) (b time counts : ℕ) → IsFraction line time counts
-    → Goes line [] b (step_at (Fraction time counts) b)
-unfolding step_at
+    → Goes line [] b (text_step_at (Fraction time counts) b)
+unfolding text_step_at
 fraction_goes line b time counts f =
     cond_both (is_decimal_digit b) (after_fraction time counts b) (after_time time b)
     (Goes line [] b)
@@ -329,8 +329,8 @@ fraction_goes line b time counts f =
     (λ d. time_goes line b time (fraction_is_time line time counts f) d)
 
 point_goes : (line : List ℕ) (b time : ℕ) → IsWhole line time
-    → Goes (line ++ point ∷ []) [] b (step_at (Point time) b)
-unfolding step_at
+    → Goes (line ++ point ∷ []) [] b (text_step_at (Point time) b)
+unfolding text_step_at
 point_goes line b time w =
     cond_both (is_decimal_digit b) (after_fraction time 100000000 b)
     (Err (fault_without_bytes b)) (Goes (line ++ point ∷ []) [] b)
@@ -375,9 +375,9 @@ abbrev pub option_cases : (o : Option ℕ) (Q : Option ℕ → Type 0)
 option_cases None Q some none = none refl
 option_cases (Some v) Q some none = some v refl
 
-blank_goes : (seconds : List ℕ) (blank b time : ℕ) → IsTime seconds time → is_blank blank ≡ true
-    → Goes (seconds ++ blank ∷ []) [] b (step_at (Blank time) b)
-unfolding step_at
+blank_goes : (seconds : List ℕ) (blank b time : ℕ) → IsRowTime seconds time → is_blank blank ≡ true
+    → Goes (seconds ++ blank ∷ []) [] b (text_step_at (Blank time) b)
+unfolding text_step_at
 blank_goes seconds blank b time t apart =
     option_cases (hex_digit_value b)
     (λ o. Goes (seconds ++ blank ∷ []) [] b (to_half time true o (Err (fault_without_bytes b))))
@@ -406,9 +406,9 @@ blank_goes seconds blank b time t apart =
 some_is_no_zero : (n : ℕ) → 0 < n → false ≡ (n == 0)
 some_is_no_zero n h = grind arith
 
-pairs_goes : (line : List ℕ) (b time : ℕ) (items : List CaptureByte) → IsRecord line time items
-    → Goes line items b (step_at (Pairs time) b)
-unfolding step_at
+pairs_goes : (line : List ℕ) (b time : ℕ) (items : List CaptureByte) → IsRowRecord line time items
+    → Goes line items b (text_step_at (Pairs time) b)
+unfolding text_step_at
 pairs_goes line b time items r =
     option_cases (hex_digit_value b)
     (λ o. Goes line items b (to_half time false o (after_line b)))
@@ -461,8 +461,8 @@ half_behind line time first high items h =
     (time_bytes h.seconds time h.stamped) h.apart
 
 half_goes : (line : List ℕ) (b time : ℕ) (first : Bool) (high : ℕ) (items : List CaptureByte)
-    → IsHalf line time first high items → Goes line items b (step_at (Half time first high) b)
-unfolding step_at
+    → IsHalf line time first high items → Goes line items b (text_step_at (Half time first high) b)
+unfolding text_step_at
 half_goes line b time first high items h =
     option_cases (hex_digit_value b)
     (λ o. Goes line items b (to_pairs time first high o (Err (fault_in_pair b))))
@@ -497,8 +497,8 @@ half_goes line b time first high items h =
     (no_hex_no_digit b e))
 
 returned_goes : (content : List ℕ) (b : ℕ) (items : List CaptureByte) → IsContent content items
-    → Goes (content ++ 13 ∷ []) items b (step_at Returned b)
-unfolding step_at
+    → Goes (content ++ 13 ∷ []) items b (text_step_at Returned b)
+unfolding text_step_at
 returned_goes content b items c =
     cond_both (b == 10) (Ok (Start, None)) (Err Char) (Goes (content ++ 13 ∷ []) items b)
     (λ e. inl (record {
@@ -509,7 +509,7 @@ returned_goes content b items c =
     (λ e. rw (ends_in_return-more content 13) refl)
 
 pub step_goes : (place : Place) (line : List ℕ) (items : List CaptureByte) (b : ℕ)
-    → At place line items → Goes line items b (step_at place b)
+    → At place line items → Goes line items b (text_step_at place b)
 step_goes place line items b start = start_goes b
 step_goes place line items b (in_comment _ c) = comment_goes line b c
 step_goes place line items b (whole _ time w) = whole_goes line b time w
@@ -525,18 +525,18 @@ step_goes place line items b (after_return content _ c) = returned_goes content 
 -- ---- the end of a text
 
 fault_empty : (line : List ℕ) → ends_in_return line ≡ false → behind_blank line ≡ []
-    → fault_in_line line None ≡ Empty
+    → row_fault_in line None ≡ Empty
 fault_empty line h g = rw (h, g) refl
 
-time_empty : (line : List ℕ) (time : ℕ) → IsTime line time → fault_in_line line None ≡ Empty
+time_empty : (line : List ℕ) (time : ℕ) → IsRowTime line time → row_fault_in line None ≡ Empty
 time_empty line time t =
     fault_empty line (no_return line time t) (behind_blank-none line (time_bytes line time t))
 
 -- Holds of the result of `end_fault`: the text may end at this place, or it is refused for this
 -- cause.
 abbrev pub EndGoes : List ℕ → Place → Option TextFault → Type 0
-EndGoes line place None = may_end place ≡ true
-EndGoes line place (Some why) = (may_end place ≡ false) × (fault_in_line line None ≡ why)
+EndGoes line place None = text_may_end place ≡ true
+EndGoes line place (Some why) = (text_may_end place ≡ false) × (row_fault_in line None ≡ why)
 
 pub end_goes : (place : Place) (line : List ℕ) (items : List CaptureByte) → At place line items
     → EndGoes line place (end_fault_at place)
@@ -568,6 +568,6 @@ end_goes place line items (half _ time first high _ h) = (
 )
   where
     odd_at_end : (line rest : List ℕ) → ends_in_return line ≡ false → behind_blank line ≡ rest
-        → nat_lt 0 (length rest) ≡ true → fault_in_line line None ≡ Odd
+        → nat_lt 0 (length rest) ≡ true → row_fault_in line None ≡ Odd
     odd_at_end line rest e f g = rw (e, f, g) refl
 end_goes place line items (after_return content _ c) = refl

@@ -4,11 +4,11 @@ use Rattle.capture_text.proofs.LineFacts.{all_more}
 use Rattle.capture_text.proofs.Places.{At, Goes, Ends, GoesOn, step_goes, end_goes, EndGoes}
 use Rattle.capture_text.proofs.Places.At.{start, in_comment, whole, after_point, fraction}
 use Rattle.capture_text.proofs.Places.At.{after_blank, pairs, half, after_return}
-use Rattle.capture_text.specs.CaptureText.{stays_in_line, AreLines, IsLine, IsTextCapture, IsCause}
+use Rattle.capture_text.specs.CaptureText.{stays_in_line, AreLines, IsLine, IsTextCapture, IsRowCause}
 use Rattle.capture_text.specs.CaptureText.{lines_ended, AreLines.none, AreLines.more}
 use Rattle.capture_text.specs.CaptureText.IsContent.{nothing, comment, stamped}
 use Rattle.capture_text.specs.CaptureText.IsLine.{plain, returned}
-use Rattle.capture_text.specs.TextStep.{step_at, may_end, end_fault_at, Stepped}
+use Rattle.capture_text.specs.TextStep.{text_step_at, text_may_end, end_fault_at, Stepped}
 use Rattle.capture_text.specs.declared.fault.TextFault.{TextFault}
 use Rattle.capture_text.specs.declared.place.Place.{Place, TheVariants.Start}
 use Rattle.line_stamps.specs.declared.capture.CaptureByte.{CaptureByte}
@@ -79,7 +79,7 @@ goes_on_so place next text items b item r g = record {
 }
 
 pub reached_more : (place next : Place) (text : List ℕ) (items : List CaptureByte) (b : ℕ)
-    (item : Option CaptureByte) → Reached place text items → step_at place b ≡ Ok (next, item)
+    (item : Option CaptureByte) → Reached place text items → text_step_at place b ≡ Ok (next, item)
     → Reached next (text ++ b ∷ []) (items ++ option_to_list item)
 reached_more place next text items b item r e =
     let Q : Stepped → Type 0 = λ s. Goes r.line r.these b s in
@@ -90,13 +90,13 @@ reached_more place next text items b item r e =
 
 -- If a walk from the start of a text comes to a place, the text has reached this place.
 pub reached : (place : Place) (text : List ℕ) (items : List CaptureByte)
-    → walk step_at Start text ≡ Ok (place, items) → Reached place text items
-reached place text items e = walk_keeps step_at Reached reached_more Start place [] text [] items
+    → walk text_step_at Start text ≡ Ok (place, items) → Reached place text items
+reached place text items e = walk_keeps text_step_at Reached reached_more Start place [] text [] items
     reached_start e
 
 pub reached_cause : (place : Place) (text : List ℕ) (items : List CaptureByte) (b : ℕ)
-    (why : TextFault) → Reached place text items → step_at place b ≡ Err why
-    → IsCause text (Some b) why
+    (why : TextFault) → Reached place text items → text_step_at place b ≡ Err why
+    → IsRowCause text (Some b) why
 reached_cause place text items b why r e =
     let Q : Stepped → Type 0 = λ s. Goes r.line r.these b s in
     record {
@@ -111,7 +111,7 @@ reached_cause place text items b why r e =
 
 -- If a text may end at a place, the line so far is a whole line.
 ends_so : (place : Place) (line : List ℕ) (items : List CaptureByte) → At place line items
-    → may_end place ≡ true → IsLine line items
+    → text_may_end place ≡ true → IsLine line items
 ends_so place line items start m = plain [] [] nothing
 ends_so place line items (in_comment _ c) m = plain line [] (comment line c)
 ends_so place line items (whole _ time w) m = cc
@@ -123,7 +123,7 @@ ends_so place line items (half _ time first high _ h) m = cc
 ends_so place line items (after_return content _ c) m = returned content items c
 
 pub reached_end : (place : Place) (text : List ℕ) (items : List CaptureByte)
-    → Reached place text items → may_end place ≡ true → IsTextCapture text items
+    → Reached place text items → text_may_end place ≡ true → IsTextCapture text items
 reached_end place text items r m = record {
   ended = r.ended;
   last = r.line;
@@ -137,7 +137,7 @@ reached_end place text items r m = record {
 
 pub reached_open : (place : Place) (text : List ℕ) (items : List CaptureByte) (why : TextFault)
     → Reached place text items → end_fault_at place ≡ Some why
-    → (may_end place ≡ false) × IsCause text None why
+    → (text_may_end place ≡ false) × IsRowCause text None why
 reached_open place text items why r e =
     let Q : Option TextFault → Type 0 = λ o. EndGoes r.line place o in
     let goes = subst Q e (end_goes place r.line r.these r.at) in (
@@ -154,7 +154,7 @@ reached_open place text items why r e =
     )
 
 pub reached_closed : (place : Place) (text : List ℕ) (items : List CaptureByte)
-    → Reached place text items → end_fault_at place ≡ None → may_end place ≡ true
+    → Reached place text items → end_fault_at place ≡ None → text_may_end place ≡ true
 reached_closed place text items r e =
     let Q : Option TextFault → Type 0 = λ o. EndGoes r.line place o in
     subst Q e (end_goes place r.line r.these r.at)

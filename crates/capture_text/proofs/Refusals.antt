@@ -1,8 +1,8 @@
 -- Where the reader of rows refuses an export, and in which line.
 use Rattle.capture_text.proofs.RowLaws.{reached}
-use Rattle.capture_text.specs.RowReader.{StandsFor, Refuses, CauseIn, place_of, state_of}
+use Rattle.capture_text.specs.RowReader.{RowReaderStandsFor, RowReaderRefuses, CauseIn, place_of, state_of}
 use Rattle.capture_text.specs.RowReader.{with_line}
-use Rattle.capture_text.specs.Rows.{RowState, ended_line, line_at, step_at}
+use Rattle.capture_text.specs.Rows.{RowState, ended_line, line_at, rows_step_at}
 use Rattle.capture_text.specs.declared.TheConstants.{MAX_LINE}
 use Rattle.capture_text.specs.declared.row_fault.BadRow.{BadRow}
 use Rattle.capture_text.specs.declared.row_fault.RowFault.{RowFault}
@@ -57,10 +57,10 @@ module _ {F : Type 0} (row_at : Stage → List ℕ → Result Row RowFault) (nam
   where
     -- A refusal with the start and the number of the reader's line is a right refusal of the text.
     pub refuses_line : (reader : RowReader F) (text : List ℕ) (items : List Seen)
-        (following : Option ℕ) (bad : BadRow) → StandsFor row_at name_of reader text items
+        (following : Option ℕ) (bad : BadRow) → RowReaderStandsFor row_at name_of reader text items
         → bad.offset ≡ reader.begun → bad.line ≡ reader.ended + 1
         → CauseIn row_at name_of (state_of reader) reader.line.items following bad.why
-        → Refuses row_at name_of text items following bad
+        → RowReaderRefuses row_at name_of text items following bad
     refuses_line reader text items following bad s offset number cause =
         let at = reached row_at name_of (place_of reader) text items s.walks in
         let long : length text ≡ length at.ended + length reader.line.items =
@@ -80,12 +80,12 @@ module _ {F : Type 0} (row_at : Stage → List ℕ → Result Row RowFault) (nam
 module _ (row_at : Stage → List ℕ → Result Row RowFault) (name_of : List ℕ → List ℕ) where
   -- The cause that a step gives is the cause in its line.
   pub cause_in : (state : RowState) (line : List ℕ) (b : ℕ) (why : RowFault)
-      → step_at row_at name_of (state, line) b ≡ Err why
+      → rows_step_at row_at name_of (state, line) b ≡ Err why
       → CauseIn row_at name_of state line (Some b) why
-  unfolding step_at
+  unfolding rows_step_at
   cause_in state line b why e = (
     λ same. line_err (line_at row_at name_of state line) why
         (sym (cond-true _ _ _ (eq-eqb b line_feed same)) ∙ e),
     λ other. too_long ((state, line ++ b ∷ []), None) (length line) why
-        (step_at row_at name_of (state, line) b) (cond-false _ _ _ (ne_eqb b line_feed other)) e,
+        (rows_step_at row_at name_of (state, line) b) (cond-false _ _ _ (ne_eqb b line_feed other)) e,
   )

@@ -1,9 +1,9 @@
 -- The reader of rows reads exports exactly, whatever their form.
 use Rattle.line_stamps.proofs.WalkLaws.{walk-cons, walk-join, walk-one, walk-more, walk_keeps}
 use Rattle.line_stamps.proofs.WalkLaws.{reads_each, reads_none, reads_open}
-use Rattle.line_stamps.specs.Walks.{walk, ReadsFormat, BeginsNone}
-use Rattle.capture_text.specs.Rows.{RowState, first_state, may_end, may_end_at, ended_line, line_at}
-use Rattle.capture_text.specs.Rows.{step_at, AreRows, IsExport, AreRowsSoFar, AreRows.none, AreRows.more}
+use Rattle.line_stamps.specs.Walks.{walk, ReadsFormat, WalkBeginsNone}
+use Rattle.capture_text.specs.Rows.{RowState, first_state, rows_may_end, rows_may_end_at, ended_line, line_at}
+use Rattle.capture_text.specs.Rows.{rows_step_at, AreRows, IsExport, AreRowsSoFar, AreRows.none, AreRows.more}
 use Rattle.capture_text.specs.declared.TheConstants.{MAX_LINE}
 use Rattle.capture_text.specs.declared.row_fault.RowFault.{RowFault}
 use Rattle.capture_text.specs.declared.row_fault.RowFault.TheVariants.{Long}
@@ -89,7 +89,7 @@ never r next item why e f = cc
 
 module _ (row_at : Stage → List ℕ → Result Row RowFault) (name_of : List ℕ → List ℕ) where
   abbrev step : Place → ℕ → Result (Place × Option Seen) RowFault
-  step = step_at row_at name_of
+  step = rows_step_at row_at name_of
 
   abbrev start : Place
   start = (first_state, [])
@@ -116,24 +116,24 @@ module _ (row_at : Stage → List ℕ → Result Row RowFault) (name_of : List �
   pub plain_step : (state : RowState) (line : List ℕ) (b : ℕ) → (b == line_feed) ≡ false
       → length line < MAX_LINE
       → step (state, line) b ≡ Ok ((state, line ++ b ∷ []), None)
-  unfolding step_at
+  unfolding rows_step_at
   plain_step state line b h short = rw (h, lt-ltb (length line) MAX_LINE short) refl
 
   lf_step : (before after : RowState) (line : List ℕ) (item : Option Seen)
       → line_at row_at name_of before line ≡ Ok (after, item)
       → step (before, line) line_feed ≡ Ok ((after, []), item)
-  unfolding step_at
+  unfolding rows_step_at
   lf_step before after line item e = ap ended_line e
 
   pub lf_ends : (state : RowState) (line : List ℕ) (b : ℕ)
       (r : Result (RowState × Option Seen) RowFault) → b ≡ line_feed
       → line_at row_at name_of state line ≡ r → step (state, line) b ≡ ended_line r
-  unfolding step_at
+  unfolding rows_step_at
   lf_ends state line b r e is = cond-true _ _ _ (eq-eqb b line_feed e) ∙ ap ended_line is
 
   pub long_stops : (state : RowState) (line : List ℕ) (b : ℕ) → (b ≡ line_feed → ⊥)
       → MAX_LINE ≤ length line → step (state, line) b ≡ Err Long
-  unfolding step_at
+  unfolding rows_step_at
   long_stops state line b other long =
       cond-false _ _ _ (ne_eqb b line_feed other)
       ∙ cond-false _ _ _ (le-ltb (length line) MAX_LINE long)
@@ -176,7 +176,7 @@ module _ (row_at : Stage → List ℕ → Result Row RowFault) (name_of : List �
   stays : (place next : Place) (text : List ℕ) (items : List Seen) (b : ℕ) (item : Option Seen)
       → At place text items → step place b ≡ Ok (next, item)
       → At next (text ++ b ∷ []) (items ++ option_to_list item)
-  unfolding step_at
+  unfolding rows_step_at
   stays place next text items b item at e = elim (bool_cases (b == line_feed)) [
     | inl t ↦ after_lf place next text items b item at (eqb-true b line_feed t)
         (came_line (line_at row_at name_of place.0 place.1) next item (sym (cond-true _ _ _ t) ∙ e))
@@ -233,24 +233,24 @@ module _ (row_at : Stage → List ℕ → Result Row RowFault) (name_of : List �
   nothing_left (b ∷ partial) h = absurd (omega (arith, eqb-true (length (b ∷ partial)) 0 h))
 
   sound : (text : List ℕ) (place : Place) (items : List Seen)
-      → walk step start text ≡ Ok (place, items) → may_end_at place ≡ true
+      → walk step start text ≡ Ok (place, items) → rows_may_end_at place ≡ true
       → IsExport row_at name_of text items
   sound text place items e m =
       let at = reached place text items e in
-      let parts = and_parts (may_end place.0.stage) (length place.1 == 0) m in
+      let parts = and_parts (rows_may_end place.0.stage) (length place.1 == 0) m in
       let whole : text ≡ at.ended = at.text_is
       ∙ ap (λ x. at.ended ++ x) (nothing_left place.1 parts.1) ∙ append-nil at.ended in
       let Q : List ℕ → Type 0 = λ x. AreRows row_at name_of place.0 x items in
       record { last = place.0; rows = subst Q (sym whole) at.rows; ends = parts.0 }
 
   complete : (text : List ℕ) (items : List Seen) → IsExport row_at name_of text items
-      → (place : Place) × (walk step start text ≡ Ok (place, items)) × (may_end_at place ≡ true)
+      → (place : Place) × (walk step start text ≡ Ok (place, items)) × (rows_may_end_at place ≡ true)
   complete text items r = ((r.last, []), rows_walk r.last text items r.rows, ends_there)
     where
-      ends_there : may_end_at (r.last, []) ≡ true
+      ends_there : rows_may_end_at (r.last, []) ≡ true
       ends_there = rw r.ends refl
 
-  pub reads_rows : ReadsFormat step start may_end_at (IsExport row_at name_of)
+  pub reads_rows : ReadsFormat step start rows_may_end_at (IsExport row_at name_of)
   reads_rows = record { sound = sound; complete = complete }
 
   -- ---- what a reader says of a text, if it came to a place over it
@@ -263,7 +263,7 @@ module _ (row_at : Stage → List ℕ → Result Row RowFault) (name_of : List �
 
     pub rows_each : (more : List ℕ) (all : List Seen) → IsExport row_at name_of (text ++ more) all
         → (others : List Seen) × (all ≡ items ++ others)
-    rows_each = reads_each step start may_end_at (IsExport row_at name_of) reads_rows text place items
+    rows_each = reads_each step start rows_may_end_at (IsExport row_at name_of) reads_rows text place items
         walks
 
     pub rows_so_far : AreRowsSoFar row_at name_of text items
@@ -281,21 +281,21 @@ module _ (row_at : Stage → List ℕ → Result Row RowFault) (name_of : List �
         }
 
     pub rows_none : (b : ℕ) (why : RowFault) → step place b ≡ Err why
-        → BeginsNone (IsExport row_at name_of) (text ++ b ∷ [])
-    rows_none b why e = reads_none step start may_end_at (IsExport row_at name_of) reads_rows text place
+        → WalkBeginsNone (IsExport row_at name_of) (text ++ b ∷ [])
+    rows_none b why e = reads_none step start rows_may_end_at (IsExport row_at name_of) reads_rows text place
         items b why walks e
 
-    pub rows_right : may_end_at place ≡ true → IsExport row_at name_of text items
+    pub rows_right : rows_may_end_at place ≡ true → IsExport row_at name_of text items
     rows_right m = sound text place items walks m
 
-    pub rows_open : may_end_at place ≡ false → (all : List Seen)
+    pub rows_open : rows_may_end_at place ≡ false → (all : List Seen)
         → IsExport row_at name_of text all → ⊥
-    rows_open m = reads_open step start may_end_at (IsExport row_at name_of) reads_rows text place items
+    rows_open m = reads_open step start rows_may_end_at (IsExport row_at name_of) reads_rows text place items
         walks m
 
 pub nothing_walks : (row_at : Stage → List ℕ → Result Row RowFault) (name_of : List ℕ → List ℕ)
     (place : Place) → place ≡ (first_state, [])
-    → walk (step_at row_at name_of) (first_state, []) [] ≡ Ok (place, [])
+    → walk (rows_step_at row_at name_of) (first_state, []) [] ≡ Ok (place, [])
 unfolding walk
 nothing_walks row_at name_of place e = ap (λ p. Ok (p, [])) (sym e)
 

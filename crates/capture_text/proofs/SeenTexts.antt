@@ -1,5 +1,5 @@
 -- A text capture as a list of items, one for each of its bytes.
-use Rattle.line_stamps.specs.Walks.{HaveFirst, Begins, BeginsNone}
+use Rattle.line_stamps.specs.Walks.{HaveFirst, WalkBegins, WalkBeginsNone}
 use Rattle.capture_text.specs.{CaptureText.IsTextCapture, Reader.IsSeenText}
 use Rattle.line_stamps.specs.declared.capture.CaptureByte.{CaptureByte}
 use Rattle.line_stamps.specs.declared.seen.Seen.{Seen, TheVariants.Byte, TheVariants.Event}
@@ -28,7 +28,7 @@ seen_more bytes byte items e =
 
 -- Each right text that begins with this text has these items first.
 pub seen_each : (text : List ℕ) (bytes : List CaptureByte) (items : List Seen)
-    → Begins IsTextCapture text bytes → items ≡ map Byte bytes → HaveFirst IsSeenText text items
+    → WalkBegins IsTextCapture text bytes → items ≡ map Byte bytes → HaveFirst IsSeenText text items
 seen_each text bytes items begins e = λ more all whole.
     let goes_on = begins.each more whole.bytes whole.right in (
       map Byte goes_on.0,
@@ -67,7 +67,7 @@ are_bytes (c ∷ all) (Event v ∷ first) others e = cc
 
 -- No more items come first in each right text that begins with this text.
 no_further : (text : List ℕ) (bytes : List CaptureByte) (items : List Seen)
-    → Begins IsTextCapture text bytes → items ≡ map Byte bytes → (further : List Seen)
+    → WalkBegins IsTextCapture text bytes → items ≡ map Byte bytes → (further : List Seen)
     → HaveFirst IsSeenText text (items ++ further) → further ≡ []
 no_further text bytes items begins e further first =
     let one = first begins.more (map Byte (bytes ++ begins.others)) (record {
@@ -90,7 +90,7 @@ no_further text bytes items begins e further first =
 
 -- A text begins a capture with the same items as with its bytes.
 pub seen_begins : (text : List ℕ) (bytes : List CaptureByte) (items : List Seen)
-    → Begins IsTextCapture text bytes → items ≡ map Byte bytes → Begins IsSeenText text items
+    → WalkBegins IsTextCapture text bytes → items ≡ map Byte bytes → WalkBegins IsSeenText text items
 seen_begins text bytes items begins e = record {
   more = begins.more;
   others = map Byte begins.others;
@@ -103,5 +103,5 @@ seen_begins text bytes items begins e = record {
   no_more = no_further text bytes items begins e;
 }
 
-pub seen_none : (text : List ℕ) → BeginsNone IsTextCapture text → BeginsNone IsSeenText text
+pub seen_none : (text : List ℕ) → WalkBeginsNone IsTextCapture text → WalkBeginsNone IsSeenText text
 seen_none text none = λ more items whole. none more whole.bytes whole.right

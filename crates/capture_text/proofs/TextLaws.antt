@@ -1,6 +1,6 @@
 -- The text of a dump, tick by tick.
 use Rattle.capture_text.proofs.ChangeLaws.{bits_more, ticks_more, length_padded}
-use Rattle.capture_text.specs.Changes.{bit_start, quiet, changes_at, changes_from, padded}
+use Rattle.capture_text.specs.Changes.{bit_start, quiet_rows, changes_at, changes_from, padded_rows}
 use Rattle.capture_text.specs.{Changes.ticks_changes, Dump.change_text, Dump.dump_front}
 use Rattle.capture_text.specs.{Dump.dump_end, Dump.dump_text, Levels.tick_levels}
 use Rattle.capture_text.specs.declared.changes.{BothLevels.BothLevels, Change.Change}
@@ -33,7 +33,7 @@ bits_text rate bit before xs ys old now all h k first rest =
     ∙ ap (λ x. old ++ x) (sym (flat_map-append change_text here behind)
     ∙ ap (flat_map change_text) (sym (bits_more rate bit before xs ys h k)))
 
-padded_as : (line other : List Tick) → length line ≡ length other → padded line other ≡ line
+padded_as : (line other : List Tick) → length line ≡ length other → padded_rows line other ≡ line
 padded_as line other e =
     let none : length other - length line ≡ 0 = omega arith in
     ap (λ k. line ++ replicate k Silent) none ∙ append-nil line
@@ -42,7 +42,7 @@ module _ (rate : Rate) (wires : Wires) (xs ys : List Tick) (n : ℕ) (text more 
     (of_a : length xs ≡ n) (of_b : length ys ≡ n)
     (is : text ≡ dump_front wires ++ flat_map change_text (ticks_changes rate xs ys)) where
   pub text_more : (a b : Tick) (bit : ℕ) → bit ≡ (n + 1) * rate.bits
-      → more ≡ flat_map change_text (changes_from rate bit quiet (tick_levels rate.bits a)
+      → more ≡ flat_map change_text (changes_from rate bit quiet_rows (tick_levels rate.bits a)
       (tick_levels rate.bits b))
       → text ++ more
       ≡ dump_front wires ++ flat_map change_text (ticks_changes rate (xs ++ a ∷ []) (ys ++ b ∷ []))
@@ -52,10 +52,10 @@ module _ (rate : Rate) (wires : Wires) (xs ys : List Tick) (n : ℕ) (text more 
       ap (λ x. x ++ more) is
       ∙ append_assoc (dump_front wires) so_far more
       ∙ ap (λ x. dump_front wires ++ (so_far ++ x)) (more_is
-      ∙ ap (λ k. there (changes_from rate k quiet (tick_levels rate.bits a)
+      ∙ ap (λ k. there (changes_from rate k quiet_rows (tick_levels rate.bits a)
       (tick_levels rate.bits b))) place)
       ∙ ap (λ x. dump_front wires ++ x) (sym (flat_map-append change_text (ticks_changes rate xs ys)
-      (changes_from rate ((n + 1) * rate.bits) quiet (tick_levels rate.bits a)
+      (changes_from rate ((n + 1) * rate.bits) quiet_rows (tick_levels rate.bits a)
       (tick_levels rate.bits b))))
       ∙ ap (λ x. dump_front wires ++ flat_map change_text x)
       (sym (ticks_more rate xs ys a b n of_a of_b))
@@ -68,7 +68,7 @@ module _ (rate : Rate) (wires : Wires) (xs ys : List Tick) (n : ℕ) (text more 
       (more_is ∙ ap (dump_end rate) longest)
       ∙ ap (λ x. (dump_front wires ++ flat_map change_text (ticks_changes rate x ys))
       ++ dump_end rate (max (length xs) (length ys))) (sym (padded_as xs ys (omega arith)))
-      ∙ ap (λ x. (dump_front wires ++ flat_map change_text (ticks_changes rate (padded xs ys) x))
+      ∙ ap (λ x. (dump_front wires ++ flat_map change_text (ticks_changes rate (padded_rows xs ys) x))
       ++ dump_end rate (max (length xs) (length ys))) (sym (padded_as ys xs (omega arith)))
 
 -- ---- both lines as a whole
@@ -85,7 +85,7 @@ silent_behind (tick ∷ line) (suc n) h = silent_behind line n (omega arith)
 
 -- a tick of a line that is filled with silence
 tick_of_padded : (line other : List Tick) (n : ℕ)
-    → get_or (padded line other) n Silent ≡ get_or line n Silent
+    → get_or (padded_rows line other) n Silent ≡ get_or line n Silent
 tick_of_padded line other n =
     ⊎_elim
     (λ (within : n < length line). get_or_append_left line (replicate (length other - length line) Silent) Silent n within)
@@ -97,32 +97,32 @@ tick_of_padded line other n =
 
 -- The first `n` ticks of the filled line and its next tick are its first `n + 1` ticks.
 pub front_more : (line other : List Tick) (n : ℕ) → n < max (length line) (length other)
-    → take n (padded line other) ++ get_or line n Silent ∷ [] ≡ take (n + 1) (padded line other)
+    → take n (padded_rows line other) ++ get_or line n Silent ∷ [] ≡ take (n + 1) (padded_rows line other)
 front_more line other n h =
-    ap (λ t. take n (padded line other) ++ t ∷ []) (sym (tick_of_padded line other n))
-    ∙ sym (take_more (padded line other) n Silent (omega (arith, length_padded line other)))
+    ap (λ t. take n (padded_rows line other) ++ t ∷ []) (sym (tick_of_padded line other n))
+    ∙ sym (take_more (padded_rows line other) n Silent (omega (arith, length_padded line other)))
 
 -- As many ticks as the longer line has are the whole filled line.
 pub front_all : (line other : List Tick) (n : ℕ) → n ≡ max (length line) (length other)
-    → take n (padded line other) ≡ padded line other
-front_all line other n h = take_all n (padded line other) (omega (arith, length_padded line other))
+    → take n (padded_rows line other) ≡ padded_rows line other
+front_all line other n h = take_all n (padded_rows line other) (omega (arith, length_padded line other))
 
 -- The silence after the shorter line changes nothing in the dump.
 pub dump_padded : (rate : Rate) (wires : Wires) (a b : List Tick)
-    → dump_text rate wires (padded a b) (padded b a) ≡ dump_text rate wires a b
+    → dump_text rate wires (padded_rows a b) (padded_rows b a) ≡ dump_text rate wires a b
 dump_padded rate wires a b =
     let of_a = length_padded a b in
     let of_b = length_padded b a in
-    let same : length (padded a b) ≡ length (padded b a) = omega (arith, of_a, of_b) in
-    let longest : max (length (padded a b)) (length (padded b a)) ≡ max (length a) (length b) =
+    let same : length (padded_rows a b) ≡ length (padded_rows b a) = omega (arith, of_a, of_b) in
+    let longest : max (length (padded_rows a b)) (length (padded_rows b a)) ≡ max (length a) (length b) =
     omega (arith, of_a, of_b) in
     ap (λ x. (dump_front wires
-    ++ flat_map change_text (ticks_changes rate x (padded (padded b a) (padded a b))))
-    ++ dump_end rate (max (length (padded a b)) (length (padded b a))))
-    (padded_as (padded a b) (padded b a) same)
-    ∙ ap (λ x. (dump_front wires ++ flat_map change_text (ticks_changes rate (padded a b) x))
-    ++ dump_end rate (max (length (padded a b)) (length (padded b a))))
-    (padded_as (padded b a) (padded a b) (sym same))
+    ++ flat_map change_text (ticks_changes rate x (padded_rows (padded_rows b a) (padded_rows a b))))
+    ++ dump_end rate (max (length (padded_rows a b)) (length (padded_rows b a))))
+    (padded_as (padded_rows a b) (padded_rows b a) same)
+    ∙ ap (λ x. (dump_front wires ++ flat_map change_text (ticks_changes rate (padded_rows a b) x))
+    ++ dump_end rate (max (length (padded_rows a b)) (length (padded_rows b a))))
+    (padded_as (padded_rows b a) (padded_rows a b) (sym same))
     ∙ ap (λ n. (dump_front wires
-    ++ flat_map change_text (ticks_changes rate (padded a b) (padded b a))) ++ dump_end rate n)
+    ++ flat_map change_text (ticks_changes rate (padded_rows a b) (padded_rows b a))) ++ dump_end rate n)
     longest

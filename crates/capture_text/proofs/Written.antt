@@ -1,6 +1,6 @@
 -- A time as it is written, with the digits of bytes after it, is a record.
 use Rattle.capture_text.proofs.LineFacts.{all_more}
-use Rattle.capture_text.specs.CaptureText.{IsTime, IsRecord, IsPair, ArePairs, recorded, point}
+use Rattle.capture_text.specs.CaptureText.{IsRowTime, IsRowRecord, IsPair, ArePairs, recorded, point}
 use Rattle.capture_text.specs.{CaptureText.fraction_value, Writing.fraction_digits}
 use Rattle.{capture_text.specs.Writing.time_front, hex.proofs.HexLemmas.IsDigits-lower_digits}
 use Rattle.hex.specs.Hex.{encode_lower, encode_with, lower_digits, IsBytes}
@@ -92,7 +92,7 @@ fraction_all n h =
     ) refl
 
 time_is : (start : ℕ) → start < 2 ^ 64
-    → IsTime (decimal (start / 1000000000) ++ point ∷ fraction_digits (start % 1000000000)) start
+    → IsRowTime (decimal (start / 1000000000) ++ point ∷ fraction_digits (start % 1000000000)) start
 time_is start fits =
     let whole = spelled (start / 1000000000) (omega (arith, fits)) in
     let rest : ℕ = start % 1000000000 in
@@ -111,7 +111,7 @@ pub written_record : (start : ℕ) (front : List ℕ) → start < 2 ^ 64
     → front ≡ ((decimal (start / 1000000000) ++ point ∷ [])
     ++ fraction_digits (start % 1000000000)) ++ 32 ∷ []
     → (bytes : List ℕ) → 0 < length bytes → IsBytes bytes
-    → IsRecord (front ++ encode_lower bytes) start (recorded start bytes)
+    → IsRowRecord (front ++ encode_lower bytes) start (recorded start bytes)
 written_record start front fits e bytes some h =
     let whole : List ℕ = decimal (start / 1000000000) in
     let fraction : List ℕ = fraction_digits (start % 1000000000) in
@@ -136,7 +136,7 @@ pub written_parts : (start : ℕ) (none whole pointed fractioned front : List �
     → fractioned ≡ pointed ++ fraction_digits (start % 1000000000)
     → front ≡ fractioned ++ 32 ∷ []
     → (bytes : List ℕ) → 0 < length bytes → IsBytes bytes
-    → IsRecord (front ++ encode_lower bytes) start (recorded start bytes)
+    → IsRowRecord (front ++ encode_lower bytes) start (recorded start bytes)
 written_parts start none whole pointed fractioned front fits a b c d e =
     let digits : List ℕ = decimal (start / 1000000000) in
     let fraction : List ℕ = fraction_digits (start % 1000000000) in

@@ -28,16 +28,16 @@ is_blank b = b == 32 || b == 9
 abbrev pub ends_line : ℕ → Bool
 ends_line b = b == line_feed || b == carriage_return
 
--- the nanoseconds of digits after a point: the first counts `counts`, and each later one a tenth of
+-- the row_nanoseconds of digits after a point: the first counts `counts`, and each later one a tenth of
 -- the one before it, so the tenth digit after the point and those that follow it count nothing
 abbrev pub fraction_value : ℕ → List ℕ → ℕ
 fraction_value counts [] = 0
 fraction_value counts (d ∷ digits) =
     (d - digit_zero) * counts + fraction_value (counts / 10) digits
 
--- the nanoseconds of a time with these digits before and after the point
-abbrev pub nanoseconds : List ℕ → List ℕ → ℕ
-nanoseconds whole fraction =
+-- the row_nanoseconds of a time with these digits before and after the point
+abbrev pub row_nanoseconds : List ℕ → List ℕ → ℕ
+row_nanoseconds whole fraction =
     1000000000 * number_after 0 whole + fraction_value 100000000 fraction
 
 -- a point and the digits after it, or nothing if there are none
@@ -46,15 +46,15 @@ with_point [] = []
 with_point (d ∷ digits) = point ∷ d ∷ digits
 
 -- A time: digits of whole seconds, at least one, and maybe a point and digits after it. It is below
--- 2^64 nanoseconds.
-pub record IsTime (text : List ℕ) (time : ℕ) : Type 0 where
+-- 2^64 row_nanoseconds.
+pub record IsRowTime (text : List ℕ) (time : ℕ) : Type 0 where
   pub whole : List ℕ
   pub fraction : List ℕ
   pub is : text ≡ whole ++ with_point fraction
   pub some : 0 < length whole
   pub digits : list_all is_decimal_digit whole ≡ true
   pub fraction_digits : list_all is_decimal_digit fraction ≡ true
-  pub value : time ≡ nanoseconds whole fraction
+  pub value : time ≡ row_nanoseconds whole fraction
   pub fits : time < 2 ^ 64
 
 -- the byte of a pair of hex digits
@@ -84,13 +84,13 @@ recorded time (byte ∷ bytes) =
     capture_byte time true byte ∷ map (capture_byte time false) bytes
 
 -- A record with this time: the time, a blank and pairs of hex digits, at least one.
-pub record IsRecord (line : List ℕ) (time : ℕ) (items : List CaptureByte) : Type 0 where
+pub record IsRowRecord (line : List ℕ) (time : ℕ) (items : List CaptureByte) : Type 0 where
   pub seconds : List ℕ
   pub blank : ℕ
   pub digits : List ℕ
   pub bytes : List ℕ
   pub is : line ≡ seconds ++ blank ∷ digits
-  pub stamped : IsTime seconds time
+  pub stamped : IsRowTime seconds time
   pub apart : is_blank blank ≡ true
   pub pairs : ArePairs digits bytes
   pub some : 0 < length bytes
@@ -101,7 +101,7 @@ abbrev pub stays_in_line : ℕ → Bool
 stays_in_line b = not (b == line_feed)
 
 -- a comment: `#` and what follows it on its line
-pub record IsComment (line : List ℕ) : Type 0 where
+pub record IsRowComment (line : List ℕ) : Type 0 where
   pub after : List ℕ
   pub is : line ≡ number_sign ∷ after
   pub one_line : list_all stays_in_line after ≡ true
@@ -109,9 +109,9 @@ pub record IsComment (line : List ℕ) : Type 0 where
 -- What a line has before its end: nothing, a comment or a record.
 pub data IsContent : List ℕ → List CaptureByte → Type 0 where
   nothing : IsContent [] []
-  comment : (content : List ℕ) → IsComment content → IsContent content []
+  comment : (content : List ℕ) → IsRowComment content → IsContent content []
   stamped : (content : List ℕ) (time : ℕ) (items : List CaptureByte)
-      → IsRecord content time items → IsContent content items
+      → IsRowRecord content time items → IsContent content items
 
 -- A line without its LF: its content, which a CR may follow.
 pub data IsLine : List ℕ → List CaptureByte → Type 0 where
@@ -146,8 +146,8 @@ behind_blank (b ∷ line) = if is_blank b then line else behind_blank line
 -- Why a byte, or the end of the text, is refused after this beginning of its line: a decimal digit
 -- because of the time that it makes, and an end of the line because a digit of a pair or all bytes
 -- of the record are missing.
-abbrev pub fault_in_line : List ℕ → Option ℕ → TextFault
-fault_in_line line next =
+abbrev pub row_fault_in : List ℕ → Option ℕ → TextFault
+row_fault_in line next =
     if ends_in_return line then Char
     else if option_map_or is_decimal_digit next false then Late
     else if ends_content next
@@ -155,14 +155,14 @@ fault_in_line line next =
     else Char
 
 -- A byte, or the end of the text, is refused after this text for this cause.
-pub record IsCause (text : List ℕ) (next : Option ℕ) (why : TextFault) : Type 0 where
+pub record IsRowCause (text : List ℕ) (next : Option ℕ) (why : TextFault) : Type 0 where
   pub ended : List ℕ
   pub line : List ℕ
   pub items : List CaptureByte
   pub text_is : text ≡ ended ++ line
   pub lines : AreLines ended items
   pub one_line : list_all stays_in_line line ≡ true
-  pub why_is : why ≡ fault_in_line line next
+  pub why_is : why ≡ row_fault_in line next
 
 -- how many lines of a text an LF ends
 abbrev pub lines_ended : List ℕ → ℕ

@@ -14,9 +14,9 @@ use Rattle.capture_text.specs.declared.changes.Change.{Change}
 abbrev pub bit_start : Rate → ℕ → ℕ
 bit_start rate bit = rounded (bit * 1000000000) rate.baud
 
--- both wires are quiet
-abbrev pub quiet : BothLevels
-quiet = record { a = true; b = true }
+-- both wires are quiet_rows
+abbrev pub quiet_rows : BothLevels
+quiet_rows = record { a = true; b = true }
 
 -- the change of a wire from one level to another, if they differ
 abbrev pub change_if : ℕ → Way → Bool → Bool → List Change
@@ -39,15 +39,15 @@ changes_from rate bit before (a ∷ xs) (b ∷ ys) =
     ++ changes_from rate (bit + 1) (record { a = a; b = b }) xs ys
 
 -- a line, and silence after it up to the end of the other one
-abbrev pub padded : List Tick → List Tick → List Tick
-padded line other = line ++ silent (length other - length line)
+abbrev pub padded_rows : List Tick → List Tick → List Tick
+padded_rows line other = line ++ silent (length other - length line)
 
--- The changes of a dump of two lines of the same length. Both wires are quiet for one character,
+-- The changes of a dump of two lines of the same length. Both wires are quiet_rows for one character,
 -- and then tick 0 begins.
 abbrev pub ticks_changes : Rate → List Tick → List Tick → List Change
 ticks_changes rate a b =
-    changes_from rate rate.bits quiet (line_levels rate.bits a) (line_levels rate.bits b)
+    changes_from rate rate.bits quiet_rows (line_levels rate.bits a) (line_levels rate.bits b)
 
 -- the changes of a dump of two lines
 abbrev pub dump_changes : Rate → List Tick → List Tick → List Change
-dump_changes rate a b = ticks_changes rate (padded a b) (padded b a)
+dump_changes rate a b = ticks_changes rate (padded_rows a b) (padded_rows b a)

@@ -3,7 +3,7 @@ use Rattle.std.specs.Prelude.{ℕ, ◌+◌, ◌*◌, ◌-◌, ◌/◌, ◌^◌, 
 use Rattle.std.specs.Prelude.{◌∷◌, length, take, drop, Option, Some, None}
 use Rattle.yasir_ticks.specs.Characters.{digit_zero}
 use Rattle.yasir_ticks.specs.TickText.{is_decimal_digit}
-use Rattle.capture_text.specs.Parts.{place_of}
+use Rattle.capture_text.specs.Parts.{place_of_part}
 
 -- a number, if it is below 2^64
 abbrev pub fitting : ℕ → Option ℕ
@@ -50,4 +50,4 @@ by_point unit text (Some k) = and_then (whole_at unit (take k text)) (λ time.
 -- A time in nanoseconds, from a text that has it in units of `unit` nanoseconds: digits, and maybe
 -- a point and digits after it.
 abbrev pub time_at : ℕ → List ℕ → Option ℕ
-time_at unit text = by_point unit text (place_of 46 text)
+time_at unit text = by_point unit text (place_of_part 46 text)

@@ -33,10 +33,10 @@ value_of (level ∷ levels) = (if level then 1 else 0) + 2 * value_of levels
 
 -- What a UART makes of the levels of a tick: a byte of the eight levels after the first if the
 -- first is low, which is its start bit, and silence if it is high.
-abbrev pub tick_of : List Bool → Tick
-tick_of (false ∷ a ∷ b ∷ c ∷ d ∷ e ∷ f ∷ g ∷ h ∷ behind) =
+abbrev pub tick_of_look : List Bool → Tick
+tick_of_look (false ∷ a ∷ b ∷ c ∷ d ∷ e ∷ f ∷ g ∷ h ∷ behind) =
     Byte (value_of (a ∷ b ∷ c ∷ d ∷ e ∷ f ∷ g ∷ h ∷ []))
-tick_of _ = Silent
+tick_of_look _ = Silent
 
 -- A time is within a bit of a tick. Bit 0 of tick 0 starts one character after the start of the
 -- dump.

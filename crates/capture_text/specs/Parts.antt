@@ -4,8 +4,8 @@ use Rattle.std.specs.Prelude.{Option, Some, None, slice_index, bytes_eq}
 use Rattle.memchr.specs.Find.{first_of, places, is_byte}
 
 -- the first place of a byte in a text
-abbrev pub place_of : ℕ → List ℕ → Option ℕ
-place_of byte text = first_of (places (is_byte byte) text)
+abbrev pub place_of_part : ℕ → List ℕ → Option ℕ
+place_of_part byte text = first_of (places (is_byte byte) text)
 
 abbrev pub front_at : List ℕ → Option ℕ → List ℕ
 front_at text (Some k) = take k text
@@ -17,11 +17,11 @@ behind_at text None = []
 
 -- what comes before the first such byte, or the whole text if there is none
 abbrev pub front : ℕ → List ℕ → List ℕ
-front byte text = front_at text (place_of byte text)
+front byte text = front_at text (place_of_part byte text)
 
 -- what comes after the first such byte, or nothing if there is none
 abbrev pub behind : ℕ → List ℕ → List ℕ
-behind byte text = behind_at text (place_of byte text)
+behind byte text = behind_at text (place_of_part byte text)
 
 -- what comes after a literal at the start of a text, or nothing if the text doesn't start with it
 abbrev pub skip : List ℕ → List ℕ → List ℕ

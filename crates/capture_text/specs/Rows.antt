@@ -29,17 +29,17 @@ abbrev pub first_state : RowState
 first_state = record { stage = Start; names = no_names }
 
 -- whether an export may end at a stage
-abbrev pub may_end : Stage → Bool
-may_end Start = false
-may_end Rows = true
-may_end First = false
-may_end More = false
-may_end Last = false
-may_end Done = true
+abbrev pub rows_may_end : Stage → Bool
+rows_may_end Start = false
+rows_may_end Rows = true
+rows_may_end First = false
+rows_may_end More = false
+rows_may_end Last = false
+rows_may_end Done = true
 
 -- a line without the CR at its end, if it has one
-abbrev pub without_return : List ℕ → List ℕ
-without_return line =
+abbrev pub row_without_return : List ℕ → List ℕ
+row_without_return line =
     if length line == 0 then line
     else if slice_index line (length line - 1) == carriage_return then take (length line - 1) line
     else line
@@ -51,13 +51,13 @@ seen_at time on_way (Byte value) =
 seen_at time on_way (Event number) =
     SeenEvent (record { way = Some on_way; start = time; event = number; bytes = 0 })
 
-abbrev pub seen_of : Way → RowItem → Seen
-seen_of on_way item = seen_at item.start on_way item.what
+abbrev pub seen_in_row : Way → RowItem → Seen
+seen_in_row on_way item = seen_at item.start on_way item.what
 
 abbrev pub on_way : Stage → RowItem → Option (ChannelNames × Way)
     → Result (RowState × Option Seen) RowFault
 on_way following item (Some found) =
-    Ok (record { stage = following; names = found.0 }, Some (seen_of found.1 item))
+    Ok (record { stage = following; names = found.0 }, Some (seen_in_row found.1 item))
 on_way following item None = Err Channel
 
 abbrev pub ended_line : Result (RowState × Option Seen) RowFault
@@ -66,8 +66,8 @@ ended_line (Ok after) = Ok ((after.0, []), after.1)
 ended_line (Err why) = Err why
 
 -- whether an export may end at a place: only before the first byte of a line
-abbrev pub may_end_at : (RowState × List ℕ) → Bool
-may_end_at place = may_end place.0.stage && (length place.1 == 0)
+abbrev pub rows_may_end_at : (RowState × List ℕ) → Bool
+rows_may_end_at place = rows_may_end place.0.stage && (length place.1 == 0)
 
 module _ (row_at : Stage → List ℕ → Result Row RowFault) (name_of : List ℕ → List ℕ) where
   abbrev pub with_item : ChannelNames → List ℕ → Stage → Option RowItem
@@ -85,7 +85,7 @@ module _ (row_at : Stage → List ℕ → Result Row RowFault) (name_of : List �
   -- what a line does in a state: the next state and what is seen, or why it is refused
   abbrev pub line_at : RowState → List ℕ → Result (RowState × Option Seen) RowFault
   line_at state line =
-      after_row state.names (without_return line) (row_at state.stage (without_return line))
+      after_row state.names (row_without_return line) (row_at state.stage (row_without_return line))
 
   -- Lines one after the other, each of at most 255 bytes and ended by an LF.
   pub data AreRows : RowState → List ℕ → List Seen → Type 0 where
@@ -99,7 +99,7 @@ module _ (row_at : Stage → List ℕ → Result Row RowFault) (name_of : List �
   pub record IsExport (text : List ℕ) (items : List Seen) : Type 0 where
     pub last : RowState
     pub rows : AreRows last text items
-    pub ends : may_end last.stage ≡ true
+    pub ends : rows_may_end last.stage ≡ true
 
   -- Holds if the text is right rows, with these items, and the beginning of one more line. Each
   -- export that begins with the text has these items first.
@@ -115,9 +115,9 @@ module _ (row_at : Stage → List ℕ → Result Row RowFault) (name_of : List �
 
   -- What one byte does after this much of a line. It describes the format a second time, and the
   -- two are proved equal.
-  unfoldable pub step_at : (RowState × List ℕ) → ℕ
+  unfoldable pub rows_step_at : (RowState × List ℕ) → ℕ
       → Result ((RowState × List ℕ) × Option Seen) RowFault
-  step_at place b =
+  rows_step_at place b =
       if b == line_feed then ended_line (line_at place.0 place.1)
       else if nat_lt (length place.1) MAX_LINE then Ok ((place.0, place.1 ++ b ∷ []), None)
       else Err Long

@@ -67,37 +67,37 @@ to_pairs time first high (Some low) other =
     Ok (Pairs time, Some (capture_byte time first (high * 16 + low)))
 to_pairs time first high None other = other
 
-unfoldable pub step_at : Place → ℕ → Stepped
-step_at Start b =
+unfoldable pub text_step_at : Place → ℕ → Stepped
+text_step_at Start b =
     if b == number_sign then Ok (Comment, None)
     else if is_decimal_digit b then Ok (Whole ((b - digit_zero) * 1000000000), None)
     else after_line b
-step_at Comment b = if b == line_feed then Ok (Start, None) else Ok (Comment, None)
-step_at (Whole time) b =
+text_step_at Comment b = if b == line_feed then Ok (Start, None) else Ok (Comment, None)
+text_step_at (Whole time) b =
     if is_decimal_digit b then to_whole (whole_time time b)
     else if b == point then Ok (Point time, None)
     else after_time time b
-step_at (Point time) b =
+text_step_at (Point time) b =
     if is_decimal_digit b then after_fraction time 100000000 b else Err (fault_without_bytes b)
-step_at (Fraction time counts) b =
+text_step_at (Fraction time counts) b =
     if is_decimal_digit b then after_fraction time counts b else after_time time b
-step_at (Blank time) b = to_half time true (hex_digit_value b) (Err (fault_without_bytes b))
-step_at (Pairs time) b = to_half time false (hex_digit_value b) (after_line b)
-step_at (Half time first high) b =
+text_step_at (Blank time) b = to_half time true (hex_digit_value b) (Err (fault_without_bytes b))
+text_step_at (Pairs time) b = to_half time false (hex_digit_value b) (after_line b)
+text_step_at (Half time first high) b =
     to_pairs time first high (hex_digit_value b) (Err (fault_in_pair b))
-step_at Returned b = if b == line_feed then Ok (Start, None) else Err Char
+text_step_at Returned b = if b == line_feed then Ok (Start, None) else Err Char
 
 -- whether a line may end at a place
-abbrev pub may_end : Place → Bool
-may_end Start = true
-may_end Comment = true
-may_end (Whole time) = false
-may_end (Point time) = false
-may_end (Fraction time counts) = false
-may_end (Blank time) = false
-may_end (Pairs time) = true
-may_end (Half time first high) = false
-may_end Returned = true
+abbrev pub text_may_end : Place → Bool
+text_may_end Start = true
+text_may_end Comment = true
+text_may_end (Whole time) = false
+text_may_end (Point time) = false
+text_may_end (Fraction time counts) = false
+text_may_end (Blank time) = false
+text_may_end (Pairs time) = true
+text_may_end (Half time first high) = false
+text_may_end Returned = true
 
 -- why a text that ends at a place is refused, or `None` if it isn't
 abbrev pub end_fault_at : Place → Option TextFault
@@ -112,17 +112,17 @@ end_fault_at (Half time first high) = Some Odd
 end_fault_at Returned = None
 
 -- whether the digit that a place holds, if any, is below 16
-abbrev pub is_sound : Place → Bool
-is_sound (Half time first high) = nat_lt high 16
-is_sound Start = true
-is_sound Comment = true
-is_sound (Whole time) = true
-is_sound (Point time) = true
-is_sound (Fraction time counts) = true
-is_sound (Blank time) = true
-is_sound (Pairs time) = true
-is_sound Returned = true
+abbrev pub is_sound_text : Place → Bool
+is_sound_text (Half time first high) = nat_lt high 16
+is_sound_text Start = true
+is_sound_text Comment = true
+is_sound_text (Whole time) = true
+is_sound_text (Point time) = true
+is_sound_text (Fraction time counts) = true
+is_sound_text (Blank time) = true
+is_sound_text (Pairs time) = true
+is_sound_text Returned = true
 
-abbrev pub IsSoundStep : Stepped → Type 0
-IsSoundStep (Ok next) = is_sound next.0 ≡ true
-IsSoundStep (Err why) = Unit {0}
+abbrev pub IsSoundTextStep : Stepped → Type 0
+IsSoundTextStep (Ok next) = is_sound_text next.0 ≡ true
+IsSoundTextStep (Err why) = Unit {0}

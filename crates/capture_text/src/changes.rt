@@ -2,7 +2,7 @@
 ghost use Rattle.std.specs.Prelude.{◌≡◌, ◌+◌, ◌*◌, ◌<◌, ◌≤◌, ◌^◌, ◌++◌, length};
 ghost use Rattle.std.specs.List.{flat_map};
 ghost use Rattle.capture_text.specs.Levels.{tick_levels};
-ghost use Rattle.capture_text.specs.Changes.{bit_start, change_if, changes_at, changes_from, quiet};
+ghost use Rattle.capture_text.specs.Changes.{bit_start, change_if, changes_at, changes_from, quiet_rows};
 ghost use Rattle.capture_text.specs.Dump.{change_text};
 
 use crate::levels::tick_levels;
@@ -130,7 +130,7 @@ fn push_bits(text: &mut TickText, cursor: Cursor, a: &[bool], b: &[bool])
 /// before it.
 pub fn tick_text(rate: Rate, bit: u64, a: Tick, b: Tick) -> TickText
     requires { bit + 11 ≤ 2 ^ 28 }
-    ensures { result.items ≡ flat_map change_text (changes_from rate bit quiet
+    ensures { result.items ≡ flat_map change_text (changes_from rate bit quiet_rows
         (tick_levels rate.bits a) (tick_levels rate.bits b)) }
 {
     let a = tick_levels(rate.bits, a);

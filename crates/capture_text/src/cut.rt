@@ -1,13 +1,13 @@
 //! Parts of a line: before and after a byte, after a literal, within quotes.
 ghost use Rattle.std.specs.Prelude.{◌≡◌, ◌<◌, length, IfSome};
-ghost use Rattle.capture_text.specs.Parts.{place_of, front, behind, skip, unquoted};
+ghost use Rattle.capture_text.specs.Parts.{place_of_part, front, behind, skip, unquoted};
 
 use memchr::memchr;
 
 /// Returns the first place of a byte in a text, or `None` if it isn't there.
 #[inline]
 pub fn place_of(byte: u8, text: &[u8]) -> Option<usize>
-    ensures place { result ≡ place_of byte text.now }
+    ensures place { result ≡ place_of_part byte text.now }
     ensures within { IfSome result (λ k. k < length text.now) }
 {
     memchr(byte, text)

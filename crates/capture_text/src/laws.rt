@@ -7,24 +7,24 @@ ghost use Rattle.yasir_ticks.specs.declared.tick.Tick.TheVariants.{Silent};
 ghost use Rattle.line_stamps.specs.declared.rate.Rate.{Rate};
 ghost use Rattle.line_stamps.specs.declared.capture.Way.TheVariants.{A, B};
 ghost use Rattle.capture_text.specs.Levels.{tick_levels};
-ghost use Rattle.capture_text.specs.Changes.{dump_changes, padded};
-ghost use Rattle.capture_text.specs.Looks.{IsWithin, level_at, tick_of};
+ghost use Rattle.capture_text.specs.Changes.{dump_changes, padded_rows};
+ghost use Rattle.capture_text.specs.Looks.{IsWithin, level_at, tick_of_look};
 
 /// At each time within a bit of a tick, a wire has the level of that bit by the changes of the
 /// dump.
 pub fn looks_give_the_levels()
     ensures way_a { (rate : Rate) (a b : List Tick) (tick bit time : ℕ)
-        → tick < length (padded a b) → bit < rate.bits → IsWithin rate tick bit time
+        → tick < length (padded_rows a b) → bit < rate.bits → IsWithin rate tick bit time
         → level_at A time true (dump_changes rate a b)
-        ≡ get_or (tick_levels rate.bits (get_or (padded a b) tick Silent)) bit true }
+        ≡ get_or (tick_levels rate.bits (get_or (padded_rows a b) tick Silent)) bit true }
     ensures way_b { (rate : Rate) (a b : List Tick) (tick bit time : ℕ)
-        → tick < length (padded b a) → bit < rate.bits → IsWithin rate tick bit time
+        → tick < length (padded_rows b a) → bit < rate.bits → IsWithin rate tick bit time
         → level_at B time true (dump_changes rate a b)
-        ≡ get_or (tick_levels rate.bits (get_or (padded b a) tick Silent)) bit true }
+        ≡ get_or (tick_levels rate.bits (get_or (padded_rows b a) tick Silent)) bit true }
 {}
 
 /// The tick can be read back from its levels.
 pub fn levels_give_the_tick()
     ensures { (bits : ℕ) (tick : Tick) → 10 ≤ bits → IsTick tick
-        → tick_of (tick_levels bits tick) ≡ tick }
+        → tick_of_look (tick_levels bits tick) ≡ tick }
 {}

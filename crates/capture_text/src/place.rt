@@ -44,8 +44,8 @@ pub enum Place {
 /// capture, or why it is refused.
 pub type Step = Result<(Place, Option<CaptureByte>), TextFault>;
 
-ghost use Rattle.capture_text.specs.TextStep.{step_at, after_line, after_time, after_fraction};
-ghost use Rattle.capture_text.specs.TextStep.{is_sound, IsSoundStep, whole_time, fraction_time};
+ghost use Rattle.capture_text.specs.TextStep.{text_step_at, after_line, after_time, after_fraction};
+ghost use Rattle.capture_text.specs.TextStep.{is_sound_text, IsSoundTextStep, whole_time, fraction_time};
 ghost use Rattle.capture_text.specs.TextStep.{fault_without_bytes, end_fault_at};
 
 /// Returns the time with one more digit of whole seconds, if it is below 2^64 nanoseconds.
@@ -97,7 +97,7 @@ fn end_time(time: u64, b: u8) -> Step
 }
 
 fn at_start(b: u8) -> Step
-    ensures { result ≡ step_at Place.Start b }
+    ensures { result ≡ text_step_at Place.Start b }
 {
     match b {
         b'#' => Ok((Place::Comment, None)),
@@ -107,7 +107,7 @@ fn at_start(b: u8) -> Step
 }
 
 fn in_whole(time: u64, b: u8) -> Step
-    ensures { result ≡ step_at (Place.Whole time) b }
+    ensures { result ≡ text_step_at (Place.Whole time) b }
 {
     match b {
         b'0'..=b'9' => match with_digit(time, b) {
@@ -133,7 +133,7 @@ fn in_fraction(time: u64, counts: u32, b: u8) -> Step
 /// Takes the second digit of a pair, or refuses the byte.
 fn in_pair(time: u64, first: bool, high: u8, b: u8) -> Step
     requires { high < 16 }
-    ensures { result ≡ step_at (Place.Half time first high) b }
+    ensures { result ≡ text_step_at (Place.Half time first high) b }
 {
     match hex_value(b) {
         Some(low) => {
@@ -155,9 +155,9 @@ fn in_pair(time: u64, first: bool, high: u8, b: u8) -> Step
 /// Returns what one byte does at a place.
 #[inline]
 pub fn step(place: Place, b: u8) -> Step
-    requires { is_sound place ≡ true }
-    ensures step { result ≡ step_at place b }
-    ensures sound { IsSoundStep result }
+    requires { is_sound_text place ≡ true }
+    ensures step { result ≡ text_step_at place b }
+    ensures sound { IsSoundTextStep result }
 {
     match place {
         Place::Start => at_start(b),

@@ -3,7 +3,7 @@ ghost use Rattle.std.specs.Prelude.{◌≡◌, ℕ, ◌+◌, ◌-◌, ◌<◌, �
 ghost use Rattle.std.specs.Prelude.{length, Some, None, OnOk, IfOk, IfErr, Err, option_map};
 ghost use Rattle.line_stamps.specs.declared.seen.Seen.TheVariants.{Byte as SeenByte};
 ghost use Rattle.std.specs.Option.{option_to_list};
-ghost use Rattle.capture_text.specs.TextStep.{is_sound};
+ghost use Rattle.capture_text.specs.TextStep.{is_sound_text};
 ghost use Rattle.line_stamps.specs.declared.TheConstants.{MAX_BYTES};
 
 use crate::place::{Place, end_fault, step};
@@ -19,7 +19,7 @@ pub struct TextReader {
     // how many bytes it took, and how many of them are LFs
     taken: u64,
     ended: u64,
-    ghost sound: { is_sound place ≡ true },
+    ghost sound: { is_sound_text place ≡ true },
     ghost fewer: { ended ≤ taken },
     ghost bounded: { taken ≤ MAX_BYTES },
 }
@@ -37,16 +37,16 @@ fn seen(byte: Option<CaptureByte>) -> Option<Seen>
 
 impl TextReader {
     ghost use Rattle.line_stamps.specs.declared.capture.CaptureByte.{CaptureByte};
-    ghost use Rattle.line_stamps.specs.Walks.{Begins, BeginsNone};
-    ghost use Rattle.capture_text.specs.CaptureText.{IsTextCapture, IsCause, lines_ended};
-    ghost use Rattle.capture_text.specs.Reader.{StandsFor, HasRefused, bytes_taken, IsPlaceOf};
+    ghost use Rattle.line_stamps.specs.Walks.{WalkBegins, WalkBeginsNone};
+    ghost use Rattle.capture_text.specs.CaptureText.{IsTextCapture, IsRowCause, lines_ended};
+    ghost use Rattle.capture_text.specs.Reader.{TextReaderStandsFor, TextReaderHasRefused, text_bytes_taken, IsPlaceOf};
     ghost use Rattle.capture_text.specs.declared.fault.BadText.{BadText};
 
     /// Returns a reader that has taken nothing of its text.
     pub fn new() -> TextReader
-        ensures stands { StandsFor result [] [] }
-        ensures begins { Begins IsTextCapture [] [] }
-        ensures taken { bytes_taken result ≡ 0 }
+        ensures stands { TextReaderStandsFor result [] [] }
+        ensures begins { WalkBegins IsTextCapture [] [] }
+        ensures taken { text_bytes_taken result ≡ 0 }
     {
         TextReader {
             place: Place::Start,
@@ -58,18 +58,18 @@ impl TextReader {
 
     /// Returns how many bytes the reader took.
     pub fn taken(&self) -> u64
-        ensures { result ≡ bytes_taken self.now }
+        ensures { result ≡ text_bytes_taken self.now }
     {
         self.taken
     }
 
     /// Refuses the text for good, at the place that the reader has reached.
     fn refuse(&mut self, why: TextFault) -> BadText
-        requires { bytes_taken self.old < MAX_BYTES }
-        ensures place { (text : List ℕ) (items : List CaptureByte) → StandsFor self.old text items
+        requires { text_bytes_taken self.old < MAX_BYTES }
+        ensures place { (text : List ℕ) (items : List CaptureByte) → TextReaderStandsFor self.old text items
             → IsPlaceOf result text }
         ensures why { result.why ≡ why }
-        ensures remembered { HasRefused self.new result }
+        ensures remembered { TextReaderHasRefused self.new result }
     {
         let bad = BadText {
             offset: self.taken,
@@ -84,24 +84,24 @@ impl TextReader {
     /// any. A refusal is for good.
     #[inline]
     pub fn feed(&mut self, b: u8) -> Result<Option<CaptureByte>, BadText>
-        requires { bytes_taken self.old < MAX_BYTES }
+        requires { text_bytes_taken self.old < MAX_BYTES }
         // The text so far represents the bytes that were returned.
-        ensures stands { (text : List ℕ) (items : List CaptureByte) → StandsFor self.old text items
-            → IfOk result (λ byte. StandsFor self.new (text ++ b ∷ [])
+        ensures stands { (text : List ℕ) (items : List CaptureByte) → TextReaderStandsFor self.old text items
+            → IfOk result (λ byte. TextReaderStandsFor self.new (text ++ b ∷ [])
             (items ++ option_to_list byte)) }
         // Some text capture begins with the text so far, and each that does has these bytes first.
-        ensures begins { (text : List ℕ) (items : List CaptureByte) → StandsFor self.old text items
-            → IfOk result (λ byte. Begins IsTextCapture (text ++ b ∷ [])
+        ensures begins { (text : List ℕ) (items : List CaptureByte) → TextReaderStandsFor self.old text items
+            → IfOk result (λ byte. WalkBegins IsTextCapture (text ++ b ∷ [])
             (items ++ option_to_list byte)) }
         // It refuses the first byte with which no text capture goes on, and no other.
         ensures refused { (text : List ℕ) (items : List CaptureByte)
-            → StandsFor self.old text items
-            → IfErr result (λ bad. Begins IsTextCapture text items
-            × BeginsNone IsTextCapture (text ++ b ∷ []) × IsPlaceOf bad text
-            × IsCause text (Some b) bad.why) }
-        ensures taken { OnOk result (bytes_taken self.new ≡ bytes_taken self.old + 1) }
-        ensures remembered { IfErr result (λ bad. HasRefused self.new bad) }
-        ensures for_good { (bad : BadText) → HasRefused self.old bad
+            → TextReaderStandsFor self.old text items
+            → IfErr result (λ bad. WalkBegins IsTextCapture text items
+            × WalkBeginsNone IsTextCapture (text ++ b ∷ []) × IsPlaceOf bad text
+            × IsRowCause text (Some b) bad.why) }
+        ensures taken { OnOk result (text_bytes_taken self.new ≡ text_bytes_taken self.old + 1) }
+        ensures remembered { IfErr result (λ bad. TextReaderHasRefused self.new bad) }
+        ensures for_good { (bad : BadText) → TextReaderHasRefused self.old bad
             → (result ≡ Err bad) × (self.new ≡ self.old) }
     {
         if let Some(bad) = self.refused {
@@ -122,12 +122,12 @@ impl TextReader {
 
     /// Takes the end of the text.
     pub fn finish(self) -> Result<(), BadText>
-        ensures right { (text : List ℕ) (items : List CaptureByte) → StandsFor self text items
+        ensures right { (text : List ℕ) (items : List CaptureByte) → TextReaderStandsFor self text items
             → OnOk result (IsTextCapture text items) }
-        ensures refused { (text : List ℕ) (items : List CaptureByte) → StandsFor self text items
+        ensures refused { (text : List ℕ) (items : List CaptureByte) → TextReaderStandsFor self text items
             → IfErr result (λ bad. ((all : List CaptureByte) → IsTextCapture text all → ⊥)
-            × IsPlaceOf bad text × IsCause text None bad.why) }
-        ensures again { (bad : BadText) → HasRefused self bad → result ≡ Err bad }
+            × IsPlaceOf bad text × IsRowCause text None bad.why) }
+        ensures again { (bad : BadText) → TextReaderHasRefused self bad → result ≡ Err bad }
     {
         if let Some(bad) = self.refused {
             return Err(bad);
@@ -144,23 +144,23 @@ impl TextReader {
 }
 
 impl CaptureReader for TextReader {
-    ghost use Rattle.capture_text.specs.Reader.{IsSeenText, HasSeen, Refuses, HasRefused};
-    ghost use Rattle.capture_text.specs.Reader.{bytes_taken as taken_by};
-    ghost use Rattle.line_stamps.specs.Walks.{Begins};
+    ghost use Rattle.capture_text.specs.Reader.{IsSeenText, HasSeen, TextReaderRefuses, TextReaderHasRefused};
+    ghost use Rattle.capture_text.specs.Reader.{text_bytes_taken};
+    ghost use Rattle.line_stamps.specs.Walks.{WalkBegins};
 
     type Refusal = BadText;
 
     ghost format = { IsSeenText };
 
-    ghost begins = { Begins IsSeenText };
+    ghost begins = { WalkBegins IsSeenText };
 
     ghost stands = { HasSeen };
 
-    ghost refuses = { Refuses };
+    ghost refuses = { TextReaderRefuses };
 
-    ghost has_refused = { HasRefused };
+    ghost has_refused = { TextReaderHasRefused };
 
-    ghost bytes_taken = { taken_by };
+    ghost bytes_taken = { text_bytes_taken };
 
     fn start() -> TextReader {
         TextReader::new()

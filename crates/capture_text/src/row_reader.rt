@@ -2,7 +2,7 @@
 ghost use Rattle.std.specs.Prelude.{◌≡◌, ℕ, ◌+◌, ◌<◌, ◌≤◌, ◌++◌, ◌∷◌, [], List, length, Ok, Err, None};
 ghost use Rattle.std.specs.Prelude.{Option, Result, OnOk, IfErr};
 ghost use Rattle.line_stamps.specs.declared.TheConstants.{MAX_BYTES};
-ghost use Rattle.capture_text.specs.Rows.{may_end as may_end_in, without_return, seen_of};
+ghost use Rattle.capture_text.specs.Rows.{rows_may_end, row_without_return, seen_in_row};
 
 use crate::names::Names;
 use crate::{BadRow, MAX_LINE, RowFault, RowForm, RowItem, Stage, What};
@@ -31,7 +31,7 @@ pub struct RowReader<F> {
 
 /// Returns what a row says, on the way of its channel.
 fn seen_on(way: Way, item: RowItem) -> Seen
-    ensures { result ≡ seen_of way item }
+    ensures { result ≡ seen_in_row way item }
 {
     match item.what {
         What::Byte(byte) => Seen::Byte(CaptureByte {
@@ -51,7 +51,7 @@ fn seen_on(way: Way, item: RowItem) -> Seen
 
 /// Returns a line without the CR at its end, if it has one.
 fn without_return(line: &[u8]) -> &[u8]
-    ensures { result.now ≡ without_return line.now }
+    ensures { result.now ≡ row_without_return line.now }
 {
     if line.is_empty() {
         return line;
@@ -65,22 +65,22 @@ fn without_return(line: &[u8]) -> &[u8]
 
 /// Whether an export may end at a stage.
 fn may_end(stage: Stage) -> bool
-    ensures { result ≡ may_end_in stage }
+    ensures { result ≡ rows_may_end stage }
 {
     matches!(stage, Stage::Rows | Stage::Done)
 }
 
 impl<F: RowForm> RowReader<F> {
-    ghost use Rattle.capture_text.specs.Rows.{IsExport, line_at, step_at, may_end_at};
-    ghost use Rattle.capture_text.specs.RowReader.{StandsFor, HasRefused, bytes_taken, place_of};
-    ghost use Rattle.capture_text.specs.RowReader.{Takes};
-    ghost use Rattle.capture_text.specs.RowReader.{TakesLine};
+    ghost use Rattle.capture_text.specs.Rows.{IsExport, line_at, rows_step_at, rows_may_end_at};
+    ghost use Rattle.capture_text.specs.RowReader.{RowReaderStandsFor, RowReaderHasRefused, row_bytes_taken, place_of};
+    ghost use Rattle.capture_text.specs.RowReader.{RowReaderTakes};
+    ghost use Rattle.capture_text.specs.RowReader.{TakesRowLine};
     ghost use Rattle.capture_text.specs.declared.row_fault.BadRow.{BadRow};
     ghost use Rattle.line_stamps.specs.declared.seen.Seen.{Seen};
 
     /// Takes the end of the line.
     fn end_line(&mut self) -> Result<Option<Seen>, RowFault>
-        ensures { TakesLine F.row_at F.name_of self.old result self.new }
+        ensures { TakesRowLine F.row_at F.name_of self.old result self.new }
     {
         let line = without_return(self.line.as_slice());
         let row = match self.form.row(self.stage, line) {
@@ -103,8 +103,8 @@ impl<F: RowForm> RowReader<F> {
     /// Takes one byte: an LF ends the line, and any other byte is added to it.
     #[inline]
     fn step(&mut self, b: u8) -> Result<Option<Seen>, RowFault>
-        requires { bytes_taken self.old < MAX_BYTES }
-        ensures { Takes F.row_at F.name_of self.old b result self.new }
+        requires { row_bytes_taken self.old < MAX_BYTES }
+        ensures { RowReaderTakes F.row_at F.name_of self.old b result self.new }
     {
         if b == b'\n' {
             let seen = match self.end_line() {
@@ -126,7 +126,7 @@ impl<F: RowForm> RowReader<F> {
 
     /// Whether the export may end here.
     fn may_end(&self) -> bool
-        ensures { result ≡ may_end_at (place_of self.now) }
+        ensures { result ≡ rows_may_end_at (place_of self.now) }
     {
         may_end(self.stage) && self.line.is_empty()
     }
@@ -147,8 +147,8 @@ impl<F: RowForm> RowReader<F> {
 
 impl<F: RowForm> CaptureReader for RowReader<F> {
     ghost use Rattle.capture_text.specs.Rows.{IsExport, AreRowsSoFar};
-    ghost use Rattle.capture_text.specs.RowReader.{StandsFor, HasRefused, Refuses};
-    ghost use Rattle.capture_text.specs.RowReader.{bytes_taken as taken_by};
+    ghost use Rattle.capture_text.specs.RowReader.{RowReaderStandsFor, RowReaderHasRefused, RowReaderRefuses};
+    ghost use Rattle.capture_text.specs.RowReader.{row_bytes_taken};
 
     type Refusal = BadRow;
 
@@ -156,13 +156,13 @@ impl<F: RowForm> CaptureReader for RowReader<F> {
 
     ghost begins = { AreRowsSoFar F.row_at F.name_of };
 
-    ghost stands = { StandsFor F.row_at F.name_of };
+    ghost stands = { RowReaderStandsFor F.row_at F.name_of };
 
-    ghost refuses = { Refuses F.row_at F.name_of };
+    ghost refuses = { RowReaderRefuses F.row_at F.name_of };
 
-    ghost has_refused = { HasRefused };
+    ghost has_refused = { RowReaderHasRefused };
 
-    ghost bytes_taken = { taken_by };
+    ghost bytes_taken = { row_bytes_taken };
 
     fn start() -> RowReader<F> {
         RowReader {

@@ -3,7 +3,7 @@ ghost use Rattle.std.specs.Prelude.{◌≡◌, ◌∷◌, [], ◌++◌, ◌+◌,
 ghost use Rattle.std.specs.Prelude.{List, length};
 ghost use Rattle.std.specs.Fmt.{decimal};
 ghost use Rattle.hex.specs.Hex.{encode_lower, IsBytes};
-ghost use Rattle.capture_text.specs.CaptureText.{IsRecord, recorded, point};
+ghost use Rattle.capture_text.specs.CaptureText.{IsRowRecord, recorded, point};
 ghost use Rattle.capture_text.specs.Writing.{fraction_digits, time_front};
 
 use arrayvec::ArrayVec;
@@ -59,7 +59,7 @@ fn push_number(front: &mut LineFront, n: u64)
 /// LF must follow.
 pub fn line_front(start: u64) -> LineFront
     ensures line { (bytes : List ℕ) → 0 < length bytes → IsBytes bytes
-        → IsRecord (result.items ++ encode_lower bytes) start (recorded start bytes) }
+        → IsRowRecord (result.items ++ encode_lower bytes) start (recorded start bytes) }
     ensures front { result.items ≡ time_front start }
 {
     let mut front = LineFront::new();

@@ -3,10 +3,10 @@ use Rattle.frame_ending.proofs.BurstRuns.{run-joined, run-tick}
 use Rattle.frame_ending.specs.{Answered.answered, Answers.AnswersTick as AnswersTickOf, Walk.Walker}
 use Rattle.frame_ending.specs.declared.box_step.BoxStep.{BoxStep}
 use Rattle.check_receiver.proofs.Heads.{head-is-good, head-is-bad, head-isn't-short}
-use Rattle.check_receiver.specs.Runs.{HasTakenRun, IsFront, KeepsHeader}
-use Rattle.check_receiver.specs.{Stands.StandsAt, Stands.HasTaken, declared.checker.Checker.Checker}
+use Rattle.check_receiver.specs.Runs.{CheckerHasTakenRun, CheckerIsFront, KeepsHeader}
+use Rattle.check_receiver.specs.{Stands.CheckerStandsAt, Stands.CheckerHasTaken, declared.checker.Checker.Checker}
 use Rattle.frame_ending.specs.{Cuts.cut_of, Cuts.byte_cut, LiveBytes.live_end, SoFar.last_burst}
-use Rattle.frame_ending.specs.Stands.{StandsFor as CutStandsFor}
+use Rattle.frame_ending.specs.Stands.{CutStandsFor}
 use Rattle.frame_ending.specs.declared.burst_cut.BurstCut.{BurstCut}
 use Rattle.frame_ending.specs.declared.cut.Cut.TheVariants.{Start, Live, Extra}
 use Rattle.link_format.specs.declared.tag.Mac.{Ghosts as Mac}
@@ -109,7 +109,7 @@ not-bad rules b rest keeps bad =
 -- ---- what leaves
 
 -- If silence leaves next, no byte does.
-pub front-none : (Q : List Tick) (k : ℕ) (x : List ℕ) → IsFront Q k x → get_or Q 0 Silent ≡ Silent
+pub front-none : (Q : List Tick) (k : ℕ) (x : List ℕ) → CheckerIsFront Q k x → get_or Q 0 Silent ≡ Silent
     → x ≡ []
 front-none Q k [] front quiet = refl
 front-none [] k (b ∷ x) front quiet = let long = ap length front.bytes in absurd cc
@@ -133,9 +133,9 @@ module _ {R M : Type 0} (proto : LineRules R) (macs : Mac M) {B D : ℕ} (new : 
 
   -- A noteless tick is a run of one tick.
   pub one-taken : (t a : Tick) (step : BoxStep CheckNote)
-      → HasTaken proto macs new last setup line t step
+      → CheckerHasTaken proto macs new last setup line t step
       → step.note ≡ None → step.tick ≡ a
-      → HasTakenRun proto macs new last setup line (t ∷ []) (a ∷ [])
+      → CheckerHasTakenRun proto macs new last setup line (t ∷ []) (a ∷ [])
   one-taken t a step taken none is =
       let A : Tick → Option CheckNote → Type 0 = λ u n. AnswersTickOf w brief_note
       (at_floor setup.floor) line t u n in
@@ -147,11 +147,11 @@ module _ {R M : Type 0} (proto : LineRules R) (macs : Mac M) {B D : ℕ} (new : 
 
   -- A run and then another one are one run.
   pub more-taken : (mid : Checker R M B D) (run more answer next : List Tick)
-      → HasTakenRun proto macs mid last setup line run answer
-      → HasTakenRun proto macs new last setup (line ++ run) more next
-      → HasTakenRun proto macs new last setup line (run ++ more) (answer ++ next)
+      → CheckerHasTakenRun proto macs mid last setup line run answer
+      → CheckerHasTakenRun proto macs new last setup (line ++ run) more next
+      → CheckerHasTakenRun proto macs new last setup line (run ++ more) (answer ++ next)
   more-taken mid run more answer next first rest =
-      let S : List Tick → Type 0 = λ l. StandsAt proto macs new last setup l in
+      let S : List Tick → Type 0 = λ l. CheckerStandsAt proto macs new last setup l in
       record {
         stands = subst S (append_assoc line run more) rest.stands;
         answers = run-joined w brief_note (at_floor setup.floor) line run more answer next
@@ -161,9 +161,9 @@ module _ {R M : Type 0} (proto : LineRules R) (macs : Mac M) {B D : ℕ} (new : 
 -- The receiver stays as it is if no byte comes.
 pub still-stands : {R M : Type 0} (proto : LineRules R) (macs : Mac M) {B D : ℕ}
     (old : Checker R M B D) (last : ℕ) (setup : Setup) (line : List Tick) (cut : BurstCut R)
-    (k : ℕ) (bytes : List ℕ) → StandsAt proto macs old last setup line → k ≡ 0
+    (k : ℕ) (bytes : List ℕ) → CheckerStandsAt proto macs old last setup line → k ≡ 0
     → CutStandsFor proto cut (line ++ map (λ b. Byte b) (take k bytes))
-    → StandsAt proto macs (record old { cut = cut }) last setup line
+    → CheckerStandsAt proto macs (record old { cut = cut }) last setup line
 still-stands proto macs old last setup line cut k bytes stands none cuts =
     let C : List Tick → Type 0 = λ l. CutStandsFor proto cut l in
     record {

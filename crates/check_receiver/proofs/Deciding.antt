@@ -2,13 +2,13 @@
 use Rattle.frame_ending.specs.{Causal.going_on, declared.box_step.BoxStep.BoxStep}
 use Rattle.check_receiver.proofs.Hearing.{Hears, hears-whole, next-last, whole-long, whole-trailer}
 use Rattle.check_receiver.proofs.Hearing.{refuse-taken, pass-taken, passes-with}
-use Rattle.check_receiver.specs.{Between.IsWhole, Between.verdict_told, Checkings.PassesWith}
-use Rattle.check_receiver.specs.{Stands.MacHolds, Stands.HasTaken, Turning.Turned}
+use Rattle.check_receiver.specs.{Between.BurstIsWhole, Between.verdict_told, Checkings.PassesWith}
+use Rattle.check_receiver.specs.{Stands.MacHolds, Stands.CheckerHasTaken, Turning.Turned}
 use Rattle.check_receiver.specs.{Turning.TurnedRefused, declared.checker.Checker.Checker}
 use Rattle.check_receiver.specs.declared.phase.Phase.TheVariants.{Leaving}
 use Rattle.frame_ending.specs.LiveBytes.{live_bytes}
 use Rattle.frame_ending.specs.SoFar.{last_burst, live_bytes_so_far, start_so_far}
-use Rattle.frame_ending.specs.Stands.{StandsFor as CutStandsFor, ticks_taken as ticks_cut}
+use Rattle.frame_ending.specs.Stands.{CutStandsFor, ticks_taken as ticks_cut}
 use Rattle.{link_format.specs.declared.tag.Mac.Ghosts as Mac, line_rules.specs.Rules.Rules}
 use Rattle.line_rules.specs.{Rules.lacking_of, declared.line_rules.LineRules.Ghosts as LineRules}
 use Rattle.link_format.specs.{Profile.Profile, Profile.profile_of, Setup.Setup}
@@ -43,7 +43,7 @@ room-kept {R = R} {M = M} {B = B} {D = D} old told rest room =
 
 module _ {R M : Type 0} (proto : LineRules R) (macs : Mac M) {B D : ℕ} (old : Checker R M B D)
     (last : ℕ) (setup : Setup) (line : List Tick) (t : Tick)
-    (whole : IsWhole proto macs old last setup line t) (told : Checker R M B D)
+    (whole : BurstIsWhole proto macs old last setup line t) (told : Checker R M B D)
     (rest : told ≡ record old { mac = told.mac })
     (mac_stands : (text : List ℕ) × macs.stands told.mac setup.key text) where
   abbrev rules : Rules
@@ -98,7 +98,7 @@ module _ {R M : Type 0} (proto : LineRules R) (macs : Mac M) {B D : ℕ} (old : 
       + lacking_of rules (live_bytes_so_far rules link))
       → ((link : List Tick) → CutStandsFor proto told.cut link
       → step.note ≡ Some (Refused (start_so_far link) why))
-      → HasTaken proto macs new last setup line t step
+      → CheckerHasTaken proto macs new last setup line t step
   decide-refuses why judges new step turned earliest noted =
       let link : List Tick = line ++ t ∷ [] in
       let T : Checker R M B D → Type 0 = λ v. TurnedRefused proto v new step.tick in
@@ -120,7 +120,7 @@ module _ {R M : Type 0} (proto : LineRules R) (macs : Mac M) {B D : ℕ} (old : 
       → ((link : List Tick) → CutStandsFor proto told.cut link
       → step.note ≡ Some (Passed number (start_so_far link)
       (length (live_bytes_so_far rules link))))
-      → HasTaken proto macs new number setup line t step
+      → CheckerHasTaken proto macs new number setup line t step
   decide-passes number judges new step turned earliest noted =
       let link : List Tick = line ++ t ∷ [] in
       let T : Checker R M B D → Type 0 = λ v. Turned proto (record v {

@@ -4,12 +4,12 @@ use Rattle.frame_ending.specs.{HasCome.HasCome, declared.box_step.BoxStep.BoxSte
 use Rattle.check_receiver.proofs.Heads.{head-is-bad, head-isn't-short}
 use Rattle.check_receiver.proofs.Machine.{flow, still-unowed, ring-waits, assembled}
 use Rattle.check_receiver.proofs.OpenBursts.{timely, open-walks}
-use Rattle.check_receiver.specs.{Between.IsBetween, Stands.HasTaken, Turning.TurnedClear}
+use Rattle.check_receiver.specs.{Between.CheckerIsBetween, Stands.CheckerHasTaken, Turning.TurnedClear}
 use Rattle.check_receiver.specs.{Turning.dropped, declared.checker.Checker.Checker}
 use Rattle.yasir_ticks.specs.DelayRing.{ring_ticks}
 use Rattle.frame_ending.specs.LiveBytes.{up_to_byte, live_bytes, live_end}
 use Rattle.frame_ending.specs.SoFar.{last_of, start_in, start_so_far, live_bytes_in}
-use Rattle.frame_ending.specs.{SoFar.live_bytes_so_far, Stands.StandsFor as CutStandsFor}
+use Rattle.frame_ending.specs.{SoFar.live_bytes_so_far, Stands.CutStandsFor}
 use Rattle.frame_ending.specs.declared.cut.Cut.{Cut, TheVariants.Live}
 use Rattle.link_format.specs.{Tag.direction_number, declared.tag.Mac.Ghosts as Mac}
 use Rattle.line_rules.specs.{Rules.Rules, Rules.head_of, RulesLaws.IsLawful, RulesLaws.IsHeaded}
@@ -28,7 +28,7 @@ use Rattle.link_box.specs.declared.check_note.CheckNote.{CheckNote}
 use Rattle.link_box.specs.declared.check_note.CheckNote.TheVariants.{Dropped}
 use Rattle.link_box.specs.declared.check_note.DroppedWhy.TheVariants.{Head as NoHead}
 use Rattle.sequence_journal.specs.declared.numbers.TheConstants.{LIMIT}
-use Rattle.line_rules.specs.Outlet.{StandsFor as OutletStandsFor, owed_by}
+use Rattle.line_rules.specs.Outlet.{OutletStandsForTicks, owed_by}
 use Rattle.std.proofs.Common.{◌≡◌, ◌∙◌, ℕ, ◌+◌, ◌-◌, ◌<◌, ◌≤◌, true, false, List, [], ◌∷◌, ◌++◌}
 use Rattle.std.proofs.Common.{length, length-append, take, refl, sym, ap, subst, arith, ⊎_elim}
 use Rattle.std.proofs.{Common.Option, Common.Some, Common.None, lemmas.Bool.cases_lt}
@@ -43,7 +43,7 @@ module _ {R M : Type 0} (proto : LineRules R) (macs : Mac M) {B D : ℕ} (setup 
     (delay_is : D ≡ 4 + B + macs.TAG)
     (direction_is : direction_number base.direction ≡ setup.direction)
     (cuts : CutStandsFor proto base.cut (line ++ t ∷ [])) (last : ℕ) (left : List ℕ)
-    (stands : OutletStandsFor proto base.outlet left) (none : owed_by base.outlet ≡ 0)
+    (stands : OutletStandsForTicks proto base.outlet left) (none : owed_by base.outlet ≡ 0)
     (mac_stands : (text : List ℕ) × macs.stands base.mac setup.key text) where
   abbrev profile : Profile
   profile = profile_of proto macs B LIMIT setup
@@ -61,7 +61,7 @@ module _ {R M : Type 0} (proto : LineRules R) (macs : Mac M) {B D : ℕ} (setup 
       → base.earliest_start ≤ m → checked profile proto.rules state d ≡ dropped_for NoHead
       → note_tick profile proto.rules d (dropped_for NoHead) ≡ m
       → step.note ≡ Some (Dropped (start_so_far (line ++ t ∷ [])) NoHead)
-      → HasTaken proto macs new last setup line t step
+      → CheckerHasTaken proto macs new last setup line t step
   drops emissions d come free is now noted =
       let gone : Checker R M B D = dropped base clear.ring in
       let ring_is : ring_ticks clear.ring ≡ [] ++ silent (D - length {A = Tick} []) =
@@ -93,14 +93,14 @@ module _ {R M : Type 0} (proto : LineRules R) (macs : Mac M) {B D : ℕ} (setup 
 
 module _ {R M : Type 0} (proto : LineRules R) (macs : Mac M) {B D : ℕ} (old : Checker R M B D)
     (last : ℕ) (setup : Setup) (line : List Tick) (cut : Cut)
-    (between : IsBetween proto macs old last setup line Silent cut) (new : Checker R M B D)
+    (between : CheckerIsBetween proto macs old last setup line Silent cut) (new : Checker R M B D)
     (step : BoxStep CheckNote) (clear : TurnedClear proto old new step.tick)
     (noted : step.note ≡ Some (Dropped (start_so_far (line ++ Silent ∷ [])) NoHead)) where
   -- The second silent tick in a row comes after a header that is too short.
   pub drop-silent : (d : Burst) → between.walks.waiting ≡ Some d
       → length line ≡ live_end proto.rules d + 1
       → length (live_bytes proto.rules d) < proto.rules.header_len
-      → HasTaken proto macs new last setup line Silent step
+      → CheckerHasTaken proto macs new last setup line Silent step
   drop-silent d is second short =
       let profile : Profile = profile_of proto macs B LIMIT setup in
       let state : CheckState = record { floor = last; earliest_start = old.earliest_start } in
@@ -149,7 +149,7 @@ bad-now profile rules lawful headed d m b may begun open' good bad =
 
 module _ {R M : Type 0} (proto : LineRules R) (macs : Mac M) {B D : ℕ} (old : Checker R M B D)
     (last : ℕ) (setup : Setup) (line : List Tick) (b : ℕ)
-    (between : IsBetween proto macs old last setup line (Byte b) (Live b)) (mac : M)
+    (between : CheckerIsBetween proto macs old last setup line (Byte b) (Live b)) (mac : M)
     (new : Checker R M B D) (step : BoxStep CheckNote)
     (clear : TurnedClear proto (record old { mac = mac }) new step.tick)
     (noted : step.note ≡ Some (Dropped (start_so_far (line ++ Byte b ∷ [])) NoHead))
@@ -157,7 +157,7 @@ module _ {R M : Type 0} (proto : LineRules R) (macs : Mac M) {B D : ℕ} (old : 
     (mac_stands : (text : List ℕ) × macs.stands mac setup.key text) where
   -- The live byte that makes the header bad comes.
   pub drop-live : (d : Burst) → between.walks.waiting ≡ Some d
-      → HasTaken proto macs new last setup line (Byte b) step
+      → CheckerHasTaken proto macs new last setup line (Byte b) step
   drop-live d is =
       let rules : Rules = proto.rules in
       let profile : Profile = profile_of proto macs B LIMIT setup in

@@ -1,8 +1,8 @@
 -- A live byte enters the ring.
 use Rattle.frame_ending.specs.{Causal.going_on, declared.box_step.BoxStep.BoxStep}
 use Rattle.check_receiver.proofs.{Machine.assembled, OpenBursts.open-walks, OpenBursts.moved}
-use Rattle.check_receiver.{proofs.Settled.open-stays, specs.Between.IsBetween, specs.Phases.is_open}
-use Rattle.check_receiver.specs.{Phases.passes_in, Stands.MacHolds, Stands.HasTaken, Turning.Turned}
+use Rattle.check_receiver.{proofs.Settled.open-stays, specs.Between.CheckerIsBetween, specs.Phases.is_open}
+use Rattle.check_receiver.specs.{Phases.passes_in, Stands.MacHolds, Stands.CheckerHasTaken, Turning.Turned}
 use Rattle.check_receiver.specs.{Turning.with_until, declared.checker.Checker.Checker}
 use Rattle.yasir_ticks.specs.DelayRing.{ring_ticks}
 use Rattle.frame_ending.specs.{LiveBytes.live_bytes, SoFar.live_bytes_in, SoFar.live_bytes_so_far}
@@ -27,7 +27,7 @@ use Rattle.yasir_ticks.specs.declared.tick.Tick.{Tick, TheVariants.Byte}
 
 module _ {R M : Type 0} (proto : LineRules R) (macs : Mac M) {B D : ℕ} (old : Checker R M B D)
     (last : ℕ) (setup : Setup) (line : List Tick) (b : ℕ)
-    (between : IsBetween proto macs old last setup line (Byte b) (Live b)) (mac : M) (n : ℕ)
+    (between : CheckerIsBetween proto macs old last setup line (Byte b) (Live b)) (mac : M) (n : ℕ)
     (new : Checker R M B D) (step : BoxStep CheckNote)
     (turned : Turned proto (with_until n (record old { mac = mac })) new (Byte b) step.tick)
     (until : D ≤ 64 → n ≡ D) (noted : step.note ≡ None)
@@ -35,7 +35,7 @@ module _ {R M : Type 0} (proto : LineRules R) (macs : Mac M) {B D : ℕ} (old : 
     (d : Burst) (is : between.walks.waiting ≡ Some d)
     (mac_stands : (text : List ℕ) × macs.stands mac setup.key text)
     (mac_holds : MacHolds proto macs setup mac old.arriving (going_on d (length line) b)) where
-  pub live-taken : is_open old.phase ≡ true → HasTaken proto macs new last setup line (Byte b) step
+  pub live-taken : is_open old.phase ≡ true → CheckerHasTaken proto macs new last setup line (Byte b) step
   live-taken waits =
       let rules : Rules = proto.rules in
       let m : ℕ = length line in
@@ -89,7 +89,7 @@ module _ {R M : Type 0} (proto : LineRules R) (macs : Mac M) {B D : ℕ} (old : 
 
 module _ {R M : Type 0} (proto : LineRules R) (macs : Mac M) {B D : ℕ} (old : Checker R M B D)
     (last : ℕ) (setup : Setup) (line : List Tick) (b : ℕ)
-    (between : IsBetween proto macs old last setup line (Byte b) (Live b)) (mac : M)
+    (between : CheckerIsBetween proto macs old last setup line (Byte b) (Live b)) (mac : M)
     (d : Burst) (is : between.walks.waiting ≡ Some d)
     (update : (key text : List ℕ) → macs.stands old.mac key text
     → macs.stands mac key (text ++ b ∷ [])) where

@@ -1,13 +1,13 @@
 -- The bytes of a fill, which leave while ticks come that begin no burst.
 use Rattle.frame_ending.specs.{Answered.answered, declared.box_step.BoxStep.BoxStep}
 use Rattle.check_receiver.proofs.{Beginnings.one-taken, Resting.rest-taken}
-use Rattle.check_receiver.specs.Between.{IsBetween}
+use Rattle.check_receiver.specs.Between.{CheckerIsBetween}
 use Rattle.check_receiver.specs.Phases.{is_open, passes_in, settled}
-use Rattle.check_receiver.specs.{Runs.BeginsNone, Runs.HasTakenRun, Stands.StandsAt, Turning.Turned}
+use Rattle.check_receiver.specs.{Runs.BeginsNone, Runs.CheckerHasTakenRun, Stands.CheckerStandsAt, Turning.Turned}
 use Rattle.check_receiver.specs.declared.{checker.Checker.Checker, phase.Phase.Phase}
 use Rattle.check_receiver.specs.declared.phase.Phase.TheVariants.{Idle, Open, Leaving}
 use Rattle.frame_ending.proofs.Cutting.{cut-pass, cut-go_on}
-use Rattle.frame_ending.specs.{Cuts.cut_of, SoFar.quiet_so_far, Stands.StandsFor as CutStandsFor}
+use Rattle.frame_ending.specs.{Cuts.cut_of, SoFar.quiet_so_far, Stands.CutStandsFor}
 use Rattle.frame_ending.specs.declared.{burst_cut.BurstCut.BurstCut, cut.Cut.Cut}
 use Rattle.link_format.specs.declared.tag.Mac.{Ghosts as Mac}
 use Rattle.line_rules.specs.{Rules.Rules, declared.line_rules.LineRules.Ghosts as LineRules}
@@ -59,7 +59,7 @@ still-first [] (suc n) none = refl
 still-first (t ∷ live) n none = absurd (omega arith)
 
 module _ {R M : Type 0} (proto : LineRules R) (macs : Mac M) {B D : ℕ} (old : Checker R M B D)
-    (last : ℕ) (setup : Setup) (line : List Tick) (stands : StandsAt proto macs old last setup line)
+    (last : ℕ) (setup : Setup) (line : List Tick) (stands : CheckerStandsAt proto macs old last setup line)
     (cut : BurstCut R) (new : Checker R M B D) (answer : Tick)
     (turned : Turned proto (record old { cut = cut }) new Silent answer) (gone : old.until ≡ 0) where
   -- If bytes of a fill are owed, one of them leaves.
@@ -77,9 +77,9 @@ module _ {R M : Type 0} (proto : LineRules R) (macs : Mac M) {B D : ℕ} (old : 
   pub fill-taken : (t : Tick) (told : Cut) → cut_of proto.rules line t ≡ told
       → CutStandsFor proto cut (line ++ t ∷ []) → is_open old.phase ≡ false
       → BeginsNone proto.rules line t
-      → HasTakenRun proto macs new last setup line (t ∷ []) (answer ∷ [])
+      → CheckerHasTakenRun proto macs new last setup line (t ∷ []) (answer ∷ [])
   fill-taken t told is cuts closed begins =
-      let between : IsBetween proto macs (record old { cut = cut }) last setup line t told =
+      let between : CheckerIsBetween proto macs (record old { cut = cut }) last setup line t told =
       record {
         word_is = stands.word_is;
         wide = stands.wide;

@@ -5,16 +5,16 @@ use Rattle.check_receiver.proofs.Machine.{waiting-some, ring-waits, assembled}
 use Rattle.check_receiver.proofs.OpenBursts.{open-walks, Moved, moved}
 use Rattle.check_receiver.{proofs.Settled.open-stays, specs.Phases.is_open, specs.Phases.passes_in}
 use Rattle.check_receiver.specs.declared.phase.Phase.TheVariants.{Leaving}
-use Rattle.check_receiver.specs.{Arrivals.bytes_come, Between.IsBetween, Between.IsWhole}
+use Rattle.check_receiver.specs.{Arrivals.bytes_come, Between.CheckerIsBetween, Between.BurstIsWhole}
 use Rattle.check_receiver.specs.Checkings.{PassesWith}
-use Rattle.check_receiver.specs.Stands.{MacHolds, Walks, HasTaken}
+use Rattle.check_receiver.specs.Stands.{MacHolds, CheckerWalks, CheckerHasTaken}
 use Rattle.check_receiver.specs.Turning.{Turned, TurnedRefused, refused as refused_with}
 use Rattle.check_receiver.specs.declared.{arriving.Arriving.Arriving, checker.Checker.Checker}
 use Rattle.yasir_ticks.specs.DelayRing.{ring_ticks}
 use Rattle.frame_ending.proofs.{Dividing.longer-line, Running.extra-tick}
 use Rattle.frame_ending.specs.{Cuts.cut_of, LiveBytes.live_bytes, LiveBytes.live_end}
 use Rattle.frame_ending.specs.SoFar.{last_burst, live_bytes_in, live_bytes_so_far, start_in}
-use Rattle.frame_ending.specs.{SoFar.start_so_far, Stands.StandsFor as CutStandsFor}
+use Rattle.frame_ending.specs.{SoFar.start_so_far, Stands.CutStandsFor}
 use Rattle.frame_ending.specs.{Stands.ticks_taken as ticks_cut, declared.cut.Cut.TheVariants.Extra}
 use Rattle.link_format.specs.{Tag.direction_number, declared.tag.Mac.Ghosts as Mac}
 use Rattle.line_rules.specs.Rules.{Rules, lacking_of}
@@ -37,7 +37,7 @@ use Rattle.link_box.specs.declared.check_note.CheckNote.TheVariants.{Passed, Ref
 use Rattle.link_box.specs.declared.check_note.RefusedWhy.{RefusedWhy}
 use Rattle.link_box.specs.declared.check_note.RefusedWhy.TheVariants.{Trailer}
 use Rattle.sequence_journal.specs.declared.numbers.TheConstants.{LIMIT}
-use Rattle.line_rules.{proofs.Standing.stands-unowed, specs.Outlet.Refuses, specs.Outlet.owed_by}
+use Rattle.line_rules.{proofs.Standing.stands-unowed, specs.Outlet.OutletRefuses, specs.Outlet.owed_by}
 use Rattle.std.proofs.Common.{◌≡◌, ◌∙◌, ℕ, ◌+◌, ◌-◌, ◌<◌, ◌≤◌, ◌==◌, Bool, true, false, List, []}
 use Rattle.std.proofs.Common.{◌∷◌, ◌++◌, length, length-append, take, drop, get_or, refl, sym, ap}
 use Rattle.std.proofs.Common.{subst, arith, Option, Some, None, IfSome}
@@ -63,7 +63,7 @@ pub record Hears {R M : Type 0} (proto : LineRules R) (macs : Mac M) {B D : ℕ}
   pub one_less : old.until ≡ before - 1
   pub mac : M
   pub arriving : Arriving B
-  pub walks : Walks proto macs B D last old.earliest_start true (passes_in old.phase) mac arriving
+  pub walks : CheckerWalks proto macs B D last old.earliest_start true (passes_in old.phase) mac arriving
       old.ring before old.outlet setup line
   pub mac_stands : (text : List ℕ) × macs.stands old.mac setup.key text
   pub burst : Burst
@@ -72,12 +72,12 @@ pub record Hears {R M : Type 0} (proto : LineRules R) (macs : Mac M) {B D : ℕ}
 module _ {R M : Type 0} (proto : LineRules R) (macs : Mac M) {B D : ℕ} (old : Checker R M B D)
     (last : ℕ) (setup : Setup) (line : List Tick) (t : Tick) where
   abbrev pub hears-between : (b : ℕ)
-      → (between : IsBetween proto macs old last setup line t (Extra b)) → is_open old.phase ≡ true
+      → (between : CheckerIsBetween proto macs old last setup line t (Extra b)) → is_open old.phase ≡ true
       → (arriving : Arriving B) (mac : M)
       → ((text : List ℕ) × macs.stands mac setup.key text)
       → Hears proto macs (record old { arriving = arriving; mac = mac }) last setup line t b
   hears-between b between waits arriving mac mac_stands =
-      let W : Bool → Type 0 = λ w. Walks proto macs B D last old.earliest_start w
+      let W : Bool → Type 0 = λ w. CheckerWalks proto macs B D last old.earliest_start w
       (passes_in old.phase) old.mac old.arriving old.ring between.before old.outlet setup line in
       let walks : W true = subst W waits between.walks in
       let d = waiting-some walks.waiting (sym walks.waits_is) in
@@ -98,7 +98,7 @@ module _ {R M : Type 0} (proto : LineRules R) (macs : Mac M) {B D : ℕ} (old : 
         waits_is = d.1;
       }
 
-  pub hears-whole : (whole : IsWhole proto macs old last setup line t)
+  pub hears-whole : (whole : BurstIsWhole proto macs old last setup line t)
       → Hears proto macs old last setup line t whole.byte
   hears-whole whole =
       let d = waiting-some whole.walks.waiting (sym whole.walks.waits_is) in
@@ -249,7 +249,7 @@ module _ {R M : Type 0} (proto : LineRules R) (macs : Mac M) {B D : ℕ} (old : 
       → Turned proto old new Silent step.tick → step.note ≡ None → is_open old.phase ≡ true
       → live_end rules d + pause_len ≤ m → m + 2 < live_end rules d + D
       → MacHolds proto macs setup old.mac old.arriving e
-      → HasTaken proto macs new last setup line t step
+      → CheckerHasTaken proto macs new last setup line t step
   trailer-taken new step turned noted waits behind before mac_holds' =
       let turn' = turn old new step.tick turned refl refl refl in
       let delay_is = hears.delay_is in
@@ -282,7 +282,7 @@ module _ {R M : Type 0} (proto : LineRules R) (macs : Mac M) {B D : ℕ} (old : 
           earliest_start = live_end rules e + delay profile + owed rules e;
         })
         false after (drop 1 live) 0 None (get_or live 0 Silent) (Some (Refused e.start why))
-        → HasTaken proto macs new last setup line t step
+        → CheckerHasTaken proto macs new last setup line t step
     refused-taken goes =
         let base : Checker R M B D = refused_with old refuses.outlet new.earliest_start in
         let turned = refuses.turned in
@@ -308,14 +308,14 @@ module _ {R M : Type 0} (proto : LineRules R) (macs : Mac M) {B D : ℕ} (old : 
         (omega arith) (omega arith) refl hears.mac_stands tt
         (λ stays some. subst (λ v. proto.stands v (after ++ bytes_in (drop 1 live)))
         (sym turn'.keeps)
-        (subst (λ x. Refuses proto refuses.outlet x)
+        (subst (λ x. OutletRefuses proto refuses.outlet x)
         (ap (λ o. live_bytes_in rules o) next-last
         ∙ (extra-bytes it b is-extra ∙ sym (bytes-next it ∙ bytes-of it)))
         (refuses.knows (line ++ t ∷ []) hears.cuts))) tt
 
     -- It is refused because the byte comes inside the pause.
     pub break-taken : why ≡ Trailer → m < live_end rules d + pause_len
-        → HasTaken proto macs new last setup line t step
+        → CheckerHasTaken proto macs new last setup line t step
     break-taken is few =
         let G : RefusedWhy → Type 0 = λ w. Goes profile rules setup.floor line (Byte b)
         (record {
@@ -329,7 +329,7 @@ module _ {R M : Type 0} (proto : LineRules R) (macs : Mac M) {B D : ℕ} (old : 
     pub refuse-taken : old.until ≡ 1
         → whole_verdict profile rules last (live_bytes rules e) (trailer_of profile rules e)
         ≡ refused why
-        → HasTaken proto macs new last setup line t step
+        → CheckerHasTaken proto macs new last setup line t step
     refuse-taken last_place verdict =
         let long = until-long in
         let delay_is = hears.delay_is in
@@ -399,7 +399,7 @@ module _ {R M : Type 0} (proto : LineRules R) (macs : Mac M) {B D : ℕ} (old : 
           → new.earliest_start ≡ ticks_cut old.cut + old.until
           → step.note ≡ Some (Passed number (start_so_far (line ++ t ∷ []))
           (length (live_bytes_so_far rules (line ++ t ∷ []))))
-          → HasTaken proto macs new number setup line t step
+          → CheckerHasTaken proto macs new number setup line t step
       pass-taken new step turned earliest noted =
           let base : Checker R M B D = record old {
             phase = Leaving true;

@@ -1,7 +1,7 @@
 -- What a step does to the journal and its disk, as a step of a box of a link, and what a run does.
 use Rattle.frame_ending.specs.declared.box_step.BoxStep.{BoxStep}
-use Rattle.check_receiver.specs.{Boxed.check_walking, Checkings.CommitsNoted}
-use Rattle.check_receiver.specs.{Checkings.KeepsJournal, Runs.HasTakenRun, Stands.StandsAt}
+use Rattle.check_receiver.specs.{Boxed.check_walking, Checkings.CheckerCommitsNoted}
+use Rattle.check_receiver.specs.{Checkings.CheckerKeepsJournal, Runs.CheckerHasTakenRun, Stands.CheckerStandsAt}
 use Rattle.check_receiver.specs.declared.checker.Checker.{Checker}
 use Rattle.link_format.specs.declared.tag.Mac.{Ghosts as Mac}
 use Rattle.line_rules.specs.declared.line_rules.LineRules.{Ghosts as LineRules}
@@ -19,7 +19,7 @@ use Rattle.yasir_ticks.specs.declared.tick.Tick.{Tick}
 -- A step doesn't lower the journal's floor.
 pub commits-rise : {S : Type 0} (d : SlotDisk S) (old new : Journal) (disk_old disk_new : S)
     (note : Option CheckNote)
-    → CommitsNoted d old new disk_old disk_new note → journal_floor old ≤ journal_floor new
+    → CheckerCommitsNoted d old new disk_old disk_new note → journal_floor old ≤ journal_floor new
 commits-rise d old new disk_old disk_new None h = omega (arith, ap journal_floor h.0)
 commits-rise d old new disk_old disk_new (Some (Refused start why)) h =
     omega (arith, ap journal_floor h.0)
@@ -30,7 +30,7 @@ commits-rise d old new disk_old disk_new (Some (Passed number start len)) h =
 
 module _ {S : Type 0} (d : SlotDisk S) (old new : Journal) (disk_old disk_new : S) where
   pub keeps-ok : (step : BoxStep CheckNote)
-      → KeepsJournal d old new disk_old disk_new (Ok step)
+      → CheckerKeepsJournal d old new disk_old disk_new (Ok step)
       → KeepsBoxed d old new disk_old disk_new (Ok step)
   keeps-ok step keeps = record {
     link = keeps.link;
@@ -46,7 +46,7 @@ module _ {S : Type 0} (d : SlotDisk S) (old new : Journal) (disk_old disk_new : 
   }
 
   pub keeps-err : (fault : JournalFault)
-      → KeepsJournal d old new disk_old disk_new (Err fault)
+      → CheckerKeepsJournal d old new disk_old disk_new (Err fault)
       → KeepsBoxed {A = BoxStep CheckNote} d old new disk_old disk_new (Err fault)
   keeps-err fault keeps = record {
     link = keeps.link;
@@ -65,12 +65,12 @@ module _ {R M : Type 0} (proto : LineRules R) (macs : Mac M) {B D : ℕ}
     (old new : Checker R M B D) where
   -- A run that the receiver takes is a run that a box takes, if the ticks are the same.
   pub takes-run : (run answer front told : List Tick) → run ≡ front → answer ≡ told
-      → ((last : ℕ) (setup : Setup) (line : List Tick) → StandsAt proto macs old last setup line
-      → HasTakenRun proto macs new last setup line run answer)
-      → TakesRun (check_walking proto macs B) (λ value. StandsAt proto macs value) old new front
+      → ((last : ℕ) (setup : Setup) (line : List Tick) → CheckerStandsAt proto macs old last setup line
+      → CheckerHasTakenRun proto macs new last setup line run answer)
+      → TakesRun (check_walking proto macs B) (λ value. CheckerStandsAt proto macs value) old new front
       told
   takes-run run answer front told run_is answer_is takes =
-      takes-as (check_walking proto macs B) (λ value. StandsAt proto macs value) old new run answer
+      takes-as (check_walking proto macs B) (λ value. CheckerStandsAt proto macs value) old new run answer
       front told run_is answer_is
       (λ last setup line stands.
       let taken = takes last setup line stands in

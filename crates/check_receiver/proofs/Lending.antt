@@ -1,12 +1,12 @@
 -- The bytes that leave in a run of ticks.
 use Rattle.frame_ending.proofs.BurstRuns.{run-none}
 use Rattle.frame_ending.specs.Answered.{answered}
-use Rattle.check_receiver.specs.Runs.{HasTakenRun, IsFront}
-use Rattle.check_receiver.specs.{Stands.StandsAt, declared.checker.Checker.Checker}
+use Rattle.check_receiver.specs.Runs.{CheckerHasTakenRun, CheckerIsFront}
+use Rattle.check_receiver.specs.{Stands.CheckerStandsAt, declared.checker.Checker.Checker}
 use Rattle.yasir_ticks.proofs.Marks.{ticks-length}
 use Rattle.yasir_ticks.specs.DelayRing.{ring_ticks, marked_ticks, AreAlike}
 use Rattle.yasir_ticks.specs.declared.delay_ring.DelayRing.{DelayRing}
-use Rattle.frame_ending.specs.Stands.{StandsFor as CutStandsFor}
+use Rattle.frame_ending.specs.Stands.{CutStandsFor}
 use Rattle.frame_ending.specs.declared.burst_cut.BurstCut.{BurstCut}
 use Rattle.link_format.specs.declared.tag.Mac.{Ghosts as Mac}
 use Rattle.line_rules.specs.declared.line_rules.LineRules.{Ghosts as LineRules}
@@ -107,7 +107,7 @@ first-along (q ∷ Q) E some = refl
 -- ---- what leaves while bytes come
 pub front-along : (Q E : List Tick) (D k most : ℕ) (x : List ℕ) → length Q ≡ D → most ≡ min k D
     → length x < D → length x ≤ most → map (λ b. Byte b) x ≡ take (length x) Q
-    → (length x < most → get_or Q (length x) Silent ≡ Silent) → IsFront (Q ++ E) k x
+    → (length x < most → get_or Q (length x) Silent ≡ Silent) → CheckerIsFront (Q ++ E) k x
 front-along Q E D k most x whole is short within bytes first = record {
   within = omega arith;
   bytes = bytes ∙ sym (take-append-le (length x) Q E (omega arith));
@@ -123,7 +123,7 @@ front-along Q E D k most x whole is short within bytes first = record {
 -- A whole ring of bytes leaves, and then the bytes that come.
 pub whole-along : (Q : List Tick) (D k : ℕ) (x bytes : List ℕ) → length Q ≡ D → length x ≡ D
     → D ≤ k → k ≤ length bytes → map (λ b. Byte b) x ≡ take (length x) Q
-    → IsFront (Q ++ map (λ b. Byte b) bytes) k (x ++ take (k - D) bytes)
+    → CheckerIsFront (Q ++ map (λ b. Byte b) bytes) k (x ++ take (k - D) bytes)
 whole-along Q D k x bytes whole size more few front =
     let behind : List ℕ = take (k - D) bytes in
     let E : List Tick = map (λ b. Byte b) bytes in
@@ -161,11 +161,11 @@ not-owed n none =
 -- The receiver takes a run of no tick.
 pub none-taken : {R M : Type 0} (proto : LineRules R) (macs : Mac M) {B D : ℕ}
     (old : Checker R M B D) (last : ℕ) (setup : Setup) (line : List Tick)
-    → StandsAt proto macs old last setup line → (cut : BurstCut R)
+    → CheckerStandsAt proto macs old last setup line → (cut : BurstCut R)
     → CutStandsFor proto cut (line ++ [])
-    → HasTakenRun proto macs (record old { cut = cut }) last setup line [] []
+    → CheckerHasTakenRun proto macs (record old { cut = cut }) last setup line [] []
 none-taken proto macs {B} old last setup line stands cut cuts =
-    let P : List Tick → Type 0 = λ l. StandsAt proto macs (record old { cut = cut }) last setup l in
+    let P : List Tick → Type 0 = λ l. CheckerStandsAt proto macs (record old { cut = cut }) last setup l in
     let C : List Tick → Type 0 = λ l. CutStandsFor proto cut l in
     record {
       stands = subst P (sym (append-nil line)) (record {
@@ -184,11 +184,11 @@ none-taken proto macs {B} old last setup line stands cut cuts =
 -- The receiver takes a run of no tick if nothing has changed.
 pub same-taken : {R M : Type 0} (proto : LineRules R) (macs : Mac M) {B D : ℕ}
     (old : Checker R M B D) (last : ℕ) (setup : Setup) (line : List Tick)
-    → StandsAt proto macs old last setup line → (left : List ℕ) → left ≡ []
-    → HasTakenRun proto macs old last setup line [] (answered 0 left)
+    → CheckerStandsAt proto macs old last setup line → (left : List ℕ) → left ≡ []
+    → CheckerHasTakenRun proto macs old last setup line [] (answered 0 left)
 same-taken proto macs {B} old last setup line stands left empty =
-    let P : List Tick → Type 0 = λ l. StandsAt proto macs old last setup l in
-    let A : List ℕ → Type 0 = λ y. HasTakenRun proto macs old last setup line [] (answered 0 y) in
+    let P : List Tick → Type 0 = λ l. CheckerStandsAt proto macs old last setup l in
+    let A : List ℕ → Type 0 = λ y. CheckerHasTakenRun proto macs old last setup line [] (answered 0 y) in
     subst A (sym empty) (record {
       stands = subst P (sym (append-nil line)) stands;
       answers = run-none (checker (profile_of proto macs B LIMIT setup) proto.rules) brief_note

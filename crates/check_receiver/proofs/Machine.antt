@@ -1,10 +1,10 @@
 -- How the parts of a receiver fit together after a step.
 use Rattle.frame_ending.specs.{Answers.AnswersTick, declared.box_step.BoxStep.BoxStep}
 use Rattle.check_receiver.proofs.Settled.{IsIn, settles, StaysIdle}
-use Rattle.check_receiver.specs.{Phases.is_open, Phases.passes_in, Stands.MacHolds, Stands.HasTaken}
+use Rattle.check_receiver.specs.{Phases.is_open, Phases.passes_in, Stands.MacHolds, Stands.CheckerHasTaken}
 use Rattle.check_receiver.specs.{Turning.Turned, declared.checker.Checker.Checker}
 use Rattle.{check_receiver.specs.declared.phase.Phase.Phase, yasir_ticks.specs.DelayRing.ring_ticks}
-use Rattle.frame_ending.specs.Stands.{StandsFor as CutStandsFor}
+use Rattle.frame_ending.specs.Stands.{CutStandsFor}
 use Rattle.link_format.specs.{Tag.direction_number, declared.tag.Mac.Ghosts as Mac}
 use Rattle.line_rules.specs.declared.line_rules.LineRules.{Ghosts as LineRules}
 use Rattle.link_format.specs.{Profile.Profile, Profile.profile_of, Profile.IsWordLen, Setup.Setup}
@@ -16,7 +16,7 @@ use Rattle.link_box.specs.{Checking.brief_note, Going.Goes, Leaving.is_none, Tur
 use Rattle.link_box.specs.Verdicts.{CheckState}
 use Rattle.link_box.specs.declared.check_note.CheckNote.{CheckNote}
 use Rattle.sequence_journal.specs.declared.numbers.TheConstants.{LIMIT}
-use Rattle.line_rules.specs.Outlet.{StandsFor as OutletStandsFor, Refuses, owed_by}
+use Rattle.line_rules.specs.Outlet.{OutletStandsForTicks, OutletRefuses, owed_by}
 use Rattle.std.proofs.Common.{◌≡◌, ◌∙◌, ℕ, ◌+◌, ◌-◌, ◌<◌, ◌≤◌, ◌==◌, true, false, List, [], ◌∷◌}
 use Rattle.std.proofs.Common.{◌++◌, length, drop, get_or, refl, sym, ap, subst, arith, Option, Some}
 use Rattle.std.proofs.Common.{None, IfSome, IfNone, is_some}
@@ -54,12 +54,12 @@ module _ {R M : Type 0} (proto : LineRules R) (macs : Mac M) {B D : ℕ} where
 
   module _ (base new : Checker R M B D) (entering answer : Tick)
       (turned : Turned proto base new entering answer) (left : List ℕ) (live : List Tick)
-      (stands : OutletStandsFor proto base.outlet left)
+      (stands : OutletStandsForTicks proto base.outlet left)
       (ring_is : ring_ticks base.ring ≡ live ++ silent (D - length live)) where
     pub flow : (0 < length live → owed_by base.outlet ≡ 0)
         → (0 < length live → (base.until == 0) ≡ is_none (drop 1 live))
         → (passes_in base.phase ≡ false → 0 < length live
-        → Refuses proto base.outlet (left ++ bytes_in live))
+        → OutletRefuses proto base.outlet (left ++ bytes_in live))
         → Flows proto (passes_in base.phase) left live (owed_by base.outlet) base.outlet new.outlet
         answer
     flow unowed last knows =
@@ -100,19 +100,19 @@ module _ {R M : Type 0} (proto : LineRules R) (macs : Mac M) {B D : ℕ} where
         → Goes (profile_of proto macs B LIMIT setup) proto.rules setup.floor line t
         (record { floor = number; earliest_start = base.earliest_start }) (passes_in base.phase) left
         live (owed_by new.outlet) waiting step.tick told
-        → step.note ≡ told → OutletStandsFor proto new.outlet left
+        → step.note ≡ told → OutletStandsForTicks proto new.outlet left
         → ring_ticks new.ring ≡ live ++ silent (D - length live) → length live ≤ D
         → base.until ≡ length live → is_open base.phase ≡ is_some waiting
         → ((text : List ℕ) × macs.stands base.mac setup.key text)
         → IfSome waiting (λ d. MacHolds proto macs setup base.mac base.arriving d)
         → IfNone waiting (passes_in base.phase ≡ false → 0 < length live
-        → Refuses proto new.outlet (left ++ bytes_in live))
+        → OutletRefuses proto new.outlet (left ++ bytes_in live))
         → StaysIdle base.phase base.until (owed_by new.outlet)
-        → HasTaken proto macs new number setup line t step
+        → CheckerHasTaken proto macs new number setup line t step
     assembled base new entering step turned word_is wide delay_is direction_is cuts number left live
         waiting told goes noted stands ring_is few until_is waits_is mac_stands mac_holds
         knows stays =
-        let P : Checker R M B D → Type 0 = λ v. HasTaken proto macs v number setup line t step in
+        let P : Checker R M B D → Type 0 = λ v. CheckerHasTaken proto macs v number setup line t step in
         let N : Option CheckNote → Type 0 = λ n. AnswersTick
         (checker (profile_of proto macs B LIMIT setup) proto.rules) brief_note
         (at_floor setup.floor) line t step.tick n in

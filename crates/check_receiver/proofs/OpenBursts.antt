@@ -1,5 +1,5 @@
 -- The burst whose verdict is open, as the receiver holds it.
-use Rattle.check_receiver.{proofs.Machine.some-left, specs.Phases.passes_in, specs.Stands.Walks}
+use Rattle.check_receiver.{proofs.Machine.some-left, specs.Phases.passes_in, specs.Stands.CheckerWalks}
 use Rattle.check_receiver.specs.{Turning.Turned}
 use Rattle.check_receiver.specs.declared.{arriving.Arriving.Arriving, checker.Checker.Checker}
 use Rattle.yasir_ticks.specs.{DelayRing.ring_ticks, declared.delay_ring.DelayRing.DelayRing}
@@ -9,7 +9,7 @@ use Rattle.link_format.specs.{Profile.profile_of, Setup.Setup}
 use Rattle.link_box.proofs.{Flow.flows, Opened.IsOpen, Opening.leaves-front, Rings.ring-first}
 use Rattle.link_box.specs.{Holding.HasWalked, Leaving.leaves, Timely.IsTimely, Turns.HasTurned}
 use Rattle.sequence_journal.specs.declared.numbers.TheConstants.{LIMIT}
-use Rattle.line_rules.specs.Outlet.{StandsFor as OutletStandsFor, owed_by, refused_by}
+use Rattle.line_rules.specs.Outlet.{OutletStandsForTicks, owed_by, refused_by}
 use Rattle.line_rules.specs.declared.outlet.Outlet.{Outlet}
 use Rattle.std.proofs.Common.{◌≡◌, ◌∙◌, ℕ, ◌-◌, ◌<◌, ◌≤◌, ◌==◌, Bool, false, List, ◌++◌}
 use Rattle.std.proofs.Common.{length, take, get_or, sym, ap, subst, arith, ⊎_elim, Option, Some}
@@ -28,7 +28,7 @@ timely proto macs B setup wide =
 pub open-walks : {R M : Type 0} {proto : LineRules R} {macs : Mac M} {B D last earliest : ℕ}
     {waits passes : Bool} {mac : M} {arriving : Arriving B} {ring : DelayRing D} {until : ℕ}
     {outlet : Outlet R} {setup : Setup} {line : List Tick}
-    (walks : Walks proto macs B D last earliest waits passes mac arriving ring until outlet setup
+    (walks : CheckerWalks proto macs B D last earliest waits passes mac arriving ring until outlet setup
     line)
     → 2 ≤ B → (d : Burst) → walks.waiting ≡ Some d
     → IsOpen proto (profile_of proto macs B LIMIT setup) setup.floor
@@ -57,14 +57,14 @@ turned-any proto old new p q x answer (Byte b) turned =
 
 pub record Moved {R : Type 0} (proto : LineRules R) (left : List ℕ) (live : List Tick)
     (old new : Outlet R) (answer : Tick) : Type 0 where
-  pub stands : OutletStandsFor proto new (left ++ bytes_in (take 1 live))
+  pub stands : OutletStandsForTicks proto new (left ++ bytes_in (take 1 live))
   pub answer_is : answer ≡ get_or live 0 Silent
   pub unowed : owed_by new ≡ 0
   pub keeps : refused_by new ≡ refused_by old
 
 pub moved : {R M : Type 0} (proto : LineRules R) {B D : ℕ} (base new : Checker R M B D)
     (entering answer : Tick) → Turned proto base new entering answer
-    → (left : List ℕ) (live : List Tick) → OutletStandsFor proto base.outlet left
+    → (left : List ℕ) (live : List Tick) → OutletStandsForTicks proto base.outlet left
     → ring_ticks base.ring ≡ live ++ silent (D - length live) → owed_by base.outlet ≡ 0
     → (base.until == 0) ≡ false → 1 < length live
     → Moved proto left live base.outlet new.outlet answer
@@ -79,7 +79,7 @@ moved proto {B} {D} base new entering answer turned left live stands ring_is non
     let flow = flows proto false left live base.outlet new.outlet false answer (λ there. none)
     (λ there. sym (some-left live more)) (λ there at_last refused. absurd cc) turn in
     record {
-      stands = subst (λ x. OutletStandsFor proto new.outlet x) (flow.after_is none) flow.stands;
+      stands = subst (λ x. OutletStandsForTicks proto new.outlet x) (flow.after_is none) flow.stands;
       answer_is = flow.answer_is
           ∙ (ap (λ n. get_or (leaves proto.rules false left live n) 0 Silent) none
           ∙ leaves-front proto.rules false left live 0 (omega arith));

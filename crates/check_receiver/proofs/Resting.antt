@@ -4,8 +4,8 @@ use Rattle.frame_ending.specs.{HasCome.HasCome, declared.box_step.BoxStep.BoxSte
 use Rattle.check_receiver.proofs.Machine.{waiting-none, until-last, flow, still-unowed, ring-waits}
 use Rattle.check_receiver.proofs.{Machine.assembled, Settled.left-stays}
 use Rattle.check_receiver.specs.Phases.{is_open, passes_in}
-use Rattle.check_receiver.{proofs.OpenBursts.timely, specs.Between.IsBetween, specs.Runs.BeginsNone}
-use Rattle.check_receiver.specs.{Stands.HasTaken, Turning.Turned, declared.checker.Checker.Checker}
+use Rattle.check_receiver.{proofs.OpenBursts.timely, specs.Between.CheckerIsBetween, specs.Runs.BeginsNone}
+use Rattle.check_receiver.specs.{Stands.CheckerHasTaken, Turning.Turned, declared.checker.Checker.Checker}
 use Rattle.frame_ending.proofs.Running.{divided-running, byte-lives, byte-over}
 use Rattle.frame_ending.specs.Cuts.{cut_of}
 use Rattle.frame_ending.specs.declared.cut.Cut.{Cut, TheVariants.Live, TheVariants.Extra}
@@ -17,7 +17,7 @@ use Rattle.link_box.specs.Checking.{checker, at_floor}
 use Rattle.link_box.specs.{Holding.HasWalked, Timely.IsTimely, Verdicts.CheckState}
 use Rattle.link_box.specs.declared.check_note.CheckNote.{CheckNote}
 use Rattle.sequence_journal.specs.declared.numbers.TheConstants.{LIMIT}
-use Rattle.line_rules.specs.Outlet.{Refuses, owed_by}
+use Rattle.line_rules.specs.Outlet.{OutletRefuses, owed_by}
 use Rattle.std.proofs.Common.{◌≡◌, ◌∙◌, ◌⊎◌, ⊎_elim, ℕ, ◌-◌, false, List, [], ◌∷◌, ◌++◌, length}
 use Rattle.std.proofs.Common.{◌<◌, drop, sym, ap, subst, arith, Option, None, IfNone}
 use Rattle.std.proofs.lemmas.List.{length-drop, append-nil}
@@ -64,10 +64,10 @@ comes proto profile timely floor s line (Byte b) emissions come none =
 
 pub rest-taken : {R M : Type 0} (proto : LineRules R) (macs : Mac M) {B D : ℕ}
     (old : Checker R M B D) (last : ℕ) (setup : Setup) (line : List Tick) (t : Tick) (cut : Cut)
-    (between : IsBetween proto macs old last setup line t cut) (new : Checker R M B D)
+    (between : CheckerIsBetween proto macs old last setup line t cut) (new : Checker R M B D)
     (step : BoxStep CheckNote) → Turned proto old new Silent step.tick → step.note ≡ None
     → BeginsNone proto.rules line t → is_open old.phase ≡ false
-    → HasTaken proto macs new last setup line t step
+    → CheckerHasTaken proto macs new last setup line t step
 rest-taken proto macs {B} {D} old last setup line t cut between new step turned noted begins
     closed =
     let profile : Profile = profile_of proto macs B LIMIT setup in
@@ -79,7 +79,7 @@ rest-taken proto macs {B} {D} old last setup line t cut between new step turned 
     let walked : W None = subst W none between.walks.walked in
     let K : Option Burst → Type 0 = λ o. IfNone o (passes_in old.phase ≡ false
     → 0 < length between.walks.live
-    → Refuses proto old.outlet (between.walks.left ++ bytes_in between.walks.live)) in
+    → OutletRefuses proto old.outlet (between.walks.left ++ bytes_in between.walks.live)) in
     let knows : K None = subst K none between.walks.knows in
     let time = timely proto macs B setup between.wide in
     let until = between.one_less ∙ ap (λ k. k - 1) between.walks.until_is in

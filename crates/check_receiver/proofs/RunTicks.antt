@@ -1,7 +1,7 @@
 -- Runs of noteless ticks, joined from single ticks, and what they do to a ring.
 use Rattle.frame_ending.proofs.BurstRuns.{run-none, run-joined, run-tick}
 use Rattle.frame_ending.specs.{Answered.answered, Runs.AnswersRun, Walk.Walker}
-use Rattle.{check_receiver.specs.Runs.IsFront, line_rules.specs.Rules.Rules}
+use Rattle.{check_receiver.specs.Runs.CheckerIsFront, line_rules.specs.Rules.Rules}
 use Rattle.link_format.specs.Profile.{Profile}
 use Rattle.link_box.specs.Checking.{FullNote, checker, at_floor, brief_note}
 use Rattle.link_box.specs.{Going.Goes, Holding.HasWalked, Verdicts.CheckState}
@@ -69,7 +69,7 @@ take-along (suc k) j (q ∷ Q) E few = ap (λ l. q ∷ l) (take-along k j Q E (o
 
 -- If the first ticks are silent, silence leaves.
 front-silence : (Q : List Tick) (c k : ℕ) (x : List ℕ) → k ≤ c → c ≤ length Q
-    → take c Q ≡ silent c → IsFront Q k x → take k Q ≡ answered k x
+    → take c Q ≡ silent c → CheckerIsFront Q k x → take k Q ≡ answered k x
 front-silence Q c k [] few within is front =
     sym (take-less k c Q few) ∙ (ap (λ l. take k l) is ∙ take-silent k c few)
 front-silence [] c k (b ∷ x) few within is front = let short = front.within in absurd (omega arith)
@@ -92,7 +92,7 @@ byte-at (b ∷ y) (suc j) less is = byte-at y j (omega arith) is
 
 -- If the first ticks are bytes, these bytes leave.
 front-bytes : (Q : List Tick) (c k : ℕ) (x y : List ℕ) → k ≤ c → c ≤ length Q
-    → take c Q ≡ map (λ b. Byte b) y → IsFront Q k x → take k Q ≡ answered k x
+    → take c Q ≡ map (λ b. Byte b) y → CheckerIsFront Q k x → take k Q ≡ answered k x
 front-bytes Q c k x y few within is front =
     let size : length y ≡ c = sym (map-long y) ∙ (sym (ap length is) ∙ length-take-le c Q within) in
     let short = front.within in
@@ -115,7 +115,7 @@ front-bytes Q c k x y few within is front =
 -- If the next ticks are alike, they are what leaves.
 pub front-answered : (Q : List Tick) (c k : ℕ) (x : List ℕ) → k ≤ c → c ≤ length Q
     → (take c Q ≡ silent (length (take c Q))) ⊎ ((y : List ℕ) × (take c Q ≡ map (λ b. Byte b) y))
-    → IsFront Q k x → take k Q ≡ answered k x
+    → CheckerIsFront Q k x → take k Q ≡ answered k x
 front-answered Q c k x few within alike front =
     ⊎_elim
     (λ silence. front-silence Q c k x few within

@@ -4,8 +4,8 @@ use Rattle.check_receiver.proofs.{LiveRuns.LiveRun, LiveRuns.live-run, Machine.w
 use Rattle.check_receiver.proofs.{Machine.waiting-some, OpenBursts.timely, OpenBursts.open-walks}
 use Rattle.check_receiver.proofs.{PauseRuns.pause-run, RestRuns.idle-run, RestRuns.flow-run}
 use Rattle.check_receiver.proofs.{RunTicks.RunsTo, RunTicks.front-answered, TrailerRuns.trailer-run}
-use Rattle.check_receiver.specs.{Arrivals.bytes_come, Runs.HasTakenRun, Runs.BeginNone}
-use Rattle.check_receiver.specs.{Runs.IsFront, Runs.KeepsHeader, Stands.MacHolds, Stands.StandsAt}
+use Rattle.check_receiver.specs.{Arrivals.bytes_come, Runs.CheckerHasTakenRun, Runs.BeginNone}
+use Rattle.check_receiver.specs.{Runs.CheckerIsFront, Runs.KeepsHeader, Stands.MacHolds, Stands.CheckerStandsAt}
 use Rattle.check_receiver.proofs.Settled.{more-left, open-left}
 use Rattle.check_receiver.specs.Phases.{is_open, passes_in, LeftIn}
 use Rattle.check_receiver.specs.declared.phase.Phase.{Phase, TheVariants.Idle}
@@ -13,7 +13,7 @@ use Rattle.check_receiver.specs.declared.{arriving.Arriving.Arriving, checker.Ch
 use Rattle.yasir_ticks.specs.DelayRing.{ring_ticks, AreAlike}
 use Rattle.yasir_ticks.specs.declared.delay_ring.DelayRing.{DelayRing}
 use Rattle.frame_ending.specs.{Cuts.cuts_after, LiveBytes.live_bytes, SoFar.live_bytes_in}
-use Rattle.frame_ending.specs.{SoFar.live_bytes_so_far, Stands.StandsFor as CutStandsFor}
+use Rattle.frame_ending.specs.{SoFar.live_bytes_so_far, Stands.CutStandsFor}
 use Rattle.frame_ending.specs.declared.burst_cut.BurstCut.{BurstCut}
 use Rattle.frame_ending.specs.declared.cut.Cut.TheVariants.{Live, Extra}
 use Rattle.link_format.specs.declared.tag.Mac.{Ghosts as Mac}
@@ -27,7 +27,7 @@ use Rattle.link_box.proofs.{Opened.nothing-after, Settling.after-long}
 use Rattle.link_box.specs.{Holding.HasWalked, Holding.trailer_so_far, Timely.IsTimely}
 use Rattle.link_box.specs.Verdicts.{CheckState, after_live}
 use Rattle.sequence_journal.specs.declared.numbers.TheConstants.{LIMIT}
-use Rattle.line_rules.{proofs.Standing.stands-unowed, specs.Outlet.Refuses, specs.Outlet.owed_by}
+use Rattle.line_rules.{proofs.Standing.stands-unowed, specs.Outlet.OutletRefuses, specs.Outlet.owed_by}
 use Rattle.std.proofs.Common.{◌≡◌, ◌∙◌, ℕ, ◌+◌, ◌-◌, ◌<◌, ◌≤◌, Bool, true, false, List, [], ◌∷◌}
 use Rattle.std.proofs.Common.{◌++◌, inr, length, take, drop, map, refl, sym, ap, subst, arith}
 use Rattle.std.proofs.Common.{append_assoc, Option, Some, None, IfSome, IfNone, ⊎_elim, is_some}
@@ -54,7 +54,7 @@ ring-rest live D k few within =
     (replicate-append-replicate (D - length live) k Silent ∙ ap silent sum))
 
 module _ {R M : Type 0} (proto : LineRules R) (macs : Mac M) {B D : ℕ} (old : Checker R M B D)
-    (last : ℕ) (setup : Setup) (line : List Tick) (stands : StandsAt proto macs old last setup line)
+    (last : ℕ) (setup : Setup) (line : List Tick) (stands : CheckerStandsAt proto macs old last setup line)
     (cut : BurstCut R) where
   abbrev rules : Rules
   rules = proto.rules
@@ -87,12 +87,12 @@ module _ {R M : Type 0} (proto : LineRules R) (macs : Mac M) {B D : ℕ} (old : 
       → CutStandsFor proto cut (line ++ run) → Runs run (passes_in old.phase) y l 0 waiting answer
       → owed_by old.outlet ≡ 0
       → IfNone waiting (passes_in old.phase ≡ false → 0 < length l
-      → Refuses proto old.outlet (y ++ bytes_in l))
+      → OutletRefuses proto old.outlet (y ++ bytes_in l))
       → ring_ticks ring ≡ l ++ silent (D - length l) → length l ≤ D → until ≡ length l
       → is_open old.phase ≡ is_some waiting → ((text : List ℕ) × macs.stands mac setup.key text)
       → IfSome waiting (λ d. MacHolds proto macs setup mac arriving d)
       → LeftIn old.phase until (owed_by old.outlet)
-      → HasTakenRun proto macs
+      → CheckerHasTakenRun proto macs
       (record old {
         cut = cut;
         mac = mac;
@@ -186,7 +186,7 @@ module _ {R M : Type 0} (proto : LineRules R) (macs : Mac M) {B D : ℕ} (old : 
   -- While everything has left, silence leaves.
   pub idle-taken : (run : List Tick) → old.phase ≡ Idle → CutStandsFor proto cut (line ++ run)
       → BeginNone rules line run
-      → HasTakenRun proto macs (record old { cut = cut }) last setup line run
+      → CheckerHasTakenRun proto macs (record old { cut = cut }) last setup line run
       (silent (length run))
   idle-taken run idle cuts begin =
       let L : Phase → Type 0 = λ p. LeftIn p old.until (owed_by old.outlet) in
@@ -210,17 +210,17 @@ module _ {R M : Type 0} (proto : LineRules R) (macs : Mac M) {B D : ℕ} (old : 
   -- While no verdict is open, the outlet still knows all bytes of a refused burst while they leave.
   knows-still : (k : ℕ) → is_open old.phase ≡ false → k ≤ length live → passes_in old.phase ≡ false
       → 0 < length (drop k live)
-      → Refuses proto old.outlet ((left ++ bytes_in (take k live)) ++ bytes_in (drop k live))
+      → OutletRefuses proto old.outlet ((left ++ bytes_in (take k live)) ++ bytes_in (drop k live))
   knows-still k rests few refused some =
       let K : Option Burst → Type 0 = λ o. IfNone o (passes_in old.phase ≡ false → 0 < length live
-      → Refuses proto old.outlet (left ++ bytes_in live)) in
+      → OutletRefuses proto old.outlet (left ++ bytes_in live)) in
       let waiting = waiting-none stands.walks.waiting (sym stands.walks.waits_is ∙ rests) in
       let knows : K None = subst K waiting stands.walks.knows in
       let same : (left ++ bytes_in (take k live)) ++ bytes_in (drop k live) ≡ left ++ bytes_in live =
       append_assoc left (bytes_in (take k live)) (bytes_in (drop k live))
       ∙ ap (λ l. left ++ l) (sym (bytes_in-append (take k live) (drop k live))
       ∙ ap (λ l. bytes_in l) (take-append-drop k live)) in
-      let P : List ℕ → Type 0 = λ y. Refuses proto old.outlet y in
+      let P : List ℕ → Type 0 = λ y. OutletRefuses proto old.outlet y in
       let less = length-drop k live in
       subst P (sym same) (knows refused (omega arith))
 
@@ -229,16 +229,16 @@ module _ {R M : Type 0} (proto : LineRules R) (macs : Mac M) {B D : ℕ} (old : 
     -- If `k` silent ticks have entered the ring, `k` of its live ticks have left.
     entered : (run : List Tick) (k : ℕ) (arriving : Arriving B) (waiting : Option Burst)
         (passes : Bool) → k ≤ c → k ≤ length live → CutStandsFor proto cut (line ++ run)
-        → IsFront (ring_ticks old.ring) k x
+        → CheckerIsFront (ring_ticks old.ring) k x
         → ring_ticks ring ≡ drop k (ring_ticks old.ring ++ silent k) → until ≡ old.until - k
         → owed_by old.outlet ≡ 0
         → IfNone waiting (passes_in old.phase ≡ false → 0 < length (drop k live)
-        → Refuses proto old.outlet ((left ++ bytes_in (take k live)) ++ bytes_in (drop k live)))
+        → OutletRefuses proto old.outlet ((left ++ bytes_in (take k live)) ++ bytes_in (drop k live)))
         → Runs run passes (left ++ bytes_in (take k live)) (drop k live) 0 waiting (take k live)
         → passes_in old.phase ≡ passes → is_open old.phase ≡ is_some waiting
         → IfSome waiting (λ d. MacHolds proto macs setup old.mac arriving d)
         → LeftIn old.phase until (owed_by old.outlet)
-        → HasTakenRun proto macs
+        → CheckerHasTakenRun proto macs
         (record old {
           cut = cut;
           arriving = arriving;
@@ -257,7 +257,7 @@ module _ {R M : Type 0} (proto : LineRules R) (macs : Mac M) {B D : ℕ} (old : 
         let fewer = length-drop k live in
         let P : Bool → Type 0 = λ p. Runs run p (left ++ bytes_in (take k live)) (drop k live) 0
         waiting (take k live) in
-        let A : List Tick → Type 0 = λ l. HasTakenRun proto macs
+        let A : List Tick → Type 0 = λ l. CheckerHasTakenRun proto macs
         (record old {
           cut = cut;
           arriving = arriving;
@@ -276,9 +276,9 @@ module _ {R M : Type 0} (proto : LineRules R) (macs : Mac M) {B D : ℕ} (old : 
 
     pub flow-counted : (run : List Tick) (k : ℕ) → length run ≡ k → is_open old.phase ≡ false
         → k < old.until → k ≤ c → CutStandsFor proto cut (line ++ run)
-        → BeginNone rules line run → IsFront (ring_ticks old.ring) k x
+        → BeginNone rules line run → CheckerIsFront (ring_ticks old.ring) k x
         → ring_ticks ring ≡ drop k (ring_ticks old.ring ++ silent k) → until ≡ old.until - k
-        → HasTakenRun proto macs
+        → CheckerHasTakenRun proto macs
         (record old { cut = cut; ring = ring; until = until }) last setup line run (answered k x)
     flow-counted run k long rests less few cuts begin is ring_is until_is =
         let count = stands.walks.until_is in
@@ -299,9 +299,9 @@ module _ {R M : Type 0} (proto : LineRules R) (macs : Mac M) {B D : ℕ} (old : 
 
     pub pause-taken : (n : ℕ) → is_open old.phase ≡ true
         → head_of rules (live_bytes_so_far rules line) ≡ Good → n ≤ c → D + n ≤ old.until + 3
-        → CutStandsFor proto cut (line ++ silent n) → IsFront (ring_ticks old.ring) n x
+        → CutStandsFor proto cut (line ++ silent n) → CheckerIsFront (ring_ticks old.ring) n x
         → ring_ticks ring ≡ drop n (ring_ticks old.ring ++ silent n) → until ≡ old.until - n
-        → HasTakenRun proto macs
+        → CheckerHasTakenRun proto macs
         (record old { cut = cut; ring = ring; until = until }) last setup line (silent n)
         (answered n x)
     pause-taken n waits good few within_pause cuts is ring_is until_is =
@@ -325,10 +325,10 @@ module _ {R M : Type 0} (proto : LineRules R) (macs : Mac M) {B D : ℕ} (old : 
         → cuts_after rules line (map (λ b. Byte b) bytes) ≡ map (λ b. Extra b) bytes
         → (length (bytes_come old.arriving) + length bytes ≤ 20
         → bytes_come arriving ≡ bytes_come old.arriving ++ bytes)
-        → IsFront (ring_ticks old.ring) (length bytes) x
+        → CheckerIsFront (ring_ticks old.ring) (length bytes) x
         → ring_ticks ring ≡ drop (length bytes) (ring_ticks old.ring ++ silent (length bytes))
         → until ≡ old.until - length bytes
-        → HasTakenRun proto macs
+        → CheckerHasTakenRun proto macs
         (record old {
           cut = cut;
           arriving = arriving;
@@ -376,7 +376,7 @@ module _ {R M : Type 0} (proto : LineRules R) (macs : Mac M) {B D : ℕ} (old : 
         ≡ map (λ b. Live b) bytes)
         (mac_is : (key text : List ℕ) → macs.stands old.mac key text
         → macs.stands mac key (text ++ bytes))
-        (is : IsFront (ring_ticks old.ring ++ E) (length bytes) x)
+        (is : CheckerIsFront (ring_ticks old.ring ++ E) (length bytes) x)
         (ring_is : ring_ticks ring
         ≡ drop (length bytes) (ring_ticks old.ring ++ map (λ b. Byte b) bytes))
         (whole : until ≡ D) where
@@ -435,7 +435,7 @@ module _ {R M : Type 0} (proto : LineRules R) (macs : Mac M) {B D : ℕ} (old : 
             come = before.come ∙ (none ∙ sym none-after);
           }
 
-      pub follow-taken : HasTakenRun proto macs
+      pub follow-taken : CheckerHasTakenRun proto macs
           (record old { cut = cut; mac = mac; ring = ring; until = until }) last setup line run
           (answered k x)
       follow-taken =
@@ -446,7 +446,7 @@ module _ {R M : Type 0} (proto : LineRules R) (macs : Mac M) {B D : ℕ} (old : 
           let delay_is = stands.delay_is in
           let P : Bool → Type 0 = λ p. Runs run p (left ++ bytes_in (take k (Q ++ run))) after.ticks 0
           (Some after.burst) (take k (Q ++ run)) in
-          let A : List Tick → Type 0 = λ l. HasTakenRun proto macs
+          let A : List Tick → Type 0 = λ l. CheckerHasTakenRun proto macs
           (record old { cut = cut; mac = mac; ring = ring; until = until }) last setup line run l in
           subst A leaves
           (made run (take k (Q ++ run)) mac old.arriving ring until (Some after.burst)

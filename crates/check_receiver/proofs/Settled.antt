@@ -6,7 +6,7 @@ use Rattle.line_rules.specs.{Rules.Rules, declared.line_rules.LineRules.Ghosts a
 use Rattle.link_format.specs.Profile.{Profile}
 use Rattle.link_box.{proofs.Leavings.leaves-none, specs.Holding.HasWalked}
 use Rattle.link_box.specs.{Holding.Rests, Leaving.leaves, Verdicts.CheckState}
-use Rattle.line_rules.specs.{Outlet.Refuses, Outlet.owed_by, declared.outlet.Outlet.Outlet}
+use Rattle.line_rules.specs.{Outlet.OutletRefuses, Outlet.owed_by, declared.outlet.Outlet.Outlet}
 use Rattle.std.proofs.Common.{◌≡◌, ◌∙◌, ℕ, ◌+◌, ◌-◌, ◌<◌, ◌==◌, ◌&&◌, nat_lt, not, Bool, true}
 use Rattle.std.proofs.Common.{false, List, [], ◌∷◌, ◌++◌, length, get_or, refl, sym, ap, subst}
 use Rattle.std.proofs.Common.{arith, ⊎_elim, Option, Some, None, IfNone, is_some}
@@ -94,7 +94,7 @@ module _ {R : Type 0} (proto : LineRules R) (profile : Profile) (floor m : ℕ) 
 
   abbrev pub Knows : Phase → Type 0
   Knows p = IfNone waiting (passes_in p ≡ false → 0 < length live
-      → Refuses proto outlet (left ++ bytes_in live))
+      → OutletRefuses proto outlet (left ++ bytes_in live))
 
   -- Holds if the receiver is in the phase `p`, with these live ticks and bytes of a fill that
   -- haven't left yet.
@@ -128,7 +128,7 @@ module _ {R : Type 0} (proto : LineRules R) (profile : Profile) (floor m : ℕ) 
         walked = walked-any profile proto.rules floor m ds s passed false left live (owed_by outlet)
             waiting none waits_is walked;
         knows = where-none waiting (false ≡ false → 0 < length live
-            → Refuses proto outlet (left ++ bytes_in live)) (λ refused some. absurd (omega arith));
+            → OutletRefuses proto outlet (left ++ bytes_in live)) (λ refused some. absurd (omega arith));
         waits_is = waits_is;
         left_in = (omega arith, omega arith);
       }))

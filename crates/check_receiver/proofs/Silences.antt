@@ -1,9 +1,9 @@
 -- A silent tick comes.
 use Rattle.frame_ending.specs.declared.box_step.BoxStep.{BoxStep}
 use Rattle.check_receiver.proofs.{Machine.ring-waits, Machine.assembled, OpenBursts.open-walks}
-use Rattle.check_receiver.{proofs.OpenBursts.moved, specs.Between.IsBetween, specs.Stands.MacHolds}
+use Rattle.check_receiver.{proofs.OpenBursts.moved, specs.Between.CheckerIsBetween, specs.Stands.MacHolds}
 use Rattle.check_receiver.{proofs.Settled.open-stays, specs.Phases.is_open, specs.Phases.passes_in}
-use Rattle.check_receiver.specs.{Stands.HasTaken, Turning.Turned, Turning.TurnedRefused}
+use Rattle.check_receiver.specs.{Stands.CheckerHasTaken, Turning.Turned, Turning.TurnedRefused}
 use Rattle.check_receiver.specs.{Turning.refused, declared.checker.Checker.Checker}
 use Rattle.frame_ending.proofs.{Dividing.longer-line, LastBurst.last_burst-silent}
 use Rattle.frame_ending.specs.{LiveBytes.live_bytes, LiveBytes.live_end, SoFar.last_burst}
@@ -18,7 +18,7 @@ use Rattle.link_box.specs.declared.check_note.CheckNote.{CheckNote}
 use Rattle.link_box.specs.declared.check_note.CheckNote.TheVariants.{Refused}
 use Rattle.link_box.specs.declared.check_note.RefusedWhy.TheVariants.{Trailer}
 use Rattle.sequence_journal.specs.declared.numbers.TheConstants.{LIMIT}
-use Rattle.line_rules.{proofs.Standing.stands-unowed, specs.Outlet.Refuses, specs.Outlet.owed_by}
+use Rattle.line_rules.{proofs.Standing.stands-unowed, specs.Outlet.OutletRefuses, specs.Outlet.owed_by}
 use Rattle.std.proofs.Common.{◌≡◌, ◌∙◌, ℕ, ◌+◌, ◌<◌, ◌≤◌, true, false, List, [], ◌∷◌, ◌++◌}
 use Rattle.std.proofs.Common.{length, drop, ap, sym, subst, arith, refl, Option, Some, None, IfSome}
 use Rattle.{std.proofs.lemmas.List.length-drop, yasir_ticks.specs.Bursts.Burst}
@@ -30,7 +30,7 @@ use Rattle.yasir_ticks.specs.Ticks.{bytes_in}
 -- If more than one live tick hasn't left yet, the one that leaves in this step isn't the last.
 pub not-last : {R M : Type 0} (proto : LineRules R) (macs : Mac M) {B D : ℕ} (old : Checker R M B D)
     (last : ℕ) (setup : Setup) (line : List Tick) (t : Tick) (cut : Cut)
-    (between : IsBetween proto macs old last setup line t cut) → 1 < length between.walks.live
+    (between : CheckerIsBetween proto macs old last setup line t cut) → 1 < length between.walks.live
     → (old.until == 0) ≡ false
 not-last proto macs old last setup line t cut between more =
     let one = between.one_less in
@@ -39,7 +39,7 @@ not-last proto macs old last setup line t cut between more =
 
 module _ {R M : Type 0} (proto : LineRules R) (macs : Mac M) {B D : ℕ} (old : Checker R M B D)
     (last : ℕ) (setup : Setup) (line : List Tick) (cut : Cut)
-    (between : IsBetween proto macs old last setup line Silent cut)
+    (between : CheckerIsBetween proto macs old last setup line Silent cut)
     (new : Checker R M B D) (step : BoxStep CheckNote)
     (turned : Turned proto old new Silent step.tick) (noted : step.note ≡ None) where
   -- A verdict is open, and stays so through the pause.
@@ -47,7 +47,7 @@ module _ {R M : Type 0} (proto : LineRules R) (macs : Mac M) {B D : ℕ} (old : 
       → length line < live_end proto.rules d + 3
       → (live_end proto.rules d + 1 ≤ length line
       → proto.rules.header_len ≤ length (live_bytes proto.rules d))
-      → is_open old.phase ≡ true → HasTaken proto macs new last setup line Silent step
+      → is_open old.phase ≡ true → CheckerHasTaken proto macs new last setup line Silent step
   open-silent d is few header waits =
       let left : List ℕ = between.walks.left in
       let live : List Tick = between.walks.live in
@@ -76,7 +76,7 @@ module _ {R M : Type 0} (proto : LineRules R) (macs : Mac M) {B D : ℕ} (old : 
 
 module _ {R M : Type 0} (proto : LineRules R) (macs : Mac M) {B D : ℕ} (old : Checker R M B D)
     (last : ℕ) (setup : Setup) (line : List Tick) (cut : Cut)
-    (between : IsBetween proto macs old last setup line Silent cut) (d : Burst)
+    (between : CheckerIsBetween proto macs old last setup line Silent cut) (d : Burst)
     (is : between.walks.waiting ≡ Some d) where
   -- how many live ticks haven't left yet of the burst whose verdict is open
   pub waits-long : length between.walks.live + length line ≡ live_end proto.rules d + D
@@ -98,7 +98,7 @@ module _ {R M : Type 0} (proto : LineRules R) (macs : Mac M) {B D : ℕ} (old : 
 
 module _ {R M : Type 0} (proto : LineRules R) (macs : Mac M) {B D : ℕ} (old : Checker R M B D)
     (last : ℕ) (setup : Setup) (line : List Tick) (cut : Cut)
-    (between : IsBetween proto macs old last setup line Silent cut) (new : Checker R M B D)
+    (between : CheckerIsBetween proto macs old last setup line Silent cut) (new : Checker R M B D)
     (step : BoxStep CheckNote)
     (refuses : TurnedRefused proto old new step.tick)
     (earliest : new.earliest_start ≡ length (line ++ Silent ∷ []) + old.until
@@ -112,7 +112,7 @@ module _ {R M : Type 0} (proto : LineRules R) (macs : Mac M) {B D : ℕ} (old : 
 
   -- Silence after the pause refuses the burst.
   pub refuse-silent : (d : Burst) → between.walks.waiting ≡ Some d
-      → live_end proto.rules d + 3 ≤ at → HasTaken proto macs new last setup line Silent step
+      → live_end proto.rules d + 3 ≤ at → CheckerHasTaken proto macs new last setup line Silent step
   refuse-silent d is behind =
       let left : List ℕ = between.walks.left in
       let live : List Tick = between.walks.live in
@@ -145,6 +145,6 @@ module _ {R M : Type 0} (proto : LineRules R) (macs : Mac M) {B D : ℕ} (old : 
       between.walks.few)
       (let few = between.walks.few in omega arith) (omega arith) refl between.walks.mac_stands tt
       (λ stays some. subst (λ v. proto.stands v (left' ++ bytes_in (drop 1 live))) (sym turn.keeps)
-      (subst (λ x. Refuses proto refuses.outlet x)
+      (subst (λ x. OutletRefuses proto refuses.outlet x)
       (ap (λ o. live_bytes_in proto.rules o) whose ∙ sym (bytes-next it ∙ bytes-of it))
       (refuses.knows (line ++ Silent ∷ []) between.cuts))) tt

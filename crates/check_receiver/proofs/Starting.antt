@@ -5,8 +5,8 @@ use Rattle.check_receiver.proofs.{Beginnings.ring-still, Dropping.drops}
 use Rattle.check_receiver.proofs.Heads.{head-is-bad, head-isn't-short}
 use Rattle.check_receiver.proofs.Machine.{until-last, flow, still-unowed, ring-waits, assembled}
 use Rattle.check_receiver.proofs.{OpenBursts.timely, Settled.left-stays}
-use Rattle.check_receiver.specs.{Arrivals.bytes_come, Between.IsBetween, Phases.passes_in}
-use Rattle.check_receiver.specs.Stands.{MacHolds, HasTaken}
+use Rattle.check_receiver.specs.{Arrivals.bytes_come, Between.CheckerIsBetween, Phases.passes_in}
+use Rattle.check_receiver.specs.Stands.{MacHolds, CheckerHasTaken}
 use Rattle.check_receiver.specs.Turning.{Turned, TurnedClear, with_until}
 use Rattle.check_receiver.specs.declared.{arriving.Arriving.Arriving, checker.Checker.Checker}
 use Rattle.check_receiver.specs.declared.phase.Phase.TheVariants.{Open}
@@ -34,7 +34,7 @@ use Rattle.link_box.specs.declared.check_note.CheckNote.TheVariants.{Dropped}
 use Rattle.link_box.specs.declared.check_note.DroppedWhy.TheVariants.{Busy, Head as NoHead}
 use Rattle.sequence_journal.specs.declared.numbers.TheConstants.{LIMIT}
 use Rattle.line_rules.proofs.Standing.{stands-unowed}
-use Rattle.line_rules.specs.Outlet.{StandsFor as OutletStandsFor, Refuses, owed_by, filled}
+use Rattle.line_rules.specs.Outlet.{OutletStandsForTicks, OutletRefuses, owed_by, filled}
 use Rattle.line_rules.specs.{Outlet.filled_bytes, declared.outlet.Outlet.Outlet}
 use Rattle.std.proofs.Common.{◌≡◌, ◌∙◌, ℕ, ◌+◌, ◌-◌, ◌<◌, ◌≤◌, ◌==◌, false, List, [], ◌∷◌}
 use Rattle.std.proofs.Common.{◌++◌, length, take, drop, get_or, refl, sym, ap, subst, arith, ⊎_elim}
@@ -64,7 +64,7 @@ module _ (rules : Rules) (lawful : IsLawful rules) (line : List Tick) (b : ℕ)
 
 module _ {R M : Type 0} (proto : LineRules R) (macs : Mac M) {B D : ℕ} (old : Checker R M B D)
     (last : ℕ) (setup : Setup) (line : List Tick) (b : ℕ)
-    (between : IsBetween proto macs old last setup line (Byte b) (Start b)) where
+    (between : CheckerIsBetween proto macs old last setup line (Byte b) (Start b)) where
   abbrev rules : Rules
   rules = proto.rules
 
@@ -104,11 +104,11 @@ module _ {R M : Type 0} (proto : LineRules R) (macs : Mac M) {B D : ℕ} (old : 
   resting = subst Walked none-waits between.walks.walked
 
   known : passes_in old.phase ≡ false → 0 < length between.walks.live
-      → Refuses proto old.outlet (between.walks.left ++ bytes_in between.walks.live)
+      → OutletRefuses proto old.outlet (between.walks.left ++ bytes_in between.walks.live)
   known =
       let K : Option Burst → Type 0 = λ o. IfNone o (passes_in old.phase ≡ false
       → 0 < length between.walks.live
-      → Refuses proto old.outlet (between.walks.left ++ bytes_in between.walks.live)) in
+      → OutletRefuses proto old.outlet (between.walks.left ++ bytes_in between.walks.live)) in
       subst K none-waits between.walks.knows
 
   begins : HasCome (checker profile rules) (at_floor setup.floor) m (bursts (line ++ Byte b ∷ []))
@@ -128,7 +128,7 @@ module _ {R M : Type 0} (proto : LineRules R) (macs : Mac M) {B D : ℕ} (old : 
   module _ (new : Checker R M B D) (step : BoxStep CheckNote)
       (turned : Turned proto old new Silent step.tick)
       (noted : step.note ≡ Some (Dropped (start_so_far (line ++ Byte b ∷ [])) Busy)) where
-    pub start-busy : m < old.earliest_start → HasTaken proto macs new last setup line (Byte b) step
+    pub start-busy : m < old.earliest_start → CheckerHasTaken proto macs new last setup line (Byte b) step
     start-busy early =
         let left : List ℕ = between.walks.left in
         let live : List Tick = between.walks.live in
@@ -182,7 +182,7 @@ module _ {R M : Type 0} (proto : LineRules R) (macs : Mac M) {B D : ℕ} (old : 
       outlet = outlet;
     }
 
-    begun : OutletStandsFor proto outlet []
+    begun : OutletStandsForTicks proto outlet []
     begun = stands-unowed proto outlet [] unowed
 
     -- The burst is dropped if its one byte is a header that isn't good.
@@ -190,7 +190,7 @@ module _ {R M : Type 0} (proto : LineRules R) (macs : Mac M) {B D : ℕ} (old : 
         → step.note ≡ Some (Dropped (start_so_far (line ++ Byte b ∷ [])) NoHead)
         → head_of rules (live_bytes_so_far rules (line ++ Byte b ∷ [])) ≡ Bad
         → ((text : List ℕ) × macs.stands mac setup.key text)
-        → HasTaken proto macs new last setup line (Byte b) step
+        → CheckerHasTaken proto macs new last setup line (Byte b) step
     start-bad clear noted bad mac_stands =
         let H : Option Burst → Type 0 = λ o. head_of rules (live_bytes_in rules o) ≡ Bad in
         let is : head_of rules (live_bytes rules e) ≡ Bad = subst H last-is bad in
@@ -218,14 +218,14 @@ module _ {R M : Type 0} (proto : LineRules R) (macs : Mac M) {B D : ℕ} (old : 
           ∙ (ap (λ l. l ++ silent (D - length l)) none ∙ ap (λ k. silent k) whole)
 
       -- In this step, silence leaves.
-      quiet : (step.tick ≡ Silent) × OutletStandsFor proto new.outlet [] × (owed_by new.outlet ≡ 0)
+      quiet : (step.tick ≡ Silent) × OutletStandsForTicks proto new.outlet [] × (owed_by new.outlet ≡ 0)
       quiet =
           let T : Tick → Type 0 = λ u. HasTurned proto outlet new.outlet (n == 0) false [] step.tick
           u in
           let turn : T Silent = subst T
           (ap (λ l. get_or l 0 Silent) empty ∙ ring-first [] D) (turned.out [] begun) in
           let Q : ℕ → Type 0 = λ k. (step.tick ≡ tick_or_silence (filled rules [] k))
-          × OutletStandsFor proto new.outlet ([] ++ filled_bytes (filled rules [] k))
+          × OutletStandsForTicks proto new.outlet ([] ++ filled_bytes (filled rules [] k))
           × (owed_by new.outlet ≡ k - 1) in
           let out : Q 0 = subst Q unowed (turn.0, turn.1, turn.2) in
           let none : owed_by new.outlet ≡ 0 - 1 = out.2 in
@@ -267,7 +267,7 @@ module _ {R M : Type 0} (proto : LineRules R) (macs : Mac M) {B D : ℕ} (old : 
       pub start-open : (D ≤ 64 → n ≡ D) → step.note ≡ None
           → (head_of rules (live_bytes_so_far rules (line ++ Byte b ∷ [])) ≡ Bad → ⊥)
           → MacHolds proto macs setup mac arriving e
-          → HasTaken proto macs new last setup line (Byte b) step
+          → CheckerHasTaken proto macs new last setup line (Byte b) step
       start-open until noted not_bad mac_holds =
           let open' = opens not_bad in
           let tag = macs.tag_size in

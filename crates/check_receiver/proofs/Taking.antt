@@ -2,8 +2,8 @@
 use Rattle.frame_ending.specs.{Causal.going_on, declared.box_step.BoxStep.BoxStep}
 use Rattle.check_receiver.proofs.Hearing.{Hears, hears-between, next-last, until-long, until-some}
 use Rattle.check_receiver.proofs.Hearing.{mac_holds, next-mac_holds, trailer-long, trailer-taken}
-use Rattle.check_receiver.specs.{Arrivals.bytes_come, Between.IsBetween, Between.IsWhole}
-use Rattle.check_receiver.specs.{Phases.is_open, Stands.MacHolds, Stands.HasTaken, Turning.Turned}
+use Rattle.check_receiver.specs.{Arrivals.bytes_come, Between.CheckerIsBetween, Between.BurstIsWhole}
+use Rattle.check_receiver.specs.{Phases.is_open, Stands.MacHolds, Stands.CheckerHasTaken, Turning.Turned}
 use Rattle.check_receiver.specs.declared.{arriving.Arriving.Arriving, checker.Checker.Checker}
 use Rattle.frame_ending.specs.{LiveBytes.live_end, declared.cut.Cut.TheVariants.Extra}
 use Rattle.link_format.specs.declared.tag.Mac.{Ghosts as Mac}
@@ -17,7 +17,7 @@ use Rattle.yasir_ticks.specs.declared.tick.Tick.{Tick, TheVariants.Silent}
 
 module _ {R M : Type 0} (proto : LineRules R) (macs : Mac M) {B D : ℕ} (old : Checker R M B D)
     (last : ℕ) (setup : Setup) (line : List Tick) (t : Tick) (b : ℕ)
-    (between : IsBetween proto macs old last setup line t (Extra b))
+    (between : CheckerIsBetween proto macs old last setup line t (Extra b))
     (waits : is_open old.phase ≡ true)
     (behind : old.until + pause_len < D) (arriving : Arriving B)
     (takes : length (bytes_come old.arriving) < 20
@@ -67,14 +67,14 @@ module _ {R M : Type 0} (proto : LineRules R) (macs : Mac M) {B D : ℕ} (old : 
   -- If more bytes of the trailer must come, the receiver has taken this one.
   pub more-taken : 1 < old.until → (new : Checker R M B D) (step : BoxStep CheckNote)
       → Turned proto after new Silent step.tick → step.note ≡ None
-      → HasTaken proto macs new last setup line t step
+      → CheckerHasTaken proto macs new last setup line t step
   more-taken more new step turned noted =
       let all = long in
       trailer-taken proto macs after last setup line t b hears-after new step turned noted waits
       behind-pause (omega arith) mac_is
 
   -- If the byte was the last one of the trailer, the trailer is whole.
-  pub whole-taken : old.until ≤ 1 → IsWhole proto macs after last setup line t
+  pub whole-taken : old.until ≤ 1 → BurstIsWhole proto macs after last setup line t
   whole-taken few =
       let some = until-some proto macs old last setup line t b hears in
       let is = next-last proto macs old last setup line t b hears in

@@ -1,10 +1,10 @@
 -- A whole step of a receiver: first the value that cuts the link takes the tick, and one step less
 -- is left until the last live byte leaves; then everything else takes the tick.
 use Rattle.frame_ending.specs.declared.box_step.BoxStep.{BoxStep}
-use Rattle.check_receiver.specs.{Between.IsBetween, Between.IsSilence, Checkings.PassesWith}
-use Rattle.check_receiver.specs.{Stands.StandsAt, Stands.HasTaken, declared.checker.Checker.Checker}
+use Rattle.check_receiver.specs.{Between.CheckerIsBetween, Between.IsSilence, Checkings.PassesWith}
+use Rattle.check_receiver.specs.{Stands.CheckerStandsAt, Stands.CheckerHasTaken, declared.checker.Checker.Checker}
 use Rattle.frame_ending.proofs.Running.{closed-tick, passing-byte}
-use Rattle.frame_ending.specs.{Cuts.cut_of, Stands.StandsFor as CutStandsFor}
+use Rattle.frame_ending.specs.{Cuts.cut_of, Stands.CutStandsFor}
 use Rattle.frame_ending.specs.declared.burst_cut.BurstCut.{BurstCut}
 use Rattle.frame_ending.specs.declared.cut.Cut.{Cut, TheVariants.Start}
 use Rattle.frame_ending.specs.declared.cut.Cut.TheVariants.{Live, Extra, Pause, Closed, Quiet}
@@ -49,10 +49,10 @@ module _ {R M : Type 0} (proto : LineRules R) (macs : Mac M) {B D : ℕ} (old : 
     (takes : (line : List Tick) → CutStandsFor proto old.cut line
     → CutStandsFor proto cut (line ++ t ∷ [])) where
   abbrev Before : Setup → List Tick → Type 0
-  Before setup line = StandsAt proto macs old last setup line
+  Before setup line = CheckerStandsAt proto macs old last setup line
 
   abbrev Between : Cut → Setup → List Tick → Tick → Type 0
-  Between what setup line u = IsBetween proto macs (record old { cut = cut; until = fewer }) last
+  Between what setup line u = CheckerIsBetween proto macs (record old { cut = cut; until = fewer }) last
       setup line u what
 
   pub between : (what : Cut) → told ≡ what → (setup : Setup) (line : List Tick) → Before setup line
@@ -75,9 +75,9 @@ module _ {R M : Type 0} (proto : LineRules R) (macs : Mac M) {B D : ℕ} (old : 
   pub taken-then : (what : Cut) → told ≡ what → (new : Checker R M B D) (number : ℕ)
       (step : BoxStep CheckNote)
       → ((setup : Setup) (line : List Tick) → Between what setup line t
-      → HasTaken proto macs new number setup line t step)
+      → CheckerHasTaken proto macs new number setup line t step)
       → (setup : Setup) (line : List Tick) → Before setup line
-      → HasTaken proto macs new number setup line t step
+      → CheckerHasTaken proto macs new number setup line t step
   taken-then what is new number step rest setup line stands =
       rest setup line (between what is setup line stands)
 
@@ -86,13 +86,13 @@ module _ {R M : Type 0} (proto : LineRules R) (macs : Mac M) {B D : ℕ} (old : 
   pub taken-silence : IsSilence told → (new : Checker R M B D) (number : ℕ)
       (step : BoxStep CheckNote)
       → ((setup : Setup) (line : List Tick) → Between told setup line Silent
-      → HasTaken proto macs new number setup line Silent step)
+      → CheckerHasTaken proto macs new number setup line Silent step)
       → (setup : Setup) (line : List Tick) → Before setup line
-      → HasTaken proto macs new number setup line t step
+      → CheckerHasTaken proto macs new number setup line t step
   taken-silence silence new number step rest setup line stands =
       let at = between told refl setup line stands in
       let P : Tick → Type 0 = λ u. Between told setup line u
-      → HasTaken proto macs new number setup line u step in
+      → CheckerHasTaken proto macs new number setup line u step in
       subst P (sym (silence-tick proto.rules line t told at.is_cut silence)) (rest setup line) at
 
   -- ---- a step that may fail
@@ -101,9 +101,9 @@ module _ {R M : Type 0} (proto : LineRules R) (macs : Mac M) {B D : ℕ} (old : 
     pub taken-ok : (new : Checker R M B D) (number : ℕ)
         (result : Result (BoxStep CheckNote) JournalFault)
         → IfOk result (λ step. (setup : Setup) (line : List Tick) (u : Tick)
-        → Between what setup line u → HasTaken proto macs new number setup line u step)
+        → Between what setup line u → CheckerHasTaken proto macs new number setup line u step)
         → IfOk result (λ step. (setup : Setup) (line : List Tick) → Before setup line
-        → HasTaken proto macs new number setup line t step)
+        → CheckerHasTaken proto macs new number setup line t step)
     taken-ok new number (Ok step) rest = λ setup line stands.
         rest setup line t (between what is setup line stands)
     taken-ok new number (Err fault) rest = tt

@@ -8,7 +8,7 @@ use Rattle.frame_ending.specs.declared.cut.Cut.{Cut}
 use Rattle.frame_ending.specs.declared.cut.Cut.TheVariants.{Start, Live, Extra, Closed, Pause}
 use Rattle.frame_ending.specs.declared.cut.Cut.TheVariants.{Quiet}
 use Rattle.frame_ending.specs.Cuts.{cut_of}
-use Rattle.frame_ending.specs.Stands.{StandsFor as CutStandsFor}
+use Rattle.frame_ending.specs.Stands.{CutStandsFor}
 use Rattle.link_format.specs.declared.tag.Mac.{Ghosts as Mac}
 use Rattle.link_format.specs.Tag.{direction_number}
 use Rattle.yasir_ticks.specs.Bursts.{Burst}
@@ -20,7 +20,7 @@ use Rattle.link_box.specs.declared.check_note.CheckNote.TheVariants.{Passed, Ref
 use Rattle.link_box.specs.declared.check_note.RefusedWhy.{RefusedWhy}
 use Rattle.link_box.specs.Verdicts.{Verdict}
 use Rattle.link_box.specs.Verdicts.Verdict.{passed_with, refused}
-use Rattle.check_receiver.specs.Stands.{MacHolds, Walks}
+use Rattle.check_receiver.specs.Stands.{MacHolds, CheckerWalks}
 use Rattle.check_receiver.specs.Phases.{LeftIn, is_open, passes_in}
 use Rattle.line_rules.specs.Outlet.{owed_by}
 use Rattle.check_receiver.specs.declared.arriving.Arriving.{Arriving}
@@ -31,7 +31,7 @@ module _ {R M : Type 0} (proto : LineRules R) (macs : Mac M) {B D : ℕ} (value 
   -- Holds if `value` is a receiver in the middle of the step for the tick `t`, after `line`: the
   -- value that cuts the link has taken `t` and cuts it as `cut`, one step less is left until the
   -- last live byte leaves, and everything else is as it was after `line`.
-  pub record IsBetween (t : Tick) (cut : Cut) : Type 0 where
+  pub record CheckerIsBetween (t : Tick) (cut : Cut) : Type 0 where
     pub word_is : IsWordLen B
     pub wide : 2 ≤ B
     pub delay_is : D ≡ 4 + B + macs.TAG
@@ -41,12 +41,12 @@ module _ {R M : Type 0} (proto : LineRules R) (macs : Mac M) {B D : ℕ} (value 
     pub before : ℕ
     pub one_less : value.until ≡ before - 1
     pub left_in : LeftIn value.phase before (owed_by value.outlet)
-    pub walks : Walks proto macs B D last value.earliest_start (is_open value.phase)
+    pub walks : CheckerWalks proto macs B D last value.earliest_start (is_open value.phase)
         (passes_in value.phase) value.mac value.arriving value.ring before value.outlet setup line
 
   -- Holds if the tick `t` is the last byte of the trailer of the burst whose verdict is open, a
   -- byte that isn't live, and the receiver has already kept it with the other bytes of the trailer.
-  pub record IsWhole (t : Tick) : Type 0 where
+  pub record BurstIsWhole (t : Tick) : Type 0 where
     pub word_is : IsWordLen B
     pub wide : 2 ≤ B
     pub delay_is : D ≡ 4 + B + macs.TAG
@@ -59,7 +59,7 @@ module _ {R M : Type 0} (proto : LineRules R) (macs : Mac M) {B D : ℕ} (value 
     pub before : ℕ
     pub one_less : value.until ≡ before - 1
     pub last_place : value.until ≡ 1
-    pub walks : Walks proto macs B D last value.earliest_start true (passes_in value.phase) mac
+    pub walks : CheckerWalks proto macs B D last value.earliest_start true (passes_in value.phase) mac
         arriving value.ring before value.outlet setup line
     pub key_text : List ℕ
     pub mac_is : macs.stands value.mac setup.key key_text

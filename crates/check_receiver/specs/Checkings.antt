@@ -20,8 +20,8 @@ use Rattle.frame_ending.specs.declared.box_step.BoxStep.{BoxStep}
 
 -- Holds if the step for the tick `t`, after the ticks `line` of the link, returns the tick of the
 -- device's line and the note that the definitions add.
-abbrev pub AnswersTick : Profile → Rules → ℕ → List Tick → Tick → BoxStep CheckNote → Type 0
-AnswersTick profile rules floor line t step =
+abbrev pub CheckerAnswersTick : Profile → Rules → ℕ → List Tick → Tick → BoxStep CheckNote → Type 0
+CheckerAnswersTick profile rules floor line t step =
     AnswersTickOf (checker profile rules) brief_note (at_floor floor) line t step.tick step.note
 
 -- Holds if, by the definitions, a burst passes with this number in the step of the tick `t`, which
@@ -36,27 +36,27 @@ pub record PassesWith (profile : Profile) (rules : Rules) (floor : ℕ) (line : 
 
 -- Holds if a step did what its note says: it has committed the number of the frame that passes, or
 -- has left the journal and the disk as they were.
-abbrev pub CommitsNoted : {S : Type 0} → SlotDisk S → Journal → Journal → S → S → Option CheckNote
+abbrev pub CheckerCommitsNoted : {S : Type 0} → SlotDisk S → Journal → Journal → S → S → Option CheckNote
     → Type 0
-CommitsNoted d old new disk_old disk_new (Some (Passed number start len)) =
+CheckerCommitsNoted d old new disk_old disk_new (Some (Passed number start len)) =
     HasCommitted old new (d.told disk_old) (d.told disk_new) (d.may_leave disk_new) number
-CommitsNoted d old new disk_old disk_new (Some (Refused start why)) =
+CheckerCommitsNoted d old new disk_old disk_new (Some (Refused start why)) =
     (new ≡ old) × (disk_new ≡ disk_old)
-CommitsNoted d old new disk_old disk_new (Some (Dropped start why)) =
+CheckerCommitsNoted d old new disk_old disk_new (Some (Dropped start why)) =
     (new ≡ old) × (disk_new ≡ disk_old)
-CommitsNoted d old new disk_old disk_new None = (new ≡ old) × (disk_new ≡ disk_old)
+CheckerCommitsNoted d old new disk_old disk_new None = (new ≡ old) × (disk_new ≡ disk_old)
 
 -- the number of the note, if it has one
-abbrev pub numbers_noted : Option CheckNote → List ℕ
-numbers_noted (Some (Passed number start len)) = number ∷ []
-numbers_noted (Some (Refused start why)) = []
-numbers_noted (Some (Dropped start why)) = []
-numbers_noted None = []
+abbrev pub numbers_passed_in : Option CheckNote → List ℕ
+numbers_passed_in (Some (Passed number start len)) = number ∷ []
+numbers_passed_in (Some (Refused start why)) = []
+numbers_passed_in (Some (Dropped start why)) = []
+numbers_passed_in None = []
 
 -- What a step does to the journal and its disk.
-pub record KeepsJournal {S : Type 0} (d : SlotDisk S) (old new : Journal) (disk_old disk_new : S)
+pub record CheckerKeepsJournal {S : Type 0} (d : SlotDisk S) (old new : Journal) (disk_old disk_new : S)
     (result : Result (BoxStep CheckNote) JournalFault) : Type 0 where
-  pub commits : IfOk result (λ step. CommitsNoted d old new disk_old disk_new step.note)
+  pub commits : IfOk result (λ step. CheckerCommitsNoted d old new disk_old disk_new step.note)
   pub link : journal_link new ≡ journal_link old
   pub fits : OnOk result (Fits new (d.told disk_new))
   pub failed : OnErr result

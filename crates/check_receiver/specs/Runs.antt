@@ -13,15 +13,15 @@ use Rattle.link_format.specs.Profile.{profile_of}
 use Rattle.link_format.specs.Setup.{Setup}
 use Rattle.sequence_journal.specs.declared.numbers.TheConstants.{LIMIT}
 use Rattle.link_box.specs.Checking.{checker, at_floor, brief_note}
-use Rattle.check_receiver.specs.Stands.{StandsAt}
+use Rattle.check_receiver.specs.Stands.{CheckerStandsAt}
 use Rattle.check_receiver.specs.declared.checker.Checker.{Checker}
 
 -- Holds if the receiver, after `line`, has taken `run` as well: it represents both, the device is
 -- sent the ticks `answer` during the run, and no note falls into them.
-pub record HasTakenRun {R M : Type 0} (proto : LineRules R) (macs : Mac M) {B D : ℕ}
+pub record CheckerHasTakenRun {R M : Type 0} (proto : LineRules R) (macs : Mac M) {B D : ℕ}
     (value : Checker R M B D) (last : ℕ) (setup : Setup) (line run answer : List Tick) : Type 0
   where
-    pub stands : StandsAt proto macs value last setup (line ++ run)
+    pub stands : CheckerStandsAt proto macs value last setup (line ++ run)
     pub answers : AnswersRun (checker (profile_of proto macs B LIMIT setup) proto.rules) brief_note
         (at_floor setup.floor) line run answer
 
@@ -38,7 +38,7 @@ BeginNone rules line (t ∷ run) = BeginsNone rules line t × BeginNone rules (l
 
 -- Holds if `x` are the bytes at the front of the ticks, up to the first silent one, or the first
 -- `most` of them.
-pub record IsFront (ticks : List Tick) (most : ℕ) (x : List ℕ) : Type 0 where
+pub record CheckerIsFront (ticks : List Tick) (most : ℕ) (x : List ℕ) : Type 0 where
   pub within : length x ≤ most
   pub bytes : map Byte x ≡ take (length x) ticks
   pub all : length x < most → slice_index_or ticks (length x) Silent ≡ Silent

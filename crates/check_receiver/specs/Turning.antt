@@ -8,8 +8,8 @@ use Rattle.yasir_ticks.specs.declared.delay_ring.DelayRing.{DelayRing}
 use Rattle.yasir_ticks.specs.DelayRing.{ring_ticks}
 use Rattle.yasir_ticks.specs.Ticks.{silent}
 use Rattle.frame_ending.specs.SoFar.{live_bytes_so_far}
-use Rattle.frame_ending.specs.Stands.{StandsFor as CutStandsFor}
-use Rattle.line_rules.specs.Outlet.{StandsFor as OutletStandsFor, Refuses, owed_by}
+use Rattle.frame_ending.specs.Stands.{CutStandsFor}
+use Rattle.line_rules.specs.Outlet.{OutletStandsForTicks, OutletRefuses, owed_by}
 use Rattle.line_rules.specs.declared.outlet.Outlet.{Outlet}
 use Rattle.link_box.specs.Turns.{HasTurned}
 use Rattle.check_receiver.specs.Phases.{passes_in, settled}
@@ -22,7 +22,7 @@ pub record Turned {R M : Type 0} {B D : ℕ} (proto : LineRules R) (old new : Ch
     (entering answer : Tick) : Type 0 where
   pub others : new ≡ record old { ring = new.ring; outlet = new.outlet; phase = new.phase }
   pub ring : ring_ticks new.ring ≡ drop 1 (ring_ticks old.ring) ++ entering ∷ []
-  pub out : (x : List ℕ) → OutletStandsFor proto old.outlet x
+  pub out : (x : List ℕ) → OutletStandsForTicks proto old.outlet x
       → HasTurned proto old.outlet new.outlet (old.until == 0) (passes_in old.phase) x answer
       (slice_index_or (ring_ticks old.ring) 0 Silent)
   pub phase : new.phase ≡ settled old.phase old.until (nat_lt 0 (owed_by new.outlet))
@@ -58,6 +58,6 @@ pub record TurnedRefused {R M : Type 0} {B D : ℕ} (proto : LineRules R) (old n
     (answer : Tick) : Type 0 where
   pub outlet : Outlet R
   pub knows : (line : List Tick) → CutStandsFor proto old.cut line
-      → Refuses proto outlet (live_bytes_so_far proto.rules line)
+      → OutletRefuses proto outlet (live_bytes_so_far proto.rules line)
   pub owed : owed_by outlet ≡ owed_by old.outlet
   pub turned : Turned proto (refused old outlet new.earliest_start) new Silent answer

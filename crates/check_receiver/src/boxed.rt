@@ -2,7 +2,7 @@
 ghost use Rattle.std.specs.Prelude.{◌≡◌, ◌+◌, ◌≤◌};
 ghost use Rattle.link_format.specs.Profile.{IsWordLen};
 ghost use Rattle.check_receiver.specs.Boxed.{check_walking};
-ghost use Rattle.check_receiver.specs.Stands.{StandsAt, direction_of, ticks_taken};
+ghost use Rattle.check_receiver.specs.Stands.{CheckerStandsAt, checker_direction, checker_ticks};
 ghost use Rattle.link_format.specs.Tag.{direction_number};
 ghost use Rattle.link_box.specs.Links.{link_by};
 
@@ -18,15 +18,15 @@ use yasir_ticks::{Tick, TickRun};
 impl<R: LineRules, M: Mac, const B: usize, const D: usize> LinkBox for Checker<R, M, B, D> {
     type Note = CheckNote;
 
-    ghost stands = { λ value. StandsAt R.LineRules M.Mac value };
+    ghost stands = { λ value. CheckerStandsAt R.LineRules M.Mac value };
 
-    ghost taken = { λ value. ticks_taken value };
+    ghost taken = { λ value. checker_ticks value };
 
     ghost walking = { check_walking R.LineRules M.Mac B };
 
     ghost widths_fit = { IsWordLen B × (2 ≤ B) × (D ≡ 4 + B + M.TAG) };
 
-    ghost link_of = { λ value. link_by R.LineRules M.Mac B (direction_of value) };
+    ghost link_of = { λ value. link_by R.LineRules M.Mac B (checker_direction value) };
 
     ghost link_in = { λ dir. link_by R.LineRules M.Mac B (direction_number dir) };
 

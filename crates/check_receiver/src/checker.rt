@@ -49,7 +49,7 @@ impl<R: LineRules, M: Mac, const B: usize, const D: usize> Checker<R, M, B, D> {
     ghost use Rattle.frame_ending.specs.declared.cut.Cut.{Cut};
     ghost use Rattle.frame_ending.specs.declared.cut.Cut.TheVariants.{Start, Live, Extra};
     ghost use Rattle.frame_ending.specs.SoFar.{live_bytes_so_far};
-    ghost use Rattle.frame_ending.specs.Stands.{StandsFor as CutStandsFor};
+    ghost use Rattle.frame_ending.specs.Stands.{CutStandsFor};
     ghost use Rattle.link_format.specs.Profile.{IsWordLen, profile_of};
     ghost use Rattle.link_format.specs.Setup.{Setup, setup_of};
     ghost use Rattle.sequence_journal.specs.declared.numbers.TheConstants.{LIMIT};
@@ -57,22 +57,22 @@ impl<R: LineRules, M: Mac, const B: usize, const D: usize> Checker<R, M, B, D> {
     ghost use Rattle.sequence_journal.specs.Journal.{journal_link, journal_floor, Fits};
     ghost use Rattle.link_format.specs.Tag.{direction_number};
     ghost use Rattle.link_box.specs.Links.{link_by};
-    ghost use Rattle.check_receiver.specs.Checkings.{PassesWith, KeepsJournal};
-    ghost use Rattle.check_receiver.specs.Stands.{StandsFor, HasTaken, ticks_taken};
+    ghost use Rattle.check_receiver.specs.Checkings.{PassesWith, CheckerKeepsJournal};
+    ghost use Rattle.check_receiver.specs.Stands.{CheckerStandsFor, CheckerHasTaken, checker_ticks};
     ghost use Rattle.line_rules.specs.Rules.{head_of};
     ghost use Rattle.frame_ending.specs.LiveBytes.{live_bytes};
     ghost use Rattle.line_rules.specs.declared.head.Head.TheVariants.{Bad};
     ghost use Rattle.check_receiver.specs.Turning.{Turned};
     ghost use Rattle.std.specs.Prelude.{length, map, take, drop, slice_index_or};
     ghost use Rattle.yasir_ticks.specs.DelayRing.{ring_ticks};
-    ghost use Rattle.line_rules.specs.Outlet.{StandsFor as OutletStandsFor};
+    ghost use Rattle.line_rules.specs.Outlet.{OutletStandsForTicks};
     ghost use Rattle.link_box.specs.Turns.{HasTurned};
     ghost use Rattle.check_receiver.specs.Phases.{passes_in};
     ghost use Rattle.yasir_ticks.specs.Ticks.{silent};
     ghost use Rattle.line_rules.specs.declared.head.Head.TheVariants.{Good};
     ghost use Rattle.frame_ending.specs.Answered.{answered};
-    ghost use Rattle.check_receiver.specs.Stands.{StandsAt, direction_of};
-    ghost use Rattle.check_receiver.specs.Runs.{HasTakenRun};
+    ghost use Rattle.check_receiver.specs.Stands.{CheckerStandsAt, checker_direction};
+    ghost use Rattle.check_receiver.specs.Runs.{CheckerHasTakenRun};
 
     /// Makes a receiver that has taken no tick, for a key of any length and a direction. A word
     /// must have at least two bytes, so that each header is judged before its first byte leaves.
@@ -80,9 +80,9 @@ impl<R: LineRules, M: Mac, const B: usize, const D: usize> Checker<R, M, B, D> {
         requires word { IsWordLen B }
         requires wide { 2 ≤ B }
         requires delay { D ≡ 4 + B + M.TAG }
-        ensures taken { ticks_taken result ≡ 0 }
-        ensures direction { direction_of result ≡ direction_number dir }
-        ensures stands { (floor : ℕ) → StandsAt R.LineRules M.Mac result floor
+        ensures taken { checker_ticks result ≡ 0 }
+        ensures direction { checker_direction result ≡ direction_number dir }
+        ensures stands { (floor : ℕ) → CheckerStandsAt R.LineRules M.Mac result floor
             (setup_of key.now dir floor) [] }
     {
         Checker {
@@ -111,26 +111,26 @@ impl<R: LineRules, M: Mac, const B: usize, const D: usize> Checker<R, M, B, D> {
         journal: &mut Journal,
         disk: &mut S,
     ) -> Result<BoxStep<CheckNote>, JournalFault>
-        requires room { ticks_taken self.old < MAX_TICKS }
+        requires room { checker_ticks self.old < MAX_TICKS }
         requires of_link { journal_link journal.old
-            ≡ link_by R.LineRules M.Mac B (direction_of self.old) }
+            ≡ link_by R.LineRules M.Mac B (checker_direction self.old) }
         requires fits { Fits journal.old (S.told disk.old) }
 
-        ensures taken { OnOk result (ticks_taken self.new ≡ ticks_taken self.old + 1) }
+        ensures taken { OnOk result (checker_ticks self.new ≡ checker_ticks self.old + 1) }
         ensures step { IfOk result (λ step. (setup : Setup) (line : List Tick)
-            → StandsFor R.LineRules M.Mac self.old journal.old setup line
-            → HasTaken R.LineRules M.Mac self.new (journal_floor journal.new) setup line t step) }
+            → CheckerStandsFor R.LineRules M.Mac self.old journal.old setup line
+            → CheckerHasTaken R.LineRules M.Mac self.new (journal_floor journal.new) setup line t step) }
 
         // It fails only in a step in which a burst passes by the definitions, and its number isn't
         // committed.
         ensures err_passes { OnErr result ((number : ℕ)
             × HasFailed journal.old journal.new (S.told disk.old) (S.told disk.new) number
             × ((setup : Setup) (line : List Tick)
-            → StandsFor R.LineRules M.Mac self.old journal.old setup line
+            → CheckerStandsFor R.LineRules M.Mac self.old journal.old setup line
             → PassesWith (profile_of R.LineRules M.Mac B LIMIT setup) R.rules setup.floor line t
             number)) }
-        ensures journal { KeepsJournal S.SlotDisk journal.old journal.new disk.old disk.new result }
-        ensures direction { direction_of self.new ≡ direction_of self.old }
+        ensures journal { CheckerKeepsJournal S.SlotDisk journal.old journal.new disk.old disk.new result }
+        ensures direction { checker_direction self.new ≡ checker_direction self.old }
     {
         let cut = self.cut.step(t);
         self.until = self.until.saturating_sub(1);
@@ -148,14 +148,14 @@ impl<R: LineRules, M: Mac, const B: usize, const D: usize> Checker<R, M, B, D> {
     /// returns 0, the caller must go on with `step`.
     #[inline(always)]
     pub fn pass_bytes(&mut self, bytes: &[u8], sent: &mut RunBytes) -> usize
-        requires { ticks_taken self.old + length bytes.now ≤ MAX_TICKS }
+        requires { checker_ticks self.old + length bytes.now ≤ MAX_TICKS }
         ensures within { result ≤ length bytes.now }
-        ensures taken { ticks_taken self.new ≡ ticks_taken self.old + result }
+        ensures taken { checker_ticks self.new ≡ checker_ticks self.old + result }
         ensures run { (last : ℕ) (setup : Setup) (line : List Tick)
-            → StandsAt R.LineRules M.Mac self.old last setup line
-            → HasTakenRun R.LineRules M.Mac self.new last setup line
+            → CheckerStandsAt R.LineRules M.Mac self.old last setup line
+            → CheckerHasTakenRun R.LineRules M.Mac self.new last setup line
             (map Byte (take result bytes.now)) (answered result sent.new.items) }
-        ensures direction { direction_of self.new ≡ direction_of self.old }
+        ensures direction { checker_direction self.new ≡ checker_direction self.old }
     {
         sent.clear();
         match self.phase {
@@ -176,14 +176,14 @@ impl<R: LineRules, M: Mac, const B: usize, const D: usize> Checker<R, M, B, D> {
     /// returns 0, the caller must go on with `step`.
     #[inline(always)]
     pub fn pass_silence(&mut self, ticks: u32, sent: &mut RunBytes) -> u32
-        requires { ticks_taken self.old + ticks ≤ MAX_TICKS }
+        requires { checker_ticks self.old + ticks ≤ MAX_TICKS }
         ensures within { result ≤ ticks }
-        ensures taken { ticks_taken self.new ≡ ticks_taken self.old + result }
+        ensures taken { checker_ticks self.new ≡ checker_ticks self.old + result }
         ensures run { (last : ℕ) (setup : Setup) (line : List Tick)
-            → StandsAt R.LineRules M.Mac self.old last setup line
-            → HasTakenRun R.LineRules M.Mac self.new last setup line
+            → CheckerStandsAt R.LineRules M.Mac self.old last setup line
+            → CheckerHasTakenRun R.LineRules M.Mac self.new last setup line
             (silent result) (answered result sent.new.items) }
-        ensures direction { direction_of self.new ≡ direction_of self.old }
+        ensures direction { checker_direction self.new ≡ checker_direction self.old }
     {
         sent.clear();
         match self.phase {
@@ -225,7 +225,7 @@ impl<R: LineRules, M: Mac, const B: usize, const D: usize> Checker<R, M, B, D> {
         ensures others { self.new
             ≡ record self.old { ring = self.new.ring; outlet = self.new.outlet } }
         ensures ring { ring_ticks self.new.ring ≡ drop 1 (ring_ticks self.old.ring) ++ t ∷ [] }
-        ensures out { (x : List ℕ) → OutletStandsFor R.LineRules self.old.outlet x
+        ensures out { (x : List ℕ) → OutletStandsForTicks R.LineRules self.old.outlet x
             → HasTurned R.LineRules self.old.outlet self.new.outlet (self.old.until == 0)
             (passes_in self.old.phase) x result
             (slice_index_or (ring_ticks self.old.ring) 0 Silent) }
@@ -265,7 +265,7 @@ impl<R: LineRules, M: Mac, const B: usize, const D: usize> Checker<R, M, B, D> {
     #[inline]
     pub fn live_bytes(&self) -> &R
         ensures { (last : ℕ) (setup : Setup) (link : List Tick)
-            → StandsAt R.LineRules M.Mac self.now last setup link
+            → CheckerStandsAt R.LineRules M.Mac self.now last setup link
             → R.stands result.now (live_bytes_so_far R.rules link) }
     {
         self.cut.rules()

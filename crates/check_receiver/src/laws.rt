@@ -6,7 +6,7 @@ ghost use Rattle.sequence_journal.specs.Journal.{journal_floor, IsCrashSafe};
 ghost use Rattle.sequence_journal.specs.Uptimes.{IsStepOf, last_from, numbers_answered};
 ghost use Rattle.frame_ending.specs.declared.box_step.BoxStep.{BoxStep};
 ghost use Rattle.link_box.specs.declared.check_note.CheckNote.{CheckNote};
-ghost use Rattle.check_receiver.specs.Checkings.{KeepsJournal, numbers_noted};
+ghost use Rattle.check_receiver.specs.Checkings.{CheckerKeepsJournal, numbers_passed_in};
 
 use yasir_io::SlotDisk;
 
@@ -17,15 +17,15 @@ use yasir_io::SlotDisk;
 pub fn steps_are_of_an_uptime<D: SlotDisk>()
     ensures is_step { (old new : Journal) (before after : D)
         (result : Result (BoxStep CheckNote) JournalFault)
-        → KeepsJournal D.SlotDisk old new before after result
+        → CheckerKeepsJournal D.SlotDisk old new before after result
         → IsCrashSafe old (D.told before) (D.may_leave before)
         → IsStepOf D.SlotDisk old before (record {
-          numbers = numbers_answered (λ step. numbers_noted step.note) result;
+          numbers = numbers_answered (λ step. numbers_passed_in step.note) result;
           after = after;
         }) }
     ensures goes_on { (old new : Journal) (before after : D)
         (result : Result (BoxStep CheckNote) JournalFault)
-        → KeepsJournal D.SlotDisk old new before after result
-        → last_from (journal_floor old) (numbers_answered (λ step. numbers_noted step.note) result)
+        → CheckerKeepsJournal D.SlotDisk old new before after result
+        → last_from (journal_floor old) (numbers_answered (λ step. numbers_passed_in step.note) result)
         ≡ journal_floor new }
 {}

@@ -5,9 +5,9 @@ ghost use Rattle.yasir_ticks.specs.declared.tick.Tick.{Tick};
 ghost use Rattle.yasir_ticks.specs.declared.tick.Tick.TheVariants.{Byte};
 ghost use Rattle.yasir_ticks.specs.declared.TheConstants.{MAX_TICKS};
 ghost use Rattle.frame_ending.specs.Stands.{ticks_taken as ticks_cut};
-ghost use Rattle.frame_ending.specs.Stands.{StandsFor as CutStandsFor};
+ghost use Rattle.frame_ending.specs.Stands.{CutStandsFor};
 ghost use Rattle.yasir_ticks.specs.DelayRing.{ring_ticks, AreAlike};
-ghost use Rattle.check_receiver.specs.Runs.{BeginNone, IsFront, KeepsHeader};
+ghost use Rattle.check_receiver.specs.Runs.{BeginNone, CheckerIsFront, KeepsHeader};
 ghost use Rattle.frame_ending.specs.Cuts.{cut_of};
 ghost use Rattle.frame_ending.specs.declared.cut.Cut.TheVariants.{Start};
 ghost use Rattle.line_rules.specs.Rules.{head_of};
@@ -93,7 +93,7 @@ pub fn lend<const D: usize>(ring: &DelayRing<D>, count: usize, sent: &mut RunByt
     requires within { count ≤ D }
     requires alike { AreAlike (take count (ring_ticks ring.now)) }
     requires empty { sent.old.items ≡ [] }
-    ensures { IsFront (ring_ticks ring.now) count sent.new.items }
+    ensures { CheckerIsFront (ring_ticks ring.now) count sent.new.items }
 {
     let front = ring.alike_bytes(count);
     if front.is_empty() {
@@ -138,7 +138,7 @@ pub fn lend_along<const D: usize>(
     requires most { count ≤ 64 }
     requires alike { AreAlike (take count (ring_ticks ring.now ++ map Byte bytes.now)) }
     requires empty { sent.old.items ≡ [] }
-    ensures { IsFront (ring_ticks ring.now ++ map Byte bytes.now) count sent.new.items }
+    ensures { CheckerIsFront (ring_ticks ring.now ++ map Byte bytes.now) count sent.new.items }
 {
     let front = ring.alike_bytes(count.min(D));
     if front.is_empty() {

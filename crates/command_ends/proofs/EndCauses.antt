@@ -1,6 +1,6 @@
 -- The causes of the status with which a run over an input ends.
 use Rattle.std.proofs.Common.{◌≡◌, ℕ, ◌⊎◌, inl, inr, false, refl, sym, subst, arith}
-use Rattle.tick_drive.specs.{Consumers.is_write_fault, Drive.answer_of}
+use Rattle.tick_drive.specs.{Consumers.is_write_fault, Drive.drive_answer_of}
 use Rattle.tick_drive.specs.Input.{IsReadCause, is_read_fault}
 use Rattle.tick_drive.specs.declared.consumer.Stop.TheVariants as stops
 use Rattle.command_ends.specs.Causes.{InputCause, SinkCause}
@@ -30,7 +30,7 @@ input_cause_of_whole before now status (inr fault) same =
 -- If no write had failed when the input ended, and it isn't whole, the sinks' counts fit the
 -- status.
 pub sink_cause_of_end : (out_before out_now log_before log_now : ℕ) (end : End)
-    → is_write_fault (answer_of end) ≡ false
+    → is_write_fault (drive_answer_of end) ≡ false
     → (end ≡ Whole → ⊥) → out_now ≡ out_before → log_now ≡ log_before
     → SinkCause out_before out_now log_before log_now (status_of end)
 sink_cause_of_end out_before out_now log_before log_now Whole other partial out log =

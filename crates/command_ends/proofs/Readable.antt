@@ -4,7 +4,7 @@ use Rattle.std.proofs.Common.{ℕ, ◌+◌, ◌≤◌, inl, inr, List, [], ◌�
 use Rattle.std.proofs.Common.{Option, Some, None, subst, sym, ap, ◌∙◌, append-nil, arith}
 use Rattle.std.specs.Io.KnownBytes.{prepend_known, IsAtEnd}
 use Rattle.tick_drive.proofs.ItemLaws.{ticks_in-append}
-use Rattle.tick_drive.specs.Input.{Takes, AreFew, IsRefusedByte, IsRefusedEnd, IsRefused}
+use Rattle.tick_drive.specs.Input.{Takes, AreFew, IsRefusedByte, IsRefusedEnd, InputIsRefused}
 use Rattle.tick_drive.specs.Input.{HasTooManyTicks, HasTooManyBytes, max_bytes}
 use Rattle.tick_drive.specs.declared.end.End.TheVariants.{Refused, TooLong}
 use Rattle.tick_drive.specs.declared.end.TooMuch.{TooMuch, TheVariants.Ticks, TheVariants.Bytes}
@@ -50,7 +50,7 @@ module _ (marks : ℕ) (text : List ℕ) (items : List Item) (right : IsTickText
         )
 
     no_refusal : (now : Option (List ℕ)) (taken : List Item) (bad : BadTicks)
-        → IsRefused marks (Some text) now taken bad → ⊥
+        → InputIsRefused marks (Some text) now taken bad → ⊥
     no_refusal now taken bad h = elim h.refused [
       | inl byte ↦ no_byte_refused h.text bad byte
       | inr end ↦ no_end_refused h.text now bad end
@@ -91,7 +91,7 @@ module _ {marks : ℕ} (rest : ℕ) (before now : Option (List ℕ)) (taken : Li
   -- A right text isn't refused.
   pub not_refused : (bad : BadTicks) → Takes marks rest before now taken (Refused bad) → ⊥
   not_refused bad h = no_refusal marks readable.text readable.items readable.right now taken bad
-      (subst (λ left. IsRefused marks left now taken bad) readable.told h)
+      (subst (λ left. InputIsRefused marks left now taken bad) readable.told h)
 
   -- A right text within the limits isn't too long.
   pub not_too_long : (what : TooMuch) (count : ℕ)

@@ -1,5 +1,5 @@
 -- When ticks can be no frame, whatever their bytes are, and how a byte that follows changes that.
-use Rattle.device_model.specs.{RtuFamily.is_broken, RtuReads.begins_silent, RtuReads.has_silence}
+use Rattle.device_model.specs.{RtuFamily.is_cut_off_frame, RtuReads.begins_silent, RtuReads.has_silence}
 use Rattle.frame_ending.proofs.Pauses.{contiguous-ends}
 use Rattle.std.proofs.Common.{◌≡◌, ◌∙◌, ℕ, zero, suc, ◌+◌, ◌<◌, ◌≤◌, nat_lt, nat_le, Bool, true}
 use Rattle.std.proofs.Common.{false, ◌||◌, List, [], ◌∷◌, ◌++◌, length, refl, sym, ap, arith}
@@ -105,14 +105,14 @@ over-many n =
     (cases_lt n 256)
 
 -- A single byte isn't broken.
-pub alone-whole : (gap b : ℕ) → is_broken gap (Byte b ∷ []) ≡ false
+pub alone-whole : (gap b : ℕ) → is_cut_off_frame gap (Byte b ∷ []) ≡ false
 unfolding has_silence
 alone-whole gap b = refl
 
 -- With one more byte, ticks are broken if they were before, if too much silence comes before the
 -- byte, or if there was no room for it.
 grown-broken : (gap c : ℕ) (body : List Tick) (q b : ℕ) → IsContiguous c body
-    → is_broken gap (body ++ (silent q ++ Byte b ∷ []))
+    → is_cut_off_frame gap (body ++ (silent q ++ Byte b ∷ []))
     ≡ ((has_silence (suc gap) body || nat_lt gap q) || nat_le 256 (length (bytes_in body)))
 grown-broken gap c body q b contiguous =
     let n : ℕ = length (bytes_in body) in
@@ -133,7 +133,7 @@ both-whole false m q k is = refl
 
 -- Ticks that are broken stay so.
 broken-stays : (gap c : ℕ) (body : List Tick) (q b : ℕ) → IsContiguous c body
-    → is_broken gap body ≡ true → is_broken gap (body ++ (silent q ++ Byte b ∷ [])) ≡ true
+    → is_cut_off_frame gap body ≡ true → is_cut_off_frame gap (body ++ (silent q ++ Byte b ∷ [])) ≡ true
 broken-stays gap c body q b contiguous broken =
     let n : ℕ = length (bytes_in body) in
     grown-broken gap c body q b contiguous
@@ -141,8 +141,8 @@ broken-stays gap c body q b contiguous broken =
     (λ more. le-leb 256 n (omega (arith, ltb-true 256 n more))) broken
 
 whole-grown : (gap c : ℕ) (body : List Tick) (q b : ℕ) → IsContiguous c body
-    → is_broken gap body ≡ false
-    → is_broken gap (body ++ (silent q ++ Byte b ∷ []))
+    → is_cut_off_frame gap body ≡ false
+    → is_cut_off_frame gap (body ++ (silent q ++ Byte b ∷ []))
     ≡ (nat_lt gap q || nat_le 256 (length (bytes_in body)))
 whole-grown gap c body q b contiguous whole =
     let n : ℕ = length (bytes_in body) in
@@ -152,10 +152,10 @@ whole-grown gap c body q b contiguous whole =
 -- A device can tell whether the ticks are broken with one more byte, as it knows whether there is
 -- room as long as they aren't broken.
 pub grown-is : (gap c : ℕ) (body : List Tick) (q b : ℕ) (broken full : Bool)
-    → IsContiguous c body → broken ≡ is_broken gap body
+    → IsContiguous c body → broken ≡ is_cut_off_frame gap body
     → (broken ≡ false → full ≡ nat_le 256 (length (bytes_in body)))
     → (broken || (nat_lt gap q || full))
-    ≡ is_broken gap (body ++ (silent q ++ Byte b ∷ []))
+    ≡ is_cut_off_frame gap (body ++ (silent q ++ Byte b ∷ []))
 grown-is gap c body q b true full contiguous is known =
     sym (broken-stays gap c body q b contiguous (sym is))
 grown-is gap c body q b false full contiguous is known =

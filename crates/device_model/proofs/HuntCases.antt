@@ -3,8 +3,8 @@ use Rattle.device_model.proofs.Heads.{head-short, head-good, head-bad, good-long
 use Rattle.device_model.proofs.{Heads.short-short, Heads.head-more, Hunts.timed_bytes-length}
 use Rattle.device_model.proofs.Hunts.{begins-more, begins-front, hunt-none, hunt-no_start, taken-is}
 use Rattle.device_model.proofs.Hunts.{found-is, hunt-few, hunt-taken, taken_by-more}
-use Rattle.device_model.specs.{Frames.FrameRead, Hunt.Timed, Hunt.timed_bytes, Hunt.header_in}
-use Rattle.device_model.specs.Hunt.{taken_by, frame_of, found_by, begins, bytes_taken, found, hunt}
+use Rattle.device_model.specs.{Frames.FrameRead, Hunt.Timed, Hunt.timed_bytes, Hunt.header_hunted}
+use Rattle.device_model.specs.Hunt.{taken_by, frame_hunted, found_by, begins, bytes_taken, found, hunt}
 use Rattle.device_model.specs.HuntLaws.{IsHunted, whole_frame, HuntsByCases}
 use Rattle.device_model.specs.HuntingDevice.{IsUndecided, nothing, first_byte, header_begun}
 use Rattle.device_model.specs.HuntingDevice.{frame_at}
@@ -25,29 +25,29 @@ module _ (first second : ℕ) (rules : Rules) (headed : IsHeaded rules)
   -- ---- headers
 
   -- A good header begins as each header does.
-  pub good-starts : (x : List ℕ) → rules.is_good_header (header_in rules x) ≡ true
+  pub good-starts : (x : List ℕ) → rules.is_good_header (header_hunted rules x) ≡ true
       → begins first second x ≡ true
   good-starts x good =
       ap (begins first second) (sym (take-append-drop rules.header_len x))
-      ∙ begins-more first second (header_in rules x) (drop rules.header_len x)
-      (hunted.starts (header_in rules x) good)
+      ∙ begins-more first second (header_hunted rules x) (drop rules.header_len x)
+      (hunted.starts (header_hunted rules x) good)
 
   -- A good header says how many bytes there is room for, and the size of a frame that begins with
   -- it.
   pub good-room : (x : List ℕ) → rules.header_len ≤ length x
-      → rules.is_good_header (header_in rules x) ≡ true
-      → rules.room x ≡ rules.size (header_in rules x)
+      → rules.is_good_header (header_hunted rules x) ≡ true
+      → rules.room x ≡ rules.size (header_hunted rules x)
   good-room x long good =
       ap rules.room (sym (take-append-drop rules.header_len x))
-      ∙ hunted.says_room (header_in rules x) (drop rules.header_len x)
+      ∙ hunted.says_room (header_hunted rules x) (drop rules.header_len x)
       (length-take-le rules.header_len x long) good
 
   pub good-size : (x : List ℕ) → rules.header_len ≤ length x
-      → rules.is_good_header (header_in rules x) ≡ true
-      → rules.size x ≡ rules.size (header_in rules x)
+      → rules.is_good_header (header_hunted rules x) ≡ true
+      → rules.size x ≡ rules.size (header_hunted rules x)
   good-size x long good =
       ap rules.size (sym (take-append-drop rules.header_len x))
-      ∙ hunted.says_size (header_in rules x) (drop rules.header_len x)
+      ∙ hunted.says_size (header_hunted rules x) (drop rules.header_len x)
       (length-take-le rules.header_len x long) good
 
   -- At least a header is taken, and there is room for what is taken.
@@ -91,7 +91,7 @@ module _ (first second : ℕ) (rules : Rules) (headed : IsHeaded rules)
 
   header-dropped : (x : List Timed) → begins first second (timed_bytes x) ≡ true
       → rules.header_len ≤ length x
-      → rules.is_good_header (header_in rules (timed_bytes x)) ≡ false
+      → rules.is_good_header (header_hunted rules (timed_bytes x)) ≡ false
       → hunts x ≡ hunts (drop rules.header_len x)
   header-dropped [] starts long bad = cc
   header-dropped (t ∷ x) starts long bad =
@@ -106,7 +106,7 @@ module _ (first second : ℕ) (rules : Rules) (headed : IsHeaded rules)
 
   -- If all bytes of a frame have come, it is the frame of these bytes.
   whole-read : (n : ℕ) (t : Timed) (x : List Timed) → 0 < n → n ≤ length (t ∷ x)
-      → frame_of rules t.tick n (timed_bytes (t ∷ x)) ≡ whole_frame rules (take n (t ∷ x))
+      → frame_hunted rules t.tick n (timed_bytes (t ∷ x)) ≡ whole_frame rules (take n (t ∷ x))
   whole-read zero t x some fits = absurd (omega arith)
   whole-read (suc n) t x some fits =
       let bytes : List ℕ = timed_bytes (t ∷ x) in
@@ -120,8 +120,8 @@ module _ (first second : ℕ) (rules : Rules) (headed : IsHeaded rules)
       ∙ ap read (take-map (λ (u : Timed). u.byte) (suc n) (t ∷ x))
 
   frame-taken : (x : List Timed) → rules.header_len ≤ length x
-      → rules.is_good_header (header_in rules (timed_bytes x)) ≡ true
-      → (n : ℕ) → n ≡ rules.size (header_in rules (timed_bytes x)) → n ≤ length x
+      → rules.is_good_header (header_hunted rules (timed_bytes x)) ≡ true
+      → (n : ℕ) → n ≡ rules.size (header_hunted rules (timed_bytes x)) → n ≤ length x
       → hunts x ≡ whole_frame rules (take n x) ++ hunts (drop n x)
   frame-taken [] long good n size fits =
       let within = hunted.start_within in absurd (omega arith)
@@ -137,7 +137,7 @@ module _ (first second : ℕ) (rules : Rules) (headed : IsHeaded rules)
       taken-dropped n t x some fits (taken-is first second rules Good bytes starts is ∙ sym size)
       ∙ ap (λ f. f ++ hunts (drop n (t ∷ x)))
       (found-is first second rules Good t.tick bytes starts is
-      ∙ (ap (λ k. frame_of rules t.tick k bytes) (sym size) ∙ whole-read n t x some fits))
+      ∙ (ap (λ k. frame_hunted rules t.tick k bytes) (sym size) ∙ whole-read n t x some fits))
 
   short-read : (x : List Timed) → begins first second (timed_bytes x) ≡ true
       → length x < rules.header_len → hunts x ≡ []
@@ -149,8 +149,8 @@ module _ (first second : ℕ) (rules : Rules) (headed : IsHeaded rules)
       hunt-few first second rules x starts (omega arith)
 
   cut-read : (x : List Timed) → rules.header_len ≤ length x
-      → rules.is_good_header (header_in rules (timed_bytes x)) ≡ true
-      → length x < rules.size (header_in rules (timed_bytes x)) → hunts x ≡ []
+      → rules.is_good_header (header_hunted rules (timed_bytes x)) ≡ true
+      → length x < rules.size (header_hunted rules (timed_bytes x)) → hunts x ≡ []
   cut-read x long good few =
       let bytes : List ℕ = timed_bytes x in
       let count = timed_bytes-length x in
@@ -240,7 +240,7 @@ module _ (first second : ℕ) (rules : Rules) (headed : IsHeaded rules)
       (λ bad.
       let taken = taken-is first second rules Bad x starts (head-bad rules x long bad) in
       absurd (omega arith))
-      (cases_Bool (rules.is_good_header (header_in rules x)))
+      (cases_Bool (rules.is_good_header (header_hunted rules x)))
 
   -- A good header says the size of a frame for which a device has room.
   pub size-readable : IsLawful rules → (h : List ℕ) → AreBytes h → length h ≡ rules.header_len
@@ -297,7 +297,7 @@ module _ (first second : ℕ) (rules : Rules) (headed : IsHeaded rules)
     found-by : (head : Head) → head_of rules x ≡ head → taken_by rules head x ≡ length x
         → (start : ℕ) → found_by rules head start x ≡ frame_at rules start x
     found-by Good is whole start =
-        let n : ℕ = rules.size (header_in rules x) in
+        let n : ℕ = rules.size (header_hunted rules x) in
         ap (λ b. cond (b && rules.is_frame (take n x))
         (let r : FrameRead = record { start = start; frame = take n x } in r ∷ []) [])
         (le-leb n (length x) (omega arith))

@@ -6,7 +6,7 @@ use Rattle.device_model.proofs.Parting.{parted-goes_on, parted-rests, parted-wai
 use Rattle.device_model.specs.{Frames.FrameRead, Hunt.Timed, Hunt.timed, Hunt.hunt}
 use Rattle.device_model.specs.HuntFamily.{hunt_bursts, hunt_family, timed_in, IsAnew, IsSince}
 use Rattle.device_model.specs.{HuntFamily.FamilyStandsFor, HuntLaws.IsHunted}
-use Rattle.device_model.specs.HuntingDevice.{HeardBy, HuntStandsFor, held_by}
+use Rattle.device_model.specs.HuntingDevice.{HeardBy, HuntStandsFor, held_by_hunt}
 use Rattle.device_model.specs.{Parted.IsParted, declared.hunting_family.HuntingFamily.HuntingFamily}
 use Rattle.line_rules.specs.{Rules.Rules, declared.line_rules.LineRules.Ghosts as LineRules}
 use Rattle.std.proofs.Common.{◌≡◌, ◌∙◌, ℕ, zero, suc, ◌+◌, ◌<◌, ◌≤◌, ◌==◌, nat_lt, cond, true}
@@ -307,7 +307,7 @@ module _ {R : Type 0} (proto : LineRules R) (first second cut : ℕ) where
       -- The silent tick parts the line, and the device has lost what it had taken.
       module _ (hunted : IsHunted first second its)
           (parts : old.silence.quiet + 1 == old.silence.cut ≡ true)
-          (empty : held_by new.device ≡ []) (lacking : new.device.lacking ≡ 0) where
+          (empty : held_by_hunt new.device ≡ []) (lacking : new.device.lacking ≡ 0) where
         abbrev all_frames : List FrameRead
         all_frames = heard.frames ++ hunt first second its 0 heard.since
 

@@ -7,9 +7,9 @@ use Rattle.device_model.proofs.HuntRuns.{run, held-run, ended-run, fronts-of, al
 use Rattle.device_model.proofs.HuntSteps.{starts-more}
 use Rattle.device_model.proofs.Hunts.{timed_bytes-length, begins-more, begins-two, taken-is}
 use Rattle.device_model.specs.{Frames.FrameRead, Hunt.Timed, Hunt.timed_bytes, Hunt.begins}
-use Rattle.device_model.specs.{Hunt.bytes_taken, Hunt.header_in, HuntLaws.IsHunted}
-use Rattle.device_model.specs.HuntingDevice.{header_begun, StartsAt, HeardBy, TakesRun, frame_at}
-use Rattle.device_model.specs.HuntingDevice.{HasRoom, GoesBehind, held_by}
+use Rattle.device_model.specs.{Hunt.bytes_taken, Hunt.header_hunted, HuntLaws.IsHunted}
+use Rattle.device_model.specs.HuntingDevice.{header_begun, StartsAt, HeardBy, HuntTakesRun, frame_at}
+use Rattle.device_model.specs.HuntingDevice.{HuntHasRoom, GoesBehind, held_by_hunt}
 use Rattle.device_model.specs.declared.hunting.HuntingDevice.{HuntingDevice}
 use Rattle.line_rules.specs.Rules.{Rules, head_of, lacking_of, lacking_by}
 use Rattle.line_rules.specs.declared.head.Head.{Head}
@@ -34,30 +34,30 @@ module _ {R : Type 0} (proto : LineRules R) (first second : ℕ)
   Heard value x = HeardBy proto first second value x
 
   abbrev Takes : HuntingDevice R → HuntingDevice R → ℕ → List ℕ → List FrameRead → Type 0
-  Takes old new at y frames = TakesRun proto first second old new at y frames
+  Takes old new at y frames = HuntTakesRun proto first second old new at y frames
 
   -- ---- bytes that follow the beginning of a header
 
   module _ (old : HuntingDevice R) (some : 0 < old.lacking) (x : List Timed)
       (heard : Heard old x) where
-    begun : begins first second (held_by old) ≡ true
+    begun : begins first second (held_by_hunt old) ≡ true
     begun =
         ⊎_elim
         (λ is. is)
         (λ none.
         let is : old.lacking ≡ 0 = heard.lacks ∙ cond-false _ _ _ none in absurd (omega arith))
-        (cases_Bool (begins first second (held_by old)))
+        (cases_Bool (begins first second (held_by_hunt old)))
 
     unlent : old.lends ≡ false
     unlent =
         ⊎_elim
         (λ is.
-        let none : held_by old ≡ [] = cond-true _ _ _ is in
+        let none : held_by_hunt old ≡ [] = cond-true _ _ _ is in
         absurd (false≢true (sym (ap (begins first second) none) ∙ begun)))
         (λ not_lent. not_lent)
         (cases_Bool old.lends)
 
-    pub items-held : held_by old ≡ old.bytes.items
+    pub items-held : held_by_hunt old ≡ old.bytes.items
     items-held = cond-false _ _ _ unlent
 
     pub items-begin : begins first second old.bytes.items ≡ true
@@ -71,10 +71,10 @@ module _ {R : Type 0} (proto : LineRules R) (first second : ℕ)
         ∙ ap (λ u. bytes_taken first second its u - length u) items-held)
 
     pub items-stand : its.header_len ≤ length old.bytes.items
-        → proto.stands old.rules (header_in its old.bytes.items)
+        → proto.stands old.rules (header_hunted its old.bytes.items)
     items-stand long =
         let same = ap length items-held in
-        subst (λ u. proto.stands old.rules (header_in its u)) items-held
+        subst (λ u. proto.stands old.rules (header_hunted its u)) items-held
         (heard.stands (omega arith))
 
     -- There is room for all bytes that are taken with the header.
@@ -91,8 +91,8 @@ module _ {R : Type 0} (proto : LineRules R) (first second : ℕ)
         let few : length b < bytes_taken first second its b = omega arith in
         let good = begun-good first second its proto.headed hunted b items-begin long few in
         let taken = taken-is first second its Good b items-begin good in
-        let size = size-readable first second its proto.headed hunted proto.lawful (header_in its b)
-        (proto.bytes old.rules (header_in its b) (items-stand long))
+        let size = size-readable first second its proto.headed hunted proto.lawful (header_hunted its b)
+        (proto.bytes old.rules (header_hunted its b) (items-stand long))
         (length-take-le its.header_len b long) (good-header its b good) in
         omega arith)
         (cases_lt (length b) its.header_len)
@@ -112,7 +112,7 @@ module _ {R : Type 0} (proto : LineRules R) (first second : ℕ)
       grown-begins : begins first second (old.bytes.items ++ y) ≡ true
       grown-begins = begins-more first second old.bytes.items y (items-begin old some x heard)
 
-      grown-held : held_by mid ≡ old.bytes.items ++ y
+      grown-held : held_by_hunt mid ≡ old.bytes.items ++ y
       grown-held = cond-false _ _ _ (lends ∙ unlent old some x heard) ∙ grown
 
       grown-starts : mid.start ≡ old.start → (at : ℕ) (held : List Timed)
@@ -158,7 +158,7 @@ module _ {R : Type 0} (proto : LineRules R) (first second : ℕ)
               let is = taken-short first second its proto.headed hunted b starts short in
               absurd (omega arith))
               (λ whole.
-              subst (λ r. proto.stands r (header_in its w)) (sym rules)
+              subst (λ r. proto.stands r (header_hunted its w)) (sym rules)
               (subst (proto.stands old.rules) (sym (header-more its b y whole))
               (items-stand old some x heard whole)))
               (cases_lt (length b) its.header_len);
@@ -171,8 +171,8 @@ module _ {R : Type 0} (proto : LineRules R) (first second : ℕ)
         (rules : mid.rules ≡ old.rules) (all : length y ≡ old.lacking)
         (behind : length mid.bytes.items ≡ its.header_len → ⊥)
         (goes : its.header_len ≤ length mid.bytes.items
-        → proto.stands mid.rules (header_in its mid.bytes.items) → HasRoom its mid.bytes.items
-        → (held_by new ≡ []) × (new.lacking ≡ 0) × (frames ≡ frame_at its mid.start mid.bytes.items))
+        → proto.stands mid.rules (header_hunted its mid.bytes.items) → HuntHasRoom its mid.bytes.items
+        → (held_by_hunt new ≡ []) × (new.lacking ≡ 0) × (frames ≡ frame_at its mid.start mid.bytes.items))
       where
         module _ (x : List Timed) (heard : Heard old x) where
           frame-long : its.header_len ≤ length old.bytes.items
@@ -198,22 +198,22 @@ module _ {R : Type 0} (proto : LineRules R) (first second : ℕ)
               (items-begin old some x heard) frame-long in
               omega arith
 
-          frame-room : HasRoom its mid.bytes.items
+          frame-room : HuntHasRoom its mid.bytes.items
           frame-room =
               let taken = frame-taken in
-              subst (HasRoom its) (sym (grown x heard))
+              subst (HuntHasRoom its) (sym (grown x heard))
               (all-room proto first second hunted (old.bytes.items ++ y) (grown-begins x heard)
               (omega arith))
 
-          frame-stands : proto.stands mid.rules (header_in its mid.bytes.items)
+          frame-stands : proto.stands mid.rules (header_hunted its mid.bytes.items)
           frame-stands =
-              subst (λ r. proto.stands r (header_in its mid.bytes.items)) (sym rules)
+              subst (λ r. proto.stands r (header_hunted its mid.bytes.items)) (sym rules)
               (subst (proto.stands old.rules)
-              (sym (ap (header_in its) (grown x heard)
+              (sym (ap (header_hunted its) (grown x heard)
               ∙ header-more its old.bytes.items y frame-long))
               (items-stand old some x heard frame-long))
 
-          frame-gone : (held_by new ≡ []) × (new.lacking ≡ 0)
+          frame-gone : (held_by_hunt new ≡ []) × (new.lacking ≡ 0)
               × (frames ≡ frame_at its mid.start mid.bytes.items)
           frame-gone =
               let sum = length-append old.bytes.items y in
@@ -249,16 +249,16 @@ module _ {R : Type 0} (proto : LineRules R) (first second : ℕ)
             let least = taken-header first second its proto.headed hunted (head_of its w) w refl in
             omega arith
 
-        header-room : HasRoom its mid.bytes.items
+        header-room : HuntHasRoom its mid.bytes.items
         header-room =
-            subst (HasRoom its) (sym (grown x heard))
+            subst (HuntHasRoom its) (sym (grown x heard))
             (all-room proto first second hunted (old.bytes.items ++ y) (grown-begins x heard)
             header-within)
 
       -- More bytes are taken with the header.
       module _ (new : HuntingDevice R) (frames : Bool → List FrameRead)
           (none : frames false ≡ []) (reads : Bool) (more : 0 < lacking_of its mid.bytes.items)
-          (goes : HasRoom its mid.bytes.items → GoesBehind proto mid new reads) where
+          (goes : HuntHasRoom its mid.bytes.items → GoesBehind proto mid new reads) where
         module _ (x : List Timed) (heard : Heard old x) where
           behind-is : GoesBehind proto mid new reads
           behind-is = goes (header-room x heard)
@@ -315,8 +315,8 @@ module _ {R : Type 0} (proto : LineRules R) (first second : ℕ)
       -- No more bytes are taken with the header.
       module _ (new : HuntingDevice R) (frames : List FrameRead)
           (none : lacking_of its mid.bytes.items ≡ 0)
-          (goes : HasRoom its mid.bytes.items
-          → (held_by new ≡ []) × (new.lacking ≡ 0)
+          (goes : HuntHasRoom its mid.bytes.items
+          → (held_by_hunt new ≡ []) × (new.lacking ≡ 0)
           × (frames ≡ frame_at its mid.start mid.bytes.items)) where
         bare-by : (head : Head) (w : List ℕ) → head_of its w ≡ head
             → begins first second w ≡ true → length w ≡ its.header_len → lacking_of its w ≡ 0

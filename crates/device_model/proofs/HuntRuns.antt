@@ -7,11 +7,11 @@ use Rattle.device_model.proofs.HuntSteps.{two-undecided, two-lack, passes-hears,
 use Rattle.device_model.proofs.HuntSteps.{begins-hears, begins-reads}
 use Rattle.device_model.proofs.Hunts.{timed_bytes-append, timed_bytes-length, hunt-whole}
 use Rattle.device_model.specs.{Frames.FrameRead, Hunt.Timed}
-use Rattle.device_model.specs.Hunt.{timed, timed_bytes, begins, bytes_taken, found, hunt, header_in}
+use Rattle.device_model.specs.Hunt.{timed, timed_bytes, begins, bytes_taken, found, hunt, header_hunted}
 use Rattle.device_model.specs.HuntLaws.{IsHunted}
-use Rattle.device_model.specs.HuntingDevice.{IsUndecided, nothing, first_byte, GoesOn, StartsAt}
-use Rattle.device_model.specs.HuntingDevice.{HeardBy, TakesRun, HuntStandsFor, frame_at, HasRoom}
-use Rattle.device_model.specs.HuntingDevice.{held_by, bytes_lacking}
+use Rattle.device_model.specs.HuntingDevice.{IsUndecided, nothing, first_byte, HuntGoesOn, StartsAt}
+use Rattle.device_model.specs.HuntingDevice.{HeardBy, HuntTakesRun, HuntStandsFor, frame_at, HuntHasRoom}
+use Rattle.device_model.specs.HuntingDevice.{held_by_hunt, bytes_lacking}
 use Rattle.device_model.specs.declared.hunting.HuntingDevice.{HuntingDevice}
 use Rattle.line_rules.specs.{Rules.Rules, declared.line_rules.LineRules.Ghosts as LineRules}
 use Rattle.std.proofs.Common.{◌≡◌, ◌∙◌, ℕ, zero, suc, ◌+◌, ◌-◌, ◌<◌, ◌≤◌, true, false, List, []}
@@ -79,7 +79,7 @@ module _ {R : Type 0} (proto : LineRules R) (first second : ℕ)
   Heard value x = HeardBy proto first second value x
 
   abbrev Takes : HuntingDevice R → HuntingDevice R → ℕ → List ℕ → List FrameRead → Type 0
-  Takes old new at y frames = TakesRun proto first second old new at y frames
+  Takes old new at y frames = HuntTakesRun proto first second old new at y frames
 
   -- ---- runs one after the other
 
@@ -173,8 +173,8 @@ module _ {R : Type 0} (proto : LineRules R) (first second : ℕ)
 
   -- A byte comes with which no header begins.
   pub passed-byte : (old new : HuntingDevice R) (at b : ℕ) → new.ticks ≡ old.ticks → old.lacking ≡ 0
-      → (length (held_by old) ≡ 1 → b ≡ second → ⊥) → (b ≡ first → ⊥)
-      → held_by new ≡ [] → new.lacking ≡ 0 → Takes old new at (b ∷ []) []
+      → (length (held_by_hunt old) ≡ 1 → b ≡ second → ⊥) → (b ≡ first → ⊥)
+      → held_by_hunt new ≡ [] → new.lacking ≡ 0 → Takes old new at (b ∷ []) []
   passed-byte old new at b ticks unbegun other not_first empty lacking =
       byte-run old new at b [] ticks
       (λ x heard. passes-hears proto first second hunted old (record { tick = at; byte = b }) x
@@ -183,8 +183,8 @@ module _ {R : Type 0} (proto : LineRules R) (first second : ℕ)
       heard unbegun other not_first)
 
   pub begun-byte : (old new : HuntingDevice R) (at b : ℕ) → new.ticks ≡ old.ticks → old.lacking ≡ 0
-      → (length (held_by old) ≡ 1 → b ≡ second → ⊥) → b ≡ first
-      → held_by new ≡ b ∷ [] → new.lacking ≡ 0 → new.start ≡ at → Takes old new at (b ∷ []) []
+      → (length (held_by_hunt old) ≡ 1 → b ≡ second → ⊥) → b ≡ first
+      → held_by_hunt new ≡ b ∷ [] → new.lacking ≡ 0 → new.start ≡ at → Takes old new at (b ∷ []) []
   begun-byte old new at b ticks unbegun other is_first is lacking start =
       byte-run old new at b [] ticks
       (λ x heard. begins-hears proto first second hunted old (record { tick = at; byte = b }) x
@@ -192,7 +192,7 @@ module _ {R : Type 0} (proto : LineRules R) (first second : ℕ)
       (λ x heard. begins-reads proto first second hunted old (record { tick = at; byte = b }) x
       heard unbegun other is_first)
 
-  pub passes-run : (value : HuntingDevice R) (at : ℕ) (y : List ℕ) → held_by value ≡ []
+  pub passes-run : (value : HuntingDevice R) (at : ℕ) (y : List ℕ) → held_by_hunt value ≡ []
       → value.lacking ≡ 0 → ((k : ℕ) → k < length y → get_or y k 0 ≡ first → ⊥)
       → Takes value value at y []
   passes-run value at [] empty lacking other = no-run value at
@@ -209,18 +209,18 @@ module _ {R : Type 0} (proto : LineRules R) (first second : ℕ)
   -- nothing.
   pub record Holds (old new : HuntingDevice R) (at : ℕ) (b y : List ℕ) (frames : List FrameRead) :
       Type 0 where
-    pub was : held_by old ≡ b
+    pub was : held_by_hunt old ≡ b
     pub fronts : (n : ℕ) → n < length y → Undecided (b ++ take n y)
     pub undecided : Undecided (b ++ y)
-    pub bytes : held_by new ≡ b ++ y
+    pub bytes : held_by_hunt new ≡ b ++ y
     pub lacking : new.lacking ≡ bytes_lacking first second its (b ++ y)
     pub stands : its.header_len ≤ length (b ++ y)
-        → proto.stands new.rules (header_in its (b ++ y))
+        → proto.stands new.rules (header_hunted its (b ++ y))
     pub starts : (held : List Timed) → timed_bytes held ≡ b → StartsAt old.start held
         → StartsAt new.start (held ++ run at y)
     pub gives : frames ≡ []
 
-  module _ (old : HuntingDevice R) (at : ℕ) (b : List ℕ) (was : held_by old ≡ b)
+  module _ (old : HuntingDevice R) (at : ℕ) (b : List ℕ) (was : held_by_hunt old ≡ b)
       (x : List Timed) (heard : Heard old x) where
     bytes-all : (z : List ℕ) → timed_bytes (heard.held ++ run at z) ≡ b ++ z
     bytes-all z =
@@ -234,7 +234,7 @@ module _ {R : Type 0} (proto : LineRules R) (first second : ℕ)
         (λ w. ap hunts (sym (append_assoc heard.held (run at z) w)))
 
     front-goes : (z : List ℕ) → Undecided (b ++ z)
-        → GoesOn first second its (x ++ run at z) (heard.held ++ run at z)
+        → HuntGoesOn first second its (x ++ run at z) (heard.held ++ run at z)
     front-goes z undecided =
         goes-after proto first second hunted x heard.held (heard.held ++ run at z) (run at z) []
         heard.goes_on (subst Undecided (sym (bytes-all z)) undecided)
@@ -255,7 +255,7 @@ module _ {R : Type 0} (proto : LineRules R) (first second : ℕ)
           lacks = is.lacking ∙ sym (ap (bytes_lacking first second its) is.bytes);
           stands = λ long.
               let same = ap length is.bytes in
-              subst (λ u. proto.stands new.rules (header_in its u)) (sym is.bytes)
+              subst (λ u. proto.stands new.rules (header_hunted its u)) (sym is.bytes)
               (is.stands (omega arith));
           starts = is.starts heard.held (sym heard.bytes_are ∙ is.was) heard.starts;
         };
@@ -280,7 +280,7 @@ module _ {R : Type 0} (proto : LineRules R) (first second : ℕ)
       (omega arith) (omega arith))
 
   pub all-room : (w : List ℕ) → begins first second w ≡ true
-      → length w ≤ bytes_taken first second its w → HasRoom its w
+      → length w ≤ bytes_taken first second its w → HuntHasRoom its w
   all-room w starts within = λ n below.
       undecided-open proto first second hunted (take n w)
       (front-undecided first second its proto.headed hunted w n starts (omega arith) (omega arith))
@@ -297,8 +297,8 @@ module _ {R : Type 0} (proto : LineRules R) (first second : ℕ)
   fronts-two (suc zero) below = first_byte
   fronts-two (suc (suc n)) below = absurd (omega arith)
 
-  pub begun-run : (old new : HuntingDevice R) (at : ℕ) → held_by old ≡ []
-      → new.ticks ≡ old.ticks → held_by new ≡ first ∷ second ∷ []
+  pub begun-run : (old new : HuntingDevice R) (at : ℕ) → held_by_hunt old ≡ []
+      → new.ticks ≡ old.ticks → held_by_hunt new ≡ first ∷ second ∷ []
       → new.lacking ≡ its.header_len - 2 → new.start ≡ at
       → Takes old new at (first ∷ second ∷ []) []
   begun-run old new at empty ticks bytes lacking start =
@@ -317,7 +317,7 @@ module _ {R : Type 0} (proto : LineRules R) (first second : ℕ)
 
   -- The second byte of a header comes after the first one.
   pub second-run : (old new : HuntingDevice R) (at b : ℕ) → b ≡ second → new.ticks ≡ old.ticks
-      → length (held_by old) ≡ 1 → held_by new ≡ held_by old ++ b ∷ []
+      → length (held_by_hunt old) ≡ 1 → held_by_hunt new ≡ held_by_hunt old ++ b ∷ []
       → new.lacking ≡ its.header_len - 2 → new.start ≡ old.start → Takes old new at (b ∷ []) []
   second-run old new at b is ticks one bytes lacking start =
       let within = hunted.start_within in
@@ -360,11 +360,11 @@ module _ {R : Type 0} (proto : LineRules R) (first second : ℕ)
   -- Holds if with the bytes `y` all bytes have come that are taken with the header, the device has
   -- let them go, and `frames` is their frame, if they are one.
   pub record Ends (old new : HuntingDevice R) (b y : List ℕ) (frames : List FrameRead) : Type 0 where
-    pub was : held_by old ≡ b
+    pub was : held_by_hunt old ≡ b
     pub some : 0 < length b
     pub starts : begins first second (b ++ y) ≡ true
     pub all : bytes_taken first second its (b ++ y) ≡ length (b ++ y)
-    pub none : held_by new ≡ []
+    pub none : held_by_hunt new ≡ []
     pub lacking : new.lacking ≡ 0
     pub gives : frames ≡ frame_at its old.start (b ++ y)
 
@@ -419,7 +419,7 @@ module _ {R : Type 0} (proto : LineRules R) (first second : ℕ)
         timed-append 0 old.ticks line (bytes_of z) (omega arith)
 
     pub run-stands : (after : HuntingDevice R) → after.ticks ≡ old.ticks + length y
-        → after.rules ≡ new.rules → held_by after ≡ held_by new → after.lacking ≡ new.lacking
+        → after.rules ≡ new.rules → held_by_hunt after ≡ held_by_hunt new → after.lacking ≡ new.lacking
         → after.start ≡ new.start → HuntStandsFor proto first second after (line ++ bytes_of y)
     run-stands after ticks rules bytes lacking start =
         let sum = length-append line (bytes_of y) in

@@ -2,11 +2,11 @@
 use Rattle.device_model.proofs.HuntCases.{quiet, undecided-room, taken-short}
 use Rattle.device_model.proofs.Hunts.{timed_bytes-length, begins-two, begins-other, begins-before}
 use Rattle.device_model.{proofs.Hunts.hunt-none, proofs.Hunts.hunt-no_start, specs.Frames.FrameRead}
-use Rattle.device_model.specs.Hunt.{Timed, timed, timed_bytes, header_in, begins, bytes_taken, hunt}
+use Rattle.device_model.specs.Hunt.{Timed, timed, timed_bytes, header_hunted, begins, bytes_taken, hunt}
 use Rattle.device_model.specs.HuntLaws.{IsHunted}
-use Rattle.device_model.specs.HuntingDevice.{IsUndecided, nothing, first_byte, header_begun, GoesOn}
-use Rattle.device_model.specs.HuntingDevice.{StartsAt, HasHeard, HeardBy, TakesRun, HuntStandsFor}
-use Rattle.device_model.specs.HuntingDevice.{bytes_lacking, held_by, HasRoom}
+use Rattle.device_model.specs.HuntingDevice.{IsUndecided, nothing, first_byte, header_begun, HuntGoesOn}
+use Rattle.device_model.specs.HuntingDevice.{StartsAt, HasHeard, HeardBy, HuntTakesRun, HuntStandsFor}
+use Rattle.device_model.specs.HuntingDevice.{bytes_lacking, held_by_hunt, HuntHasRoom}
 use Rattle.device_model.specs.declared.hunting.HuntingDevice.{HuntingDevice}
 use Rattle.line_rules.specs.Rules.{Rules, fills_room}
 use Rattle.line_rules.specs.declared.line_rules.LineRules.{Ghosts as LineRules}
@@ -54,11 +54,11 @@ timed-silences line n =
 
 -- A device that lends nothing holds the bytes that it keeps.
 pub items-held : {R : Type 0} → (value : HuntingDevice R) → value.lends ≡ false
-    → held_by value ≡ value.bytes.items
+    → held_by_hunt value ≡ value.bytes.items
 items-held value lends = cond-false _ _ _ lends
 
 pub empty-held : {R : Type 0} → (value : HuntingDevice R) → value.lends ≡ false
-    → value.bytes.items ≡ [] → held_by value ≡ []
+    → value.bytes.items ≡ [] → held_by_hunt value ≡ []
 empty-held value lends empty = items-held value lends ∙ empty
 
 module _ {R : Type 0} (proto : LineRules R) (first second : ℕ)
@@ -77,7 +77,7 @@ module _ {R : Type 0} (proto : LineRules R) (first second : ℕ)
   -- If the hunt over the held bytes and the bytes `ts` gives `frames` and then goes on with the
   -- bytes `later`, so does the hunt over all bytes.
   module _ (x held later ts : List Timed) (frames : List FrameRead)
-      (goes : GoesOn first second its x held) (undecided : Undecided (timed_bytes later))
+      (goes : HuntGoesOn first second its x held) (undecided : Undecided (timed_bytes later))
       (steps : (z : List Timed) → hunts (held ++ (ts ++ z)) ≡ frames ++ hunts (later ++ z)) where
     pub reads-after : hunts (x ++ ts) ≡ hunts x ++ frames
     reads-after =
@@ -89,7 +89,7 @@ module _ {R : Type 0} (proto : LineRules R) (first second : ℕ)
         (ap hunts (append-nil later) ∙ quiet first second its proto.headed hunted later undecided)
         ∙ append-nil frames)))
 
-    pub goes-after : GoesOn first second its (x ++ ts) later
+    pub goes-after : HuntGoesOn first second its (x ++ ts) later
     goes-after = record {
       goes = λ z. ap hunts (append_assoc x ts z)
           ∙ (goes.goes (ts ++ z)
@@ -120,7 +120,7 @@ module _ {R : Type 0} (proto : LineRules R) (first second : ℕ)
       (cases_lt n (length y))
 
   -- The rules take all bytes, from the first one on.
-  pub takes-whole : (rules : R) (items given : List ℕ) (n : ℕ) → given ≡ items → HasRoom its items
+  pub takes-whole : (rules : R) (items given : List ℕ) (n : ℕ) → given ≡ items → HuntHasRoom its items
       → proto.stands rules (take n given) → (n < length given → proto.is_full rules ≡ true)
       → proto.stands rules items
   takes-whole rules items given n is room stands full =
@@ -131,8 +131,8 @@ module _ {R : Type 0} (proto : LineRules R) (first second : ℕ)
 
   -- The rules take all bytes after a header that they have taken.
   pub takes-rest : (rules : R) (items given : List ℕ) (header n : ℕ) → header ≡ its.header_len
-      → header ≤ length items → given ≡ drop header items → HasRoom its items
-      → proto.stands rules (header_in its items ++ take n given)
+      → header ≤ length items → given ≡ drop header items → HuntHasRoom its items
+      → proto.stands rules (header_hunted its items ++ take n given)
       → (n < length given → proto.is_full rules ≡ true) → proto.stands rules items
   takes-rest rules items given header n size within is room stands full =
       let m : ℕ = its.header_len in
@@ -160,18 +160,18 @@ module _ {R : Type 0} (proto : LineRules R) (first second : ℕ)
 
   -- A device that holds the same as before has heard the same.
   pub same-heard : (old new : HuntingDevice R) (x : List Timed) → new.rules ≡ old.rules
-      → held_by new ≡ held_by old → new.lacking ≡ old.lacking → new.start ≡ old.start
+      → held_by_hunt new ≡ held_by_hunt old → new.lacking ≡ old.lacking → new.start ≡ old.start
       → Heard old x → Heard new x
   same-heard old new x rules bytes lacking start heard =
-      subst (λ r. HasHeard proto first second r (held_by new) new.lacking new.start x) (sym rules)
+      subst (λ r. HasHeard proto first second r (held_by_hunt new) new.lacking new.start x) (sym rules)
       (subst (λ b. HasHeard proto first second old.rules b new.lacking new.start x) (sym bytes)
-      (subst (λ n. HasHeard proto first second old.rules (held_by old) n new.start x) (sym lacking)
-      (subst (λ s. HasHeard proto first second old.rules (held_by old) old.lacking s x) (sym start)
+      (subst (λ n. HasHeard proto first second old.rules (held_by_hunt old) n new.start x) (sym lacking)
+      (subst (λ s. HasHeard proto first second old.rules (held_by_hunt old) old.lacking s x) (sym start)
       heard)))
 
   -- If nothing is held, it doesn't matter what the rules have taken.
-  pub nothing-held : (value : HuntingDevice R) (x : List Timed) → GoesOn first second its x []
-      → held_by value ≡ [] → value.lacking ≡ 0 → Heard value x
+  pub nothing-held : (value : HuntingDevice R) (x : List Timed) → HuntGoesOn first second its x []
+      → held_by_hunt value ≡ [] → value.lacking ≡ 0 → Heard value x
   nothing-held value x goes empty lacking =
       let none = ap length empty in
       let within = hunted.start_within in
@@ -195,9 +195,9 @@ module _ {R : Type 0} (proto : LineRules R) (first second : ℕ)
       absurd (omega arith)
 
   pub held-few : (old : HuntingDevice R) (x : List Timed) → Heard old x → old.lacking ≡ 0
-      → length (held_by old) < 2
+      → length (held_by_hunt old) < 2
   held-few old x heard lacking =
-      unbegun-few (held_by old) (subst Undecided (sym heard.bytes_are) heard.goes_on.undecided)
+      unbegun-few (held_by_hunt old) (subst Undecided (sym heard.bytes_are) heard.goes_on.undecided)
       (sym heard.lacks ∙ lacking)
 
   one-held : (y : List ℕ) → Undecided y → length y ≡ 1 → y ≡ first ∷ []
@@ -207,9 +207,9 @@ module _ {R : Type 0} (proto : LineRules R) (first second : ℕ)
       let two = begins-two first second z starts in absurd (omega arith)
 
   pub held-first : (old : HuntingDevice R) (x : List Timed) → Heard old x
-      → length (held_by old) ≡ 1 → held_by old ≡ first ∷ []
+      → length (held_by_hunt old) ≡ 1 → held_by_hunt old ≡ first ∷ []
   held-first old x heard one =
-      one-held (held_by old) (subst Undecided (sym heard.bytes_are) heard.goes_on.undecided) one
+      one-held (held_by_hunt old) (subst Undecided (sym heard.bytes_are) heard.goes_on.undecided) one
 
   pub two-begins : begins first second (first ∷ second ∷ []) ≡ true
   two-begins =
@@ -235,12 +235,12 @@ module _ {R : Type 0} (proto : LineRules R) (first second : ℕ)
 
   module _ (old : HuntingDevice R) (t : Timed) (x : List Timed) (heard : Heard old x)
       (unbegun : old.lacking ≡ 0)
-      (other : length (held_by old) ≡ 1 → t.byte ≡ second → ⊥) where
-    forgets : (held : List Timed) → held_by old ≡ timed_bytes held → (z : List Timed)
+      (other : length (held_by_hunt old) ≡ 1 → t.byte ≡ second → ⊥) where
+    forgets : (held : List Timed) → held_by_hunt old ≡ timed_bytes held → (z : List Timed)
         → hunts (held ++ t ∷ z) ≡ hunts (t ∷ z)
     forgets [] is z = refl
     forgets (s ∷ []) is z =
-        let one : length (held_by old) ≡ 1 = ap length is in
+        let one : length (held_by_hunt old) ≡ 1 = ap length is in
         hunt-no_start first second its s (t ∷ z)
         (begins-before first second s.byte t.byte (timed_bytes z) (λ same. other one same))
     forgets (s ∷ u ∷ held) is z =
@@ -257,7 +257,7 @@ module _ {R : Type 0} (proto : LineRules R) (first second : ℕ)
           ∙ hunt-no_start first second its t z
           (begins-other first second t.byte (timed_bytes z) not_first)
 
-      pub passes-hears : (rest : HuntingDevice R) → held_by rest ≡ [] → rest.lacking ≡ 0
+      pub passes-hears : (rest : HuntingDevice R) → held_by_hunt rest ≡ [] → rest.lacking ≡ 0
           → Heard rest (x ++ t ∷ [])
       passes-hears rest empty lacking =
           nothing-held rest (x ++ t ∷ [])
@@ -274,7 +274,7 @@ module _ {R : Type 0} (proto : LineRules R) (first second : ℕ)
       steps-in : (z : List Timed) → hunts (heard.held ++ t ∷ z) ≡ [] ++ hunts (t ∷ [] ++ z)
       steps-in z = forgets heard.held heard.bytes_are z
 
-      pub begins-hears : (rest : HuntingDevice R) → held_by rest ≡ t.byte ∷ [] → rest.lacking ≡ 0
+      pub begins-hears : (rest : HuntingDevice R) → held_by_hunt rest ≡ t.byte ∷ [] → rest.lacking ≡ 0
           → rest.start ≡ t.tick → Heard rest (x ++ t ∷ [])
       begins-hears rest is lacking at =
           let one = ap length is in
@@ -295,13 +295,13 @@ module _ {R : Type 0} (proto : LineRules R) (first second : ℕ)
 
   -- ---- a line
 
-  pub nothing-goes : GoesOn first second its [] []
+  pub nothing-goes : HuntGoesOn first second its [] []
   nothing-goes = record {
     goes = λ z. ap (λ y. y ++ hunts z) (sym (hunt-none first second its 0));
     undecided = nothing;
   }
 
-  pub heard-nothing : (value : HuntingDevice R) → held_by value ≡ [] → value.lacking ≡ 0
+  pub heard-nothing : (value : HuntingDevice R) → held_by_hunt value ≡ [] → value.lacking ≡ 0
       → value.ticks ≡ 0 → HuntStandsFor proto first second value []
   heard-nothing value empty lacking count = record {
     count = count;
@@ -350,7 +350,7 @@ module _ {R : Type 0} (proto : LineRules R) (first second : ℕ)
 
   module _ (old new : HuntingDevice R) (t : Tick) (b : ℕ) (is : t ≡ Byte b)
       (frames : List FrameRead)
-      (takes : TakesRun proto first second (counted old) new old.ticks (b ∷ []) frames)
+      (takes : HuntTakesRun proto first second (counted old) new old.ticks (b ∷ []) frames)
       (line : List Tick) (heard : Stands old line) where
     pub byte-stands : Stands new (line ++ t ∷ [])
     byte-stands =

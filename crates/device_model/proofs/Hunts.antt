@@ -1,7 +1,7 @@
 -- The hunt: what it does with bytes that are taken together, and with too few bytes.
 use Rattle.device_model.proofs.Heads.{good-long, bad-long, short-short, header-more, head-more}
 use Rattle.device_model.specs.Frames.{FrameRead}
-use Rattle.device_model.specs.Hunt.{Timed, timed_bytes, header_in, taken_by, frame_of, found_by}
+use Rattle.device_model.specs.Hunt.{Timed, timed_bytes, header_hunted, taken_by, frame_hunted, found_by}
 use Rattle.device_model.specs.Hunt.{begins, bytes_taken, found, passed_over, hunt}
 use Rattle.line_rules.specs.{Rules.Rules, Rules.head_of, declared.head.Head.Head}
 use Rattle.line_rules.specs.declared.head.Head.TheVariants.{Short, Good, Bad}
@@ -102,14 +102,14 @@ module _ (first second : ℕ) (rules : Rules) where
       cond-true _ _ _ starts ∙ ap (λ h. found_by rules h start x) is
 
   -- Fewer bytes than a frame has give no frame.
-  frame_of-few : (start n : ℕ) (x : List ℕ) → length x < n → frame_of rules start n x ≡ []
+  frame_of-few : (start n : ℕ) (x : List ℕ) → length x < n → frame_hunted rules start n x ≡ []
   frame_of-few start n x few =
       cond-false _ _ _ (and_left (nat_le n (length x)) (rules.is_frame (take n x))
       (lt-leb n (length x) few))
 
   found_by-few : (head : Head) (start : ℕ) (x : List ℕ) → length x < taken_by rules head x
       → found_by rules head start x ≡ []
-  found_by-few Good start x few = frame_of-few start (rules.size (header_in rules x)) x few
+  found_by-few Good start x few = frame_of-few start (rules.size (header_hunted rules x)) x few
   found_by-few Short start x few = refl
   found_by-few Bad start x few = refl
 
@@ -156,7 +156,7 @@ module _ (first second : ℕ) (rules : Rules) where
   taken_by-more Bad x z long = refl
 
   frame_of-more : (start n : ℕ) (x z : List ℕ) → n ≤ length x
-      → frame_of rules start n (x ++ z) ≡ frame_of rules start n x
+      → frame_hunted rules start n (x ++ z) ≡ frame_hunted rules start n x
   frame_of-more start n x z fits =
       let sum = length-append x z in
       let more : n ≤ length (x ++ z) = omega arith in
@@ -175,8 +175,8 @@ module _ (first second : ℕ) (rules : Rules) where
       → taken_by rules head x ≤ length x
       → found_by rules head start (x ++ z) ≡ found_by rules head start x
   found_by-more Good start x z long fits =
-      ap (λ n. frame_of rules start n (x ++ z)) (taken_by-more Good x z long)
-      ∙ frame_of-more start (rules.size (header_in rules x)) x z fits
+      ap (λ n. frame_hunted rules start n (x ++ z)) (taken_by-more Good x z long)
+      ∙ frame_of-more start (rules.size (header_hunted rules x)) x z fits
   found_by-more Short start x z long fits = refl
   found_by-more Bad start x z long fits = refl
 

@@ -5,7 +5,7 @@ use Rattle.device_model.proofs.Parting.{parted-goes_on, parted-rests, parted-wai
 use Rattle.device_model.proofs.ReadLaws.{frames_read-front, frames_read-last, frames_read-later}
 use Rattle.device_model.proofs.ReadLaws.{is_frame-long}
 use Rattle.device_model.specs.{Frames.FrameRead, Parted.IsParted, RtuFamily.rtu_family_reads}
-use Rattle.device_model.specs.RtuFamily.{is_broken, Keeps, RtuFamilyStandsFor, frame_at_end}
+use Rattle.device_model.specs.RtuFamily.{is_cut_off_frame, Keeps, RtuFamilyStandsFor, frame_at_end}
 use Rattle.device_model.specs.RtuReads.{has_silence, is_frame_body, frame_in, frames_read}
 use Rattle.device_model.specs.declared.rtu_family.RtuFamily.{RtuFamily}
 use Rattle.rtu_frame.specs.Frame.{is_frame}
@@ -70,7 +70,7 @@ module _ (cut gap : ℕ) where
 
   -- ---- the end of a burst
 
-  broken-none : (body : List Tick) → is_broken gap body ≡ true
+  broken-none : (body : List Tick) → is_cut_off_frame gap body ≡ true
       → is_frame_body (suc gap) body ≡ false
   broken-none body broken = by_silence (has_silence (suc gap) body) refl
     where
@@ -83,7 +83,7 @@ module _ (cut gap : ℕ) where
           ap (λ v. not v && is_frame (bytes_in body)) is
           ∙ is_frame-long (bytes_in body) (ltb-true 256 (length (bytes_in body)) more)
 
-  whole-body : (body : List Tick) → is_broken gap body ≡ false
+  whole-body : (body : List Tick) → is_cut_off_frame gap body ≡ false
       → is_frame_body (suc gap) body ≡ is_frame (bytes_in body)
   whole-body body whole =
       let parts : (has_silence (suc gap) body ≡ false)
@@ -91,7 +91,7 @@ module _ (cut gap : ℕ) where
       ap (λ v. not v && is_frame (bytes_in body)) parts.0
 
   gives : (broken : Bool) (start : ℕ) (bytes : List ℕ) (d : Burst) → start ≡ d.start
-      → broken ≡ is_broken gap d.body → (broken ≡ false → bytes ≡ bytes_in d.body)
+      → broken ≡ is_cut_off_frame gap d.body → (broken ≡ false → bytes ≡ bytes_in d.body)
       → frame_at_end broken start bytes ≡ frame_of_burst d
   gives true start bytes d at is are =
       ap (λ v. cond v (frame_in d ∷ []) []) (sym (broken-none d.body (sym is)))
@@ -179,7 +179,7 @@ module _ (cut gap : ℕ) where
       grown-keeps d few kept =
           let known : (old.broken || (nat_lt gap old.silence.quiet
           || nat_le 256 (length old.bytes.items)))
-          ≡ is_broken gap (grown_by d old.silence.quiet b).body =
+          ≡ is_cut_off_frame gap (grown_by d old.silence.quiet b).body =
           grown-is gap cut d.body old.silence.quiet b old.broken
           (nat_le 256 (length old.bytes.items)) kept.contiguous kept.broken_is
           (λ was. ap (λ x. nat_le 256 (length x)) (kept.bytes_are was)) in

@@ -4,7 +4,7 @@ use Rattle.device_model.proofs.{Broken.grown-bytes, Broken.grown-silence, Partin
 use Rattle.device_model.proofs.Parting.{parted-begins, parted-goes_on, parted-rests, parted-waits}
 use Rattle.device_model.proofs.{ReadLaws.frames_read-later, RtuFamilyLaws.reads-parted}
 use Rattle.device_model.specs.{Frames.FrameRead, Parted.IsParted}
-use Rattle.device_model.specs.RtuFamily.{rtu_family_reads, is_broken, Keeps, RtuFamilyStandsFor}
+use Rattle.device_model.specs.RtuFamily.{rtu_family_reads, is_cut_off_frame, Keeps, RtuFamilyStandsFor}
 use Rattle.device_model.specs.{RtuReads.has_silence, declared.rtu_family.RtuFamily.RtuFamily}
 use Rattle.std.proofs.Common.{◌≡◌, ◌∙◌, ℕ, zero, suc, ◌+◌, ◌<◌, ◌≤◌, ◌-◌, ◌||◌, nat_lt, Bool, true}
 use Rattle.std.proofs.Common.{false, List, [], ◌∷◌, ◌++◌, length, map, refl, sym, ap, subst, arith}
@@ -56,9 +56,9 @@ or-same false q r same = same refl
 
 -- With more bytes, a burst is broken if it was before, or if there is no room for them.
 run-broken : (gap cut : ℕ) (d : Burst) (y : List ℕ) (broken : Bool) → 0 < cut
-    → IsContiguous cut d.body → broken ≡ is_broken gap d.body
+    → IsContiguous cut d.body → broken ≡ is_cut_off_frame gap d.body
     → (broken || nat_lt 256 (length (bytes_in d.body) + length y))
-    ≡ is_broken gap (grown_run d y).body
+    ≡ is_cut_off_frame gap (grown_run d y).body
 run-broken gap cut d y broken some contiguous is =
     let n : ℕ = length (bytes_in d.body) in
     let long : length (bytes_in (grown_run d y).body) ≡ length (bytes_in d.body) + length y =

@@ -28,26 +28,26 @@ timed n (Silent ∷ l) = timed (suc n) l
 timed n (Byte b ∷ l) = record { tick = n; byte = b } ∷ timed (suc n) l
 
 -- the first bytes, as many as a header has
-abbrev pub header_in : Rules → List ℕ → List ℕ
-header_in rules x = take rules.header_len x
+abbrev pub header_hunted : Rules → List ℕ → List ℕ
+header_hunted rules x = take rules.header_len x
 
 -- how many bytes are taken if a header begins here: as many as it says if it is good, and otherwise
 -- only the header
 abbrev pub taken_by : Rules → Head → List ℕ → ℕ
-taken_by rules Good x = rules.size (header_in rules x)
+taken_by rules Good x = rules.size (header_hunted rules x)
 taken_by rules Short x = rules.header_len
 taken_by rules Bad x = rules.header_len
 
 -- the frame that the first `n` bytes are, if they are there and are one
-abbrev pub frame_of : Rules → ℕ → ℕ → List ℕ → List FrameRead
-frame_of rules start n x =
+abbrev pub frame_hunted : Rules → ℕ → ℕ → List ℕ → List FrameRead
+frame_hunted rules start n x =
     if nat_le n (length x) && rules.is_frame (take n x)
     then record { start = start; frame = take n x } ∷ []
     else []
 
 -- what is read from these bytes, if a header begins here
 abbrev pub found_by : Rules → Head → ℕ → List ℕ → List FrameRead
-found_by rules Good start x = frame_of rules start (rules.size (header_in rules x)) x
+found_by rules Good start x = frame_hunted rules start (rules.size (header_hunted rules x)) x
 found_by rules Short start x = []
 found_by rules Bad start x = []
 

@@ -3,7 +3,7 @@ use Rattle.std.specs.Prelude.{◌≡◌, ℕ, suc, ◌<◌, ◌≤◌, true, fal
 use Rattle.std.specs.Prelude.{take, drop, if◌then◌else◌}
 use Rattle.line_rules.specs.Rules.{Rules}
 use Rattle.device_model.specs.Frames.{FrameRead}
-use Rattle.device_model.specs.Hunt.{Timed, timed_bytes, header_in, begins, hunt}
+use Rattle.device_model.specs.Hunt.{Timed, timed_bytes, header_hunted, begins, hunt}
 
 -- Holds if a good header begins with these two bytes, has more, and says the size of the frame, for
 -- which there is exactly room. If the frame is only a header, that isn't good any more when its
@@ -40,15 +40,15 @@ pub record HuntsByCases (first second : ℕ) (rules : Rules) (x : List Timed) : 
       → length x < rules.header_len → hunt first second rules 0 x ≡ []
   pub bad_header : begins first second (timed_bytes x) ≡ true
       → rules.header_len ≤ length x
-      → rules.is_good_header (header_in rules (timed_bytes x)) ≡ false
+      → rules.is_good_header (header_hunted rules (timed_bytes x)) ≡ false
       → hunt first second rules 0 x
       ≡ hunt first second rules 0 (drop rules.header_len x)
   pub cut : rules.header_len ≤ length x
-      → rules.is_good_header (header_in rules (timed_bytes x)) ≡ true
-      → length x < rules.size (header_in rules (timed_bytes x))
+      → rules.is_good_header (header_hunted rules (timed_bytes x)) ≡ true
+      → length x < rules.size (header_hunted rules (timed_bytes x))
       → hunt first second rules 0 x ≡ []
   pub whole : rules.header_len ≤ length x
-      → rules.is_good_header (header_in rules (timed_bytes x)) ≡ true
-      → (n : ℕ) → n ≡ rules.size (header_in rules (timed_bytes x)) → n ≤ length x
+      → rules.is_good_header (header_hunted rules (timed_bytes x)) ≡ true
+      → (n : ℕ) → n ≡ rules.size (header_hunted rules (timed_bytes x)) → n ≤ length x
       → hunt first second rules 0 x
       ≡ whole_frame rules (take n x) ++ hunt first second rules 0 (drop n x)

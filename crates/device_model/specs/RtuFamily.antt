@@ -18,15 +18,15 @@ rtu_family_reads cut gap line = frames_read cut (suc gap) (length line) (bursts_
 
 -- Whether these ticks can't be a frame, whatever their bytes are: too many silent ones are
 -- together, or there are more bytes than a frame has.
-abbrev pub is_broken : ℕ → List Tick → Bool
-is_broken gap body = has_silence (suc gap) body || nat_lt 256 (length (bytes_in body))
+abbrev pub is_cut_off_frame : ℕ → List Tick → Bool
+is_cut_off_frame gap body = has_silence (suc gap) body || nat_lt 256 (length (bytes_in body))
 
 -- Holds if the device keeps, of the running burst, its first tick, whether it can't be a frame any
 -- more, and its bytes if it can.
 pub record Keeps (cut gap : ℕ) (value : RtuFamily) (d : Burst) : Type 0 where
   pub contiguous : IsContiguous cut d.body
   pub start_is : value.start ≡ d.start
-  pub broken_is : value.broken ≡ is_broken gap d.body
+  pub broken_is : value.broken ≡ is_cut_off_frame gap d.body
   pub bytes_are : value.broken ≡ false → value.bytes.items ≡ bytes_in d.body
 
 -- Holds if the device, which has this cut and this gap, has heard this line.

@@ -56,9 +56,9 @@ impl<R: Hunted> HuntingDevice<R> {
     ghost use Rattle.std.specs.Prelude.{◌+◌, ◌-◌, false, List, [], ◌∷◌, ◌++◌, take};
     ghost use Rattle.line_rules.specs.Rules.{lacking_of};
     ghost use Rattle.device_model.specs.Frames.{frames_lent};
-    ghost use Rattle.device_model.specs.Hunt.{Timed, header_in};
-    ghost use Rattle.device_model.specs.HuntingDevice.{HeardBy, TakesRun, frames_told};
-    ghost use Rattle.device_model.specs.HuntingDevice.{HasRoom, LetsGo, GoesBehind};
+    ghost use Rattle.device_model.specs.Hunt.{Timed, header_hunted};
+    ghost use Rattle.device_model.specs.HuntingDevice.{HeardBy, HuntTakesRun, frames_told};
+    ghost use Rattle.device_model.specs.HuntingDevice.{HuntHasRoom, LetsGo, GoesBehind};
 
     // Returns how many bytes a header has after the two that mark it.
     #[inline]
@@ -118,8 +118,8 @@ impl<R: Hunted> HuntingDevice<R> {
     fn end(&mut self) -> bool
         ensures ticks { self.new.ticks ≡ self.old.ticks }
         ensures goes { self.old.lacking ≡ 0 → R.rules.header_len ≤ length self.old.bytes.items
-            → R.stands self.old.rules (header_in R.rules self.old.bytes.items)
-            → HasRoom R.rules self.old.bytes.items
+            → R.stands self.old.rules (header_hunted R.rules self.old.bytes.items)
+            → HuntHasRoom R.rules self.old.bytes.items
             → LetsGo R.rules self.old.start self.old.bytes.items self.new result }
     {
         let header = usize::from(R::HEADER_LEN).min(self.bytes.len());
@@ -137,10 +137,10 @@ impl<R: Hunted> HuntingDevice<R> {
     #[inline]
     fn meet_header(&mut self) -> bool
         ensures ticks { self.new.ticks ≡ self.old.ticks }
-        ensures behind { HasRoom R.rules self.old.bytes.items
+        ensures behind { HuntHasRoom R.rules self.old.bytes.items
             → 0 < lacking_of R.rules self.old.bytes.items
             → GoesBehind R.LineRules self.old self.new result }
-        ensures goes { HasRoom R.rules self.old.bytes.items
+        ensures goes { HuntHasRoom R.rules self.old.bytes.items
             → length self.old.bytes.items ≡ R.rules.header_len
             → lacking_of R.rules self.old.bytes.items ≡ 0
             → LetsGo R.rules self.old.start self.old.bytes.items self.new result }
@@ -161,7 +161,7 @@ impl<R: Hunted> HuntingDevice<R> {
         requires { 0 < self.old.lacking }
         ensures some { 0 < length following.now → 0 < result.taken }
         ensures within { result.taken ≤ length following.now }
-        ensures takes { (at : ℕ) → TakesRun R.LineRules R.FIRST R.SECOND self.old self.new at
+        ensures takes { (at : ℕ) → HuntTakesRun R.LineRules R.FIRST R.SECOND self.old self.new at
             (take result.taken following.now)
             (frames_told result.reads self.new.start self.new.bytes.items) }
     {
@@ -192,7 +192,7 @@ impl<R: Hunted> HuntingDevice<R> {
         requires second { slice_index following.now 1 ≡ R.SECOND }
         ensures some { 0 < result.taken }
         ensures within { result.taken ≤ length following.now }
-        ensures takes { TakesRun R.LineRules R.FIRST R.SECOND self.old self.new at
+        ensures takes { HuntTakesRun R.LineRules R.FIRST R.SECOND self.old self.new at
             (take result.taken following.now)
             (frames_told result.reads self.new.start self.new.bytes.items) }
     {
@@ -213,7 +213,7 @@ impl<R: Hunted> HuntingDevice<R> {
         requires lends { self.old.lends ≡ false }
         requires lacking { self.old.lacking ≡ 0 }
         requires other { length self.old.bytes.items ≡ 1 → byte ≡ R.SECOND → ⊥ }
-        ensures { TakesRun R.LineRules R.FIRST R.SECOND self.old self.new at (byte ∷ []) [] }
+        ensures { HuntTakesRun R.LineRules R.FIRST R.SECOND self.old self.new at (byte ∷ []) [] }
     {
         self.lose();
         if byte == R::FIRST {
@@ -227,7 +227,7 @@ impl<R: Hunted> HuntingDevice<R> {
     fn look(&mut self, at: u64, byte: u8)
         requires lends { self.old.lends ≡ false }
         requires lacking { self.old.lacking ≡ 0 }
-        ensures { TakesRun R.LineRules R.FIRST R.SECOND self.old self.new at (byte ∷ []) [] }
+        ensures { HuntTakesRun R.LineRules R.FIRST R.SECOND self.old self.new at (byte ∷ []) [] }
     {
         if self.bytes.len() == 1 && byte == R::SECOND {
             self.keep(&[byte]);
@@ -246,7 +246,7 @@ impl<R: Hunted> HuntingDevice<R> {
         requires lacking { self.old.lacking ≡ 0 }
         ensures some { 0 < result.taken }
         ensures within { result.taken ≤ length following.now }
-        ensures takes { TakesRun R.LineRules R.FIRST R.SECOND self.old self.new at
+        ensures takes { HuntTakesRun R.LineRules R.FIRST R.SECOND self.old self.new at
             (take result.taken following.now)
             (frames_told result.reads self.new.start self.new.bytes.items) }
     {
@@ -275,7 +275,7 @@ impl<R: Hunted> HuntingDevice<R> {
         requires { 0 < length following.now }
         ensures some { 0 < result.taken }
         ensures within { result.taken ≤ length following.now }
-        ensures takes { TakesRun R.LineRules R.FIRST R.SECOND self.old self.new at
+        ensures takes { HuntTakesRun R.LineRules R.FIRST R.SECOND self.old self.new at
             (take result.taken following.now)
             (frames_told result.reads self.new.start self.new.bytes.items) }
     {
@@ -290,7 +290,7 @@ impl<R: Hunted> HuntingDevice<R> {
     // with it, if one is.
     #[inline]
     pub(crate) fn hear_byte(&mut self, at: u64, byte: u8) -> Option<u64>
-        ensures { TakesRun R.LineRules R.FIRST R.SECOND self.old self.new at (byte ∷ [])
+        ensures { HuntTakesRun R.LineRules R.FIRST R.SECOND self.old self.new at (byte ∷ [])
             (frames_lent result self.new.bytes.items) }
     {
         let part = self.hear_part(at, &[byte]);

@@ -11,9 +11,9 @@ use Rattle.dnp_link_frame.specs.{BlockLaws.running_block-header, Blocks.length_b
 use Rattle.dnp_link_frame.specs.Blocks.{user_len_by, size_by, ends_in_crc, begins_right}
 use Rattle.dnp_link_frame.specs.Blocks.{is_good_header, end_in_crcs, is_frame, running_block}
 use Rattle.dnp_link_frame.specs.{Blocks.has_right_ending, Crc.crc_dnp}
-use Rattle.dnp_link_frame.specs.Endings.{IsGoodHeader, HasRightEnding, last_part}
+use Rattle.dnp_link_frame.specs.Endings.{IsGoodHeader, HasRightDnpEnding, last_part}
 use Rattle.dnp_link_frame.specs.Frame.{with_crc, blocks_for, in_blocks, header_fields, frame_of}
-use Rattle.dnp_link_frame.specs.Frame.{IsFrameOf, IsFrame}
+use Rattle.dnp_link_frame.specs.Frame.{IsFrameOf, IsDnpFrame}
 use Rattle.dnp_link_frame.specs.{RulesLaws.has_right_ending-true, declared.header.Header.Header}
 use Rattle.line_rules.proofs.EndingLaws.{ending, ends_in_check-true, ends_in_check-from}
 use Rattle.line_rules.specs.{Bytes.AreBytes, Bytes.low_first, Endings.body_of}
@@ -186,7 +186,7 @@ header_is x bytes good =
     (at 2 (omega arith)
     ∙ (let e : length_byte x ≡ user_len_by (length_byte x) + 5 = omega arith in e))))
 
-pub is_frame-frame : (x : List ℕ) → AreBytes x → is_frame x ≡ true → IsFrame x
+pub is_frame-frame : (x : List ℕ) → AreBytes x → is_frame x ≡ true → IsDnpFrame x
 is_frame-frame x bytes decided =
     let framed = is_frame-true x decided in
     let long = (length_byte-good x framed.header_is_good).0 in
@@ -228,7 +228,7 @@ fields_are_good header user_len =
     and_from _ _ (le-leb 5 (user_len + 5) (omega arith))
     (part_ends (header_fields header user_len))
 
-pub frame-is_frame : (x : List ℕ) → IsFrame x → is_frame x ≡ true
+pub frame-is_frame : (x : List ℕ) → IsDnpFrame x → is_frame x ≡ true
 frame-is_frame x framed =
     let header = framed.header in
     let user = framed.user in
@@ -284,7 +284,7 @@ last_part-running x size =
     ap (λ n. last_part n x) none ∙ sym (running_block-header x header))
     (cases_lt 10 (length x))
 
-pub right_ending-true : (x : List ℕ) → has_right_ending x ≡ true → HasRightEnding x
+pub right_ending-true : (x : List ℕ) → has_right_ending x ≡ true → HasRightDnpEnding x
 right_ending-true x decided =
     let right = has_right_ending-true x decided in
     record {
@@ -294,7 +294,7 @@ right_ending-true x decided =
           (ap ends_in_crc (last_part-running x right.size_is) ∙ right.block_ends);
     }
 
-pub right_ending-from : (x : List ℕ) → HasRightEnding x → has_right_ending x ≡ true
+pub right_ending-from : (x : List ℕ) → HasRightDnpEnding x → has_right_ending x ≡ true
 unfolding has_right_ending
 right_ending-from x right =
     and_from _ _

@@ -7,7 +7,7 @@ use Rattle.dnp_link_frame.specs.Beginnings.{right_in_start, right_in_part, right
 use Rattle.dnp_link_frame.specs.Beginnings.{right_in_frame, user_in_blocks, header_in, user_in}
 use Rattle.dnp_link_frame.specs.Blocks.{length_byte, user_len_by, size_by}
 use Rattle.dnp_link_frame.specs.Frame.{with_crc, blocks_for, in_blocks, header_fields, frame_of}
-use Rattle.dnp_link_frame.specs.Frame.{IsHeader, IsFrameOf, IsFrame, BeginsFrame}
+use Rattle.dnp_link_frame.specs.Frame.{IsHeader, IsFrameOf, IsDnpFrame, BeginsFrame}
 use Rattle.dnp_link_frame.specs.{Frame.IsLongestBeginning, declared.header.Header.Header}
 use Rattle.line_rules.specs.Bytes.{AreBytes, low_first}
 use Rattle.std.proofs.Common.{◌≡◌, ℕ, ◌+◌, ◌-◌, ◌*◌, ◌/◌, ◌%◌, ◌<◌, ◌≤◌, ◌==◌, nat_le, nat_lt, ◌&&◌}
@@ -499,11 +499,11 @@ frame_from x bytes all size =
     }))
 
 -- A frame is right to its end, and lacks no byte.
-pub frame_is_right : (x : List ℕ) → IsFrame x
+pub frame_is_right : (x : List ℕ) → IsDnpFrame x
     → (right_in_frame x ≡ length x) × (length x ≡ size_by (length_byte x))
 frame_is_right x framed =
     let all : take (length x) x ≡ x = take_all (length x) x (omega arith) in
-    let P : List ℕ → Type 0 = IsFrame in
+    let P : List ℕ → Type 0 = IsDnpFrame in
     let most = right_in_frame-longest x (length x) (omega arith) (record {
       rest = [];
       whole = subst P (sym (append-nil (take (length x) x) ∙ all)) framed;
@@ -567,7 +567,7 @@ abbrev pub judged_whole : List ℕ → ℕ → Bool
 judged_whole x right = right == length x && length x == size_by (length_byte x)
 
 pub refused_is_no_frame : (x : List ℕ) (right : ℕ) (whole : Bool) → right ≡ right_in_frame x
-    → whole ≡ judged_whole x right → whole ≡ false → IsFrame x → ⊥
+    → whole ≡ judged_whole x right → whole ≡ false → IsDnpFrame x → ⊥
 refused_is_no_frame x right whole is judged wrong framed =
     let both = frame_is_right x framed in
     false≢true (sym (sym judged ∙ wrong) ∙ and_from _ _ (eq-eqb right (length x) (is ∙ both.0))

@@ -21,7 +21,7 @@ last_part (suc n) x = drop (10 + 18 * n) x
 
 -- Holds if there are as many bytes as LEN says, and the last two are the CRC of the last block or,
 -- if there is none, of the header.
-pub record HasRightEnding (x : List ℕ) : Type 0 where
+pub record HasRightDnpEnding (x : List ℕ) : Type 0 where
   pub len_is_right : 5 ≤ length_byte x
   pub size_is : length x ≡ size_by (length_byte x)
   pub ends_in_crc : EndsInCheck crc_dnp (last_part (blocks_for (user_len_by (length_byte x))) x)

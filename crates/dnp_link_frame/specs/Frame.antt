@@ -45,7 +45,7 @@ pub record IsFrameOf (header : Header) (user frame : List ℕ) : Type 0 where
   pub is : frame ≡ frame_of header user
 
 -- Holds if these bytes are the frame of some header and some user data.
-pub record IsFrame (frame : List ℕ) : Type 0 where
+pub record IsDnpFrame (frame : List ℕ) : Type 0 where
   pub header : Header
   pub user : List ℕ
   pub of : IsFrameOf header user frame
@@ -53,7 +53,7 @@ pub record IsFrame (frame : List ℕ) : Type 0 where
 -- Holds if some frame begins with these bytes.
 pub record BeginsFrame (x : List ℕ) : Type 0 where
   pub rest : List ℕ
-  pub whole : IsFrame (x ++ rest)
+  pub whole : IsDnpFrame (x ++ rest)
 
 -- Holds if the first `place` bytes are the longest front of `x` with which some frame begins.
 pub record IsLongestBeginning (x : List ℕ) (place : ℕ) : Type 0 where

@@ -189,9 +189,9 @@ running_block-push h c =
     ap (λ n. drop (block_start n) (h ++ c ∷ [])) (length-append h (c ∷ []))
     ∙ drop-append-le (block_start (length h + 1)) h (c ∷ []) (block_start-within (length h))
 
-has_right_ending-turned : (h : List ℕ) (c : ℕ) → has_right_ending (h ++ c ∷ []) ≡ true
+has_right_dnp_ending-turned : (h : List ℕ) (c : ℕ) → has_right_ending (h ++ c ∷ []) ≡ true
     → has_right_ending (h ++ bit_xor c 1 ∷ []) ≡ false
-has_right_ending-turned h c right =
+has_right_dnp_ending-turned h c right =
     let block : List ℕ = drop (block_start (length h + 1)) h in
     has_right_ending-block (h ++ bit_xor c 1 ∷ [])
     (ap ends_in_crc (running_block-push h (bit_xor c 1))
@@ -199,14 +199,14 @@ has_right_ending-turned h c right =
     (ap ends_in_crc (sym (running_block-push h c))
     ∙ (has_right_ending-true (h ++ c ∷ []) right).block_ends))
 
-is_frame-wrong : (x : List ℕ) → has_right_ending x ≡ false → is_frame x ≡ false
-is_frame-wrong x wrong =
+is_dnp_frame-wrong : (x : List ℕ) → has_right_ending x ≡ false → is_frame x ≡ false
+is_dnp_frame-wrong x wrong =
     false_from_ne_true (is_frame x)
     (λ framed. false≢true (sym wrong ∙ is_frame-ending x framed))
 
 pub dnp_spoiling : IsSpoiling dnp_rules
 dnp_spoiling =
-    spoiling_by_ending dnp_rules (λ h c. refl) is_frame-wrong has_right_ending-turned
+    spoiling_by_ending dnp_rules (λ h c. refl) is_dnp_frame-wrong has_right_dnp_ending-turned
 
 pub dnp_numbers : HasNumbers dnp_rules 292 2
 dnp_numbers = record { longest_is = refl; label_is = refl }

@@ -3,19 +3,19 @@ ghost use Rattle.std.specs.Prelude.{◌≡◌, ◌↔◌, ℕ, List, IsTrue};
 ghost use Rattle.line_rules.specs.Bytes.{AreBytes};
 ghost use Rattle.dnp_link_frame.specs.Crc.{crc_dnp, register_of};
 ghost use Rattle.line_rules.specs.Endings.{EndsInCheck};
-ghost use Rattle.dnp_link_frame.specs.Frame.{IsFrame, IsFrameOf};
-ghost use Rattle.dnp_link_frame.specs.Endings.{IsGoodHeader, HasRightEnding};
+ghost use Rattle.dnp_link_frame.specs.Frame.{IsDnpFrame, IsFrameOf};
+ghost use Rattle.dnp_link_frame.specs.Endings.{IsGoodHeader, HasRightDnpEnding};
 ghost use Rattle.dnp_link_frame.specs.Rules.{dnp_rules};
 ghost use Rattle.dnp_link_frame.specs.declared.header.Header.{Header};
 
 /// What `dnp_rules` calls a frame, a good header and a right ending is what the DNP3 link layer
 /// calls so.
 pub fn frames_of_the_standard()
-    ensures frames { (x : List ℕ) → AreBytes x → IsTrue (dnp_rules.is_frame x) ↔ IsFrame x }
+    ensures frames { (x : List ℕ) → AreBytes x → IsTrue (dnp_rules.is_frame x) ↔ IsDnpFrame x }
     ensures headers { (x : List ℕ) → AreBytes x
         → IsTrue (dnp_rules.is_good_header x) ↔ IsGoodHeader x }
     ensures right_endings { (x : List ℕ)
-        → IsTrue (dnp_rules.has_right_ending x) ↔ HasRightEnding x }
+        → IsTrue (dnp_rules.has_right_ending x) ↔ HasRightDnpEnding x }
 {}
 
 /// A frame has only one header and only one user data. So `build` and `user_data` undo each other:

@@ -3,7 +3,7 @@ ghost use Rattle.std.specs.Prelude.{◌≡◌, ◌+◌, ◌*◌, ◌≤◌, ◌�
 ghost use Rattle.std.specs.Prelude.{slice_index, ◌++◌, ◌==◌, ◌&&◌};
 ghost use Rattle.arrayvec.specs.ArrayVec.{array_vec_len};
 ghost use Rattle.dnp_link_frame.specs.Blocks.{length_byte, size_by};
-ghost use Rattle.dnp_link_frame.specs.Frame.{IsFrameOf, IsFrame, IsLongestBeginning, blocks_for};
+ghost use Rattle.dnp_link_frame.specs.Frame.{IsFrameOf, IsDnpFrame, IsLongestBeginning, blocks_for};
 ghost use Rattle.dnp_link_frame.specs.Beginnings.{right_in_start, right_in_part, right_in_blocks};
 ghost use Rattle.dnp_link_frame.specs.Beginnings.{right_in_frame, user_in_blocks, header_in};
 ghost use Rattle.dnp_link_frame.specs.Beginnings.{user_in};
@@ -167,7 +167,7 @@ fn is_whole(bytes: &[u8], right: usize) -> bool
 /// aren't a frame.
 pub fn user_data(frame: &[u8]) -> Result<(Header, UserBytes), NotAFrame>
     ensures read { IfOk result (λ read. IsFrameOf read.0 read.1.items frame.now) }
-    ensures cause { IsOk result ↔ IsFrame frame.now }
+    ensures cause { IsOk result ↔ IsDnpFrame frame.now }
     ensures place { IfErr result (λ error. IsLongestBeginning frame.now error.place) }
 {
     let right = right_in_frame(frame);

@@ -1,5 +1,5 @@
 -- What the steps of a pair are in one of its directions.
-use Rattle.duplex_box.specs.Pairs.{OneWay, BothWays, HasTaken}
+use Rattle.duplex_box.specs.Pairs.{OneWay, BothWays, PairHasTaken}
 use Rattle.duplex_box.specs.Turns.{Turn, Turns, notes_from, MakesLine}
 use Rattle.frame_ending.specs.{Answers.told_notes, Answers.note_in, Walk.Noted}
 use Rattle.link_box.specs.Walking.{full_notes, other_line}
@@ -48,7 +48,7 @@ module _ {S A X : Type 0} (boxed : LinkBox S A) (d : SlotDisk X) where
       }
 
   pub makes-step : (old new : OneWay S X) (t tick : Tick) (note : Option A)
-      → HasTaken boxed d old new t tick note → Makes old new (t ∷ []) (tick ∷ []) (note ∷ [])
+      → PairHasTaken boxed d old new t tick note → Makes old new (t ∷ []) (tick ∷ []) (note ∷ [])
   makes-step old new t tick note taken setup line stands =
       let stepped = taken.steps setup line stands in
       record {
@@ -104,7 +104,7 @@ module _ {S A X T : Type 0} (boxed : LinkBox S A) (d : SlotDisk X) (tick_of : T 
   abbrev pub Along : OneWay S X → List T → OneWay S X → Type 0
   Along old [] new = old ≡ new
   Along old (x ∷ xs) new = (next : OneWay S X)
-      × HasTaken boxed d old next (tick_of x) (answer_of x) (note_of x) × Along next xs new
+      × PairHasTaken boxed d old next (tick_of x) (answer_of x) (note_of x) × Along next xs new
 
   pub makes-line : (xs : List T) (old new : OneWay S X) → Along old xs new
       → Makes boxed d old new (map tick_of xs) (map answer_of xs) (map note_of xs)

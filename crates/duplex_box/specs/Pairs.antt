@@ -8,7 +8,7 @@ use Rattle.sequence_journal.specs.declared.journal.JournalFault.{JournalFault}
 use Rattle.sequence_journal.specs.Journal.{journal_floor}
 use Rattle.frame_ending.specs.declared.box_step.BoxStep.{BoxStep}
 use Rattle.link_box.specs.declared.box_trait.LinkBox.{Ghosts as LinkBox}
-use Rattle.link_box.specs.Stepping.{Steps, FailsStep, KeepsJournal}
+use Rattle.link_box.specs.Stepping.{BoxSteps, FailsStep, KeepsJournal}
 use Rattle.duplex_box.specs.declared.pair.BoxPair.{BoxPair}
 use Rattle.duplex_box.specs.declared.pair.PairStep.{PairStep}
 use Rattle.duplex_box.specs.declared.pair.DuplexFault.{DuplexFault}
@@ -46,17 +46,17 @@ ways_of pair sent sent_disk got got_disk = record {
 module _ {S A X : Type 0} (boxed : LinkBox S A) (d : SlotDisk X) where
   -- Holds if, in one direction, the box has taken this tick and returned this tick of the other
   -- line and this note, and its journal and disk are as its step leaves them.
-  pub record HasTaken (old new : OneWay S X) (t tick : Tick) (note : Option A) : Type 0 where
+  pub record PairHasTaken (old new : OneWay S X) (t tick : Tick) (note : Option A) : Type 0 where
     pub counted : boxed.taken new.line_box ≡ boxed.taken old.line_box + 1
     pub link : boxed.link_of new.line_box ≡ boxed.link_of old.line_box
-    pub steps : Steps boxed.walking boxed.stands old.line_box (journal_floor old.journal)
+    pub steps : BoxSteps boxed.walking boxed.stands old.line_box (journal_floor old.journal)
         new.line_box (journal_floor new.journal) t tick note
     pub journal : KeepsJournal {A = BoxStep A} d old.journal new.journal old.disk new.disk
         (Ok (record { tick = tick; note = note }))
 
   -- Holds if, in one direction, the number of the frame that is noted in the step of this tick
   -- isn't committed, and the journal and its disk are as the failed step leaves them.
-  pub record HasFailed (old new : OneWay S X) (t : Tick) : Type 0 where
+  pub record PairHasFailed (old new : OneWay S X) (t : Tick) : Type 0 where
     pub fault : JournalFault
     pub fails : FailsStep boxed.walking boxed.stands old.line_box old.journal new.journal t
         (d.told old.disk) (d.told new.disk)
@@ -67,28 +67,28 @@ module _ {S A X : Type 0} (boxed : LinkBox S A) (d : SlotDisk X) where
   pub record HasGoneOn (old new : OneWay S X) (t : Tick) : Type 0 where
     pub tick : Tick
     pub note : Option A
-    pub taken : HasTaken old new t tick note
+    pub taken : PairHasTaken old new t tick note
 
 module _ {S C A B X Y : Type 0} (sends : LinkBox S A) (gets : LinkBox C B) (d : SlotDisk X)
     (e : SlotDisk Y) (from_device from_link : Tick) (old new : BothWays S C X Y) where
   -- What holds after a step that doesn't fail: each direction has taken its tick.
-  pub record GoesOn (step : PairStep A B) : Type 0 where
-    pub outgoing : HasTaken sends d old.outgoing new.outgoing from_device step.link step.sealed
-    pub incoming : HasTaken gets e old.incoming new.incoming from_link step.device step.checked
+  pub record PairGoesOn (step : PairStep A B) : Type 0 where
+    pub outgoing : PairHasTaken sends d old.outgoing new.outgoing from_device step.link step.sealed
+    pub incoming : PairHasTaken gets e old.incoming new.incoming from_link step.device step.checked
 
   -- What holds after a fault of the outgoing direction: the incoming one hasn't begun its step, and
   -- its box, journal and disk are as they were.
   pub record FailsOutgoing : Type 0 where
-    pub outgoing : HasFailed sends d old.outgoing new.outgoing from_device
+    pub outgoing : PairHasFailed sends d old.outgoing new.outgoing from_device
     pub incoming : new.incoming ≡ old.incoming
 
   -- What holds after a fault of the incoming direction: the outgoing one has taken its tick.
   pub record FailsIncoming : Type 0 where
     pub outgoing : HasGoneOn sends d old.outgoing new.outgoing from_device
-    pub incoming : HasFailed gets e old.incoming new.incoming from_link
+    pub incoming : PairHasFailed gets e old.incoming new.incoming from_link
 
   -- What holds after a step, by what it returns.
   abbrev pub StepsBoth : Result (PairStep A B) DuplexFault → Type 0
-  StepsBoth (Ok step) = GoesOn step
+  StepsBoth (Ok step) = PairGoesOn step
   StepsBoth (Err Outgoing) = FailsOutgoing
   StepsBoth (Err Incoming) = FailsIncoming

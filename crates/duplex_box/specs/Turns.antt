@@ -8,7 +8,7 @@ use Rattle.link_format.specs.Setup.{Setup}
 use Rattle.sequence_journal.specs.Journal.{journal_link, journal_floor, IsCrashSafe}
 use Rattle.link_box.specs.declared.box_trait.LinkBox.{Ghosts as LinkBox}
 use Rattle.link_box.specs.Walking.{full_notes, other_line}
-use Rattle.duplex_box.specs.Pairs.{OneWay, BothWays, GoesOn}
+use Rattle.duplex_box.specs.Pairs.{OneWay, BothWays, PairGoesOn}
 use Rattle.duplex_box.specs.declared.pair.PairStep.{PairStep}
 
 -- A step that didn't fail, with what it was given and what it returned.
@@ -45,7 +45,7 @@ module _ {S C A B X Y : Type 0} (sends : LinkBox S A) (gets : LinkBox C B) (d : 
   abbrev pub Turns : BothWays S C X Y → List (Turn A B) → BothWays S C X Y → Type 0
   Turns old [] new = old ≡ new
   Turns old (turn ∷ turns) new = (next : BothWays S C X Y)
-      × GoesOn sends gets d e turn.from_device turn.from_link old next turn.step
+      × PairGoesOn sends gets d e turn.from_device turn.from_link old next turn.step
       × Turns next turns new
 
 -- the notes of these ticks, the first of which is tick m

@@ -10,7 +10,7 @@ use Rattle.link_format.specs.Y18.{y18}
 use Rattle.sequence_journal.specs.declared.numbers.TheConstants.{LIMIT}
 use Rattle.link_box.specs.Sealing.{link_line}
 use Rattle.link_box.specs.Checking.{received_line}
-use Rattle.receiver_laws.specs.Untouched.{IsUntouched}
+use Rattle.receiver_laws.specs.Untouched.{IsUntouchedLink}
 
 -- the profile y18 for Modbus RTU with this key, on the way from a to b
 abbrev pub profile_with : List ℕ → Profile
@@ -23,5 +23,5 @@ pub record Carries (key : List ℕ) (line link received : List Tick) : Type 0 wh
   pub seals : link ≡ link_line (profile_with key) rtu_rules 0 line
   pub checks : received ≡ received_line (profile_with key) rtu_rules 0 link
   pub delivers : (frames : List Tick) (more : ℕ) → line ≡ frames ++ silent more
-      → IsUntouched (profile_with key) rtu_rules 0 0 frames more
+      → IsUntouchedLink (profile_with key) rtu_rules 0 0 frames more
       → received ≡ silent 18 ++ (frames ++ silent (more - 18))

@@ -6,7 +6,7 @@ use Rattle.frame_ending.specs.Answers.{AnswersTick, told_notes, note_in}
 use Rattle.frame_ending.specs.Causal.{IsCausal, MayGoOn, AddsOneTick, going_on}
 use Rattle.frame_ending.specs.HasCome.{waiting_part, AreNoted, HasCome}
 use Rattle.frame_ending.specs.{Laid.tick_at, Walk.Walker, Walk.Noted, Walk.noted, Walk.walked}
-use Rattle.frame_ending.specs.Walk.{emitted, state_after, notes_before, notes_at, notes_of, line_of}
+use Rattle.frame_ending.specs.Walk.{emitted_by, state_after, notes_before, notes_at, notes_of, line_of}
 use Rattle.std.proofs.Common.{◌≡◌, ◌∙◌, ◌==◌, ◌⊎◌, inl, inr, ℕ, ◌+◌, ◌<◌, ◌≤◌, nat_lt, true, false}
 use Rattle.std.proofs.Common.{List, [], ◌∷◌, ◌++◌, length, refl, sym, ap, subst, arith, ⊎_elim}
 use Rattle.std.proofs.Common.{Option, Some, None, IfSome}
@@ -183,7 +183,7 @@ module _ {S N : Type 0} (w : Walker S N) where
             state = state_after-append w begun come.settled (d ∷ [])
                 ∙ ap (λ x. w.next x d) come.state;
             emits = emitted-append w begun come.settled (d ∷ [])
-                ∙ (ap (λ x. emitted w begun come.settled ++ x)
+                ∙ (ap (λ x. emitted_by w begun come.settled ++ x)
                 (append-nil (w.emission (state_after w begun come.settled) d))
                 ∙ (ap (λ x. x ++ w.emission (state_after w begun come.settled) d) come.emits
                 ∙ ap (λ x. emissions ++ w.emission x d) come.state));
@@ -192,14 +192,14 @@ module _ {S N : Type 0} (w : Walker S N) where
       -- ---- what the bursts give
 
       module _ (waiting : Option Burst) (come : HasCome w begun m ds s emissions waiting) where
-        -- All bursts emit what the noted ones have emitted, and then what the one that waits emits.
-        pub emitted-come : emitted w begun ds ≡ emissions ++ emitted w s (waiting_part waiting)
+        -- All bursts emit what the noted ones have emitted_by, and then what the one that waits emits.
+        pub emitted-come : emitted_by w begun ds ≡ emissions ++ emitted_by w s (waiting_part waiting)
         emitted-come =
-            ap (λ x. emitted w begun x) come.is
+            ap (λ x. emitted_by w begun x) come.is
             ∙ (emitted-append w begun come.settled (waiting_part waiting)
-            ∙ (ap (λ x. x ++ emitted w (state_after w begun come.settled) (waiting_part waiting))
+            ∙ (ap (λ x. x ++ emitted_by w (state_after w begun come.settled) (waiting_part waiting))
             come.emits
-            ∙ ap (λ x. emissions ++ emitted w x (waiting_part waiting)) come.state))
+            ∙ ap (λ x. emissions ++ emitted_by w x (waiting_part waiting)) come.state))
 
         -- The notes in the step of tick m are those of the burst that waits.
         pub notes_at-come : notes_at m (walked w begun ds)
@@ -332,10 +332,10 @@ module _ {S N : Type 0} (w : Walker S N) (causal : IsCausal w) (begun : S) (line
               ∙ (sym (state_after-append w begun on.front (d ∷ []))
               ∙ (ap (λ ds. state_after w begun ds) (sym whole) ∙ come.state)));
           emits = emitted-append w begun on.front (longer ∷ [])
-              ∙ (ap (λ x. emitted w begun on.front ++ (x ++ []))
+              ∙ (ap (λ x. emitted_by w begun on.front ++ (x ++ []))
               (causal.emission_settles after d m b may early)
               ∙ (sym (emitted-append w begun on.front (d ∷ []))
-              ∙ (ap (λ ds. emitted w begun ds) (sym whole) ∙ come.emits)));
+              ∙ (ap (λ ds. emitted_by w begun ds) (sym whole) ∙ come.emits)));
         }
 
     -- ---- what a step adds, given the burst that waits after its tick
@@ -351,7 +351,7 @@ module _ {S N : Type 0} (w : Walker S N) (causal : IsCausal w) (begun : S) (line
           (notes_at-come w begun (length line) (bursts (line ++ t ∷ [])) s emissions waiting come)
 
       pub tick-step : line_of w begun (line ++ t ∷ [])
-          ≡ line_of w begun line ++ tick_at (emissions ++ emitted w s (waiting_part waiting))
+          ≡ line_of w begun line ++ tick_at (emissions ++ emitted_by w s (waiting_part waiting))
           (length line) ∷ []
       tick-step =
           let on : AddsOneTick w begun line t = adds_one_tick w causal begun line t in
@@ -362,7 +362,7 @@ module _ {S N : Type 0} (w : Walker S N) (causal : IsCausal w) (begun : S) (line
       -- A step returns the tick that the emissions have at its place, and the note of the burst
       -- that waits, if it falls into the step.
       pub answers-step : {A : Type 0} (note_of : N → A) (answer : Tick) (told : Option A)
-          → tick_at (emissions ++ emitted w s (waiting_part waiting)) (length line) ≡ answer
+          → tick_at (emissions ++ emitted_by w s (waiting_part waiting)) (length line) ≡ answer
           → told_notes note_of (notes_at (length line) (walked w s (waiting_part waiting)))
           ≡ note_in (length line) told
           → AnswersTick w note_of begun line t answer told

@@ -9,7 +9,7 @@ use Rattle.frame_ending.specs.Cuts.{cut_of, byte_cut, silence_cut, silent_cut}
 use Rattle.frame_ending.specs.LiveBytes.{has_pause, live_bytes, live_end}
 use Rattle.frame_ending.specs.SoFar.{last_burst, start_in, live_bytes_in, last_live_in}
 use Rattle.frame_ending.specs.SoFar.{has_extra_in, has_paused_in, quiet_in, quiet_so_far}
-use Rattle.frame_ending.specs.{SoFar.has_paused_so_far, SoFar.live_bytes_so_far, Stands.StandsFor}
+use Rattle.frame_ending.specs.{SoFar.has_paused_so_far, SoFar.live_bytes_so_far, Stands.CutStandsFor}
 use Rattle.frame_ending.specs.declared.{burst_cut.BurstCut.BurstCut, cut.Cut.TheVariants.Start}
 use Rattle.frame_ending.specs.declared.cut.Cut.TheVariants.{Live, Extra, Pause, Closed, Quiet}
 use Rattle.line_rules.specs.Rules.{Rules, fills_room}
@@ -105,7 +105,7 @@ module _ {R : Type 0} (proto : LineRules R) where
   lawful = proto.lawful
 
   pub stands-fresh : (r : R) → stands r []
-      → StandsFor proto (record {
+      → CutStandsFor proto (record {
         taken = 0;
         quiet = 4;
         start = 0;
@@ -127,7 +127,7 @@ module _ {R : Type 0} (proto : LineRules R) where
         bytes = subst P (sym none) fresh;
       }
 
-  module _ (v : BurstCut R) (line : List Tick) (old : StandsFor proto v line) where
+  module _ (v : BurstCut R) (line : List Tick) (old : CutStandsFor proto v line) where
     -- ---- the first byte of a burst
 
     begun : (b : ℕ) → 4 ≤ v.quiet → last_burst (line ++ Byte b ∷ []) ≡ Some (alone (length line) b)
@@ -137,7 +137,7 @@ module _ {R : Type 0} (proto : LineRules R) where
         (grown-alone (length line) b (last_burst line) (omega arith))
 
     pub stands-begin : (r : R) (b : ℕ) → 4 ≤ v.quiet → stands r (b ∷ [])
-        → StandsFor proto
+        → CutStandsFor proto
         (record {
           taken = v.taken + 1;
           quiet = 0;
@@ -232,7 +232,7 @@ module _ {R : Type 0} (proto : LineRules R) where
     -- a byte that isn't live
     pub stands-pass : (full : Bool) (b : ℕ) → v.quiet < 4
         → full ≡ fills_room rules (live_bytes_so_far rules line) → (v.paused || full) ≡ true
-        → StandsFor proto
+        → CutStandsFor proto
         (record v { taken = v.taken + 1; quiet = 0; extra = true })
         (line ++ Byte b ∷ [])
     stands-pass full b quiet full_is over =
@@ -282,7 +282,7 @@ module _ {R : Type 0} (proto : LineRules R) where
         → full ≡ fills_room rules (live_bytes_so_far rules line)
         → v.paused ≡ false → full ≡ false
         → ((x : List ℕ) → stands v.rules x → stands r (x ++ b ∷ []))
-        → StandsFor proto
+        → CutStandsFor proto
         (record v { taken = v.taken + 1; quiet = 0; last_live = v.taken; rules = r })
         (line ++ Byte b ∷ [])
     stands-go_on full r b quiet full_is open' room takes =
@@ -334,7 +334,7 @@ module _ {R : Type 0} (proto : LineRules R) where
 
     -- silence after silence
     pub stands-rest : 4 ≤ v.quiet
-        → StandsFor proto
+        → CutStandsFor proto
         (record v { taken = v.taken + 1 })
         (line ++ Silent ∷ [])
     stands-rest quiet =
@@ -364,7 +364,7 @@ module _ {R : Type 0} (proto : LineRules R) where
 
     -- silence after a byte
     pub stands-wait : v.quiet < 4
-        → StandsFor proto
+        → CutStandsFor proto
         (record v {
           taken = v.taken + 1;
           quiet = v.quiet + 1;

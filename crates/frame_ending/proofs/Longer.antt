@@ -2,7 +2,7 @@
 -- front of the line.
 use Rattle.frame_ending.{proofs.Walks.adds_one_tick, specs.Causal.IsCausal, specs.Causal.AddsOneTick}
 use Rattle.frame_ending.specs.{Laid.tick_at, Laid.laid, Longer.Begins, Longer.Extends, Walk.Walker}
-use Rattle.frame_ending.specs.Walk.{walked, emitted, notes_before, notes_at, notes_of, line_of}
+use Rattle.frame_ending.specs.Walk.{walked, emitted_by, notes_before, notes_at, notes_of, line_of}
 use Rattle.std.proofs.Common.{◌≡◌, ◌∙◌, ℕ, List, [], ◌∷◌, ◌++◌, length, sym, ap, subst}
 use Rattle.std.proofs.Common.{append_assoc}
 use Rattle.std.proofs.lemmas.List.{append-nil, FromFn.length-map-range_with_len}
@@ -20,7 +20,7 @@ begins-more a b c added is begins = record {
 -- The other line is as long as the line.
 pub length-line_of : {S N : Type 0} (w : Walker S N) (s : S) (line : List Tick)
     → length (line_of w s line) ≡ length line
-length-line_of w s line = length-map-range_with_len (λ i. tick_at (emitted w s (bursts line)) i) 0
+length-line_of w s line = length-map-range_with_len (λ i. tick_at (emitted_by w s (bursts line)) i) 0
     (length line)
 
 module _ {S N : Type 0} (w : Walker S N) (causal : IsCausal w) where
@@ -53,7 +53,7 @@ module _ {S N : Type 0} (w : Walker S N) (causal : IsCausal w) where
             (subst P whole rest.notes);
         ticks = begins-more (line_of w s line) (line_of w s (line ++ t ∷ []))
             (line_of w s (line ++ t ∷ more))
-            (tick_at (emitted w s (bursts (line ++ t ∷ []))) (length line) ∷ []) on.ticks
+            (tick_at (emitted_by w s (bursts (line ++ t ∷ []))) (length line) ∷ []) on.ticks
             (subst Q whole rest.ticks);
       }
 
@@ -65,7 +65,7 @@ module _ {S N : Type 0} (w : Walker S N) (s : S) (line : List Tick) (k : ℕ) wh
   notes_of-silence = ap (λ ds. notes_before (length line) (walked w s ds))
       (bursts_from-silent_end T3_5_TICKS 0 k line)
 
-  pub line_of-silence : laid (length line) (emitted w s (bursts (line ++ silent k)))
+  pub line_of-silence : laid (length line) (emitted_by w s (bursts (line ++ silent k)))
       ≡ line_of w s line
-  line_of-silence = ap (λ ds. laid (length line) (emitted w s ds))
+  line_of-silence = ap (λ ds. laid (length line) (emitted_by w s ds))
       (bursts_from-silent_end T3_5_TICKS 0 k line)

@@ -3,7 +3,7 @@ use Rattle.frame_ending.proofs.Cutting.{cut-begin, cut-pass, stands-go_on, cut-g
 use Rattle.frame_ending.proofs.{Cutting.cut-rest, LastBurst.grown, LastBurst.last_burst-byte}
 use Rattle.frame_ending.specs.Cuts.{cut_of, byte_cut, cuts_after}
 use Rattle.frame_ending.specs.SoFar.{last_burst, start_in, start_so_far, live_bytes_so_far}
-use Rattle.frame_ending.specs.{Stands.StandsFor, declared.burst_cut.BurstCut.BurstCut}
+use Rattle.frame_ending.specs.{Stands.CutStandsFor, declared.burst_cut.BurstCut.BurstCut}
 use Rattle.frame_ending.specs.declared.cut.Cut.TheVariants.{Start, Live, Extra, Quiet}
 use Rattle.line_rules.specs.{Bytes.AreBytes, Rules.Rules, Rules.fills_room}
 use Rattle.line_rules.specs.declared.line_rules.LineRules.{Ghosts as LineRules}
@@ -84,8 +84,8 @@ module _ {R : Type 0} (proto : LineRules R) where
     rules = x;
   }
 
-  as-list : (v : BurstCut R) (line : List Tick) → StandsFor proto v line
-      → StandsFor listed (with_list v (live_bytes_so_far rules line)) line
+  as-list : (v : BurstCut R) (line : List Tick) → CutStandsFor proto v line
+      → CutStandsFor listed (with_list v (live_bytes_so_far rules line)) line
   as-list v line old = record {
     count = old.count;
     quiet_is = old.quiet_is;
@@ -101,7 +101,7 @@ module _ {R : Type 0} (proto : LineRules R) where
   }
 
   of-list : (v : BurstCut R) (x : List ℕ) (line : List Tick) → proto.stands v.rules x
-      → StandsFor listed (with_list v x) line → StandsFor proto v line
+      → CutStandsFor listed (with_list v x) line → CutStandsFor proto v line
   of-list v x line holds is =
       let P : List ℕ → Type 0 = λ y. proto.stands v.rules y in
       record {
@@ -123,12 +123,12 @@ module _ {R : Type 0} (proto : LineRules R) where
   -- one at tick l, represents the line with them.
   record GoesOn (v : BurstCut (List ℕ)) (line : List Tick) (x : List ℕ) : Type 0 where
     stands : (t l : ℕ) → t ≡ v.taken + length x → l + 1 ≡ t → 0 < length x
-        → StandsFor listed (after_bytes v x t l) (line ++ map Byte x)
+        → CutStandsFor listed (after_bytes v x t l) (line ++ map Byte x)
     live : cuts_after rules line (map Byte x) ≡ map Live x
 
-  one-more : (v : BurstCut (List ℕ)) (line : List Tick) (b : ℕ) → StandsFor listed v line
+  one-more : (v : BurstCut (List ℕ)) (line : List Tick) (b : ℕ) → CutStandsFor listed v line
       → v.quiet < 4 → v.paused ≡ false → fills_room rules v.rules ≡ false → b < 256
-      → StandsFor listed (after_bytes v (b ∷ []) (v.taken + 1) v.taken) (line ++ Byte b ∷ [])
+      → CutStandsFor listed (after_bytes v (b ∷ []) (v.taken + 1) v.taken) (line ++ Byte b ∷ [])
   one-more v line b old quiet open' room byte =
       stands-go_on listed v line old _ (v.rules ++ b ∷ []) b quiet
       (listed.fullness v.rules _ old.bytes) open' room takes
@@ -148,7 +148,7 @@ module _ {R : Type 0} (proto : LineRules R) where
             within = omega arith;
           }
 
-  goes-on : (x : List ℕ) (v : BurstCut (List ℕ)) (line : List Tick) → StandsFor listed v line
+  goes-on : (x : List ℕ) (v : BurstCut (List ℕ)) (line : List Tick) → CutStandsFor listed v line
       → v.quiet < 4 → v.paused ≡ false → AreBytes x
       → ((n : ℕ) → n < length x → fills_room rules (v.rules ++ take n x) ≡ false)
       → GoesOn v line x
@@ -174,28 +174,28 @@ module _ {R : Type 0} (proto : LineRules R) where
       }
     where
       more : (x : List ℕ) (t l : ℕ) → t ≡ v.taken + length (b ∷ x) → l + 1 ≡ t
-          → StandsFor listed (after_bytes v (b ∷ []) (v.taken + 1) v.taken) (line ++ Byte b ∷ [])
+          → CutStandsFor listed (after_bytes v (b ∷ []) (v.taken + 1) v.taken) (line ++ Byte b ∷ [])
           → ((t l : ℕ) → t ≡ v.taken + 1 + length x → l + 1 ≡ t → 0 < length x
-          → StandsFor listed
+          → CutStandsFor listed
           (after_bytes (after_bytes v (b ∷ []) (v.taken + 1) v.taken) x t l)
           ((line ++ Byte b ∷ []) ++ map Byte x))
-          → StandsFor listed (after_bytes v (b ∷ x) t l) (line ++ map Byte (b ∷ x))
+          → CutStandsFor listed (after_bytes v (b ∷ x) t l) (line ++ map Byte (b ∷ x))
       more [] t l is last next rest =
-          let P : ℕ → Type 0 = λ k. StandsFor listed (after_bytes v (b ∷ []) k l)
+          let P : ℕ → Type 0 = λ k. CutStandsFor listed (after_bytes v (b ∷ []) k l)
           (line ++ Byte b ∷ []) in
-          let Q : ℕ → Type 0 = λ k. StandsFor listed (after_bytes v (b ∷ []) (v.taken + 1) k)
+          let Q : ℕ → Type 0 = λ k. CutStandsFor listed (after_bytes v (b ∷ []) (v.taken + 1) k)
           (line ++ Byte b ∷ []) in
           let at : v.taken + 1 ≡ t = omega arith in
           let end : v.taken ≡ l = omega arith in
           subst P at (subst Q end next)
       more (d ∷ x) t l is last next rest =
-          let P : List ℕ → Type 0 = λ y. StandsFor listed (record v {
+          let P : List ℕ → Type 0 = λ y. CutStandsFor listed (record v {
             taken = t;
             quiet = 0;
             last_live = l;
             rules = y;
           }) ((line ++ Byte b ∷ []) ++ map Byte (d ∷ x)) in
-          let Q : List Tick → Type 0 = λ z. StandsFor listed (after_bytes v (b ∷ d ∷ x) t l) z in
+          let Q : List Tick → Type 0 = λ z. CutStandsFor listed (after_bytes v (b ∷ d ∷ x) t l) z in
           subst Q (append_assoc line (Byte b ∷ []) (map Byte (d ∷ x)))
           (subst P (append_assoc v.rules (b ∷ []) (d ∷ x))
           (rest t l (omega arith) last (omega arith)))
@@ -209,7 +209,7 @@ module _ {R : Type 0} (proto : LineRules R) where
       (takes : (x : List ℕ) → proto.stands v.rules x → proto.stands r (x ++ take taken part))
       (room : (x : List ℕ) (n : ℕ) → proto.stands v.rules x → n < taken
       → fills_room rules (x ++ take n part) ≡ false) (line : List Tick)
-      (old : StandsFor proto v line) where
+      (old : CutStandsFor proto v line) where
     abbrev some : List ℕ
     some = take taken part
 
@@ -227,7 +227,7 @@ module _ {R : Type 0} (proto : LineRules R) where
         ∙ room live n old.bytes (omega arith))
 
     pub stands-bytes : 0 < taken → (t l : ℕ) → t ≡ v.taken + taken → l + 1 ≡ t
-        → StandsFor proto (went_on v r t l) (line ++ map Byte some)
+        → CutStandsFor proto (went_on v r t l) (line ++ map Byte some)
     stands-bytes any t l is last =
         let live : List ℕ = live_bytes_so_far rules line in
         let long = length-take-le taken part within in
@@ -239,7 +239,7 @@ module _ {R : Type 0} (proto : LineRules R) where
 
   -- ---- when a byte isn't live
 
-  module _ (v : BurstCut R) (line : List Tick) (old : StandsFor proto v line) (b : ℕ)
+  module _ (v : BurstCut R) (line : List Tick) (old : CutStandsFor proto v line) (b : ℕ)
       (is_live : cut_of rules line (Byte b) ≡ Live b) where
     pub quiet-not_live : 4 ≤ v.quiet → ⊥
     quiet-not_live quiet = let starts = cut-begin proto v line old b quiet in
@@ -257,26 +257,26 @@ module _ {R : Type 0} (proto : LineRules R) where
   after_silence v t = record v { taken = t }
 
   pub stands-silence : (n : ℕ) (v : BurstCut R) (line : List Tick) (t : ℕ)
-      → StandsFor proto v line → 4 ≤ v.quiet → v.taken + n ≡ t
-      → StandsFor proto (after_silence v t) (line ++ silent n)
+      → CutStandsFor proto v line → 4 ≤ v.quiet → v.taken + n ≡ t
+      → CutStandsFor proto (after_silence v t) (line ++ silent n)
   stands-silence zero v line t old quiet is =
-      let P : ℕ → Type 0 = λ k. StandsFor proto (after_silence v k) line in
-      let Q : List Tick → Type 0 = λ l. StandsFor proto (after_silence v t) l in
+      let P : ℕ → Type 0 = λ k. CutStandsFor proto (after_silence v k) line in
+      let Q : List Tick → Type 0 = λ l. CutStandsFor proto (after_silence v t) l in
       let same : v.taken ≡ t = omega arith in
       subst Q (sym (append-nil line)) (subst P same old)
   stands-silence (suc n) v line t old quiet is =
-      let next : StandsFor proto (after_silence v (v.taken + 1)) (line ++ Silent ∷ []) =
+      let next : CutStandsFor proto (after_silence v (v.taken + 1)) (line ++ Silent ∷ []) =
       stands-rest proto v line old quiet in
-      let P : List Tick → Type 0 = λ l. StandsFor proto (after_silence v t) l in
+      let P : List Tick → Type 0 = λ l. CutStandsFor proto (after_silence v t) l in
       subst P (append_assoc line (Silent ∷ []) (silent n))
       (stands-silence n (after_silence v (v.taken + 1)) (line ++ Silent ∷ []) t next quiet
       (omega arith))
 
-  pub cuts-silence : (n : ℕ) (v : BurstCut R) (line : List Tick) → StandsFor proto v line
+  pub cuts-silence : (n : ℕ) (v : BurstCut R) (line : List Tick) → CutStandsFor proto v line
       → 4 ≤ v.quiet → cuts_after rules line (silent n) ≡ replicate n Quiet
   cuts-silence zero v line old quiet = refl
   cuts-silence (suc n) v line old quiet =
-      let next : StandsFor proto (after_silence v (v.taken + 1)) (line ++ Silent ∷ []) =
+      let next : CutStandsFor proto (after_silence v (v.taken + 1)) (line ++ Silent ∷ []) =
       stands-rest proto v line old quiet in
       let first = cut-rest proto v line old quiet in
       let more = cuts-silence n (after_silence v (v.taken + 1)) (line ++ Silent ∷ []) next quiet in

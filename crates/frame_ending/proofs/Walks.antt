@@ -3,7 +3,7 @@ use Rattle.frame_ending.proofs.Emissions.{tick_at-none, tick_at-front, laid-more
 use Rattle.frame_ending.proofs.Spread.{AreSpread, EndBy, bursts-spread, bursts-end}
 use Rattle.frame_ending.specs.Causal.{IsCausal, MayGoOn, AddsOneTick, going_on}
 use Rattle.frame_ending.specs.{Laid.tick_at, Laid.laid, Walk.Walker, Walk.Noted, Walk.noted}
-use Rattle.frame_ending.specs.Walk.{walked, emitted, state_after, notes_before, notes_at, notes_of}
+use Rattle.frame_ending.specs.Walk.{walked, emitted_by, state_after, notes_before, notes_at, notes_of}
 use Rattle.std.proofs.Common.{◌≡◌, ◌∙◌, ◌==◌, ℕ, ◌+◌, ◌<◌, ◌≤◌, nat_lt, true, false, List, [], ◌∷◌}
 use Rattle.std.proofs.Common.{◌++◌, length, refl, sym, ap, arith, append_assoc, length-append}
 use Rattle.std.proofs.Common.{⊎_elim}
@@ -24,12 +24,12 @@ module _ {S N : Type 0} (w : Walker S N) where
   walked-append s (d ∷ a) b = ap (λ l. noted w s d ∷ l) (walked-append (w.next s d) a b)
 
   pub emitted-append : (s : S) (a b : List Burst)
-      → emitted w s (a ++ b) ≡ emitted w s a ++ emitted w (state_after w s a) b
+      → emitted_by w s (a ++ b) ≡ emitted_by w s a ++ emitted_by w (state_after w s a) b
   emitted-append s [] b = refl
   emitted-append s (d ∷ a) b =
       ap (λ l. w.emission s d ++ l) (emitted-append (w.next s d) a b)
-      ∙ sym (append_assoc (w.emission s d) (emitted w (w.next s d) a)
-      (emitted w (state_after w (w.next s d) a) b))
+      ∙ sym (append_assoc (w.emission s d) (emitted_by w (w.next s d) a)
+      (emitted_by w (state_after w (w.next s d) a) b))
 
   pub state_after-append : (s : S) (a b : List Burst)
       → state_after w s (a ++ b) ≡ state_after w (state_after w s a) b
@@ -175,9 +175,9 @@ module _ {S N : Type 0} (w : Walker S N) (causal : IsCausal w) where
 
   ticks_stay : (s : S) (n m b i : ℕ) (ds : List Burst) → AreSpread T3_5_TICKS n ds → EndBy m ds
       → i < m
-      → tick_at (emitted w s (extended T3_5_TICKS m b ds)) i ≡ tick_at (emitted w s ds) i
+      → tick_at (emitted_by w s (extended T3_5_TICKS m b ds)) i ≡ tick_at (emitted_by w s ds) i
   ticks_stay s n m b i [] spread ends before =
-      ap (λ ds. tick_at (emitted w s ds) i) (extended-nil T3_5_TICKS m b)
+      ap (λ ds. tick_at (emitted_by w s ds) i) (extended-nil T3_5_TICKS m b)
       ∙ (alone_dark s m b i before ∙ sym (tick_at-none i))
   ticks_stay s n m b i (d ∷ []) spread ends before =
       ⊎_elim
@@ -186,18 +186,18 @@ module _ {S N : Type 0} (w : Walker S N) (causal : IsCausal w) where
         after = ends.0;
         near = near;
       } in
-      ap (λ ds. tick_at (emitted w s ds) i) (extended-near T3_5_TICKS m b d near)
+      ap (λ ds. tick_at (emitted_by w s ds) i) (extended-near T3_5_TICKS m b d near)
       ∙ (ap (λ x. tick_at x i) (append-nil (w.emission s (going_on d m b)))
       ∙ (causal.emission_stays s d m b i may before
       ∙ sym (ap (λ x. tick_at x i) (append-nil (w.emission s d))))))
-      (λ far. ap (λ ds. tick_at (emitted w s ds) i) (extended-far T3_5_TICKS m b d far)
+      (λ far. ap (λ ds. tick_at (emitted_by w s ds) i) (extended-far T3_5_TICKS m b d far)
       ∙ tick_at-front (w.emission s d) (w.emission (w.next s d) (alone m b) ++ []) [] i
       (alone_dark (w.next s d) m b i before ∙ sym (tick_at-none i)))
       (cases_lt m (end_of d + T3_5_TICKS))
   ticks_stay s n m b i (d ∷ e ∷ ds) spread ends before =
-      ap (λ x. tick_at (emitted w s x) i) (extended-cons T3_5_TICKS m b d e ds)
-      ∙ tick_at-front (w.emission s d) (emitted w (w.next s d) (extended T3_5_TICKS m b (e ∷ ds)))
-      (emitted w (w.next s d) (e ∷ ds)) i
+      ap (λ x. tick_at (emitted_by w s x) i) (extended-cons T3_5_TICKS m b d e ds)
+      ∙ tick_at-front (w.emission s d) (emitted_by w (w.next s d) (extended T3_5_TICKS m b (e ∷ ds)))
+      (emitted_by w (w.next s d) (e ∷ ds)) i
       (ticks_stay (w.next s d) (end_of d + T3_5_TICKS) m b i (e ∷ ds) spread.2 ends.1 before)
 
   -- ---- one more tick
@@ -213,12 +213,12 @@ module _ {S N : Type 0} (w : Walker S N) (causal : IsCausal w) where
       ∙ notes_stay s 0 (length line) b (bursts line) (bursts-spread line) (bursts-end line)
 
   ticks_before_line : (s : S) (line : List Tick) (t : Tick) (i : ℕ) → i < length line
-      → tick_at (emitted w s (bursts (line ++ t ∷ []))) i ≡ tick_at (emitted w s (bursts line)) i
+      → tick_at (emitted_by w s (bursts (line ++ t ∷ []))) i ≡ tick_at (emitted_by w s (bursts line)) i
   ticks_before_line s line Silent i before =
-      ap (λ ds. tick_at (emitted w s ds) i) (bursts_from-silent T3_5_TICKS 0 line)
+      ap (λ ds. tick_at (emitted_by w s ds) i) (bursts_from-silent T3_5_TICKS 0 line)
   ticks_before_line s line (Byte b) i before =
       let here : 0 + length line ≡ length line = omega arith in
-      ap (λ ds. tick_at (emitted w s ds) i)
+      ap (λ ds. tick_at (emitted_by w s ds) i)
       (bursts_from-byte T3_5_TICKS 0 (length line) b line here)
       ∙ ticks_stay s 0 (length line) b i (bursts line) (bursts-spread line) (bursts-end line) before
 
@@ -232,10 +232,10 @@ module _ {S N : Type 0} (w : Walker S N) (causal : IsCausal w) where
         notes = ap (λ m. notes_before m (walked w s more)) long
             ∙ (notes_split s 0 (length line) more (bursts-spread (line ++ t ∷ []))
             ∙ ap (λ l. l ++ notes_at (length line) (walked w s more)) (notes_before_line s line t));
-        ticks = ap (λ m. laid m (emitted w s more)) long
-            ∙ (laid-more (length line) (emitted w s more)
-            ∙ ap (λ l. l ++ tick_at (emitted w s more) (length line) ∷ [])
-            (laid-same 0 (length line) (λ i. tick_at (emitted w s more) i)
-            (λ i. tick_at (emitted w s (bursts line)) i)
+        ticks = ap (λ m. laid m (emitted_by w s more)) long
+            ∙ (laid-more (length line) (emitted_by w s more)
+            ∙ ap (λ l. l ++ tick_at (emitted_by w s more) (length line) ∷ [])
+            (laid-same 0 (length line) (λ i. tick_at (emitted_by w s more) i)
+            (λ i. tick_at (emitted_by w s (bursts line)) i)
             (λ i below. let h : i < length line = omega arith in ticks_before_line s line t i h)));
       }

@@ -7,7 +7,7 @@ use Rattle.yasir_ticks.specs.declared.TheConstants.{T3_5_TICKS}
 use Rattle.yasir_ticks.specs.declared.tick.Tick.{Tick}
 use Rattle.yasir_ticks.specs.declared.tick.Tick.TheVariants.{Silent, Byte}
 use Rattle.frame_ending.specs.Laid.{tick_at}
-use Rattle.frame_ending.specs.Walk.{Walker, walked, emitted, notes_of, line_of, notes_at}
+use Rattle.frame_ending.specs.Walk.{Walker, walked, emitted_by, notes_of, line_of, notes_at}
 
 -- a burst that goes on with a byte at tick m
 abbrev pub going_on : Burst → ℕ → ℕ → Burst
@@ -51,4 +51,4 @@ pub record AddsOneTick {S N : Type 0} (w : Walker S N) (s : S) (line : List Tick
   pub notes : notes_of w s (line ++ t ∷ [])
       ≡ notes_of w s line ++ notes_at (length line) (walked w s (bursts (line ++ t ∷ [])))
   pub ticks : line_of w s (line ++ t ∷ [])
-      ≡ line_of w s line ++ tick_at (emitted w s (bursts (line ++ t ∷ []))) (length line) ∷ []
+      ≡ line_of w s line ++ tick_at (emitted_by w s (bursts (line ++ t ∷ []))) (length line) ∷ []

@@ -7,7 +7,7 @@ use Rattle.frame_ending.specs.SoFar.{start_so_far, live_bytes_so_far, last_live_
 use Rattle.frame_ending.specs.SoFar.{has_extra_so_far, has_paused_so_far, quiet_so_far}
 
 -- Holds if the value has taken these ticks, by the rules of a protocol.
-pub record StandsFor {R : Type 0} (proto : LineRules R) (value : BurstCut R) (line : List Tick) :
+pub record CutStandsFor {R : Type 0} (proto : LineRules R) (value : BurstCut R) (line : List Tick) :
     Type 0 where
   pub count : value.taken ≡ length line
   pub quiet_is : value.quiet ≡ quiet_so_far line

@@ -29,9 +29,9 @@ walked w s [] = []
 walked w s (d ∷ ds) = noted w s d ∷ walked w (w.next s d) ds
 
 -- the emissions of these bursts, beginning in state s
-abbrev pub emitted : {S N : Type 0} → Walker S N → S → List Burst → List Burst
-emitted w s [] = []
-emitted w s (d ∷ ds) = w.emission s d ++ emitted w (w.next s d) ds
+abbrev pub emitted_by : {S N : Type 0} → Walker S N → S → List Burst → List Burst
+emitted_by w s [] = []
+emitted_by w s (d ∷ ds) = w.emission s d ++ emitted_by w (w.next s d) ds
 
 -- the state after these bursts, beginning in state s
 abbrev pub state_after : {S N : Type 0} → Walker S N → S → List Burst → S
@@ -52,4 +52,4 @@ abbrev pub notes_of : {S N : Type 0} → Walker S N → S → List Tick → List
 notes_of w s line = notes_before (length line) (walked w s (bursts line))
 
 abbrev pub line_of : {S N : Type 0} → Walker S N → S → List Tick → List Tick
-line_of w s line = laid (length line) (emitted w s (bursts line))
+line_of w s line = laid (length line) (emitted_by w s (bursts line))

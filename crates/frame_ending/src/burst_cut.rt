@@ -33,12 +33,12 @@ impl<R: LineRules> BurstCut<R> {
     ghost use Rattle.frame_ending.specs.SoFar.{has_extra_so_far, is_over_so_far, quiet_so_far};
     ghost use Rattle.frame_ending.specs.declared.cut.Cut.TheVariants.{Live, Quiet, Extra};
     ghost use Rattle.frame_ending.specs.Cuts.{cut_of, cuts_after};
-    ghost use Rattle.frame_ending.specs.Stands.{StandsFor, ticks_taken};
+    ghost use Rattle.frame_ending.specs.Stands.{CutStandsFor, ticks_taken};
 
     /// Returns a value that has taken no tick.
     pub fn new() -> BurstCut<R>
         ensures taken { ticks_taken result ≡ 0 }
-        ensures stands { StandsFor R.LineRules result [] }
+        ensures stands { CutStandsFor R.LineRules result [] }
     {
         BurstCut {
             taken: 0,
@@ -57,9 +57,9 @@ impl<R: LineRules> BurstCut<R> {
         requires room { self.old.taken < MAX_TICKS }
         requires quiet { T3_5_TICKS ≤ self.old.quiet }
         ensures taken { self.new.taken ≡ self.old.taken + 1 }
-        ensures stands { (line : List Tick) → StandsFor R.LineRules self.old line
-            → StandsFor R.LineRules self.new (line ++ Byte byte ∷ []) }
-        ensures answer { (line : List Tick) → StandsFor R.LineRules self.old line
+        ensures stands { (line : List Tick) → CutStandsFor R.LineRules self.old line
+            → CutStandsFor R.LineRules self.new (line ++ Byte byte ∷ []) }
+        ensures answer { (line : List Tick) → CutStandsFor R.LineRules self.old line
             → result ≡ cut_of R.rules line (Byte byte) }
     {
         self.rules.restart();
@@ -81,9 +81,9 @@ impl<R: LineRules> BurstCut<R> {
         requires open { self.old.paused ≡ false }
         requires fits { R.is_full self.old.rules ≡ false }
         ensures taken { self.new.taken ≡ self.old.taken + 1 }
-        ensures stands { (line : List Tick) → StandsFor R.LineRules self.old line
-            → StandsFor R.LineRules self.new (line ++ Byte byte ∷ []) }
-        ensures answer { (line : List Tick) → StandsFor R.LineRules self.old line
+        ensures stands { (line : List Tick) → CutStandsFor R.LineRules self.old line
+            → CutStandsFor R.LineRules self.new (line ++ Byte byte ∷ []) }
+        ensures answer { (line : List Tick) → CutStandsFor R.LineRules self.old line
             → result ≡ cut_of R.rules line (Byte byte) }
     {
         self.rules.take(byte);
@@ -100,9 +100,9 @@ impl<R: LineRules> BurstCut<R> {
         requires quiet { self.old.quiet < T3_5_TICKS }
         requires over { (self.old.paused || R.is_full self.old.rules) ≡ true }
         ensures taken { self.new.taken ≡ self.old.taken + 1 }
-        ensures stands { (line : List Tick) → StandsFor R.LineRules self.old line
-            → StandsFor R.LineRules self.new (line ++ Byte byte ∷ []) }
-        ensures answer { (line : List Tick) → StandsFor R.LineRules self.old line
+        ensures stands { (line : List Tick) → CutStandsFor R.LineRules self.old line
+            → CutStandsFor R.LineRules self.new (line ++ Byte byte ∷ []) }
+        ensures answer { (line : List Tick) → CutStandsFor R.LineRules self.old line
             → result ≡ cut_of R.rules line (Byte byte) }
     {
         self.extra = true;
@@ -115,9 +115,9 @@ impl<R: LineRules> BurstCut<R> {
     fn hear(&mut self, byte: u8) -> Cut
         requires { self.old.taken < MAX_TICKS }
         ensures taken { self.new.taken ≡ self.old.taken + 1 }
-        ensures stands { (line : List Tick) → StandsFor R.LineRules self.old line
-            → StandsFor R.LineRules self.new (line ++ Byte byte ∷ []) }
-        ensures answer { (line : List Tick) → StandsFor R.LineRules self.old line
+        ensures stands { (line : List Tick) → CutStandsFor R.LineRules self.old line
+            → CutStandsFor R.LineRules self.new (line ++ Byte byte ∷ []) }
+        ensures answer { (line : List Tick) → CutStandsFor R.LineRules self.old line
             → result ≡ cut_of R.rules line (Byte byte) }
     {
         if self.quiet >= T3_5_TICKS {
@@ -136,9 +136,9 @@ impl<R: LineRules> BurstCut<R> {
     fn wait(&mut self) -> Cut
         requires { self.old.taken < MAX_TICKS }
         ensures taken { self.new.taken ≡ self.old.taken + 1 }
-        ensures stands { (line : List Tick) → StandsFor R.LineRules self.old line
-            → StandsFor R.LineRules self.new (line ++ Silent ∷ []) }
-        ensures answer { (line : List Tick) → StandsFor R.LineRules self.old line
+        ensures stands { (line : List Tick) → CutStandsFor R.LineRules self.old line
+            → CutStandsFor R.LineRules self.new (line ++ Silent ∷ []) }
+        ensures answer { (line : List Tick) → CutStandsFor R.LineRules self.old line
             → result ≡ cut_of R.rules line Silent }
     {
         self.taken += 1;
@@ -159,9 +159,9 @@ impl<R: LineRules> BurstCut<R> {
     pub fn step(&mut self, t: Tick) -> Cut
         requires { ticks_taken self.old < MAX_TICKS }
         ensures taken { ticks_taken self.new ≡ ticks_taken self.old + 1 }
-        ensures stands { (line : List Tick) → StandsFor R.LineRules self.old line
-            → StandsFor R.LineRules self.new (line ++ t ∷ []) }
-        ensures answer { (line : List Tick) → StandsFor R.LineRules self.old line
+        ensures stands { (line : List Tick) → CutStandsFor R.LineRules self.old line
+            → CutStandsFor R.LineRules self.new (line ++ t ∷ []) }
+        ensures answer { (line : List Tick) → CutStandsFor R.LineRules self.old line
             → result ≡ cut_of R.rules line t }
     {
         match t {
@@ -177,13 +177,13 @@ impl<R: LineRules> BurstCut<R> {
         requires { ticks_taken self.old + length bytes.now ≤ MAX_TICKS }
         ensures within { result ≤ length bytes.now }
         ensures taken { ticks_taken self.new ≡ ticks_taken self.old + result }
-        ensures stands { (line : List Tick) → StandsFor R.LineRules self.old line
-            → StandsFor R.LineRules self.new (line ++ map Byte (take result bytes.now)) }
-        ensures live { (line : List Tick) → StandsFor R.LineRules self.old line
+        ensures stands { (line : List Tick) → CutStandsFor R.LineRules self.old line
+            → CutStandsFor R.LineRules self.new (line ++ map Byte (take result bytes.now)) }
+        ensures live { (line : List Tick) → CutStandsFor R.LineRules self.old line
             → cuts_after R.rules line (map Byte (take result bytes.now))
             ≡ map Live (take result bytes.now) }
         ensures all { result < length bytes.now → (line : List Tick) (b : ℕ)
-            → StandsFor R.LineRules self.new line → cut_of R.rules line (Byte b) ≡ Live b → ⊥ }
+            → CutStandsFor R.LineRules self.new line → cut_of R.rules line (Byte b) ≡ Live b → ⊥ }
     {
         if self.quiet >= T3_5_TICKS {
             return 0;
@@ -206,11 +206,11 @@ impl<R: LineRules> BurstCut<R> {
         requires { ticks_taken self.old + ticks ≤ MAX_TICKS }
         ensures within { result ≤ ticks }
         ensures taken { ticks_taken self.new ≡ ticks_taken self.old + result }
-        ensures stands { (line : List Tick) → StandsFor R.LineRules self.old line
-            → StandsFor R.LineRules self.new (line ++ silent result) }
-        ensures quiet { (line : List Tick) → StandsFor R.LineRules self.old line
+        ensures stands { (line : List Tick) → CutStandsFor R.LineRules self.old line
+            → CutStandsFor R.LineRules self.new (line ++ silent result) }
+        ensures quiet { (line : List Tick) → CutStandsFor R.LineRules self.old line
             → cuts_after R.rules line (silent result) ≡ replicate result Quiet }
-        ensures all { result < ticks → (line : List Tick) → StandsFor R.LineRules self.new line
+        ensures all { result < ticks → (line : List Tick) → CutStandsFor R.LineRules self.new line
             → cut_of R.rules line Silent ≡ Quiet → ⊥ }
     {
         if self.quiet < T3_5_TICKS {
@@ -235,13 +235,13 @@ impl<R: LineRules> BurstCut<R> {
         requires { ticks_taken self.old + length bytes.now ≤ MAX_TICKS }
         ensures within { result ≤ length bytes.now }
         ensures taken { ticks_taken self.new ≡ ticks_taken self.old + result }
-        ensures stands { (line : List Tick) → StandsFor R.LineRules self.old line
-            → StandsFor R.LineRules self.new (line ++ map Byte (take result bytes.now)) }
-        ensures extra { (line : List Tick) → StandsFor R.LineRules self.old line
+        ensures stands { (line : List Tick) → CutStandsFor R.LineRules self.old line
+            → CutStandsFor R.LineRules self.new (line ++ map Byte (take result bytes.now)) }
+        ensures extra { (line : List Tick) → CutStandsFor R.LineRules self.old line
             → cuts_after R.rules line (map Byte (take result bytes.now))
             ≡ map Extra (take result bytes.now) }
         ensures all { result < length bytes.now → (line : List Tick) (b : ℕ)
-            → StandsFor R.LineRules self.new line → cut_of R.rules line (Byte b) ≡ Extra b → ⊥ }
+            → CutStandsFor R.LineRules self.new line → cut_of R.rules line (Byte b) ≡ Extra b → ⊥ }
     {
         if self.quiet >= T3_5_TICKS {
             return 0;
@@ -265,8 +265,8 @@ impl<R: LineRules> BurstCut<R> {
     pub fn wait_some(&mut self, ticks: u32)
         requires { ticks_taken self.old + ticks ≤ MAX_TICKS }
         ensures taken { ticks_taken self.new ≡ ticks_taken self.old + ticks }
-        ensures stands { (line : List Tick) → StandsFor R.LineRules self.old line
-            → StandsFor R.LineRules self.new (line ++ silent ticks) }
+        ensures stands { (line : List Tick) → CutStandsFor R.LineRules self.old line
+            → CutStandsFor R.LineRules self.new (line ++ silent ticks) }
     {
         let count = u64::from(ticks);
         self.taken += count;
@@ -282,7 +282,7 @@ impl<R: LineRules> BurstCut<R> {
     /// Returns the live bytes.
     #[inline]
     pub fn rules(&self) -> &R
-        ensures { (line : List Tick) → StandsFor R.LineRules self.now line
+        ensures { (line : List Tick) → CutStandsFor R.LineRules self.now line
             → R.stands result.now (live_bytes_so_far R.rules line) }
     {
         &self.rules
@@ -291,7 +291,7 @@ impl<R: LineRules> BurstCut<R> {
     /// Returns the tick of the burst's first byte, or 0 before the first burst.
     #[inline]
     pub fn start(&self) -> u64
-        ensures { (line : List Tick) → StandsFor R.LineRules self.now line
+        ensures { (line : List Tick) → CutStandsFor R.LineRules self.now line
             → result ≡ start_so_far line }
     {
         self.start
@@ -300,7 +300,7 @@ impl<R: LineRules> BurstCut<R> {
     /// Returns the tick of the last live byte, or 0 before the first burst.
     #[inline]
     pub fn last_live(&self) -> u64
-        ensures { (line : List Tick) → StandsFor R.LineRules self.now line
+        ensures { (line : List Tick) → CutStandsFor R.LineRules self.now line
             → result ≡ last_live_so_far R.rules line }
     {
         self.last_live
@@ -309,7 +309,7 @@ impl<R: LineRules> BurstCut<R> {
     /// Whether the burst has a byte that isn't live.
     #[inline]
     pub fn extra(&self) -> bool
-        ensures { (line : List Tick) → StandsFor R.LineRules self.now line
+        ensures { (line : List Tick) → CutStandsFor R.LineRules self.now line
             → result ≡ has_extra_so_far R.rules line }
     {
         self.extra
@@ -319,7 +319,7 @@ impl<R: LineRules> BurstCut<R> {
     /// or after it, or the room is full.
     #[inline]
     pub fn live_over(&self) -> bool
-        ensures { (line : List Tick) → StandsFor R.LineRules self.now line
+        ensures { (line : List Tick) → CutStandsFor R.LineRules self.now line
             → result ≡ is_over_so_far R.rules line }
     {
         self.is_over()
@@ -329,7 +329,7 @@ impl<R: LineRules> BurstCut<R> {
     /// runs while there are fewer than that.
     #[inline]
     pub fn quiet(&self) -> u8
-        ensures { (line : List Tick) → StandsFor R.LineRules self.now line
+        ensures { (line : List Tick) → CutStandsFor R.LineRules self.now line
             → result ≡ quiet_so_far line }
     {
         self.quiet
@@ -339,7 +339,7 @@ impl<R: LineRules> BurstCut<R> {
     #[inline]
     pub fn ticks(&self) -> u64
         ensures taken { result ≡ ticks_taken self.now }
-        ensures count { (line : List Tick) → StandsFor R.LineRules self.now line
+        ensures count { (line : List Tick) → CutStandsFor R.LineRules self.now line
             → result ≡ length line }
     {
         self.taken

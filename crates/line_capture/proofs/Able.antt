@@ -10,15 +10,15 @@ use Rattle.command_ends.specs.declared.status.Status.TheVariants as statuses
 use Rattle.line_stamps.specs.declared.capture.CaptureByte.{CaptureByte}
 use Rattle.command_ends.proofs.Readable.{all_of_told, met_of_told, not_refused, not_too_long}
 use Rattle.line_stamps.specs.declared.capture.Way.TheVariants as way
-use Rattle.line_capture.specs.Able.{IsTakeable, IsGivable, IsPlacedWhole, timing_of_items, EndsWell}
+use Rattle.line_capture.specs.Able.{IsTakeable, IsGivable, IsPlacedWhole, timing_of_items, CaptureEndsWell}
 use Rattle.line_capture.specs.Captures.{NoError, is_error, HoldsItems, Collects, way_bytes}
-use Rattle.line_capture.specs.Captures.{IsRefused, IsRefused.at_byte, IsRefused.at_error}
+use Rattle.line_capture.specs.Captures.{CaptureIsRefused, IsRefused.at_byte, IsRefused.at_error}
 use Rattle.line_capture.specs.{Captures.IsRefused.at_end, Formats.Format}
-use Rattle.line_capture.specs.Gives.{marks_for, GivesFile, GivesRead, Gives, end_status}
+use Rattle.line_capture.specs.Gives.{marks_for, GivesFile, GivesRead, GivesCapture, end_status}
 use Rattle.line_capture.specs.Gives.Gives.{no_memory as no_input_given, read as input_given}
 use Rattle.line_capture.specs.Gives.GivesFile.{no_memory as no_memory_given, refused, given}
 use Rattle.line_capture.specs.{Inputs.Told, Inputs.IsRead, Outcomes.status_in}
-use Rattle.line_capture.specs.Takes.{Held, Takes, TakesRead, WritesTaken, timing_for, outcome_of}
+use Rattle.line_capture.specs.Takes.{CaptureHeld, TakesCapture, TakesRead, WritesTaken, timing_for, outcome_of}
 use Rattle.line_capture.specs.Takes.{read_outcome, or_else, stop_outcome, origin_of}
 use Rattle.line_capture.specs.Takes.Takes.{no_memory as no_room, read as was_read}
 use Rattle.line_capture.specs.Takes.TakesRead.{no_memory, kept as was_kept}
@@ -72,7 +72,7 @@ no_error_inside (item ∷ x) error y right wrong = no_error_inside x error y rig
 module _ (format : Format) (sound : IsSound format) (taking : Taking) (file : List ℕ)
     (items : List Seen) (is : format.is file items) (right : NoError items) where
   never_refused : (kept : Kept) (bad : BadCapture)
-      → IsRefused format taking true file kept bad → ⊥
+      → CaptureIsRefused format taking true file kept bad → ⊥
   never_refused kept bad (at_byte r) =
       sound.refused r.front r.items r.byte bad r.more items r.refused
       (subst (λ l. format.is l items) r.is is)
@@ -106,7 +106,7 @@ module _ (format : Format) (sound : IsSound format) (taking : Taking) (file : Li
 
   module _ (a_whole : IsPlacedWhole (timing_of_items taking items) (way_bytes taking.ways way.A items))
       (b_whole : IsPlacedWhole (timing_of_items taking items) (way_bytes taking.ways way.B items))
-      (before now : Held) (outcome : Outcome) where
+      (before now : CaptureHeld) (outcome : Outcome) where
     -- All of a right capture is placed, so that nothing is refused.
     capture_done : (kept : Kept) (end : CaptureEnd) → Collects format taking true file kept end
         → WritesTaken taking kept Whole end before now outcome → EndsFree outcome
@@ -135,7 +135,7 @@ module _ (format : Format) (sound : IsSound format) (taking : Taking) (file : Li
     file_done (was_kept takes) = capture_done takes.kept takes.end takes.collects takes.writes
 
 pub take_done : (format : Format) (sound : IsSound format) (taking : Taking) (in_before in_now : Told)
-    (before now : Held) (outcome : Outcome) → Takes format taking in_before in_now before now outcome
+    (before now : CaptureHeld) (outcome : Outcome) → TakesCapture format taking in_before in_now before now outcome
     → IsTakeable format taking in_before.left → ¬ Rose in_before.faults in_now.faults
     → EndsFree outcome
 take_done format sound taking in_before in_now before now outcome (no_room none) able calm =
@@ -167,7 +167,7 @@ printed text before now statuses.Done outcome prints is = done is
 printed text before now statuses.WriteFault outcome prints is = not_written is
 printed text before now status outcome prints is = absurd prints
 
-text_done : (form : GiveForm) (rate : Rate) (file : List ℕ) (before now : Held) (outcome : Outcome)
+text_done : (form : GiveForm) (rate : Rate) (file : List ℕ) (before now : CaptureHeld) (outcome : Outcome)
     → IsReadableWith (marks_for form file) (Some file)
     → GivesFile form rate file before now outcome → EndsFree outcome
 text_done form rate file before now outcome readable (no_memory_given none) =
@@ -186,8 +186,8 @@ told_few marks file readable =
     same : (x y : List ℕ) → ◌≡◌ {A = Option (List ℕ)} (Some x) (Some y) → x ≡ y
     same x y e = cc
 
-pub give_done : (form : GiveForm) (rate : Rate) (in_before in_now : Told) (before now : Held)
-    (outcome : Outcome) → Gives form rate in_before in_now before now outcome
+pub give_done : (form : GiveForm) (rate : Rate) (in_before in_now : Told) (before now : CaptureHeld)
+    (outcome : Outcome) → GivesCapture form rate in_before in_now before now outcome
     → IsGivable form in_before.left → ¬ Rose in_before.faults in_now.faults → EndsFree outcome
 give_done form rate in_before in_now before now outcome (no_input_given none) able calm =
     no_room_left none.outcome_is
@@ -204,7 +204,7 @@ give_done form rate in_before in_now before now outcome (input_given input) able
 pub ends_well : (outcome : Outcome) (in0 in1 out0 out1 log0 log1 : ℕ) → EndsFree outcome
     → (outcome ≡ Ended statuses.ReadFault → Rose in0 in1)
     → SinkCause out0 out1 log0 log1 (status_in outcome) → ¬ Rose in0 in1 → ¬ Rose out0 out1
-    → ¬ Rose log0 log1 → EndsWell outcome
+    → ¬ Rose log0 log1 → CaptureEndsWell outcome
 ends_well outcome in0 in1 out0 out1 log0 log1 (done is) read sinks calm_in calm_out calm_log = inl is
 ends_well outcome in0 in1 out0 out1 log0 log1 (no_room_left is) read sinks calm_in calm_out calm_log =
     inr is

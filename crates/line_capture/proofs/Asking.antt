@@ -1,5 +1,5 @@
 -- Words that ask for no command, and words that ask for one.
-use Rattle.line_capture.specs.Words.{IsCommand, take_form_word, give_form_word, ways_word}
+use Rattle.line_capture.specs.Words.{IsCaptureCommand, take_form_word, give_form_word, ways_word}
 use Rattle.line_capture.specs.declared.words.Command.{Command, TheVariants.Take, TheVariants.Give}
 use Rattle.line_capture.specs.declared.words.{GiveForm.GiveForm, TakeForm.TakeForm, Ways.Ways}
 use Rattle.line_stamps.specs.{RateWords.rate_word, declared.rate.Rate.Rate}
@@ -21,62 +21,62 @@ NoTake form rate ways = (f : TakeForm) (r : Rate) (w : Ways)
 
 module _ (verb form rate : List ℕ) where
   pub three_verb : (verb ≡ codes "give" → ⊥) → (command : Command)
-      → IsCommand (verb ∷ form ∷ rate ∷ []) command → ⊥
+      → IsCaptureCommand (verb ∷ form ∷ rate ∷ []) command → ⊥
   three_verb other (Take f r w ByTime) is = cc
   three_verb other (Take f r w ByRecord) is = cc
   three_verb other (Give f r) is = other (ap (word_at 0) is)
 
   pub three_form : ((f : GiveForm) → form ≡ give_form_word f → ⊥) → (command : Command)
-      → IsCommand (verb ∷ form ∷ rate ∷ []) command → ⊥
+      → IsCaptureCommand (verb ∷ form ∷ rate ∷ []) command → ⊥
   three_form none (Take f r w ByTime) is = cc
   three_form none (Take f r w ByRecord) is = cc
   three_form none (Give f r) is = none f (ap (word_at 1) is)
 
   pub three_rate : ((r : Rate) → rate ≡ rate_word r → ⊥) → (command : Command)
-      → IsCommand (verb ∷ form ∷ rate ∷ []) command → ⊥
+      → IsCaptureCommand (verb ∷ form ∷ rate ∷ []) command → ⊥
   three_rate none (Take f r w ByTime) is = cc
   three_rate none (Take f r w ByRecord) is = cc
   three_rate none (Give f r) is = none r (ap (word_at 2) is)
 
   pub three_ask : (f : GiveForm) (r : Rate) → verb ≡ codes "give" → form ≡ give_form_word f
-      → rate ≡ rate_word r → IsCommand (verb ∷ form ∷ rate ∷ []) (Give f r)
+      → rate ≡ rate_word r → IsCaptureCommand (verb ∷ form ∷ rate ∷ []) (Give f r)
   three_ask f r v form_is rate_is = rw (v, form_is, rate_is) refl
 
 -- ---- four words
 
 module _ (verb form rate ways : List ℕ) where
   pub four_verb : (verb ≡ codes "take" → ⊥) → (command : Command)
-      → IsCommand (verb ∷ form ∷ rate ∷ ways ∷ []) command → ⊥
+      → IsCaptureCommand (verb ∷ form ∷ rate ∷ ways ∷ []) command → ⊥
   four_verb other (Take f r w s) is = other (ap (word_at 0) is)
   four_verb other (Give f r) is = cc
 
   pub no_four : NoTake form rate ways → (command : Command)
-      → IsCommand (verb ∷ form ∷ rate ∷ ways ∷ []) command → ⊥
+      → IsCaptureCommand (verb ∷ form ∷ rate ∷ ways ∷ []) command → ⊥
   no_four none (Take f r w s) is =
       none f r w (ap (word_at 1) is) (ap (word_at 2) is) (ap (word_at 3) is)
   no_four none (Give f r) is = cc
 
   pub four_ask : (f : TakeForm) (r : Rate) (w : Ways) → verb ≡ codes "take"
       → form ≡ take_form_word f → rate ≡ rate_word r → ways ≡ ways_word w
-      → IsCommand (verb ∷ form ∷ rate ∷ ways ∷ []) (Take f r w ByTime)
+      → IsCaptureCommand (verb ∷ form ∷ rate ∷ ways ∷ []) (Take f r w ByTime)
   four_ask f r w v form_is rate_is ways_are = rw (v, form_is, rate_is, ways_are) refl
 
 -- ---- five words
 
 module _ (verb form rate ways last : List ℕ) where
   pub five_verb : (verb ≡ codes "take" → ⊥) → (command : Command)
-      → IsCommand (verb ∷ form ∷ rate ∷ ways ∷ last ∷ []) command → ⊥
+      → IsCaptureCommand (verb ∷ form ∷ rate ∷ ways ∷ last ∷ []) command → ⊥
   five_verb other (Take f r w s) is = other (ap (word_at 0) is)
   five_verb other (Give f r) is = cc
 
   pub five_last : (last ≡ codes "frames" → ⊥) → (command : Command)
-      → IsCommand (verb ∷ form ∷ rate ∷ ways ∷ last ∷ []) command → ⊥
+      → IsCaptureCommand (verb ∷ form ∷ rate ∷ ways ∷ last ∷ []) command → ⊥
   five_last other (Take f r w ByTime) is = cc
   five_last other (Take f r w ByRecord) is = other (ap (word_at 4) is)
   five_last other (Give f r) is = cc
 
   pub no_five : NoTake form rate ways → (command : Command)
-      → IsCommand (verb ∷ form ∷ rate ∷ ways ∷ last ∷ []) command → ⊥
+      → IsCaptureCommand (verb ∷ form ∷ rate ∷ ways ∷ last ∷ []) command → ⊥
   no_five none (Take f r w s) is =
       none f r w (ap (word_at 1) is) (ap (word_at 2) is) (ap (word_at 3) is)
   no_five none (Give f r) is = cc
@@ -84,19 +84,19 @@ module _ (verb form rate ways last : List ℕ) where
   pub five_ask : (f : TakeForm) (r : Rate) (w : Ways) → verb ≡ codes "take"
       → form ≡ take_form_word f → rate ≡ rate_word r → ways ≡ ways_word w
       → last ≡ codes "frames"
-      → IsCommand (verb ∷ form ∷ rate ∷ ways ∷ last ∷ []) (Take f r w ByRecord)
+      → IsCaptureCommand (verb ∷ form ∷ rate ∷ ways ∷ last ∷ []) (Take f r w ByRecord)
   five_ask f r w v form_is rate_is ways_are last_is =
       rw (v, form_is, rate_is, ways_are, last_is) refl
 
 -- ---- other numbers of words
 
-pub least_words : (words : List (List ℕ)) (command : Command) → IsCommand words command
+pub least_words : (words : List (List ℕ)) (command : Command) → IsCaptureCommand words command
     → 3 ≤ length words
 least_words words (Take f r w ByTime) is = let n = ap length is in omega arith
 least_words words (Take f r w ByRecord) is = let n = ap length is in omega arith
 least_words words (Give f r) is = let n = ap length is in omega arith
 
-pub most_words : (words : List (List ℕ)) (command : Command) → IsCommand words command
+pub most_words : (words : List (List ℕ)) (command : Command) → IsCaptureCommand words command
     → length words ≤ 5
 most_words words (Take f r w ByTime) is = let n = ap length is in omega arith
 most_words words (Take f r w ByRecord) is = let n = ap length is in omega arith

@@ -1,6 +1,6 @@
 -- A capture, collected byte by byte.
 use Rattle.line_capture.{proofs.Keeping.right_more, specs.Captures.TakesItem}
-use Rattle.line_capture.specs.Captures.{IsRefused, Collects, EndsSo, TakesItems, is_error}
+use Rattle.line_capture.specs.Captures.{CaptureIsRefused, Collects, EndsSo, TakesItems, is_error}
 use Rattle.line_capture.specs.Captures.IsRefused.{at_byte, at_error, at_end}
 use Rattle.line_capture.specs.Collecting.{Collecting, StopsNext}
 use Rattle.line_capture.specs.Collecting.StopsNext.{refused, in_error}
@@ -76,7 +76,7 @@ module _ {F : Type 0} (f : FormReader F) (taking : Taking) where
 
   pub stops_at : (whole : Bool) (kept : Kept) (file : List ℕ) (i d : ℕ) (bad : BadCapture)
       → i < length file → StopsNext f taking kept (take i file) (get_or file i d) bad
-      → IsRefused f.format taking whole file kept bad
+      → CaptureIsRefused f.format taking whole file kept bad
   stops_at whole kept file i d bad within (refused at) = at_byte (record {
     front = take i file;
     byte = get_or file i d;

@@ -4,8 +4,8 @@ use Rattle.line_capture.specs.Able.{ArePlaced, IsPlacedWhole}
 use Rattle.line_stamps.proofs.Clocks.{character-some, spot-is, tick-near, tick-far, line-length}
 use Rattle.line_stamps.proofs.RoundingLaws.{rounded-some, apart-some, apart-least}
 use Rattle.line_stamps.specs.Parts.{character, rounded, ticks_apart}
-use Rattle.line_stamps.specs.Places.{Spot, spot_of, start_of, next_tick, line_of, last_spot_from}
-use Rattle.line_stamps.specs.{Places.tick_at, Placing.answer_at, Placing.is_early}
+use Rattle.line_stamps.specs.Places.{Spot, spot_of, start_of, next_tick, line_of_places, last_spot_from}
+use Rattle.line_stamps.specs.{Places.tick_placed_at, Placing.answer_at, Placing.is_early}
 use Rattle.line_stamps.specs.Placing.{is_late, overlaps, overlaps_at, NoneRefused, silence_before}
 use Rattle.line_stamps.specs.declared.{TheConstants.TIME_LIMIT, capture.CaptureByte.CaptureByte}
 use Rattle.line_stamps.specs.declared.timing.{Spacing.TheVariants.ByTime, Timing.Timing}
@@ -38,7 +38,7 @@ module _ (t : Timing) (by_time : t.spacing ≡ ByTime) where
   -- A byte after one that is near is near too, over plain numbers.
   step-near : (before time tick time' tick' n : ℕ) → 0 < one → n ≡ ticks_apart (time' - time) one
       → one ≤ 2 * (time' - time) → 2 * time ≤ 4 * (tick * one) + one
-      → tick' ≡ tick_at n tick time' one → 2 * time' ≤ 4 * (tick' * one) + one
+      → tick' ≡ tick_placed_at n tick time' one → 2 * time' ≤ 4 * (tick' * one) + one
   step-near before time tick time' tick' n some is apart near at =
       ⊎_elim
       (λ (far : 321 < n).
@@ -95,7 +95,7 @@ module _ (t : Timing) (by_time : t.spacing ≡ ByTime) where
       )
 
   pub placed-whole : (cs : List CaptureByte) → NoneRefused t None cs
-      → length (line_of t cs) ≤ max_ticks → IsPlacedWhole t cs
+      → length (line_of_places t cs) ≤ max_ticks → IsPlacedWhole t cs
   placed-whole cs free few =
       let all = line-length t None cs in record {
         each = placed-each None cs tt free (omega arith);

@@ -1,6 +1,6 @@
 -- What is given is a capture of the records of its lines.
 use Rattle.capture_pcap.proofs.Written.{packet_is}
-use Rattle.capture_pcap.specs.Pcap.{IsHeader, ArePackets, IsCapture, ArePackets.none as no_packets}
+use Rattle.capture_pcap.specs.Pcap.{IsPcapHeader, ArePackets, IsCapture, ArePackets.none as no_packets}
 use Rattle.capture_pcap.specs.Pcap.{ArePackets.more as more_packets, IsCapture.pcap}
 use Rattle.capture_pcap.specs.Record.{seen_byte, seen_bytes}
 use Rattle.capture_pcap.specs.{Writing.written_clock, declared.writer.TheConstants.FILE_HEADER}
@@ -187,7 +187,7 @@ module _ (rate : Rate) where
       ∙ ap (λ l. items ++ l)
       (sym (map-append (bytes_of_record rate one) (bytes_of_records rate more)))) later)
 
-  pub packets_are : (records : List LineRecord) → IsHeader written_clock FILE_HEADER
+  pub packets_are : (records : List LineRecord) → IsPcapHeader written_clock FILE_HEADER
       → AreRight records
       → IsCapture (file_front Pcap ++ records_text Pcap rate records)
       (map Byte (bytes_of_records rate records))

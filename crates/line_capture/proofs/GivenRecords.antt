@@ -1,7 +1,7 @@
 -- The bytes of a line's records are given for the bytes of its ticks.
 use Rattle.line_capture.proofs.RecordBytes.{no_room}
 use Rattle.line_capture.specs.Records.{LineRecord, leading, records_from, records_of, most_further}
-use Rattle.line_stamps.specs.Giving.{ByteAt, bytes_from, tick_start, Gives, AreGiven}
+use Rattle.line_stamps.specs.Giving.{ByteAt, bytes_from, tick_start, StampsGive, AreStampsGiven}
 use Rattle.line_stamps.specs.declared.capture.{CaptureByte.CaptureByte, Way.Way}
 use Rattle.line_stamps.specs.declared.rate.Rate.{Rate}
 use Rattle.std.proofs.Common.{◌≡◌, ◌∙◌, ℕ, zero, suc, ◌+◌, ◌<◌, ◌≤◌, List, [], ◌∷◌, ◌++◌, Bool}
@@ -34,25 +34,25 @@ module _ (rate : Rate) where
   still_open room tick some = (tick, refl, refl)
 
   first_gives : (before : Option ℕ) (way : Way) (tick byte : ℕ)
-      → Gives rate 1 0 before (record { tick = tick; byte = byte })
+      → StampsGive rate 1 0 before (record { tick = tick; byte = byte })
       (record { way = way; start = tick_start rate 1 tick; first = true; byte = byte })
   first_gives None way tick byte = omega arith
   first_gives (Some p) way tick byte = (λ first. omega arith, λ further. cc)
 
   later_gives : (way : Way) (start tick byte p : ℕ) → tick ≡ suc p
-      → Gives rate 1 0 (Some p) (record { tick = tick; byte = byte })
+      → StampsGive rate 1 0 (Some p) (record { tick = tick; byte = byte })
       (record { way = way; start = start; first = false; byte = byte })
   later_gives way start tick byte p is = (λ first. cc, λ further. is)
 
   given_from : (way : Way) (tick : ℕ) (line : List Tick) (room : ℕ) (before : Option ℕ) (start : ℕ)
       → IsOpen room before tick
-      → AreGiven rate 1 0 before (bytes_from tick line)
+      → AreStampsGiven rate 1 0 before (bytes_from tick line)
       (record_bytes start way false (leading line room)
       ++ bytes_of_records (records_from way tick line room))
   given_from way tick [] room before start opened = tt
   given_from way tick (Silent ∷ line) room before start opened =
       let later = given_from way (suc tick) line 0 before start (none_open before (suc tick)) in
-      subst (λ (l : List ℕ). AreGiven rate 1 0 before (bytes_from (suc tick) line)
+      subst (λ (l : List ℕ). AreStampsGiven rate 1 0 before (bytes_from (suc tick) line)
       (record_bytes start way false l ++ bytes_of_records (records_from way (suc tick) line 0)))
       (no_room line) later
   given_from way tick (Byte b ∷ line) zero before start opened =
@@ -62,17 +62,17 @@ module _ (rate : Rate) where
   given_from way tick (Byte b ∷ line) (suc room) before start opened =
       let at = opened (omega arith) in
       let later = given_from way (suc tick) line room (Some tick) start (still_open room tick) in
-      let here : Gives rate 1 0 before (record { tick = tick; byte = b })
+      let here : StampsGive rate 1 0 before (record { tick = tick; byte = b })
       (record { way = way; start = start; first = false; byte = b }) =
-      subst (λ (x : Option ℕ). Gives rate 1 0 x (record { tick = tick; byte = b })
+      subst (λ (x : Option ℕ). StampsGive rate 1 0 x (record { tick = tick; byte = b })
       (record { way = way; start = start; first = false; byte = b })) (sym at.1)
       (later_gives way start tick b at.0 at.2) in
       (refl, here, later)
 
   pub given_line : (way : Way) (line : List Tick)
-      → AreGiven rate 1 0 None (bytes_from 0 line) (bytes_of_records (records_of way line))
+      → AreStampsGiven rate 1 0 None (bytes_from 0 line) (bytes_of_records (records_of way line))
   given_line way line =
-      subst (λ (l : List ℕ). AreGiven rate 1 0 None (bytes_from 0 line)
+      subst (λ (l : List ℕ). AreStampsGiven rate 1 0 None (bytes_from 0 line)
       (record_bytes 0 way false l ++ bytes_of_records (records_of way line))) (no_room line)
       (given_from way 0 line 0 None 0 (none_open None 0))
 

@@ -14,10 +14,10 @@ use Rattle.session_lists.specs.{Listing.KeepsWhole, Parts.part, TickLists.ticks_
 use Rattle.session_lists.specs.{TickLists.ticks_second, declared.tick_lists.TickLists.TickLists}
 use Rattle.command_ends.specs.declared.status.Status.TheVariants as statuses
 use Rattle.line_capture.specs.Gives.{has_mark_behind, marks_for, AreLinesOf, end_status, GivesFile}
-use Rattle.line_capture.specs.Gives.{GivesRead, Gives}
+use Rattle.line_capture.specs.Gives.{GivesRead, GivesCapture}
 use Rattle.line_capture.specs.Gives.Gives.{no_memory as no_room, read as was_read}
 use Rattle.line_capture.specs.Gives.GivesFile.{no_memory, refused, given}
-use Rattle.line_capture.specs.{Inputs.Told, Takes.Held, declared.input.ReadEnd.ReadEnd}
+use Rattle.line_capture.specs.{Inputs.Told, Takes.CaptureHeld, declared.input.ReadEnd.ReadEnd}
 use Rattle.line_capture.specs.declared.input.ReadEnd.TheVariants.{Whole, Failed, TooLong}
 use Rattle.line_capture.specs.declared.outcome.Outcome.{Outcome, TheVariants.Ended}
 use Rattle.line_capture.specs.declared.words.GiveForm.{GiveForm}
@@ -112,7 +112,7 @@ print_no_usage text before now statuses.WriteFault prints is = cc
 print_no_usage text before now statuses.Usage prints is = prints
 print_no_usage text before now status prints is = cc
 
-file_no_usage : (form : GiveForm) (rate : Rate) (file : List ℕ) (before now : Held)
+file_no_usage : (form : GiveForm) (rate : Rate) (file : List ℕ) (before now : CaptureHeld)
     (outcome : Outcome) → GivesFile form rate file before now outcome
     → outcome ≡ Ended statuses.Usage → ⊥
 file_no_usage form rate file before now outcome (no_memory none) is =
@@ -122,7 +122,7 @@ file_no_usage form rate file before now outcome (refused bad) is =
 file_no_usage form rate file before now outcome (given all) is =
     print_no_usage all.capture before.out now.out all.status all.out (sym all.outcome_is ∙ is)
 
-read_no_usage : (form : GiveForm) (rate : Rate) (read : ReadEnd) (file : List ℕ) (before now : Held)
+read_no_usage : (form : GiveForm) (rate : Rate) (read : ReadEnd) (file : List ℕ) (before now : CaptureHeld)
     (outcome : Outcome) → GivesRead form rate read file before now outcome
     → outcome ≡ Ended statuses.Usage → ⊥
 read_no_usage form rate Whole file before now outcome gives is =
@@ -131,7 +131,7 @@ read_no_usage form rate Failed file before now outcome gives is = let h = gives.
 read_no_usage form rate TooLong file before now outcome gives is = let h = gives.0 in cc
 
 pub give_usage : (form : GiveForm) (rate : Rate) (in_before in_now : Told)
-    (before now : Held) (outcome : Outcome) → Gives form rate in_before in_now before now outcome
+    (before now : CaptureHeld) (outcome : Outcome) → GivesCapture form rate in_before in_now before now outcome
     → outcome ≡ Ended statuses.Usage → ⊥
 give_usage form rate in_before in_now before now outcome (no_room none) is =
     let h = none.outcome_is in cc

@@ -1,5 +1,5 @@
 -- A capture that was given is taken as the same ticks, for each form.
-use Rattle.capture_pcap.specs.Pcap.{IsHeader, IsCapture}
+use Rattle.capture_pcap.specs.Pcap.{IsPcapHeader, IsCapture}
 use Rattle.capture_pcap.specs.{Writing.written_clock, declared.writer.TheConstants.FILE_HEADER}
 use Rattle.capture_text.specs.Reader.{IsSeenText}
 use Rattle.line_stamps.specs.declared.capture.Way.TheVariants.{A, B}
@@ -14,7 +14,7 @@ use Rattle.line_capture.specs.{Formats.format_of, Gives.AreLinesOf, Gives.IsGive
 use Rattle.line_capture.specs.Inputs.{Told}
 use Rattle.line_capture.specs.Records.{LineRecord, AreRecords, records_of}
 use Rattle.line_capture.specs.TakenAgain.{taken_as, both_ways, TakesAgain}
-use Rattle.line_capture.specs.{Takes.Held, Takes.Takes, declared.outcome.Outcome.Outcome}
+use Rattle.line_capture.specs.{Takes.CaptureHeld, Takes.TakesCapture, declared.outcome.Outcome.Outcome}
 use Rattle.line_capture.specs.declared.{outcome.Outcome.TheVariants.Ended, words.GiveForm.GiveForm}
 use Rattle.line_capture.specs.declared.words.GiveForm.TheVariants as give_forms
 use Rattle.line_capture.specs.declared.words.TakeForm.{TakeForm}
@@ -61,7 +61,7 @@ record IsCaptureOf (taken : TakeForm) (rate : Rate) (a b : List Tick) (file : Li
   is : (format_of taken).is file (map Byte (bytes_of_records rate records))
 
 is_capture : (form : GiveForm) (taken : TakeForm) (rate : Rate) (text : List ℕ) (a b : List Tick)
-    (file : List ℕ) → IsHeader written_clock FILE_HEADER → taken_as form ≡ Some taken
+    (file : List ℕ) → IsPcapHeader written_clock FILE_HEADER → taken_as form ≡ Some taken
     → AreLinesOf form text a b → IsGiven form rate a b file → IsCaptureOf taken rate a b file
 is_capture give_forms.Pcap take_forms.Pcap rate text a b file header same lines given =
     let right = all_right give_forms.Pcap text a b lines given.records given.are in record {
@@ -88,14 +88,14 @@ is_capture give_forms.Text take_forms.Sigrok rate text a b file header same line
 is_capture give_forms.Vcd taken rate text a b file header same lines given = cc
 
 module _ (form : GiveForm) (taken : TakeForm) (rate : Rate) (text : List ℕ) (a b : List Tick)
-    (file : List ℕ) (header : IsHeader written_clock FILE_HEADER) (same : taken_as form ≡ Some taken)
+    (file : List ℕ) (header : IsPcapHeader written_clock FILE_HEADER) (same : taken_as form ≡ Some taken)
     (lines : AreLinesOf form text a b) (given : IsGiven form rate a b file) where
   capture : IsCaptureOf taken rate a b file
   capture = is_capture form taken rate text a b file header same lines given
 
-  pub given_again : (in_before in_now : Told) (before now : Held) (outcome : Outcome)
+  pub given_again : (in_before in_now : Told) (before now : CaptureHeld) (outcome : Outcome)
       → in_before.left ≡ Some file
-      → Takes (format_of taken) (both_ways rate) in_before in_now before now outcome
+      → TakesCapture (format_of taken) (both_ways rate) in_before in_now before now outcome
       → outcome ≡ Ended statuses.Done → TakesAgain a b before now
   given_again in_before in_now before now outcome told takes done =
       run-again (format_of taken) (sound_form taken) rate a b capture.records capture.are file

@@ -1,17 +1,17 @@
 -- The bytes of a way, placed one after the other, and the ticks that go out with them.
 use Rattle.line_capture.{proofs.CollectedBytes.item_parts, specs.Placed.plain}
-use Rattle.line_capture.specs.Placed.{StopsAt, PlacesByte, SendsFront, Sends, PushesLine, PlacesOne}
+use Rattle.line_capture.specs.Placed.{PlacedStopsAt, PlacesByte, SendsFront, PlacedSends, PushesLine, PlacesOne}
 use Rattle.line_capture.specs.Placed.{TakesOne, StopsBefore, PlacesAll, PlacesPart, CountsNext}
 use Rattle.line_capture.specs.{Placed.CountsOverlaps, Placed.AllInTime, declared.placing.LineStop.LineStop}
 use Rattle.line_capture.specs.declared.placing.LineStop.TheVariants.{AllPlaced, TooLong}
-use Rattle.line_stamps.specs.Places.{Spot, spot_of, line_of, last_spot, last_spot_from}
-use Rattle.line_stamps.specs.Placing.{HasTaken, timing_of, answer_at, is_early, overlaps, is_late}
+use Rattle.line_stamps.specs.Places.{Spot, spot_of, line_of_places, last_spot, last_spot_from}
+use Rattle.line_stamps.specs.Placing.{PlacingHasTaken, timing_of, answer_at, is_early, overlaps, is_late}
 use Rattle.line_stamps.specs.Placing.{NoneRefused, silence_before, overlap_count}
 use Rattle.line_stamps.specs.declared.{capture.CaptureByte.CaptureByte, placer.Placer.Placer}
 use Rattle.line_stamps.specs.declared.placer.Unplaced.TheVariants.{Early, Late, Overlap}
 use Rattle.line_stamps.specs.declared.timing.Timing.{Timing}
 use Rattle.line_texts.proofs.Sending.{sends_added, sends_handed, sent_handed}
-use Rattle.line_texts.specs.{Adding.Adds, Adding.HasRoom, Sending.AnswersNoted, Sending.SinkTexts}
+use Rattle.line_texts.specs.{Adding.TextAdds, Adding.TextHasRoom, Sending.AnswersNoted, Sending.SinkTexts}
 use Rattle.line_texts.specs.Sending.{SendsTexts, HaveCause}
 use Rattle.line_texts.specs.Texts.{Writing, writing, waiting_in, texts_held, Writes, HandsOut}
 use Rattle.line_texts.specs.declared.texts.Texts.{Texts}
@@ -83,14 +83,14 @@ module _ {O L : Type 0} (o : Sink O) (l : Sink L) where
 
   -- A short run was added to the texts.
   module _ (old : Writing O L) (added : Texts) (run : List Tick)
-      (adds : Adds (waiting_in old.texts) (waiting_in added) run []) where
-    added_sends : (start : SinkTexts) (line : List Tick) → Sends o l start old line
+      (adds : TextAdds (waiting_in old.texts) (waiting_in added) run []) where
+    added_sends : (start : SinkTexts) (line : List Tick) → PlacedSends o l start old line
         → SendsTexts plain (waiting_in added) start (texts_held o l old) (line ++ run)
     added_sends start line sends = sends_added plain line run run [] (no_notes line run)
         (waiting_in old.texts) (waiting_in added) start (texts_held o l old) sends adds
 
     -- There is room for more.
-    pub short_added : HasRoom added → PushesLine o l old (record old { texts = added }) run (Ok tt)
+    pub short_added : TextHasRoom added → PushesLine o l old (record old { texts = added }) run (Ok tt)
     short_added room = record {
       goes = added_sends;
       stops = tt;
@@ -123,9 +123,9 @@ module _ {O L : Type 0} (o : Sink O) (l : Sink L) where
     }
 
   -- no tick
-  line_none : (at : Writing O L) → HasRoom at.texts → PushesLine o l at at [] (Ok tt)
+  line_none : (at : Writing O L) → TextHasRoom at.texts → PushesLine o l at at [] (Ok tt)
   line_none at room = record {
-    goes = λ start line sends. subst (Sends o l start at) (sym (append-nil line)) sends;
+    goes = λ start line sends. subst (PlacedSends o l start at) (sym (append-nil line)) sends;
     stops = tt;
     room = room;
     writes = nothing_written at;
@@ -154,7 +154,7 @@ module _ {O L : Type 0} (o : Sink O) (l : Sink L) where
       → PushesLine o l mid new then result → PushesLine o l old new (first ++ then) result
   line_then old mid new first then result went pushed = record {
     goes = on_ok_weaker result (λ goes start line sends.
-        subst (Sends o l start new) (append_assoc line first then)
+        subst (PlacedSends o l start new) (append_assoc line first then)
         (goes start (line ++ first) (went.goes start line sends))) pushed.goes;
     stops = on_err_weaker result (λ stops start line sends.
         subst (SendsFront start (texts_held o l new)) (append_assoc line first then)
@@ -171,7 +171,7 @@ module _ {O L : Type 0} (o : Sink O) (l : Sink L) where
     pub all : done + left ≡ silence
     pub pushes : PushesLine o l old now (silent done) (Ok tt)
 
-  pub none_pushed : (at : Writing O L) (silence : ℕ) → HasRoom at.texts
+  pub none_pushed : (at : Writing O L) (silence : ℕ) → TextHasRoom at.texts
       → HasPushed at at silence silence
   none_pushed at silence room =
       record { done = 0; all = omega arith; pushes = line_none at room }
@@ -212,15 +212,15 @@ module _ {O L : Type 0} (o : Sink O) (l : Sink L) where
   pub record SoFar (t : Timing) (placer : Placer) (front : List CaptureByte)
       (old now : Writing O L) : Type 0 where
     pub timing : timing_of placer ≡ t
-    pub taken : HasTaken placer front
+    pub taken : PlacingHasTaken placer front
     pub placed : NoneRefused t None front
-    pub few : length (line_of t front) ≤ max_ticks
-    pub goes : (start : SinkTexts) → Sends o l start old [] → Sends o l start now (line_of t front)
-    pub room : HasRoom now.texts
+    pub few : length (line_of_places t front) ≤ max_ticks
+    pub goes : (start : SinkTexts) → PlacedSends o l start old [] → PlacedSends o l start now (line_of_places t front)
+    pub room : TextHasRoom now.texts
     pub writes : Writes o l old now (Ok tt)
 
-  pub none_so_far : (t : Timing) (placer : Placer) (at : Writing O L) → HasRoom at.texts
-      → timing_of placer ≡ t → HasTaken placer [] → SoFar t placer [] at at
+  pub none_so_far : (t : Timing) (placer : Placer) (at : Writing O L) → TextHasRoom at.texts
+      → timing_of placer ≡ t → PlacingHasTaken placer [] → SoFar t placer [] at at
   none_so_far t placer at room timing taken = record {
     timing = timing;
     taken = taken;
@@ -245,8 +245,8 @@ module _ {O L : Type 0} (o : Sink O) (l : Sink L) where
           taken = one.taken;
           placed = placed_more t front c one.one.more so_far.placed at;
           few = at.few;
-          goes = λ start sends. subst (Sends o l start next) (sym at.line)
-              (one.one.pushes.goes start (line_of t front) (so_far.goes start sends));
+          goes = λ start sends. subst (PlacedSends o l start next) (sym at.line)
+              (one.one.pushes.goes start (line_of_places t front) (so_far.goes start sends));
           room = one.one.pushes.room;
           writes = written_then old now next (Ok tt) so_far.writes one.one.pushes.writes;
         }
@@ -263,7 +263,7 @@ module _ {O L : Type 0} (o : Sink O) (l : Sink L) where
             few = at.few;
           };
           stops = λ start sends. subst (SendsFront start (texts_held o l next)) (sym at.line)
-              (one.pushes.stops start (line_of t front) (so_far.goes start sends));
+              (one.pushes.stops start (line_of_places t front) (so_far.goes start sends));
           writes = written_then old now next (Err e) so_far.writes one.pushes.writes;
         }
 
@@ -275,15 +275,15 @@ module _ {O L : Type 0} (o : Sink O) (l : Sink L) where
       front = front;
       rest = c ∷ rest;
       is_front = record { is = is; placed = so_far.placed; few = so_far.few };
-      stop = stops_on stop (subst (λ u. StopsAt u front (c ∷ []) stop) so_far.timing stopped.why);
+      stop = stops_on stop (subst (λ u. PlacedStopsAt u front (c ∷ []) stop) so_far.timing stopped.why);
       placed = counted;
-      goes = λ start sends. subst (λ at. Sends o l start at (line_of t front)) (sym stopped.same)
+      goes = λ start sends. subst (λ at. PlacedSends o l start at (line_of_places t front)) (sym stopped.same)
           (so_far.goes start sends);
       writes = subst (λ at. Writes o l old at (Ok tt)) (sym stopped.same) so_far.writes;
     }
       where
-        stops_on : (stop : LineStop) → StopsAt t front (c ∷ []) stop
-            → StopsAt t front (c ∷ rest) stop
+        stops_on : (stop : LineStop) → PlacedStopsAt t front (c ∷ []) stop
+            → PlacedStopsAt t front (c ∷ rest) stop
         stops_on AllPlaced why = cc
         stops_on (stops.Unplaced u) why = why
         stops_on (TooLong n) why = why
@@ -321,12 +321,12 @@ in_time_more t last (d ∷ front) c all early late =
 pub counts_on : (t : Timing) (cs : List CaptureByte) (i : ℕ) (d : CaptureByte)
     (placer placed : Placer) → i < length cs → timing_of placer ≡ t → AllInTime t None (take i cs)
     → CountsNext placer placed (take i cs) (get_or cs i d) true
-    → (timing_of placed ≡ t) × HasTaken placed (take (i + 1) cs)
+    → (timing_of placed ≡ t) × PlacingHasTaken placed (take (i + 1) cs)
     × AllInTime t None (take (i + 1) cs)
 counts_on t cs i d placer placed within timing in_time both =
     let more = sym (take_more cs i d within) in (
       both.1 ∙ timing,
-      subst (HasTaken placed) more both.0,
+      subst (PlacingHasTaken placed) more both.0,
       subst (AllInTime t None) more (in_time_more t None (take i cs) (get_or cs i d) in_time
           (subst (λ u. answer_at u (last_spot u (take i cs)) (get_or cs i d) ≡ Err Early → ⊥) timing both.2)
           (subst (λ u. answer_at u (last_spot u (take i cs)) (get_or cs i d) ≡ Err Late → ⊥) timing both.3)),
@@ -335,13 +335,13 @@ counts_on t cs i d placer placed within timing in_time both =
 -- the first byte that is early or late ends the count
 pub counts_stop : (t : Timing) (cs : List CaptureByte) (i : ℕ) (d : CaptureByte)
     (placer placed : Placer) (n : ℕ) → i < length cs → timing_of placer ≡ t
-    → HasTaken placer (take i cs) → AllInTime t None (take i cs)
+    → PlacingHasTaken placer (take i cs) → AllInTime t None (take i cs)
     → CountsNext placer placed (take i cs) (get_or cs i d) false
-    → ((xs : List CaptureByte) → HasTaken placed xs
+    → ((xs : List CaptureByte) → PlacingHasTaken placed xs
     → n ≡ min (overlap_count (timing_of placed) xs) (2 ^ 64 - 1))
     → CountsOverlaps t cs n
 counts_stop t cs i d placer placed n within timing taken in_time both counted =
-    let all = counted (take i cs) (subst (λ p. HasTaken p (take i cs)) (sym both.0) taken) in record {
+    let all = counted (take i cs) (subst (λ p. PlacingHasTaken p (take i cs)) (sym both.0) taken) in record {
       front = take i cs;
       rest = get_or cs i d ∷ drop (suc i) cs;
       is = item_parts cs i d within;

@@ -1,7 +1,7 @@
 -- Bytes of a way that are all placed.
 use Rattle.line_capture.specs.Able.{ArePlaced, IsPlacedWhole}
-use Rattle.line_capture.specs.{Placed.StopsAt, declared.placing.LineStop.LineStop}
-use Rattle.line_stamps.specs.Places.{Spot, spot_of, placed_from, ticks_from, line_of, PlacedByte}
+use Rattle.line_capture.specs.{Placed.PlacedStopsAt, declared.placing.LineStop.LineStop}
+use Rattle.line_stamps.specs.Places.{Spot, spot_of, placed_from, ticks_from, line_of_places, PlacedByte}
 use Rattle.line_stamps.specs.Places.{last_spot_from, placed_at}
 use Rattle.line_stamps.specs.{Placing.answer_at, declared.capture.CaptureByte.CaptureByte}
 use Rattle.line_stamps.specs.declared.{placer.Unplaced.Unplaced, timing.Timing.Timing}
@@ -29,9 +29,9 @@ module _ (t : Timing) where
   placed-append last (c ∷ x) y =
       ap (λ l. placed_at (spot_of t last c) c ∷ l) (placed-append (Some (spot_of t last c)) x y)
 
-  pub line-front : (x y : List CaptureByte) → length (line_of t x) ≤ length (line_of t (x ++ y))
+  pub line-front : (x y : List CaptureByte) → length (line_of_places t x) ≤ length (line_of_places t (x ++ y))
   line-front x y =
-      subst (λ l. length (line_of t x) ≤ length (ticks_from 0 l)) (sym (placed-append None x y))
+      subst (λ l. length (line_of_places t x) ≤ length (ticks_from 0 l)) (sym (placed-append None x y))
       (ticks-front 0 (placed_from t None x) (placed_from t (last_spot_from t None x) y))
 
   answered : (last : Option Spot) (front : List CaptureByte) (c : CaptureByte)
@@ -42,7 +42,7 @@ module _ (t : Timing) where
 
   -- No byte is left unplaced.
   pub all_placed : (cs front rest : List CaptureByte) (stop : LineStop) → cs ≡ front ++ rest
-      → IsPlacedWhole t cs → StopsAt t front rest stop → stop ≡ stops.AllPlaced
+      → IsPlacedWhole t cs → PlacedStopsAt t front rest stop → stop ≡ stops.AllPlaced
   all_placed cs front rest stops.AllPlaced is whole stop = refl
   all_placed cs front [] (stops.Unplaced why) is whole stop = absurd stop
   all_placed cs front (c ∷ rest) (stops.Unplaced why) is whole stop =
@@ -55,12 +55,12 @@ module _ (t : Timing) where
   all_placed cs front (c ∷ rest) (stops.TooLong count) is whole stop =
       let more : cs ≡ (front ++ c ∷ []) ++ rest = is ∙ sym (append_assoc front (c ∷ []) rest) in
       let h = line-front (front ++ c ∷ []) rest in
-      let e = ap (λ l. length (line_of t l)) more in
+      let e = ap (λ l. length (line_of_places t l)) more in
       let few = whole.few in
       let count_is = stop.0 in
       let above = stop.1 in
       absurd (omega arith)
 
-  pub nothing_left : (front rest : List CaptureByte) (stop : LineStop) → StopsAt t front rest stop
+  pub nothing_left : (front rest : List CaptureByte) (stop : LineStop) → PlacedStopsAt t front rest stop
       → stop ≡ stops.AllPlaced → rest ≡ []
-  nothing_left front rest stop at is = subst (StopsAt t front rest) is at
+  nothing_left front rest stop at is = subst (PlacedStopsAt t front rest) is at

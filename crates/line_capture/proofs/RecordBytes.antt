@@ -2,7 +2,7 @@
 use Rattle.capture_pcap.specs.Writing.{packet_front, written_packet}
 use Rattle.capture_text.specs.Writing.{time_front, written_line}
 use Rattle.hex.specs.Hex.{encode_with, encode_lower, lower_digits}
-use Rattle.line_capture.specs.RecordWalk.{data_text, Adds, AddsAt}
+use Rattle.line_capture.specs.RecordWalk.{text_of_record, WalkAdds, AddsAt}
 use Rattle.line_capture.specs.Records.{leading, most_further, record_text}
 use Rattle.line_capture.specs.declared.records.RecordForm.{RecordForm}
 use Rattle.line_capture.specs.declared.records.RecordForm.TheVariants.{Pcap, Text}
@@ -20,18 +20,18 @@ use Rattle.yasir_ticks.specs.declared.tick.Tick.{Tick, TheVariants.Silent, TheVa
 
 -- ---- what is added
 
-pub adds_none : (texts : RecordTexts) → Adds texts texts []
+pub adds_none : (texts : RecordTexts) → WalkAdds texts texts []
 adds_none texts = record { form = refl; rate = refl; text = sym (append-nil texts.text.items) }
 
-pub adds_then : (x y z : RecordTexts) (p q : List ℕ) → Adds x y p → Adds y z q → Adds x z (p ++ q)
+pub adds_then : (x y z : RecordTexts) (p q : List ℕ) → WalkAdds x y p → WalkAdds y z q → WalkAdds x z (p ++ q)
 adds_then x y z p q one two = record {
   form = two.form ∙ one.form;
   rate = two.rate ∙ one.rate;
   text = two.text ∙ ap (λ l. l ++ q) one.text ∙ append_assoc x.text.items p q;
 }
 
-pub adds_same : (x y : RecordTexts) (p q : List ℕ) → p ≡ q → Adds x y p → Adds x y q
-adds_same x y p q e adds = subst (Adds x y) e adds
+pub adds_same : (x y : RecordTexts) (p q : List ℕ) → p ≡ q → WalkAdds x y p → WalkAdds x y q
+adds_same x y p q e adds = subst (WalkAdds x y) e adds
 
 -- ---- the data of a record
 
@@ -46,20 +46,20 @@ unfolding encode_with
 encoded-none d = refl
 
 data-append : (form : RecordForm) (x y : List ℕ)
-    → data_text form (x ++ y) ≡ data_text form x ++ data_text form y
+    → text_of_record form (x ++ y) ≡ text_of_record form x ++ text_of_record form y
 data-append Pcap x y = refl
 data-append Text x y = encoded-append lower_digits x y
 
-data-none : (form : RecordForm) → data_text form [] ≡ []
+data-none : (form : RecordForm) → text_of_record form [] ≡ []
 data-none Pcap = refl
 data-none Text = encoded-none lower_digits
 
-pub no_data : (texts : RecordTexts) (form : RecordForm) → Adds texts texts (data_text form [])
+pub no_data : (texts : RecordTexts) (form : RecordForm) → WalkAdds texts texts (text_of_record form [])
 no_data texts form = adds_same texts texts [] _ (sym (data-none form)) (adds_none texts)
 
 module _ (start old new : RecordTexts) (ticks : List Tick) (i : ℕ) (d : Tick)
     (within : i < length ticks)
-    (had : Adds start old (data_text start.form (bytes_in (take i ticks)))) where
+    (had : WalkAdds start old (text_of_record start.form (bytes_in (take i ticks)))) where
   more-bytes : (t : Tick) → t ≡ get_or ticks i d
       → bytes_in (take (i + 1) ticks) ≡ bytes_in (take i ticks) ++ bytes_in (t ∷ [])
   more-bytes t is = ap bytes_in (take_more ticks i d within)
@@ -67,25 +67,25 @@ module _ (start old new : RecordTexts) (ticks : List Tick) (i : ℕ) (d : Tick)
       ∙ ap (λ u. bytes_in (take i ticks) ++ bytes_in (u ∷ [])) (sym is)
 
   pub byte_added : (b : ℕ) (put : RecordTexts) → new ≡ put → Byte b ≡ get_or ticks i d
-      → Adds old put (data_text old.form (b ∷ []))
-      → Adds start new (data_text start.form (bytes_in (take (i + 1) ticks)))
+      → WalkAdds old put (text_of_record old.form (b ∷ []))
+      → WalkAdds start new (text_of_record start.form (bytes_in (take (i + 1) ticks)))
   byte_added b put same is adds_put =
       let form = had.form in
-      let adds : Adds old new (data_text old.form (b ∷ [])) =
-      subst (λ x. Adds old x (data_text old.form (b ∷ []))) (sym same) adds_put in
-      let adds' : Adds old new (data_text start.form (b ∷ [])) =
-      subst (λ f. Adds old new (data_text f (b ∷ []))) form adds in
+      let adds : WalkAdds old new (text_of_record old.form (b ∷ [])) =
+      subst (λ x. WalkAdds old x (text_of_record old.form (b ∷ []))) (sym same) adds_put in
+      let adds' : WalkAdds old new (text_of_record start.form (b ∷ [])) =
+      subst (λ f. WalkAdds old new (text_of_record f (b ∷ []))) form adds in
       adds_same start new _ _
-      (sym (ap (data_text start.form) (more-bytes (Byte b) is)
+      (sym (ap (text_of_record start.form) (more-bytes (Byte b) is)
       ∙ data-append start.form (bytes_in (take i ticks)) (b ∷ [])))
       (adds_then start old new _ _ had adds')
 
   pub silence_passed : Silent ≡ get_or ticks i d → new ≡ old
-      → Adds start new (data_text start.form (bytes_in (take (i + 1) ticks)))
+      → WalkAdds start new (text_of_record start.form (bytes_in (take (i + 1) ticks)))
   silence_passed is same =
       adds_same start new _ _
-      (sym (ap (data_text start.form) (more-bytes Silent is ∙ append-nil _)))
-      (subst (λ x. Adds start x (data_text start.form (bytes_in (take i ticks)))) (sym same) had)
+      (sym (ap (text_of_record start.form) (more-bytes Silent is ∙ append-nil _)))
+      (subst (λ x. WalkAdds start x (text_of_record start.form (bytes_in (take i ticks)))) (sym same) had)
 
 -- ---- how many bytes a record has
 
@@ -202,7 +202,7 @@ at_further old way tick room after line d b within is some room_is =
 pub at_first : (old new : RecordTexts) (way : Way) (tick room : ℕ) (line : List Tick) (d : Tick)
     (b : ℕ) (bytes : List ℕ) → tick < length line → Byte b ≡ get_or line tick d → room ≡ 0
     → bytes ≡ leading (drop tick line) (suc most_further)
-    → Adds old new (record_text old.form old.rate
+    → WalkAdds old new (record_text old.form old.rate
     (record { way = way; tick = tick; bytes = bytes }))
     → AddsAt old new way tick (drop tick line) room most_further
 at_first old new way tick room line d b bytes within is none bytes_are adds =
@@ -214,7 +214,7 @@ at_first old new way tick room line d b bytes within is none bytes_are adds =
     (adds_at old way tick 0 (Byte b ∷ drop (suc tick) line) (drop tick line) new most_further left
     (record {
       adds = adds_same old new _ _ (sym (append-nil _))
-          (subst (λ (l : List ℕ). Adds old new (record_text old.form old.rate
+          (subst (λ (l : List ℕ). WalkAdds old new (record_text old.form old.rate
           (record { way = way; tick = tick; bytes = l }))) all adds);
       room_is = refl;
     }))
@@ -225,38 +225,38 @@ at_first old new way tick room line d b bytes within is none bytes_are adds =
 module _ (old new : RecordTexts) (way : Way) (tick start : ℕ) (bytes : List ℕ)
     (start_is : start ≡ tick_start old.rate 1 tick) where
   abbrev AddsRecord : Type 0
-  AddsRecord = Adds old new (record_text old.form old.rate
+  AddsRecord = WalkAdds old new (record_text old.form old.rate
       (record { way = way; tick = tick; bytes = bytes }))
 
   pub packet_added : (mid : RecordTexts) (front : List ℕ) (count : ℕ)
       {E : Type 0} (result : Result (Unit {0}) E) → Pcap ≡ old.form → count ≡ length bytes
-      → front ≡ packet_front way start count → Adds old mid front
-      → OnOk result (Adds mid new (data_text mid.form bytes)) → OnOk result AddsRecord
+      → front ≡ packet_front way start count → WalkAdds old mid front
+      → OnOk result (WalkAdds mid new (text_of_record mid.form bytes)) → OnOk result AddsRecord
   packet_added mid front count (Err none) form few front_is one two = tt
   packet_added mid front count (Ok done) form few front_is one two =
       let same : Pcap ≡ mid.form = form ∙ sym one.form in
-      let bytes_put : Adds mid new bytes = subst (λ f. Adds mid new (data_text f bytes)) (sym same) two in
+      let bytes_put : WalkAdds mid new bytes = subst (λ f. WalkAdds mid new (text_of_record f bytes)) (sym same) two in
       let all : front ++ bytes ≡ written_packet way (tick_start old.rate 1 tick) bytes =
       ap (λ l. l ++ bytes) (front_is ∙ ap (λ n. packet_front way n count) start_is
       ∙ ap (packet_front way (tick_start old.rate 1 tick)) few) in
-      subst (λ f. Adds old new (record_text f old.rate
+      subst (λ f. WalkAdds old new (record_text f old.rate
       (record { way = way; tick = tick; bytes = bytes }))) form
       (adds_same old new _ _ all (adds_then old mid new front bytes one bytes_put))
 
   pub line_added : (m1 m2 : RecordTexts) (front last : List ℕ)
       {E : Type 0} (result : Result (Unit {0}) E) → Text ≡ old.form → front ≡ time_front start
-      → last ≡ line_feed ∷ [] → Adds old m1 front → Adds m1 m2 (data_text m1.form bytes)
-      → OnOk result (Adds m2 new last) → OnOk result AddsRecord
+      → last ≡ line_feed ∷ [] → WalkAdds old m1 front → WalkAdds m1 m2 (text_of_record m1.form bytes)
+      → OnOk result (WalkAdds m2 new last) → OnOk result AddsRecord
   line_added m1 m2 front last (Err none) form front_is last_is one two three = tt
   line_added m1 m2 front last (Ok done) form front_is last_is one two three =
       let same : Text ≡ m1.form = form ∙ sym one.form in
-      let digits_put : Adds m1 m2 (encode_lower bytes) =
-      subst (λ f. Adds m1 m2 (data_text f bytes)) (sym same) two in
+      let digits_put : WalkAdds m1 m2 (encode_lower bytes) =
+      subst (λ f. WalkAdds m1 m2 (text_of_record f bytes)) (sym same) two in
       let all : (front ++ encode_lower bytes) ++ last
       ≡ written_line (tick_start old.rate 1 tick) bytes =
       ap (λ l. (l ++ encode_lower bytes) ++ last) (front_is ∙ ap time_front start_is)
       ∙ ap (λ l. (time_front (tick_start old.rate 1 tick) ++ encode_lower bytes) ++ l) last_is in
-      subst (λ f. Adds old new (record_text f old.rate
+      subst (λ f. WalkAdds old new (record_text f old.rate
       (record { way = way; tick = tick; bytes = bytes }))) form
       (adds_same old new _ _ all
       (adds_then old m2 new _ last (adds_then old m1 m2 front (encode_lower bytes) one digits_put) three))

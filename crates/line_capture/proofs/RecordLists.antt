@@ -1,6 +1,6 @@
 -- The records of two lines that a walk over their ticks finds are those of the definition.
 use Rattle.line_capture.specs.Captures.{is_way}
-use Rattle.line_capture.specs.RecordWalk.{begins, room_behind, rest_of, walked, AddsAt}
+use Rattle.line_capture.specs.RecordWalk.{walk_begins, room_behind, rest_of, records_walked, AddsAt}
 use Rattle.line_capture.specs.Records.{LineRecord, records_from, of_way, way_place, InOrder}
 use Rattle.line_capture.specs.Records.{AreRecords, records_text, record_text, file_front}
 use Rattle.line_capture.specs.Records.{IsRecorded}
@@ -28,31 +28,31 @@ rest-short n (t ∷ l) few = omega arith
 
 first-begins : (w : Way) (tick : ℕ) (l : List Tick) (room : ℕ)
     → records_from w tick l room
-    ≡ begins w tick l room ++ records_from w (suc tick) (rest_of l) (room_behind l room)
+    ≡ walk_begins w tick l room ++ records_from w (suc tick) (rest_of l) (room_behind l room)
 first-begins w tick [] room = refl
 first-begins w tick (Silent ∷ l) room = refl
 first-begins w tick (Byte b ∷ l) zero = refl
 first-begins w tick (Byte b ∷ l) (suc room) = refl
 
-own-a : (tick : ℕ) (l : List Tick) (room : ℕ) → of_way A (begins A tick l room) ≡ begins A tick l room
+own-a : (tick : ℕ) (l : List Tick) (room : ℕ) → of_way A (walk_begins A tick l room) ≡ walk_begins A tick l room
 own-a tick [] room = refl
 own-a tick (Silent ∷ l) room = refl
 own-a tick (Byte b ∷ l) zero = refl
 own-a tick (Byte b ∷ l) (suc room) = refl
 
-own-b : (tick : ℕ) (l : List Tick) (room : ℕ) → of_way B (begins B tick l room) ≡ begins B tick l room
+own-b : (tick : ℕ) (l : List Tick) (room : ℕ) → of_way B (walk_begins B tick l room) ≡ walk_begins B tick l room
 own-b tick [] room = refl
 own-b tick (Silent ∷ l) room = refl
 own-b tick (Byte b ∷ l) zero = refl
 own-b tick (Byte b ∷ l) (suc room) = refl
 
-other-a : (tick : ℕ) (l : List Tick) (room : ℕ) → of_way A (begins B tick l room) ≡ []
+other-a : (tick : ℕ) (l : List Tick) (room : ℕ) → of_way A (walk_begins B tick l room) ≡ []
 other-a tick [] room = refl
 other-a tick (Silent ∷ l) room = refl
 other-a tick (Byte b ∷ l) zero = refl
 other-a tick (Byte b ∷ l) (suc room) = refl
 
-other-b : (tick : ℕ) (l : List Tick) (room : ℕ) → of_way B (begins A tick l room) ≡ []
+other-b : (tick : ℕ) (l : List Tick) (room : ℕ) → of_way B (walk_begins A tick l room) ≡ []
 other-b tick [] room = refl
 other-b tick (Silent ∷ l) room = refl
 other-b tick (Byte b ∷ l) zero = refl
@@ -70,29 +70,29 @@ none-left w tick [] room none = refl
 none-left w tick (t ∷ l) room none = absurd (omega arith)
 
 walked-a : (n tick : ℕ) (a b : List Tick) (ra rb : ℕ) → length a ≤ n
-    → of_way A (walked n tick a b ra rb) ≡ records_from A tick a ra
+    → of_way A (records_walked n tick a b ra rb) ≡ records_from A tick a ra
 walked-a zero tick a b ra rb few = none-left A tick a ra few
 walked-a (suc n) tick a b ra rb few =
-    let more = walked n (suc tick) (rest_of a) (rest_of b) (room_behind a ra) (room_behind b rb) in
+    let more = records_walked n (suc tick) (rest_of a) (rest_of b) (room_behind a ra) (room_behind b rb) in
     let later = walked-a n (suc tick) (rest_of a) (rest_of b) (room_behind a ra) (room_behind b rb)
     (rest-short n a few) in
-    way-parts A (begins A tick a ra) (begins B tick b rb) more
-    ∙ ap (λ l. l ++ (of_way A (begins B tick b rb) ++ of_way A more)) (own-a tick a ra)
-    ∙ ap (λ l. begins A tick a ra ++ (l ++ of_way A more)) (other-a tick b rb)
-    ∙ ap (λ l. begins A tick a ra ++ l) later
+    way-parts A (walk_begins A tick a ra) (walk_begins B tick b rb) more
+    ∙ ap (λ l. l ++ (of_way A (walk_begins B tick b rb) ++ of_way A more)) (own-a tick a ra)
+    ∙ ap (λ l. walk_begins A tick a ra ++ (l ++ of_way A more)) (other-a tick b rb)
+    ∙ ap (λ l. walk_begins A tick a ra ++ l) later
     ∙ sym (first-begins A tick a ra)
 
 walked-b : (n tick : ℕ) (a b : List Tick) (ra rb : ℕ) → length b ≤ n
-    → of_way B (walked n tick a b ra rb) ≡ records_from B tick b rb
+    → of_way B (records_walked n tick a b ra rb) ≡ records_from B tick b rb
 walked-b zero tick a b ra rb few = none-left B tick b rb few
 walked-b (suc n) tick a b ra rb few =
-    let more = walked n (suc tick) (rest_of a) (rest_of b) (room_behind a ra) (room_behind b rb) in
+    let more = records_walked n (suc tick) (rest_of a) (rest_of b) (room_behind a ra) (room_behind b rb) in
     let later = walked-b n (suc tick) (rest_of a) (rest_of b) (room_behind a ra) (room_behind b rb)
     (rest-short n b few) in
-    way-parts B (begins A tick a ra) (begins B tick b rb) more
-    ∙ ap (λ l. l ++ (of_way B (begins B tick b rb) ++ of_way B more)) (other-b tick a ra)
+    way-parts B (walk_begins A tick a ra) (walk_begins B tick b rb) more
+    ∙ ap (λ l. l ++ (of_way B (walk_begins B tick b rb) ++ of_way B more)) (other-b tick a ra)
     ∙ ap (λ l. l ++ of_way B more) (own-b tick b rb)
-    ∙ ap (λ l. begins B tick b rb ++ l) later
+    ∙ ap (λ l. walk_begins B tick b rb ++ l) later
     ∙ sym (first-begins B tick b rb)
 
 -- ---- their order
@@ -104,7 +104,7 @@ earlier from until (one ∷ more) le (at, order) = (omega arith, order)
 
 order-begun : (w : Way) (from tick : ℕ) (l : List Tick) (room : ℕ) (more : List LineRecord)
     → from ≤ 2 * tick + way_place w → InOrder (suc (2 * tick + way_place w)) more
-    → InOrder from (begins w tick l room ++ more)
+    → InOrder from (walk_begins w tick l room ++ more)
 order-begun w from tick [] room more le order = earlier from _ more (omega arith) order
 order-begun w from tick (Silent ∷ l) room more le order = earlier from _ more (omega arith) order
 order-begun w from tick (Byte b ∷ l) zero more le order = (le, order)
@@ -112,18 +112,18 @@ order-begun w from tick (Byte b ∷ l) (suc room) more le order =
     earlier from _ more (omega arith) order
 
 walked-order : (n tick : ℕ) (a b : List Tick) (ra rb : ℕ)
-    → InOrder (2 * tick) (walked n tick a b ra rb)
+    → InOrder (2 * tick) (records_walked n tick a b ra rb)
 walked-order zero tick a b ra rb = tt
 walked-order (suc n) tick a b ra rb =
-    let more = walked n (suc tick) (rest_of a) (rest_of b) (room_behind a ra) (room_behind b rb) in
+    let more = records_walked n (suc tick) (rest_of a) (rest_of b) (room_behind a ra) (room_behind b rb) in
     let later : InOrder (2 * suc tick) more =
     walked-order n (suc tick) (rest_of a) (rest_of b) (room_behind a ra) (room_behind b rb) in
-    order-begun A (2 * tick) tick a ra (begins B tick b rb ++ more) (omega arith)
+    order-begun A (2 * tick) tick a ra (walk_begins B tick b rb ++ more) (omega arith)
     (order-begun B (suc (2 * tick + 0)) tick b rb more (omega arith)
     (earlier _ (2 * suc tick) more (omega arith) later))
 
 pub walked-records : (n : ℕ) (a b : List Tick) → length a ≤ n → length b ≤ n
-    → AreRecords a b (walked n 0 a b 0 0)
+    → AreRecords a b (records_walked n 0 a b 0 0)
 walked-records n a b few_a few_b = record {
   a_are = walked-a n 0 a b 0 0 few_a;
   b_are = walked-b n 0 a b 0 0 few_b;
@@ -139,36 +139,36 @@ module _ (form : RecordForm) (rate : Rate) where
 
   -- the texts of the records that begin in one tick of the walk, and then those of the others
   walked-text : (n tick : ℕ) (a b : List Tick) (ra rb : ℕ)
-      → records_text form rate (walked (suc n) tick a b ra rb)
-      ≡ records_text form rate (begins A tick a ra) ++ (records_text form rate (begins B tick b rb)
-      ++ records_text form rate (walked n (suc tick) (rest_of a) (rest_of b) (room_behind a ra)
+      → records_text form rate (records_walked (suc n) tick a b ra rb)
+      ≡ records_text form rate (walk_begins A tick a ra) ++ (records_text form rate (walk_begins B tick b rb)
+      ++ records_text form rate (records_walked n (suc tick) (rest_of a) (rest_of b) (room_behind a ra)
       (room_behind b rb)))
   walked-text n tick a b ra rb =
-      texts-append (begins A tick a ra) _
-      ∙ ap (λ l. records_text form rate (begins A tick a ra) ++ l)
-      (texts-append (begins B tick b rb) _)
+      texts-append (walk_begins A tick a ra) _
+      ∙ ap (λ l. records_text form rate (walk_begins A tick a ra) ++ l)
+      (texts-append (walk_begins B tick b rb) _)
 
   pub next-tick : (most tick : ℕ) (a b : List Tick) (ra rb ra' rb' : ℕ) (t0 t1 t2 all : List ℕ)
       → tick < most
-      → t1 ≡ t0 ++ records_text form rate (begins A tick (drop tick a) ra)
-      → t2 ≡ t1 ++ records_text form rate (begins B tick (drop tick b) rb)
+      → t1 ≡ t0 ++ records_text form rate (walk_begins A tick (drop tick a) ra)
+      → t2 ≡ t1 ++ records_text form rate (walk_begins B tick (drop tick b) rb)
       → ra' ≡ room_behind (drop tick a) ra → rb' ≡ room_behind (drop tick b) rb
-      → t0 ++ records_text form rate (walked (most - tick) tick (drop tick a) (drop tick b) ra rb)
+      → t0 ++ records_text form rate (records_walked (most - tick) tick (drop tick a) (drop tick b) ra rb)
       ≡ all
-      → t2 ++ records_text form rate (walked (most - suc tick) (suc tick) (drop (suc tick) a)
+      → t2 ++ records_text form rate (records_walked (most - suc tick) (suc tick) (drop (suc tick) a)
       (drop (suc tick) b) ra' rb') ≡ all
   next-tick most tick a b ra rb ra' rb' t0 t1 t2 all within one two room_a room_b had =
       let left : most - tick ≡ suc (most - suc tick) = omega arith in
-      let x : List ℕ = records_text form rate (begins A tick (drop tick a) ra) in
-      let y : List ℕ = records_text form rate (begins B tick (drop tick b) rb) in
-      let z : List ℕ = records_text form rate (walked (most - suc tick) (suc tick) (drop (suc tick) a)
+      let x : List ℕ = records_text form rate (walk_begins A tick (drop tick a) ra) in
+      let y : List ℕ = records_text form rate (walk_begins B tick (drop tick b) rb) in
+      let z : List ℕ = records_text form rate (records_walked (most - suc tick) (suc tick) (drop (suc tick) a)
       (drop (suc tick) b) ra' rb') in
-      let rest : records_text form rate (walked (most - suc tick) (suc tick) (rest_of (drop tick a))
+      let rest : records_text form rate (records_walked (most - suc tick) (suc tick) (rest_of (drop tick a))
       (rest_of (drop tick b)) (room_behind (drop tick a) ra) (room_behind (drop tick b) rb)) ≡ z =
       rw (rest-of-drop tick a, rest-of-drop tick b, ← room_a, ← room_b) refl in
-      let parts : records_text form rate (walked (most - tick) tick (drop tick a) (drop tick b) ra rb)
+      let parts : records_text form rate (records_walked (most - tick) tick (drop tick a) (drop tick b) ra rb)
       ≡ x ++ (y ++ z) =
-      ap (λ n. records_text form rate (walked n tick (drop tick a) (drop tick b) ra rb)) left
+      ap (λ n. records_text form rate (records_walked n tick (drop tick a) (drop tick b) ra rb)) left
       ∙ walked-text (most - suc tick) tick (drop tick a) (drop tick b) ra rb
       ∙ ap (λ l. x ++ (y ++ l)) rest in
       ap (λ l. l ++ z) (two ∙ ap (λ l. l ++ y) one)
@@ -176,20 +176,20 @@ module _ (form : RecordForm) (rate : Rate) where
       ∙ ap (λ l. t0 ++ l) (sym parts) ∙ had
 
   pub last-tick : (most tick : ℕ) (a b : List Tick) (ra rb : ℕ) (text all : List ℕ) → most ≤ tick
-      → text ++ records_text form rate (walked (most - tick) tick (drop tick a) (drop tick b) ra rb)
+      → text ++ records_text form rate (records_walked (most - tick) tick (drop tick a) (drop tick b) ra rb)
       ≡ all → text ≡ all
   last-tick most tick a b ra rb text all behind had =
       let none : most - tick ≡ 0 = omega arith in
       sym (append-nil text)
-      ∙ sym (ap (λ n. text ++ records_text form rate (walked n tick (drop tick a) (drop tick b) ra rb))
+      ∙ sym (ap (λ n. text ++ records_text form rate (records_walked n tick (drop tick a) (drop tick b) ra rb))
       none) ∙ had
 
   pub is_recorded : (most : ℕ) (a b : List Tick) (text : List ℕ) → length a ≤ most
       → length b ≤ most
-      → text ≡ file_front form ++ records_text form rate (walked most 0 a b 0 0)
+      → text ≡ file_front form ++ records_text form rate (records_walked most 0 a b 0 0)
       → IsRecorded form rate a b text
   is_recorded most a b text few_a few_b is = record {
-    records = walked most 0 a b 0 0;
+    records = records_walked most 0 a b 0 0;
     are = walked-records most a b few_a few_b;
     text_is = is;
   }
@@ -200,30 +200,30 @@ pub next_texts : (form : RecordForm) (rate : Rate) (most tick : ℕ) (a b : List
     (ra rb ra' rb' : ℕ) (t0 t1 t2 : RecordTexts) (all : List ℕ) → tick < most → t0.form ≡ form
     → t0.rate ≡ rate → AddsAt t0 t1 A tick (drop tick a) ra ra'
     → AddsAt t1 t2 B tick (drop tick b) rb rb'
-    → t0.text.items ++ records_text form rate (walked (most - tick) tick (drop tick a) (drop tick b)
+    → t0.text.items ++ records_text form rate (records_walked (most - tick) tick (drop tick a) (drop tick b)
     ra rb) ≡ all
     → (t2.form ≡ form) × (t2.rate ≡ rate)
-    × (t2.text.items ++ records_text form rate (walked (most - (tick + 1)) (tick + 1)
+    × (t2.text.items ++ records_text form rate (records_walked (most - (tick + 1)) (tick + 1)
     (drop (tick + 1) a) (drop (tick + 1) b) ra' rb') ≡ all)
 next_texts form rate most tick a b ra rb ra' rb' t0 t1 t2 all within form_is rate_is one two had =
     let form1 : t1.form ≡ form = one.adds.form ∙ form_is in
     let rate1 : t1.rate ≡ rate = one.adds.rate ∙ rate_is in
     let text1 : t1.text.items ≡ t0.text.items
-    ++ records_text form rate (begins A tick (drop tick a) ra) =
-    one.adds.text ∙ ap (λ f. t0.text.items ++ records_text f t0.rate (begins A tick (drop tick a) ra))
-    form_is ∙ ap (λ r. t0.text.items ++ records_text form r (begins A tick (drop tick a) ra)) rate_is
+    ++ records_text form rate (walk_begins A tick (drop tick a) ra) =
+    one.adds.text ∙ ap (λ f. t0.text.items ++ records_text f t0.rate (walk_begins A tick (drop tick a) ra))
+    form_is ∙ ap (λ r. t0.text.items ++ records_text form r (walk_begins A tick (drop tick a) ra)) rate_is
     in
     let text2 : t2.text.items ≡ t1.text.items
-    ++ records_text form rate (begins B tick (drop tick b) rb) =
-    two.adds.text ∙ ap (λ f. t1.text.items ++ records_text f t1.rate (begins B tick (drop tick b) rb))
-    form1 ∙ ap (λ r. t1.text.items ++ records_text form r (begins B tick (drop tick b) rb)) rate1 in
-    let next : t2.text.items ++ records_text form rate (walked (most - suc tick) (suc tick)
+    ++ records_text form rate (walk_begins B tick (drop tick b) rb) =
+    two.adds.text ∙ ap (λ f. t1.text.items ++ records_text f t1.rate (walk_begins B tick (drop tick b) rb))
+    form1 ∙ ap (λ r. t1.text.items ++ records_text form r (walk_begins B tick (drop tick b) rb)) rate1 in
+    let next : t2.text.items ++ records_text form rate (records_walked (most - suc tick) (suc tick)
     (drop (suc tick) a) (drop (suc tick) b) ra' rb') ≡ all =
     next-tick form rate most tick a b ra rb ra' rb' t0.text.items t1.text.items t2.text.items all
     within text1 text2 one.room_is two.room_is had in
     let e : suc tick ≡ tick + 1 = omega arith in (
       two.adds.form ∙ form1,
       two.adds.rate ∙ rate1,
-      subst (λ (k : ℕ). t2.text.items ++ records_text form rate (walked (most - k) k (drop k a)
+      subst (λ (k : ℕ). t2.text.items ++ records_text form rate (records_walked (most - k) k (drop k a)
           (drop k b) ra' rb') ≡ all) e next,
     )

@@ -1,7 +1,7 @@
 -- A run with a right input.
 use Rattle.line_capture.proofs.Able.{EndsFree, take_done, give_done, ends_well}
-use Rattle.line_capture.{proofs.SoundForms.sound_form, specs.Able.MayDo, specs.Able.EndsWell}
-use Rattle.line_capture.specs.Programs.{Outside, Does, Answers, IsCalm, RunCauses}
+use Rattle.line_capture.{proofs.SoundForms.sound_form, specs.Able.CaptureMayDo, specs.Able.CaptureEndsWell}
+use Rattle.line_capture.specs.Programs.{CaptureOutside, CaptureDoes, AnswersCapture, CaptureIsCalm, RunCauses}
 use Rattle.line_capture.specs.declared.outcome.Outcome.{Outcome}
 use Rattle.line_capture.specs.declared.words.Command.{Command, TheVariants.Take, TheVariants.Give}
 use Rattle.std.proofs.Common.{ℕ, List, Option, Some, None}
@@ -9,8 +9,8 @@ use Rattle.yasir_io.specs.Causes.{Rose}
 use Rattle.yasir_io.specs.declared.{sink.Sink.Ghosts as Sink, source.Source.Ghosts as Source}
 
 module _ {S O L : Type 0} (s : Source S) (o : Sink O) (l : Sink L) where
-  does_free : (asked : Option Command) (before after : Outside S O L) (outcome : Outcome)
-      → Does s o l asked before after outcome → MayDo asked (s.left before.input)
+  does_free : (asked : Option Command) (before after : CaptureOutside S O L) (outcome : Outcome)
+      → CaptureDoes s o l asked before after outcome → CaptureMayDo asked (s.left before.input)
       → ¬ Rose (s.faults before.input) (s.faults after.input) → EndsFree outcome
   does_free None before after outcome does able calm = absurd able
   does_free (Some (Take form rate ways spacing)) before after outcome does able calm =
@@ -19,11 +19,11 @@ module _ {S O L : Type 0} (s : Source S) (o : Sink O) (l : Sink L) where
       give_done form rate _ _ _ _ outcome does able calm
 
   -- The run ends well, though the log may have got a fault line since.
-  pub able_after : (words : List (List ℕ)) (before after : Outside S O L) (noted : L)
+  pub able_after : (words : List (List ℕ)) (before after : CaptureOutside S O L) (noted : L)
       (outcome : Outcome)
-      → (answers : Answers s o l words before (record after { log = noted }) outcome)
-      → RunCauses s o l before after outcome → MayDo answers.asked (s.left before.input)
-      → IsCalm s o l before after → EndsWell outcome
+      → (answers : AnswersCapture s o l words before (record after { log = noted }) outcome)
+      → RunCauses s o l before after outcome → CaptureMayDo answers.asked (s.left before.input)
+      → CaptureIsCalm s o l before after → CaptureEndsWell outcome
   able_after words before after noted outcome answers causes able calm =
       ends_well outcome (s.faults before.input) (s.faults after.input) (o.faults before.out)
       (o.faults after.out) (l.faults before.log) (l.faults after.log)

@@ -7,10 +7,10 @@ use Rattle.command_ends.specs.declared.status.Status.{Status}
 use Rattle.command_ends.specs.declared.status.Status.TheVariants as statuses
 use Rattle.line_capture.specs.{Captures.Collects, Formats.Format, Inputs.Told, Outcomes.status_in}
 use Rattle.line_capture.specs.Placed.{CountsOverlaps}
-use Rattle.line_capture.specs.Takes.{Held, stop_outcome, read_outcome, or_else, outcome_of}
-use Rattle.line_capture.specs.Takes.{WritesTaken, TakesRead, Takes}
+use Rattle.line_capture.specs.Takes.{CaptureHeld, stop_outcome, read_outcome, or_else, outcome_of}
+use Rattle.line_capture.specs.Takes.{WritesTaken, TakesRead, TakesCapture}
 use Rattle.line_capture.specs.Takes.{HasOutcome}
-use Rattle.line_capture.specs.Takes.{timing_for, counts_line, WrittenLines, WrittenFront, is_whole}
+use Rattle.line_capture.specs.Takes.{timing_for, counts_line, WrittenLines, WrittenFront, is_whole_capture}
 use Rattle.line_capture.specs.Takes.HasOutcome.{same, flush_failed}
 use Rattle.line_capture.specs.Takes.Takes.{no_memory as no_room, read as was_read}
 use Rattle.line_capture.specs.Takes.{TakesRead.no_memory, TakesRead.kept, WritesTaken.written}
@@ -102,7 +102,7 @@ flushes_with_line o l out0 out1 log0 log1 log2 (BadCapture bad) h alike none =
 flushes_with_line o l out0 out1 log0 log1 log2 (outcomes.Unplaced w place why) h alike none =
     record { out = h.out; log = none ∙ h.log }
 
-module _ (taking : Taking) (k : Kept) (read : ReadEnd) (end : CaptureEnd) (before now : Held)
+module _ (taking : Taking) (k : Kept) (read : ReadEnd) (end : CaptureEnd) (before now : CaptureHeld)
     (a b : LineEnd)
     (lines : WrittenLines (timing_for taking k) taking.ways k before.out now.out a b)
     (overlaps_a overlaps_b overlaps : ℕ)
@@ -130,7 +130,7 @@ module _ (taking : Taking) (k : Kept) (read : ReadEnd) (end : CaptureEnd) (befor
   })
 
 -- How a run ends after both lines have ended, from the clauses of the calls that end them.
-module _ (taking : Taking) (k : Kept) (read : ReadEnd) (end : CaptureEnd) (before now : Held)
+module _ (taking : Taking) (k : Kept) (read : ReadEnd) (end : CaptureEnd) (before now : CaptureHeld)
     (t : Timing) (timing : t ≡ timing_for taking k) (a b : LineEnd) (out_now : Option (List ℕ))
     (lines : WrittenLines t taking.ways k before.out out_now a b)
     (overlaps : ℕ) (log_mid : Option (List ℕ)) (log_same : log_mid ≡ before.log)
@@ -168,8 +168,8 @@ module _ (taking : Taking) (k : Kept) (read : ReadEnd) (end : CaptureEnd) (befor
 
 -- What was read was taken, if it was collected and written.
 pub takes_kept : (format : Format) (taking : Taking) (read : ReadEnd) (file xs : List ℕ)
-    (whole : Bool) (k : Kept) (end : CaptureEnd) (before now : Held) (outcome : Outcome)
-    → whole ≡ is_whole read → xs ≡ file → Collects format taking whole xs k end
+    (whole : Bool) (k : Kept) (end : CaptureEnd) (before now : CaptureHeld) (outcome : Outcome)
+    → whole ≡ is_whole_capture read → xs ≡ file → Collects format taking whole xs k end
     → WritesTaken taking k read end before now outcome
     → TakesRead format taking read file before now outcome
 takes_kept format taking read file xs whole k end before now outcome all is collects writes =
@@ -183,7 +183,7 @@ takes_kept format taking read file xs whole k end before now outcome all is coll
 
 -- ---- what an outcome tells
 
-module _ (format : Format) (taking : Taking) (file : List ℕ) (before now : Held) where
+module _ (format : Format) (taking : Taking) (file : List ℕ) (before now : CaptureHeld) where
   taken_usage : (k : Kept) (read : ReadEnd) (end : CaptureEnd) (outcome : Outcome)
       → WritesTaken taking k read end before now outcome → outcome ≡ Ended statuses.Usage → ⊥
   taken_usage k read end outcome (written all) is =
@@ -211,7 +211,7 @@ module _ (format : Format) (taking : Taking) (file : List ℕ) (before now : Hel
       taken_fault takes.kept read takes.end outcome takes.writes is
 
 pub take_usage : (format : Format) (taking : Taking) (in_before in_now : Told)
-    (before now : Held) (outcome : Outcome) → Takes format taking in_before in_now before now outcome
+    (before now : CaptureHeld) (outcome : Outcome) → TakesCapture format taking in_before in_now before now outcome
     → outcome ≡ Ended statuses.Usage → ⊥
 take_usage format taking in_before in_now before now outcome (no_room none) is =
     let h = none.outcome_is in cc

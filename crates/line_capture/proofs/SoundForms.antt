@@ -5,12 +5,12 @@ use Rattle.capture_pcap.specs.{Pcap.IsCapture, PcapStep.step_at as pcap_step}
 use Rattle.capture_pcap.specs.declared.stage.Stage.TheVariants.{Magic}
 use Rattle.capture_text.{proofs.RowLaws.reads_rows, specs.Logic2.logic2_row}
 use Rattle.capture_text.specs.{Logic2.logic2_name, Rows.IsExport, Rows.first_state}
-use Rattle.capture_text.specs.{Rows.step_at as row_step, Sigrok.trace_row, Sigrok.trace_name}
+use Rattle.capture_text.specs.{Rows.rows_step_at, Sigrok.trace_row, Sigrok.trace_name}
 use Rattle.capture_text.specs.declared.row_fault.RowFault.{RowFault}
 use Rattle.capture_text.specs.declared.row.Row.{Row}
 use Rattle.capture_text.specs.declared.row.Stage.{Stage}
 use Rattle.capture_text.{proofs.Reading.reads_text, specs.CaptureText.IsTextCapture}
-use Rattle.capture_text.specs.{Reader.IsSeenText, TextStep.step_at as text_step}
+use Rattle.capture_text.specs.{Reader.IsSeenText, TextStep.text_step_at}
 use Rattle.capture_text.specs.declared.place.Place.TheVariants.{Start}
 use Rattle.line_capture.specs.Formats.{Format, text_format, pcap_format, format_of, RefusesRows}
 use Rattle.line_capture.specs.Formats.{LacksRows, rows_format}
@@ -54,7 +54,7 @@ text_alike : (text : List ℕ) (a b : List CaptureByte) → IsTextCapture text a
 text_alike text a b one other =
     let first = reads_text.complete text a one in
     let second = reads_text.complete text b other in
-    walks_alike (walk text_step Start text) first.0 second.0 a b first.1 second.1
+    walks_alike (walk text_step_at Start text) first.0 second.0 a b first.1 second.1
 
 pcap_alike : (file : List ℕ) (a b : List Seen) → IsCapture file a → IsCapture file b → a ≡ b
 pcap_alike file a b one other =
@@ -101,7 +101,7 @@ module _ (row_at : Stage → List ℕ → Result Row RowFault) (name_of : List �
       let reads = reads_rows row_at name_of in
       let first = reads.complete file a one in
       let second = reads.complete file b other in
-      walks_alike (walk (row_step row_at name_of) (first_state, []) file) first.0 second.0 a b
+      walks_alike (walk (rows_step_at row_at name_of) (first_state, []) file) first.0 second.0 a b
       first.1 second.1
 
   rows_refused : (front : List ℕ) (items : List Seen) (byte : ℕ) (bad : BadCapture) (more : List ℕ)

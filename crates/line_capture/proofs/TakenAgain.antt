@@ -1,6 +1,6 @@
 -- A capture that was given is taken as the same ticks.
-use Rattle.line_stamps.specs.Giving.{ByteAt, bytes_from, tick_start, AreGiven, IsTakenAs}
-use Rattle.line_stamps.specs.{Giving.taken_from, Parts.character, Places.line_of}
+use Rattle.line_stamps.specs.Giving.{ByteAt, bytes_from, tick_start, AreStampsGiven, IsTakenAs}
+use Rattle.line_stamps.specs.{Giving.taken_from, Parts.character, Places.line_of_places}
 use Rattle.line_stamps.specs.declared.capture.CaptureByte.{CaptureByte}
 use Rattle.std.proofs.Common.{◌≡◌, ◌∙◌, ℕ, zero, suc, ◌+◌, ◌*◌, ◌/◌, ◌<◌, ◌≤◌, min, ⊎_elim, List}
 use Rattle.std.proofs.Common.{[], ◌∷◌, ◌++◌, map, drop, true, Some, None, refl, sym, ap, subst}
@@ -15,12 +15,12 @@ use Rattle.line_stamps.specs.declared.{rate.Rate.Rate, seen.Seen.Seen, seen.Seen
 use Rattle.line_stamps.specs.declared.timing.Timing.{Timing}
 use Rattle.command_ends.specs.declared.status.Status.TheVariants as statuses
 use Rattle.line_capture.specs.Captures.{Collects, HoldsItems, way_bytes}
-use Rattle.line_capture.specs.{Formats.Format, Inputs.Told, Inputs.ReadsInput, Placed.StopsAt}
+use Rattle.line_capture.specs.{Formats.Format, Inputs.Told, Inputs.ReadsInput, Placed.PlacedStopsAt}
 use Rattle.line_capture.specs.Records.{LineRecord, AreRecords, records_of}
-use Rattle.line_capture.specs.TakenAgain.{both_ways, first_of, first_tick, SameTicks, TakesAgain}
-use Rattle.line_capture.specs.Takes.{Held, Takes, TakesRead, WritesTaken, WritesAll, outcome_of}
+use Rattle.line_capture.specs.TakenAgain.{both_ways, first_taken, first_tick_again, SameTicks, TakesAgain}
+use Rattle.line_capture.specs.Takes.{CaptureHeld, TakesCapture, TakesRead, WritesTaken, WritesAll, outcome_of}
 use Rattle.line_capture.specs.Takes.{stop_outcome, or_else, read_outcome, timing_for, origin_of}
-use Rattle.line_capture.specs.Takes.{is_whole, Takes.no_memory as no_room, Takes.read as was_read}
+use Rattle.line_capture.specs.Takes.{is_whole_capture, Takes.no_memory as no_room, Takes.read as was_read}
 use Rattle.line_capture.specs.Takes.TakesRead.{no_memory, kept as was_kept}
 use Rattle.line_capture.specs.Takes.WritesTaken.{written, failed}
 use Rattle.line_capture.specs.declared.bad_capture.BadCapture.{BadCapture as BadCaptureOf}
@@ -76,8 +76,8 @@ module _ (rate : Rate) where
       (cases_lt m n)
 
   -- The time of the first byte of either way is the start of its tick.
-  origin-is : (xs ys : List ByteAt) (cs ds : List CaptureByte) → AreGiven rate 1 0 None xs cs
-      → AreGiven rate 1 0 None ys ds → origin_of cs ds ≡ 0 + starts (first_of xs ys)
+  origin-is : (xs ys : List ByteAt) (cs ds : List CaptureByte) → AreStampsGiven rate 1 0 None xs cs
+      → AreStampsGiven rate 1 0 None ys ds → origin_of cs ds ≡ 0 + starts (first_taken xs ys)
   origin-is [] [] [] [] a b = let h = starts-none in omega arith
   origin-is (x ∷ xs) [] (c ∷ cs) [] a b = a.1
   origin-is [] (y ∷ ys) [] (d ∷ ds) a b = b.1
@@ -89,12 +89,12 @@ module _ (rate : Rate) where
   origin-is xs [] cs (d ∷ ds) a b = absurd b
   origin-is xs (y ∷ ys) cs [] a b = absurd b
 
-first-before-a : (xs ys : List ByteAt) → BeginsBehind (first_of xs ys) xs
+first-before-a : (xs ys : List ByteAt) → BeginsBehind (first_taken xs ys) xs
 first-before-a [] ys = tt
 first-before-a (x ∷ xs) [] = omega arith
 first-before-a (x ∷ xs) (y ∷ ys) = omega arith
 
-first-before-b : (xs ys : List ByteAt) → BeginsBehind (first_of xs ys) ys
+first-before-b : (xs ys : List ByteAt) → BeginsBehind (first_taken xs ys) ys
 first-before-b xs [] = tt
 first-before-b [] (y ∷ ys) = omega arith
 first-before-b (x ∷ xs) (y ∷ ys) = omega arith
@@ -111,7 +111,7 @@ silence-behind n k (ByteTick b ∷ line) =
 
 module _ (rate : Rate) (first : ℕ) (line : List Tick) (cs : List CaptureByte)
     (begins : BeginsBehind first (bytes_from 0 line))
-    (given : AreGiven rate 1 0 None (bytes_from 0 line) cs) where
+    (given : AreStampsGiven rate 1 0 None (bytes_from 0 line) cs) where
   small : 2 * (1 * rate.baud) < character rate
   small = let fast : rate.baud ≤ 115200 = rate.fastest in
       let long : 10 ≤ rate.bits = rate.fewest_bits in omega arith
@@ -122,23 +122,23 @@ module _ (rate : Rate) (first : ℕ) (line : List Tick) (cs : List CaptureByte)
       ap (λ (i : ℕ). bytes_from i (drop first line)) (sym e)
       ∙ from_later 0 first line (subst (λ (i : ℕ). BeginsBehind i (bytes_from 0 line)) (sym e) begins)
 
-  pub taken-alike : SameTicks first line (line_of (taken_from rate 1 0 first) cs)
+  pub taken-alike : SameTicks first line (line_of_places (taken_from rate 1 0 first) cs)
   taken-alike =
       let taken : IsTakenAs (taken_from rate 1 0 first) cs (drop first line) =
       given-line rate 1 0 first (omega arith) small (drop first line) cs
-      (subst (λ l. AreGiven rate 1 0 None l cs) (sym from-first) given) in
-      sym (silence-behind first taken.0 (line_of (taken_from rate 1 0 first) cs))
+      (subst (λ l. AreStampsGiven rate 1 0 None l cs) (sym from-first) given) in
+      sym (silence-behind first taken.0 (line_of_places (taken_from rate 1 0 first) cs))
       ∙ ap (bytes_from first) (sym taken.1) ∙ from-first
 
   -- All of its bytes are placed.
   pub placed-alike : length line ≤ max_ticks → IsPlacedWhole (taken_from rate 1 0 first) cs
   placed-alike few =
-      let given' = subst (λ l. AreGiven rate 1 0 None l cs) (sym from-first) given in
+      let given' = subst (λ l. AreStampsGiven rate 1 0 None l cs) (sym from-first) given in
       let taken : IsTakenAs (taken_from rate 1 0 first) cs (drop first line) =
       given-line rate 1 0 first (omega arith) small (drop first line) cs given' in
       let free = given-free rate 1 0 first (omega arith) small (drop first line) cs given' in
       let e = ap length taken.1
-      ∙ length-append (line_of (taken_from rate 1 0 first) cs) (silent taken.0) in
+      ∙ length-append (line_of_places (taken_from rate 1 0 first) cs) (silent taken.0) in
       let d = length-drop first line in
       placed-whole (taken_from rate 1 0 first) refl cs free (omega arith)
 
@@ -206,15 +206,15 @@ module _ (format : Format) (sound : IsSound format) (rate : Rate) (a b : List Ti
   b-bytes held holds = holds.b_is ∙ way-records rate way.B records ∙ ap (bytes_of_records rate) are.b_are
 
   abbrev first : ℕ
-  first = first_tick a b
+  first = first_tick_again a b
 
   module _ (held : Kept) (holds : HoldsItems Both held items) where
-    given-a : AreGiven rate 1 0 None (bytes_from 0 a) held.a.items
-    given-a = subst (AreGiven rate 1 0 None (bytes_from 0 a)) (sym (a-bytes held holds))
+    given-a : AreStampsGiven rate 1 0 None (bytes_from 0 a) held.a.items
+    given-a = subst (AreStampsGiven rate 1 0 None (bytes_from 0 a)) (sym (a-bytes held holds))
         (given_line rate way.A a)
 
-    given-b : AreGiven rate 1 0 None (bytes_from 0 b) held.b.items
-    given-b = subst (AreGiven rate 1 0 None (bytes_from 0 b)) (sym (b-bytes held holds))
+    given-b : AreStampsGiven rate 1 0 None (bytes_from 0 b) held.b.items
+    given-b = subst (AreStampsGiven rate 1 0 None (bytes_from 0 b)) (sym (b-bytes held holds))
         (given_line rate way.B b)
 
     timing-is : taken_from rate 1 0 first ≡ timing_for (both_ways rate) held
@@ -224,25 +224,25 @@ module _ (format : Format) (sound : IsSound format) (rate : Rate) (a b : List Ti
         ap P (sym (origin-is rate (bytes_from 0 a) (bytes_from 0 b) held.a.items held.b.items given-a
         given-b))
 
-    taken-a : SameTicks first a (line_of (timing_for (both_ways rate) held) held.a.items)
-    taken-a = subst (λ t. SameTicks first a (line_of t held.a.items)) timing-is
+    taken-a : SameTicks first a (line_of_places (timing_for (both_ways rate) held) held.a.items)
+    taken-a = subst (λ t. SameTicks first a (line_of_places t held.a.items)) timing-is
         (taken-alike rate first a held.a.items (first-before-a (bytes_from 0 a) (bytes_from 0 b))
         given-a)
 
-    taken-b : SameTicks first b (line_of (timing_for (both_ways rate) held) held.b.items)
-    taken-b = subst (λ t. SameTicks first b (line_of t held.b.items)) timing-is
+    taken-b : SameTicks first b (line_of_places (timing_for (both_ways rate) held) held.b.items)
+    taken-b = subst (λ t. SameTicks first b (line_of_places t held.b.items)) timing-is
         (taken-alike rate first b held.b.items (first-before-b (bytes_from 0 a) (bytes_from 0 b))
         given-b)
 
   -- ---- that it is done
 
-  ways-a : AreGiven rate 1 0 None (bytes_from 0 a) (way_bytes Both way.A items)
-  ways-a = subst (AreGiven rate 1 0 None (bytes_from 0 a))
+  ways-a : AreStampsGiven rate 1 0 None (bytes_from 0 a) (way_bytes Both way.A items)
+  ways-a = subst (AreStampsGiven rate 1 0 None (bytes_from 0 a))
       (sym (way-records rate way.A records ∙ ap (bytes_of_records rate) are.a_are))
       (given_line rate way.A a)
 
-  ways-b : AreGiven rate 1 0 None (bytes_from 0 b) (way_bytes Both way.B items)
-  ways-b = subst (AreGiven rate 1 0 None (bytes_from 0 b))
+  ways-b : AreStampsGiven rate 1 0 None (bytes_from 0 b) (way_bytes Both way.B items)
+  ways-b = subst (AreStampsGiven rate 1 0 None (bytes_from 0 b))
       (sym (way-records rate way.B records ∙ ap (bytes_of_records rate) are.b_are))
       (given_line rate way.B b)
 
@@ -272,19 +272,19 @@ module _ (format : Format) (sound : IsSound format) (rate : Rate) (a b : List Ti
 
   -- If no more bytes were left to place, all bytes of the way are in `front`.
   front-all : (cs front rest : List CaptureByte) (t : Timing) (stop : LineStop) → cs ≡ front ++ rest
-      → StopsAt t front rest stop → stop ≡ stops.AllPlaced → cs ≡ front
+      → PlacedStopsAt t front rest stop → stop ≡ stops.AllPlaced → cs ≡ front
   front-all cs front rest t stop parts at all =
-      let none : rest ≡ [] = subst (StopsAt t front rest) all at in
+      let none : rest ≡ [] = subst (PlacedStopsAt t front rest) all at in
       parts ∙ ap (λ l. front ++ l) none ∙ append-nil front
 
-  module _ (before now : Held) where
+  module _ (before now : CaptureHeld) where
     all-again : (held : Kept) (end : CaptureEnd) (read : ReadEnd) (outcome : Outcome)
-        → outcome ≡ Ended statuses.Done → Collects format (both_ways rate) (is_whole read) file held end
+        → outcome ≡ Ended statuses.Done → Collects format (both_ways rate) (is_whole_capture read) file held end
         → WritesAll (both_ways rate) held read end before now outcome → TakesAgain a b before now
     all-again held end read outcome done collects all =
         let full = all-done read end all.a_end all.b_end (sym all.outcome_is ∙ done) in
         let holds = kept-items held end
-        (subst (λ r. Collects format (both_ways rate) (is_whole r) file held end) full.whole collects)
+        (subst (λ r. Collects format (both_ways rate) (is_whole_capture r) file held end) full.whole collects)
         full.no_refusal in
         let places = all.lines.places in
         let t : Timing = timing_for (both_ways rate) held in
@@ -295,9 +295,9 @@ module _ (format : Format) (sound : IsSound format) (rate : Rate) (a b : List Ti
           taken_a = all.lines.a;
           taken_b = all.lines.b;
           out = all.lines.text;
-          a_same = subst (SameTicks first a) (sym (places.a_is ∙ ap (line_of t) (sym front_a)))
+          a_same = subst (SameTicks first a) (sym (places.a_is ∙ ap (line_of_places t) (sym front_a)))
               (taken-a held holds);
-          b_same = subst (SameTicks first b) (sym (places.b_is ∙ ap (line_of t) (sym front_b)))
+          b_same = subst (SameTicks first b) (sym (places.b_is ∙ ap (line_of_places t) (sym front_b)))
               (taken-b held holds);
         }
 
@@ -307,7 +307,7 @@ module _ (format : Format) (sound : IsSound format) (rate : Rate) (a b : List Ti
     file-again read outcome done (was_kept takes) =
         part takes.kept takes.end takes.collects takes.writes
       where
-        part : (held : Kept) (end : CaptureEnd) → Collects format (both_ways rate) (is_whole read) file held end
+        part : (held : Kept) (end : CaptureEnd) → Collects format (both_ways rate) (is_whole_capture read) file held end
             → WritesTaken (both_ways rate) held read end before now outcome → TakesAgain a b before now
         part held end collects (written all) = all-again held end read outcome done collects all
         part held end collects (failed fault some) = cc
@@ -326,7 +326,7 @@ module _ (format : Format) (sound : IsSound format) (rate : Rate) (a b : List Ti
         part held end (failed fault some) = cc
 
     pub run-again : (in_before in_now : Told) (outcome : Outcome) → in_before.left ≡ Some file
-        → Takes format (both_ways rate) in_before in_now before now outcome
+        → TakesCapture format (both_ways rate) in_before in_now before now outcome
         → outcome ≡ Ended statuses.Done → TakesAgain a b before now
     run-again in_before in_now outcome told (no_room none) done = let h = none.outcome_is in cc
     run-again in_before in_now outcome told (was_read input) done =

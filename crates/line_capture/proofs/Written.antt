@@ -1,8 +1,8 @@
 -- The texts of lines in the output, and what was counted in the log.
-use Rattle.line_capture.specs.Placed.{IsFront, WrittenLine, WrittenPart}
+use Rattle.line_capture.specs.Placed.{PlacedIsFront, WrittenLine, WrittenPart}
 use Rattle.line_capture.specs.Takes.{mark_of, WrittenLines, WrittenFront}
 use Rattle.line_capture.specs.declared.{collect.Kept.Kept, placing.LineEnd.LineEnd, words.Ways.Ways}
-use Rattle.line_stamps.specs.{Places.line_of, declared.capture.CaptureByte.CaptureByte}
+use Rattle.line_stamps.specs.{Places.line_of_places, declared.capture.CaptureByte.CaptureByte}
 use Rattle.{line_stamps.specs.declared.timing.Timing.Timing, yasir_io.proofs.OutputLemmas.prefix_of_more}
 use Rattle.line_texts.{proofs.Sending.always_on_ok, specs.Sending.HaveCause}
 use Rattle.std.proofs.Common.{◌≡◌, ◌∙◌, ℕ, inl, List, [], ◌++◌, Option, Result, Ok, refl, sym, ap}
@@ -39,7 +39,7 @@ got_three a b c d x y z first second third =
 -- ---- the lines of both ways
 
 module _ (t : Timing) (ways : Ways) (kept : Kept) where
-  no_front : (cs : List CaptureByte) → IsFront t cs [] cs
+  no_front : (cs : List CaptureByte) → PlacedIsFront t cs [] cs
   no_front cs = record { is = refl; placed = tt; few = omega arith }
 
   pub first_line_fails : (before now : Option (List ℕ)) → WrittenPart t kept.a.items before now
@@ -68,7 +68,7 @@ module _ (t : Timing) (ways : Ways) (kept : Kept) where
     front_a = line.front;
     rest_a = line.rest;
     a_is_front = line.is_front;
-    a = line_of t line.front;
+    a = line_of_places t line.front;
     later_a = [];
     a_are = sym (append-nil _);
     front_b = [];
@@ -77,7 +77,7 @@ module _ (t : Timing) (ways : Ways) (kept : Kept) where
     b = [];
     later_b = [];
     b_are = refl;
-    got = prefix_behind before mid now (canonical_text (line_of t line.front))
+    got = prefix_behind before mid now (canonical_text (line_of_places t line.front))
         (mark_of ways ++ canonical_text []) line.text
         (prefix_of_more mid now (mark_of ways) (canonical_text []) got);
   }
@@ -89,7 +89,7 @@ module _ (t : Timing) (ways : Ways) (kept : Kept) where
     front_a = line.front;
     rest_a = line.rest;
     a_is_front = line.is_front;
-    a = line_of t line.front;
+    a = line_of_places t line.front;
     later_a = [];
     a_are = sym (append-nil _);
     front_b = part.front;
@@ -98,7 +98,7 @@ module _ (t : Timing) (ways : Ways) (kept : Kept) where
     b = part.ticks;
     later_b = part.later;
     b_are = part.are;
-    got = prefix_behind before mid now (canonical_text (line_of t line.front))
+    got = prefix_behind before mid now (canonical_text (line_of_places t line.front))
         (mark_of ways ++ canonical_text part.ticks) line.text
         (prefix_behind mid marked now (mark_of ways) (canonical_text part.ticks) mark part.got);
   }
@@ -107,8 +107,8 @@ module _ (t : Timing) (ways : Ways) (kept : Kept) where
       → WrittenLine t kept.a.items before mid a → marked ≡ append_known mid (mark_of ways)
       → WrittenLine t kept.b.items marked now b → WrittenLines t ways kept before now a b
   both_lines before mid marked now a b line mark other = record {
-    a = line_of t line.front;
-    b = line_of t other.front;
+    a = line_of_places t line.front;
+    b = line_of_places t other.front;
     places = record {
       front_a = line.front;
       rest_a = line.rest;
@@ -123,8 +123,8 @@ module _ (t : Timing) (ways : Ways) (kept : Kept) where
       a_placed = line.placed;
       b_placed = other.placed;
     };
-    text = got_three before mid marked now (canonical_text (line_of t line.front)) (mark_of ways)
-        (canonical_text (line_of t other.front)) line.text mark other.text;
+    text = got_three before mid marked now (canonical_text (line_of_places t line.front)) (mark_of ways)
+        (canonical_text (line_of_places t other.front)) line.text mark other.text;
   }
 
   -- If whole lines were written, a front of them was.

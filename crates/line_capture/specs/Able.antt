@@ -3,7 +3,7 @@ use Rattle.std.specs.Prelude.{◌≡◌, ◌⊎◌, ℕ, ◌≤◌, List, [], �
 use Rattle.tick_drive.specs.Input.{max_ticks, max_bytes}
 use Rattle.command_ends.specs.Readable.{IsReadableWith}
 use Rattle.command_ends.specs.declared.status.Status.TheVariants.{Done, NoMemory}
-use Rattle.line_stamps.specs.Places.{Spot, spot_of, line_of}
+use Rattle.line_stamps.specs.Places.{Spot, spot_of, line_of_places}
 use Rattle.line_stamps.specs.Placing.{answer_at}
 use Rattle.line_stamps.specs.declared.capture.CaptureByte.{CaptureByte}
 use Rattle.line_stamps.specs.declared.capture.Way.TheVariants as way
@@ -29,7 +29,7 @@ ArePlaced t last (c ∷ cs) =
 -- Holds if all bytes of a way are placed, on no more ticks than are written.
 pub record IsPlacedWhole (t : Timing) (cs : List CaptureByte) : Type 0 where
   pub each : ArePlaced t None cs
-  pub few : length (line_of t cs) ≤ max_ticks
+  pub few : length (line_of_places t cs) ≤ max_ticks
 
 -- how the bytes of a capture with these items are placed
 abbrev pub timing_of_items : Taking → List Seen → Timing
@@ -60,12 +60,12 @@ pub record IsGivable (form : GiveForm) (input : Option (List ℕ)) : Type 0 wher
 
 -- Holds if the input is right for what was asked for. If no command was asked for, no input is
 -- right.
-abbrev pub MayDo : Option Command → Option (List ℕ) → Type 0
-MayDo None input = ⊥
-MayDo (Some (Take form rate ways spacing)) input =
+abbrev pub CaptureMayDo : Option Command → Option (List ℕ) → Type 0
+CaptureMayDo None input = ⊥
+CaptureMayDo (Some (Take form rate ways spacing)) input =
     IsTakeable (format_of form) (record { rate = rate; ways = ways; spacing = spacing }) input
-MayDo (Some (Give form rate)) input = IsGivable form input
+CaptureMayDo (Some (Give form rate)) input = IsGivable form input
 
 -- Holds if the run is done, or had no memory.
-abbrev pub EndsWell : Outcome → Type 0
-EndsWell outcome = (outcome ≡ Ended Done) ⊎ (outcome ≡ Ended NoMemory)
+abbrev pub CaptureEndsWell : Outcome → Type 0
+CaptureEndsWell outcome = (outcome ≡ Ended Done) ⊎ (outcome ≡ Ended NoMemory)

@@ -123,7 +123,7 @@ pub record TakesItems (format : Format) (chosen : Ways) (file : List ℕ) (kept 
   pub right : NoError items
 
 -- Holds if the byte after a front of the file is refused, and this is what is kept of that front.
-pub record RefusesByte (format : Format) (chosen : Ways) (file : List ℕ) (kept : Kept)
+pub record RefusesCaptureByte (format : Format) (chosen : Ways) (file : List ℕ) (kept : Kept)
     (bad : BadCapture) : Type 0 where
   pub front : List ℕ
   pub byte : ℕ
@@ -166,13 +166,13 @@ pub record IsTaken (format : Format) (chosen : Ways) (file : List ℕ) (kept : K
 
 -- Holds if the refusal of a file is right, and this is what is kept of the file before it. The end
 -- of a file is refused only if the file is whole.
-pub data IsRefused (format : Format) (taking : Taking) (whole : Bool) (file : List ℕ) (kept : Kept)
+pub data CaptureIsRefused (format : Format) (taking : Taking) (whole : Bool) (file : List ℕ) (kept : Kept)
     (bad : BadCapture) : Type 0 where
-  at_byte : RefusesByte format taking.ways file kept bad
-      → IsRefused format taking whole file kept bad
-  at_error : EndsInError format taking file kept bad → IsRefused format taking whole file kept bad
+  at_byte : RefusesCaptureByte format taking.ways file kept bad
+      → CaptureIsRefused format taking whole file kept bad
+  at_error : EndsInError format taking file kept bad → CaptureIsRefused format taking whole file kept bad
   at_end : whole ≡ true → EndsEarly format taking.ways file kept bad
-      → IsRefused format taking whole file kept bad
+      → CaptureIsRefused format taking whole file kept bad
 
 -- Holds if this is what is kept of a file, and the capture ends like this. If the file isn't whole,
 -- more was to come.
@@ -181,7 +181,7 @@ Collects format taking whole file kept Whole =
     (whole ≡ true) × IsTaken format taking.ways file kept
 Collects format taking whole file kept Open =
     (whole ≡ false) × TakesItems format taking.ways file kept
-Collects format taking whole file kept (Bad bad) = IsRefused format taking whole file kept bad
+Collects format taking whole file kept (Bad bad) = CaptureIsRefused format taking whole file kept bad
 
 -- Holds if a file that was read to its end has this end: it is a capture, or it lacks something.
 abbrev pub EndsSo : Format → List ℕ → List Seen → CaptureEnd → Type 0

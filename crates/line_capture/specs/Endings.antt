@@ -3,24 +3,24 @@ use Rattle.std.specs.Prelude.{◌≡◌, ◌↔◌, ◌⊎◌, ℕ, List, None}
 use Rattle.yasir_io.specs.declared.source.Source.{Ghosts as Source}
 use Rattle.yasir_io.specs.declared.sink.Sink.{Ghosts as Sink}
 use Rattle.command_ends.specs.declared.status.Status.TheVariants as statuses
-use Rattle.line_capture.specs.Outcomes.{exit_status_of}
-use Rattle.line_capture.specs.Programs.{Outside, Runs, RunCauses}
-use Rattle.line_capture.specs.Words.{Asks}
+use Rattle.line_capture.specs.Outcomes.{capture_exit_status}
+use Rattle.line_capture.specs.Programs.{CaptureOutside, CaptureRuns, RunCauses}
+use Rattle.line_capture.specs.Words.{AsksCapture}
 use Rattle.line_capture.specs.declared.outcome.Outcome.{Outcome}
 use Rattle.line_capture.specs.declared.outcome.Outcome.TheVariants.{Ended}
 
 module _ {S O L : Type 0} (s : Source S) (o : Sink O) (l : Sink L) where
   -- Holds if the program did what its words ask for, and ended in this way.
-  pub record RunsWith (words : List (List ℕ)) (before after : Outside S O L) (outcome : Outcome)
+  pub record RunsWith (words : List (List ℕ)) (before after : CaptureOutside S O L) (outcome : Outcome)
       : Type 0 where
-    pub usage : (outcome ≡ Ended statuses.Usage) ↔ Asks words None
-    pub runs : Runs s o l words before after outcome
+    pub usage : (outcome ≡ Ended statuses.Usage) ↔ AsksCapture words None
+    pub runs : CaptureRuns s o l words before after outcome
     pub causes : RunCauses s o l before after outcome
 
   -- Holds if the program ran and ended with the exit status of its outcome, or there was no memory
   -- for its words, and nothing was done.
-  abbrev pub EndsOverArgs : List (List ℕ) → Outside S O L → Outside S O L → ℕ → Type 0
+  abbrev pub EndsOverArgs : List (List ℕ) → CaptureOutside S O L → CaptureOutside S O L → ℕ → Type 0
   EndsOverArgs words before after exit_status =
-      ((outcome : Outcome) × (exit_status ≡ exit_status_of outcome)
+      ((outcome : Outcome) × (exit_status ≡ capture_exit_status outcome)
       × RunsWith words before after outcome)
-      ⊎ ((exit_status ≡ exit_status_of (Ended statuses.NoMemory)) × (after ≡ before))
+      ⊎ ((exit_status ≡ capture_exit_status (Ended statuses.NoMemory)) × (after ≡ before))

@@ -2,17 +2,17 @@
 -- others are refused.
 use Rattle.std.specs.Prelude.{ℕ, Bool, true, false, List, [], ◌∷◌, ◌++◌, Some, None, Result}
 use Rattle.line_stamps.specs.Fields.{AreFieldsSoFar}
-use Rattle.line_stamps.specs.Walks.{Begins, BeginsNone}
+use Rattle.line_stamps.specs.Walks.{WalkBegins, WalkBeginsNone}
 use Rattle.capture_pcap.specs.Pcap.{IsCapture}
-use Rattle.capture_pcap.specs.Reader.{Refuses as RefusesPacket}
+use Rattle.capture_pcap.specs.Reader.{PcapReaderRefuses}
 use Rattle.capture_text.specs.Logic2.{logic2_row, logic2_name}
-use Rattle.capture_text.specs.RowReader.{Refuses as RefusesRow}
+use Rattle.capture_text.specs.RowReader.{RowReaderRefuses}
 use Rattle.capture_text.specs.Rows.{IsExport, AreRowsSoFar}
 use Rattle.capture_text.specs.Sigrok.{trace_row, trace_name}
 use Rattle.capture_text.specs.declared.row_fault.RowFault.{RowFault}
 use Rattle.capture_text.specs.declared.row.Row.{Row}
 use Rattle.capture_text.specs.declared.row.Stage.{Stage}
-use Rattle.capture_text.specs.Reader.{IsSeenText, Refuses}
+use Rattle.capture_text.specs.Reader.{IsSeenText, TextReaderRefuses}
 use Rattle.line_stamps.specs.declared.seen.Seen.{Seen}
 use Rattle.line_capture.specs.declared.bad_capture.BadCapture.{BadCapture}
 use Rattle.line_capture.specs.declared.bad_capture.BadCapture.TheVariants.{Text, Pcap, Rows, ByteError}
@@ -38,16 +38,16 @@ abbrev pub IsNone : (List ℕ → List Seen → Type 0) → List ℕ → Type 0
 IsNone is file = (all : List Seen) → is file all → ⊥
 
 -- Holds if no text capture begins with these bytes and this one, and the refusal is right.
-abbrev pub RefusesText : List ℕ → List Seen → ℕ → BadCapture → Type 0
-RefusesText file items b (Text bad) =
-    BeginsNone IsSeenText (file ++ b ∷ []) × Refuses file items (Some b) bad
-RefusesText file items b (Pcap bad) = ⊥
-RefusesText file items b (Rows bad) = ⊥
-RefusesText file items b (ByteError offset) = ⊥
+abbrev pub RefusesCaptureText : List ℕ → List Seen → ℕ → BadCapture → Type 0
+RefusesCaptureText file items b (Text bad) =
+    WalkBeginsNone IsSeenText (file ++ b ∷ []) × TextReaderRefuses file items (Some b) bad
+RefusesCaptureText file items b (Pcap bad) = ⊥
+RefusesCaptureText file items b (Rows bad) = ⊥
+RefusesCaptureText file items b (ByteError offset) = ⊥
 
 -- Holds if the file isn't a text capture, and the refusal of its end is right.
 abbrev pub LacksText : List ℕ → List Seen → BadCapture → Type 0
-LacksText file items (Text bad) = IsNone IsSeenText file × Refuses file items None bad
+LacksText file items (Text bad) = IsNone IsSeenText file × TextReaderRefuses file items None bad
 LacksText file items (Pcap bad) = ⊥
 LacksText file items (Rows bad) = ⊥
 LacksText file items (ByteError offset) = ⊥
@@ -56,9 +56,9 @@ LacksText file items (ByteError offset) = ⊥
 abbrev pub text_format : Format
 text_format = record {
   is = IsSeenText;
-  refuses = RefusesText;
+  refuses = RefusesCaptureText;
   lacks = LacksText;
-  begins = Begins IsSeenText;
+  begins = WalkBegins IsSeenText;
   error_follows = false;
 }
 
@@ -66,14 +66,14 @@ text_format = record {
 -- field that this byte ends is right.
 abbrev pub RefusesPcap : List ℕ → List Seen → ℕ → BadCapture → Type 0
 RefusesPcap file items b (Pcap bad) =
-    BeginsNone IsCapture (file ++ b ∷ []) × RefusesPacket file items (Some b) bad
+    WalkBeginsNone IsCapture (file ++ b ∷ []) × PcapReaderRefuses file items (Some b) bad
 RefusesPcap file items b (Text bad) = ⊥
 RefusesPcap file items b (Rows bad) = ⊥
 RefusesPcap file items b (ByteError offset) = ⊥
 
 -- Holds if the file isn't a pcap or pcapng file, and the refusal of its end is right.
 abbrev pub LacksPcap : List ℕ → List Seen → BadCapture → Type 0
-LacksPcap file items (Pcap bad) = IsNone IsCapture file × RefusesPacket file items None bad
+LacksPcap file items (Pcap bad) = IsNone IsCapture file × PcapReaderRefuses file items None bad
 LacksPcap file items (Text bad) = ⊥
 LacksPcap file items (Rows bad) = ⊥
 LacksPcap file items (ByteError offset) = ⊥
@@ -91,8 +91,8 @@ pcap_format = record {
 module _ (row_at : Stage → List ℕ → Result Row RowFault) (name_of : List ℕ → List ℕ) where
   -- Holds if no export of this form begins with these bytes and this one, and the refusal is right.
   abbrev pub RefusesRows : List ℕ → List Seen → ℕ → BadCapture → Type 0
-  RefusesRows file items b (Rows bad) = BeginsNone (IsExport row_at name_of) (file ++ b ∷ [])
-      × RefusesRow row_at name_of file items (Some b) bad
+  RefusesRows file items b (Rows bad) = WalkBeginsNone (IsExport row_at name_of) (file ++ b ∷ [])
+      × RowReaderRefuses row_at name_of file items (Some b) bad
   RefusesRows file items b (Text bad) = ⊥
   RefusesRows file items b (Pcap bad) = ⊥
   RefusesRows file items b (ByteError offset) = ⊥
@@ -100,7 +100,7 @@ module _ (row_at : Stage → List ℕ → Result Row RowFault) (name_of : List �
   -- Holds if the file isn't an export of this form, and the refusal of its end is right.
   abbrev pub LacksRows : List ℕ → List Seen → BadCapture → Type 0
   LacksRows file items (Rows bad) =
-      IsNone (IsExport row_at name_of) file × RefusesRow row_at name_of file items None bad
+      IsNone (IsExport row_at name_of) file × RowReaderRefuses row_at name_of file items None bad
   LacksRows file items (Text bad) = ⊥
   LacksRows file items (Pcap bad) = ⊥
   LacksRows file items (ByteError offset) = ⊥

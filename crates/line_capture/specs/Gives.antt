@@ -18,7 +18,7 @@ use Rattle.line_stamps.specs.declared.rate.Rate.{Rate}
 use Rattle.capture_text.specs.Dump.{dump_text, wires_for}
 use Rattle.line_capture.specs.Inputs.{Told, IsRead}
 use Rattle.line_capture.specs.Records.{IsRecorded}
-use Rattle.line_capture.specs.Takes.{Held, HasNoMemory, read_outcome}
+use Rattle.line_capture.specs.Takes.{CaptureHeld, HasNoMemory, read_outcome}
 use Rattle.line_capture.specs.declared.input.ReadEnd.{ReadEnd}
 use Rattle.line_capture.specs.declared.input.ReadEnd.TheVariants.{Whole, Failed, TooLong}
 use Rattle.line_capture.specs.declared.outcome.Outcome.{Outcome}
@@ -70,7 +70,7 @@ pub record AreLinesOf (form : GiveForm) (file : List ℕ) (a b : List Tick) : Ty
 
 -- Holds if a capture of the lines was written, or a front of it if a write or a flush failed, and
 -- nothing else.
-pub record GivesLines (form : GiveForm) (rate : Rate) (file : List ℕ) (before now : Held)
+pub record GivesLines (form : GiveForm) (rate : Rate) (file : List ℕ) (before now : CaptureHeld)
     (outcome : Outcome) : Type 0 where
   pub a : List Tick
   pub b : List Tick
@@ -84,7 +84,7 @@ pub record GivesLines (form : GiveForm) (rate : Rate) (file : List ℕ) (before 
 
 -- Holds if the file isn't taken as tick text, the outcome says why and where, and nothing was
 -- written.
-pub record RefusesLines (form : GiveForm) (file : List ℕ) (before now : Held) (outcome : Outcome)
+pub record RefusesLines (form : GiveForm) (file : List ℕ) (before now : CaptureHeld) (outcome : Outcome)
     : Type 0 where
   pub end : End
   pub left : Option (List ℕ)
@@ -93,14 +93,14 @@ pub record RefusesLines (form : GiveForm) (file : List ℕ) (before now : Held) 
   pub outcome_is : outcome ≡ Ended (end_status end)
 
 -- Holds if the lines of the file were given, or the file isn't right, or there was no memory.
-pub data GivesFile (form : GiveForm) (rate : Rate) (file : List ℕ) (before now : Held)
+pub data GivesFile (form : GiveForm) (rate : Rate) (file : List ℕ) (before now : CaptureHeld)
     (outcome : Outcome) : Type 0 where
   no_memory : HasNoMemory before now outcome → GivesFile form rate file before now outcome
   refused : RefusesLines form file before now outcome → GivesFile form rate file before now outcome
   given : GivesLines form rate file before now outcome → GivesFile form rate file before now outcome
 
 -- If the input wasn't read to its end, nothing of it is given, whatever its bytes are.
-abbrev pub GivesRead : GiveForm → Rate → ReadEnd → List ℕ → Held → Held → Outcome → Type 0
+abbrev pub GivesRead : GiveForm → Rate → ReadEnd → List ℕ → CaptureHeld → CaptureHeld → Outcome → Type 0
 GivesRead form rate Whole file before now outcome = GivesFile form rate file before now outcome
 GivesRead form rate Failed file before now outcome =
     (outcome ≡ read_outcome Failed) × (now ≡ before)
@@ -109,16 +109,16 @@ GivesRead form rate TooLong file before now outcome =
 
 -- Holds if what was read of the input was given.
 pub record GivesInput (form : GiveForm) (rate : Rate) (in_before in_now : Told)
-    (before now : Held) (outcome : Outcome) : Type 0 where
+    (before now : CaptureHeld) (outcome : Outcome) : Type 0 where
   pub read : ReadEnd
   pub file : List ℕ
   pub reads : IsRead in_before in_now file read
   pub gives : GivesRead form rate read file before now outcome
 
 -- Holds if what was read of the input was given, or there was no memory for it.
-pub data Gives (form : GiveForm) (rate : Rate) (in_before in_now : Told)
-    (before now : Held) (outcome : Outcome) : Type 0 where
+pub data GivesCapture (form : GiveForm) (rate : Rate) (in_before in_now : Told)
+    (before now : CaptureHeld) (outcome : Outcome) : Type 0 where
   no_memory : HasNoMemory before now outcome
-      → Gives form rate in_before in_now before now outcome
+      → GivesCapture form rate in_before in_now before now outcome
   read : GivesInput form rate in_before in_now before now outcome
-      → Gives form rate in_before in_now before now outcome
+      → GivesCapture form rate in_before in_now before now outcome

@@ -19,10 +19,10 @@ use Rattle.line_capture.specs.declared.outcome.Outcome.TheVariants as outcomes
 use Rattle.line_capture.specs.declared.outcome.Outcome.TheVariants.{Ended, BadCapture}
 
 -- the program's exit status
-abbrev pub exit_status_of : Outcome → ℕ
-exit_status_of (Ended status) = status_exit status
-exit_status_of (BadCapture bad) = 4
-exit_status_of (outcomes.Unplaced way place why) = 4
+abbrev pub capture_exit_status : Outcome → ℕ
+capture_exit_status (Ended status) = status_exit status
+capture_exit_status (BadCapture bad) = 4
+capture_exit_status (outcomes.Unplaced way place why) = 4
 
 -- the words for causes of refusals in fault lines
 abbrev pub text_word : TextFault → List ℕ
@@ -64,15 +64,15 @@ counted_line what count word =
     codes "fault: " ++ what ++ decimal count ++ codes " " ++ word ++ codes "\n"
 
 -- the line that the log gets last, which is empty after Done and after a write that failed
-abbrev pub fault_line : Outcome → List ℕ
-fault_line (Ended status) = status_line status
-fault_line (BadCapture (Text bad)) = counted_line (codes "line ") bad.line (text_word bad.why)
-fault_line (BadCapture (Pcap bad)) = counted_line (codes "byte ") bad.offset (pcap_word bad.why)
-fault_line (BadCapture (Rows bad)) = counted_line (codes "line ") bad.line (rows_word bad.why)
-fault_line (BadCapture (ByteError offset)) = counted_line (codes "byte ") offset (codes "error")
-fault_line (outcomes.Unplaced A place why) =
+abbrev pub capture_fault_line : Outcome → List ℕ
+capture_fault_line (Ended status) = status_line status
+capture_fault_line (BadCapture (Text bad)) = counted_line (codes "line ") bad.line (text_word bad.why)
+capture_fault_line (BadCapture (Pcap bad)) = counted_line (codes "byte ") bad.offset (pcap_word bad.why)
+capture_fault_line (BadCapture (Rows bad)) = counted_line (codes "line ") bad.line (rows_word bad.why)
+capture_fault_line (BadCapture (ByteError offset)) = counted_line (codes "byte ") offset (codes "error")
+capture_fault_line (outcomes.Unplaced A place why) =
     counted_line (codes "way a byte ") place (unplaced_word why)
-fault_line (outcomes.Unplaced B place why) =
+capture_fault_line (outcomes.Unplaced B place why) =
     counted_line (codes "way b byte ") place (unplaced_word why)
 
 -- Holds if the log got the fault line of a refusal, or a front of it if this write failed.
@@ -80,7 +80,7 @@ abbrev pub LogsOutcome : Option (List ℕ) → Option (List ℕ) → ℕ → ℕ
 LogsOutcome before now faults_before faults_now (Ended status) =
     LogsFault before now faults_before faults_now status
 LogsOutcome before now faults_before faults_now outcome =
-    GotLine before now faults_before faults_now (fault_line outcome)
+    GotLine before now faults_before faults_now (capture_fault_line outcome)
 
 -- The status of `link_replay` that has the same causes as an outcome: the outcome's own status if
 -- it has one, and otherwise that of a refusal.

@@ -7,71 +7,71 @@ use Rattle.command_ends.specs.Causes.{SinkCause}
 use Rattle.command_ends.specs.Flushes.{FlushesAtEnd}
 use Rattle.command_ends.specs.declared.status.Status.TheVariants as statuses
 use Rattle.line_capture.specs.Formats.{format_of}
-use Rattle.line_capture.specs.Gives.{Gives}
-use Rattle.line_capture.specs.Able.{MayDo, EndsWell}
+use Rattle.line_capture.specs.Gives.{GivesCapture}
+use Rattle.line_capture.specs.Able.{CaptureMayDo, CaptureEndsWell}
 use Rattle.line_capture.specs.Inputs.{told}
 use Rattle.line_capture.specs.Outcomes.{LogsOutcome, status_in}
-use Rattle.line_capture.specs.Takes.{Takes, held}
-use Rattle.line_capture.specs.Words.{Asks}
+use Rattle.line_capture.specs.Takes.{TakesCapture, held}
+use Rattle.line_capture.specs.Words.{AsksCapture}
 use Rattle.line_capture.specs.declared.outcome.Outcome.{Outcome}
 use Rattle.line_capture.specs.declared.outcome.Outcome.TheVariants.{Ended}
 use Rattle.line_capture.specs.declared.words.Command.{Command}
 use Rattle.line_capture.specs.declared.words.Command.TheVariants.{Take, Give}
 
 -- What a run is handed: its input, and the two sinks.
-pub record Outside (S O L : Type 0) : Type 0 where
+pub record CaptureOutside (S O L : Type 0) : Type 0 where
   pub input : S
   pub out : O
   pub log : L
 
 -- this input and these sinks
-abbrev pub outside : {S O L : Type 0} → S → O → L → Outside S O L
-outside input out log = record { input = input; out = out; log = log }
+abbrev pub capture_outside : {S O L : Type 0} → S → O → L → CaptureOutside S O L
+capture_outside input out log = record { input = input; out = out; log = log }
 
 module _ {S O L : Type 0} (s : Source S) (o : Sink O) (l : Sink L) where
   -- What is done before the fault line: nothing at all if the words ask for no command.
-  abbrev pub Does : Option Command → Outside S O L → Outside S O L → Outcome → Type 0
-  Does None before after outcome = (outcome ≡ Ended statuses.Usage) × (after ≡ before)
-  Does (Some (Take form rate ways spacing)) before after outcome =
-      Takes (format_of form) (record { rate = rate; ways = ways; spacing = spacing })
+  abbrev pub CaptureDoes : Option Command → CaptureOutside S O L → CaptureOutside S O L → Outcome → Type 0
+  CaptureDoes None before after outcome = (outcome ≡ Ended statuses.Usage) × (after ≡ before)
+  CaptureDoes (Some (Take form rate ways spacing)) before after outcome =
+      TakesCapture (format_of form) (record { rate = rate; ways = ways; spacing = spacing })
       (told (s.left before.input) (s.faults before.input))
       (told (s.left after.input) (s.faults after.input))
       (held (o.held before.out) (l.held before.log)) (held (o.held after.out) (l.held after.log))
       outcome
-  Does (Some (Give form rate)) before after outcome =
-      Gives form rate (told (s.left before.input) (s.faults before.input))
+  CaptureDoes (Some (Give form rate)) before after outcome =
+      GivesCapture form rate (told (s.left before.input) (s.faults before.input))
       (told (s.left after.input) (s.faults after.input))
       (held (o.held before.out) (l.held before.log)) (held (o.held after.out) (l.held after.log))
       outcome
 
   -- Holds if what the words ask for was done.
-  pub record Answers (words : List (List ℕ)) (before after : Outside S O L) (outcome : Outcome)
+  pub record AnswersCapture (words : List (List ℕ)) (before after : CaptureOutside S O L) (outcome : Outcome)
       : Type 0 where
     pub asked : Option Command
-    pub asks : Asks words asked
-    pub does : Does asked before after outcome
+    pub asks : AsksCapture words asked
+    pub does : CaptureDoes asked before after outcome
 
   -- Holds if no read, write or flush failed.
-  pub record IsCalm (before after : Outside S O L) : Type 0 where
+  pub record CaptureIsCalm (before after : CaptureOutside S O L) : Type 0 where
     pub input : ¬ Rose (s.faults before.input) (s.faults after.input)
     pub out : ¬ Rose (o.faults before.out) (o.faults after.out)
     pub log : ¬ Rose (l.faults before.log) (l.faults after.log)
 
   -- Holds if what the words ask for was done, and then the fault line was added to the log, if the
   -- outcome has one.
-  pub record Runs (words : List (List ℕ)) (before after : Outside S O L) (outcome : Outcome)
+  pub record CaptureRuns (words : List (List ℕ)) (before after : CaptureOutside S O L) (outcome : Outcome)
       : Type 0 where
     -- the log as the command left it
     pub noted : L
-    pub answers : Answers words before (record after { log = noted }) outcome
+    pub answers : AnswersCapture words before (record after { log = noted }) outcome
     pub logs : LogsOutcome (l.held noted) (l.held after.log) (l.faults noted) (l.faults after.log)
         outcome
-    -- if the input is right, the run is done, unless something fails outside or there is no memory
-    pub able : MayDo answers.asked (s.left before.input) → IsCalm before after → EndsWell outcome
+    -- if the input is right, the run is done, unless something fails capture_outside or there is no memory
+    pub able : CaptureMayDo answers.asked (s.left before.input) → CaptureIsCalm before after → CaptureEndsWell outcome
 
   -- What an outcome says of the counts of faults and of flushes. If the run is done, `out` was
   -- flushed and then the log, each one time, after all that was written to it.
-  pub record RunCauses (before after : Outside S O L) (outcome : Outcome) : Type 0 where
+  pub record RunCauses (before after : CaptureOutside S O L) (outcome : Outcome) : Type 0 where
     pub read_failed : outcome ≡ Ended statuses.ReadFault
         → Rose (s.faults before.input) (s.faults after.input)
     pub input_never_falls : s.faults before.input ≤ s.faults after.input

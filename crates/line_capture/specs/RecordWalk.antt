@@ -10,12 +10,12 @@ use Rattle.line_capture.specs.declared.records.RecordForm.{RecordForm}
 use Rattle.line_capture.specs.declared.records.RecordForm.TheVariants.{Pcap, Text}
 use Rattle.line_capture.specs.declared.records.RecordTexts.{RecordTexts}
 
--- the record that begins in the first of these ticks, if one does
-abbrev pub begins : Way → ℕ → List Tick → ℕ → List LineRecord
-begins way tick [] room = []
-begins way tick (Silent ∷ line) room = []
-begins way tick (Byte b ∷ line) zero = record_at way tick b line ∷ []
-begins way tick (Byte b ∷ line) (suc room) = []
+-- the record that walk_begins in the first of these ticks, if one does
+abbrev pub walk_begins : Way → ℕ → List Tick → ℕ → List LineRecord
+walk_begins way tick [] room = []
+walk_begins way tick (Silent ∷ line) room = []
+walk_begins way tick (Byte b ∷ line) zero = record_at way tick b line ∷ []
+walk_begins way tick (Byte b ∷ line) (suc room) = []
 
 -- how many more bytes fit into the current record after the first of these ticks
 abbrev pub room_behind : List Tick → ℕ → ℕ
@@ -30,25 +30,25 @@ rest_of [] = []
 rest_of (t ∷ line) = line
 
 -- the records that begin in this many ticks of two lines
-abbrev pub walked : ℕ → ℕ → List Tick → List Tick → ℕ → ℕ → List LineRecord
-walked zero tick a b room_a room_b = []
-walked (suc n) tick a b room_a room_b = begins A tick a room_a ++ (begins B tick b room_b
-    ++ walked n (suc tick) (rest_of a) (rest_of b) (room_behind a room_a) (room_behind b room_b))
+abbrev pub records_walked : ℕ → ℕ → List Tick → List Tick → ℕ → ℕ → List LineRecord
+records_walked zero tick a b room_a room_b = []
+records_walked (suc n) tick a b room_a room_b = walk_begins A tick a room_a ++ (walk_begins B tick b room_b
+    ++ records_walked n (suc tick) (rest_of a) (rest_of b) (room_behind a room_a) (room_behind b room_b))
 
 -- the bytes of a record, as the form writes them
-abbrev pub data_text : RecordForm → List ℕ → List ℕ
-data_text Pcap bytes = bytes
-data_text Text bytes = encode_lower bytes
+abbrev pub text_of_record : RecordForm → List ℕ → List ℕ
+text_of_record Pcap bytes = bytes
+text_of_record Text bytes = encode_lower bytes
 
 -- Holds if the new text is the old one, followed by this one.
-pub record Adds (old new : RecordTexts) (more : List ℕ) : Type 0 where
+pub record WalkAdds (old new : RecordTexts) (more : List ℕ) : Type 0 where
   pub form : new.form ≡ old.form
   pub rate : new.rate ≡ old.rate
   pub text : new.text.items ≡ old.text.items ++ more
 
--- Holds if the record that begins in a tick of a way was added, if one does, and this many more
+-- Holds if the record that walk_begins in a tick of a way was added, if one does, and this many more
 -- bytes fit into the current record after the tick.
 pub record AddsAt (old new : RecordTexts) (way : Way) (tick : ℕ) (line : List Tick)
     (room after : ℕ) : Type 0 where
-  pub adds : Adds old new (records_text old.form old.rate (begins way tick line room))
+  pub adds : WalkAdds old new (records_text old.form old.rate (walk_begins way tick line room))
   pub room_is : after ≡ room_behind line room

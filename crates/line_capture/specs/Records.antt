@@ -57,13 +57,13 @@ way_place B = 1
 
 -- Where a record is in a capture. Records are in the order of ticks, and of two in one tick that of
 -- way A comes first.
-abbrev pub place_of : LineRecord → ℕ
-place_of one = 2 * one.tick + way_place one.way
+abbrev pub place_of_record : LineRecord → ℕ
+place_of_record one = 2 * one.tick + way_place one.way
 
 -- Holds if these records are in order, with none before this place.
 abbrev pub InOrder : ℕ → List LineRecord → Type 0
 InOrder from [] = Unit {0}
-InOrder from (one ∷ more) = (from ≤ place_of one) × InOrder (suc (place_of one)) more
+InOrder from (one ∷ more) = (from ≤ place_of_record one) × InOrder (suc (place_of_record one)) more
 
 -- the records that go a way
 abbrev pub of_way : Way → List LineRecord → List LineRecord

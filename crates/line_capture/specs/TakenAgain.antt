@@ -5,7 +5,7 @@ use Rattle.yasir_ticks.specs.declared.tick.Tick.{Tick}
 use Rattle.line_stamps.specs.Giving.{ByteAt, bytes_from}
 use Rattle.line_stamps.specs.declared.rate.Rate.{Rate}
 use Rattle.line_stamps.specs.declared.timing.Spacing.TheVariants.{ByTime}
-use Rattle.line_capture.specs.Takes.{Held, lines_text}
+use Rattle.line_capture.specs.Takes.{CaptureHeld, lines_text}
 use Rattle.line_capture.specs.declared.take.Taking.{Taking}
 use Rattle.line_capture.specs.declared.words.GiveForm.{GiveForm}
 use Rattle.line_capture.specs.declared.words.GiveForm.TheVariants as give_forms
@@ -24,15 +24,15 @@ abbrev pub both_ways : Rate → Taking
 both_ways rate = record { rate = rate; ways = Both; spacing = ByTime }
 
 -- the tick of the first byte of either line, or 0 if there is none
-abbrev pub first_of : List ByteAt → List ByteAt → ℕ
-first_of [] [] = 0
-first_of (x ∷ xs) [] = x.tick
-first_of [] (y ∷ ys) = y.tick
-first_of (x ∷ xs) (y ∷ ys) = min x.tick y.tick
+abbrev pub first_taken : List ByteAt → List ByteAt → ℕ
+first_taken [] [] = 0
+first_taken (x ∷ xs) [] = x.tick
+first_taken [] (y ∷ ys) = y.tick
+first_taken (x ∷ xs) (y ∷ ys) = min x.tick y.tick
 
 -- the tick of the first byte of either of two lines, or 0 if there is none
-abbrev pub first_tick : List Tick → List Tick → ℕ
-first_tick a b = first_of (bytes_from 0 a) (bytes_from 0 b)
+abbrev pub first_tick_again : List Tick → List Tick → ℕ
+first_tick_again a b = first_taken (bytes_from 0 a) (bytes_from 0 b)
 
 -- Holds if tick 0 of the line that was taken is this tick of the one that was given, and each byte
 -- is in the same tick of both.
@@ -41,9 +41,9 @@ SameTicks first given taken = bytes_from first taken ≡ bytes_from 0 given
 
 -- Holds if the output got two lines with the same ticks as these, counted from the first byte of
 -- either.
-pub record TakesAgain (a b : List Tick) (before now : Held) : Type 0 where
+pub record TakesAgain (a b : List Tick) (before now : CaptureHeld) : Type 0 where
   pub taken_a : List Tick
   pub taken_b : List Tick
   pub out : now.out ≡ append_known before.out (lines_text Both taken_a taken_b)
-  pub a_same : SameTicks (first_tick a b) a taken_a
-  pub b_same : SameTicks (first_tick a b) b taken_b
+  pub a_same : SameTicks (first_tick_again a b) a taken_a
+  pub b_same : SameTicks (first_tick_again a b) b taken_b

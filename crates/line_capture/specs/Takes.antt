@@ -12,12 +12,12 @@ use Rattle.line_stamps.specs.declared.capture.CaptureByte.{CaptureByte}
 use Rattle.line_stamps.specs.declared.capture.Way.{Way}
 use Rattle.line_stamps.specs.declared.capture.Way.TheVariants as way
 use Rattle.line_stamps.specs.declared.timing.Timing.{Timing}
-use Rattle.line_stamps.specs.Places.{line_of}
+use Rattle.line_stamps.specs.Places.{line_of_places}
 use Rattle.command_ends.specs.declared.status.Status.TheVariants as statuses
 use Rattle.line_capture.specs.Captures.{Collects}
 use Rattle.line_capture.specs.Formats.{Format}
 use Rattle.line_capture.specs.Inputs.{Told, IsRead}
-use Rattle.line_capture.specs.Placed.{IsFront, StopsAt, CountsOverlaps}
+use Rattle.line_capture.specs.Placed.{PlacedIsFront, PlacedStopsAt, CountsOverlaps}
 use Rattle.line_capture.specs.declared.bad_capture.BadCapture.TheVariants.{ByteError}
 use Rattle.line_capture.specs.declared.collect.CaptureEnd.{CaptureEnd}
 use Rattle.line_capture.specs.declared.collect.CaptureEnd.TheVariants as ends
@@ -65,14 +65,14 @@ pub record PlacesWays (t : Timing) (kept : Kept) (a_end b_end : LineEnd) (a b : 
     : Type 0 where
   pub front_a : List CaptureByte
   pub rest_a : List CaptureByte
-  pub a_is_front : IsFront t kept.a.items front_a rest_a
-  pub a_stop : StopsAt t front_a rest_a a_end.stop
-  pub a_is : a ≡ line_of t front_a
+  pub a_is_front : PlacedIsFront t kept.a.items front_a rest_a
+  pub a_stop : PlacedStopsAt t front_a rest_a a_end.stop
+  pub a_is : a ≡ line_of_places t front_a
   pub front_b : List CaptureByte
   pub rest_b : List CaptureByte
-  pub b_is_front : IsFront t kept.b.items front_b rest_b
-  pub b_stop : StopsAt t front_b rest_b b_end.stop
-  pub b_is : b ≡ line_of t front_b
+  pub b_is_front : PlacedIsFront t kept.b.items front_b rest_b
+  pub b_stop : PlacedStopsAt t front_b rest_b b_end.stop
+  pub b_is : b ≡ line_of_places t front_b
   pub a_placed : a_end.placed ≡ length front_a
   pub b_placed : b_end.placed ≡ length front_b
 
@@ -89,16 +89,16 @@ pub record WrittenFront (t : Timing) (ways : Ways) (kept : Kept) (before now : O
     : Type 0 where
   pub front_a : List CaptureByte
   pub rest_a : List CaptureByte
-  pub a_is_front : IsFront t kept.a.items front_a rest_a
+  pub a_is_front : PlacedIsFront t kept.a.items front_a rest_a
   pub a : List Tick
   pub later_a : List Tick
-  pub a_are : line_of t front_a ≡ a ++ later_a
+  pub a_are : line_of_places t front_a ≡ a ++ later_a
   pub front_b : List CaptureByte
   pub rest_b : List CaptureByte
-  pub b_is_front : IsFront t kept.b.items front_b rest_b
+  pub b_is_front : PlacedIsFront t kept.b.items front_b rest_b
   pub b : List Tick
   pub later_b : List Tick
-  pub b_are : line_of t front_b ≡ b ++ later_b
+  pub b_are : line_of_places t front_b ≡ b ++ later_b
   pub got : GotPrefix before now (lines_text ways a b)
 
 -- What a call that writes the lines of both ways leaves in the output, by its result.
@@ -141,10 +141,10 @@ outcome_of read ends.Open a b =
     or_else (line_outcome way.A a) (or_else (line_outcome way.B b) (read_outcome read))
 
 -- whether an input was read to its end
-abbrev pub is_whole : ReadEnd → Bool
-is_whole reads.Whole = true
-is_whole reads.Failed = false
-is_whole reads.TooLong = false
+abbrev pub is_whole_capture : ReadEnd → Bool
+is_whole_capture reads.Whole = true
+is_whole_capture reads.Failed = false
+is_whole_capture reads.TooLong = false
 
 -- ---- what was counted
 
@@ -164,18 +164,18 @@ counts_line overlaps end kept =
 -- ---- a capture that was collected
 
 -- What the sinks hold.
-pub record Held : Type 0 where
+pub record CaptureHeld : Type 0 where
   pub out : Option (List ℕ)
   pub log : Option (List ℕ)
 
 -- sinks that hold these texts
-abbrev pub held : Option (List ℕ) → Option (List ℕ) → Held
+abbrev pub held : Option (List ℕ) → Option (List ℕ) → CaptureHeld
 held out log = record { out = out; log = log }
 
 -- Holds if the lines and what was counted were written, and the run ends as the reading, the
 -- capture and the lines did.
 pub record WritesAll (taking : Taking) (kept : Kept) (read : ReadEnd) (end : CaptureEnd)
-    (before now : Held) (outcome : Outcome) : Type 0 where
+    (before now : CaptureHeld) (outcome : Outcome) : Type 0 where
   pub a_end : LineEnd
   pub b_end : LineEnd
   pub lines : WrittenLines (timing_for taking kept) taking.ways kept before.out now.out a_end b_end
@@ -189,7 +189,7 @@ pub record WritesAll (taking : Taking) (kept : Kept) (read : ReadEnd) (end : Cap
 
 -- Holds if a write or a flush failed, after a front of the lines and of what was counted was
 -- written.
-pub record WritesPart (taking : Taking) (kept : Kept) (end : CaptureEnd) (before now : Held)
+pub record WritesPart (taking : Taking) (kept : Kept) (end : CaptureEnd) (before now : CaptureHeld)
     : Type 0 where
   pub lines : WrittenFront (timing_for taking kept) taking.ways kept before.out now.out
   pub overlaps : ℕ
@@ -198,7 +198,7 @@ pub record WritesPart (taking : Taking) (kept : Kept) (end : CaptureEnd) (before
 -- Holds if the lines and what was counted were written, or a front of them before a write or a
 -- flush failed.
 pub data WritesTaken (taking : Taking) (kept : Kept) (read : ReadEnd) (end : CaptureEnd)
-    (before now : Held) (outcome : Outcome) : Type 0 where
+    (before now : CaptureHeld) (outcome : Outcome) : Type 0 where
   written : WritesAll taking kept read end before now outcome
       → WritesTaken taking kept read end before now outcome
   failed : outcome ≡ Ended statuses.WriteFault → WritesPart taking kept end before now
@@ -208,20 +208,20 @@ pub data WritesTaken (taking : Taking) (kept : Kept) (read : ReadEnd) (end : Cap
 
 -- Holds if what is kept of the file was written.
 pub record TakesFile (format : Format) (taking : Taking) (read : ReadEnd) (file : List ℕ)
-    (before now : Held) (outcome : Outcome) : Type 0 where
+    (before now : CaptureHeld) (outcome : Outcome) : Type 0 where
   pub kept : Kept
   pub end : CaptureEnd
-  pub collects : Collects format taking (is_whole read) file kept end
+  pub collects : Collects format taking (is_whole_capture read) file kept end
   pub writes : WritesTaken taking kept read end before now outcome
 
 -- Holds if there was no memory, and nothing was written.
-pub record HasNoMemory (before now : Held) (outcome : Outcome) : Type 0 where
+pub record HasNoMemory (before now : CaptureHeld) (outcome : Outcome) : Type 0 where
   pub outcome_is : outcome ≡ Ended statuses.NoMemory
   pub same : now ≡ before
 
 -- Holds if what is kept of the file was written, or there was no memory.
 pub data TakesRead (format : Format) (taking : Taking) (read : ReadEnd) (file : List ℕ)
-    (before now : Held) (outcome : Outcome) : Type 0 where
+    (before now : CaptureHeld) (outcome : Outcome) : Type 0 where
   no_memory : HasNoMemory before now outcome
       → TakesRead format taking read file before now outcome
   kept : TakesFile format taking read file before now outcome
@@ -231,26 +231,26 @@ pub data TakesRead (format : Format) (taking : Taking) (read : ReadEnd) (file : 
 
 -- Holds if what was read of the input was taken.
 pub record TakesInput (format : Format) (taking : Taking) (in_before in_now : Told)
-    (before now : Held) (outcome : Outcome) : Type 0 where
+    (before now : CaptureHeld) (outcome : Outcome) : Type 0 where
   pub read : ReadEnd
   pub file : List ℕ
   pub reads : IsRead in_before in_now file read
   pub takes : TakesRead format taking read file before now outcome
 
 -- Holds if what was read of the input was taken, or there was no memory for it.
-pub data Takes (format : Format) (taking : Taking) (in_before in_now : Told)
-    (before now : Held) (outcome : Outcome) : Type 0 where
+pub data TakesCapture (format : Format) (taking : Taking) (in_before in_now : Told)
+    (before now : CaptureHeld) (outcome : Outcome) : Type 0 where
   no_memory : HasNoMemory before now outcome
-      → Takes format taking in_before in_now before now outcome
+      → TakesCapture format taking in_before in_now before now outcome
   read : TakesInput format taking in_before in_now before now outcome
-      → Takes format taking in_before in_now before now outcome
+      → TakesCapture format taking in_before in_now before now outcome
 
 -- ---- causes
 
 -- whether a run ended because a write or a flush failed
-abbrev pub is_write_fault : Outcome → Bool
-is_write_fault (Ended statuses.WriteFault) = true
-is_write_fault outcome = false
+abbrev pub is_capture_write_fault : Outcome → Bool
+is_capture_write_fault (Ended statuses.WriteFault) = true
+is_capture_write_fault outcome = false
 
 -- whether a run did all
 abbrev pub is_done : Outcome → Bool

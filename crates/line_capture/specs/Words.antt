@@ -35,13 +35,13 @@ spacing_words ByTime = []
 spacing_words ByRecord = codes "frames" ∷ []
 
 -- Holds if these words ask for the command.
-abbrev pub IsCommand : List (List ℕ) → Command → Type 0
-IsCommand words (Take form rate ways spacing) = words ≡ codes "take" ∷ take_form_word form
+abbrev pub IsCaptureCommand : List (List ℕ) → Command → Type 0
+IsCaptureCommand words (Take form rate ways spacing) = words ≡ codes "take" ∷ take_form_word form
     ∷ rate_word rate ∷ ways_word ways ∷ spacing_words spacing
-IsCommand words (Give form rate) =
+IsCaptureCommand words (Give form rate) =
     words ≡ codes "give" ∷ give_form_word form ∷ rate_word rate ∷ []
 
 -- what the words ask for: a command, or `None` if they fit no command
-abbrev pub Asks : List (List ℕ) → Option Command → Type 0
-Asks words None = (command : Command) → IsCommand words command → ⊥
-Asks words (Some command) = IsCommand words command
+abbrev pub AsksCapture : List (List ℕ) → Option Command → Type 0
+AsksCapture words None = (command : Command) → IsCaptureCommand words command → ⊥
+AsksCapture words (Some command) = IsCaptureCommand words command

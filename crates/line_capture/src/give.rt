@@ -6,7 +6,7 @@ ghost use Rattle.tick_drive.specs.Input.{max_bytes, max_ticks};
 ghost use Rattle.command_ends.specs.Causes.{SinkCause};
 ghost use Rattle.command_ends.specs.Flushes.{FlushesAtEnd};
 ghost use Rattle.command_ends.specs.declared.status.Status.{Status};
-ghost use Rattle.line_capture.specs.Gives.{has_mark, marks_for, IsGiven, Gives, GivesFile, GivesRead};
+ghost use Rattle.line_capture.specs.Gives.{has_mark, marks_for, IsGiven, GivesCapture, GivesFile, GivesRead};
 ghost use Rattle.line_capture.specs.Gives.{end_status};
 ghost use Rattle.line_capture.specs.Inputs.{told};
 ghost use Rattle.line_capture.specs.Outcomes.{status_in};
@@ -159,7 +159,7 @@ pub fn give<S: Source, O: Sink, L: Sink>(
     out: &mut O,
     log: &mut L,
 ) -> Outcome
-    ensures gives { Gives giving.form giving.rate (told (S.left input.old) (S.faults input.old))
+    ensures gives { GivesCapture giving.form giving.rate (told (S.left input.old) (S.faults input.old))
         (told (S.left input.new) (S.faults input.new))
         (held (O.held out.old) (L.held log.old)) (held (O.held out.new) (L.held log.new)) result }
     ensures sinks { SinkCause (O.faults out.old) (O.faults out.new) (L.faults log.old)

@@ -10,7 +10,7 @@ ghost use Rattle.line_capture.specs.Formats.{format_of};
 ghost use Rattle.line_capture.specs.Gives.{AreLinesOf, IsGiven};
 ghost use Rattle.line_capture.specs.Inputs.{Told};
 ghost use Rattle.line_capture.specs.TakenAgain.{taken_as, both_ways, TakesAgain};
-ghost use Rattle.line_capture.specs.Takes.{Held, Takes};
+ghost use Rattle.line_capture.specs.Takes.{CaptureHeld, TakesCapture};
 ghost use Rattle.line_capture.specs.declared.outcome.Outcome.{Outcome};
 ghost use Rattle.line_capture.specs.declared.outcome.Outcome.TheVariants.{Ended};
 ghost use Rattle.line_capture.specs.declared.words.GiveForm.{GiveForm};
@@ -24,10 +24,10 @@ use capture_pcap::written_header;
 /// last byte, since a capture says nothing of the silence there.
 pub fn what_was_given_is_taken()
     ensures same { (form : GiveForm) (taken : TakeForm) (rate : Rate) (text : List ℕ)
-        (a b : List Tick) (file : List ℕ) (in_before in_now : Told) (before now : Held)
+        (a b : List Tick) (file : List ℕ) (in_before in_now : Told) (before now : CaptureHeld)
         (outcome : Outcome) → taken_as form ≡ Some taken → AreLinesOf form text a b
         → IsGiven form rate a b file → in_before.left ≡ Some file
-        → Takes (format_of taken) (both_ways rate) in_before in_now before now outcome
+        → TakesCapture (format_of taken) (both_ways rate) in_before in_now before now outcome
         → outcome ≡ Ended Done → TakesAgain a b before now }
     // The capture is right for `take`, unless it is too long: no byte of it is refused.
     ensures right { (form : GiveForm) (taken : TakeForm) (rate : Rate) (text : List ℕ)

@@ -2,7 +2,7 @@
 ghost use Rattle.std.specs.Prelude.{◌≡◌, ◌≤◌, ◌+◌, [], ◌++◌, ◌∷◌, length, codes, decimal};
 ghost use Rattle.command_ends.specs.Statuses.{fault_line as status_line};
 ghost use Rattle.command_ends.specs.declared.status.Status.{Status};
-ghost use Rattle.line_capture.specs.Outcomes.{exit_status_of, fault_line, text_word, pcap_word, rows_word};
+ghost use Rattle.line_capture.specs.Outcomes.{capture_exit_status, capture_fault_line, text_word, pcap_word, rows_word};
 ghost use Rattle.line_capture.specs.Outcomes.{unplaced_word, LogsOutcome};
 
 use crate::bad_capture::BadCapture;
@@ -27,7 +27,7 @@ impl Outcome {
     /// Returns the program's exit status: 4 if the input isn't a right capture, or has a byte that
     /// isn't placed.
     pub fn exit_status(&self) -> u8
-        ensures { result ≡ exit_status_of self.now }
+        ensures { result ≡ capture_exit_status self.now }
     {
         match self {
             Outcome::Ended(status) => status.exit_status(),
@@ -111,7 +111,7 @@ fn counted_line(what: &[u8], count: u64, word: &[u8]) -> Line
 }
 
 fn bad_capture_line(bad: &BadCapture) -> Line
-    ensures { result.items ≡ fault_line (Outcome.BadCapture bad.now) }
+    ensures { result.items ≡ capture_fault_line (Outcome.BadCapture bad.now) }
 {
     match bad {
         BadCapture::Text(bad) => counted_line(b"line ", bad.line, text_word(bad.why)),
@@ -122,7 +122,7 @@ fn bad_capture_line(bad: &BadCapture) -> Line
 }
 
 fn unplaced_line(way: Way, place: u64, why: Unplaced) -> Line
-    ensures { result.items ≡ fault_line (Outcome.Unplaced way place why) }
+    ensures { result.items ≡ capture_fault_line (Outcome.Unplaced way place why) }
 {
     match way {
         Way::A => counted_line(b"way a byte ", place, unplaced_word(why)),

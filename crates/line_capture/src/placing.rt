@@ -4,11 +4,11 @@ ghost use Rattle.yasir_io.specs.Flushed.{NoneFlushed};
 ghost use Rattle.yasir_ticks.specs.Ticks.{silent};
 ghost use Rattle.yasir_ticks.specs.declared.tick.Tick.TheVariants.{Byte};
 ghost use Rattle.yasir_ticks.specs.TickRun.{run_ticks};
-ghost use Rattle.line_texts.specs.Adding.{HasRoom, IsShort};
+ghost use Rattle.line_texts.specs.Adding.{TextHasRoom, IsShort};
 ghost use Rattle.line_texts.specs.Sending.{HaveCause};
 ghost use Rattle.line_texts.specs.Texts.{writing};
 ghost use Rattle.line_stamps.specs.declared.capture.CaptureByte.{CaptureByte};
-ghost use Rattle.line_stamps.specs.Placing.{HasTaken};
+ghost use Rattle.line_stamps.specs.Placing.{PlacingHasTaken};
 ghost use Rattle.line_capture.specs.Placed.{PushesLine, PlacesBytes, PlacesNext, WritesLine};
 ghost use Rattle.line_capture.specs.Placed.{CountsOverlaps, CountsNext};
 
@@ -51,7 +51,7 @@ fn push_short<O: Sink, L: Sink>(
     log: &mut L,
     run: TickRun<'_>,
 ) -> Result<(), Failed>
-    requires room { HasRoom texts.old }
+    requires room { TextHasRoom texts.old }
     requires short { IsShort (run_ticks run) }
     ensures { PushesLine O.Sink L.Sink (writing texts.old out.old log.old)
         (writing texts.new out.new log.new) (run_ticks run.entry) result }
@@ -71,7 +71,7 @@ fn push_silence<O: Sink, L: Sink>(
     log: &mut L,
     silence: u32,
 ) -> Result<(), Failed>
-    requires { HasRoom texts.old }
+    requires { TextHasRoom texts.old }
     ensures { PushesLine O.Sink L.Sink (writing texts.old out.old log.old)
         (writing texts.new out.new log.new) (silent silence) result }
 {
@@ -95,7 +95,7 @@ fn push_byte<O: Sink, L: Sink>(
     silence: u32,
     byte: u8,
 ) -> Result<(), Failed>
-    requires { HasRoom texts.old }
+    requires { TextHasRoom texts.old }
     ensures { PushesLine O.Sink L.Sink (writing texts.old out.old log.old)
         (writing texts.new out.new log.new) (silent silence ++ Byte byte ∷ []) result }
 {
@@ -115,9 +115,9 @@ fn place_next<O: Sink, L: Sink>(
     out: &mut O,
     log: &mut L,
 ) -> Result<LineStop, Failed>
-    requires taken { (cs : List CaptureByte) × HasTaken placer.old cs }
-    requires room { HasRoom texts.old }
-    ensures { (cs : List CaptureByte) → HasTaken placer.old cs
+    requires taken { (cs : List CaptureByte) × PlacingHasTaken placer.old cs }
+    requires room { TextHasRoom texts.old }
+    ensures { (cs : List CaptureByte) → PlacingHasTaken placer.old cs
         → PlacesNext O.Sink L.Sink placer.old placer.new cs byte (writing texts.old out.old log.old)
         (writing texts.new out.new log.new) result }
 {
@@ -143,7 +143,7 @@ fn place_bytes<O: Sink, L: Sink>(
     out: &mut O,
     log: &mut L,
 ) -> Result<LineEnd, Failed>
-    requires { HasRoom texts.old }
+    requires { TextHasRoom texts.old }
     ensures { PlacesBytes O.Sink L.Sink timing bytes.now (writing texts.old out.old log.old)
         (writing texts.new out.new log.new) result }
 {
@@ -195,7 +195,7 @@ pub fn write_line<O: Sink, L: Sink>(
 // Takes the next byte, so that it is counted if it overlaps the one before it. Returns whether it
 // is neither early nor late.
 fn count_next(placer: &mut Placer, byte: CaptureByte) -> bool
-    ensures { (cs : List CaptureByte) → HasTaken placer.old cs
+    ensures { (cs : List CaptureByte) → PlacingHasTaken placer.old cs
         → CountsNext placer.old placer.new cs byte result }
 {
     match placer.place(byte) {

@@ -7,12 +7,12 @@ ghost use Rattle.command_ends.specs.Flushes.{FlushesAtEnd};
 ghost use Rattle.command_ends.specs.Given.{words_after};
 ghost use Rattle.command_ends.specs.declared.status.Status.{Status};
 ghost use Rattle.line_capture.specs.Formats.{format_of};
-ghost use Rattle.line_capture.specs.Programs.{outside, Runs, Answers, RunCauses};
+ghost use Rattle.line_capture.specs.Programs.{capture_outside, CaptureRuns, AnswersCapture, RunCauses};
 ghost use Rattle.line_capture.specs.Endings.{EndsOverArgs};
 ghost use Rattle.line_capture.specs.Outcomes.{status_in};
 ghost use Rattle.line_capture.specs.Inputs.{told};
-ghost use Rattle.line_capture.specs.Takes.{Takes, held};
-ghost use Rattle.line_capture.specs.Words.{Asks};
+ghost use Rattle.line_capture.specs.Takes.{TakesCapture, held};
+ghost use Rattle.line_capture.specs.Words.{AsksCapture};
 ghost use Rattle.line_capture.specs.declared.outcome.Outcome.{Outcome};
 
 use crate::give::{Giving, give};
@@ -36,7 +36,7 @@ fn take_form<S: Source, O: Sink, L: Sink>(
     out: &mut O,
     log: &mut L,
 ) -> Outcome
-    ensures takes { Takes (format_of form) taking (told (S.left input.old) (S.faults input.old))
+    ensures takes { TakesCapture (format_of form) taking (told (S.left input.old) (S.faults input.old))
         (told (S.left input.new) (S.faults input.new))
         (held (O.held out.old) (L.held log.old)) (held (O.held out.new) (L.held log.new)) result }
     ensures sinks { SinkCause (O.faults out.old) (O.faults out.new) (L.faults log.old)
@@ -63,9 +63,9 @@ fn answer<S: Source, O: Sink, L: Sink>(
     log: &mut L,
 ) -> Outcome
     ensures usage { (result ≡ Outcome.Ended Status.Usage)
-        ↔ Asks (map string_bytes words.now) None }
-    ensures answers { Answers S.Source O.Sink L.Sink (map string_bytes words.now)
-        (outside input.old out.old log.old) (outside input.new out.new log.new) result }
+        ↔ AsksCapture (map string_bytes words.now) None }
+    ensures answers { AnswersCapture S.Source O.Sink L.Sink (map string_bytes words.now)
+        (capture_outside input.old out.old log.old) (capture_outside input.new out.new log.new) result }
     ensures sinks { SinkCause (O.faults out.old) (O.faults out.new) (L.faults log.old)
         (L.faults log.new) (status_in result) }
     ensures flushes { FlushesAtEnd O.Sink L.Sink out.old out.new log.old log.new (status_in result) }
@@ -106,17 +106,17 @@ pub fn run<S: Source, O: Sink, L: Sink>(
 ) -> Outcome
     // The outcome is Usage exactly if the words ask for no command.
     ensures usage { (result ≡ Outcome.Ended Status.Usage)
-        ↔ Asks (map string_bytes words.now) None }
+        ↔ AsksCapture (map string_bytes words.now) None }
 
     // What was read and written, and the fault line after it. If the input is right, the outcome is
     // Done, unless something fails outside or there is no memory.
-    ensures runs { Runs S.Source O.Sink L.Sink (map string_bytes words.now)
-        (outside input.old out.old log.old) (outside input.new out.new log.new) result }
+    ensures runs { CaptureRuns S.Source O.Sink L.Sink (map string_bytes words.now)
+        (capture_outside input.old out.old log.old) (capture_outside input.new out.new log.new) result }
 
     // The outcome is a fault of reading or writing only if a count of faults rose. If it is Done,
     // no write has failed, and `out` was flushed and then the log.
-    ensures causes { RunCauses S.Source O.Sink L.Sink (outside input.old out.old log.old)
-        (outside input.new out.new log.new) result }
+    ensures causes { RunCauses S.Source O.Sink L.Sink (capture_outside input.old out.old log.old)
+        (capture_outside input.new out.new log.new) result }
 {
     let outcome = answer(alloc, words, input, out, log);
     log_outcome(log, &outcome);
@@ -135,11 +135,11 @@ pub fn run_over_args<S: Source, O: Sink, L: Sink>(
     // If the runtime gives no words, nothing is done.
     ensures no_words { IsErr args → result ≡ 13 }
     ensures untouched { IsErr args
-        → outside input.new out.new log.new ≡ outside input.old out.old log.old }
+        → capture_outside input.new out.new log.new ≡ capture_outside input.old out.old log.old }
 
     // What was done, and the exit status.
     ensures ends { IfOk args (λ given. EndsOverArgs S.Source O.Sink L.Sink (words_after given)
-        (outside input.old out.old log.old) (outside input.new out.new log.new) result) }
+        (capture_outside input.old out.old log.old) (capture_outside input.new out.new log.new) result) }
 {
     let Ok(args) = args else {
         return NOT_GIVEN;

@@ -58,13 +58,13 @@ pub trait FormReader: Drop {
 
 impl FormReader for TextReader {
     ghost use Rattle.line_capture.specs.Formats.{text_format};
-    ghost use Rattle.capture_text.specs.Reader.{HasSeen, bytes_taken};
+    ghost use Rattle.capture_text.specs.Reader.{HasSeen, text_bytes_taken};
 
     ghost format = { text_format };
 
     ghost stands = { HasSeen };
 
-    ghost taken = { bytes_taken };
+    ghost taken = { pcap_bytes_taken };
 
     fn begin() -> Self {
         <TextReader as CaptureReader>::start()
@@ -92,13 +92,13 @@ impl FormReader for TextReader {
 
 impl FormReader for PcapReader {
     ghost use Rattle.line_capture.specs.Formats.{pcap_format};
-    ghost use Rattle.capture_pcap.specs.Reader.{StandsFor, bytes_taken};
+    ghost use Rattle.capture_pcap.specs.Reader.{PcapReaderStandsFor, pcap_bytes_taken};
 
     ghost format = { pcap_format };
 
-    ghost stands = { StandsFor };
+    ghost stands = { PcapReaderStandsFor };
 
-    ghost taken = { bytes_taken };
+    ghost taken = { pcap_bytes_taken };
 
     fn begin() -> Self {
         <PcapReader as CaptureReader>::start()
@@ -126,13 +126,13 @@ impl FormReader for PcapReader {
 
 impl<F: RowForm> FormReader for RowReader<F> {
     ghost use Rattle.line_capture.specs.Formats.{rows_format};
-    ghost use Rattle.capture_text.specs.RowReader.{StandsFor, bytes_taken};
+    ghost use Rattle.capture_text.specs.RowReader.{RowReaderStandsFor, row_bytes_taken};
 
     ghost format = { rows_format F.row_at F.name_of F.error_follows };
 
-    ghost stands = { StandsFor F.row_at F.name_of };
+    ghost stands = { PcapReaderStandsFor F.row_at F.name_of };
 
-    ghost taken = { bytes_taken };
+    ghost taken = { pcap_bytes_taken };
 
     fn begin() -> Self {
         <RowReader<F> as CaptureReader>::start()

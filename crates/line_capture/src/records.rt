@@ -5,7 +5,7 @@ ghost use Rattle.yasir_ticks.specs.Ticks.{bytes_in};
 ghost use Rattle.line_stamps.specs.Giving.{tick_start};
 ghost use Rattle.tick_drive.specs.Input.{max_ticks};
 ghost use Rattle.line_capture.specs.Records.{record_text, file_front, leading, most_further, IsRecorded};
-ghost use Rattle.line_capture.specs.RecordWalk.{data_text, Adds, AddsAt};
+ghost use Rattle.line_capture.specs.RecordWalk.{text_of_record, WalkAdds, AddsAt};
 
 use arrayvec::ArrayVec;
 use capture_pcap::{FILE_HEADER, packet_header};
@@ -76,7 +76,7 @@ impl RecordTexts {
 
     // Adds a piece of text.
     fn push(&mut self, piece: &[u8]) -> Result<(), NoMemory>
-        ensures { OnOk result (Adds self.old self.new piece.now) }
+        ensures { OnOk result (WalkAdds self.old self.new piece.now) }
     {
         match self.text.extend_from_slice(piece) {
             Ok(()) => Ok(()),
@@ -86,7 +86,7 @@ impl RecordTexts {
 
     // Adds a byte of a record.
     fn push_byte(&mut self, b: u8) -> Result<(), NoMemory>
-        ensures { OnOk result (Adds self.old self.new (data_text self.old.form (b ∷ []))) }
+        ensures { OnOk result (WalkAdds self.old self.new (text_of_record self.old.form (b ∷ []))) }
     {
         match self.form {
             RecordForm::Pcap => self.push(&[b]),
@@ -100,8 +100,8 @@ impl RecordTexts {
 
     // Adds the bytes among ticks.
     fn push_bytes(&mut self, ticks: &[Tick]) -> Result<(), NoMemory>
-        ensures { OnOk result (Adds self.old self.new
-            (data_text self.old.form (bytes_in ticks.now))) }
+        ensures { OnOk result (WalkAdds self.old self.new
+            (text_of_record self.old.form (bytes_in ticks.now))) }
     {
         for tick in ticks {
             match tick {
@@ -121,7 +121,7 @@ impl RecordTexts {
         requires early { tick < max_ticks }
         requires bytes { length (bytes_in ticks.now) ≡ length ticks.now }
         requires few { length ticks.now ≤ 65536 }
-        ensures { OnOk result (Adds self.old self.new (record_text self.old.form self.old.rate
+        ensures { OnOk result (WalkAdds self.old self.new (record_text self.old.form self.old.rate
             (record { way = way; tick = tick; bytes = bytes_in ticks.now }))) }
     {
         let start = tick_start(self.rate, 1, tick);

@@ -13,9 +13,9 @@ ghost use Rattle.line_capture.specs.Inputs.{told};
 ghost use Rattle.line_capture.specs.Outcomes.{status_in};
 ghost use Rattle.line_capture.specs.Takes.{WritesLines, origin_of, line_outcome, read_outcome};
 ghost use Rattle.line_capture.specs.Takes.{outcome_of, counts_line, held, WritesTaken, TakesRead};
-ghost use Rattle.line_capture.specs.Takes.{Takes, is_write_fault, is_done, is_verdict, HasOutcome};
+ghost use Rattle.line_capture.specs.Takes.{TakesCapture, is_capture_write_fault, is_done, is_verdict, HasOutcome};
 ghost use Rattle.line_capture.specs.Takes.{mark_of, timing_for};
-ghost use Rattle.line_capture.specs.Takes.{is_whole};
+ghost use Rattle.line_capture.specs.Takes.{is_whole_capture};
 ghost use Rattle.line_capture.specs.declared.outcome.Outcome.{Outcome};
 
 use crate::bad_capture::BadCapture;
@@ -189,7 +189,7 @@ fn is_done(outcome: &Outcome) -> bool
 
 // Ends a run whose lines were written. If it is done, both sinks are flushed first.
 fn end_run<O: Sink, L: Sink>(outcome: Outcome, out: &mut O, log: &mut L) -> Outcome
-    requires no_fault { is_write_fault outcome ≡ false }
+    requires no_fault { is_capture_write_fault outcome ≡ false }
     requires no_verdict { is_verdict outcome ≡ false }
     ensures outcome { HasOutcome outcome result }
     ensures out { O.held out.new ≡ O.held out.old }
@@ -239,7 +239,7 @@ fn write_taken<O: Sink, L: Sink>(
 
 // Whether an input was read to its end.
 fn is_whole(read: ReadEnd) -> bool
-    ensures { result ≡ is_whole read }
+    ensures { result ≡ is_whole_capture read }
 {
     match read {
         ReadEnd::Whole => true,
@@ -283,7 +283,7 @@ pub fn take<F: FormReader, S: Source, O: Sink, L: Sink>(
     out: &mut O,
     log: &mut L,
 ) -> Outcome
-    ensures takes { Takes F.format taking (told (S.left input.old) (S.faults input.old))
+    ensures takes { TakesCapture F.format taking (told (S.left input.old) (S.faults input.old))
         (told (S.left input.new) (S.faults input.new))
         (held (O.held out.old) (L.held log.old)) (held (O.held out.new) (L.held log.new)) result }
     ensures sinks { SinkCause (O.faults out.old) (O.faults out.new) (L.faults log.old)

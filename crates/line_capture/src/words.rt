@@ -9,7 +9,7 @@ ghost use Rattle.line_capture.specs.declared.words.Command.{Command};
 ghost use Rattle.line_capture.specs.declared.words.GiveForm.{GiveForm};
 ghost use Rattle.line_capture.specs.declared.words.TakeForm.{TakeForm};
 ghost use Rattle.line_capture.specs.declared.words.Ways.{Ways};
-ghost use Rattle.line_capture.specs.Words.{IsCommand, take_form_word, give_form_word, ways_word};
+ghost use Rattle.line_capture.specs.Words.{IsCaptureCommand, take_form_word, give_form_word, ways_word};
 
 use line_stamps::{Rate, Spacing};
 
@@ -137,9 +137,9 @@ fn read_taken(form: &str, rate: &str, ways: &str) -> Result<(TakeForm, Rate, Way
 // Returns the command that three words ask for.
 fn read_three(verb: &str, form: &str, rate: &str) -> Result<Command, Usage>
     ensures ok { IfOk result (λ command.
-        IsCommand (verb.now ∷ form.now ∷ rate.now ∷ []) command) }
+        IsCaptureCommand (verb.now ∷ form.now ∷ rate.now ∷ []) command) }
     ensures usage { OnErr result ((command : Command)
-        → IsCommand (verb.now ∷ form.now ∷ rate.now ∷ []) command → ⊥) }
+        → IsCaptureCommand (verb.now ∷ form.now ∷ rate.now ∷ []) command → ⊥) }
 {
     if verb != "give" {
         return Err(Usage);
@@ -157,9 +157,9 @@ fn read_three(verb: &str, form: &str, rate: &str) -> Result<Command, Usage>
 // Returns the command that four words ask for.
 fn read_four(verb: &str, form: &str, rate: &str, ways: &str) -> Result<Command, Usage>
     ensures ok { IfOk result (λ command.
-        IsCommand (verb.now ∷ form.now ∷ rate.now ∷ ways.now ∷ []) command) }
+        IsCaptureCommand (verb.now ∷ form.now ∷ rate.now ∷ ways.now ∷ []) command) }
     ensures usage { OnErr result ((command : Command)
-        → IsCommand (verb.now ∷ form.now ∷ rate.now ∷ ways.now ∷ []) command → ⊥) }
+        → IsCaptureCommand (verb.now ∷ form.now ∷ rate.now ∷ ways.now ∷ []) command → ⊥) }
 {
     if verb != "take" {
         return Err(Usage);
@@ -179,9 +179,9 @@ fn read_four(verb: &str, form: &str, rate: &str, ways: &str) -> Result<Command, 
 // Returns the command that five words ask for.
 fn read_five(verb: &str, form: &str, rate: &str, ways: &str, last: &str) -> Result<Command, Usage>
     ensures ok { IfOk result (λ command.
-        IsCommand (verb.now ∷ form.now ∷ rate.now ∷ ways.now ∷ last.now ∷ []) command) }
+        IsCaptureCommand (verb.now ∷ form.now ∷ rate.now ∷ ways.now ∷ last.now ∷ []) command) }
     ensures usage { OnErr result ((command : Command)
-        → IsCommand (verb.now ∷ form.now ∷ rate.now ∷ ways.now ∷ last.now ∷ []) command → ⊥) }
+        → IsCaptureCommand (verb.now ∷ form.now ∷ rate.now ∷ ways.now ∷ last.now ∷ []) command → ⊥) }
 {
     if verb != "take" {
         return Err(Usage);
@@ -204,9 +204,9 @@ fn read_five(verb: &str, form: &str, rate: &str, ways: &str, last: &str) -> Resu
 /// Returns the command that the words after the program's name ask for. Words are compared byte for
 /// byte.
 pub fn read_words(words: &[String]) -> Result<Command, Usage>
-    ensures ok { IfOk result (λ command. IsCommand (map string_bytes words.now) command) }
+    ensures ok { IfOk result (λ command. IsCaptureCommand (map string_bytes words.now) command) }
     ensures usage { OnErr result ((command : Command)
-        → IsCommand (map string_bytes words.now) command → ⊥) }
+        → IsCaptureCommand (map string_bytes words.now) command → ⊥) }
 {
     match words {
         [verb, form, rate] => read_three(verb.as_str(), form.as_str(), rate.as_str()),

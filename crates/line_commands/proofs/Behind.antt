@@ -1,11 +1,11 @@
 -- What calls do to a box that is driven by references, and to what these refer to.
-use Rattle.line_commands.specs.BoxLines.{State, state_of, driving}
+use Rattle.line_commands.specs.BoxLines.{State, state_of_lines, driving}
 use Rattle.line_commands.specs.DrivenBox.{state_in, HoldsSame, driven_by}
 use Rattle.line_commands.specs.declared.{box_lines.BoxLines.BoxLines, driven_box.DrivenBox.DrivenBox}
 use Rattle.link_box.specs.declared.box_trait.LinkBox.{Ghosts as LinkBox}
 use Rattle.std.proofs.Common.{◌≡◌, ◌∙◌, ℕ, List, Option, Result, Ok, Err, refl, sym, subst}
 use Rattle.std.specs.Borrow.{GName}
-use Rattle.tick_drive.specs.{Consumers.Gives, Consumers.GivesSome, Drive.Drives, Drive.answer_of}
+use Rattle.tick_drive.specs.{Consumers.Gives, Consumers.GivesSome, Drive.Drives, Drive.drive_answer_of}
 use Rattle.tick_drive.specs.declared.{consumer.Stop.Stop, end.End.End}
 use Rattle.yasir_io.specs.declared.{disk.SlotDisk.Ghosts as SlotDisk, sink.Sink.Ghosts as Sink}
 use Rattle.yasir_ticks.specs.Ticks.{Item}
@@ -76,7 +76,7 @@ module _ {B N O L D : Type 0} (b : LinkBox B N) (line_of : N → List ℕ) (o : 
       (log : (x : L) × (log_name ≡ new.log.ghost_name → x ≡ new.log.now))
       (disk : (x : D) × (disk_name ≡ new.disk.ghost_name → x ≡ new.disk.now)) where
     abbrev ended : State B O L D
-    ended = state_of lines.0 out.0 log.0 disk.0
+    ended = state_of_lines lines.0 out.0 log.0 disk.0
 
     is_ended : HoldsSame old new → state_in new ≡ ended
     is_ended holds =
@@ -96,5 +96,5 @@ module _ {B N O L D : Type 0} (b : LinkBox B N) (line_of : N → List ℕ) (o : 
         (record {
           items = driven.items;
           takes = driven.takes;
-          gives = gives_behind old new driven.items (answer_of end) driven.gives;
+          gives = gives_behind old new driven.items (drive_answer_of end) driven.gives;
         }))

@@ -6,11 +6,11 @@ use Rattle.link_box.specs.declared.box_trait.LinkBox.{Ghosts as LinkBox}
 use Rattle.session_lists.proofs.Marks.{has_mark-mark, before_mark-mark, behind_mark-mark}
 use Rattle.session_lists.proofs.Marks.{before_mark-more, behind_mark-more}
 use Rattle.session_lists.proofs.Runs.{no_mark-front, has_mark-run, before_mark-run, behind_mark-run}
-use Rattle.session_lists.specs.Recordings.{has_mark, before_mark, behind_mark}
+use Rattle.session_lists.specs.Recordings.{lists_have_mark, before_mark, behind_mark}
 use Rattle.std.proofs.Common.{◌≡◌, ◌∙◌, ℕ, ◌<◌, true, false, List, [], ◌∷◌, ◌++◌, length}
 use Rattle.std.proofs.Common.{take, Option, Ok, Err, refl, ap, sym, subst, arith}
 use Rattle.tick_drive.proofs.{ItemLaws.ticks_in-front, Stopping.stops-for-memory}
-use Rattle.tick_drive.specs.{Consumers.Gives, Consumers.GivesFirst, Drive.Drives, Drive.answer_of}
+use Rattle.tick_drive.specs.{Consumers.Gives, Consumers.GivesFirst, Drive.Drives, Drive.drive_answer_of}
 use Rattle.tick_drive.specs.Drive.{StopsForMemory}
 use Rattle.tick_drive.specs.declared.consumer.Stop.TheVariants.{NoMemory}
 use Rattle.tick_drive.specs.declared.end.End.{End, TheVariants.Whole}
@@ -60,7 +60,7 @@ module _ {S C A B : Type 0} (s : LinkBox S A) (sent_line : A → List ℕ) (c : 
       within = omega (arith, keeps.front.within, length-run_items run);
       gives = record {
         moved = λ setups items before.
-            let none : has_mark items ≡ false = sym before.marked ∙ unmarked in
+            let none : lists_have_mark items ≡ false = sym before.marked ∙ unmarked in
             let first : before_mark (items ++ front) ≡ before_mark items ++ take n (run_ticks run) =
             before_mark-run items front none (no_mark-front run n)
             ∙ ap (λ l. before_mark items ++ l) (ticks_in-front run n) in
@@ -89,7 +89,7 @@ module _ {S C A B : Type 0} (s : LinkBox S A) (sent_line : A → List ℕ) (c : 
       within = omega (arith, keeps.front.within, length-run_items run);
       gives = record {
         moved = λ setups items before.
-            let some : has_mark items ≡ true = sym before.marked ∙ marked in
+            let some : lists_have_mark items ≡ true = sym before.marked ∙ marked in
             let back : behind_mark (items ++ front) ≡ behind_mark items ++ take n (run_ticks run) =
             behind_mark-more items front some
             ∙ ap (λ l. behind_mark items ++ l) (ticks_in-front run n) in
@@ -123,7 +123,7 @@ module _ {S C A B : Type 0} (s : LinkBox S A) (sent_line : A → List ℕ) (c : 
       (before_mark driven.items) (behind_mark driven.items)
   keeps-whole whole =
       let gives : Gives (keeping s sent_line c got_line) old new driven.items (Ok tt) =
-      subst (λ e. Gives (keeping s sent_line c got_line) old new driven.items (answer_of e)) whole
+      subst (λ e. Gives (keeping s sent_line c got_line) old new driven.items (drive_answer_of e)) whole
       driven.gives in
       (gives.moved setups [] none-yet).keeps
 

@@ -2,11 +2,11 @@
 use Rattle.line_commands.proofs.InMemory.{taken_on}
 use Rattle.line_commands.proofs.RunsGiven.{ticks_more, first_given, last_stopped}
 use Rattle.std.proofs.lemmas.List.{length-take-le}
-use Rattle.line_commands.specs.BoxLines.{BoxOrigin, State, HasTaken, DrivesBox, KeepsImages}
-use Rattle.line_commands.specs.BoxLines.{TakesSome, HandsOn, GoesOn, outputs_of, texts_in, driving}
+use Rattle.line_commands.specs.BoxLines.{BoxOrigin, State, BoxLinesHaveTaken, DrivesBox, KeepsImages}
+use Rattle.line_commands.specs.BoxLines.{TakesSome, HandsOn, BoxLinesGoOn, outputs_of, texts_in, driving}
 use Rattle.line_commands.specs.BoxLinesLaws.{images_none, drives-then}
 use Rattle.line_commands.specs.declared.box_lines.BoxLines.{BoxLines}
-use Rattle.line_texts.specs.Adding.{HasRoom}
+use Rattle.line_texts.specs.Adding.{TextHasRoom}
 use Rattle.link_box.specs.declared.box_trait.LinkBox.{Ghosts as LinkBox}
 use Rattle.sequence_journal.specs.Journal.{journal_link, journal_floor, Fits, IsCrashSafe}
 use Rattle.sequence_journal.specs.Late.{disk_journal}
@@ -42,7 +42,7 @@ module _ {B N O L D : Type 0} (b : LinkBox B N) (line_of : N → List ℕ) (o : 
       → DrivesBox b line_of old.lines origin (outputs_of o l d old) before
       → DrivesBox b line_of lines origin (outputs_of o l d next) (before ++ front)
   drives origin before stood = record {
-    took = subst (HasTaken b line_of lines origin (texts_in (outputs_of o l d old))) (more before)
+    took = subst (BoxLinesHaveTaken b line_of lines origin (texts_in (outputs_of o l d old))) (more before)
         (taken_on b line_of old.lines lines (take n (run_ticks run)) takes.front.goes origin
         (texts_in (outputs_of o l d old)) (ticks_in before) stood.took);
     link_is = ap journal_link takes.front.goes.disk ∙ stood.link_is;
@@ -73,7 +73,7 @@ module _ {B N O L D : Type 0} (b : LinkBox B N) (line_of : N → List ℕ) (o : 
         any_moment = (images_none o l d only_now old).any_moment;
       }
 
-  went : GoesOn o l d old next (Ok tt)
+  went : BoxLinesGoOn o l d old next (Ok tt)
   went = record {
     images = images;
     disk = disk_none (d.faults old.disk);
@@ -82,7 +82,7 @@ module _ {B N O L D : Type 0} (b : LinkBox B N) (line_of : N → List ℕ) (o : 
   }
 
   -- There is room for more.
-  pub taken_some : HasRoom lines.texts
+  pub taken_some : TextHasRoom lines.texts
       → GivesSome (driving b line_of o l d) old next (run_items run) (Ok n)
   taken_some room = first_given (driving b line_of o l d) old next run n takes.some
       takes.front.within drives counted (record {

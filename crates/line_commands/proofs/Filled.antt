@@ -1,9 +1,9 @@
--- Two recordings that are filled to the same length, and the texts that are made of them.
+-- Two recordings that are filled_recording to the same length, and the texts that are made of them.
 use Rattle.line_commands.specs.{KeptBox.TimedBox, KeptBox.AreTextsOf, Recording.steps_of}
-use Rattle.line_commands.specs.Recording.{filled, BothTexts, both_texts, both_lines, HoldsTexts}
+use Rattle.line_commands.specs.Recording.{filled_recording, BothTexts, both_texts, both_lines, HoldsTexts}
 use Rattle.line_commands.specs.{Recording.PrintsBoth, TimedLines.lines_before, TimedLines.AreInOrder}
 use Rattle.line_commands.specs.declared.{kept_box.KeptTexts.KeptTexts, recording.Recorded.Recorded}
-use Rattle.session_lists.specs.FrameList.{Kept, Holds}
+use Rattle.session_lists.specs.FrameList.{KeptFrames, Holds}
 use Rattle.command_ends.specs.declared.status.Status.{Status}
 use Rattle.command_ends.specs.declared.status.Status.TheVariants.{Done, WriteFault}
 use Rattle.std.proofs.Common.{◌≡◌, ◌∙◌, ◌⊎◌, inl, inr, ℕ, ◌-◌, ◌≤◌, List, [], ◌++◌}
@@ -14,9 +14,9 @@ use Rattle.yasir_io.{proofs.OutputLemmas.append_known-twice, specs.Output.GotPre
 use Rattle.yasir_ticks.specs.{CanonicalText.canonical_text, Ticks.silent}
 use Rattle.yasir_ticks.specs.declared.tick.Tick.{Tick, TheVariants.Silent}
 
--- A line that is filled to a length has this length.
+-- A line that is filled_recording to a length has this length.
 pub length-filled : (steps : ℕ) (line : List Tick) → length line ≤ steps
-    → length (filled steps line) ≡ steps
+    → length (filled_recording steps line) ≡ steps
 length-filled steps line within =
     omega (
       arith,
@@ -25,9 +25,9 @@ length-filled steps line within =
       within,
     )
 
--- A line with as many silent ticks as it lacks, by the count of its ticks, is filled.
+-- A line with as many silent ticks as it lacks, by the count of its ticks, is filled_recording.
 pub filled-by : (ticks left steps : ℕ) (line : List Tick) → ticks ≡ length line
-    → left ≡ steps - ticks → line ++ silent left ≡ filled steps line
+    → left ≡ steps - ticks → line ++ silent left ≡ filled_recording steps line
 filled-by ticks left steps line counted is =
     ap (λ n. line ++ silent n) (is ∙ ap (λ n. steps - n) counted)
 
@@ -40,27 +40,27 @@ module _ (sent got : TimedBox) (device link : List Tick) (steps : ℕ)
   link-within = omega (arith, is)
 
   pub holds-both : (a b : KeptTexts) (recorded : Recorded)
-      → AreTextsOf sent (filled steps device) a → AreTextsOf got (filled steps link) b
+      → AreTextsOf sent (filled_recording steps device) a → AreTextsOf got (filled_recording steps link) b
       → recorded.link ≡ a.text → recorded.device ≡ b.text
-      → ((x y : List (Kept ℕ)) → Holds a.notes x → Holds b.notes y → (n : ℕ)
+      → ((x y : List (KeptFrames ℕ)) → Holds a.notes x → Holds b.notes y → (n : ℕ)
       → AreInOrder 0 n x → AreInOrder 0 n y → recorded.notes.items ≡ lines_before n x y)
       → HoldsTexts recorded (both_texts sent got device link)
   holds-both a b recorded first second link_is device_is merged =
       let P : ℕ → Type 0 = λ n. recorded.notes.items ≡ lines_before n
-      (sent.note_lines (filled n device)) (got.note_lines (filled n link)) in
-      let first_order : AreInOrder 0 steps (sent.note_lines (filled steps device)) =
-      subst (λ n. AreInOrder 0 n (sent.note_lines (filled steps device)))
+      (sent.note_lines (filled_recording n device)) (got.note_lines (filled_recording n link)) in
+      let first_order : AreInOrder 0 steps (sent.note_lines (filled_recording steps device)) =
+      subst (λ n. AreInOrder 0 n (sent.note_lines (filled_recording steps device)))
       (length-filled steps device device-within) first.in_order in
-      let second_order : AreInOrder 0 steps (got.note_lines (filled steps link)) =
-      subst (λ n. AreInOrder 0 n (got.note_lines (filled steps link)))
+      let second_order : AreInOrder 0 steps (got.note_lines (filled_recording steps link)) =
+      subst (λ n. AreInOrder 0 n (got.note_lines (filled_recording steps link)))
       (length-filled steps link link-within) second.in_order in
       record {
         link = ap (λ v. v.items) link_is ∙ (first.text_is
-            ∙ ap (λ n. canonical_text (sent.other_line (filled n device))) is);
+            ∙ ap (λ n. canonical_text (sent.other_line (filled_recording n device))) is);
         device = ap (λ v. v.items) device_is ∙ (second.text_is
-            ∙ ap (λ n. canonical_text (got.other_line (filled n link))) is);
-        notes = subst P is (merged (sent.note_lines (filled steps device))
-            (got.note_lines (filled steps link)) first.notes second.notes steps first_order
+            ∙ ap (λ n. canonical_text (got.other_line (filled_recording n link))) is);
+        notes = subst P is (merged (sent.note_lines (filled_recording steps device))
+            (got.note_lines (filled_recording steps link)) first.notes second.notes steps first_order
             second_order);
       }
 

@@ -7,7 +7,7 @@ use Rattle.sequence_journal.specs.Journal.{HasFloorAtLeast, HasFloorFrom}
 use Rattle.sequence_journal.specs.{Loading.IsLoaded, Loading.KeepsLoadable, Slots.floor_of}
 use Rattle.sequence_journal.specs.declared.{journal.Journal.Journal, link.LinkId.LinkId}
 use Rattle.std.proofs.Common.{◌≡◌, ◌∙◌, ℕ, ◌⊎◌, Some, refl, sym, ap, subst, inl, inr, unwrap_or}
-use Rattle.tick_drive.specs.{Consumers.IsDiskCause, Consumers.is_journal_fault, Drive.answer_of}
+use Rattle.tick_drive.specs.{Consumers.IsDiskCause, Consumers.is_journal_fault, Drive.drive_answer_of}
 use Rattle.yasir_io.proofs.Moments.{leaves_then, leaves_weaker}
 use Rattle.yasir_io.specs.Disks.{Slots, OneImage, LeavesOnly}
 use Rattle.yasir_io.specs.declared.disk.SlotDisk.{Ghosts as SlotDisk}
@@ -88,7 +88,7 @@ module _ {D : Type 0} (d : SlotDisk D) (link : LinkId) (journal : Journal) (old 
       (since_load begun new same drive one)))
 
 pub disk_cause_of_end : (before now : ℕ) (end : End)
-    → IsDiskCause before now (is_journal_fault (answer_of end))
+    → IsDiskCause before now (is_journal_fault (drive_answer_of end))
     → DiskCause before now (status_of end)
 disk_cause_of_end before now Whole h = h.same refl
 disk_cause_of_end before now (Refused bad) h = h.same refl

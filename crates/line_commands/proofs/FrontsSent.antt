@@ -1,11 +1,11 @@
 -- What was sent whole was sent in part.
 use Rattle.line_texts.proofs.Sending.{notes_all}
-use Rattle.line_texts.specs.Sending.{LineAndNotes, SinkTexts, HasSent, HasSentFronts}
+use Rattle.line_texts.specs.Sending.{LineAndNotes, SinkTexts, TextsHaveSent, HasSentFronts}
 use Rattle.std.proofs.Common.{List, [], sym, append-nil}
 use Rattle.yasir_ticks.specs.{CanonicalText.canonical_text, declared.tick.Tick.Tick}
 
 pub fronts_of_all : (made : LineAndNotes) (before now : SinkTexts) (line : List Tick)
-    → HasSent made before now line → HasSentFronts made before now line
+    → TextsHaveSent made before now line → HasSentFronts made before now line
 fronts_of_all made before now line sent = record {
   are = sent.are;
   text = record {

@@ -2,7 +2,7 @@
 use Rattle.line_texts.specs.Sending.{LineAndNotes, AnswersNoted}
 use Rattle.line_commands.proofs.Histories.{told_twice, told_none}
 use Rattle.line_commands.proofs.Texts.{text_then, text_as, text_nil}
-use Rattle.line_commands.specs.History.{Event, History, told_then, bytes_read, read_by}
+use Rattle.line_commands.specs.History.{Event, History, told_then, bytes_read_before, read_by}
 use Rattle.line_commands.specs.History.{written, written_by, is_flushed, flushed_from, flushed_by}
 use Rattle.line_commands.specs.History.Event.{reads, writes, flushes}
 use Rattle.line_commands.specs.{LiveText.IsTextOf, Order.MayCome, Order.EachMayCome}
@@ -21,10 +21,10 @@ pub told_more : (start now next : History) (events more : List Event)
 told_more start now next events more is then =
     then ∙ (ap (λ t. told_then t more) is ∙ told_twice start events more)
 
-pub read_more : (events more : List Event) (bytes : List ℕ) → bytes_read more ≡ bytes
-    → bytes_read (events ++ more) ≡ bytes_read events ++ bytes
+pub read_more : (events more : List Event) (bytes : List ℕ) → bytes_read_before more ≡ bytes
+    → bytes_read_before (events ++ more) ≡ bytes_read_before events ++ bytes
 read_more events more bytes is =
-    flat_map-append read_by events more ∙ ap (λ l. bytes_read events ++ l) is
+    flat_map-append read_by events more ∙ ap (λ l. bytes_read_before events ++ l) is
 
 pub written_more : (to : Output) (events more : List Event) (bytes : List ℕ)
     → written to more ≡ bytes → written to (events ++ more) ≡ written to events ++ bytes
@@ -92,7 +92,7 @@ module _ (made : LineAndNotes) where
 -- ---- what follows a write that failed
 
 record IsQuiet (more : List Event) : Type 0 where
-  read : bytes_read more ≡ []
+  read : bytes_read_before more ≡ []
   out : written Out more ≡ []
   log : written Log more ≡ []
   each : (made : LineAndNotes) (line : List Tick) (front : List Event)
@@ -116,7 +116,7 @@ module _ (made : LineAndNotes) (start : History) (read : List ℕ) (line run ans
   pub record Noted (now : History) : Type 0 where
     pub events : List Event
     pub is : now ≡ told_then start events
-    pub read_is : bytes_read events ≡ read
+    pub read_is : bytes_read_before events ≡ read
     pub out : IsTextOf (written Out events) (made.other_line line)
     pub notes : written Log events ≡ made.note_lines (line ++ run)
     pub out_flushed : is_flushed Out events ≡ true
@@ -145,7 +145,7 @@ module _ (made : LineAndNotes) (start : History) (read : List ℕ) (line run ans
       record {
         events = events ++ more;
         is = told_more start now next events more handed.is then;
-        read_is = read_more events more [] refl ∙ (append-nil (bytes_read events) ∙ handed.read_is);
+        read_is = read_more events more [] refl ∙ (append-nil (bytes_read_before events) ∙ handed.read_is);
         out = text_as (written Out events) (written Out (events ++ more)) (made.other_line line)
             (made.other_line line)
             (sym (written_more Out events more [] refl ∙ append-nil (written Out events))) refl
@@ -177,7 +177,7 @@ module _ (made : LineAndNotes) (start : History) (read : List ℕ) (line run ans
         events = events ++ added;
         is = told_more start now next events added handed.is then;
         read_is = read_more events added [] quiet.read
-            ∙ (append-nil (bytes_read events) ∙ handed.read_is);
+            ∙ (append-nil (bytes_read_before events) ∙ handed.read_is);
         out_rest = text;
         text = text_as (written Out events ++ text) (written Out (events ++ added) ++ text)
             (made.other_line (line ++ run)) (made.other_line (line ++ run))
@@ -226,7 +226,7 @@ module _ (made : LineAndNotes) (start : History) (read : List ℕ) (line run ans
         events = events ++ added;
         is = told_more start now next events added noted.is then;
         read_is = read_more events added [] quiet.read
-            ∙ (append-nil (bytes_read events) ∙ noted.read_is);
+            ∙ (append-nil (bytes_read_before events) ∙ noted.read_is);
         out_rest = rest;
         text = text_as (written Out events ++ text) (written Out (events ++ added) ++ rest)
             (made.other_line (line ++ run)) (made.other_line (line ++ run))
@@ -254,7 +254,7 @@ module _ (made : LineAndNotes) (start : History) (read : List ℕ) (line run ans
       record {
         events = events ++ more;
         is = told_more start now next events more noted.is then;
-        read_is = read_more events more [] refl ∙ (append-nil (bytes_read events) ∙ noted.read_is);
+        read_is = read_more events more [] refl ∙ (append-nil (bytes_read_before events) ∙ noted.read_is);
         text = text_as (written Out events ++ text) (written Out (events ++ more))
             (made.other_line (line ++ run)) (made.other_line (line ++ run))
             (sym (written_more Out events more text (append-nil text))) refl
@@ -308,12 +308,12 @@ module _ (made : LineAndNotes) (start now next : History) (read : List ℕ)
     (handed : Handed made start now read (ticks_in (ended_items read))) where
   all_handed : HasHandedOn made handed.events
   all_handed =
-      let line : ticks_in (ended_items read) ≡ ticks_in (ended_items (bytes_read handed.events)) =
+      let line : ticks_in (ended_items read) ≡ ticks_in (ended_items (bytes_read_before handed.events)) =
       ap (λ l. ticks_in (ended_items l)) (sym handed.read_is) in
       record {
         text = text_as (written Out handed.events) (written Out handed.events)
             (made.other_line (ticks_in (ended_items read)))
-            (made.other_line (ticks_in (ended_items (bytes_read handed.events)))) refl
+            (made.other_line (ticks_in (ended_items (bytes_read_before handed.events)))) refl
             (ap made.other_line line) handed.text;
         notes = handed.notes ∙ ap made.note_lines line;
         out_flushed = handed.out_flushed;

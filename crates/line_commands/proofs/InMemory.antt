@@ -1,7 +1,7 @@
 -- What a box has taken in memory: a tick, a run, or ticks after ticks.
 use Rattle.line_commands.proofs.AnsweredRuns.{run_noted, step_noted}
 use Rattle.line_commands.proofs.Walking.{run-answers, step-answers}
-use Rattle.line_commands.specs.BoxLines.{BoxOrigin, HasTaken, IsReady, TakesOn, TakesUpTo, TakesSome}
+use Rattle.line_commands.specs.BoxLines.{BoxOrigin, BoxLinesHaveTaken, BoxLinesAreReady, BoxLinesTakeOn, BoxLinesTakeUpTo, TakesSome}
 use Rattle.line_commands.specs.BoxLines.{StandsAfter}
 use Rattle.line_commands.specs.{Boxes.AnswersBoxRun, Boxes.line_of_note, LinkBoxed.boxed_of}
 use Rattle.line_commands.specs.{Sending.made_by, declared.box_lines.BoxLines.BoxLines}
@@ -10,9 +10,9 @@ use Rattle.frame_ending.specs.Causal.{IsCausal}
 use Rattle.frame_ending.specs.declared.box_step.BoxStep.{BoxStep}
 use Rattle.line_texts.proofs.Added.{adds_nothing, adds_both, answers_both}
 use Rattle.line_texts.proofs.Sending.{sends_added}
-use Rattle.line_texts.specs.{Adding.Adds, Adding.HasLineRoom, Sending.SinkTexts, Texts.waiting_in}
+use Rattle.line_texts.specs.{Adding.TextAdds, Adding.HasLineRoom, Sending.SinkTexts, Texts.waiting_in}
 use Rattle.line_texts.specs.declared.texts.Texts.{Texts}
-use Rattle.link_box.specs.{Runs.TakesRun, Stepping.Steps}
+use Rattle.link_box.specs.{Runs.TakesRun, Stepping.BoxSteps}
 use Rattle.link_box.specs.declared.box_trait.LinkBox.{Ghosts as LinkBox}
 use Rattle.link_format.specs.Setup.{Setup}
 use Rattle.line_texts.specs.Adding.{IsShortFront}
@@ -43,8 +43,8 @@ module _ {B N : Type 0} (b : LinkBox B N) (line_of : N → List ℕ) where
       (takes : TakesRun b.walking b.stands old.line_box box run answer)
       (counts : b.taken box ≡ b.taken old.line_box + length run)
       (same : b.link_of box ≡ b.link_of old.line_box)
-      (ready : IsReady b line_of old)
-      (adds : Adds (waiting_in old.texts) (waiting_in texts) answer []) where
+      (ready : BoxLinesAreReady b line_of old)
+      (adds : TextAdds (waiting_in old.texts) (waiting_in texts) answer []) where
     abbrev ran : BoxLines B
     ran = record old { line_box = box; texts = texts }
 
@@ -57,7 +57,7 @@ module _ {B N : Type 0} (b : LinkBox B N) (line_of : N → List ℕ) where
         (causal old.line_box floor setup line stood.steps) line run answer
         (takes floor setup line stood.steps).answers
 
-    pub run_taken : TakesOn b line_of old ran run
+    pub run_taken : BoxLinesTakeOn b line_of old ran run
     run_taken = record {
       counted = counts;
       ready = record {
@@ -92,8 +92,8 @@ module _ {B N : Type 0} (b : LinkBox B N) (line_of : N → List ℕ) where
       → n ≤ length run
       → TakesRun b.walking b.stands old.line_box box (take n run) answer
       → b.taken box ≡ b.taken old.line_box + n → b.link_of box ≡ b.link_of old.line_box
-      → IsReady b line_of old → Adds (waiting_in old.texts) (waiting_in texts) answer []
-      → TakesUpTo b line_of old (record old { line_box = box; texts = texts }) run n
+      → BoxLinesAreReady b line_of old → TextAdds (waiting_in old.texts) (waiting_in texts) answer []
+      → BoxLinesTakeUpTo b line_of old (record old { line_box = box; texts = texts }) run n
   front_taken old box texts run n answer causal within takes counts same ready adds = record {
     within = within;
     goes = run_taken old box texts (take n run) answer causal takes
@@ -109,15 +109,15 @@ module _ {B N : Type 0} (b : LinkBox B N) (line_of : N → List ℕ) where
       (disk : disk_journal late ≡ disk_journal old.late)
       (counts : b.taken box ≡ b.taken old.line_box + 1)
       (same : b.link_of box ≡ b.link_of old.line_box)
-      (steps : Steps b.walking b.stands old.line_box (journal_floor old.journal) box
+      (steps : BoxSteps b.walking b.stands old.line_box (journal_floor old.journal) box
       (journal_floor journal) t step.tick step.note)
-      (ready : IsReady b line_of old)
-      (adds : Adds (waiting_in old.texts) (waiting_in texts) (step.tick ∷ [])
+      (ready : BoxLinesAreReady b line_of old)
+      (adds : TextAdds (waiting_in old.texts) (waiting_in texts) (step.tick ∷ [])
       (line_of_note line_of step.note)) where
     abbrev stepped : BoxLines B
     stepped = record { line_box = box; journal = journal; late = late; texts = texts }
 
-    pub step_taken : TakesOn b line_of old stepped (t ∷ [])
+    pub step_taken : BoxLinesTakeOn b line_of old stepped (t ∷ [])
     step_taken = record {
       counted = counts;
       ready = record {
@@ -141,9 +141,9 @@ module _ {B N : Type 0} (b : LinkBox B N) (line_of : N → List ℕ) where
     }
 
   -- What the box took is on its way to the sinks.
-  pub taken_on : (old new : BoxLines B) (run : List Tick) → TakesOn b line_of old new run
+  pub taken_on : (old new : BoxLines B) (run : List Tick) → BoxLinesTakeOn b line_of old new run
       → (origin : BoxOrigin) (held : SinkTexts) (line : List Tick)
-      → HasTaken b line_of old origin held line → HasTaken b line_of new origin held (line ++ run)
+      → BoxLinesHaveTaken b line_of old origin held line → BoxLinesHaveTaken b line_of new origin held (line ++ run)
   taken_on old new run on origin held line has =
       let adds = on.answers origin.setup line has.stood in
       record {
@@ -155,8 +155,8 @@ module _ {B N : Type 0} (b : LinkBox B N) (line_of : N → List ℕ) where
 
   -- ---- ticks after ticks
 
-  pub on_then : (x y z : BoxLines B) (first second : List Tick) → TakesOn b line_of x y first
-      → TakesOn b line_of y z second → TakesOn b line_of x z (first ++ second)
+  pub on_then : (x y z : BoxLines B) (first second : List Tick) → BoxLinesTakeOn b line_of x y first
+      → BoxLinesTakeOn b line_of y z second → BoxLinesTakeOn b line_of x z (first ++ second)
   on_then x y z first second on then = record {
     counted = omega (arith, on.counted, then.counted, length-append first second);
     ready = then.ready;
@@ -176,14 +176,14 @@ module _ {B N : Type 0} (b : LinkBox B N) (line_of : N → List ℕ) where
         };
   }
 
-  pub on_as : (x z : BoxLines B) (run same : List Tick) → run ≡ same → TakesOn b line_of x z run
-      → TakesOn b line_of x z same
-  on_as x z run same is on = subst (TakesOn b line_of x z) is on
+  pub on_as : (x z : BoxLines B) (run same : List Tick) → run ≡ same → BoxLinesTakeOn b line_of x z run
+      → BoxLinesTakeOn b line_of x z same
+  on_as x z run same is on = subst (BoxLinesTakeOn b line_of x z) is on
 
   -- A call took no tick, and then another one took the first ticks of the same run.
   pub up_then : (x y z : BoxLines B) (run : List Tick) (m n : ℕ) → m ≤ 0
-      → TakesUpTo b line_of x y run m → TakesUpTo b line_of y z run n
-      → TakesUpTo b line_of x z run n
+      → BoxLinesTakeUpTo b line_of x y run m → BoxLinesTakeUpTo b line_of y z run n
+      → BoxLinesTakeUpTo b line_of x z run n
   up_then x y z run m n none first second =
       let zero : m ≡ 0 = omega (arith, none) in
       let nothing : take m run ≡ [] = ap (λ k. take k run) zero in record {
@@ -194,8 +194,8 @@ module _ {B N : Type 0} (b : LinkBox B N) (line_of : N → List ℕ) where
 
   -- A call took no tick, and then one tick was taken.
   pub some_one : (x y z : BoxLines B) (run : List Tick) (n : ℕ) → n ≤ 0
-      → TakesUpTo b line_of x y run n → (t : Tick) (rest : List Tick) → run ≡ t ∷ rest
-      → TakesOn b line_of y z (t ∷ []) → HasLineRoom z.texts → TakesSome b line_of x z run 1
+      → BoxLinesTakeUpTo b line_of x y run n → (t : Tick) (rest : List Tick) → run ≡ t ∷ rest
+      → BoxLinesTakeOn b line_of y z (t ∷ []) → HasLineRoom z.texts → TakesSome b line_of x z run 1
   some_one x y z run n none front t rest is on room =
       let zero : n ≡ 0 = omega (arith, none) in
       let nothing : take n run ≡ [] = ap (λ k. take k run) zero in
@@ -212,7 +212,7 @@ module _ {B N : Type 0} (b : LinkBox B N) (line_of : N → List ℕ) where
 
   -- What was taken of a short front of a run was taken of the run.
   pub of_short : (x z : BoxLines B) (run front : List Tick) (n : ℕ) → IsShortFront run front
-      → TakesUpTo b line_of x z front n → TakesUpTo b line_of x z run n
+      → BoxLinesTakeUpTo b line_of x z front n → BoxLinesTakeUpTo b line_of x z run n
   of_short x z run front n short up =
       let first = front_first n (length front) run front short.front_is up.within in
       record {
@@ -227,8 +227,8 @@ module _ {B N : Type 0} (b : LinkBox B N) (line_of : N → List ℕ) where
       → (answer : List Tick) → TakesRun b.walking b.stands old.line_box box (take n run) answer
       → b.taken box ≡ b.taken old.line_box + n
       → b.link_of box ≡ b.link_of old.line_box
-      → IsReady b line_of old
-      → TakesUpTo b line_of old (record old { line_box = box }) run n
+      → BoxLinesAreReady b line_of old
+      → BoxLinesTakeUpTo b line_of old (record old { line_box = box }) run n
   none_taken old box run n none causal answer takes counts same ready =
       let no_tick : take n run ≡ [] = ap (λ k. take k run) none in
       let at_none : TakesRun b.walking b.stands old.line_box box [] [] = λ last setup line stands.

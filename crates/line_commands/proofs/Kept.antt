@@ -1,8 +1,8 @@
 -- What a box has made of a line, as more ticks come.
 use Rattle.line_commands.proofs.InMemory.{front_first}
 use Rattle.line_commands.proofs.NotesInOrder.{order-more, order-to}
-use Rattle.line_commands.specs.KeptBox.{timed_of, line_alone, KeepsLine, IsServed, IsSteady, TakesOn}
-use Rattle.line_commands.specs.KeptBox.{TakesUpTo, TakesSome, KeepsOn, KeepsSome, KeepsWaiting}
+use Rattle.line_commands.specs.KeptBox.{timed_of, line_alone, KeepsLine, IsServed, IsSteady, KeptTakesOn}
+use Rattle.line_commands.specs.KeptBox.{KeptTakesUpTo, TakesSome, KeepsOn, KeepsSome, KeepsWaiting}
 use Rattle.line_commands.specs.KeptBox.{ticks_kept}
 use Rattle.line_commands.specs.{MemoryText.text_bytes, TimedLines.timed_lines, TimedLines.AreInOrder}
 use Rattle.line_commands.specs.declared.{kept_box.KeptBox.KeptBox, memory_text.MemoryText.MemoryText}
@@ -10,12 +10,12 @@ use Rattle.frame_ending.{proofs.BurstRuns.run-none, specs.Answers.told_notes}
 use Rattle.frame_ending.specs.Answers.{note_in}
 use Rattle.frame_ending.specs.{Walk.Walker, Walk.Noted, Walk.notes_of, Walk.line_of}
 use Rattle.line_texts.proofs.{Added.adds_nothing, Sending.begins, Sending.sends_added}
-use Rattle.line_texts.specs.{Adding.Adds, Sending.LineAndNotes, Sending.AnswersNoted}
+use Rattle.line_texts.specs.{Adding.TextAdds, Sending.LineAndNotes, Sending.AnswersNoted}
 use Rattle.line_texts.specs.Sending.{SinkTexts, sink_texts, SendsTexts}
-use Rattle.line_texts.specs.{Texts.waiting_in, Writer.HasWritten, declared.texts.Texts.Texts}
-use Rattle.link_box.specs.{Runs.TakesRun, Stepping.Steps, Walking.full_notes}
+use Rattle.line_texts.specs.{Texts.waiting_in, Writer.WriterHasWritten, declared.texts.Texts.Texts}
+use Rattle.link_box.specs.{Runs.TakesRun, Stepping.BoxSteps, Walking.full_notes}
 use Rattle.link_box.specs.declared.box_trait.LinkBox.{Ghosts as LinkBox}
-use Rattle.{link_format.specs.Setup.Setup, session_lists.specs.FrameList.Kept}
+use Rattle.{link_format.specs.Setup.Setup, session_lists.specs.FrameList.KeptFrames}
 use Rattle.{session_lists.specs.FrameList.Holds, sequence_journal.specs.Journal.journal_floor}
 use Rattle.std.proofs.Common.{◌≡◌, ◌∙◌, ℕ, ◌+◌, ◌-◌, ◌≤◌, List, [], ◌∷◌, ◌++◌, length}
 use Rattle.std.proofs.Common.{take, Option, Some, None, refl, ap, sym, subst, arith}
@@ -45,7 +45,7 @@ text-of bytes text is = cc
 -- ---- what one call adds
 
 module _ {B N : Type 0} (b : LinkBox B N) (line_of : N → List ℕ) where
-  abbrev lines : Setup → List Tick → List (Kept ℕ)
+  abbrev lines : Setup → List Tick → List (KeptFrames ℕ)
   lines setup line = (timed_of b.walking line_of setup).note_lines line
 
   abbrev begun-texts : SinkTexts
@@ -55,7 +55,7 @@ module _ {B N : Type 0} (b : LinkBox B N) (line_of : N → List ℕ) where
   texts_in value = sink_texts (Some (text_bytes value.text)) (Some (text_bytes value.log))
 
   -- With the line of a step's note, if it has one, the lines are in order up to the next tick.
-  order-step : (m : ℕ) (before : List (Kept ℕ)) (note : Option N) → AreInOrder 0 m before
+  order-step : (m : ℕ) (before : List (KeptFrames ℕ)) (note : Option N) → AreInOrder 0 m before
       → AreInOrder 0 (m + 1) (before ++ timed_lines line_of (note_in m note))
   order-step m before None order =
       subst (AreInOrder 0 (m + 1)) (sym (append-nil before))
@@ -63,7 +63,7 @@ module _ {B N : Type 0} (b : LinkBox B N) (line_of : N → List ℕ) where
   order-step m before (Some note) order = order-more 0 m before _ order refl
 
   module _ (old new : KeptBox B) (answer : List Tick)
-      (adds : Adds (waiting_in old.texts) (waiting_in new.texts) answer [])
+      (adds : TextAdds (waiting_in old.texts) (waiting_in new.texts) answer [])
       (held : texts_in new ≡ texts_in old) where
     -- The ticks that a box returned for a run are on their way.
     sent-on : (made : LineAndNotes) (line run : List Tick) → AnswersNoted made line run answer []
@@ -101,9 +101,9 @@ module _ {B N : Type 0} (b : LinkBox B N) (line_of : N → List ℕ) where
 
     -- The box takes a tick, and the line of its step's note, if it has one, is kept.
     pub keeps-step : (t tick : Tick) (note : Option N) → answer ≡ tick ∷ []
-        → Steps b.walking b.stands old.line_box (journal_floor old.journal) new.line_box
+        → BoxSteps b.walking b.stands old.line_box (journal_floor old.journal) new.line_box
         (journal_floor new.journal) t tick note
-        → ((kept : List (Kept ℕ)) → Holds old.notes kept
+        → ((kept : List (KeptFrames ℕ)) → Holds old.notes kept
         → Holds new.notes (kept ++ timed_lines line_of (note_in (ticks_kept old) note)))
         → ticks_kept new ≡ ticks_kept old + 1
         → (setup : Setup) (line : List Tick) → KeepsLine b line_of old setup line
@@ -139,8 +139,8 @@ module _ {B N : Type 0} (b : LinkBox B N) (line_of : N → List ℕ) where
       → TakesRun b.walking b.stands old.line_box box (take n run) answer
       → ticks ≡ ticks_kept old + n → b.taken box ≡ b.taken old.line_box + n
       → b.link_of box ≡ b.link_of old.line_box → IsServed b line_of old
-      → Adds (waiting_in old.texts) (waiting_in texts) answer []
-      → TakesUpTo b line_of old (record old { line_box = box; texts = texts; ticks = ticks }) run n
+      → TextAdds (waiting_in old.texts) (waiting_in texts) answer []
+      → KeptTakesUpTo b line_of old (record old { line_box = box; texts = texts; ticks = ticks }) run n
   run-kept old box texts ticks run n answer within takes counts taken link served adds =
       let size : length (take n run) ≡ n = length-take-le n run within in
       let new = record old { line_box = box; texts = texts; ticks = ticks } in
@@ -174,7 +174,7 @@ module _ {B N : Type 0} (b : LinkBox B N) (line_of : N → List ℕ) where
       → (answer : List Tick)
       → TakesRun b.walking b.stands old.line_box box (take n run) answer
       → b.taken box ≡ b.taken old.line_box + n → b.link_of box ≡ b.link_of old.line_box
-      → IsServed b line_of old → TakesUpTo b line_of old (record old { line_box = box }) run n
+      → IsServed b line_of old → KeptTakesUpTo b line_of old (record old { line_box = box }) run n
   none-kept old box run n none answer takes taken link served =
       let no_tick : take n run ≡ [] = ap (λ k. take k run) none in
       run-kept old box old.texts old.ticks run n [] (omega (arith, none))
@@ -184,12 +184,12 @@ module _ {B N : Type 0} (b : LinkBox B N) (line_of : N → List ℕ) where
 
   -- What waited went to the memory.
   pub handed-on : (old mid : KeptBox B) (texts : Texts) (text log : MemoryText) (run : List Tick)
-      (n : ℕ) → TakesUpTo b line_of old mid run n
+      (n : ℕ) → KeptTakesUpTo b line_of old mid run n
       → ((made : LineAndNotes) (line : List Tick)
       → SendsTexts made (waiting_in mid.texts) begun-texts (texts_in mid) line
       → SendsTexts made (waiting_in texts) begun-texts
       (sink_texts (Some (text_bytes text)) (Some (text_bytes log))) line)
-      → TakesUpTo b line_of old (record mid { texts = texts; text = text; log = log }) run n
+      → KeptTakesUpTo b line_of old (record mid { texts = texts; text = text; log = log }) run n
   handed-on old mid texts text log run n up on = record {
     within = up.within;
     goes = record {
@@ -213,7 +213,7 @@ module _ {B N : Type 0} (b : LinkBox B N) (line_of : N → List ℕ) where
 
   -- ---- ticks after ticks
 
-  on-nothing : (value : KeptBox B) → IsServed b line_of value → TakesOn b line_of value value []
+  on-nothing : (value : KeptBox B) → IsServed b line_of value → KeptTakesOn b line_of value value []
   on-nothing value served = record {
     counted = omega arith;
     served = served;
@@ -221,8 +221,8 @@ module _ {B N : Type 0} (b : LinkBox B N) (line_of : N → List ℕ) where
         subst (KeepsLine b line_of value setup) (sym (append-nil line)) keeps;
   }
 
-  on-then : (x y z : KeptBox B) (first second : List Tick) → TakesOn b line_of x y first
-      → TakesOn b line_of y z second → TakesOn b line_of x z (first ++ second)
+  on-then : (x y z : KeptBox B) (first second : List Tick) → KeptTakesOn b line_of x y first
+      → KeptTakesOn b line_of y z second → KeptTakesOn b line_of x z (first ++ second)
   on-then x y z first second on then = record {
     counted = omega (arith, on.counted, then.counted, length-append first second);
     served = then.served;
@@ -231,14 +231,14 @@ module _ {B N : Type 0} (b : LinkBox B N) (line_of : N → List ℕ) where
         (then.keeps setup (line ++ first) (on.keeps setup line keeps));
   }
 
-  on-as : (x z : KeptBox B) (run same : List Tick) → run ≡ same → TakesOn b line_of x z run
-      → TakesOn b line_of x z same
-  on-as x z run same is on = subst (TakesOn b line_of x z) is on
+  on-as : (x z : KeptBox B) (run same : List Tick) → run ≡ same → KeptTakesOn b line_of x z run
+      → KeptTakesOn b line_of x z same
+  on-as x z run same is on = subst (KeptTakesOn b line_of x z) is on
 
   -- The first call took no tick, and the second one took a front of the run.
   pub up-again : (x y z : KeptBox B) (run : List Tick) (none n : ℕ) → none ≤ 0
-      → TakesUpTo b line_of x y run none → TakesUpTo b line_of y z run n
-      → TakesUpTo b line_of x z run n
+      → KeptTakesUpTo b line_of x y run none → KeptTakesUpTo b line_of y z run n
+      → KeptTakesUpTo b line_of x z run n
   up-again x y z run none n few front then =
       let zero : none ≡ 0 = omega (arith, few) in
       let nothing : take none run ≡ [] = ap (λ k. take k run) zero in
@@ -250,8 +250,8 @@ module _ {B N : Type 0} (b : LinkBox B N) (line_of : N → List ℕ) where
 
   -- What was taken of a short front of a run was taken of the run.
   pub up-to-front : (x z : KeptBox B) (run front : List Tick) (n : ℕ)
-      → front ≡ take (length front) run → TakesUpTo b line_of x z front n
-      → TakesUpTo b line_of x z run n
+      → front ≡ take (length front) run → KeptTakesUpTo b line_of x z front n
+      → KeptTakesUpTo b line_of x z run n
   up-to-front x z run front n is up =
       let first = front_first n (length front) run front is up.within in
       record {
@@ -261,8 +261,8 @@ module _ {B N : Type 0} (b : LinkBox B N) (line_of : N → List ℕ) where
 
   -- A call took no tick, and then one tick was taken.
   pub some-one : (x y z : KeptBox B) (run : List Tick) (n : ℕ) → n ≤ 0
-      → TakesUpTo b line_of x y run n → (t : Tick) (rest : List Tick) → run ≡ t ∷ rest
-      → TakesOn b line_of y z (t ∷ []) → TakesSome b line_of x z run 1
+      → KeptTakesUpTo b line_of x y run n → (t : Tick) (rest : List Tick) → run ≡ t ∷ rest
+      → KeptTakesOn b line_of y z (t ∷ []) → TakesSome b line_of x z run 1
   some-one x y z run n none front t rest is on =
       let zero : n ≡ 0 = omega (arith, none) in
       let nothing : take n run ≡ [] = ap (λ k. take k run) zero in
@@ -317,7 +317,7 @@ module _ {B N : Type 0} (b : LinkBox B N) (line_of : N → List ℕ) where
 
   pub keeps-none : (value : KeptBox B) (setup : Setup)
       → b.stands value.line_box (journal_floor value.journal) setup []
-      → ticks_kept value ≡ 0 → HasWritten value.texts.writer [] []
+      → ticks_kept value ≡ 0 → WriterHasWritten value.texts.writer [] []
       → value.texts.ticks.items ≡ [] → waiting_bytes value.texts.notes ≡ []
       → text_bytes value.text ≡ [] → text_bytes value.log ≡ [] → Holds value.notes []
       → KeepsLine b line_of value setup []

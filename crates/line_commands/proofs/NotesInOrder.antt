@@ -3,45 +3,45 @@ use Rattle.std.proofs.Common.{◌≡◌, ◌∙◌, ◌⊎◌, ℕ, zero, suc, �
 use Rattle.std.proofs.Common.{eqb, true, false, length, get_or, drop, refl, sym, ap, subst, arith}
 use Rattle.std.proofs.Common.{append_assoc, append-nil, add-one, drop-cons}
 use Rattle.std.proofs.lemmas.Bool.{ne_eqb, eq-eqb, cases_lt}
-use Rattle.session_lists.specs.FrameList.{Kept}
+use Rattle.session_lists.specs.FrameList.{KeptFrames}
 use Rattle.line_commands.specs.TimedLines.{lines_at, lines_before, AreInOrder}
-use Rattle.line_commands.specs.NoteOrder.{ComesFirst, ComesBefore, MergedTo}
+use Rattle.line_commands.specs.NoteOrder.{NoteComesFirst, ComesBefore, MergedTo}
 
 -- ---- lines in order
 
-order-end : (from to : ℕ) (lines : List (Kept ℕ)) → AreInOrder from to lines → from ≤ to
+order-end : (from to : ℕ) (lines : List (KeptFrames ℕ)) → AreInOrder from to lines → from ≤ to
 order-end from to [] order = order
 order-end from to (k ∷ lines) order =
     omega (arith, order.0, order-end (k.head + 1) to lines order.1)
 
-order-from : (from m to : ℕ) (lines : List (Kept ℕ)) → m ≤ from → AreInOrder from to lines
+order-from : (from m to : ℕ) (lines : List (KeptFrames ℕ)) → m ≤ from → AreInOrder from to lines
     → AreInOrder m to lines
 order-from from m to [] below order = omega (arith, below, order)
 order-from from m to (k ∷ lines) below order = (omega (arith, below, order.0), order.1)
 
 -- Lines in order stay in order with one more line at their end, of the step of tick `to`.
-pub order-more : (from to : ℕ) (lines : List (Kept ℕ)) (k : Kept ℕ) → AreInOrder from to lines
+pub order-more : (from to : ℕ) (lines : List (KeptFrames ℕ)) (k : KeptFrames ℕ) → AreInOrder from to lines
     → k.head ≡ to → AreInOrder from (to + 1) (lines ++ k ∷ [])
 order-more from to [] k order is = (omega (arith, order, is), omega (arith, is))
 order-more from to (l ∷ lines) k order is =
     (order.0, order-more (l.head + 1) to lines k order.1 is)
 
 -- Lines that are in order up to a tick are in order up to a later tick.
-pub order-to : (from to m : ℕ) (lines : List (Kept ℕ)) → AreInOrder from to lines → to ≤ m
+pub order-to : (from to m : ℕ) (lines : List (KeptFrames ℕ)) → AreInOrder from to lines → to ≤ m
     → AreInOrder from m lines
 order-to from to m [] order later = omega (arith, order, later)
 order-to from to m (k ∷ lines) order later = (order.0, order-to (k.head + 1) to m lines order.1 later)
 
 -- ---- no lines in earlier steps
 
-none-at : (n from to : ℕ) (lines : List (Kept ℕ)) → AreInOrder from to lines → n < from
+none-at : (n from to : ℕ) (lines : List (KeptFrames ℕ)) → AreInOrder from to lines → n < from
     → lines_at n lines ≡ []
 none-at n from to [] order below = refl
 none-at n from to (k ∷ lines) order below =
     let differ : eqb k.head n ≡ false = ne_eqb k.head n (λ same. omega (arith, same, below, order.0)) in
     rw differ (none-at n (k.head + 1) to lines order.1 (omega (arith, below, order.0)))
 
-none-before : (n from to until : ℕ) (a b : List (Kept ℕ)) → AreInOrder from to a
+none-before : (n from to until : ℕ) (a b : List (KeptFrames ℕ)) → AreInOrder from to a
     → AreInOrder from until b → n ≤ from → lines_before n a b ≡ []
 none-before zero from to until a b first second below = refl
 none-before (suc n) from to until a b first second below =
@@ -51,13 +51,13 @@ none-before (suc n) from to until a b first second below =
       none-at n from until b second (omega (arith, below)),
     ) refl
 
-at-this : (n : ℕ) (k : Kept ℕ) (lines : List (Kept ℕ)) → k.head ≡ n
+at-this : (n : ℕ) (k : KeptFrames ℕ) (lines : List (KeptFrames ℕ)) → k.head ≡ n
     → lines_at n (k ∷ lines) ≡ k.frame ++ lines_at n lines
 at-this n k lines is =
     let same : eqb k.head n ≡ true = eq-eqb k.head n is in
     rw same refl
 
-at-other : (n : ℕ) (k : Kept ℕ) (lines : List (Kept ℕ)) → (k.head ≡ n → ⊥)
+at-other : (n : ℕ) (k : KeptFrames ℕ) (lines : List (KeptFrames ℕ)) → (k.head ≡ n → ⊥)
     → lines_at n (k ∷ lines) ≡ lines_at n lines
 at-other n k lines differ =
     let other : eqb k.head n ≡ false = ne_eqb k.head n differ in
@@ -75,7 +75,7 @@ cases-last h n below = elim (cases_lt h n) [
 front-of : (x p q r : List ℕ) → (x ++ p) ++ (q ++ r) ≡ x ++ (p ++ (q ++ r))
 front-of x p q r = append_assoc x p (q ++ r)
 
-first-out : (n to until : ℕ) (k : Kept ℕ) (a b : List (Kept ℕ)) → AreInOrder (k.head + 1) to a
+first-out : (n to until : ℕ) (k : KeptFrames ℕ) (a b : List (KeptFrames ℕ)) → AreInOrder (k.head + 1) to a
     → AreInOrder k.head until b → k.head < n
     → lines_before n (k ∷ a) b ≡ k.frame ++ lines_before n a b
 first-out zero to until k a b first second below = absurd (omega (arith, below))
@@ -92,7 +92,7 @@ first-out (suc n) to until k a b first second below = elim (cases-last k.head n 
   ) (append_assoc k.frame (lines_at n a) (lines_at n b))
 ]
 
-second-out : (n to until : ℕ) (a : List (Kept ℕ)) (k : Kept ℕ) (b : List (Kept ℕ))
+second-out : (n to until : ℕ) (a : List (KeptFrames ℕ)) (k : KeptFrames ℕ) (b : List (KeptFrames ℕ))
     → AreInOrder (k.head + 1) to a → AreInOrder (k.head + 1) until b → k.head < n
     → lines_before n a (k ∷ b) ≡ k.frame ++ lines_before n a b
 second-out zero to until a k b first second below = absurd (omega (arith, below))
@@ -119,39 +119,39 @@ none-left n = none-before n n n n [] [] (omega arith) (omega arith) (omega arith
 -- ---- the places
 
 -- the line at a place, and those after it
-next-at : (lines : List (Kept ℕ)) (i : ℕ) (d : Kept ℕ) → i < length lines
+next-at : (lines : List (KeptFrames ℕ)) (i : ℕ) (d : KeptFrames ℕ) → i < length lines
     → drop i lines ≡ get_or lines i d ∷ drop (i + 1) lines
 next-at lines i d within = drop-cons lines i d within
     ∙ ap (λ m. get_or lines i d ∷ drop m lines) (sym (add-one i))
 
-none-from : (lines : List (Kept ℕ)) (i : ℕ) → length lines ≤ i → drop i lines ≡ []
+none-from : (lines : List (KeptFrames ℕ)) (i : ℕ) → length lines ≤ i → drop i lines ≡ []
 none-from [] zero past = refl
 none-from [] (suc i) past = refl
 none-from (k ∷ lines) zero past = absurd (omega (arith, past))
 none-from (k ∷ lines) (suc i) past = none-from lines i (omega (arith, past))
 
-order-first : (n : ℕ) (k : Kept ℕ) (a b : List (Kept ℕ)) → ComesFirst (k ∷ a) b
+order-first : (n : ℕ) (k : KeptFrames ℕ) (a b : List (KeptFrames ℕ)) → NoteComesFirst (k ∷ a) b
     → AreInOrder 0 n (k ∷ a) → AreInOrder 0 n b → AreInOrder k.head n b
 order-first n k a [] first order other =
     omega (arith, order-end (k.head + 1) n a order.1)
 order-first n k a (m ∷ b) first order other = (first, other.1)
 
-order-before : (n : ℕ) (k : Kept ℕ) (b a : List (Kept ℕ)) → ComesBefore (k ∷ b) a
+order-before : (n : ℕ) (k : KeptFrames ℕ) (b a : List (KeptFrames ℕ)) → ComesBefore (k ∷ b) a
     → AreInOrder 0 n (k ∷ b) → AreInOrder 0 n a → AreInOrder (k.head + 1) n a
 order-before n k b [] before order other = order-end (k.head + 1) n b order.1
 order-before n k b (m ∷ a) before order other = (omega (arith, before), other.1)
 
-module _ (n : ℕ) (a b : List (Kept ℕ)) (text : List ℕ) (i j : ℕ) (d : Kept ℕ)
+module _ (n : ℕ) (a b : List (KeptFrames ℕ)) (text : List ℕ) (i j : ℕ) (d : KeptFrames ℕ)
     (before : MergedTo n a b text i j) where
-  pub one-first : i < length a → ComesFirst (drop i a) (drop j b)
+  pub one-first : i < length a → NoteComesFirst (drop i a) (drop j b)
       → MergedTo n a b (text ++ (get_or a i d).frame) (i + 1) j
   one-first within comes =
-      let k : Kept ℕ = get_or a i d in
-      let rest : List (Kept ℕ) = drop (i + 1) a in
+      let k : KeptFrames ℕ = get_or a i d in
+      let rest : List (KeptFrames ℕ) = drop (i + 1) a in
       let next : drop i a ≡ k ∷ rest = next-at a i d within in
       let order : AreInOrder 0 n (k ∷ rest) = subst (AreInOrder 0 n) next before.first_in_order in
-      let comes_so : ComesFirst (k ∷ rest) (drop j b) =
-      subst (λ l. ComesFirst l (drop j b)) next comes in
+      let comes_so : NoteComesFirst (k ∷ rest) (drop j b) =
+      subst (λ l. NoteComesFirst l (drop j b)) next comes in
       let other : AreInOrder k.head n (drop j b) =
       order-first n k rest (drop j b) comes_so order before.second_in_order in
       let below : k.head < n = omega (arith, order-end (k.head + 1) n rest order.1) in
@@ -167,8 +167,8 @@ module _ (n : ℕ) (a b : List (Kept ℕ)) (text : List ℕ) (i j : ℕ) (d : Ke
   pub one-second : j < length b → ComesBefore (drop j b) (drop i a)
       → MergedTo n a b (text ++ (get_or b j d).frame) i (j + 1)
   one-second within comes =
-      let k : Kept ℕ = get_or b j d in
-      let rest : List (Kept ℕ) = drop (j + 1) b in
+      let k : KeptFrames ℕ = get_or b j d in
+      let rest : List (KeptFrames ℕ) = drop (j + 1) b in
       let next : drop j b ≡ k ∷ rest = next-at b j d within in
       let order : AreInOrder 0 n (k ∷ rest) = subst (AreInOrder 0 n) next before.second_in_order in
       let comes_so : ComesBefore (k ∷ rest) (drop i a) =
@@ -187,7 +187,7 @@ module _ (n : ℕ) (a b : List (Kept ℕ)) (text : List ℕ) (i j : ℕ) (d : Ke
 
 -- ---- the end
 
-pub all-merged : (n : ℕ) (a b : List (Kept ℕ)) (text : List ℕ) (i j : ℕ) → length a ≤ i
+pub all-merged : (n : ℕ) (a b : List (KeptFrames ℕ)) (text : List ℕ) (i j : ℕ) → length a ≤ i
     → length b ≤ j → MergedTo n a b text i j → text ≡ lines_before n a b
 all-merged n a b text i j first second merged =
     let none : lines_before n (drop i a) (drop j b) ≡ [] =
@@ -197,15 +197,15 @@ all-merged n a b text i j first second merged =
 
 -- ---- which one comes first
 
-module _ (a b : List (Kept ℕ)) (i j : ℕ) (d : Kept ℕ) where
+module _ (a b : List (KeptFrames ℕ)) (i j : ℕ) (d : KeptFrames ℕ) where
   pub second-alone : length a ≤ i → j < length b → ComesBefore (drop j b) (drop i a)
   second-alone none some = rw (none-from a i none, next-at b j d some) tt
 
-  pub first-alone : i < length a → length b ≤ j → ComesFirst (drop i a) (drop j b)
+  pub first-alone : i < length a → length b ≤ j → NoteComesFirst (drop i a) (drop j b)
   first-alone some none = rw (next-at a i d some, none-from b j none) tt
 
   pub first-earlier : i < length a → j < length b → (get_or a i d).head ≤ (get_or b j d).head
-      → ComesFirst (drop i a) (drop j b)
+      → NoteComesFirst (drop i a) (drop j b)
   first-earlier first second earlier = rw (next-at a i d first, next-at b j d second) earlier
 
   pub second-earlier : i < length a → j < length b → (get_or b j d).head < (get_or a i d).head

@@ -15,7 +15,7 @@ use Rattle.std.proofs.Common.{OnOk}
 use Rattle.std.proofs.Common.{refl, sym, ap, subst, append-nil, arith}
 use Rattle.std.proofs.lemmas.List.{take-append-drop}
 use Rattle.{std.specs.Prelude.IfSome, tick_drive.specs.declared.consumer.Stop.Stop}
-use Rattle.tick_drive.specs.{Drive.Drives, Drive.answer_of}
+use Rattle.tick_drive.specs.{Drive.Drives, Drive.drive_answer_of}
 use Rattle.tick_drive.specs.Consumers.{IsSinkCause, is_write_fault}
 use Rattle.yasir_io.specs.Disks.{Slots, OneImage, LeavesOnly}
 use Rattle.yasir_io.specs.declared.{disk.SlotDisk.Ghosts as SlotDisk, sink.Sink.Ghosts as Sink}
@@ -28,9 +28,9 @@ use Rattle.tick_drive.specs.declared.consumer.Stop.TheVariants as stops
 use Rattle.line_commands.proofs.Floors.{told_before, keeps_floor, keeps_from_load, keeps_throughout}
 use Rattle.line_commands.{proofs.Walking.walk-boxed, specs.BoxLines.BoxOrigin, specs.BoxLines.Outputs}
 use Rattle.line_commands.specs.BoxLines.{ToldFloor, DrivesBox, State}
-use Rattle.line_commands.specs.BoxLines.{StopsBox, HasFinished, KeepsImages, MayDrive, GoesOn}
+use Rattle.line_commands.specs.BoxLines.{StopsBox, HasFinished, KeepsImages, MayDrive, BoxLinesGoOn}
 use Rattle.line_commands.specs.{BoxLines.outputs_of, BoxLinesLaws.drives-then}
-use Rattle.line_commands.specs.{BoxLines.driving, BoxLines.state_of, BoxLinesLaws.floor_from_less}
+use Rattle.line_commands.specs.{BoxLines.driving, BoxLines.state_of_lines, BoxLinesLaws.floor_from_less}
 use Rattle.line_commands.specs.{Boxes.Boxed, Boxes.IsBoxed, LinkBoxed.boxed_of}
 use Rattle.line_commands.specs.ReplaysBox.{Around, around, KeepsFloor, KeepsFloorFromLoad}
 use Rattle.line_commands.specs.ReplaysBox.{LeavesUptime, KeepsFloorThroughout, boxed_with, texts_of}
@@ -39,7 +39,7 @@ use Rattle.line_commands.specs.OverInput.{has_stopped, OfFront, MakesAll, MakesF
 use Rattle.line_commands.proofs.OverInput.{answer_ok, front-take, all_driven, stop_driven}
 use Rattle.line_commands.proofs.OverInput.{front_of_all, ends_over}
 use Rattle.line_commands.proofs.FrontsSent.{fronts_of_all}
-use Rattle.line_commands.specs.Sending.{made_by, HasSentFronts}
+use Rattle.line_commands.specs.Sending.{made_by, CommandHasSentFronts}
 use Rattle.line_commands.specs.declared.box_lines.BoxLines.{BoxLines}
 use Rattle.line_texts.specs.{Sending.SinkTexts, Sending.sink_texts}
 use Rattle.command_ends.specs.{Causes.InputCause, Causes.SinkCause, Endings.status_of}
@@ -73,7 +73,7 @@ number-take box floor line p laws =
 -- The whole lines that `out` got have no more ticks than the line, since a box makes as many ticks
 -- as it takes.
 few_in_lines : (box : Boxed) (floor : ℕ) (line : List Tick) (before now : SinkTexts)
-    → IsBoxed box floor → (sent : HasSentFronts box before now line)
+    → IsBoxed box floor → (sent : CommandHasSentFronts box before now line)
     → length (ticks_in (ended_items sent.text.front)) ≤ length line
 few_in_lines box floor line before now laws sent =
     let begins = whole_lines-begin (box.other_line line) sent.text.front sent.text.rest
@@ -95,7 +95,7 @@ not_whole (Stopped stop) stopped is = cc
 
 pub sink_cause_of_stop : (out_before out_now log_before log_now : ℕ) (end : End)
     → has_stopped end ≡ true
-    → IsSinkCause out_before out_now log_before log_now (is_write_fault (answer_of end))
+    → IsSinkCause out_before out_now log_before log_now (is_write_fault (drive_answer_of end))
     → SinkCause out_before out_now log_before log_now (status_of end)
 sink_cause_of_stop out_before out_now log_before log_now Whole stopped h = cc
 sink_cause_of_stop out_before out_now log_before log_now (Refused bad) stopped h = cc
@@ -131,10 +131,10 @@ setup_in drive = setup_of drive.key drive.dir (journal_floor drive.journal)
 
 -- what was driven, as it was when the drive began, and at the end
 abbrev pub begun_state : {B S O L D : Type 0} → BoxDrive B S O L D → State B O L D
-begun_state drive = state_of drive.old drive.before.out drive.before.log drive.loaded
+begun_state drive = state_of_lines drive.old drive.before.out drive.before.log drive.loaded
 
 abbrev pub last_state : {B S O L D : Type 0} → BoxDrive B S O L D → State B O L D
-last_state drive = state_of drive.last drive.ended.out drive.ended.log drive.ended.disk
+last_state drive = state_of_lines drive.last drive.ended.out drive.ended.log drive.ended.disk
 
 module _ {B N S O L D : Type 0} (b : LinkBox B N) (line_of : N → List ℕ) (s : Source S)
     (o : Sink O) (l : Sink L) (d : SlotDisk D) (drive : BoxDrive B S O L D) where
@@ -206,9 +206,9 @@ module _ {B N O L D : Type 0} (b : LinkBox B N) (line_of : N → List ℕ) (o : 
 
   -- what the drive did, and then the calls after it
   pub went_then : (last : State B O L D) (result : Result (Unit {0}) Stop)
-      → GoesOn o l d state last result → GoesOn o l d begun last result
+      → BoxLinesGoOn o l d state last result → BoxLinesGoOn o l d begun last result
   went_then last result went = drives-then b line_of o l d begun state last result
-      (subst (λ r. GoesOn o l d begun state r) (answer_ok end other) driven.gives.went) went
+      (subst (λ r. BoxLinesGoOn o l d begun state r) (answer_ok end other) driven.gives.went) went
 
 -- A box was driven, and was stopped, or finished.
 module _ {B N S O L D : Type 0} (b : LinkBox B N) (line_of : N → List ℕ) (s : Source S)
@@ -297,7 +297,7 @@ module _ {B N S O L D : Type 0} (b : LinkBox B N) (line_of : N → List ℕ) (s 
         }
 
     -- The sinks have got fronts of what the box makes of this line.
-    fronts : (line : List Tick) → HasSentFronts box texts (texts_of o l after) line
+    fronts : (line : List Tick) → CommandHasSentFronts box texts (texts_of o l after) line
         → late_link drive.last.late ≡ drive.link → box.number line ≤ disk_floor drive.last.late
         → SendsFronts s o l d drive.link boxes drive.before after (journal_floor drive.journal) line
     fronts line sent served within = record {

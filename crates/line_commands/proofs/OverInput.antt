@@ -14,7 +14,7 @@ use Rattle.std.proofs.Math.Seq.{take-append_seam, take-length}
 use Rattle.std.proofs.lemmas.List.{take-append-drop}
 use Rattle.tick_drive.proofs.ItemLaws.{ticks_in-append}
 use Rattle.tick_drive.specs.Consumers.{Consuming, Gives}
-use Rattle.tick_drive.specs.{Drive.Drives, Drive.answer_of, Input.Takes}
+use Rattle.tick_drive.specs.{Drive.Drives, Drive.drive_answer_of, Input.Takes}
 use Rattle.tick_drive.specs.declared.consumer.Stop.{Stop}
 use Rattle.tick_drive.specs.declared.consumer.Stop.TheVariants as stops
 use Rattle.tick_drive.specs.declared.end.End.{End}
@@ -33,7 +33,7 @@ ticks_in-cut items front rest is = ap ticks_in is ∙ ticks_in-append front rest
 
 -- ---- a drive that wasn't stopped
 
-pub answer_ok : (end : End) → has_stopped end ≡ false → answer_of end ≡ Ok tt
+pub answer_ok : (end : End) → has_stopped end ≡ false → drive_answer_of end ≡ Ok tt
 answer_ok Whole other = refl
 answer_ok (Refused bad) other = refl
 answer_ok (ends.TooLong what count) other = refl
@@ -56,7 +56,7 @@ ends_as (Stopped stop) = refl
 
 -- If the end is no stop, all items were taken.
 pub gave_all : {C : Type 0} (meaning : Consuming C) (old new : C) (items : List Item) (end : End)
-    → has_stopped end ≡ false → Gives meaning old new items (answer_of end)
+    → has_stopped end ≡ false → Gives meaning old new items (drive_answer_of end)
     → Gives meaning old new items (Ok tt)
 gave_all meaning old new items end other given =
     subst (Gives meaning old new items) (answer_ok end other) given

@@ -5,7 +5,7 @@ use Rattle.line_commands.proofs.BehindReads.{refused_behind, fault_behind, text_
 use Rattle.line_commands.proofs.BehindReads.{text_front}
 use Rattle.line_commands.proofs.BehindReads.{end_behind, begins_behind}
 use Rattle.line_commands.specs.Counted.{capped}
-use Rattle.line_commands.specs.Lines.{AreWholeLines, HasRead, ReadsLine, RefusesByte, RefusesText, lent}
+use Rattle.line_commands.specs.Lines.{AreWholeLines, HasRead, ReadsLine, RefusesByte, RefusesText, lent_lines}
 use Rattle.line_commands.specs.{Lines.EndsNoLine, declared.lines.LineReader.LineReader}
 use Rattle.std.proofs.Common.{◌≡◌, ◌≢◌, ◌∙◌, ℕ, ◌+◌, ◌-◌, ◌<◌, ◌≤◌, List, [], ◌∷◌, ◌++◌, length}
 use Rattle.std.proofs.Common.{take, get_or, true, false, refl, ap, sym, subst, arith, append-nil}
@@ -127,7 +127,7 @@ module _ (old : LineReader) (text bytes : List ℕ) (has : HasRead old text) (ta
       → new.line ≡ old.line → old.ended ≡ false
       → (new.ended ≡ true → get_or bytes (taken - 1) 0 ≡ 10)
       → (new.ended ≡ false → get_or bytes (taken - 1) 0 ≢ 10)
-      → ReadsLine new text bytes taken (items_of_content content (lent new))
+      → ReadsLine new text bytes taken (items_of_content content (lent_lines new))
   fed_line new content any takes fed line begun ended unended = record {
     some = takes.progress any;
     within = takes.within;
@@ -150,8 +150,8 @@ module _ (old : LineReader) (text bytes : List ℕ) (has : HasRead old text) (ta
     };
     ended = ended_is ∙ (ap (λ l. ended_items has.whole ++ l) (takes.items 0 has.part has.stands)
         ∙ (sym (append_assoc (ended_items has.whole) (ended_items has.part)
-        (items_of_content content (lent new)))
-        ∙ ap (λ l. l ++ items_of_content content (lent new)) (sym before_is)));
+        (items_of_content content (lent_lines new)))
+        ∙ ap (λ l. l ++ items_of_content content (lent_lines new)) (sym before_is)));
   }
 
   pub fed_refused : (new : TickReader) (bad told : BadTicks)

@@ -5,7 +5,7 @@ use Rattle.line_commands.proofs.Handing.{text_none}
 use Rattle.line_commands.{proofs.Histories.told_twice, specs.History.Event, specs.History.told_then}
 use Rattle.line_commands.specs.{History.History, Order.Handed, Sent.SendsAny}
 use Rattle.line_commands.specs.History.{WritesFront, KeepsFaults, Event.writes, Event.flushes}
-use Rattle.line_commands.specs.{LiveText.IsTextOf, Sent.WritesCause, Sent.Sends, Sent.Hands}
+use Rattle.line_commands.specs.{LiveText.IsTextOf, Sent.WritesCause, Sent.SendsTicks, Sent.Hands}
 use Rattle.line_commands.specs.declared.port.Output.{Output, TheVariants.Out, TheVariants.Log}
 use Rattle.line_commands.specs.declared.port.Port.{Ghosts as Port}
 use Rattle.std.proofs.Common.{◌≡◌, ◌≢◌, ◌∙◌, ◌⊎◌, ℕ, List, [], ◌∷◌, ◌++◌, true, false, Result, Ok}
@@ -75,7 +75,7 @@ module _ {P : Type 0} (p : Port P) where
   pub broken_write : (old new : P) (to : Output) (bytes : List ℕ) (e : Failed)
       → WritesFront {T = Unit {0}} (p.history old) (p.history new) to bytes (Err e)
       → Fails old new to (Err e) → Beside old new to
-      → Sends p {T = Unit {0}} old new to bytes (Err e)
+      → SendsTicks p {T = Unit {0}} old new to bytes (Err e)
   broken_write old new to bytes e wrote cause beside = record {
     ok = tt;
     err = record {
@@ -107,7 +107,7 @@ module _ {P : Type 0} (p : Port P) where
 
     pub both_sent : p.history new ≡ told_then (p.history mid) (flushes to true ∷ [])
         → Fails mid new to (Ok tt) → Beside mid new to
-        → Sends p {T = Unit {0}} {E = Failed} old new to bytes (Ok tt)
+        → SendsTicks p {T = Unit {0}} {E = Failed} old new to bytes (Ok tt)
     both_sent then cause beside = record {
       ok = both (flushes to true) then;
       err = tt;
@@ -117,7 +117,7 @@ module _ {P : Type 0} (p : Port P) where
 
     pub broken_flush : (e : Failed) → p.history new ≡ told_then (p.history mid) (flushes to false ∷ [])
         → Fails mid new to (Err e) → Beside mid new to
-        → Sends p {T = Unit {0}} old new to bytes (Err e)
+        → SendsTicks p {T = Unit {0}} old new to bytes (Err e)
     broken_flush e then cause beside = record {
       ok = tt;
       err = record {
@@ -188,7 +188,7 @@ module _ {P : Type 0} (p : Port P) where
 
   -- Sending the note failed.
   pub hands_note : (old new : P) (note text : List ℕ) (answer : List Tick) (e : Failed)
-      → IsTextOf text answer → Sends p {T = Unit {0}} old new Log note (Err e)
+      → IsTextOf text answer → SendsTicks p {T = Unit {0}} old new Log note (Err e)
       → Hands p {T = Unit {0}} old new answer note (Err e)
   hands_note old new note text answer e is sends = record {
     ok = tt;
@@ -202,7 +202,7 @@ module _ {P : Type 0} (p : Port P) where
   -- The notes were sent.
   pub hands_both : (old mid new : P) (note text : List ℕ) (answer : List Tick)
       (result : Result (Unit {0}) Failed) → IsTextOf text answer
-      → Sends p {T = Unit {0}} {E = Failed} old mid Log note (Ok tt)
+      → SendsTicks p {T = Unit {0}} {E = Failed} old mid Log note (Ok tt)
       → SendsAny p mid new Out text result → Hands p old new answer note result
   hands_both old mid new note text answer result is first sends =
       hands_after old mid new note text answer result is first.cause

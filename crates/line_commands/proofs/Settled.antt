@@ -1,7 +1,7 @@
 -- The disk is settled, and then what waits is written: what that does to a box as a consumer.
 use Rattle.line_commands.specs.BoxLines.{BoxOrigin, DrivesBox, State, StopsAtSettle}
-use Rattle.line_commands.specs.BoxLines.{IsSettled, IsReady, outputs_of, state_of}
-use Rattle.line_commands.specs.BoxLines.{KeepsImages, GoesOn, HandsOn, Finishes}
+use Rattle.line_commands.specs.BoxLines.{IsSettled, BoxLinesAreReady, outputs_of, state_of_lines}
+use Rattle.line_commands.specs.BoxLines.{KeepsImages, BoxLinesGoOn, HandsOn, Finishes}
 use Rattle.line_commands.specs.{LinkBoxed.boxed_of, Sending.made_by}
 use Rattle.line_texts.proofs.Sending.{fronts_sent, sends_handed, sent_handed}
 use Rattle.line_texts.specs.Sending.{SinkTexts, sink_texts, HaveCause, LineAndNotes, SendsTexts}
@@ -30,7 +30,7 @@ use Rattle.yasir_ticks.specs.declared.tick.Tick.{Tick}
 
 -- A box was settled, which may have failed: `late` and `disk` are what there was then.
 module _ {B N O L D : Type 0} (b : LinkBox B N) (line_of : N → List ℕ) (o : Sink O) (l : Sink L)
-    (d : SlotDisk D) (old : State B O L D) (ready : IsReady b line_of old.lines)
+    (d : SlotDisk D) (old : State B O L D) (ready : BoxLinesAreReady b line_of old.lines)
     (late : LateJournal) (disk : D)
     (link : late_link late ≡ late_link old.lines.late)
     (not_below : disk_floor old.lines.late ≤ disk_floor late)
@@ -43,7 +43,7 @@ module _ {B N O L D : Type 0} (b : LinkBox B N) (line_of : N → List ℕ) (o : 
     -- what there was when these texts waited, and the sinks were these
     abbrev at : Texts → O → L → State B O L D
     at texts out log =
-        state_of (record old.lines { late = late; texts = texts }) out log disk
+        state_of_lines (record old.lines { late = late; texts = texts }) out log disk
 
     abbrev Stood : BoxOrigin → List Item → Type 0
     Stood origin items = DrivesBox b line_of old.lines origin (outputs_of o l d old) items
@@ -85,7 +85,7 @@ module _ {B N O L D : Type 0} (b : LinkBox B N) (line_of : N → List ℕ) (o : 
             failed;
       }
 
-      went_stopped : GoesOn o l d old (at old.lines.texts old.out old.log) (Err JournalStop)
+      went_stopped : BoxLinesGoOn o l d old (at old.lines.texts old.out old.log) (Err JournalStop)
       went_stopped = record {
         images = images old.lines.texts old.out old.log;
         disk = record {
@@ -136,7 +136,7 @@ module _ {B N O L D : Type 0} (b : LinkBox B N) (line_of : N → List ℕ) (o : 
           → HaveCause {T = Unit {0}} {E = Failed} (o.faults old.out) (o.faults out)
           (l.faults old.log) (l.faults log) (Ok tt)
           → NoneFlushed o l old.out out old.log log
-          → GoesOn o l d old (at texts out log) (Ok tt)
+          → BoxLinesGoOn o l d old (at texts out log) (Ok tt)
       went_on texts out log sinks flushes = record {
         images = images texts out log;
         disk = record {
@@ -158,7 +158,7 @@ module _ {B N O L D : Type 0} (b : LinkBox B N) (line_of : N → List ℕ) (o : 
           → HaveCause {T = Unit {0}} (o.faults old.out) (o.faults out)
           (l.faults old.log) (l.faults log) (Err e)
           → NoneFlushed o l old.out out old.log log
-          → GoesOn o l d old (at texts out log) (Err WriteFault)
+          → BoxLinesGoOn o l d old (at texts out log) (Err WriteFault)
       write_stopped texts out log e sinks flushes = record {
         images = images texts out log;
         disk = record {
@@ -252,7 +252,7 @@ module _ {B N O L D : Type 0} (b : LinkBox B N) (line_of : N → List ℕ) (o : 
 
         pub finish_went : ((made : LineAndNotes) (before : SinkTexts) (line : List Tick)
             → SendsTexts made (waiting_in old.lines.texts) before Held line
-            → texts.HasSent made before Got line)
+            → texts.TextsHaveSent made before Got line)
             → HaveCause {T = Unit {0}} {E = Failed} (o.faults old.out) (o.faults out)
             (l.faults old.log) (l.faults log) (Ok tt)
             → Finishes b line_of o l d old out log disk (Ok tt)

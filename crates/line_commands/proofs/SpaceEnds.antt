@@ -2,7 +2,7 @@
 use Rattle.device_model.specs.Frames.{FrameRead}
 use Rattle.line_commands.proofs.OverInput.{answer_ok, gave_all, made_then, front_of_all, all_driven}
 use Rattle.line_commands.proofs.OverInput.{stop_driven, all_drives, at_write}
-use Rattle.line_commands.specs.{DrivenLines.DrivesLines, OwedTexts.StopsWriting, OwedTexts.WritesAll}
+use Rattle.line_commands.specs.{DrivenLines.DrivesLines, OwedTexts.StopsWriting, OwedTexts.WritesAllOwed}
 use Rattle.line_commands.specs.OverInput.{AtWrite, has_stopped, OfFront, MakesAll, EndsAs}
 use Rattle.line_commands.specs.SpacedLines.{HasSpacedFronts, KeepsHeld, SpacesItems, SpacesTicks}
 use Rattle.line_commands.specs.SpacedLines.{StopsWithin, spacing, writing_behind}
@@ -13,9 +13,9 @@ use Rattle.line_commands.specs.declared.spaced_lines.SpacedLines.{SpacedLines}
 use Rattle.line_commands.specs.declared.spacers.LineSpacer.{Ghosts as LineSpacer}
 use Rattle.line_spacer.specs.{Arrivals.arrivals_behind, Spacing.spaced, Spacing.none_yet}
 use Rattle.line_texts.proofs.Sending.{begins}
-use Rattle.line_texts.specs.{Adding.HasRoom, Sending.LineAndNotes, Sending.SendsTexts}
+use Rattle.line_texts.specs.{Adding.TextHasRoom, Sending.LineAndNotes, Sending.SendsTexts}
 use Rattle.line_texts.specs.Sending.{SinkTexts}
-use Rattle.line_texts.specs.{Texts.texts_held, Texts.waiting_in, Writer.HasWritten}
+use Rattle.line_texts.specs.{Texts.texts_held, Texts.waiting_in, Writer.WriterHasWritten}
 use Rattle.line_texts.specs.declared.texts.Texts.{Texts}
 use Rattle.command_ends.specs.declared.status.Status.{Status}
 use Rattle.command_ends.specs.declared.status.Status.TheVariants.{Done, WriteFault, NoMemory}
@@ -35,7 +35,7 @@ nothing_spaced reads gap = refl
 
 -- So nothing has to be sent for such a line.
 pub nothing_sends : (reads : List Tick → List FrameRead) (gap : ℕ) (texts : Texts)
-    → HasWritten texts.writer [] [] → texts.ticks.items ≡ []
+    → WriterHasWritten texts.writer [] [] → texts.ticks.items ≡ []
     → waiting_bytes texts.notes ≡ [] → (held : SinkTexts)
     → SendsTexts (spaced_texts reads gap) (waiting_in texts) held held []
 nothing_sends reads gap texts written ticks notes held =
@@ -64,7 +64,7 @@ module _ {B O L : Type 0} (b : LineSpacer B) (o : Sink O) (l : Sink L)
 
   -- If the end is no stop, there is room for the answers that are still owed.
   pub room_at_end : (old mid : SpacedLines B O L) (end : End) → has_stopped end ≡ false
-      → Drives (spacing b o l) 0 space_rest before now old mid end → HasRoom mid.texts.now
+      → Drives (spacing b o l) 0 space_rest before now old mid end → TextHasRoom mid.texts.now
   room_at_end old mid end other driven =
       (gave_all (spacing b o l) old mid driven.items end other driven.gives).is_able.room
 
@@ -80,7 +80,7 @@ module _ {B O L : Type 0} (b : LineSpacer B) (o : Sink O) (l : Sink L)
         (λ items at. at)
 
     -- After the answers that were owed are added, all texts are on their way.
-    pub drives_all : WritesAll b o l mid new None → DrivesLines b o l old new before now end
+    pub drives_all : WritesAllOwed b o l mid new None → DrivesLines b o l old new before now end
     drives_all wrote = record {
       driven = λ start begun. all_drives space_rest before now (Sends new start)
           (AtWrite (HasSpacedFronts b o l new start)) end other

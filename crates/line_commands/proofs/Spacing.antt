@@ -3,11 +3,11 @@ use Rattle.{frame_ending.specs.Answered.answered, device_model.specs.Frames.Fram
 use Rattle.line_spacer.specs.Arrivals.{arriving}
 use Rattle.line_spacer.specs.{Owing.still_read, Spacing.lost_of, Stands.AnswersSpaced}
 use Rattle.line_texts.proofs.Sending.{sends_added}
-use Rattle.line_texts.specs.{Adding.Adds, Adding.HasRoom, Sending.AnswersNoted, Sending.SinkTexts}
+use Rattle.line_texts.specs.{Adding.TextAdds, Adding.TextHasRoom, Sending.AnswersNoted, Sending.SinkTexts}
 use Rattle.line_texts.specs.Sending.{SendsTexts, HasSentFronts}
 use Rattle.line_texts.specs.{Texts.texts_held, Texts.waiting_in, declared.texts.Texts.Texts}
 use Rattle.line_commands.proofs.RunsGiven.{ticks_more, first_given, last_stopped}
-use Rattle.line_commands.specs.OwedTexts.{StopsWriting, WritesAll, WritesFirst, frames_of}
+use Rattle.line_commands.specs.OwedTexts.{StopsWriting, WritesAllOwed, WritesFirstTexts, frames_owed}
 use Rattle.line_commands.specs.SpacedLines.{KeepsHeld, MaySpace, OwesTexts}
 use Rattle.line_commands.specs.SpacedLines.{StopsWithin, spacing, writing_behind}
 use Rattle.line_commands.specs.{SpacedLinesLaws.holds-then, SpacedTexts.most_waiting}
@@ -50,21 +50,21 @@ spacing_noted reads gap line run answer step lost answers = record {
 module _ {B O L : Type 0} (b : LineSpacer B) (o : Sink O) (l : Sink L) (old new : SpacedLines B O L)
     (added : Texts) (owed : ℕ) (read : Option ℕ) (n : ℕ) (left : List ℕ) (lost : List FrameRead)
     (owes : (line ticks : List Tick) → length ticks ≡ owed
-    → b.owes old.spacer.now line ticks (frames_of b o l old read)
+    → b.owes old.spacer.now line ticks (frames_owed b o l old read)
     → b.owes new.spacer.now (line ++ take n ticks) (drop n ticks)
-    (still_read (drop n ticks) (frames_of b o l old read)))
+    (still_read (drop n ticks) (frames_owed b o l old read)))
     (answers : (line ticks : List Tick) → length ticks ≡ owed
-    → b.owes old.spacer.now line ticks (frames_of b o l old read)
+    → b.owes old.spacer.now line ticks (frames_owed b o l old read)
     → AnswersSpaced b.reads b.gap most_waiting line (take n ticks) (answered n left)
     (length line + (n - 1)) lost)
-    (adds : Adds (waiting_in old.texts.now) (waiting_in added) (answered n left)
+    (adds : TextAdds (waiting_in old.texts.now) (waiting_in added) (answered n left)
     (lost_lines lost)) where
   abbrev Sent : SinkTexts → List Tick → Type 0
   Sent start line = SendsTexts (spaced_texts b.reads b.gap) (waiting_in added) start
       (texts_held o l (writing_behind old)) line
 
   added_sends : (start : SinkTexts) (line ticks : List Tick) → length ticks ≡ owed
-      → OwesTexts b o l old (frames_of b o l old read) start line ticks
+      → OwesTexts b o l old (frames_owed b o l old read) start line ticks
       → Sent start (line ++ take n ticks)
   added_sends start line ticks long before =
       sends_added (spaced_texts b.reads b.gap) line (take n ticks) (answered n left)
@@ -74,11 +74,11 @@ module _ {B O L : Type 0} (b : LineSpacer B) (o : Sink O) (l : Sink L) (old new 
 
   -- The answers are on their way, and there is room for more.
   pub some_written : 0 < n → n ≤ owed → b.taken new.spacer.now ≡ b.taken old.spacer.now
-      → b.lent new.spacer.now ≡ b.lent old.spacer.now → HasRoom new.texts.now
+      → b.lent new.spacer.now ≡ b.lent old.spacer.now → TextHasRoom new.texts.now
       → ((start : SinkTexts) (line : List Tick) → Sent start line
       → SendsTexts (spaced_texts b.reads b.gap) (waiting_in new.texts.now) start
       (texts_held o l (writing_behind new)) line)
-      → KeepsHeld o l old new (Ok tt) → WritesFirst b o l old new owed read n
+      → KeepsHeld o l old new (Ok tt) → WritesFirstTexts b o l old new owed read n
   some_written some within counts lends room on keeps = record {
     some = some;
     within = within;
@@ -116,7 +116,7 @@ module _ {B O L : Type 0} (b : LineSpacer B) (o : Sink O) (l : Sink L)
     (counts : b.taken heard.spacer.now ≡ b.taken old.spacer.now + n)
     (more : heard.owed ≡ old.owed + n)
     (owes : (line owed : List Tick) → length owed ≡ old.owed → b.owes old.spacer.now line owed []
-    → b.owes heard.spacer.now line (owed ++ take n (run_ticks run)) (frames_of b o l heard read))
+    → b.owes heard.spacer.now line (owed ++ take n (run_ticks run)) (frames_owed b o l heard read))
     (sends : (start : SinkTexts) (line : List Tick)
     → SendsTexts (spaced_texts b.reads b.gap) (waiting_in old.texts.now) start
     (texts_held o l (writing_behind old)) line
@@ -140,14 +140,14 @@ module _ {B O L : Type 0} (b : LineSpacer B) (o : Sink O) (l : Sink L)
 
   owing : (start : SinkTexts) (line behind : List Tick) → length behind ≡ old.owed
       → OwesTexts b o l old [] start line behind
-      → OwesTexts b o l heard (frames_of b o l heard read) start line (behind ++ given)
+      → OwesTexts b o l heard (frames_owed b o l heard read) start line (behind ++ given)
   owing start line behind many before = record {
     owes = owes line behind many before.owes;
     sends = sends start line before.sends;
   }
 
   -- Nothing was read, and no answer is added yet.
-  pub none_read : read ≡ None → MaySpace b o l old → HasRoom heard.texts.now
+  pub none_read : read ≡ None → MaySpace b o l old → TextHasRoom heard.texts.now
       → GivesFirst (spacing b o l) old heard (run_items run) n
   none_read none able room = first_given (spacing b o l) old heard run n some within
       (λ start items before. record {
@@ -156,13 +156,13 @@ module _ {B O L : Type 0} (b : LineSpacer B) (o : Sink O) (l : Sink L)
         are = all items (before.line ++ before.behind) before.are
             ∙ append_assoc before.line before.behind given;
         many = long before.behind before.many;
-        texts = subst (λ r. OwesTexts b o l heard (frames_of b o l heard r) start before.line
+        texts = subst (λ r. OwesTexts b o l heard (frames_owed b o l heard r) start before.line
             (before.behind ++ given)) none
             (owing start before.line before.behind before.many before.texts);
       }) counts (record { few = omega (arith, counts, more, able.few); room = room }) keeps
 
   -- The answers that were owed are added.
-  pub read_written : (new : SpacedLines B O L) → WritesAll b o l heard new read
+  pub read_written : (new : SpacedLines B O L) → WritesAllOwed b o l heard new read
       → GivesFirst (spacing b o l) old new (run_items run) n
   read_written new wrote = first_given (spacing b o l) old new run n some within
       (λ start items before. record {

@@ -5,7 +5,7 @@ use Rattle.line_commands.specs.{Boxes.line_of_note, LinkBoxed.boxed_of}
 use Rattle.frame_ending.proofs.Longer.{extends, length-line_of}
 use Rattle.frame_ending.specs.Answers.{told_notes, note_in, AnswersTick}
 use Rattle.frame_ending.specs.{Causal.IsCausal, Longer.Begins, Runs.AnswersRun, Walk.Noted}
-use Rattle.link_box.specs.Walking.{Walking, full_notes, frames_of, number_after}
+use Rattle.link_box.specs.Walking.{Walking, full_notes, frames_of, number_used_after}
 use Rattle.link_format.specs.NumberedFrame.{NumberedFrame, numbers_of, last_number}
 use Rattle.{link_format.specs.Setup.Setup}
 use Rattle.sequence_journal.specs.{Uptimes.RiseFrom}
@@ -141,14 +141,14 @@ module _ {A : Type 0} (walking : Walking A) (note_line : A → List ℕ) (setup 
       -- The number doesn't fall as the line goes on, since the frames of a longer line begin with
       -- those of the line.
       number-rises : (line more : List Tick)
-          → number_after walking setup line ≤ number_after walking setup (line ++ more)
+          → number_used_after walking setup line ≤ number_used_after walking setup (line ++ more)
       number-rises line more =
           let begins = notes-begin line more in
           let is : frames_of walking setup (line ++ more)
           ≡ frames_of walking setup line ++ frames_in begins.rest =
           ap frames_in begins.is ∙ frames-append (notes line) begins.rest in
           let P : List NumberedFrame → Type 0 = λ l. RiseFrom setup.floor (numbers_of l) in
-          let Q : List NumberedFrame → Type 0 = λ l. number_after walking setup line
+          let Q : List NumberedFrame → Type 0 = λ l. number_used_after walking setup line
           ≤ last_number setup.floor l in
           subst Q (sym is) (last-longer setup.floor (frames_of walking setup line)
           (frames_in begins.rest) (subst P is (rising (line ++ more))))

@@ -6,7 +6,7 @@ use Rattle.link_format.specs.Setup.{Setup}
 use Rattle.link_box.specs.declared.box_trait.LinkBox.{Ghosts as LinkBox}
 use Rattle.tick_drive.specs.Consumers.{Consuming}
 use Rattle.tick_drive.specs.declared.consumer.Stop.TheVariants.{NoMemory}
-use Rattle.session_lists.specs.Recordings.{has_mark, before_mark, behind_mark}
+use Rattle.session_lists.specs.Recordings.{lists_have_mark, before_mark, behind_mark}
 use Rattle.line_commands.specs.KeptBox.{ticks_kept, KeepsLine, IsSteady}
 use Rattle.line_commands.specs.declared.both_boxes.BothBoxes.{BothBoxes}
 
@@ -35,10 +35,10 @@ module _ {S C A B : Type 0} (s : LinkBox S A) (sent_line : A → List ℕ) (c : 
   -- The boxes have taken these items: the ticks before the mark, and those after it.
   pub record KeepsItems (both : BothBoxes S C) (setups : Setups) (items : List Item) : Type 0 where
     pub keeps : KeepsBoth both setups (before_mark items) (behind_mark items)
-    pub marked : both.marked ≡ has_mark items
+    pub marked : both.marked ≡ lists_have_mark items
 
   -- The boxes have taken the items `more`, after those that they had taken.
-  pub record BothGoOn (old new : BothBoxes S C) (more : List Item) : Type 0 where
+  pub record BothBoxesGoOn (old new : BothBoxes S C) (more : List Item) : Type 0 where
     pub moved : (setups : Setups) (items : List Item) → KeepsItems old setups items
         → KeepsItems new setups (items ++ more)
     pub counted : both_taken new ≡ both_taken old + length (ticks_in more)

@@ -17,7 +17,7 @@ use Rattle.sequence_journal.specs.Late.{IsRising, HasFloorBetween}
 use Rattle.sequence_journal.specs.Slots.{floor_of}
 use Rattle.link_format.specs.Setup.{Setup}
 use Rattle.link_box.specs.Stepping.{ServesLink}
-use Rattle.link_box.specs.Walking.{number_after}
+use Rattle.link_box.specs.Walking.{number_used_after}
 use Rattle.link_box.specs.declared.box_trait.LinkBox.{Ghosts as LinkBox}
 use Rattle.tick_drive.specs.Consumers.{Consuming, IsDiskCause, IsSinkCause, is_journal_fault}
 use Rattle.tick_drive.specs.Consumers.{is_write_fault}
@@ -25,9 +25,9 @@ use Rattle.tick_drive.specs.declared.consumer.Stop.{Stop}
 use Rattle.tick_drive.specs.declared.consumer.Stop.TheVariants.{WriteFault, JournalFault}
 use Rattle.tick_drive.specs.declared.consumer.Stop.TheVariants.{NoMemory}
 use Rattle.line_commands.specs.Boxes.{Boxed}
-use Rattle.line_texts.specs.Adding.{HasRoom, HasLineRoom, Adds, Waits, Closes}
+use Rattle.line_texts.specs.Adding.{TextHasRoom, HasLineRoom, TextAdds, Waits, ClosesText}
 use Rattle.line_texts.specs.Sending.{SinkTexts, sink_texts, Waiting, AnswersNoted}
-use Rattle.line_commands.specs.Sending.{made_by, SendsBoxed, HasSent, HasSentFronts}
+use Rattle.line_commands.specs.Sending.{made_by, SendsBoxed, CommandHasSent, CommandHasSentFronts}
 use Rattle.line_texts.specs.Texts.{waiting_in, Writing, writing}
 use Rattle.line_commands.specs.LinkBoxed.{boxed_of}
 use Rattle.line_commands.specs.declared.box_lines.BoxLines.{BoxLines}
@@ -60,8 +60,8 @@ pub record State (B O L D : Type 0) : Type 0 where
   pub log : L
   pub disk : D
 
-abbrev pub state_of : {B O L D : Type 0} → BoxLines B → O → L → D → State B O L D
-state_of lines out log disk = record { lines = lines; out = out; log = log; disk = disk }
+abbrev pub state_of_lines : {B O L D : Type 0} → BoxLines B → O → L → D → State B O L D
+state_of_lines lines out log disk = record { lines = lines; out = out; log = log; disk = disk }
 
 abbrev pub writing_at : {B O L D : Type 0} → State B O L D → Writing O L
 writing_at state = writing state.lines.texts state.out state.log
@@ -91,14 +91,14 @@ module _ {B N : Type 0} (b : LinkBox B N) (line_of : N → List ℕ) where
   -- The box has taken this line over its journal in memory.
   pub record StandsAfter (lines : BoxLines B) (setup : Setup) (line : List Tick) : Type 0 where
     pub steps : b.stands lines.line_box (journal_floor lines.journal) setup line
-    pub number_is : journal_floor lines.journal ≡ number_after b.walking setup line
+    pub number_is : journal_floor lines.journal ≡ number_used_after b.walking setup line
 
   abbrev pub made_of : BoxOrigin → Boxed
   made_of origin = boxed_of b.walking line_of origin.setup
 
   -- The box has taken this line in memory, and all that it makes of the line is on its
   -- way to the sinks.
-  pub record HasTaken (lines : BoxLines B) (origin : BoxOrigin) (held : SinkTexts)
+  pub record BoxLinesHaveTaken (lines : BoxLines B) (origin : BoxOrigin) (held : SinkTexts)
       (line : List Tick) : Type 0 where
     pub stood : StandsAfter lines origin.setup line
     pub sends : SendsBoxed (made_of origin) (waiting_in lines.texts) origin.texts held line
@@ -111,14 +111,14 @@ module _ {B N : Type 0} (b : LinkBox B N) (line_of : N → List ℕ) where
     pub early : List Tick
     pub later : List Tick
     pub is : early ++ later ≡ line
-    pub sent : HasSentFronts (made_of origin) origin.texts held early
+    pub sent : CommandHasSentFronts (made_of origin) origin.texts held early
     pub settled : floor ≡ (made_of origin).number early
 
   -- The box has taken the ticks of these items in memory. What it makes of them is on its way to
   -- the sinks, and only what the disk was settled for has gone there.
   pub record DrivesBox (lines : BoxLines B) (origin : BoxOrigin) (outputs : Outputs)
       (items : List Item) : Type 0 where
-    pub took : HasTaken lines origin (texts_in outputs) (ticks_in items)
+    pub took : BoxLinesHaveTaken lines origin (texts_in outputs) (ticks_in items)
     pub link_is : late_link lines.late ≡ origin.link
     pub handed : HandedOut origin (texts_in outputs) (disk_floor lines.late) (ticks_in items)
 
@@ -137,7 +137,7 @@ module _ {B N : Type 0} (b : LinkBox B N) (line_of : N → List ℕ) where
     pub early : List Tick
     pub later : List Tick
     pub is : early ++ later ≡ ticks_in items
-    pub sent : HasSentFronts (made_of origin) origin.texts (texts_in outputs) early
+    pub sent : CommandHasSentFronts (made_of origin) origin.texts (texts_in outputs) early
     pub link_is : late_link lines.late ≡ origin.link
     pub not_below : (made_of origin).number early ≤ disk_floor lines.late
     pub floor_told : IfSome outputs.slots (HasFloorBetween origin.link
@@ -146,7 +146,7 @@ module _ {B N : Type 0} (b : LinkBox B N) (line_of : N → List ℕ) where
   -- A write failed after the box had taken the last of these items, and the disk was settled before.
   pub record StopsAtWrite (lines : BoxLines B) (origin : BoxOrigin) (outputs : Outputs)
       (items : List Item) : Type 0 where
-    pub sent : HasSentFronts (made_of origin) origin.texts (texts_in outputs) (ticks_in items)
+    pub sent : CommandHasSentFronts (made_of origin) origin.texts (texts_in outputs) (ticks_in items)
     pub settled : IsSettled lines origin outputs.slots (ticks_in items)
 
   -- why a box was stopped at the last of these items, which is never for lack of memory
@@ -158,12 +158,12 @@ module _ {B N : Type 0} (b : LinkBox B N) (line_of : N → List ℕ) where
   -- All that the box makes of this line has gone to the sinks, and the disk was settled for it.
   pub record HasFinished (lines : BoxLines B) (origin : BoxOrigin) (outputs : Outputs)
       (line : List Tick) : Type 0 where
-    pub sent : HasSent (made_of origin) origin.texts (texts_in outputs) line
+    pub sent : CommandHasSent (made_of origin) origin.texts (texts_in outputs) line
     pub settled : IsSettled lines origin outputs.slots line
 
   -- A box whose numbers go on in memory: its journal in memory and the one that the disk is to hold
   -- serve the box's link, and both have the same last number.
-  pub record IsReady (lines : BoxLines B) : Type 0 where
+  pub record BoxLinesAreReady (lines : BoxLines B) : Type 0 where
     pub serves : ServesLink (b.link_of lines.line_box) lines.journal None
     pub link_is : late_link lines.late ≡ b.link_of lines.line_box
     pub level : late_number lines.late ≡ journal_floor lines.journal
@@ -172,14 +172,14 @@ module _ {B N : Type 0} (b : LinkBox B N) (line_of : N → List ℕ) where
   -- A box that may take ticks: there is room for what a few of them make, and the disk is the one
   -- that the journal knows.
   pub record MayDrive (lines : BoxLines B) (told : Option Slots) : Type 0 where
-    pub ready : IsReady lines
-    pub room : HasRoom lines.texts
+    pub ready : BoxLinesAreReady lines
+    pub room : TextHasRoom lines.texts
     pub fits : Fits (disk_journal lines.late) told
 
   -- A box whose texts may be handed out: there is room for the line that isn't filled, and the disk
   -- is the one that the journal knows.
   pub record MayHandOut (lines : BoxLines B) (told : Option Slots) : Type 0 where
-    pub ready : IsReady lines
+    pub ready : BoxLinesAreReady lines
     pub line_room : HasLineRoom lines.texts
     pub fits : Fits (disk_journal lines.late) told
 
@@ -190,26 +190,26 @@ module _ {B N : Type 0} (b : LinkBox B N) (line_of : N → List ℕ) where
     pub answer : List Tick
     pub note : List ℕ
     pub noted : AnswersNoted (made_by (boxed_of b.walking line_of setup)) line run answer note
-    pub adds : Adds (waiting_in old.texts) (waiting_in new.texts) answer note
+    pub adds : TextAdds (waiting_in old.texts) (waiting_in new.texts) answer note
 
   -- The box has taken the ticks `run`, after whatever line it had taken, in memory alone.
-  pub record TakesOn (old new : BoxLines B) (run : List Tick) : Type 0 where
+  pub record BoxLinesTakeOn (old new : BoxLines B) (run : List Tick) : Type 0 where
     pub counted : b.taken new.line_box ≡ b.taken old.line_box + length run
-    pub ready : IsReady new
+    pub ready : BoxLinesAreReady new
     pub disk : disk_journal new.late ≡ disk_journal old.late
     pub answers : (setup : Setup) (line : List Tick) → StandsAfter old setup line
         → AddsAnswer old new setup line run
 
   -- the box has taken the first `count` of these ticks, which may be none
-  pub record TakesUpTo (old new : BoxLines B) (run : List Tick) (count : ℕ) : Type 0 where
+  pub record BoxLinesTakeUpTo (old new : BoxLines B) (run : List Tick) (count : ℕ) : Type 0 where
     pub within : count ≤ length run
-    pub goes : TakesOn old new (take count run)
+    pub goes : BoxLinesTakeOn old new (take count run)
 
   -- the box has taken the first `count` of these ticks, at least one, and there is room for the
   -- line that isn't filled
   pub record TakesSome (old new : BoxLines B) (run : List Tick) (count : ℕ) : Type 0 where
     pub some : 0 < count
-    pub front : TakesUpTo old new run count
+    pub front : BoxLinesTakeUpTo old new run count
     pub line_room : HasLineRoom new.texts
 
   -- Nothing waits any more, and all else is as it was.
@@ -220,7 +220,7 @@ module _ {B N : Type 0} (b : LinkBox B N) (line_of : N → List ℕ) where
     pub number : number_in new ≡ number_in old
     pub late : late_in new ≡ late_in old
     pub waits : Waits (waiting_in new.texts) [] []
-    pub may : (told : Option Slots) → IsReady old → Fits (disk_journal old.late) told
+    pub may : (told : Option Slots) → BoxLinesAreReady old → Fits (disk_journal old.late) told
         → MayDrive new told
 
 module _ {B N D : Type 0} (b : LinkBox B N) (line_of : N → List ℕ) (d : SlotDisk D) where
@@ -241,8 +241,8 @@ module _ {B N D : Type 0} (b : LinkBox B N) (line_of : N → List ℕ) (d : Slot
     pub cause : HasCause (d.faults before) (d.faults now) result
     pub settled : OnOk result (disk_floor new.late ≡ journal_floor old.journal)
     pub fits : OnOk result (Fits (disk_journal new.late) (d.told now))
-    pub ready : OnOk result (IsReady b line_of new)
-    pub closes : OnOk result (Closes (waiting_in old.texts) (waiting_in new.texts))
+    pub ready : OnOk result (BoxLinesAreReady b line_of new)
+    pub closes : OnOk result (ClosesText (waiting_in old.texts) (waiting_in new.texts))
     pub failed : OnErr result (IfSome (d.told now) (HasFloorBetween (late_link old.late)
         (disk_floor old.late) (journal_floor old.journal)))
 
@@ -269,7 +269,7 @@ module _ {B O L D : Type 0} (o : Sink O) (l : Sink L) (d : SlotDisk D) where
 
   -- What calls do apart from taking ticks, the last of them with this result: the images are kept,
   -- each fault has its cause, and no sink is flushed.
-  pub record GoesOn (old new : State B O L D) (result : Result (Unit {0}) Stop) : Type 0 where
+  pub record BoxLinesGoOn (old new : State B O L D) (result : Result (Unit {0}) Stop) : Type 0 where
     pub images : KeepsImages old new
     pub disk : IsDiskCause (d.faults old.disk) (d.faults new.disk) (is_journal_fault result)
     pub sinks : IsSinkCause (o.faults old.out) (o.faults new.out) (l.faults old.log)
@@ -285,7 +285,7 @@ module _ {B N O L D : Type 0} (b : LinkBox B N) (line_of : N → List ℕ) (o : 
     stopped = λ state stop origin. StopsBox b line_of state.lines stop origin (outputs_of o l d state);
     taken = λ state. b.taken state.lines.line_box;
     able = λ state. MayDrive b line_of state.lines (d.told state.disk);
-    went = GoesOn o l d;
+    went = BoxLinesGoOn o l d;
   }
 
   -- The disk was settled, and then the notes and the lines of ticks that waited were written. The
@@ -297,7 +297,7 @@ module _ {B N O L D : Type 0} (b : LinkBox B N) (line_of : N → List ℕ) (o : 
         → driving.stands old origin items → driving.stopped new stop origin items)
     pub able : OnOk result (driving.able new)
     pub taken : driving.taken new ≡ driving.taken old
-    pub went : GoesOn o l d old new result
+    pub went : BoxLinesGoOn o l d old new result
 
   -- The disk was settled, and then all that waited was written, with the last line. `last` is the
   -- box as it was then.
@@ -306,8 +306,8 @@ module _ {B N O L D : Type 0} (b : LinkBox B N) (line_of : N → List ℕ) (o : 
     pub last : BoxLines B
     pub finished : OnOk result ((origin : BoxOrigin) (items : List Item)
         → driving.stands old origin items → HasFinished b line_of last origin
-        (outputs_of o l d (state_of last out log disk)) (ticks_in items))
+        (outputs_of o l d (state_of_lines last out log disk)) (ticks_in items))
     pub stopped : IfErr result (λ stop. (origin : BoxOrigin) (items : List Item)
         → driving.stands old origin items
-        → driving.stopped (state_of last out log disk) stop origin items)
-    pub went : GoesOn o l d old (state_of last out log disk) result
+        → driving.stopped (state_of_lines last out log disk) stop origin items)
+    pub went : BoxLinesGoOn o l d old (state_of_lines last out log disk) result

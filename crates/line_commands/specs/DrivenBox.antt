@@ -7,13 +7,13 @@ use Rattle.yasir_io.specs.declared.sink.Sink.{Ghosts as Sink}
 use Rattle.link_box.specs.declared.box_trait.LinkBox.{Ghosts as LinkBox}
 use Rattle.tick_drive.specs.Consumers.{Consuming, IsNoneDone, AreJoined}
 use Rattle.tick_drive.specs.declared.consumer.Stop.{Stop}
-use Rattle.line_commands.specs.BoxLines.{State, state_of, GoesOn, driving}
+use Rattle.line_commands.specs.BoxLines.{State, state_of_lines, BoxLinesGoOn, driving}
 use Rattle.line_commands.specs.BoxLinesLaws.{drives-none, drives-then}
 use Rattle.line_commands.specs.declared.driven_box.DrivenBox.{DrivenBox}
 
 -- the present state of what the references refer to
 abbrev pub state_in : {B O L D : Type 0} → DrivenBox B O L D → State B O L D
-state_in driven = state_of driven.lines.now driven.out.now driven.log.now driven.disk.now
+state_in driven = state_of_lines driven.lines.now driven.out.now driven.log.now driven.disk.now
 
 -- The references are the same as before.
 pub record HoldsSame {B O L D : Type 0} (old new : DrivenBox B O L D) : Type 0 where
@@ -27,7 +27,7 @@ module _ {B N O L D : Type 0} (b : LinkBox B N) (line_of : N → List ℕ) (o : 
   -- what calls do to what the references refer to, while the references stay the same
   pub record GoesOnBehind (old new : DrivenBox B O L D) (result : Result (Unit {0}) Stop) :
       Type 0 where
-    pub went : GoesOn o l d (state_in old) (state_in new) result
+    pub went : BoxLinesGoOn o l d (state_in old) (state_in new) result
     pub holds : HoldsSame old new
 
   abbrev pub driven_by : Consuming (DrivenBox B O L D)

@@ -1,7 +1,7 @@
 -- What a run over an input does to a driven spacer and its texts.
 use Rattle.std.specs.Prelude.{ℕ, List, [], Option}
 use Rattle.yasir_io.specs.declared.sink.Sink.{Ghosts as Sink}
-use Rattle.tick_drive.specs.Drive.{answer_of}
+use Rattle.tick_drive.specs.Drive.{drive_answer_of}
 use Rattle.tick_drive.specs.declared.end.End.{End}
 use Rattle.line_texts.specs.Sending.{SinkTexts}
 use Rattle.line_texts.specs.Texts.{texts_held, waiting_in}
@@ -18,4 +18,4 @@ pub record DrivesLines {B O L : Type 0} (b : LineSpacer B) (o : Sink O) (l : Sin
   pub driven : (start : SinkTexts) → SpacesItems b o l old start []
       → DrivesSpacer (spaced_texts b.reads b.gap) in_before in_now start
       (texts_held o l (writing_behind new)) (waiting_in new.texts.now) end
-  pub keeps : KeepsHeld o l old new (answer_of end)
+  pub keeps : KeepsHeld o l old new (drive_answer_of end)

@@ -20,8 +20,8 @@ read_by (writes to bytes) = []
 read_by (flushes to well) = []
 
 -- all bytes that were read
-abbrev pub bytes_read : List Event → List ℕ
-bytes_read events = flat_map read_by events
+abbrev pub bytes_read_before : List Event → List ℕ
+bytes_read_before events = flat_map read_by events
 
 -- the bytes that a call wrote to an output
 abbrev pub written_by : Output → Event → List ℕ

@@ -9,8 +9,8 @@ use Rattle.link_format.specs.Setup.{Setup}
 use Rattle.link_box.specs.Walking.{Walking, full_notes, other_line}
 use Rattle.link_box.specs.declared.box_trait.LinkBox.{Ghosts as LinkBox}
 use Rattle.sequence_journal.specs.Journal.{journal_link, journal_floor, Fits}
-use Rattle.session_lists.specs.FrameList.{Kept, Holds, IsWhole}
-use Rattle.line_texts.specs.Adding.{HasRoom}
+use Rattle.session_lists.specs.FrameList.{KeptFrames, Holds, ListIsWhole}
+use Rattle.line_texts.specs.Adding.{TextHasRoom}
 use Rattle.line_texts.specs.Sending.{LineAndNotes, sink_texts, SendsTexts}
 use Rattle.line_texts.specs.Texts.{waiting_in}
 use Rattle.line_commands.specs.MemoryText.{text_bytes}
@@ -21,7 +21,7 @@ use Rattle.line_commands.specs.declared.kept_box.KeptTexts.{KeptTexts}
 -- What a box makes of a line: the other line, and the line of each note with the tick of its step.
 pub record TimedBox : Type 0 where
   pub other_line : List Tick → List Tick
-  pub note_lines : List Tick → List (Kept ℕ)
+  pub note_lines : List Tick → List (KeptFrames ℕ)
 
 -- a box of a link with this walk and this setup, whose notes have these lines
 abbrev pub timed_of : {A : Type 0} → Walking A → (A → List ℕ) → Setup → TimedBox
@@ -65,44 +65,44 @@ module _ {B N : Type 0} (b : LinkBox B N) (line_of : N → List ℕ) where
     pub of_link : journal_link value.journal ≡ b.link_of value.line_box
     pub fits : Fits value.journal (Some (steady_slots value.disk))
     pub level : b.taken value.line_box ≡ ticks_kept value
-    pub whole : IsWhole value.notes
+    pub whole : ListIsWhole value.notes
 
   -- The box may take more ticks: there is room for what they complete.
   pub record IsSteady (value : KeptBox B) : Type 0 where
     pub served : IsServed value
-    pub room : HasRoom value.texts
+    pub room : TextHasRoom value.texts
 
   -- The box has taken the ticks `run`, after whatever line it had taken.
-  pub record TakesOn (old new : KeptBox B) (run : List Tick) : Type 0 where
+  pub record KeptTakesOn (old new : KeptBox B) (run : List Tick) : Type 0 where
     pub counted : ticks_kept new ≡ ticks_kept old + length run
     pub served : IsServed new
     pub keeps : (setup : Setup) (line : List Tick) → KeepsLine old setup line
         → KeepsLine new setup (line ++ run)
 
   -- the box has taken the first `count` of these ticks, which may be none
-  pub record TakesUpTo (old new : KeptBox B) (run : List Tick) (count : ℕ) : Type 0 where
+  pub record KeptTakesUpTo (old new : KeptBox B) (run : List Tick) (count : ℕ) : Type 0 where
     pub within : count ≤ length run
-    pub goes : TakesOn old new (take count run)
+    pub goes : KeptTakesOn old new (take count run)
 
   -- the box has taken the first `count` of these ticks, at least one
   pub record TakesSome (old new : KeptBox B) (run : List Tick) (count : ℕ) : Type 0 where
     pub some : 0 < count
-    pub front : TakesUpTo old new run count
+    pub front : KeptTakesUpTo old new run count
 
   -- The box has taken the ticks `run`, and may take more.
   pub record KeepsOn (old new : KeptBox B) (run : List Tick) : Type 0 where
-    pub goes : TakesOn old new run
+    pub goes : KeptTakesOn old new run
     pub steady : IsSteady new
 
   -- Of `ticks` silent ticks, the box has taken all but `left`, and may take more.
   pub record KeepsWaiting (old new : KeptBox B) (ticks left : ℕ) : Type 0 where
     pub done : ℕ
     pub all : done + left ≡ ticks
-    pub goes : TakesOn old new (silent done)
+    pub goes : KeptTakesOn old new (silent done)
     pub steady : IsSteady new
 
   -- The box has taken the first `count` of these ticks, at least one, and may take more.
   pub record KeepsSome (old new : KeptBox B) (run : List Tick) (count : ℕ) : Type 0 where
     pub some : 0 < count
-    pub front : TakesUpTo old new run count
+    pub front : KeptTakesUpTo old new run count
     pub steady : IsSteady new

@@ -34,8 +34,8 @@ pub record HasRead (lines : LineReader) (text : List ℕ) : Type 0 where
   pub quiet : lines.ended ≡ false → ended_items part ≡ []
 
 -- the bytes of the line that ended last, if it was a line of bytes
-abbrev pub lent : LineReader → List ℕ
-lent lines = lent_bytes lines.reader
+abbrev pub lent_lines : LineReader → List ℕ
+lent_lines lines = lent_bytes lines.reader
 
 -- The first `taken` of these bytes were read after a text, and these are the items of the line that
 -- ended with them.
@@ -72,7 +72,7 @@ IsOfText end = ⊥
 -- what the result of `feed` says, if it is given these bytes after a text
 abbrev pub FeedAnswer : LineReader → List ℕ → List ℕ → Result ReadBytes End → Type 0
 FeedAnswer lines text bytes (Ok found) =
-    ReadsLine lines text bytes found.taken (items_of_content found.content (lent lines))
+    ReadsLine lines text bytes found.taken (items_of_content found.content (lent_lines lines))
 FeedAnswer lines text bytes (Err (Refused bad)) = RefusesByte text bytes bad
 FeedAnswer lines text bytes (Err (TooLong Bytes count)) =
     (2147483648 < count) × EndsNoLine text count
@@ -86,7 +86,7 @@ pub record RefusesText (text : List ℕ) (bad : BadTicks) : Type 0 where
   pub why : bad.why ≡ fault_at_end text
 
 -- what the result of `finish` says at the end of a text
-abbrev pub FinishAnswer : List ℕ → Result Run End → Type 0
-FinishAnswer text (Ok run) = IsTickText 0 text (ended_items text ++ items_of_run run)
-FinishAnswer text (Err (Refused bad)) = RefusesText text bad
-FinishAnswer text (Err end) = ⊥
+abbrev pub LinesFinishAnswer : List ℕ → Result Run End → Type 0
+LinesFinishAnswer text (Ok run) = IsTickText 0 text (ended_items text ++ items_of_run run)
+LinesFinishAnswer text (Err (Refused bad)) = RefusesText text bad
+LinesFinishAnswer text (Err end) = ⊥

@@ -4,7 +4,7 @@ use Rattle.yasir_ticks.specs.Ticks.{ticks_in}
 use Rattle.yasir_ticks.specs.TickText.{ended_items}
 use Rattle.yasir_ticks.specs.declared.tick.Tick.{Tick}
 use Rattle.line_texts.specs.Sending.{LineAndNotes}
-use Rattle.line_commands.specs.History.{Event, History, told_then, bytes_read, written}
+use Rattle.line_commands.specs.History.{Event, History, told_then, bytes_read_before, written}
 use Rattle.line_commands.specs.History.{is_flushed}
 use Rattle.line_commands.specs.History.Event.{reads, writes, flushes}
 use Rattle.line_commands.specs.LiveText.{IsTextOf}
@@ -12,7 +12,7 @@ use Rattle.line_commands.specs.declared.port.Output.TheVariants.{Out, Log}
 
 -- the ticks of the lines that have ended in what was read
 abbrev pub ticks_read : List Event → List Tick
-ticks_read events = ticks_in (ended_items (bytes_read events))
+ticks_read events = ticks_in (ended_items (bytes_read_before events))
 
 module _ (made : LineAndNotes) where
   -- All that is made of the ticks that were read is written and flushed.
@@ -57,7 +57,7 @@ module _ (made : LineAndNotes) where
       Type 0 where
     pub events : List Event
     pub is : now ≡ told_then start events
-    pub read_is : bytes_read events ≡ read
+    pub read_is : bytes_read_before events ≡ read
     pub text : IsTextOf (written Out events) (made.other_line line)
     pub notes : written Log events ≡ made.note_lines line
     pub out_flushed : is_flushed Out events ≡ true
@@ -70,7 +70,7 @@ module _ (made : LineAndNotes) where
       Type 0 where
     pub events : List Event
     pub is : now ≡ told_then start events
-    pub read_is : bytes_read events ≡ read
+    pub read_is : bytes_read_before events ≡ read
     pub out_rest : List ℕ
     pub text : IsTextOf (written Out events ++ out_rest) (made.other_line line)
     pub log_rest : List ℕ

@@ -24,13 +24,13 @@ use Rattle.line_commands.specs.declared.recording.Recorded.{Recorded}
 abbrev pub both_rest : ℕ
 both_rest = 320
 
--- the length in ticks to which both recordings are filled
+-- the length in ticks to which both recordings are filled_recording
 abbrev pub steps_of : List Tick → List Tick → ℕ
 steps_of device link = max (length device) (length link) + both_rest
 
--- a recording, filled with silence up to this many ticks
-abbrev pub filled : ℕ → List Tick → List Tick
-filled steps line = line ++ silent (steps - length line)
+-- a recording, filled_recording with silence up to this many ticks
+abbrev pub filled_recording : ℕ → List Tick → List Tick
+filled_recording steps line = line ++ silent (steps - length line)
 
 -- the canonical text of the other line of each box, and the lines of their notes
 pub record BothTexts : Type 0 where
@@ -38,17 +38,17 @@ pub record BothTexts : Type 0 where
   pub device : List ℕ
   pub notes : List ℕ
 
--- What both boxes make of the line of a device and of a link. Both recordings are filled, so that
+-- What both boxes make of the line of a device and of a link. Both recordings are filled_recording, so that
 -- tick i of each goes into step i. The notes are in the order of steps, and within a step the one
 -- of the outgoing box comes first.
 abbrev pub both_texts : TimedBox → TimedBox → List Tick → List Tick → BothTexts
 both_texts outgoing incoming device link =
     let steps : ℕ = steps_of device link in
     record {
-      link = canonical_text (outgoing.other_line (filled steps device));
-      device = canonical_text (incoming.other_line (filled steps link));
-      notes = lines_before steps (outgoing.note_lines (filled steps device))
-          (incoming.note_lines (filled steps link));
+      link = canonical_text (outgoing.other_line (filled_recording steps device));
+      device = canonical_text (incoming.other_line (filled_recording steps link));
+      notes = lines_before steps (outgoing.note_lines (filled_recording steps device))
+          (incoming.note_lines (filled_recording steps link));
     }
 
 -- what two boxes with this key make of their recordings, one box of this direction and one of the

@@ -29,7 +29,7 @@ use Rattle.command_ends.specs.declared.status.Status.TheVariants.{BadKey, BadJou
 use Rattle.line_commands.specs.Boxes.{Boxed}
 use Rattle.line_commands.specs.Given.{HasKey, HoldsJournal}
 use Rattle.line_texts.specs.Sending.{SinkTexts, sink_texts}
-use Rattle.line_commands.specs.Sending.{HasSent, HasSentFronts}
+use Rattle.line_commands.specs.Sending.{CommandHasSent, CommandHasSentFronts}
 use Rattle.line_commands.specs.BoxLines.{ToldFloor}
 use Rattle.line_commands.specs.OverInput.{MakesFront, RunsOver}
 pub use Rattle.line_commands.specs.OverInput.{has_stopped}
@@ -89,8 +89,8 @@ module _ {S O L D : Type 0} (s : Source S) (o : Sink O) (l : Sink L) (d : SlotDi
   -- The sinks have got all that the box makes of this line. If a crash before the run would have
   -- left the slots as they read, no image of the disk has a floor below the last number that the
   -- box used for the line, and each makes an uptime with all numbers that it used for it.
-  pub record Replays (box : Boxed) (before after : Around S O L D) (line : List Tick) : Type 0 where
-    pub sent : HasSent box (texts_of o l before) (texts_of o l after) line
+  pub record ReplaysOnBox (box : Boxed) (before after : Around S O L D) (line : List Tick) : Type 0 where
+    pub sent : CommandHasSent box (texts_of o l before) (texts_of o l after) line
     pub images : KeepsFloor d link (box.number line) before.disk after.disk
     pub uptime : LeavesUptime d link (box.numbers line) before.disk after.disk
 
@@ -100,7 +100,7 @@ module _ {S O L D : Type 0} (s : Source S) (o : Sink O) (l : Sink L) (d : SlotDi
     pub record EndsBox (line : List Tick) : Type 0 where
       pub floor : ℕ
       pub floor_before : ToldFloor link floor (d.told before.disk)
-      pub replays : Replays (box floor) before after line
+      pub replays : ReplaysOnBox (box floor) before after line
       pub from_load : KeepsFloorFromLoad d link floor before.disk after.disk
       pub floor_told : ToldFloor link ((box floor).number line) (d.told after.disk)
 
@@ -111,7 +111,7 @@ module _ {S O L D : Type 0} (s : Source S) (o : Sink O) (l : Sink L) (d : SlotDi
     -- for each, and no image has a floor below the last number of those.
     pub record SendsFronts (floor : ℕ) (line : List Tick) : Type 0 where
       pub floor_before : ToldFloor link floor (d.told before.disk)
-      pub sent : HasSentFronts (box floor) (texts_of o l before) (texts_of o l after) line
+      pub sent : CommandHasSentFronts (box floor) (texts_of o l before) (texts_of o l after) line
       pub images : KeepsFloor d link ((box floor).number line) before.disk after.disk
       pub uptime : LeavesUptime d link ((box floor).numbers line) before.disk after.disk
       pub from_load : KeepsFloorFromLoad d link floor before.disk after.disk

@@ -7,13 +7,13 @@ use Rattle.link_format.specs.Profile.{Profile}
 use Rattle.frame_ending.specs.Walk.{Noted}
 use Rattle.frame_ending.specs.Answers.{told_notes}
 use Rattle.link_box.specs.Sealing.{FullNote, seal_notes, link_line, sealed}
-use Rattle.seal_transmitter.specs.Answers.{brief_note}
+use Rattle.seal_transmitter.specs.Answers.{brief_seal_note}
 use Rattle.line_commands.specs.Boxes.{Boxed}
 use Rattle.line_commands.specs.SealLines.{seal_line}
 
 -- the lines of the transmitter's notes
 abbrev pub seal_lines : List (Noted FullNote) → List ℕ
-seal_lines notes = flat_map (λ n. seal_line n.note) (told_notes brief_note notes)
+seal_lines notes = flat_map (λ n. seal_line n.note) (told_notes brief_seal_note notes)
 
 -- what the transmitter of a profile and a protocol makes of a line, if its journal begins at this
 -- floor

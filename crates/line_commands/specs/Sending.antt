@@ -14,9 +14,9 @@ abbrev pub SendsBoxed : Boxed → Waiting → SinkTexts → SinkTexts → List T
 SendsBoxed box = SendsTexts (made_by box)
 
 -- the sinks have got all that a box makes of a line
-abbrev pub HasSent : Boxed → SinkTexts → SinkTexts → List Tick → Type 0
-HasSent box = texts.HasSent (made_by box)
+abbrev pub CommandHasSent : Boxed → SinkTexts → SinkTexts → List Tick → Type 0
+CommandHasSent box = texts.TextsHaveSent (made_by box)
 
 -- each sink has got a front of what a box makes of a line, the notes first
-abbrev pub HasSentFronts : Boxed → SinkTexts → SinkTexts → List Tick → Type 0
-HasSentFronts box = texts.HasSentFronts (made_by box)
+abbrev pub CommandHasSentFronts : Boxed → SinkTexts → SinkTexts → List Tick → Type 0
+CommandHasSentFronts box = texts.HasSentFronts (made_by box)

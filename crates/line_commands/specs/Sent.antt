@@ -31,7 +31,7 @@ module _ {P : Type 0} (p : Port P) where
 
   -- The bytes were written to an output and flushed, or, after an error, a front of them was
   -- written.
-  pub record Sends {T E : Type 0} (old new : P) (to : Output) (bytes : List ℕ)
+  pub record SendsTicks {T E : Type 0} (old new : P) (to : Output) (bytes : List ℕ)
       (result : Result T E) : Type 0 where
     pub ok : OnOk result (p.history new
         ≡ told_then (p.history old) (writes to bytes ∷ flushes to true ∷ []))
@@ -40,7 +40,7 @@ module _ {P : Type 0} (p : Port P) where
 
   -- There were no bytes and nothing was done, or the bytes were written to an output and flushed.
   abbrev pub SendsAny : P → P → Output → List ℕ → Result (Unit {0}) Failed → Type 0
-  SendsAny old new to bytes result = Sends old new to bytes result
+  SendsAny old new to bytes result = SendsTicks old new to bytes result
       ⊎ ((bytes ≡ []) × (new ≡ old) × (result ≡ Ok tt))
 
   -- What is made of some ticks of a line was handed on: these ticks of the other line and these

@@ -9,7 +9,7 @@ use Rattle.device_model.specs.Frames.{FrameRead}
 use Rattle.tick_drive.specs.Consumers.{Consuming, IsSinkCause, is_write_fault}
 use Rattle.tick_drive.specs.declared.consumer.Stop.{Stop}
 use Rattle.tick_drive.specs.declared.consumer.Stop.TheVariants.{WriteFault}
-use Rattle.line_texts.specs.Adding.{HasRoom}
+use Rattle.line_texts.specs.Adding.{TextHasRoom}
 use Rattle.line_texts.specs.Sending.{SinkTexts, SendsTexts, HasSentFronts}
 use Rattle.line_texts.specs.Texts.{Writing, writing, texts_held, waiting_in}
 use Rattle.line_commands.specs.OverInput.{OfFront}
@@ -76,7 +76,7 @@ module _ {B O L : Type 0} (b : LineSpacer B) (o : Sink O) (l : Sink L) where
   -- the next ones complete.
   pub record MaySpace (lines : SpacedLines B O L) : Type 0 where
     pub few : lines.owed ≤ b.taken lines.spacer.now
-    pub room : HasRoom lines.texts.now
+    pub room : TextHasRoom lines.texts.now
 
   -- What is said of such a consumer.
   abbrev pub spacing : Consuming (SpacedLines B O L)

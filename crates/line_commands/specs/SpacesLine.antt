@@ -1,7 +1,7 @@
 -- What is sent of the frames of an input's line, and when each status comes.
 use Rattle.std.specs.Prelude.{◌≡◌, ℕ, List, Option}
 use Rattle.tick_drive.specs.declared.end.End.{End}
-use Rattle.line_texts.specs.Sending.{LineAndNotes, SinkTexts, Waiting, SendsTexts, HasSent}
+use Rattle.line_texts.specs.Sending.{LineAndNotes, SinkTexts, Waiting, SendsTexts, TextsHaveSent}
 use Rattle.line_texts.specs.Sending.{HasSentFronts}
 use Rattle.command_ends.specs.declared.status.Status.{Status}
 use Rattle.command_ends.specs.declared.status.Status.TheVariants.{NoMemory}
@@ -21,7 +21,7 @@ module _ (made : LineAndNotes) (in_before in_now : Option (List ℕ)) (before no
 
   -- What the run took of its input, and what the sinks have got of it, for each status.
   abbrev pub SpacesLine : Status → Type 0
-  SpacesLine = RunsOver space_rest in_before in_now (HasSent made before now)
+  SpacesLine = RunsOver space_rest in_before in_now (TextsHaveSent made before now)
       (HasSentFronts made before now) TakesNothing
 
   -- Holds if the run over the input ended with `end`: the texts of all ticks that were taken are on

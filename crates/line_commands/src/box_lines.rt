@@ -9,10 +9,10 @@ ghost use Rattle.sequence_journal.specs.declared.link.LinkId.{LinkId};
 ghost use Rattle.sequence_journal.specs.Journal.{journal_link, journal_floor, is_broken, Fits};
 ghost use Rattle.sequence_journal.specs.Late.{disk_journal};
 ghost use Rattle.sequence_journal.specs.declared.numbers.TheConstants.{LIMIT};
-ghost use Rattle.line_texts.specs.Adding.{HasRoom, HasLineRoom, IsShort, Waits};
+ghost use Rattle.line_texts.specs.Adding.{TextHasRoom, HasLineRoom, IsShort, Waits};
 ghost use Rattle.line_texts.specs.Sending.{SinkTexts};
-ghost use Rattle.line_commands.specs.BoxLines.{state_of, DrivesBox, IsReady, MayDrive, TakesOn};
-ghost use Rattle.line_commands.specs.BoxLines.{TakesUpTo, TakesSome, HandsOn, Finishes, Settles};
+ghost use Rattle.line_commands.specs.BoxLines.{state_of_lines, DrivesBox, BoxLinesAreReady, MayDrive, BoxLinesTakeOn};
+ghost use Rattle.line_commands.specs.BoxLines.{BoxLinesTakeUpTo, TakesSome, HandsOn, Finishes, Settles};
 ghost use Rattle.line_commands.specs.BoxLines.{Empties, StandsAfter, MayHandOut, box_in, late_in};
 ghost use Rattle.line_commands.specs.BoxLines.{texts_at, waits_in, number_in};
 
@@ -77,11 +77,11 @@ impl<B: LineBox> BoxLines<B> {
     #[inline(always)]
     fn forward(&mut self, run: TickRun<'_>) -> usize
         requires count { B.taken self.old.line_box + length (run_ticks run) ≤ MAX_TICKS }
-        requires ready { IsReady B.LinkBox B.line_of self.old }
-        requires room { HasRoom self.old.texts }
+        requires ready { BoxLinesAreReady B.LinkBox B.line_of self.old }
+        requires room { TextHasRoom self.old.texts }
         requires short { IsShort (run_ticks run) }
-        ensures takes { TakesUpTo B.LinkBox B.line_of self.old self.new (run_ticks run.entry) result }
-        ensures none { result ≡ 0 → HasRoom self.new.texts }
+        ensures takes { BoxLinesTakeUpTo B.LinkBox B.line_of self.old self.new (run_ticks run.entry) result }
+        ensures none { result ≡ 0 → TextHasRoom self.new.texts }
         ensures line_room { HasLineRoom self.new.texts }
     {
         let count = self.line_box.forward(run);
@@ -96,11 +96,11 @@ impl<B: LineBox> BoxLines<B> {
     #[inline(always)]
     fn pass(&mut self, run: TickRun<'_>) -> usize
         requires count { B.taken self.old.line_box + length (run_ticks run) ≤ MAX_TICKS }
-        requires ready { IsReady B.LinkBox B.line_of self.old }
-        requires room { HasRoom self.old.texts }
+        requires ready { BoxLinesAreReady B.LinkBox B.line_of self.old }
+        requires room { TextHasRoom self.old.texts }
         requires short { IsShort (run_ticks run) }
-        ensures takes { TakesUpTo B.LinkBox B.line_of self.old self.new (run_ticks run.entry) result }
-        ensures none { result ≡ 0 → HasRoom self.new.texts }
+        ensures takes { BoxLinesTakeUpTo B.LinkBox B.line_of self.old self.new (run_ticks run.entry) result }
+        ensures none { result ≡ 0 → TextHasRoom self.new.texts }
         ensures line_room { HasLineRoom self.new.texts }
     {
         let mut sent = RunBytes::new();
@@ -116,9 +116,9 @@ impl<B: LineBox> BoxLines<B> {
     #[inline(never)]
     fn step(&mut self, tick: Tick)
         requires count { B.taken self.old.line_box < MAX_TICKS }
-        requires ready { IsReady B.LinkBox B.line_of self.old }
-        requires room { HasRoom self.old.texts }
-        ensures takes { TakesOn B.LinkBox B.line_of self.old self.new (tick ∷ []) }
+        requires ready { BoxLinesAreReady B.LinkBox B.line_of self.old }
+        requires room { TextHasRoom self.old.texts }
+        ensures takes { BoxLinesTakeOn B.LinkBox B.line_of self.old self.new (tick ∷ []) }
         ensures line_room { HasLineRoom self.new.texts }
     {
         let step = self
@@ -135,8 +135,8 @@ impl<B: LineBox> BoxLines<B> {
     pub fn take_some(&mut self, run: TickRun<'_>) -> usize
         requires some { 0 < length (run_ticks run) }
         requires count { B.taken (box_in self.old) + length (run_ticks run) ≤ MAX_TICKS }
-        requires ready { IsReady B.LinkBox B.line_of self.old }
-        requires room { HasRoom (texts_at self.old) }
+        requires ready { BoxLinesAreReady B.LinkBox B.line_of self.old }
+        requires room { TextHasRoom (texts_at self.old) }
         ensures { TakesSome B.LinkBox B.line_of self.old self.new (run_ticks run.entry) result }
     {
         let short = short_front(run);
@@ -200,8 +200,8 @@ impl<B: LineBox> BoxLines<B> {
     /// Whether there is room for what the next ticks complete.
     #[inline]
     pub fn has_room(&self) -> bool
-        ensures room { result ≡ true → HasRoom (texts_at self.now) }
-        ensures full { result ≡ false → HasRoom (texts_at self.now) → ⊥ }
+        ensures room { result ≡ true → TextHasRoom (texts_at self.now) }
+        ensures full { result ≡ false → TextHasRoom (texts_at self.now) → ⊥ }
     {
         self.texts.has_room()
     }
@@ -214,11 +214,11 @@ impl<B: LineBox> BoxLines<B> {
         log: &mut L,
         disk: &mut D,
     ) -> Result<(), Stop>
-        requires ready { IsReady B.LinkBox B.line_of self.old }
+        requires ready { BoxLinesAreReady B.LinkBox B.line_of self.old }
         requires fits { Fits (disk_journal (late_in self.old)) (D.told disk.old) }
         ensures { HandsOn B.LinkBox B.line_of O.Sink L.Sink D.SlotDisk
-            (state_of self.old out.old log.old disk.old)
-            (state_of self.new out.new log.new disk.new) result }
+            (state_of_lines self.old out.old log.old disk.old)
+            (state_of_lines self.new out.new log.new disk.new) result }
     {
         match self.late.settle_all(disk) {
             Ok(()) => {}
@@ -237,10 +237,10 @@ impl<B: LineBox> BoxLines<B> {
         log: &mut L,
         disk: &mut D,
     ) -> Result<(), Stop>
-        requires ready { IsReady B.LinkBox B.line_of self }
+        requires ready { BoxLinesAreReady B.LinkBox B.line_of self }
         requires fits { Fits (disk_journal (late_in self)) (D.told disk.old) }
         ensures { Finishes B.LinkBox B.line_of O.Sink L.Sink D.SlotDisk
-            (state_of self out.old log.old disk.old) out.new log.new disk.new result }
+            (state_of_lines self out.old log.old disk.old) out.new log.new disk.new result }
     {
         let BoxLines {
             mut late,

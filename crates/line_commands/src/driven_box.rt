@@ -1,6 +1,6 @@
 //! A box and its sinks as one consumer of a recorded input.
 ghost use Rattle.std.specs.Prelude.{◌≡◌};
-ghost use Rattle.line_commands.specs.BoxLines.{state_of};
+ghost use Rattle.line_commands.specs.BoxLines.{state_of_lines};
 
 use crate::box_lines::BoxLines;
 use crate::line_box::LineBox;
@@ -32,7 +32,7 @@ impl<'a, B, O, L, D> DrivenBox<'a, B, O, L, D> {
         ensures out { result.out ≡ out.entry }
         ensures log { result.log ≡ log.entry }
         ensures disk { result.disk ≡ disk.entry }
-        ensures state { state_in result ≡ state_of lines.old out.old log.old disk.old }
+        ensures state { state_in result ≡ state_of_lines lines.old out.old log.old disk.old }
     {
         DrivenBox {
             lines,

@@ -12,11 +12,11 @@ ghost use Rattle.link_format.specs.Setup.{Setup, setup_of};
 ghost use Rattle.sequence_journal.specs.Journal.{journal_link, journal_floor, Fits};
 ghost use Rattle.sequence_journal.specs.Links.{HasDirection};
 ghost use Rattle.sequence_journal.specs.Slots.{greatest};
-ghost use Rattle.session_lists.specs.FrameList.{Kept, Holds, IsWhole};
+ghost use Rattle.session_lists.specs.FrameList.{KeptFrames, Holds, ListIsWhole};
 ghost use Rattle.line_commands.specs.TimedLines.{timed_lines};
-ghost use Rattle.line_texts.specs.Adding.{HasRoom, IsShort};
+ghost use Rattle.line_texts.specs.Adding.{TextHasRoom, IsShort};
 ghost use Rattle.line_commands.specs.KeptBox.{timed_of, ticks_kept, AreTextsOf, KeepsLine, IsServed};
-ghost use Rattle.line_commands.specs.KeptBox.{IsSteady, TakesOn, TakesUpTo, TakesSome, KeepsOn};
+ghost use Rattle.line_commands.specs.KeptBox.{IsSteady, KeptTakesOn, KeptTakesUpTo, TakesSome, KeepsOn};
 ghost use Rattle.line_commands.specs.KeptBox.{KeepsSome};
 
 use crate::line_box::LineBox;
@@ -73,7 +73,7 @@ fn push_note<B: LineBox>(
     tick: u64,
     note: Option<B::Note>,
 ) -> Result<(), NoMemory>
-    ensures { OnOk result ((lines : List (Kept ℕ)) → Holds notes.old lines
+    ensures { OnOk result ((lines : List (KeptFrames ℕ)) → Holds notes.old lines
         → Holds notes.new (lines ++ timed_lines B.line_of (note_in tick note))) }
 {
     let Some(note) = note else {
@@ -114,11 +114,11 @@ impl<B: LineBox> KeptBox<B> {
     fn forward(&mut self, run: TickRun<'_>) -> usize
         requires count { ticks_kept self.old + length (run_ticks run) ≤ MAX_TICKS }
         requires served { IsServed B.LinkBox B.line_of self.old }
-        requires room { HasRoom self.old.texts }
+        requires room { TextHasRoom self.old.texts }
         requires short { IsShort (run_ticks run) }
-        ensures takes { TakesUpTo B.LinkBox B.line_of self.old self.new (run_ticks run.entry)
+        ensures takes { KeptTakesUpTo B.LinkBox B.line_of self.old self.new (run_ticks run.entry)
             result }
-        ensures none { result ≡ 0 → HasRoom self.new.texts }
+        ensures none { result ≡ 0 → TextHasRoom self.new.texts }
     {
         let count = self.line_box.forward(run);
         if count > 0 {
@@ -134,11 +134,11 @@ impl<B: LineBox> KeptBox<B> {
     fn pass(&mut self, run: TickRun<'_>) -> usize
         requires count { ticks_kept self.old + length (run_ticks run) ≤ MAX_TICKS }
         requires served { IsServed B.LinkBox B.line_of self.old }
-        requires room { HasRoom self.old.texts }
+        requires room { TextHasRoom self.old.texts }
         requires short { IsShort (run_ticks run) }
-        ensures takes { TakesUpTo B.LinkBox B.line_of self.old self.new (run_ticks run.entry)
+        ensures takes { KeptTakesUpTo B.LinkBox B.line_of self.old self.new (run_ticks run.entry)
             result }
-        ensures none { result ≡ 0 → HasRoom self.new.texts }
+        ensures none { result ≡ 0 → TextHasRoom self.new.texts }
     {
         let mut sent = RunBytes::new();
         let count = self.line_box.pass(run, &mut sent);
@@ -155,8 +155,8 @@ impl<B: LineBox> KeptBox<B> {
     fn step(&mut self, tick: Tick) -> Result<(), NoMemory>
         requires count { ticks_kept self.old < MAX_TICKS }
         requires served { IsServed B.LinkBox B.line_of self.old }
-        requires room { HasRoom self.old.texts }
-        ensures { OnOk result (TakesOn B.LinkBox B.line_of self.old self.new (tick ∷ [])) }
+        requires room { TextHasRoom self.old.texts }
+        ensures { OnOk result (KeptTakesOn B.LinkBox B.line_of self.old self.new (tick ∷ [])) }
     {
         let step = self
             .line_box
@@ -177,7 +177,7 @@ impl<B: LineBox> KeptBox<B> {
         requires some { 0 < length (run_ticks run) }
         requires count { ticks_kept self.old + length (run_ticks run) ≤ MAX_TICKS }
         requires served { IsServed B.LinkBox B.line_of self.old }
-        requires room { HasRoom self.old.texts }
+        requires room { TextHasRoom self.old.texts }
         ensures { IfOk result (λ n. TakesSome B.LinkBox B.line_of self.old self.new
             (run_ticks run.entry) n) }
     {
@@ -239,7 +239,7 @@ impl<B: LineBox> KeptBox<B> {
     /// Ends the text of the other line, and returns it with the lines of the notes.
     pub(crate) fn finish(self) -> Result<KeptTexts, NoMemory>
         requires { IsSteady B.LinkBox B.line_of self }
-        ensures whole { IfOk result (λ texts. IsWhole texts.notes) }
+        ensures whole { IfOk result (λ texts. ListIsWhole texts.notes) }
         ensures texts { IfOk result (λ texts. (setup : Setup) (line : List Tick)
             → KeepsLine B.LinkBox B.line_of self setup line
             → AreTextsOf (timed_of B.walking B.line_of setup) line texts) }

@@ -48,7 +48,7 @@ fn in_text(line: u32, bad: BadTicks) -> BadTicks
 
 impl LineReader {
     ghost use Rattle.std.specs.Prelude.{IfOk, IfErr};
-    ghost use Rattle.line_commands.specs.Lines.{HasRead, FeedAnswer, FinishAnswer, IsOfText, lent};
+    ghost use Rattle.line_commands.specs.Lines.{HasRead, FeedAnswer, LinesFinishAnswer, IsOfText, lent_lines};
 
     /// Returns a reader of a text of which nothing has come.
     pub fn new() -> LineReader
@@ -65,7 +65,7 @@ impl LineReader {
     /// Returns the bytes of the line that ended last, if it was a line of bytes.
     #[inline]
     pub fn line_bytes(&self) -> &[u8]
-        ensures bytes { result.now ≡ lent self.now }
+        ensures bytes { result.now ≡ lent_lines self.now }
         ensures few { length result.now ≤ 32 }
     {
         self.reader.line_bytes()
@@ -117,7 +117,7 @@ impl LineReader {
     /// Takes the end of the text, and returns the run of a last line without an LF.
     pub fn finish(self) -> Result<Run, End>
         ensures of_text { IfErr result IsOfText }
-        ensures answer { (text : List ℕ) → HasRead self text → FinishAnswer text result }
+        ensures answer { (text : List ℕ) → HasRead self text → LinesFinishAnswer text result }
     {
         let LineReader { reader, line, .. } = self;
         match reader.finish() {

@@ -1,9 +1,9 @@
 //! The lines of the notes of two boxes, in the order of the steps into which the notes fall.
 ghost use Rattle.std.specs.Prelude.{◌≡◌, ℕ, ◌<◌, ◌≤◌, ◌⊎◌, ◌++◌, List, [], length, drop, OnOk, IfOk};
 ghost use Rattle.std.specs.Prelude.{true, false, slice_index_or};
-ghost use Rattle.session_lists.specs.FrameList.{Kept, Holds, IsWhole, list_len};
+ghost use Rattle.session_lists.specs.FrameList.{KeptFrames, Holds, ListIsWhole, list_len};
 ghost use Rattle.line_commands.specs.TimedLines.{lines_before, AreInOrder};
-ghost use Rattle.line_commands.specs.NoteOrder.{ComesFirst, ComesBefore, Merges, MergesOne};
+ghost use Rattle.line_commands.specs.NoteOrder.{NoteComesFirst, ComesBefore, Merges, MergesOne};
 
 use session_lists::FrameList;
 use std::alloc::Global;
@@ -24,9 +24,9 @@ fn is_of_first(first: &FrameList<u64>, second: &FrameList<u64>, places: Places) 
     requires some { (places.first < list_len first.now) ⊎ (places.second < list_len second.now) }
     ensures within { result ≡ true → places.first < list_len first.now }
     ensures second { result ≡ false → places.second < list_len second.now }
-    ensures comes_first { result ≡ true → (a b : List (Kept ℕ)) → Holds first.now a
-        → Holds second.now b → ComesFirst (drop places.first a) (drop places.second b) }
-    ensures comes_before { result ≡ false → (a b : List (Kept ℕ)) → Holds first.now a
+    ensures comes_first { result ≡ true → (a b : List (KeptFrames ℕ)) → Holds first.now a
+        → Holds second.now b → NoteComesFirst (drop places.first a) (drop places.second b) }
+    ensures comes_before { result ≡ false → (a b : List (KeptFrames ℕ)) → Holds first.now a
         → Holds second.now b → ComesBefore (drop places.second b) (drop places.first a) }
 {
     if places.first == first.len() {
@@ -41,8 +41,8 @@ fn is_of_first(first: &FrameList<u64>, second: &FrameList<u64>, places: Places) 
 // Adds the line at a place.
 fn push_line(text: &mut Vec<u8>, lines: &FrameList<u64>, place: usize) -> Result<(), NoMemory>
     requires within { place < list_len lines.now }
-    requires whole { IsWhole lines.now }
-    ensures { OnOk result ((kept : List (Kept ℕ)) (other : Kept ℕ) → Holds lines.now kept
+    requires whole { ListIsWhole lines.now }
+    ensures { OnOk result ((kept : List (KeptFrames ℕ)) (other : KeptFrames ℕ) → Holds lines.now kept
         → text.new.items ≡ text.old.items ++ (slice_index_or kept place other).frame) }
 {
     match text.extend_from_slice(lines.bytes(place)) {
@@ -58,8 +58,8 @@ fn push_next(
     second: &FrameList<u64>,
     places: Places,
 ) -> Result<Places, NoMemory>
-    requires first { IsWhole first.now }
-    requires second { IsWhole second.now }
+    requires first { ListIsWhole first.now }
+    requires second { ListIsWhole second.now }
     requires merges { Merges first.now second.now text.old.items places }
     requires some { (places.first < list_len first.now) ⊎ (places.second < list_len second.now) }
     ensures { IfOk result (λ next. MergesOne first.now second.now text.new.items places next) }
@@ -89,9 +89,9 @@ pub(crate) fn merge_lines(
     first: &FrameList<u64>,
     second: &FrameList<u64>,
 ) -> Result<Vec<u8>, NoMemory>
-    requires first { IsWhole first.now }
-    requires second { IsWhole second.now }
-    ensures { IfOk result (λ text. (a b : List (Kept ℕ)) → Holds first.now a → Holds second.now b
+    requires first { ListIsWhole first.now }
+    requires second { ListIsWhole second.now }
+    ensures { IfOk result (λ text. (a b : List (KeptFrames ℕ)) → Holds first.now a → Holds second.now b
         → (n : ℕ) → AreInOrder 0 n a → AreInOrder 0 n b
         → text.items ≡ lines_before n a b) }
 {

@@ -1,6 +1,6 @@
 //! What a box returns in a step, added to the texts.
 ghost use Rattle.std.specs.Prelude.{◌≡◌, [], ◌∷◌};
-ghost use Rattle.line_texts.specs.Adding.{HasRoom, HasLineRoom, Adds};
+ghost use Rattle.line_texts.specs.Adding.{TextHasRoom, HasLineRoom, TextAdds};
 ghost use Rattle.line_texts.specs.Texts.{waiting_in};
 ghost use Rattle.line_commands.specs.Boxes.{line_of_note};
 
@@ -12,8 +12,8 @@ use yasir_ticks::{Tick, TickRun};
 // have a note.
 #[inline(never)]
 fn add_note<B: LineBox>(texts: &mut Texts, tick: Tick, note: &B::Note)
-    requires { HasRoom texts.old }
-    ensures adds { Adds (waiting_in texts.old) (waiting_in texts.new) (tick ∷ [])
+    requires { TextHasRoom texts.old }
+    ensures adds { TextAdds (waiting_in texts.old) (waiting_in texts.new) (tick ∷ [])
         (B.line_of note.now) }
     ensures line_room { HasLineRoom texts.new }
 {
@@ -28,8 +28,8 @@ fn add_note<B: LineBox>(texts: &mut Texts, tick: Tick, note: &B::Note)
 // to the text of the log.
 #[inline]
 pub(crate) fn add_step<B: LineBox>(texts: &mut Texts, tick: Tick, note: Option<B::Note>)
-    requires { HasRoom texts.old }
-    ensures adds { Adds (waiting_in texts.old) (waiting_in texts.new) (tick ∷ [])
+    requires { TextHasRoom texts.old }
+    ensures adds { TextAdds (waiting_in texts.old) (waiting_in texts.new) (tick ∷ [])
         (line_of_note B.line_of note) }
     ensures line_room { HasLineRoom texts.new }
 {

@@ -3,7 +3,7 @@ ghost use Rattle.std.specs.Prelude.{◌≡◌, [], ℕ};
 ghost use Rattle.yasir_io.specs.Causes.{HasCause};
 ghost use Rattle.yasir_io.specs.TextBuffer.{waiting_bytes};
 ghost use Rattle.tick_drive.specs.Input.{IsReadCause, is_read_fault};
-ghost use Rattle.tick_drive.specs.Drive.{answer_of};
+ghost use Rattle.tick_drive.specs.Drive.{drive_answer_of};
 ghost use Rattle.line_commands.specs.PrintsFrames.{DrivesFrames, PrintsFrames};
 ghost use Rattle.command_ends.specs.Causes.{InputCause, SinkCause};
 ghost use Rattle.command_ends.specs.Flushes.{FlushesAtEnd};
@@ -33,7 +33,7 @@ fn drive_frames<V: Device, S: Source, O: Sink>(
     ensures driven { DrivesFrames V.reads (S.left input.old) (S.left input.new)
         (O.held out.old) (O.held out.new) (waiting_bytes lines.new) result }
     ensures read { IsReadCause (S.faults input.old) (S.faults input.new) (is_read_fault result) }
-    ensures sink { HasCause (O.faults out.old) (O.faults out.new) (answer_of result) }
+    ensures sink { HasCause (O.faults out.old) (O.faults out.new) (drive_answer_of result) }
     ensures flushes { O.flushes out.new ≡ O.flushes out.old }
 {
     let mut printer = FrameLines::new(device, lines, out);

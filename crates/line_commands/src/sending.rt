@@ -2,14 +2,14 @@
 ghost use Rattle.std.specs.Prelude.{List};
 ghost use Rattle.yasir_ticks.specs.declared.tick.Tick.{Tick};
 ghost use Rattle.line_commands.specs.LiveText.{IsTextOf};
-ghost use Rattle.line_commands.specs.Sent.{Sends, SendsAny, Hands, WritesCause};
+ghost use Rattle.line_commands.specs.Sent.{SendsTicks, SendsAny, Hands, WritesCause};
 
 use crate::{Output, Port};
 use yasir_io::Failed;
 
 /// Writes bytes to an output, and flushes it.
 pub fn send<P: Port>(port: &mut P, to: Output, bytes: &[u8]) -> Result<(), Failed>
-    ensures { Sends P.Port port.old port.new to bytes.now result }
+    ensures { SendsTicks P.Port port.old port.new to bytes.now result }
 {
     match port.write(to, bytes) {
         Ok(()) => {}

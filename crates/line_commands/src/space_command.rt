@@ -2,9 +2,9 @@
 ghost use Rattle.std.specs.Prelude.{◌≡◌, ◌≤◌, [], false};
 ghost use Rattle.yasir_io.specs.Flushed.{NoneFlushed};
 ghost use Rattle.tick_drive.specs.Consumers.{IsSinkCause, is_write_fault};
-ghost use Rattle.tick_drive.specs.Drive.{IsFresh, answer_of};
+ghost use Rattle.tick_drive.specs.Drive.{IsFresh, drive_answer_of};
 ghost use Rattle.tick_drive.specs.Input.{IsReadCause, is_read_fault};
-ghost use Rattle.line_texts.specs.Adding.{HasRoom};
+ghost use Rattle.line_texts.specs.Adding.{TextHasRoom};
 ghost use Rattle.line_texts.specs.Sending.{SinkTexts, sink_texts, SendsTexts};
 ghost use Rattle.line_texts.specs.Texts.{waiting_in};
 ghost use Rattle.command_ends.specs.Causes.{InputCause, SinkCause};
@@ -64,7 +64,7 @@ fn drive_spacer<B: LineSpacer, S: Source, O: Sink, L: Sink>(
     requires owes { B.owes spacer.old [] [] [] }
     requires nothing { (held : SinkTexts) → SendsTexts (spaced_texts B.reads B.gap)
         (waiting_in texts.old) held held [] }
-    requires room { HasRoom texts.old }
+    requires room { TextHasRoom texts.old }
     ensures driven { DrivesSpacer (spaced_texts B.reads B.gap) (S.left input.old)
         (S.left input.new) (sink_texts (O.held out.old) (L.held log.old))
         (sink_texts (O.held out.new) (L.held log.new)) (waiting_in texts.new) result }
@@ -72,7 +72,7 @@ fn drive_spacer<B: LineSpacer, S: Source, O: Sink, L: Sink>(
     ensures read { has_stopped result ≡ false
         → IsReadCause (S.faults input.old) (S.faults input.new) (is_read_fault result) }
     ensures sinks { IsSinkCause (O.faults out.old) (O.faults out.new) (L.faults log.old)
-        (L.faults log.new) (is_write_fault (answer_of result)) }
+        (L.faults log.new) (is_write_fault (drive_answer_of result)) }
     ensures flushes { NoneFlushed O.Sink L.Sink out.old out.new log.old log.new }
 {
     let mut lines = SpacedLines::new(spacer, texts, out, log);

@@ -4,7 +4,7 @@ ghost use Rattle.yasir_ticks.specs.TickRun.{run_ticks, run_items};
 ghost use Rattle.yasir_ticks.specs.declared.tick_run.TickRun.TheVariants.{Bytes, Silence};
 ghost use Rattle.frame_ending.specs.Answered.{answered};
 ghost use Rattle.device_model.specs.Frames.{frames_lent};
-ghost use Rattle.line_texts.specs.Adding.{HasRoom, IsShort, Adds};
+ghost use Rattle.line_texts.specs.Adding.{TextHasRoom, IsShort, TextAdds};
 ghost use Rattle.line_texts.specs.Texts.{waiting_in};
 ghost use Rattle.tick_drive.specs.Consumers.{MayTake, GivesSome};
 ghost use Rattle.line_commands.specs.SpacedLines.{spacing};
@@ -37,10 +37,10 @@ pub struct SpacedLines<'a, B, O, L> {
 // kept separate, since few frames are lost.
 #[inline(never)]
 fn add_lost(texts: &mut Texts, start: u64, frame: &[u8], answer: TickRun<'_>)
-    requires room { HasRoom texts.old }
+    requires room { TextHasRoom texts.old }
     requires short { IsShort (run_ticks answer) }
     requires frame { length frame.now ≤ 292 }
-    ensures { Adds (waiting_in texts.old) (waiting_in texts.new) (run_ticks answer.entry)
+    ensures { TextAdds (waiting_in texts.old) (waiting_in texts.new) (run_ticks answer.entry)
         (lost_line (record { start = start; frame = frame.now })) }
 {
     let mut line = TextRoom::<LINE_ROOM>::new();
@@ -52,9 +52,9 @@ fn add_lost(texts: &mut Texts, start: u64, frame: &[u8], answer: TickRun<'_>)
 // the ticks that left.
 #[inline(always)]
 fn add_answer<B: LineSpacer>(texts: &mut Texts, spacer: &B, run: SpaceRun)
-    requires room { HasRoom texts.old }
+    requires room { TextHasRoom texts.old }
     requires short { run.taken < 1000000 }
-    ensures { Adds (waiting_in texts.old) (waiting_in texts.new)
+    ensures { TextAdds (waiting_in texts.old) (waiting_in texts.new)
         (answered run.taken (B.sent spacer.now))
         (lost_lines (frames_lent run.lost (B.lent spacer.now))) }
 {
@@ -96,7 +96,7 @@ impl<'a, B: LineSpacer, O: Sink, L: Sink> SpacedLines<'a, B, O, L> {
     #[inline(always)]
     fn write_some(&mut self, owed: usize, read: Option<u64>) -> Result<usize, Stop>
         requires some { 0 < owed }
-        requires room { HasRoom self.old.texts.now }
+        requires room { TextHasRoom self.old.texts.now }
         ensures { WritesSome B.LineSpacer O.Sink L.Sink self.old self.new owed read result }
     {
         let answer = self.spacer.give_front(owed, read);
@@ -116,7 +116,7 @@ impl<'a, B: LineSpacer, O: Sink, L: Sink> SpacedLines<'a, B, O, L> {
     #[inline(never)]
     fn write_owed(&mut self, read: Option<u64>) -> Result<(), Stop>
         requires some { 0 < self.old.owed }
-        requires room { HasRoom self.old.texts.now }
+        requires room { TextHasRoom self.old.texts.now }
         ensures { WritesOwed B.LineSpacer O.Sink L.Sink self.old self.new read result }
     {
         let mut left = self.owed;
@@ -132,7 +132,7 @@ impl<'a, B: LineSpacer, O: Sink, L: Sink> SpacedLines<'a, B, O, L> {
 
     /// Adds the answers that are still owed at the end of a line.
     pub fn write_rest(&mut self) -> Result<(), Stop>
-        requires { HasRoom self.old.texts.now }
+        requires { TextHasRoom self.old.texts.now }
         ensures { WritesOwed B.LineSpacer O.Sink L.Sink self.old self.new None result }
     {
         if self.owed == 0 {

@@ -108,7 +108,7 @@ pub trait LineSpacer: Drop {
 
 impl<V: Device + Drop, const GAP: usize> LineSpacer for Spacer<V, GAP> {
     ghost use Rattle.line_spacer.specs.Owing.{Owes};
-    ghost use Rattle.line_spacer.specs.Stands.{ticks_taken, bytes_sent, bytes_lent};
+    ghost use Rattle.line_spacer.specs.Stands.{ticks_spaced, bytes_sent, spaced_bytes_lent};
 
     ghost reads = { V.reads };
 
@@ -118,11 +118,11 @@ impl<V: Device + Drop, const GAP: usize> LineSpacer for Spacer<V, GAP> {
 
     ghost owes = { Owes V.Device most_waiting };
 
-    ghost taken = { ticks_taken V.Device };
+    ghost taken = { ticks_spaced V.Device };
 
     ghost sent = { bytes_sent };
 
-    ghost lent = { bytes_lent V.lent };
+    ghost lent = { spaced_bytes_lent V.lent };
 
     fn new(alloc: Global) -> Result<Self, NoMemory> {
         Spacer::new(alloc, MOST_WAITING)

@@ -14,15 +14,15 @@ abbrev pub refused_by : {R : Type 0} → Outlet R → R
 refused_by value = value.refused
 
 -- Holds if these are all bytes of the last refused burst.
-abbrev pub Refuses : {R : Type 0} → LineRules R → Outlet R → List ℕ → Type 0
-Refuses proto value x = proto.stands (refused_by value) x
+abbrev pub OutletRefuses : {R : Type 0} → LineRules R → Outlet R → List ℕ → Type 0
+OutletRefuses proto value x = proto.stands (refused_by value) x
 
 -- Holds if `x` can be the bytes for which a byte has left: those of the burst as they came, and
 -- then 00 for each byte of its fill. While a fill is owed, `x` has all bytes of the burst, and as
 -- many more bytes of the fill are owed as the frame lacks.
-pub record StandsFor {R : Type 0} (proto : LineRules R) (value : Outlet R) (x : List ℕ) : Type 0
+pub record OutletStandsForTicks {R : Type 0} (proto : LineRules R) (value : Outlet R) (x : List ℕ) : Type 0
   where
-    pub bytes : 0 < value.owed → Refuses proto value x
+    pub bytes : 0 < value.owed → OutletRefuses proto value x
     pub owes : 0 < value.owed → value.owed ≡ lacking_of proto.rules x
 
 -- What leaves for the byte `b` after the bytes `x`: it is spoiled if it is the last one of a burst

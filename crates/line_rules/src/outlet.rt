@@ -1,7 +1,7 @@
 //! The bytes that leave for one burst, and the ending that is spoiled if the burst is refused.
 ghost use Rattle.std.specs.Prelude.{◌≡◌, ℕ, ◌-◌, List, ◌∷◌, [], ◌++◌, Bool, true, false};
 ghost use Rattle.std.specs.Prelude.{nat_lt};
-ghost use Rattle.line_rules.specs.Outlet.{StandsFor, Refuses, owed_by, refused_by, emitted};
+ghost use Rattle.line_rules.specs.Outlet.{OutletStandsForTicks, OutletRefuses, owed_by, refused_by, emitted};
 ghost use Rattle.line_rules.specs.Outlet.{owed_after, filled, filled_bytes};
 
 use crate::LineRules;
@@ -56,14 +56,14 @@ impl<R: LineRules> Outlet<R> {
     #[inline]
     pub fn emit(&mut self, b: u8, last: bool, passed: bool) -> u8
         ensures answer { (x : List ℕ)
-            → (last ≡ true → passed ≡ false → Refuses R.LineRules self.old (x ++ b ∷ []))
+            → (last ≡ true → passed ≡ false → OutletRefuses R.LineRules self.old (x ++ b ∷ []))
             → result ≡ emitted R.rules x b last passed }
         ensures owed { (x : List ℕ)
-            → (last ≡ true → passed ≡ false → Refuses R.LineRules self.old (x ++ b ∷ []))
+            → (last ≡ true → passed ≡ false → OutletRefuses R.LineRules self.old (x ++ b ∷ []))
             → owed_by self.new ≡ owed_after R.rules x b last passed }
         ensures stands { (x : List ℕ)
-            → (last ≡ true → passed ≡ false → Refuses R.LineRules self.old (x ++ b ∷ []))
-            → StandsFor R.LineRules self.new (x ++ b ∷ []) }
+            → (last ≡ true → passed ≡ false → OutletRefuses R.LineRules self.old (x ++ b ∷ []))
+            → OutletStandsForTicks R.LineRules self.new (x ++ b ∷ []) }
         ensures refused { refused_by self.new ≡ refused_by self.old }
     {
         if !last {
@@ -84,11 +84,11 @@ impl<R: LineRules> Outlet<R> {
     /// Returns the next byte of the fill, or `None` if none is owed.
     #[inline]
     pub fn fill(&mut self) -> Option<u8>
-        ensures stands { (x : List ℕ) → StandsFor R.LineRules self.old x
-            → StandsFor R.LineRules self.new (x ++ filled_bytes result) }
-        ensures answer { (x : List ℕ) → StandsFor R.LineRules self.old x
+        ensures stands { (x : List ℕ) → OutletStandsForTicks R.LineRules self.old x
+            → OutletStandsForTicks R.LineRules self.new (x ++ filled_bytes result) }
+        ensures answer { (x : List ℕ) → OutletStandsForTicks R.LineRules self.old x
             → result ≡ filled R.rules x (owed_by self.old) }
-        ensures owed { (x : List ℕ) → StandsFor R.LineRules self.old x
+        ensures owed { (x : List ℕ) → OutletStandsForTicks R.LineRules self.old x
             → owed_by self.new ≡ owed_by self.old - 1 }
         ensures unowed { owed_by self.old ≡ 0 → self.new ≡ self.old }
     {

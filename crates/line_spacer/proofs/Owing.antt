@@ -4,7 +4,7 @@ use Rattle.device_model.specs.{Frames.FrameRead, declared.device.Device.Ghosts a
 use Rattle.line_spacer.proofs.Runs.{IsQuiet, spaced-run}
 use Rattle.line_spacer.specs.{Arrivals.arriving, Owing.ArePending, Owing.Owes, Owing.still_read}
 use Rattle.line_spacer.specs.Spacing.{Spaced, accepted_of, lost_of, spaced, spaced_line}
-use Rattle.line_spacer.specs.Stands.{AnswersSpaced, HasSent, StandsFor, TakesIn, taken_in}
+use Rattle.line_spacer.specs.Stands.{AnswersSpaced, HasSent, SpacerStandsFor, TakesIn, taken_in}
 use Rattle.line_spacer.specs.declared.spacer.Spacer.{Spacer}
 use Rattle.std.proofs.Common.{◌≡◌, ◌∙◌, ℕ, zero, suc, ◌+◌, ◌-◌, ◌<◌, ◌≤◌, List, [], ◌∷◌, ◌++◌}
 use Rattle.std.proofs.Common.{length, map, take, drop, refl, sym, ap, subst, arith, append_assoc}
@@ -295,7 +295,7 @@ module _ (reads : List Tick → List FrameRead) (gap cap : ℕ) where
 -- ---- nothing is owed
 
 pub owes-none : {V : Type 0} {GAP : ℕ} (device : Device V) (cap : ℕ) (value : Spacer V GAP)
-    (line : List Tick) → StandsFor device cap value line → Owes device cap value line [] []
+    (line : List Tick) → SpacerStandsFor device cap value line → Owes device cap value line [] []
 owes-none {V} {GAP} device cap value line stands = record {
   heard = subst (device.stands value.device) (sym (append-nil line)) stands.heard;
   room = stands.room;

@@ -5,7 +5,7 @@ use Rattle.frame_ending.specs.Laid.{tick_at}
 use Rattle.device_model.specs.Frames.{FrameRead}
 use Rattle.device_model.specs.declared.device.Device.{Ghosts as Device}
 use Rattle.line_spacer.specs.Spacing.{Spaced, spaced, accepted_of, lost_of}
-use Rattle.line_spacer.specs.Stands.{SentBy, frame_at, frames_waiting, unsent_of, taken_in}
+use Rattle.line_spacer.specs.Stands.{SentBy, spaced_frame_at, frames_waiting, unsent_of, taken_in}
 use Rattle.line_spacer.specs.declared.spacer.Spacer.{Spacer}
 
 -- Holds if `made` is what was made of a line and the ticks after it, without `frames`, which are
@@ -33,7 +33,7 @@ still_read (t ∷ ticks) frames = frames
 
 -- for how many ticks the other line is busy with the frame that has begun, and with those that wait
 abbrev pub busy_ticks : {V : Type 0} {GAP : ℕ} → Spacer V GAP → ℕ
-busy_ticks {V} {GAP} value = length (unsent_of value.ready value.sent (frame_at value)) + value.pause
+busy_ticks {V} {GAP} value = length (unsent_of value.ready value.sent (spaced_frame_at value)) + value.pause
     + ticks_for GAP (frames_waiting value)
 
 module _ {V : Type 0} (device : Device V) where

@@ -4,7 +4,7 @@ use Rattle.std.specs.Prelude.{◌≡◌, ℕ, ◌+◌, ◌<◌, ◌≤◌, List,
 use Rattle.yasir_ticks.specs.Bursts.{Burst}
 use Rattle.yasir_ticks.specs.declared.tick.Tick.{Tick}
 use Rattle.frame_ending.specs.Laid.{laid}
-use Rattle.line_spacer.specs.Stands.{HasSent, unsent_of, frame_at, frames_waiting}
+use Rattle.line_spacer.specs.Stands.{HasSent, unsent_of, spaced_frame_at, frames_waiting}
 use Rattle.line_spacer.specs.declared.spacer.Spacer.{Spacer}
 
 -- Holds if `answer` leaves in the ticks from m on, and after them the spacer has sent what
@@ -18,7 +18,7 @@ pub record SendsRun (gap m : ℕ) (accepted : List Burst) (unsent : List ℕ) (p
 -- value of it says.
 abbrev pub SendsRunBy : {V : Type 0} {GAP : ℕ} → Spacer V GAP → ℕ → List Burst → List Tick → Type 0
 SendsRunBy {V} {GAP} value m accepted answer =
-    SendsRun GAP m accepted (unsent_of value.ready value.sent (frame_at value)) value.pause
+    SendsRun GAP m accepted (unsent_of value.ready value.sent (spaced_frame_at value)) value.pause
     (frames_waiting value) answer
 
 -- Holds if the next frame is ready to begin, or none waits, once nothing is left of a frame and of

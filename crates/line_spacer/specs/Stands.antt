@@ -67,12 +67,12 @@ with_next true frame queue = frame ∷ queue
 with_next false frame queue = queue
 
 -- the frame that was begun last, or is the next to begin
-abbrev pub frame_at : {V : Type 0} {GAP : ℕ} → Spacer V GAP → List ℕ
-frame_at value = take value.size value.room
+abbrev pub spaced_frame_at : {V : Type 0} {GAP : ℕ} → Spacer V GAP → List ℕ
+spaced_frame_at value = take value.size value.room
 
 -- the frames that wait
 abbrev pub frames_waiting : {V : Type 0} {GAP : ℕ} → Spacer V GAP → List (List ℕ)
-frames_waiting value = with_next value.ready (frame_at value) value.queue.frames
+frames_waiting value = with_next value.ready (spaced_frame_at value) value.queue.frames
 
 -- the bytes that left in the last ticks that were taken
 abbrev pub bytes_sent : {V : Type 0} {GAP : ℕ} → Spacer V GAP → List ℕ
@@ -82,23 +82,23 @@ bytes_sent value = take (value.sent - value.before) (drop value.before value.roo
 -- (`HasSent`).
 abbrev pub SentBy : {V : Type 0} {GAP : ℕ} → Spacer V GAP → ℕ → List Burst → Type 0
 SentBy {V} {GAP} value m accepted =
-    HasSent GAP m accepted (unsent_of value.ready value.sent (frame_at value)) value.pause
+    HasSent GAP m accepted (unsent_of value.ready value.sent (spaced_frame_at value)) value.pause
     (frames_waiting value)
 
 module _ {V : Type 0} (device : Device V) where
   -- Holds if the spacer, with room for `cap` frames to wait, has taken this line.
-  pub record StandsFor {GAP : ℕ} (cap : ℕ) (value : Spacer V GAP) (line : List Tick) : Type 0 where
+  pub record SpacerStandsFor {GAP : ℕ} (cap : ℕ) (value : Spacer V GAP) (line : List Tick) : Type 0 where
     pub heard : device.stands value.device line
     pub room : value.queue.capacity ≡ cap
     pub sent : SentBy value (length line) (accepted_of device.reads GAP cap line)
 
   -- how many ticks it has taken
-  abbrev pub ticks_taken : {GAP : ℕ} → Spacer V GAP → ℕ
-  ticks_taken value = device.taken value.device
+  abbrev pub ticks_spaced : {GAP : ℕ} → Spacer V GAP → ℕ
+  ticks_spaced value = device.taken value.device
 
 -- the bytes that the spacer's device lends, where `lent` says what such a device lends
-abbrev pub bytes_lent : {V : Type 0} {GAP : ℕ} → (V → List ℕ) → Spacer V GAP → List ℕ
-bytes_lent lent value = lent value.device
+abbrev pub spaced_bytes_lent : {V : Type 0} {GAP : ℕ} → (V → List ℕ) → Spacer V GAP → List ℕ
+spaced_bytes_lent lent value = lent value.device
 
 -- Holds if, when `ticks` follow a line, `answer` leaves in the same steps, and the frames `lost`
 -- are lost in this step.

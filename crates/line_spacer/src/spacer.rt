@@ -79,7 +79,7 @@ impl<V: Device, const GAP: usize> Spacer<V, GAP> {
     ghost use Rattle.yasir_ticks.specs.declared.tick.Tick.{Tick};
     ghost use Rattle.device_model.specs.Frames.{frames_lent};
     ghost use Rattle.line_spacer.specs.Spacing.{Spaced, waiting_of};
-    ghost use Rattle.line_spacer.specs.Stands.{StandsFor, AnswersSpaced, ticks_taken, bytes_lent};
+    ghost use Rattle.line_spacer.specs.Stands.{SpacerStandsFor, AnswersSpaced, ticks_spaced, spaced_bytes_lent};
     ghost use Rattle.line_spacer.specs.Stands.{SentBy, TakesIn, taken_in, bytes_sent};
     ghost use Rattle.line_spacer.specs.Stands.{frames_waiting, tick_of};
 
@@ -87,8 +87,8 @@ impl<V: Device, const GAP: usize> Spacer<V, GAP> {
     /// here, and none later.
     pub fn new(alloc: Global, cap: usize) -> Result<Spacer<V, GAP>, NoMemory>
         requires gap { 0 < GAP }
-        ensures taken { IfOk result (λ spacer. ticks_taken V.Device spacer ≡ 0) }
-        ensures stands { IfOk result (λ spacer. StandsFor V.Device cap spacer []) }
+        ensures taken { IfOk result (λ spacer. ticks_spaced V.Device spacer ≡ 0) }
+        ensures stands { IfOk result (λ spacer. SpacerStandsFor V.Device cap spacer []) }
         ensures owes { IfOk result (λ spacer. Owes V.Device cap spacer [] [] []) }
     {
         let queue = FrameQueue::with_capacity(alloc, cap)?;
@@ -232,7 +232,7 @@ impl<V: Device, const GAP: usize> Spacer<V, GAP> {
         ensures lent { bytes_sent self.new ≡ bytes_sent self.old }
         ensures sent { (start step : ℕ) (s : Spaced) → SentBy self.old (step + 1) s.accepted
             → SentBy self.new (step + 1) (taken_in GAP self.old.queue.capacity step s
-            (frames_lent (Some start) (bytes_lent V.lent self.old))).accepted }
+            (frames_lent (Some start) (spaced_bytes_lent V.lent self.old))).accepted }
     {
         self.queue.push_back(self.device.frame_bytes());
     }
@@ -247,7 +247,7 @@ impl<V: Device, const GAP: usize> Spacer<V, GAP> {
         ensures lent { bytes_sent self.new ≡ bytes_sent self.old }
         ensures sent { (start step : ℕ) (s : Spaced) → SentBy self.old (step + 1) s.accepted
             → SentBy self.new (step + 1) (taken_in GAP self.old.queue.capacity step s
-            (frames_lent (Some start) (bytes_lent V.lent self.old))).accepted }
+            (frames_lent (Some start) (spaced_bytes_lent V.lent self.old))).accepted }
     {
         self.before = 0;
         self.sent = 0;
@@ -266,11 +266,11 @@ impl<V: Device, const GAP: usize> Spacer<V, GAP> {
         ensures lent { bytes_sent self.new ≡ bytes_sent self.old }
         ensures sent { (step : ℕ) (s : Spaced) → SentBy self.old (step + 1) s.accepted
             → SentBy self.new (step + 1) (taken_in GAP self.old.queue.capacity step s
-            (frames_lent (Some start) (bytes_lent V.lent self.old))).accepted }
+            (frames_lent (Some start) (spaced_bytes_lent V.lent self.old))).accepted }
         ensures takes { (step : ℕ) (s : Spaced) → SentBy self.old (step + 1) s.accepted
             → TakesIn GAP self.old.queue.capacity step s
-            (frames_lent (Some start) (bytes_lent V.lent self.old))
-            (frames_lent result (bytes_lent V.lent self.new)) }
+            (frames_lent (Some start) (spaced_bytes_lent V.lent self.old))
+            (frames_lent result (spaced_bytes_lent V.lent self.new)) }
     {
         let waiting = self.waiting();
         if waiting >= self.queue.capacity() {
@@ -293,11 +293,11 @@ impl<V: Device, const GAP: usize> Spacer<V, GAP> {
         ensures sent { (step : ℕ) (s : Spaced) → SentBy self.old (step + 1) s.accepted
             → SentBy self.new (step + 1)
             (taken_in GAP self.old.queue.capacity step s
-            (frames_lent read (bytes_lent V.lent self.old))).accepted }
+            (frames_lent read (spaced_bytes_lent V.lent self.old))).accepted }
         ensures takes { (step : ℕ) (s : Spaced) → SentBy self.old (step + 1) s.accepted
             → TakesIn GAP self.old.queue.capacity step s
-            (frames_lent read (bytes_lent V.lent self.old))
-            (frames_lent result (bytes_lent V.lent self.new)) }
+            (frames_lent read (spaced_bytes_lent V.lent self.old))
+            (frames_lent result (spaced_bytes_lent V.lent self.new)) }
     {
         let Some(start) = read else {
             return None;
@@ -310,20 +310,20 @@ impl<V: Device, const GAP: usize> Spacer<V, GAP> {
     /// frame is read. Lends the bytes that leave, one in each tick, or none if silence leaves.
     #[inline(always)]
     pub fn take_some(&mut self, run: TickRun<'_>) -> SpaceRun
-        requires room { ticks_taken V.Device self.old + length (run_ticks run) ≤ MAX_TICKS }
+        requires room { ticks_spaced V.Device self.old + length (run_ticks run) ≤ MAX_TICKS }
         requires some { 0 < length (run_ticks run) }
         ensures some { 0 < result.taken }
         ensures within { result.taken ≤ length (run_ticks run.entry) }
-        ensures taken { ticks_taken V.Device self.new
-            ≡ ticks_taken V.Device self.old + result.taken }
+        ensures taken { ticks_spaced V.Device self.new
+            ≡ ticks_spaced V.Device self.old + result.taken }
         ensures long { length (answered result.taken (bytes_sent self.new)) ≡ result.taken }
-        ensures stands { (cap : ℕ) (line : List Tick) → StandsFor V.Device cap self.old line
-            → StandsFor V.Device cap self.new
+        ensures stands { (cap : ℕ) (line : List Tick) → SpacerStandsFor V.Device cap self.old line
+            → SpacerStandsFor V.Device cap self.new
             (line ++ take result.taken (run_ticks run.entry)) }
-        ensures answer { (cap : ℕ) (line : List Tick) → StandsFor V.Device cap self.old line
+        ensures answer { (cap : ℕ) (line : List Tick) → SpacerStandsFor V.Device cap self.old line
             → AnswersSpaced V.reads GAP cap line (take result.taken (run_ticks run.entry))
             (answered result.taken (bytes_sent self.new)) (length line + (result.taken - 1))
-            (frames_lent result.lost (bytes_lent V.lent self.new)) }
+            (frames_lent result.lost (spaced_bytes_lent V.lent self.new)) }
     {
         self.make_ready();
         let most = self.alike().min(run.len());
@@ -339,15 +339,15 @@ impl<V: Device, const GAP: usize> Spacer<V, GAP> {
     /// answers them.
     #[inline(always)]
     pub fn hear_some(&mut self, run: TickRun<'_>) -> Met
-        requires room { ticks_taken V.Device self.old + length (run_ticks run) ≤ MAX_TICKS }
+        requires room { ticks_spaced V.Device self.old + length (run_ticks run) ≤ MAX_TICKS }
         requires some { 0 < length (run_ticks run) }
         ensures some { 0 < result.taken }
         ensures within { result.taken ≤ length (run_ticks run.entry) }
-        ensures taken { ticks_taken V.Device self.new
-            ≡ ticks_taken V.Device self.old + result.taken }
+        ensures taken { ticks_spaced V.Device self.new
+            ≡ ticks_spaced V.Device self.old + result.taken }
         ensures owes { (cap : ℕ) (line owed : List Tick) → Owes V.Device cap self.old line owed []
             → Owes V.Device cap self.new line (owed ++ take result.taken (run_ticks run.entry))
-            (frames_lent result.start (bytes_lent V.lent self.new)) }
+            (frames_lent result.start (spaced_bytes_lent V.lent self.new)) }
     {
         hear_run(&mut self.device, run)
     }
@@ -373,12 +373,12 @@ impl<V: Device, const GAP: usize> Spacer<V, GAP> {
     #[inline(never)]
     pub fn queue_read(&mut self, owed: usize) -> bool
         requires { 0 < owed }
-        ensures taken { ticks_taken V.Device self.new ≡ ticks_taken V.Device self.old }
+        ensures taken { ticks_spaced V.Device self.new ≡ ticks_spaced V.Device self.old }
         ensures stays { result ≡ false → self.new ≡ self.old }
         ensures owes { result ≡ true → (cap start : ℕ) (line ticks : List Tick)
             → length ticks ≡ owed
             → Owes V.Device cap self.old line ticks
-            (frames_lent (Some start) (bytes_lent V.lent self.old))
+            (frames_lent (Some start) (spaced_bytes_lent V.lent self.old))
             → Owes V.Device cap self.new line ticks [] }
     {
         if self.waiting() >= self.queue.capacity() {
@@ -401,19 +401,19 @@ impl<V: Device, const GAP: usize> Spacer<V, GAP> {
         ensures some { 0 < result.taken }
         ensures within { result.taken ≤ owed }
         ensures short { result.taken < 1000000 }
-        ensures taken { ticks_taken V.Device self.new ≡ ticks_taken V.Device self.old }
-        ensures lent { bytes_lent V.lent self.new ≡ bytes_lent V.lent self.old }
+        ensures taken { ticks_spaced V.Device self.new ≡ ticks_spaced V.Device self.old }
+        ensures lent { spaced_bytes_lent V.lent self.new ≡ spaced_bytes_lent V.lent self.old }
         ensures long { length (answered result.taken (bytes_sent self.new)) ≡ result.taken }
         ensures owes { (cap : ℕ) (line ticks : List Tick) → length ticks ≡ owed
-            → Owes V.Device cap self.old line ticks (frames_lent read (bytes_lent V.lent self.old))
+            → Owes V.Device cap self.old line ticks (frames_lent read (spaced_bytes_lent V.lent self.old))
             → Owes V.Device cap self.new (line ++ take result.taken ticks)
             (drop result.taken ticks) (still_read (drop result.taken ticks)
-            (frames_lent read (bytes_lent V.lent self.old))) }
+            (frames_lent read (spaced_bytes_lent V.lent self.old))) }
         ensures answer { (cap : ℕ) (line ticks : List Tick) → length ticks ≡ owed
-            → Owes V.Device cap self.old line ticks (frames_lent read (bytes_lent V.lent self.old))
+            → Owes V.Device cap self.old line ticks (frames_lent read (spaced_bytes_lent V.lent self.old))
             → AnswersSpaced V.reads GAP cap line (take result.taken ticks)
             (answered result.taken (bytes_sent self.new)) (length line + (result.taken - 1))
-            (frames_lent result.lost (bytes_lent V.lent self.new)) }
+            (frames_lent result.lost (spaced_bytes_lent V.lent self.new)) }
     {
         self.make_ready();
         let most = self.alike().min(MOST_TICKS);
@@ -439,14 +439,14 @@ impl<V: Device, const GAP: usize> Spacer<V, GAP> {
 
     // Takes the one tick of this run.
     fn take_one(&mut self, run: TickRun<'_>) -> SpaceStep
-        requires room { ticks_taken V.Device self.old < MAX_TICKS }
+        requires room { ticks_spaced V.Device self.old < MAX_TICKS }
         requires one { length (run_ticks run) ≡ 1 }
-        ensures taken { ticks_taken V.Device self.new ≡ ticks_taken V.Device self.old + 1 }
-        ensures stands { (cap : ℕ) (line : List Tick) → StandsFor V.Device cap self.old line
-            → StandsFor V.Device cap self.new (line ++ run_ticks run.entry) }
-        ensures answer { (cap : ℕ) (line : List Tick) → StandsFor V.Device cap self.old line
+        ensures taken { ticks_spaced V.Device self.new ≡ ticks_spaced V.Device self.old + 1 }
+        ensures stands { (cap : ℕ) (line : List Tick) → SpacerStandsFor V.Device cap self.old line
+            → SpacerStandsFor V.Device cap self.new (line ++ run_ticks run.entry) }
+        ensures answer { (cap : ℕ) (line : List Tick) → SpacerStandsFor V.Device cap self.old line
             → AnswersSpaced V.reads GAP cap line (run_ticks run.entry) (result.tick ∷ [])
-            (length line) (frames_lent result.lost (bytes_lent V.lent self.new)) }
+            (length line) (frames_lent result.lost (spaced_bytes_lent V.lent self.new)) }
     {
         let SpaceRun { taken: _, lost } = self.take_some(run);
         let tick = self.tick_left();
@@ -457,13 +457,13 @@ impl<V: Device, const GAP: usize> Spacer<V, GAP> {
     /// and the frame that is lost in this step, if one is. Fewer than `MAX_TICKS` ticks were taken
     /// before.
     pub fn step(&mut self, t: Tick) -> SpaceStep
-        requires { ticks_taken V.Device self.old < MAX_TICKS }
-        ensures taken { ticks_taken V.Device self.new ≡ ticks_taken V.Device self.old + 1 }
-        ensures stands { (cap : ℕ) (line : List Tick) → StandsFor V.Device cap self.old line
-            → StandsFor V.Device cap self.new (line ++ t ∷ []) }
-        ensures answer { (cap : ℕ) (line : List Tick) → StandsFor V.Device cap self.old line
+        requires { ticks_spaced V.Device self.old < MAX_TICKS }
+        ensures taken { ticks_spaced V.Device self.new ≡ ticks_spaced V.Device self.old + 1 }
+        ensures stands { (cap : ℕ) (line : List Tick) → SpacerStandsFor V.Device cap self.old line
+            → SpacerStandsFor V.Device cap self.new (line ++ t ∷ []) }
+        ensures answer { (cap : ℕ) (line : List Tick) → SpacerStandsFor V.Device cap self.old line
             → AnswersSpaced V.reads GAP cap line (t ∷ []) (result.tick ∷ []) (length line)
-            (frames_lent result.lost (bytes_lent V.lent self.new)) }
+            (frames_lent result.lost (spaced_bytes_lent V.lent self.new)) }
     {
         match t {
             Tick::Silent => self.take_one(TickRun::Silence(1)),
@@ -483,7 +483,7 @@ impl<V: Device, const GAP: usize> Spacer<V, GAP> {
     /// The bytes of the frame that was read in the last tick taken, which the device lends.
     #[inline]
     pub fn frame_bytes(&self) -> &[u8]
-        ensures bytes { result.now ≡ bytes_lent V.lent self.now }
+        ensures bytes { result.now ≡ spaced_bytes_lent V.lent self.now }
         ensures few { length result.now ≤ 292 }
     {
         self.device.frame_bytes()
@@ -492,7 +492,7 @@ impl<V: Device, const GAP: usize> Spacer<V, GAP> {
     /// How many frames wait: those that are accepted and haven't begun.
     pub fn waiting(&self) -> usize
         ensures queued { result ≡ length (frames_waiting self.now) }
-        ensures count { (cap : ℕ) (line : List Tick) → StandsFor V.Device cap self.now line
+        ensures count { (cap : ℕ) (line : List Tick) → SpacerStandsFor V.Device cap self.now line
             → result ≡ waiting_of V.reads GAP cap line }
     {
         let queued = self.queue.len();

@@ -4,7 +4,7 @@ use Rattle.line_stamps.proofs.RoundingLaws.{apart-is, apart-least, rounded-most,
 use Rattle.line_stamps.specs.Clock.{AllNext, time_between, KeepsEdges, KeepsTime, WithinHalf}
 use Rattle.line_stamps.specs.{Clock.ArePartedRecords, Giving.bytes_from, Giving.at_tick}
 use Rattle.line_stamps.specs.Parts.{character, rounded, ticks_apart}
-use Rattle.line_stamps.specs.Places.{Spot, PlacedByte, tick_at, spot_of, steps_apart, placed_at}
+use Rattle.line_stamps.specs.Places.{Spot, PlacedByte, tick_placed_at, spot_of, steps_apart, placed_at}
 use Rattle.line_stamps.specs.Places.{placed_from, placed, ticks_from, next_tick, last_spot_from}
 use Rattle.line_stamps.specs.Places.{start_of}
 use Rattle.line_stamps.specs.declared.{TheConstants.DRIFT_SILENCE, capture.CaptureByte.CaptureByte}
@@ -21,16 +21,16 @@ use Rattle.yasir_ticks.specs.declared.tick.Tick.{Tick, TheVariants.Silent, TheVa
 
 -- the tick of a byte before which drift is taken up, and of one before which it isn't
 pub tick-far : (n before time one : ℕ) → suc DRIFT_SILENCE < n
-    → tick_at n before time one ≡ max (rounded time one) (before + suc DRIFT_SILENCE)
+    → tick_placed_at n before time one ≡ max (rounded time one) (before + suc DRIFT_SILENCE)
 tick-far n before time one h = cond-true _ _ _ (lt-ltb (suc DRIFT_SILENCE) n h)
 
 pub tick-near : (n before time one : ℕ) → n ≤ suc DRIFT_SILENCE
-    → tick_at n before time one ≡ before + n
+    → tick_placed_at n before time one ≡ before + n
 tick-near n before time one h = cond-false _ _ _ (le-ltb (suc DRIFT_SILENCE) n h)
 
 module _ (one : ℕ) (some : 0 < one) (x y : PlacedByte)
     (is : y.spot.tick
-    ≡ tick_at (ticks_apart (time_between x y) one) x.spot.tick y.spot.time one) where
+    ≡ tick_placed_at (ticks_apart (time_between x y) one) x.spot.tick y.spot.time one) where
   abbrev steps : ℕ
   steps = ticks_apart (time_between x y) one
 
@@ -97,10 +97,10 @@ character-some t = let few : 10 ≤ t.rate.bits = t.rate.fewest_bits in omega ar
 -- the tick of a byte after another one, by their times
 pub spot-is : (t : Timing) → t.spacing ≡ ByTime → (before : Spot) (c : CaptureByte)
     → (spot_of t (Some before) c).tick
-    ≡ tick_at (ticks_apart ((spot_of t (Some before) c).time - before.time) (character t.rate))
+    ≡ tick_placed_at (ticks_apart ((spot_of t (Some before) c).time - before.time) (character t.rate))
     before.tick (spot_of t (Some before) c).time (character t.rate)
 spot-is t by-time before c =
-    ap (λ s. tick_at (steps_apart s c.first ((spot_of t (Some before) c).time - before.time)
+    ap (λ s. tick_placed_at (steps_apart s c.first ((spot_of t (Some before) c).time - before.time)
     (character t.rate)) before.tick (spot_of t (Some before) c).time (character t.rate)) by-time
 
 module _ (t : Timing) (Related : PlacedByte → PlacedByte → Type 0)
@@ -129,7 +129,7 @@ module _ (t : Timing) (by-time : t.spacing ≡ ByTime) (cs : List CaptureByte) w
       (placed_at (spot_of t (Some x.spot) c) c) (spot-is t by-time x.spot c)) cs
 
 -- Five ticks or more from one byte to the next stay five or more, even if drift is taken up.
-tick-five : (n before time one : ℕ) → 5 ≤ n → before + 5 ≤ tick_at n before time one
+tick-five : (n before time one : ℕ) → 5 ≤ n → before + 5 ≤ tick_placed_at n before time one
 tick-five n before time one h =
     ⊎_elim (λ (far : 321 < n). rw (tick-far n before time one far) (omega arith))
     (λ (near : n ≤ 321). rw (tick-near n before time one near) (omega arith))
@@ -142,12 +142,12 @@ module _ (t : Timing) (by-record : t.spacing ≡ ByRecord) (x : PlacedByte) (c :
 
   abbrev tick-by : Bool → ℕ
   tick-by first =
-      tick_at (steps_apart ByRecord first (there.spot.time - x.spot.time) (character t.rate))
+      tick_placed_at (steps_apart ByRecord first (there.spot.time - x.spot.time) (character t.rate))
       x.spot.tick there.spot.time (character t.rate)
 
   tick-by-record : there.spot.tick ≡ tick-by c.first
   tick-by-record =
-      ap (λ s. tick_at (steps_apart s c.first (there.spot.time - x.spot.time) (character t.rate))
+      ap (λ s. tick_placed_at (steps_apart s c.first (there.spot.time - x.spot.time) (character t.rate))
       x.spot.tick there.spot.time (character t.rate)) by-record
 
   begins : c.first ≡ true → x.spot.tick + 5 ≤ there.spot.tick
@@ -167,7 +167,7 @@ module _ (t : Timing) (by-record : t.spacing ≡ ByRecord) (x : PlacedByte) (c :
       ∙ apart-is (character t.rate) some (character t.rate) 1 (omega arith) (omega arith)
       (omega arith) in
       let near : tick-by false ≡ x.spot.tick + 1 =
-      ap (λ n. tick_at n x.spot.tick there.spot.time (character t.rate)) step
+      ap (λ n. tick_placed_at n x.spot.tick there.spot.time (character t.rate)) step
       ∙ tick-near 1 x.spot.tick there.spot.time (character t.rate) (omega arith) in
       tick-by-record ∙ (ap tick-by further ∙ (near ∙ add-one x.spot.tick))
 
@@ -200,7 +200,7 @@ steps-some ByTime first gap one some = apart-some one some gap
 steps-some ByRecord true gap one some = omega arith
 steps-some ByRecord false gap one some = apart-some one some gap
 
-tick-behind : (n before time one : ℕ) → 0 < n → before < tick_at n before time one
+tick-behind : (n before time one : ℕ) → 0 < n → before < tick_placed_at n before time one
 tick-behind n before time one h =
     ⊎_elim (λ (far : 321 < n). rw (tick-far n before time one far) (omega arith))
     (λ (near : n ≤ 321). rw (tick-near n before time one near) (omega arith))

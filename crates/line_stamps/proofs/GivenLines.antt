@@ -2,9 +2,9 @@
 use Rattle.line_stamps.proofs.{Clocks.spot-is, GivenTicks.tick-is, GivenTicks.stamped-apart}
 use Rattle.line_stamps.proofs.GivenTicks.{following-apart, start-rises, stamped-free, tick-later}
 use Rattle.line_stamps.proofs.RoundingLaws.{rounded-most, rounded-some}
-use Rattle.line_stamps.specs.Giving.{bytes_from, tick_start, Gives, AreGiven, IsTakenAs}
+use Rattle.line_stamps.specs.Giving.{bytes_from, tick_start, StampsGive, AreStampsGiven, IsTakenAs}
 use Rattle.line_stamps.specs.Parts.{character, rounded, ticks_apart}
-use Rattle.line_stamps.specs.Places.{Spot, spot_of, next_tick, placed_from, ticks_from, tick_at}
+use Rattle.line_stamps.specs.Places.{Spot, spot_of, next_tick, placed_from, ticks_from, tick_placed_at}
 use Rattle.line_stamps.specs.Places.{stamp, start_of}
 use Rattle.line_stamps.specs.Placing.{is_stamped, is_early, overlaps, NoneRefused}
 use Rattle.line_stamps.specs.declared.{capture.CaptureByte.CaptureByte, rate.Rate.Rate}
@@ -93,7 +93,7 @@ module _ (rate : Rate) (unit epoch m : ℕ) (some : 0 < unit)
 
   -- The first byte is in its own tick.
   first-near : (k : ℕ) (byte : ℕ) (c : CaptureByte)
-      → Gives rate unit epoch None (record { tick = m + k; byte = byte }) c
+      → StampsGive rate unit epoch None (record { tick = m + k; byte = byte }) c
       → Near k (spot_of t None c)
   first-near k byte c gives =
       let at : stamp t c ≡ start (m + k) - start m = stamp-is (m + k) c gives in
@@ -124,9 +124,9 @@ module _ (rate : Rate) (unit epoch m : ℕ) (some : 0 < unit)
       time_is = at ∙ is;
       tick_is = spot-is t refl s c
           ∙ (ap
-          (λ x. tick_at (ticks_apart (x - s.time) (character rate)) s.tick x (character rate)) at
-          ∙ (ap (λ n. tick_at n s.tick time (character rate)) apart
-          ∙ (ap (λ x. tick_at (next - k) x time (character rate)) near.tick_is
+          (λ x. tick_placed_at (ticks_apart (x - s.time) (character rate)) s.tick x (character rate)) at
+          ∙ (ap (λ n. tick_placed_at n s.tick time (character rate)) apart
+          ∙ (ap (λ x. tick_placed_at (next - k) x time (character rate)) near.tick_is
           ∙ tick-later (character rate) (unit * rate.baud) one-some small start most least k next
           time
           behind (rounded-at r next time from before is))));
@@ -185,7 +185,7 @@ module _ (rate : Rate) (unit epoch m : ℕ) (some : 0 < unit)
           le-ltb (2 * (start_of t (Some s) c - s.time)) (character rate) free,
         )
 
-    later-near : Gives rate unit epoch (Some (m + k)) (record { tick = m + next; byte = byte }) c
+    later-near : StampsGive rate unit epoch (Some (m + k)) (record { tick = m + next; byte = byte }) c
         → Near next (spot_of t (Some s) c) × Free (Some s) c
     later-near gives =
         ⊎_elim (λ first. (stamped first (gives.0 first), stamped-apart-free first (gives.0 first)))
@@ -202,15 +202,15 @@ module _ (rate : Rate) (unit epoch m : ℕ) (some : 0 < unit)
 
   follows-near : (k : ℕ) (before : Option ℕ) (last : Option Spot) (b : ℕ) (c : CaptureByte)
       → Follows k before last
-      → Gives rate unit epoch before (record { tick = m + k; byte = b }) c
+      → StampsGive rate unit epoch before (record { tick = m + k; byte = b }) c
       → Near k (spot_of t last c) × (next_tick last ≤ k) × Free last c
   follows-near k None None b c had gives =
       (first-near k b c gives, omega arith, (in-time k None c gives, refl))
   follows-near k None (Some s) b c had gives = elim had [ ]
   follows-near k (Some p) None b c had gives = elim had [ ]
   follows-near k (Some p) (Some s) b c (j, is, behind, near) gives =
-      let gives' : Gives rate unit epoch (Some (m + j)) (record { tick = m + k; byte = b }) c =
-      subst (λ (q : ℕ). Gives rate unit epoch (Some q) (record { tick = m + k; byte = b }) c) is
+      let gives' : StampsGive rate unit epoch (Some (m + j)) (record { tick = m + k; byte = b }) c =
+      subst (λ (q : ℕ). StampsGive rate unit epoch (Some q) (record { tick = m + k; byte = b }) c) is
       gives in
       let all = later-near j s near k b c behind gives' in
       (all.0, (let e = near.tick_is in omega arith), all.1)
@@ -226,7 +226,7 @@ module _ (rate : Rate) (unit epoch m : ℕ) (some : 0 < unit)
   -- The line is the same from tick m + k on.
   same-line : (rest : List Tick) (k : ℕ) (before : Option ℕ) (last : Option Spot)
       (cs : List CaptureByte) → Follows k before last
-      → AreGiven rate unit epoch before (bytes_from (m + k) rest) cs
+      → AreStampsGiven rate unit epoch before (bytes_from (m + k) rest) cs
       → (n : ℕ) × (silent (k - next_tick last) ++ rest
       ≡ ticks_from (next_tick last) (placed_from t last cs) ++ silent n) × NoneRefused t last cs
   same-line [] k before last [] had given =
@@ -235,8 +235,8 @@ module _ (rate : Rate) (unit epoch m : ℕ) (some : 0 < unit)
   same-line (Silent ∷ rest) k before last cs had given =
       let more = follows-later k before last had in
       let e : suc (m + k) ≡ m + suc k = omega arith in
-      let given' : AreGiven rate unit epoch before (bytes_from (m + suc k) rest) cs =
-      subst (λ (i : ℕ). AreGiven rate unit epoch before (bytes_from i rest) cs) e given in
+      let given' : AreStampsGiven rate unit epoch before (bytes_from (m + suc k) rest) cs =
+      subst (λ (i : ℕ). AreStampsGiven rate unit epoch before (bytes_from i rest) cs) e given in
       let all = same-line rest (suc k) before last cs more.0 given' in
       let few = more.1 in
       let f : suc k - next_tick last ≡ suc (k - next_tick last) = omega arith in (
@@ -250,8 +250,8 @@ module _ (rate : Rate) (unit epoch m : ℕ) (some : 0 < unit)
       let here = follows-near k before last b c had gives in
       let there = here.0.tick_is in
       let e : suc (m + k) ≡ m + suc k = omega arith in
-      let given' : AreGiven rate unit epoch (Some (m + k)) (bytes_from (m + suc k) rest) cs =
-      subst (λ (i : ℕ). AreGiven rate unit epoch (Some (m + k)) (bytes_from i rest) cs) e more in
+      let given' : AreStampsGiven rate unit epoch (Some (m + k)) (bytes_from (m + suc k) rest) cs =
+      subst (λ (i : ℕ). AreStampsGiven rate unit epoch (Some (m + k)) (bytes_from i rest) cs) e more in
       let all = same-line rest (suc k) (Some (m + k)) (Some (spot_of t last c)) cs
       (k, refl, omega arith, here.0) given' in
       let f : suc k - suc (spot_of t last c).tick ≡ 0 = omega arith in
@@ -274,11 +274,11 @@ module _ (rate : Rate) (unit epoch m : ℕ) (some : 0 < unit)
       )
 
   module _ (rest : List Tick) (cs : List CaptureByte)
-      (given : AreGiven rate unit epoch None (bytes_from m rest) cs) where
-    from-start : AreGiven rate unit epoch None (bytes_from (m + 0) rest) cs
+      (given : AreStampsGiven rate unit epoch None (bytes_from m rest) cs) where
+    from-start : AreStampsGiven rate unit epoch None (bytes_from (m + 0) rest) cs
     from-start =
         let e : m ≡ m + 0 = omega arith in
-        subst (λ (i : ℕ). AreGiven rate unit epoch None (bytes_from i rest) cs) e given
+        subst (λ (i : ℕ). AreStampsGiven rate unit epoch None (bytes_from i rest) cs) e given
 
     pub given-line : IsTakenAs t cs rest
     given-line = let all = same-line rest 0 None None cs tt from-start in (all.0, all.1)

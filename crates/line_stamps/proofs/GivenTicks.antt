@@ -2,7 +2,7 @@
 -- of `one` parts, and starts of ticks in parts, each at most half of `off` parts from its own.
 use Rattle.line_stamps.proofs.Clocks.{tick-far, tick-near}
 use Rattle.line_stamps.proofs.RoundingLaws.{rounded-is, apart-is}
-use Rattle.line_stamps.specs.{Parts.rounded, Parts.ticks_apart, Places.tick_at}
+use Rattle.line_stamps.specs.{Parts.rounded, Parts.ticks_apart, Places.tick_placed_at}
 use Rattle.std.proofs.Common.{◌≡◌, ◌∙◌, ℕ, suc, ◌+◌, ◌-◌, ◌*◌, ◌<◌, ◌≤◌, ⊎_elim, sym, ap, add-mul}
 use Rattle.std.proofs.{Common.arith, Math.Nat.mul-le-mul_right, lemmas.Bool.cases_lt}
 
@@ -83,7 +83,7 @@ module _ (one off : ℕ) (some : 0 < one) (small : 2 * off < one) (start : ℕ �
 
   -- A byte whose nearest tick is `next` is in that tick, whether drift is taken up or not.
   pub tick-later : (k next time : ℕ) → k < next → rounded time one ≡ next
-      → tick_at (next - k) k time one ≡ next
+      → tick_placed_at (next - k) k time one ≡ next
   tick-later k next time behind is =
       ⊎_elim
       (λ (far : 321 < next - k). tick-far (next - k) k time one far ∙ omega arith)

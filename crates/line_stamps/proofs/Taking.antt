@@ -1,6 +1,6 @@
 -- One more byte: where it is, and what it adds to the line.
 use Rattle.line_stamps.specs.{Parts.character, Places.Spot, Places.spot_of, Places.next_tick}
-use Rattle.line_stamps.specs.Places.{placed_from, ticks_from, line_of, last_spot_from, last_spot}
+use Rattle.line_stamps.specs.Places.{placed_from, ticks_from, line_of_places, last_spot_from, last_spot}
 use Rattle.line_stamps.specs.{Places.start_of, Places.tick_after, Placing.silence_before}
 use Rattle.line_stamps.specs.Placing.{overlaps_at, overlaps, overlaps_from, overlap_count}
 use Rattle.line_stamps.specs.declared.{capture.CaptureByte.CaptureByte, timing.Timing.Timing}
@@ -84,10 +84,10 @@ module _ (t : Timing) where
 
     pub silence-line : (n m : ℕ) → m ≡ next_tick last → n ≡ tick - m
         → (cs : List CaptureByte) → last ≡ last_spot t cs
-        → line_of t (cs ++ c ∷ []) ≡ line_of t cs ++ (silent n ++ Byte c.byte ∷ [])
+        → line_of_places t (cs ++ c ∷ []) ≡ line_of_places t cs ++ (silent n ++ Byte c.byte ∷ [])
     silence-line n m next silence cs had =
         let before : silence_before (last_spot t cs) (spot_of t (last_spot t cs) c) ≡ n =
         ap (λ x. silence_before x (spot_of t x c)) (sym had)
         ∙ (ap (λ x. silence_before last x) (sym stands)
         ∙ (ap (λ x. tick - x) (sym next) ∙ sym silence)) in
-        line-more None cs c ∙ ap (λ k. line_of t cs ++ (silent k ++ Byte c.byte ∷ [])) before
+        line-more None cs c ∙ ap (λ k. line_of_places t cs ++ (silent k ++ Byte c.byte ∷ [])) before

@@ -4,7 +4,7 @@ use Rattle.std.proofs.Common.{◌≡◌, ◌∙◌, ℕ, Bool, true, false, List
 use Rattle.std.proofs.Common.{Result, Ok, Err, refl, ap, sym, append_assoc, append-nil, subst}
 use Rattle.std.proofs.lemmas.List.{append_cancel_left}
 use Rattle.std.specs.Option.{option_to_list}
-use Rattle.line_stamps.specs.Walks.{walk, after_items, and_then_walk, Begins, BeginsNone, ReadsFormat}
+use Rattle.line_stamps.specs.Walks.{walk, after_items, and_then_walk, WalkBegins, WalkBeginsNone, ReadsFormat}
 use Rattle.line_stamps.specs.Walks.{GoesOnFrom, HaveFirst}
 
 module _ {P I F : Type 0} where
@@ -170,7 +170,7 @@ module _ {P I F : Type 0} (step : P → ℕ → Result (P × Option I) F) (start
 
   pub reads_begins : (bytes : List ℕ) (place : P) (items : List I)
       → walk step start bytes ≡ Ok (place, items)
-      → PartsFrom step start ends IsRight place → Begins IsRight bytes items
+      → PartsFrom step start ends IsRight place → WalkBegins IsRight bytes items
   reads_begins bytes place items e on = record {
     more = on.one.more;
     others = on.one.others;
@@ -184,7 +184,7 @@ module _ {P I F : Type 0} (step : P → ℕ → Result (P × Option I) F) (start
 
   pub reads_none : (bytes : List ℕ) (place : P) (items : List I) (b : ℕ) (why : F)
       → walk step start bytes ≡ Ok (place, items) → step place b ≡ Err why
-      → BeginsNone IsRight (bytes ++ b ∷ [])
+      → WalkBeginsNone IsRight (bytes ++ b ∷ [])
   reads_none bytes place items b why e f = λ more all r.
       let whole = reads.complete ((bytes ++ b ∷ []) ++ more) all r in
       let refused = walk-refused step start place bytes more items b why e f in

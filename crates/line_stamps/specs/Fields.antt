@@ -1,7 +1,7 @@
 -- Readers of formats that have fields of four bytes, and single bytes between them.
 use Rattle.std.specs.Prelude.{◌≡◌, ℕ, ◌<◌, ◌≤◌, nat_lt, Bool, if◌then◌else◌, List, [], ◌∷◌, ◌++◌}
 use Rattle.std.specs.Prelude.{length, Option, None, Result, Ok, Err}
-use Rattle.line_stamps.specs.Walks.{HaveFirst, Begins, BeginsNone}
+use Rattle.line_stamps.specs.Walks.{HaveFirst, WalkBegins, WalkBeginsNone}
 
 -- where a reader of such a format is: what comes next, and the bytes of a field that have come so
 -- far
@@ -38,7 +38,7 @@ module _ {I : Type 0} (IsRight : List ℕ → List I → Type 0) where
     pub partial : List ℕ
     pub is : bytes ≡ front ++ partial
     pub short : length partial < 4
-    pub begins : Begins IsRight front items
+    pub begins : WalkBegins IsRight front items
     pub each : HaveFirst IsRight bytes items
 
 -- Holds if byte b after these bytes is refused at the right offset and for the right cause: its
@@ -51,7 +51,7 @@ module _ {I F : Type 0} (IsRight : List ℕ → List I → Type 0)
     pub field : List ℕ
     pub is : bytes ++ b ∷ [] ≡ front ++ field
     pub short : length field ≤ 4
-    pub begins : Begins IsRight front items
-    pub wrong : BeginsNone IsRight (front ++ field)
+    pub begins : WalkBegins IsRight front items
+    pub wrong : WalkBeginsNone IsRight (front ++ field)
     pub place : offset ≡ length front
     pub cause : IsCause front field why

@@ -8,7 +8,7 @@ use Rattle.line_stamps.specs.declared.capture.CaptureByte.{CaptureByte}
 use Rattle.line_stamps.specs.declared.rate.Rate.{Rate}
 use Rattle.line_stamps.specs.declared.timing.Spacing.TheVariants.{ByTime}
 use Rattle.line_stamps.specs.declared.timing.Timing.{Timing}
-use Rattle.line_stamps.specs.Places.{PlacedByte, line_of}
+use Rattle.line_stamps.specs.Places.{PlacedByte, line_of_places}
 use Rattle.line_stamps.specs.Parts.{character, rounded}
 
 -- The start of a tick, in nanoseconds since tick 0, in a capture that counts time in units of this
@@ -27,7 +27,7 @@ taken_from rate unit epoch m = record {
 
 -- Holds if a capture is taken as this line, apart from the silence after its last byte.
 abbrev pub IsTakenAs : Timing → List CaptureByte → List Tick → Type 0
-IsTakenAs t cs line = (n : ℕ) × (line ≡ line_of t cs ++ silent n)
+IsTakenAs t cs line = (n : ℕ) × (line ≡ line_of_places t cs ++ silent n)
 
 -- a byte of a line, with its tick
 pub record ByteAt : Type 0 where
@@ -49,17 +49,17 @@ module _ (rate : Rate) (unit epoch : ℕ) where
   -- the byte before it, if there is one. The first byte of all and the first byte of each record
   -- have a time stamp, which is the start of their tick, counted from `epoch`. Each other byte is
   -- in the tick after `before`.
-  abbrev pub Gives : Option ℕ → ByteAt → CaptureByte → Type 0
-  Gives None x c = c.start ≡ epoch + tick_start rate unit x.tick
-  Gives (Some before) x c =
+  abbrev pub StampsGive : Option ℕ → ByteAt → CaptureByte → Type 0
+  StampsGive None x c = c.start ≡ epoch + tick_start rate unit x.tick
+  StampsGive (Some before) x c =
       (c.first ≡ true → c.start ≡ epoch + tick_start rate unit x.tick)
       × (c.first ≡ false → x.tick ≡ suc before)
 
   -- Holds if these bytes of a capture give these bytes of a line, in the same order and in whatever
   -- records.
-  abbrev pub AreGiven : Option ℕ → List ByteAt → List CaptureByte → Type 0
-  AreGiven before [] [] = Unit {0}
-  AreGiven before [] (c ∷ cs) = ⊥
-  AreGiven before (x ∷ xs) [] = ⊥
-  AreGiven before (x ∷ xs) (c ∷ cs) =
-      (c.byte ≡ x.byte) × Gives before x c × AreGiven (Some x.tick) xs cs
+  abbrev pub AreStampsGiven : Option ℕ → List ByteAt → List CaptureByte → Type 0
+  AreStampsGiven before [] [] = Unit {0}
+  AreStampsGiven before [] (c ∷ cs) = ⊥
+  AreStampsGiven before (x ∷ xs) [] = ⊥
+  AreStampsGiven before (x ∷ xs) (c ∷ cs) =
+      (c.byte ≡ x.byte) × StampsGive before x c × AreStampsGiven (Some x.tick) xs cs

@@ -38,8 +38,8 @@ steps_apart ByRecord false gap length_of_one = ticks_apart gap length_of_one
 -- The tick of a byte that starts at this time, n ticks after the one before it if there is no
 -- drift. Drift is taken up in silences of more than 320 ticks: there the byte is in the tick that
 -- is nearest to its time, but after at least 320 silent ticks.
-abbrev pub tick_at : ℕ → ℕ → ℕ → ℕ → ℕ
-tick_at n before time length_of_one =
+abbrev pub tick_placed_at : ℕ → ℕ → ℕ → ℕ → ℕ
+tick_placed_at n before time length_of_one =
     if nat_lt (suc DRIFT_SILENCE) n
     then max (rounded time length_of_one) (before + suc DRIFT_SILENCE)
     else before + n
@@ -48,7 +48,7 @@ tick_at n before time length_of_one =
 abbrev pub tick_after : Timing → Option Spot → Bool → ℕ → ℕ
 tick_after t None first time = rounded time (character t.rate)
 tick_after t (Some before) first time =
-    tick_at (steps_apart t.spacing first (time - before.time) (character t.rate)) before.tick time
+    tick_placed_at (steps_apart t.spacing first (time - before.time) (character t.rate)) before.tick time
     (character t.rate)
 
 -- where a byte is, given where the byte before it is, if there is one
@@ -89,8 +89,8 @@ ticks_from n [] = []
 ticks_from n (x ∷ xs) = silent (x.spot.tick - n) ++ (Byte x.byte ∷ ticks_from (suc x.spot.tick) xs)
 
 -- the line that one way of a capture represents, up to its last byte
-abbrev pub line_of : Timing → List CaptureByte → List Tick
-line_of t cs = ticks_from 0 (placed t cs)
+abbrev pub line_of_places : Timing → List CaptureByte → List Tick
+line_of_places t cs = ticks_from 0 (placed t cs)
 
 -- where the last of these bytes is, or the byte before them if there are none
 abbrev pub last_spot_from : Timing → Option Spot → List CaptureByte → Option Spot

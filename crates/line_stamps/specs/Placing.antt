@@ -84,7 +84,7 @@ timing_of placer = placer.timing
 
 -- Holds if a placer has taken these bytes: it knows where the last one is, and counts those that
 -- overlap, up to 2^64 - 1.
-pub record HasTaken (placer : Placer) (cs : List CaptureByte) : Type 0 where
+pub record PlacingHasTaken (placer : Placer) (cs : List CaptureByte) : Type 0 where
   pub stands : spot_if placer.last ≡ last_spot placer.timing cs
   pub counted : placer.overlaps ≡ min (overlap_count placer.timing cs) (2 ^ 64 - 1)
 
@@ -92,7 +92,7 @@ pub record HasTaken (placer : Placer) (cs : List CaptureByte) : Type 0 where
 abbrev pub HasTakenMore : Placer → Placer → CaptureByte → Type 0
 HasTakenMore old new c =
     (new.timing ≡ old.timing)
-    × ((cs : List CaptureByte) → HasTaken old cs → HasTaken new (cs ++ c ∷ []))
+    × ((cs : List CaptureByte) → PlacingHasTaken old cs → PlacingHasTaken new (cs ++ c ∷ []))
 
 -- What `place` leaves of a placer, by its result: a byte that overlaps is taken, though it isn't
 -- placed, and one that is early or late changes nothing.

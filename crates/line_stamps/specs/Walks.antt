@@ -31,7 +31,7 @@ module _ {I : Type 0} (IsRight : List ℕ → List I → Type 0) where
 
   -- Holds if the bytes begin an input of this format, and these are the items of the bytes: each
   -- input that begins with the bytes has these items first, and no more items come first in each.
-  pub record Begins (bytes : List ℕ) (items : List I) : Type 0 where
+  pub record WalkBegins (bytes : List ℕ) (items : List I) : Type 0 where
     pub more : List ℕ
     pub others : List I
     pub right : IsRight (bytes ++ more) (items ++ others)
@@ -39,8 +39,8 @@ module _ {I : Type 0} (IsRight : List ℕ → List I → Type 0) where
     pub no_more : (further : List I) → HaveFirst bytes (items ++ further) → further ≡ []
 
   -- Holds if no input of this format begins with these bytes.
-  abbrev pub BeginsNone : List ℕ → Type 0
-  BeginsNone bytes = (more : List ℕ) (items : List I) → IsRight (bytes ++ more) items → ⊥
+  abbrev pub WalkBeginsNone : List ℕ → Type 0
+  WalkBeginsNone bytes = (more : List ℕ) (items : List I) → IsRight (bytes ++ more) items → ⊥
 
 -- Holds if a reader reads exactly this format: the inputs over which it gets from its first place
 -- to one where the input may end are those of the format, with their items.

@@ -8,7 +8,7 @@ pub trait CaptureReader: Drop {
     ghost use Rattle.std.specs.Prelude.{◌≡◌, ℕ, ◌+◌, ◌<◌, List, [], ◌∷◌, ◌++◌, Option, Some, None};
     ghost use Rattle.std.specs.Prelude.{Err, OnOk, IfOk, IfErr};
     ghost use Rattle.std.specs.Option.{option_to_list};
-    ghost use Rattle.line_stamps.specs.Walks.{BeginsNone};
+    ghost use Rattle.line_stamps.specs.Walks.{WalkBeginsNone};
     ghost use Rattle.line_stamps.specs.declared.seen.Seen.{Seen};
     ghost use Rattle.line_stamps.specs.declared.TheConstants.{MAX_BYTES};
 
@@ -65,7 +65,7 @@ pub trait CaptureReader: Drop {
         // It refuses a byte only if no capture of this form begins with the bytes up to it, and
         // says why and where.
         ensures refused { (bytes : List ℕ) (items : List Seen) → stands self.old bytes items
-            → IfErr result (λ bad. BeginsNone format (bytes ++ b ∷ [])
+            → IfErr result (λ bad. WalkBeginsNone format (bytes ++ b ∷ [])
             × refuses bytes items (Some b) bad) }
         ensures taken { OnOk result (bytes_taken self.new ≡ bytes_taken self.old + 1) }
         ensures remembered { IfErr result (λ bad. has_refused self.new bad) }

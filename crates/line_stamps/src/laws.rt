@@ -7,23 +7,23 @@ ghost use Rattle.line_stamps.specs.declared.capture.CaptureByte.{CaptureByte};
 ghost use Rattle.line_stamps.specs.declared.timing.Spacing.TheVariants.{ByTime, ByRecord};
 ghost use Rattle.line_stamps.specs.declared.timing.Timing.{Timing};
 ghost use Rattle.line_stamps.specs.declared.rate.Rate.{Rate};
-ghost use Rattle.line_stamps.specs.Giving.{bytes_from, at_tick, AreGiven, taken_from, IsTakenAs};
+ghost use Rattle.line_stamps.specs.Giving.{bytes_from, at_tick, AreStampsGiven, taken_from, IsTakenAs};
 ghost use Rattle.line_stamps.specs.Parts.{character};
-ghost use Rattle.line_stamps.specs.Places.{placed, line_of};
+ghost use Rattle.line_stamps.specs.Places.{placed, line_of_places};
 ghost use Rattle.line_stamps.specs.Placing.{NoneRefused};
 ghost use Rattle.line_stamps.specs.Clock.{AllNext, KeepsEdges, KeepsTime, ArePartedRecords};
 
 /// A law of the definitions: the line of a capture has the same bytes in the same order.
 pub fn same_bytes_in_the_same_order()
     ensures { (t : Timing) (cs : List CaptureByte)
-        → bytes_in (line_of t cs) ≡ map (λ c. c.byte) cs }
+        → bytes_in (line_of_places t cs) ≡ map (λ c. c.byte) cs }
 {}
 
 /// A law of the definitions: each byte of a capture is on the line in the tick in which it is
 /// placed.
 pub fn bytes_stand_in_their_ticks()
     ensures { (t : Timing) (cs : List CaptureByte)
-        → bytes_from 0 (line_of t cs) ≡ map at_tick (placed t cs) }
+        → bytes_from 0 (line_of_places t cs) ≡ map at_tick (placed t cs) }
 {}
 
 /// A law of the definitions, for captures that are placed by their times: no silence is rounded
@@ -57,10 +57,10 @@ pub fn records_are_parted()
 pub fn what_was_given_is_taken()
     ensures same { (rate : Rate) (unit epoch m : ℕ) (rest : List Tick) (cs : List CaptureByte)
         → 0 < unit → 2 * (unit * rate.baud) < character rate
-        → AreGiven rate unit epoch None (bytes_from m rest) cs
+        → AreStampsGiven rate unit epoch None (bytes_from m rest) cs
         → IsTakenAs (taken_from rate unit epoch m) cs rest }
     ensures free { (rate : Rate) (unit epoch m : ℕ) (rest : List Tick) (cs : List CaptureByte)
         → 0 < unit → 2 * (unit * rate.baud) < character rate
-        → AreGiven rate unit epoch None (bytes_from m rest) cs
+        → AreStampsGiven rate unit epoch None (bytes_from m rest) cs
         → NoneRefused (taken_from rate unit epoch m) None cs }
 {}

@@ -1,7 +1,7 @@
 //! The bytes of one way of a capture, placed on a line one after the other.
 
 ghost use Rattle.std.specs.Prelude.{◌≡◌, ◌+◌, ◌^◌, ◌<◌};
-ghost use Rattle.line_stamps.specs.Places.{steps_apart, tick_at};
+ghost use Rattle.line_stamps.specs.Places.{steps_apart, tick_placed_at};
 
 use crate::capture::CaptureByte;
 use crate::rounding::{nearest, ticks_between};
@@ -71,7 +71,7 @@ fn settled(steps: u64, before: u64, time: u64, character: u64) -> u64
     requires near { time < 2 ^ 62 }
     requires some_steps { 0 < steps }
     requires bound { before + steps < 2 ^ 64 }
-    ensures tick { result ≡ tick_at steps before time character }
+    ensures tick { result ≡ tick_placed_at steps before time character }
     ensures later { before < result }
 {
     if DRIFT_SILENCE + 1 < steps {
@@ -89,15 +89,15 @@ impl Placer {
     ghost use Rattle.line_stamps.specs.declared.capture.CaptureByte.{CaptureByte};
     ghost use Rattle.line_stamps.specs.Parts.{character};
     ghost use Rattle.line_stamps.specs.Places.{stamp, start_of, tick_after, next_tick};
-    ghost use Rattle.line_stamps.specs.Places.{last_spot, line_of};
+    ghost use Rattle.line_stamps.specs.Places.{last_spot, line_of_places};
     ghost use Rattle.line_stamps.specs.Placing.{is_early, overlaps_at, answer_at, spot_if};
-    ghost use Rattle.line_stamps.specs.Placing.{HasTaken};
+    ghost use Rattle.line_stamps.specs.Placing.{PlacingHasTaken};
     ghost use Rattle.line_stamps.specs.Placing.{timing_of, overlap_count, Leaves};
 
     /// Returns a placer that has taken no byte yet.
     pub fn new(timing: Timing) -> Placer
         ensures timing { timing_of result ≡ timing }
-        ensures start { HasTaken result [] }
+        ensures start { PlacingHasTaken result [] }
     {
         Placer {
             timing,
@@ -186,11 +186,11 @@ impl Placer {
     /// early or late isn't taken.
     #[inline]
     pub fn place(&mut self, byte: CaptureByte) -> Result<u64, Unplaced>
-        ensures answer { (cs : List CaptureByte) → HasTaken self.old cs
+        ensures answer { (cs : List CaptureByte) → PlacingHasTaken self.old cs
             → result ≡ answer_at (timing_of self.old) (last_spot (timing_of self.old) cs) byte }
-        ensures line { IfOk result (λ silence. (cs : List CaptureByte) → HasTaken self.old cs
-            → line_of (timing_of self.old) (cs ++ byte ∷ [])
-            ≡ line_of (timing_of self.old) cs ++ (silent silence ++ Byte byte.byte ∷ [])) }
+        ensures line { IfOk result (λ silence. (cs : List CaptureByte) → PlacingHasTaken self.old cs
+            → line_of_places (timing_of self.old) (cs ++ byte ∷ [])
+            ≡ line_of_places (timing_of self.old) cs ++ (silent silence ++ Byte byte.byte ∷ [])) }
         ensures leaves { Leaves self.old self.new byte result }
     {
         if self.is_early(&byte) {
@@ -216,7 +216,7 @@ impl Placer {
     /// Returns how many bytes overlapped the one before them. The count stops at 2^64 - 1.
     #[inline]
     pub fn overlaps(&self) -> u64
-        ensures { (cs : List CaptureByte) → HasTaken self.now cs
+        ensures { (cs : List CaptureByte) → PlacingHasTaken self.now cs
             → result ≡ min (overlap_count (timing_of self.now) cs) (2 ^ 64 - 1) }
     {
         self.overlaps
@@ -225,8 +225,8 @@ impl Placer {
     /// Returns how many ticks the line has, up to and with the byte that was taken last.
     #[inline]
     pub fn ticks(&self) -> u64
-        ensures { (cs : List CaptureByte) → HasTaken self.now cs
-            → result ≡ length (line_of (timing_of self.now) cs) }
+        ensures { (cs : List CaptureByte) → PlacingHasTaken self.now cs
+            → result ≡ length (line_of_places (timing_of self.now) cs) }
     {
         self.next_tick()
     }

@@ -4,7 +4,7 @@ ghost use Rattle.yasir_io.specs.Disks.{Slots, OneImage};
 ghost use Rattle.sequence_journal.specs.Journal.{Fits};
 ghost use Rattle.sequence_journal.specs.Links.{HasDirection};
 ghost use Rattle.sequence_journal.specs.Slots.{floor_of};
-ghost use Rattle.sequence_journal.specs.Uptimes.{Step, answered, EndsInside, IsIdle, AreUptimes};
+ghost use Rattle.sequence_journal.specs.Uptimes.{Step, answered_in, EndsInside, IsIdle, AreUptimes};
 
 use sequence_journal::laws::{failed_calls_keep_images, numbers_rise, uptime_ends_at_any_moment};
 use sequence_journal::{
@@ -541,7 +541,7 @@ fn answer_one<D: SlotDisk>(disk: &mut D, link: &LinkId) -> Option<u64>
         → floor_of link.now begins ≡ Some floor → n ≡ floor + 1) }
     ensures ends { IfSome result (λ n. (begins : Slots) (floor : ℕ) → D.told disk.old ≡ Some begins
         → floor_of link.now begins ≡ Some floor → OneImage (D.told disk.old) (D.may_leave disk.old)
-        → (loaded : D) × (done : List (Step D)) × (answered done ≡ n ∷ [])
+        → (loaded : D) × (done : List (Step D)) × (answered_in done ≡ n ∷ [])
         × ((image : Slots) → D.may_leave disk.new image
         → EndsInside D.SlotDisk link.now floor loaded done image)) }
 {

@@ -149,9 +149,9 @@ pub trait Spaces: Drop {
 }
 
 impl<V: Device + Drop, const GAP: usize> Spaces for Spacer<V, GAP> {
-    ghost use Rattle.line_spacer.specs.Stands.{ticks_taken};
+    ghost use Rattle.line_spacer.specs.Stands.{ticks_spaced};
 
-    ghost taken = { λ spacer. ticks_taken V.Device spacer };
+    ghost taken = { λ spacer. ticks_spaced V.Device spacer };
 
     fn fresh(alloc: Global, room: usize) -> Result<Self, NoMemory> {
         if GAP == 0 {

@@ -1,6 +1,6 @@
 //! Tests of texts that are written, by known ones, and of how often a sink is written to.
 ghost use Rattle.std.specs.Prelude.{◌≡◌, true};
-ghost use Rattle.line_texts.specs.Adding.{HasRoom};
+ghost use Rattle.line_texts.specs.Adding.{TextHasRoom};
 
 use line_texts::{Texts, answer_run, short_front};
 use std::alloc::Global;
@@ -16,7 +16,7 @@ const LINES_OF_SEVENS: &[u8] =
 
 // Whether there is room for a run, once what waits is handed out if there was none.
 fn has_made_room<O: Sink, L: Sink>(texts: &mut Texts, out: &mut O, log: &mut L) -> bool
-    ensures { result ≡ true → HasRoom texts.new }
+    ensures { result ≡ true → TextHasRoom texts.new }
 {
     if texts.has_room() {
         return true;

@@ -1,7 +1,7 @@
 -- How runs and notes are added to what waits.
-use Rattle.line_texts.specs.Adding.{Adds, Waits, IsShort, IsShortFront}
+use Rattle.line_texts.specs.Adding.{TextAdds, Waits, IsShort, IsShortFront}
 use Rattle.line_texts.specs.Sending.{LineAndNotes, AnswersNoted, Waiting}
-use Rattle.line_texts.specs.{Texts.waiting_in, Writer.HasWritten, Writer.Takes, Writer.TakesInto}
+use Rattle.line_texts.specs.{Texts.waiting_in, Writer.WriterHasWritten, Writer.WriterTakes, Writer.TakesInto}
 use Rattle.line_texts.specs.declared.line_room.LineRoom.{LineRoom}
 use Rattle.line_texts.specs.declared.{line_writer.LineWriter.LineWriter, texts.Texts.Texts}
 use Rattle.std.proofs.Common.{◌≡◌, ◌∙◌, ℕ, zero, suc, ◌+◌, ◌*◌, ◌<◌, ◌≤◌, inl, Bool, true, false}
@@ -17,19 +17,19 @@ use Rattle.yasir_ticks.specs.declared.tick.Tick.{Tick, TheVariants.Silent, TheVa
 -- ---- runs
 
 -- nothing is added
-pub adds_nothing : (waits : Waiting) → Adds waits waits [] []
+pub adds_nothing : (waits : Waiting) → TextAdds waits waits [] []
 adds_nothing waits = record {
   line = [];
   taken = λ ticks answered has.
-      subst (λ l. HasWritten waits.writer l (answered ++ [])) (sym (append-nil ticks))
-      (subst (HasWritten waits.writer ticks) (sym (append-nil answered)) has);
+      subst (λ l. WriterHasWritten waits.writer l (answered ++ [])) (sym (append-nil ticks))
+      (subst (WriterHasWritten waits.writer ticks) (sym (append-nil answered)) has);
   ticks = sym (append-nil waits.ticks);
   notes = sym (append-nil waits.notes);
 }
 
 -- a run that completes no line
 pub adds_joined : (old : Waiting) (writer : LineWriter) (run : List Tick)
-    → Takes old.writer writer run [] → Adds old (record old { writer = writer }) run []
+    → WriterTakes old.writer writer run [] → TextAdds old (record old { writer = writer }) run []
 adds_joined old writer run goes = record {
   line = [];
   taken = goes;
@@ -40,23 +40,23 @@ adds_joined old writer run goes = record {
 -- a run that completes a line
 pub adds_line : (old : Waiting) (joined writer : LineWriter) (items : List ℕ) (run : List Tick)
     → joined ≡ old.writer → TakesInto joined writer run old.ticks items
-    → Adds old (record old { writer = writer; ticks = items }) run []
+    → TextAdds old (record old { writer = writer; ticks = items }) run []
 adds_line old joined writer items run same into = record {
   line = into.line;
-  taken = subst (λ w. Takes w writer run into.line) same into.taken;
+  taken = subst (λ w. WriterTakes w writer run into.line) same into.taken;
   ticks = into.added;
   notes = sym (append-nil old.notes);
 }
 
 -- one run with its note after another
-pub adds_both : (a b c : Waiting) (run more : List Tick) (note next : List ℕ) → Adds a b run note
-    → Adds b c more next → Adds a c (run ++ more) (note ++ next)
+pub adds_both : (a b c : Waiting) (run more : List Tick) (note next : List ℕ) → TextAdds a b run note
+    → TextAdds b c more next → TextAdds a c (run ++ more) (note ++ next)
 adds_both a b c run more note next first second = record {
   line = first.line ++ second.line;
   taken = λ ticks answered has.
-      subst (λ l. HasWritten c.writer l (answered ++ (first.line ++ second.line)))
+      subst (λ l. WriterHasWritten c.writer l (answered ++ (first.line ++ second.line)))
       (append_assoc ticks run more)
-      (subst (HasWritten c.writer ((ticks ++ run) ++ more))
+      (subst (WriterHasWritten c.writer ((ticks ++ run) ++ more))
       (append_assoc answered first.line second.line)
       (second.taken (ticks ++ run) (answered ++ first.line) (first.taken ticks answered has)));
   ticks = second.ticks ∙ ap (λ l. l ++ second.line) first.ticks
@@ -65,8 +65,8 @@ adds_both a b c run more note next first second = record {
 }
 
 -- one run after another
-pub adds_then : (a b c : Waiting) (run more : List Tick) → Adds a b run [] → Adds b c more []
-    → Adds a c (run ++ more) []
+pub adds_then : (a b c : Waiting) (run more : List Tick) → TextAdds a b run [] → TextAdds b c more []
+    → TextAdds a c (run ++ more) []
 adds_then a b c run more first second = adds_both a b c run more [] [] first second
 
 -- what is answered for one run after another
@@ -87,16 +87,16 @@ answers_both made line run more answer next note then first second =
 
 -- what is added waits too
 pub waits_added : (old new : Waiting) (ticks run : List Tick) (notes note : List ℕ)
-    → Waits old ticks notes → Adds old new run note → Waits new (ticks ++ run) (notes ++ note)
+    → Waits old ticks notes → TextAdds old new run note → Waits new (ticks ++ run) (notes ++ note)
 waits_added old new ticks run notes note waits adds = record {
-  written = subst (HasWritten new.writer (ticks ++ run)) (sym adds.ticks)
+  written = subst (WriterHasWritten new.writer (ticks ++ run)) (sym adds.ticks)
       (adds.taken ticks old.ticks waits.written);
   notes_are = adds.notes ∙ ap (λ l. l ++ note) waits.notes_are;
 }
 
 pub adds_as : (a b : Waiting) (run all : List Tick) (note : List ℕ) → run ≡ all
-    → Adds a b run note → Adds a b all note
-adds_as a b run all note is adds = subst (λ r. Adds a b r note) is adds
+    → TextAdds a b run note → TextAdds a b all note
+adds_as a b run all note is adds = subst (λ r. TextAdds a b r note) is adds
 
 -- ---- what completes no line
 
@@ -126,7 +126,7 @@ FillsUpTo most writer n = (writer.silence ≡ 0 → writer.count + n < 32 * most
 pub record AddsFirst (old now : Texts) (bytes left : List ℕ) : Type 0 where
   pub done : List ℕ
   pub all : bytes ≡ done ++ left
-  pub adds : Adds (waiting_in old) (waiting_in now) (map Byte done) []
+  pub adds : TextAdds (waiting_in old) (waiting_in now) (map Byte done) []
   pub most : ℕ
   pub few : FillsUpTo most now.writer (length left)
   pub room : length now.ticks.items + 66 * most ≤ 65536
@@ -218,8 +218,8 @@ module _ (old now : Texts) (bytes left : List ℕ) (first : AddsFirst old now by
       )
 
   -- the rest, which completes no line
-  pub adds_last : (writer : LineWriter) → Takes now.writer writer (map Byte left) []
-      → Adds (waiting_in old) (waiting_in (record now { writer = writer })) (map Byte bytes) []
+  pub adds_last : (writer : LineWriter) → WriterTakes now.writer writer (map Byte left) []
+      → TextAdds (waiting_in old) (waiting_in (record now { writer = writer })) (map Byte bytes) []
   adds_last writer goes = adds_as _ _ _ _ []
       (sym (map-append Byte first.done left) ∙ ap (map Byte) (sym first.all))
       (adds_then (waiting_in old) (waiting_in now) _ (map Byte first.done) (map Byte left)

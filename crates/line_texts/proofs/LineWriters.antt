@@ -1,5 +1,5 @@
 -- What more ticks do to the line of a writer that isn't filled.
-use Rattle.line_texts.specs.Writer.{unfilled, HasWritten, Takes}
+use Rattle.line_texts.specs.Writer.{unfilled, WriterHasWritten, WriterTakes}
 use Rattle.line_texts.specs.declared.line_writer.LineWriter.{LineWriter}
 use Rattle.std.proofs.Common.{◌≡◌, ◌∙◌, ℕ, zero, suc, ◌+◌, ◌<◌, ◌≤◌, List, [], ◌∷◌, ◌++◌, length}
 use Rattle.std.proofs.Common.{get_or, map, take, refl, sym, ap, arith}
@@ -42,7 +42,7 @@ not_silent writer some = by writer.silence writer.single
 takes : (old new : LineWriter) (run : List Tick) (text : List ℕ) → AreTicks run
     → ((more : List Tick) → text ++ canonical_text (unfilled new ++ more)
     ≡ canonical_text ((unfilled old ++ run) ++ more))
-    → Takes old new run text
+    → WriterTakes old new run text
 takes old new run text are step = λ ticks answered has. record {
   text = λ more.
       append_assoc answered text (canonical_text (unfilled new ++ more))
@@ -54,18 +54,18 @@ takes old new run text are step = λ ticks answered has. record {
 
 -- more ticks of the same kind, which complete no line
 joins : (old new : LineWriter) (run : List Tick) → AreTicks run
-    → unfilled new ≡ unfilled old ++ run → Takes old new run []
+    → unfilled new ≡ unfilled old ++ run → WriterTakes old new run []
 joins old new run are is = takes old new run [] are (λ more. ap (λ l. canonical_text (l ++ more)) is)
 
 pub bytes_joined : (old new : LineWriter) (x : List ℕ) → AreTicks (map Byte x)
     → old.silence ≡ 0 → new.silence ≡ 0
-    → take new.count new.bytes ≡ take old.count old.bytes ++ x → Takes old new (map Byte x) []
+    → take new.count new.bytes ≡ take old.count old.bytes ++ x → WriterTakes old new (map Byte x) []
 bytes_joined old new x are none still is = joins old new (map Byte x) are
     (bytes_are new still ∙ ap (map Byte) is ∙ map-append Byte (take old.count old.bytes) x
     ∙ ap (λ l. l ++ map Byte x) (sym (bytes_are old none)))
 
 pub silence_joined : (old new : LineWriter) (n : ℕ) → old.count ≡ 0 → new.count ≡ 0
-    → new.silence ≡ old.silence + n → Takes old new (silent n) []
+    → new.silence ≡ old.silence + n → WriterTakes old new (silent n) []
 silence_joined old new n none still is = joins old new (silent n) (are_silent n)
     (silence_is new still ∙ ap silent is ∙ sym (replicate-append-replicate old.silence n Silent)
     ∙ ap (λ l. l ++ silent n) (sym (silence_is old none)))
@@ -74,7 +74,7 @@ silence_joined old new n none still is = joins old new (silent n) (are_silent n)
 pub bytes_filled : (old new : LineWriter) (line x : List ℕ) → AreTicks (map Byte x)
     → old.silence ≡ 0 → new.count ≡ 0 → new.silence ≡ 0
     → line ≡ take old.count old.bytes ++ x → length line ≡ 32
-    → Takes old new (map Byte x) (byte_line line)
+    → WriterTakes old new (map Byte x) (byte_line line)
 bytes_filled old new line x are none no_byte no_silence is long =
     takes old new (map Byte x) (byte_line line) are (λ more.
     ap (λ l. byte_line line ++ canonical_text (l ++ more))
@@ -87,7 +87,7 @@ bytes_filled old new line x are none no_byte no_silence is long =
 
 pub silence_filled : (old new : LineWriter) (n m : ℕ) → old.count ≡ 0 → new.count ≡ 0
     → new.silence ≡ 0 → old.silence + n ≡ m → m ≡ 1000000
-    → Takes old new (silent n) (silence_line m)
+    → WriterTakes old new (silent n) (silence_line m)
 silence_filled old new n m none no_byte no_silence sum full =
     takes old new (silent n) (silence_line m) (are_silent n) (λ more.
     ap (λ l. silence_line m ++ canonical_text (l ++ more))
@@ -101,7 +101,7 @@ silence_filled old new n m none no_byte no_silence sum full =
 -- Ticks of the other kind end the line.
 pub bytes_ended : (old new : LineWriter) (n : ℕ) → 0 < old.count → old.count ≤ length old.bytes
     → new.count ≡ 0 → new.silence ≡ n → 0 < n
-    → Takes old new (silent n) (byte_line (take old.count old.bytes))
+    → WriterTakes old new (silent n) (byte_line (take old.count old.bytes))
 bytes_ended old new zero some long no_byte is begun = absurd (omega arith)
 bytes_ended old new (suc n) some long no_byte is begun =
     let line = take old.count old.bytes in
@@ -116,7 +116,7 @@ bytes_ended old new (suc n) some long no_byte is begun =
 
 pub silence_ended : (old new : LineWriter) (x : List ℕ) → AreTicks (map Byte x)
     → 0 < old.silence → new.silence ≡ 0 → take new.count new.bytes ≡ x → 0 < length x
-    → Takes old new (map Byte x) (silence_line old.silence)
+    → WriterTakes old new (map Byte x) (silence_line old.silence)
 silence_ended old new [] are some none is begun = absurd (omega arith)
 silence_ended old new (b ∷ x) are some none is begun =
     let n = old.silence in
@@ -132,13 +132,13 @@ silence_ended old new (b ∷ x) are some none is begun =
 -- ---- the end
 
 pub ended : (writer : LineWriter) (line : List ℕ) → canonical_text (unfilled writer ++ []) ≡ line
-    → (ticks : List Tick) (answered : List ℕ) → HasWritten writer ticks answered
+    → (ticks : List Tick) (answered : List ℕ) → WriterHasWritten writer ticks answered
     → answered ++ line ≡ canonical_text ticks
 ended writer line is ticks answered has = ap (λ l. answered ++ l) (sym is) ∙ has.text []
     ∙ ap canonical_text (append-nil ticks)
 
 pub bytes_last : (writer : LineWriter) → 0 < writer.count → writer.count ≤ length writer.bytes
-    → (ticks : List Tick) (answered : List ℕ) → HasWritten writer ticks answered
+    → (ticks : List Tick) (answered : List ℕ) → WriterHasWritten writer ticks answered
     → answered ++ byte_line (take writer.count writer.bytes) ≡ canonical_text ticks
 bytes_last writer some long =
     let line = take writer.count writer.bytes in
@@ -149,7 +149,7 @@ bytes_last writer some long =
     ∙ leads-bytes line [] (omega arith) (omega arith) tt ∙ append-nil (byte_line line))
 
 pub silence_last : (writer : LineWriter) → writer.count ≡ 0 → 0 < writer.silence
-    → (ticks : List Tick) (answered : List ℕ) → HasWritten writer ticks answered
+    → (ticks : List Tick) (answered : List ℕ) → WriterHasWritten writer ticks answered
     → answered ++ silence_line writer.silence ≡ canonical_text ticks
 silence_last writer none some =
     let few = writer.short in
@@ -159,7 +159,7 @@ silence_last writer none some =
     ∙ append-nil (silence_line writer.silence))
 
 pub nothing_last : (writer : LineWriter) → writer.count ≡ 0 → writer.silence ≡ 0
-    → (ticks : List Tick) (answered : List ℕ) → HasWritten writer ticks answered
+    → (ticks : List Tick) (answered : List ℕ) → WriterHasWritten writer ticks answered
     → answered ++ [] ≡ canonical_text ticks
 nothing_last writer none still = ended writer []
     (ap (λ l. canonical_text (l ++ [])) (silence_is writer none ∙ ap silent still))

@@ -1,10 +1,10 @@
 -- How what is made of a line goes on to the two sinks as ticks are taken, and how it ends.
-use Rattle.line_texts.specs.{Adding.Adds, Adding.HasRoom, Sending.LineAndNotes}
+use Rattle.line_texts.specs.{Adding.TextAdds, Adding.TextHasRoom, Sending.LineAndNotes}
 use Rattle.line_texts.specs.Sending.{AnswersNoted}
-use Rattle.line_texts.specs.Sending.{SinkTexts, Waiting, waiting, NotesFirst, SendsTexts, HasSent}
-use Rattle.line_texts.specs.Sending.{HasSentFronts, WritesAll, WritesPart}
+use Rattle.line_texts.specs.Sending.{SinkTexts, Waiting, waiting, NotesFirst, SendsTexts, TextsHaveSent}
+use Rattle.line_texts.specs.Sending.{HasSentFronts, WritesAllTexts, WritesPartOfTexts}
 use Rattle.line_texts.specs.Texts.{Writing, waiting_in, texts_held, HandsOut}
-use Rattle.line_texts.specs.{Writer.HasWritten, Writer.unfilled}
+use Rattle.line_texts.specs.{Writer.WriterHasWritten, Writer.unfilled}
 use Rattle.line_texts.specs.declared.{line_writer.LineWriter.LineWriter, texts.Texts.Texts}
 use Rattle.std.proofs.Common.{◌≡◌, ◌∙◌, ℕ, ◌+◌, ◌≤◌, length, arith, inl, inr, List, [], ◌++◌, Option, Result, Ok, Err, refl}
 use Rattle.std.proofs.Common.{sym, ap, subst, append_assoc, append-nil}
@@ -41,7 +41,7 @@ room_drained (Err e) left none = tt
 -- where nothing waits, there is room
 pub room_handed : {T E : Type 0} (result : Result T E) (texts : Texts)
     → OnOk result (texts.ticks.items ≡ []) → OnOk result (waiting_bytes texts.notes ≡ [])
-    → OnOk result (HasRoom texts)
+    → OnOk result (TextHasRoom texts)
 room_handed (Ok x) texts ticks notes =
     record { ticks = omega (arith, ap length ticks); notes = omega (arith, ap length notes) }
 room_handed (Err e) texts ticks notes = tt
@@ -52,7 +52,7 @@ always_on_ok (Err e) p = tt
 
 -- what a writer has completed begins the text of its ticks
 pub answered-begins : (writer : LineWriter) (ticks : List Tick) (answered : List ℕ)
-    → HasWritten writer ticks answered
+    → WriterHasWritten writer ticks answered
     → (rest : List ℕ) × (answered ++ rest ≡ canonical_text ticks)
 answered-begins writer ticks answered has = (
   canonical_text (unfilled writer ++ []),
@@ -82,11 +82,11 @@ notes_all made line front rest are text = record {
 -- nothing is on its way yet
 pub begins : (made : LineAndNotes) (writer : LineWriter) (ticks notes : List ℕ)
     (texts : SinkTexts) → made.other_line [] ≡ [] → made.note_lines [] ≡ []
-    → HasWritten writer [] [] → ticks ≡ [] → notes ≡ []
+    → WriterHasWritten writer [] [] → ticks ≡ [] → notes ≡ []
     → SendsTexts made (waiting writer ticks notes) texts texts []
 begins made writer ticks notes texts no_tick no_note written no_ticks no_notes =
-    let has : HasWritten writer (made.other_line []) [] =
-    subst (λ line. HasWritten writer line []) (sym no_tick) written in record {
+    let has : WriterHasWritten writer (made.other_line []) [] =
+    subst (λ line. WriterHasWritten writer line []) (sym no_tick) written in record {
       text = record {
         answered = [];
         written = has;
@@ -115,7 +115,7 @@ begins made writer ticks notes texts no_tick no_note written no_ticks no_notes =
 pub sends_added : (made : LineAndNotes) (line run answer : List Tick) (note : List ℕ)
     → AnswersNoted made line run answer note
     → (old new : Waiting) (before now : SinkTexts) → SendsTexts made old before now line
-    → Adds old new answer note → SendsTexts made new before now (line ++ run)
+    → TextAdds old new answer note → SendsTexts made new before now (line ++ run)
 sends_added made line run answer note answers old new before now sends adds =
     let text = sends.text.text in
     let notes = sends.note_text in
@@ -123,7 +123,7 @@ sends_added made line run answer note answers old new before now sends adds =
     record {
       text = record {
         answered = sends.text.answered ++ adds.line;
-        written = subst (λ ticks. HasWritten new.writer ticks (sends.text.answered ++ adds.line))
+        written = subst (λ ticks. WriterHasWritten new.writer ticks (sends.text.answered ++ adds.line))
             (sym answers.ticks_are)
             (adds.taken (made.other_line line) sends.text.answered sends.text.written);
         text = record {
@@ -201,7 +201,7 @@ module _ (made : LineAndNotes) (line : List Tick) (waits : Waiting) (before s0 s
       ∙ ap (append_known before.log) (sym notes.all)
 
   -- All that waited was written.
-  all_sent : (writer : LineWriter) → writer ≡ waits.writer → WritesAll waits s0 s1
+  all_sent : (writer : LineWriter) → writer ≡ waits.writer → WritesAllTexts waits s0 s1
       → SendsTexts made (waiting writer [] []) before s1 line
   all_sent writer same all =
       let front = text.front ++ waits.ticks in
@@ -209,7 +209,7 @@ module _ (made : LineAndNotes) (line : List Tick) (waits : Waiting) (before s0 s
       sends.text.written in record {
         text = record {
           answered = sends.text.answered;
-          written = subst (λ w. HasWritten w (made.other_line line) sends.text.answered) (sym same)
+          written = subst (λ w. WriterHasWritten w (made.other_line line) sends.text.answered) (sym same)
               sends.text.written;
           text = record {
             front = front;
@@ -236,7 +236,7 @@ module _ (made : LineAndNotes) (line : List Tick) (waits : Waiting) (before s0 s
     abbrev ends : Waiting
     ends = waiting waits.writer (waits.ticks ++ last) waits.notes
 
-    pub ends_all : WritesAll ends s0 s1 → HasSent made before s1 line
+    pub ends_all : WritesAllTexts ends s0 s1 → TextsHaveSent made before s1 line
     ends_all all = record {
       are = sends.text.written.are;
       text = went_out (waits.ticks ++ last) all.ticks
@@ -244,7 +244,7 @@ module _ (made : LineAndNotes) (line : List Tick) (waits : Waiting) (before s0 s
       note_text = logged all.notes;
     }
 
-    pub ends_part : WritesPart ends s0 s1 → HasSentFronts made before s1 line
+    pub ends_part : WritesPartOfTexts ends s0 s1 → HasSentFronts made before s1 line
     ends_part (inl stops) =
         let first = sends.notes_first in
         let more = stops.1 in record {
@@ -319,7 +319,7 @@ module _ {O L : Type 0} (o : Sink O) (l : Sink L) (made : LineAndNotes) (line : 
       let rest = answered-begins old.texts.writer (made.other_line line) sends.text.answered
       sends.text.written in
       ends_part made line (waiting_in old.texts) before (texts_held o l old) (texts_held o l new)
-      sends rest.0 rest.1 (elim hands.part as (λ _. WritesPart (waiting old.texts.writer
+      sends rest.0 rest.1 (elim hands.part as (λ _. WritesPartOfTexts (waiting old.texts.writer
       (old.texts.ticks.items ++ rest.0) (waiting_bytes old.texts.notes)) (texts_held o l old)
       (texts_held o l new)) [
         | inl stops ↦ inl stops

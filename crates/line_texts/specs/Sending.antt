@@ -7,7 +7,7 @@ use Rattle.yasir_io.specs.Output.{Buffered, GotPrefix}
 use Rattle.yasir_ticks.specs.Ticks.{AreTicks}
 use Rattle.yasir_ticks.specs.CanonicalText.{canonical_text}
 use Rattle.yasir_ticks.specs.declared.tick.Tick.{Tick}
-use Rattle.line_texts.specs.Writer.{HasWritten}
+use Rattle.line_texts.specs.Writer.{WriterHasWritten}
 use Rattle.line_texts.specs.declared.line_writer.LineWriter.{LineWriter}
 
 -- what is made of a line: another line, and the lines of notes
@@ -44,7 +44,7 @@ waiting writer ticks notes = record { writer = writer; ticks = ticks; notes = no
 pub record WritesTicks (waits : Waiting) (before now : Option (List ℕ)) (ticks : List Tick) :
     Type 0 where
   pub answered : List ℕ
-  pub written : HasWritten waits.writer ticks answered
+  pub written : WriterHasWritten waits.writer ticks answered
   pub text : Buffered before now waits.ticks answered
 
 -- Each note that falls into ticks of which `out` has got a byte is in the log: the line begins with
@@ -68,7 +68,7 @@ pub record SendsTexts (made : LineAndNotes) (waits : Waiting) (before now : Sink
   pub notes_first : NotesFirst made line text.text.front note_text.front
 
 -- The sinks have got all that is made of a line.
-pub record HasSent (made : LineAndNotes) (before now : SinkTexts) (line : List Tick) : Type 0 where
+pub record TextsHaveSent (made : LineAndNotes) (before now : SinkTexts) (line : List Tick) : Type 0 where
   pub are : AreTicks (made.other_line line)
   pub text : now.out ≡ append_known before.out (canonical_text (made.other_line line))
   pub note_text : now.log ≡ append_known before.log (made.note_lines line)
@@ -91,14 +91,14 @@ pub record HaveCause {T E : Type 0} (out_before out_now log_before log_now : ℕ
   pub log_same : OnOk result (log_now ≡ log_before)
 
 -- All that waited was written.
-pub record WritesAll (waits : Waiting) (before now : SinkTexts) : Type 0 where
+pub record WritesAllTexts (waits : Waiting) (before now : SinkTexts) : Type 0 where
   pub ticks : now.out ≡ append_known before.out waits.ticks
   pub notes : now.log ≡ append_known before.log waits.notes
 
 -- A write failed: a front of the notes that waited was written and no tick, or all these notes and
 -- a front of the ticks that waited.
-abbrev pub WritesPart : Waiting → SinkTexts → SinkTexts → Type 0
-WritesPart waits before now =
+abbrev pub WritesPartOfTexts : Waiting → SinkTexts → SinkTexts → Type 0
+WritesPartOfTexts waits before now =
     ((now.out ≡ before.out) × GotPrefix before.log now.log waits.notes)
     ⊎ (GotPrefix before.out now.out waits.ticks
     × (now.log ≡ append_known before.log waits.notes))

@@ -4,9 +4,9 @@ use Rattle.yasir_io.specs.Flushed.{NoneFlushed}
 use Rattle.yasir_io.specs.TextBuffer.{waiting_bytes}
 use Rattle.yasir_io.specs.declared.Failed.{Failed}
 use Rattle.yasir_io.specs.declared.sink.Sink.{Ghosts as Sink}
-use Rattle.line_texts.specs.Adding.{HasRoom}
+use Rattle.line_texts.specs.Adding.{TextHasRoom}
 use Rattle.line_texts.specs.Sending.{SinkTexts, sink_texts, Waiting, waiting, HaveCause}
-use Rattle.line_texts.specs.Sending.{WritesAll, WritesPart}
+use Rattle.line_texts.specs.Sending.{WritesAllTexts, WritesPartOfTexts}
 use Rattle.line_texts.specs.declared.texts.Texts.{Texts}
 
 abbrev pub waiting_in : Texts → Waiting
@@ -37,7 +37,7 @@ module _ {O L : Type 0} (o : Sink O) (l : Sink L) where
     pub writer : new.texts.writer ≡ old.texts.writer
     pub no_ticks : OnOk result (new.texts.ticks.items ≡ [])
     pub no_notes : OnOk result (waiting_bytes new.texts.notes ≡ [])
-    pub room : OnOk result (HasRoom new.texts)
-    pub all : OnOk result (WritesAll (waiting_in old.texts) (texts_held old) (texts_held new))
-    pub part : OnErr result (WritesPart (waiting_in old.texts) (texts_held old) (texts_held new))
+    pub room : OnOk result (TextHasRoom new.texts)
+    pub all : OnOk result (WritesAllTexts (waiting_in old.texts) (texts_held old) (texts_held new))
+    pub part : OnErr result (WritesPartOfTexts (waiting_in old.texts) (texts_held old) (texts_held new))
     pub writes : Writes old new result

@@ -14,15 +14,15 @@ unfilled writer = map Byte (take writer.count writer.bytes) ++ silent writer.sil
 -- The writer has taken these ticks, and they have completed this text. Whatever ticks follow, the
 -- canonical text of all is this text, and then the canonical text of the line that isn't filled and
 -- of the ticks that follow.
-pub record HasWritten (writer : LineWriter) (ticks : List Tick) (answered : List ℕ) : Type 0 where
+pub record WriterHasWritten (writer : LineWriter) (ticks : List Tick) (answered : List ℕ) : Type 0 where
   pub text : (more : List Tick) → answered ++ canonical_text (unfilled writer ++ more)
       ≡ canonical_text (ticks ++ more)
   pub are : AreTicks ticks
 
 -- The writer has taken one more run, which completes this text.
-abbrev pub Takes : LineWriter → LineWriter → List Tick → List ℕ → Type 0
-Takes old new run text = (ticks : List Tick) (answered : List ℕ) → HasWritten old ticks answered
-    → HasWritten new (ticks ++ run) (answered ++ text)
+abbrev pub WriterTakes : LineWriter → LineWriter → List Tick → List ℕ → Type 0
+WriterTakes old new run text = (ticks : List Tick) (answered : List ℕ) → WriterHasWritten old ticks answered
+    → WriterHasWritten new (ticks ++ run) (answered ++ text)
 
 -- The writer has taken one more run, and the text of the one line that the run completes was
 -- appended to what was there.
@@ -30,7 +30,7 @@ pub record TakesInto (old new : LineWriter) (run : List Tick) (before after : Li
     Type 0 where
   pub line : List ℕ
   pub added : after ≡ before ++ line
-  pub taken : Takes old new run line
+  pub taken : WriterTakes old new run line
   pub short : length line ≤ 66
 
 -- The text of the line that isn't filled was appended to what was there, which completes the text
@@ -38,5 +38,5 @@ pub record TakesInto (old new : LineWriter) (run : List Tick) (before after : Li
 pub record Ends (writer : LineWriter) (before after : List ℕ) : Type 0 where
   pub line : List ℕ
   pub added : after ≡ before ++ line
-  pub whole : (ticks : List Tick) (answered : List ℕ) → HasWritten writer ticks answered
+  pub whole : (ticks : List Tick) (answered : List ℕ) → WriterHasWritten writer ticks answered
       → answered ++ line ≡ canonical_text ticks

@@ -25,11 +25,11 @@ pub struct LineWriter {
 }
 
 impl LineWriter {
-    ghost use Rattle.line_texts.specs.Writer.{HasWritten, Takes, TakesInto, Ends};
+    ghost use Rattle.line_texts.specs.Writer.{WriterHasWritten, WriterTakes, TakesInto, Ends};
 
     /// Returns a writer that has taken no tick.
     pub(crate) fn new() -> LineWriter
-        ensures { HasWritten result [] [] }
+        ensures { WriterHasWritten result [] [] }
     {
         LineWriter {
             bytes: [0; MAX_BYTES],
@@ -41,7 +41,7 @@ impl LineWriter {
     /// Takes bytes, one for each tick, if they complete no line. Returns whether it took them.
     #[inline(always)]
     pub(crate) fn join_bytes(&mut self, bytes: &[u8]) -> bool
-        ensures joined { result ≡ true → Takes self.old self.new (map Byte bytes.now) [] }
+        ensures joined { result ≡ true → WriterTakes self.old self.new (map Byte bytes.now) [] }
         ensures left { result ≡ false → self.new ≡ self.old }
         ensures some { result ≡ false → 0 < length bytes.now }
         ensures fills { result ≡ false → self.old.silence ≡ 0
@@ -65,7 +65,7 @@ impl LineWriter {
     /// Takes silent ticks if they complete no line. Returns whether it took them.
     #[inline(always)]
     pub(crate) fn join_silence(&mut self, ticks: u32) -> bool
-        ensures joined { result ≡ true → Takes self.old self.new (silent ticks) [] }
+        ensures joined { result ≡ true → WriterTakes self.old self.new (silent ticks) [] }
         ensures left { result ≡ false → self.new ≡ self.old }
         ensures some { result ≡ false → 0 < ticks }
         ensures fills { result ≡ false → self.old.count ≡ 0

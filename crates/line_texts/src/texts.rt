@@ -6,11 +6,11 @@ ghost use Rattle.yasir_io.specs.Flushed.{NoneFlushed};
 ghost use Rattle.yasir_io.specs.TextBuffer.{waiting_bytes};
 ghost use Rattle.yasir_ticks.specs.TickRun.{run_ticks};
 ghost use Rattle.yasir_ticks.specs.declared.tick.Tick.{Tick};
-ghost use Rattle.line_texts.specs.Writer.{HasWritten};
+ghost use Rattle.line_texts.specs.Writer.{WriterHasWritten};
 ghost use Rattle.line_texts.specs.Sending.{LineAndNotes, SinkTexts, sink_texts, SendsTexts};
-ghost use Rattle.line_texts.specs.Sending.{HasSent, HasSentFronts, HaveCause};
+ghost use Rattle.line_texts.specs.Sending.{TextsHaveSent, HasSentFronts, HaveCause};
 ghost use Rattle.line_texts.specs.Texts.{waiting_in, writing, HandsOut};
-ghost use Rattle.line_texts.specs.Adding.{IsShort, HasRoom, HasLineRoom, Adds, Closes};
+ghost use Rattle.line_texts.specs.Adding.{IsShort, TextHasRoom, HasLineRoom, TextAdds, ClosesText};
 
 use crate::adding::{add_bytes, add_silence};
 use crate::line_room::LineRoom;
@@ -37,10 +37,10 @@ pub struct Texts {
 impl Texts {
     /// Returns texts to which nothing has been added.
     pub fn new() -> Texts
-        ensures written { HasWritten result.writer [] [] }
+        ensures written { WriterHasWritten result.writer [] [] }
         ensures ticks { result.ticks.items ≡ [] }
         ensures notes { waiting_bytes result.notes ≡ [] }
-        ensures room { HasRoom result }
+        ensures room { TextHasRoom result }
     {
         Texts {
             writer: LineWriter::new(),
@@ -53,8 +53,8 @@ impl Texts {
     /// and for the line of a note.
     #[inline]
     pub fn has_room(&self) -> bool
-        ensures room { result ≡ true → HasRoom self.now }
-        ensures full { HasRoom self.now → result ≡ true }
+        ensures room { result ≡ true → TextHasRoom self.now }
+        ensures full { TextHasRoom self.now → result ≡ true }
     {
         self.ticks.has_room(MOST_OF_LINES) && self.notes.text.has_room(MOST_OF_NOTE)
     }
@@ -63,9 +63,9 @@ impl Texts {
     /// writer takes them.
     #[inline(always)]
     pub fn add_run(&mut self, run: TickRun<'_>)
-        requires room { HasRoom self.old }
+        requires room { TextHasRoom self.old }
         requires short { IsShort (run_ticks run) }
-        ensures adds { Adds (waiting_in self.old) (waiting_in self.new) (run_ticks run.entry) [] }
+        ensures adds { TextAdds (waiting_in self.old) (waiting_in self.new) (run_ticks run.entry) [] }
         ensures line_room { HasLineRoom self.new }
     {
         match run {
@@ -86,10 +86,10 @@ impl Texts {
     /// the text of the other line.
     #[inline(always)]
     pub fn add_noted(&mut self, note: &[u8], run: TickRun<'_>)
-        requires room { HasRoom self.old }
+        requires room { TextHasRoom self.old }
         requires short { IsShort (run_ticks run) }
         requires line { length note.now ≤ 640 }
-        ensures adds { Adds (waiting_in self.old) (waiting_in self.new) (run_ticks run.entry)
+        ensures adds { TextAdds (waiting_in self.old) (waiting_in self.new) (run_ticks run.entry)
             note.now }
         ensures line_room { HasLineRoom self.new }
     {
@@ -116,14 +116,14 @@ impl Texts {
     /// Adds the line that isn't filled to the text of the ticks. The next call must be `empty`.
     pub fn close(&mut self)
         requires { HasLineRoom self.old }
-        ensures { Closes (waiting_in self.old) (waiting_in self.new) }
+        ensures { ClosesText (waiting_in self.old) (waiting_in self.new) }
     {
         self.writer.finish(&mut self.ticks);
     }
 
     /// Discards all that waits, once it has been written, so that the texts are as new.
     pub fn empty(&mut self)
-        ensures written { HasWritten self.new.writer [] [] }
+        ensures written { WriterHasWritten self.new.writer [] [] }
         ensures ticks { self.new.ticks.items ≡ [] }
         ensures notes { waiting_bytes self.new.notes ≡ [] }
     {
@@ -151,7 +151,7 @@ impl Texts {
         ensures ok { OnOk result ((made : LineAndNotes) (before : SinkTexts) (line : List Tick)
             → SendsTexts made (waiting_in self) before (sink_texts (O.held out.old) (L.held log.old))
             line
-            → HasSent made before (sink_texts (O.held out.new) (L.held log.new)) line) }
+            → TextsHaveSent made before (sink_texts (O.held out.new) (L.held log.new)) line) }
         ensures err { OnErr result ((made : LineAndNotes) (before : SinkTexts) (line : List Tick)
             → SendsTexts made (waiting_in self) before (sink_texts (O.held out.old) (L.held log.old))
             line

@@ -1,6 +1,6 @@
 -- Between what leaves of one burst and what leaves of the next there are at least as many silent
 -- ticks as the receiver's delay.
-use Rattle.frame_ending.{proofs.Spread.AreSpread, specs.Walk.emitted}
+use Rattle.frame_ending.{proofs.Spread.AreSpread, specs.Walk.emitted_by}
 use Rattle.frame_ending.{proofs.LiveTicks.live_ticks-contiguous, specs.LiveBytes.live_ticks}
 use Rattle.line_rules.specs.{Rules.Rules, RulesLaws.IsLawful}
 use Rattle.link_format.specs.Profile.{Profile, delay}
@@ -46,11 +46,11 @@ module _ (profile : Profile) (rules : Rules) (lawful : IsLawful rules) where
     -- the emissions of the walk, from a state on
     pub emissions-spread : (s : CheckState) (n m : ℕ) (ds : List Burst) → AreSpread 4 n ds
         → m ≤ s.earliest_start + delay profile
-        → AreSpread cut m (emitted (checker profile rules) s ds)
+        → AreSpread cut m (emitted_by (checker profile rules) s ds)
     emissions-spread s n m [] spread from = tt
     emissions-spread s n m (d ∷ ds) spread from =
         let v : Verdict = checked profile rules s d in
-        spread-by s d v m (emitted (checker profile rules) (state_by profile rules s d v) ds)
+        spread-by s d v m (emitted_by (checker profile rules) (state_by profile rules s d v) ds)
         spread.1 (judged-late profile rules s d) from
         (λ k within. emissions-spread (state_by profile rules s d v) (end_of d + 4) k ds spread.2
         within)

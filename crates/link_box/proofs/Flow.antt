@@ -3,7 +3,7 @@ use Rattle.line_rules.specs.{Rules.Rules, declared.line_rules.LineRules.Ghosts a
 use Rattle.link_box.proofs.Leavings.{leaves-none, leaves-silent, leaves-byte, fill_out-zero}
 use Rattle.link_box.{proofs.Leavings.fill_out-suc, specs.Leaving.is_none, specs.Leaving.leaves}
 use Rattle.link_box.specs.Turns.{HasTurned, tick_or_silence}
-use Rattle.line_rules.specs.Outlet.{StandsFor as OutletStandsFor, Refuses, owed_by, refused_by}
+use Rattle.line_rules.specs.Outlet.{OutletStandsForTicks, OutletRefuses, owed_by, refused_by}
 use Rattle.line_rules.specs.Outlet.{emitted, owed_after, filled, filled_bytes}
 use Rattle.{line_rules.specs.declared.outlet.Outlet.Outlet, std.proofs.Common.◌≡◌}
 use Rattle.std.proofs.Common.{◌∙◌, ℕ, zero, suc, ◌-◌, ◌<◌, Bool, true, false, List, [], ◌∷◌, ◌++◌}
@@ -19,7 +19,7 @@ module _ {R : Type 0} (proto : LineRules R) (passes : Bool) where
   pub record Flows (left : List ℕ) (live : List Tick) (owed : ℕ) (old new : Outlet R)
       (answer : Tick) : Type 0 where
     pub after : List ℕ
-    pub stands : OutletStandsFor proto new after
+    pub stands : OutletStandsForTicks proto new after
     pub answer_is : answer ≡ get_or (leaves proto.rules passes left live owed) 0 Silent
     pub rest : leaves proto.rules passes after (drop 1 live) (owed_by new)
         ≡ drop 1 (leaves proto.rules passes left live owed)
@@ -32,14 +32,14 @@ module _ {R : Type 0} (proto : LineRules R) (passes : Bool) where
   flows-fill : (left : List ℕ) (old new : Outlet R) (owed : ℕ) (answer : Tick)
       → owed_by old ≡ owed
       → (answer ≡ tick_or_silence (filled proto.rules left owed))
-      × OutletStandsFor proto new (left ++ filled_bytes (filled proto.rules left owed))
+      × OutletStandsForTicks proto new (left ++ filled_bytes (filled proto.rules left owed))
       × (owed_by new ≡ owed - 1)
       → Flows left [] owed old new answer
   flows-fill left old new zero answer is turned =
       let none = leaves-none proto.rules passes left 0 ∙ fill_out-zero proto.rules left in
       record {
         after = left;
-        stands = subst (λ x. OutletStandsFor proto new x) (append-nil left) turned.1;
+        stands = subst (λ x. OutletStandsForTicks proto new x) (append-nil left) turned.1;
         answer_is = turned.0 ∙ sym (ap (λ l. get_or l 0 Silent) none);
         rest = ap (λ k. leaves proto.rules passes left [] k) turned.2
             ∙ (none ∙ sym (ap (λ l. drop 1 l) none));
@@ -66,7 +66,7 @@ module _ {R : Type 0} (proto : LineRules R) (passes : Bool) where
       cond-false _ _ _ (ne_eqb (suc (suc k)) 0 (λ e. omega arith))
       ∙ cond-false _ _ _ (ne_eqb (suc (suc k)) 1 (λ e. omega arith)) in
       let P : Option ℕ → Type 0 = λ o. (answer ≡ tick_or_silence o)
-      × OutletStandsFor proto new (left ++ filled_bytes o)
+      × OutletStandsForTicks proto new (left ++ filled_bytes o)
       × (owed_by new ≡ suc (suc k) - 1) in
       let out : P (Some 0) = subst P filling turned in
       let less : suc (suc k) - 1 ≡ suc k = omega arith in
@@ -90,7 +90,7 @@ module _ {R : Type 0} (proto : LineRules R) (passes : Bool) where
       → (0 < length live → owed_by old ≡ 0)
       → (0 < length live → last ≡ is_none (drop 1 live))
       → (0 < length live → last ≡ true → passes ≡ false
-      → Refuses proto old (left ++ bytes_in live))
+      → OutletRefuses proto old (left ++ bytes_in live))
       → HasTurned proto old new last passes left answer (get_or live 0 Silent)
       → Flows left live (owed_by old) old new answer
   flows left [] old new last answer unowed is knows turned =
@@ -98,13 +98,13 @@ module _ {R : Type 0} (proto : LineRules R) (passes : Bool) where
   flows left (Silent ∷ live) old new last answer unowed is knows turned =
       let none : owed_by old ≡ 0 = unowed (omega arith) in
       let P : ℕ → Type 0 = λ k. (answer ≡ tick_or_silence (filled proto.rules left k))
-      × OutletStandsFor proto new (left ++ filled_bytes (filled proto.rules left k))
+      × OutletStandsForTicks proto new (left ++ filled_bytes (filled proto.rules left k))
       × (owed_by new ≡ k - 1) in
       let quiet : P 0 = subst P none (turned.0, turned.1, turned.2) in
       let first = leaves-silent proto.rules passes left live (owed_by old) in
       record {
         after = left;
-        stands = subst (λ x. OutletStandsFor proto new x) (append-nil left) quiet.1;
+        stands = subst (λ x. OutletStandsForTicks proto new x) (append-nil left) quiet.1;
         answer_is = quiet.0 ∙ sym (ap (λ l. get_or l 0 Silent) first);
         rest = ap (λ k. leaves proto.rules passes left live k) (quiet.2 ∙ sym none)
             ∙ sym (ap (λ l. drop 1 l) first);
@@ -118,12 +118,12 @@ module _ {R : Type 0} (proto : LineRules R) (passes : Bool) where
       let lasts : last ≡ is_none live = is (omega arith) in
       let all : is_none live ≡ true → left ++ b ∷ bytes_in live ≡ left ++ b ∷ [] =
       λ none. ap (λ l. left ++ b ∷ bytes_in l) (none-left live none) in
-      let whole : last ≡ true → passes ≡ false → Refuses proto old (left ++ b ∷ []) =
-      λ at_last refused. subst (λ y. Refuses proto old y) (all (sym lasts ∙ at_last))
+      let whole : last ≡ true → passes ≡ false → OutletRefuses proto old (left ++ b ∷ []) =
+      λ at_last refused. subst (λ y. OutletRefuses proto old y) (all (sym lasts ∙ at_last))
       (knows (omega arith) at_last refused) in
       let turn = turned whole in
       let P : Bool → Type 0 = λ l. (answer ≡ Byte (emitted rules left b l passes))
-      × OutletStandsFor proto new (left ++ b ∷ [])
+      × OutletStandsForTicks proto new (left ++ b ∷ [])
       × (owed_by new ≡ owed_after rules left b l passes) in
       let out : P (is_none live) = subst P lasts (turn.0, turn.1, turn.2) in
       let first = leaves-byte rules passes left b live (owed_by old) in

@@ -1,5 +1,5 @@
 -- What noted bursts emit has left before another burst may leave.
-use Rattle.frame_ending.specs.{Laid.tick_at, Walk.emitted, Walk.state_after}
+use Rattle.frame_ending.specs.{Laid.tick_at, Walk.emitted_by, Walk.state_after}
 use Rattle.{frame_ending.specs.LiveBytes.live_ticks, line_rules.specs.Rules.Rules}
 use Rattle.link_format.specs.Profile.{Profile}
 use Rattle.link_box.proofs.Judging.{IsJudged, checked-busy}
@@ -69,15 +69,15 @@ module _ (profile : Profile) (rules : Rules) where
       let rest = later-state (state_by profile rules s d (checked profile rules s d)) ds in
       omega arith
 
-  -- from the first tick on at which a burst may start, what was emitted hides nothing
+  -- from the first tick on at which a burst may start, what was emitted_by hides nothing
   pub past : (s : CheckState) (ds : List Burst) (i : ℕ)
       → (state_after (checker profile rules) s ds).earliest_start ≤ i → (more : List Burst)
-      → tick_at (emitted (checker profile rules) s ds ++ more) i ≡ tick_at more i
+      → tick_at (emitted_by (checker profile rules) s ds ++ more) i ≡ tick_at more i
   past s [] i gone more = refl
   past s (d ∷ ds) i gone more =
       let next : CheckState = state_by profile rules s d (checked profile rules s d) in
       let late = later-state next ds in
-      let rest : List Burst = emitted (checker profile rules) next ds in
+      let rest : List Burst = emitted_by (checker profile rules) next ds in
       ap (λ x. tick_at x i)
       (append_assoc (emission_by profile rules d (checked profile rules s d)) rest more)
       ∙ (past-verdict s d (checked profile rules s d) i (omega arith) (rest ++ more)

@@ -2,7 +2,7 @@
 use Rattle.frame_ending.proofs.Coming.{come-waits, come-noted, note-now, note-later, answers-step}
 use Rattle.frame_ending.specs.{Answers.told_notes, Answers.note_in, Causal.IsCausal, HasCome.HasCome}
 use Rattle.frame_ending.specs.{HasCome.waiting_part, Laid.tick_at, Walk.Walker, Walk.walked}
-use Rattle.{frame_ending.specs.Walk.emitted, frame_ending.proofs.Dividing.longer-line}
+use Rattle.{frame_ending.specs.Walk.emitted_by, frame_ending.proofs.Dividing.longer-line}
 use Rattle.line_rules.specs.{Rules.Rules, declared.line_rules.LineRules.Ghosts as LineRules}
 use Rattle.link_format.specs.Profile.{Profile}
 use Rattle.link_box.proofs.CheckCausality.{checker-causal}
@@ -14,7 +14,7 @@ use Rattle.link_box.specs.Verdicts.{CheckState, Verdict, checked, Verdict.droppe
 use Rattle.link_box.specs.declared.check_note.CheckNote.{CheckNote}
 use Rattle.link_box.specs.declared.check_note.CheckNote.TheVariants.{Dropped}
 use Rattle.link_box.specs.declared.check_note.DroppedWhy.{DroppedWhy}
-use Rattle.line_rules.specs.{Outlet.Refuses, Outlet.owed_by, declared.outlet.Outlet.Outlet}
+use Rattle.line_rules.specs.{Outlet.OutletRefuses, Outlet.owed_by, declared.outlet.Outlet.Outlet}
 use Rattle.std.proofs.Common.{◌≡◌, ◌∙◌, ℕ, ◌+◌, ◌-◌, ◌<◌, ◌≤◌, Bool, false, List, [], ◌∷◌, ◌++◌}
 use Rattle.std.proofs.Common.{length, drop, get_or, sym, ap, arith, subst, Option, Some, None}
 use Rattle.std.proofs.Common.{IfSome}
@@ -57,13 +57,13 @@ module _ {R : Type 0} (proto : LineRules R) (m earliest : ℕ) (emissions : List
       ∙ (ap (λ k. get_or to_leave k Silent) none ∙ sym flow.answer_is)
 
   -- the outlet keeps what it knows of a refused burst
-  pub knows-more : (passes ≡ false → 0 < length live → Refuses proto old (left ++ bytes_in live))
+  pub knows-more : (passes ≡ false → 0 < length live → OutletRefuses proto old (left ++ bytes_in live))
       → passes ≡ false → 0 < length (drop 1 live)
-      → Refuses proto new (flow.after ++ bytes_in (drop 1 live))
+      → OutletRefuses proto new (flow.after ++ bytes_in (drop 1 live))
   knows-more knows refused some =
       let less = length-drop 1 live in
       let there : 0 < length live = omega arith in
-      let P : List ℕ → Type 0 = λ x. Refuses proto new x in
+      let P : List ℕ → Type 0 = λ x. OutletRefuses proto new x in
       let V : R → Type 0 = λ v. proto.stands v (left ++ bytes_in live) in
       subst P (sym (flow.bytes there)) (subst V (sym (flow.keeps there)) (knows refused there))
 
@@ -136,13 +136,13 @@ module _ {R : Type 0} (proto : LineRules R) (profile : Profile)
       still-come = come-waits w begun m ds s emissions waiting come later
 
       pub still-answers : (answer : Tick)
-          → tick_at (emissions ++ emitted w s (waiting_part waiting)) m ≡ answer
+          → tick_at (emissions ++ emitted_by w s (waiting_part waiting)) m ≡ answer
           → Answers profile proto.rules floor line t answer None
       still-answers answer shown =
           answers-step w causal begun line s emissions t waiting come brief_note answer None shown
           (ap (λ x. told_notes brief_note x) (note-later w s m waiting later))
 
-    -- ---- no verdict is open, and what bursts have emitted goes on to leave
+    -- ---- no verdict is open, and what bursts have emitted_by goes on to leave
 
     module _ (passes : Bool) (left : List ℕ) (live : List Tick) (owed : ℕ) (old new : Outlet R)
         (answer : Tick) (flow : Flows proto passes left live owed old new answer)

@@ -15,7 +15,7 @@ use Rattle.sequence_journal.specs.declared.link.LinkId.{LinkId}
 use Rattle.sequence_journal.specs.Commits.{HasFailed}
 use Rattle.sequence_journal.specs.Journal.{journal_link, journal_floor, Fits, IsCrashSafe}
 use Rattle.sequence_journal.specs.Journal.{HasFloorFrom}
-use Rattle.link_box.specs.Walking.{Walking, full_notes, number_after}
+use Rattle.link_box.specs.Walking.{Walking, full_notes, number_used_after}
 
 -- Holds if the journal serves this link, and the disk is the journal's.
 pub record ServesLink (link : LinkId) (journal : Journal) (told : Option Slots) : Type 0 where
@@ -39,13 +39,13 @@ module _ {X A : Type 0} (walking : Walking A) (standing : X → ℕ → Setup �
   pub record HasStepped (value : X) (last : ℕ) (setup : Setup) (line : List Tick) (t tick : Tick)
       (note : Option A) : Type 0 where
     pub stands : standing value last setup (line ++ t ∷ [])
-    pub number : last ≡ number_after walking setup (line ++ t ∷ [])
+    pub number : last ≡ number_used_after walking setup (line ++ t ∷ [])
     pub answers : AnswersTick (walking.walker setup) walking.brief (walking.begun setup) line t
         tick note
 
   -- Holds if the box has taken this tick as `HasStepped` says, whatever line it had taken.
-  abbrev pub Steps : X → ℕ → X → ℕ → Tick → Tick → Option A → Type 0
-  Steps old before new after t tick note = (setup : Setup) (line : List Tick)
+  abbrev pub BoxSteps : X → ℕ → X → ℕ → Tick → Tick → Option A → Type 0
+  BoxSteps old before new after t tick note = (setup : Setup) (line : List Tick)
       → standing old before setup line → HasStepped new after setup line t tick note
 
   -- Holds if, by the walk, a frame with this number is noted in the step of this tick, after this

@@ -5,7 +5,7 @@ use Rattle.yasir_ticks.specs.declared.tick.Tick.{Tick}
 use Rattle.yasir_ticks.specs.declared.tick.Tick.TheVariants.{Silent, Byte}
 use Rattle.line_rules.specs.declared.line_rules.LineRules.{Ghosts as LineRules}
 use Rattle.line_rules.specs.declared.outlet.Outlet.{Outlet}
-use Rattle.line_rules.specs.Outlet.{StandsFor as OutletStandsFor, Refuses, owed_by, refused_by}
+use Rattle.line_rules.specs.Outlet.{OutletStandsForTicks, OutletRefuses, owed_by, refused_by}
 use Rattle.line_rules.specs.Outlet.{emitted, owed_after, filled, filled_bytes}
 
 -- the tick of a byte, or silence if there is none
@@ -21,12 +21,12 @@ abbrev pub HasTurned : {R : Type 0} → LineRules R → Outlet R → Outlet R �
     → Tick → Tick → Type 0
 HasTurned proto old new last passes x answer Silent =
     (answer ≡ tick_or_silence (filled proto.rules x (owed_by old)))
-    × OutletStandsFor proto new (x ++ filled_bytes (filled proto.rules x (owed_by old)))
+    × OutletStandsForTicks proto new (x ++ filled_bytes (filled proto.rules x (owed_by old)))
     × (owed_by new ≡ owed_by old - 1)
     × (owed_by old ≡ 0 → refused_by new ≡ refused_by old)
 HasTurned proto old new last passes x answer (Byte b) =
-    (last ≡ true → passes ≡ false → Refuses proto old (x ++ b ∷ []))
+    (last ≡ true → passes ≡ false → OutletRefuses proto old (x ++ b ∷ []))
     → (answer ≡ Byte (emitted proto.rules x b last passes))
-    × OutletStandsFor proto new (x ++ b ∷ [])
+    × OutletStandsForTicks proto new (x ++ b ∷ [])
     × (owed_by new ≡ owed_after proto.rules x b last passes)
     × (refused_by new ≡ refused_by old)

@@ -31,5 +31,5 @@ module _ {A : Type 0} (walking : Walking A) where
   frames_of setup line = filter_map (λ n. walking.frame_in n.note) (full_notes setup line)
 
   -- the last number that a box uses for the frames of a line, or its floor if there are none
-  abbrev pub number_after : Setup → List Tick → ℕ
-  number_after setup line = last_number setup.floor (frames_of setup line)
+  abbrev pub number_used_after : Setup → List Tick → ℕ
+  number_used_after setup line = last_number setup.floor (frames_of setup line)

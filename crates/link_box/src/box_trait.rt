@@ -10,7 +10,7 @@ ghost use Rattle.sequence_journal.specs.declared.link.LinkId.{LinkId};
 ghost use Rattle.sequence_journal.specs.Links.{HasDirection};
 ghost use Rattle.sequence_journal.specs.Journal.{journal_floor};
 ghost use Rattle.link_box.specs.Walking.{Walking};
-ghost use Rattle.link_box.specs.Stepping.{MayStep, Steps, FailsStep, KeepsJournal};
+ghost use Rattle.link_box.specs.Stepping.{MayStep, BoxSteps, FailsStep, KeepsJournal};
 ghost use Rattle.link_box.specs.Runs.{TakesRun};
 
 use frame_ending::{BoxStep, RunBytes};
@@ -73,7 +73,7 @@ pub trait LinkBox: Drop {
         requires { MayStep (link_of self.old) (taken self.old) journal.old (D.told disk.old) }
         ensures link { link_of self.new ≡ link_of self.old }
         ensures taken { OnOk result (taken self.new ≡ taken self.old + 1) }
-        ensures steps { IfOk result (λ step. Steps walking stands
+        ensures steps { IfOk result (λ step. BoxSteps walking stands
             self.old (journal_floor journal.old) self.new (journal_floor journal.new)
             t step.tick step.note) }
         ensures fails { OnErr result (FailsStep walking stands self.old journal.old journal.new t

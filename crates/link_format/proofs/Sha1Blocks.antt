@@ -7,7 +7,7 @@ use Rattle.std.proofs.lemmas.Nat.Bits.{bit_at-lt, bit_at_xor, same_from_bits}
 use Rattle.std.specs.Int.{w32, rotate_left, Bits.xor_assoc, Bits.xor_zero_r, Bits.xor_zero_l}
 use lib.Lanes.{zip2, pick_l}
 use Rattle.link_format.proofs.KeyedWords.{four_lanes, below_four, same_four, IsFour_at}
-use Rattle.link_format.specs.Words.{AreBytes, four_at, four_loaded, IsFour}
+use Rattle.link_format.specs.Words.{AreBytesOfWord, four_at, four_loaded, IsFour}
 use Rattle.sha1.proofs.Schedule.{slice_index-schedule_first, slice_index-schedule_next, rounds_next}
 use Rattle.sha1.specs.Sha1.{word_at, schedule, rounds, round, round_fn, round_constant}
 
@@ -113,7 +113,7 @@ module _ (block : List ℕ) where
       let d : n - 16 ≡ l = omega arith in
       slice_index-schedule_next block 64 n (omega arith) (omega arith) ∙ rw (a, b, c, d) refl
 
-  first_word_lt : AreBytes block → (t : ℕ) → t < 16 → W t < 2 ^ 32
+  first_word_lt : AreBytesOfWord block → (t : ℕ) → t < 16 → W t < 2 ^ 32
   first_word_lt bytes t lt =
       let a = bytes (4 * t) in
       let b = bytes (4 * t + 1) in
@@ -121,7 +121,7 @@ module _ (block : List ℕ) where
       let d = bytes (4 * t + 3) in
       rw (slice_index-schedule_first block 64 t lt) (omega (arith, a, b, c, d))
 
-  words_lt : AreBytes block → (n t : ℕ) → t < n → n ≤ 80 → W t < 2 ^ 32
+  words_lt : AreBytesOfWord block → (n t : ℕ) → t < n → n ≤ 80 → W t < 2 ^ 32
   words_lt bytes zero t lt le = absurd (omega arith)
   words_lt bytes (suc n) t lt le = elim (cases_lt t 16) [
     | inl first ↦ first_word_lt bytes t first
@@ -135,11 +135,11 @@ module _ (block : List ℕ) where
         (words_lt bytes n (t - 16) (omega arith) (omega arith))))
   ]
 
-  word_lt : AreBytes block → (t : ℕ) → t < 80 → W t < 2 ^ 32
+  word_lt : AreBytesOfWord block → (t : ℕ) → t < 80 → W t < 2 ^ 32
   word_lt bytes t lt = words_lt bytes 80 t lt (omega arith)
 
   -- a word from word 32 on, by words that are at least six before it
-  word_far : AreBytes block → (n i j k l : ℕ) → l + 32 ≡ n → l + 26 ≡ i → l + 16 ≡ j → l + 4 ≡ k
+  word_far : AreBytesOfWord block → (n i j k l : ℕ) → l + 32 ≡ n → l + 26 ≡ i → l + 16 ≡ j → l + 4 ≡ k
       → n < 80 → W n ≡ rotate_left w32 (xor_four (W i) (W j) (W k) (W l)) 2
   word_far bytes n i j k l en ei ej ek lt =
       let q = W (l + 21) in
@@ -230,7 +230,7 @@ module _ (block : List ℕ) where
       (ap turned (xor_zero_r _) ∙ w2)
       (ap turned (ap (bit_xor _) w0 ∙ last) ∙ w3)
 
-  pub far_four : AreBytes block → (t : ℕ) → t + 36 ≤ 80
+  pub far_four : AreBytesOfWord block → (t : ℕ) → t + 36 ≤ 80
       → turned_lists 2 (xor_lists
       (pick_l 0 (four_at (schedule block 64) (t + 24) ++ four_at (schedule block 64) (t + 28))
       (2 ∷ 3 ∷ 4 ∷ 5 ∷ []))

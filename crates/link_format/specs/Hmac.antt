@@ -6,13 +6,13 @@ use Rattle.std.specs.Prelude.{if◌then◌else◌}
 abbrev pub xored : ℕ → List ℕ → List ℕ
 xored pad bytes = map (λ b. bit_xor b pad) bytes
 
--- a key of at most a block, filled with zeros to a whole one
-abbrev pub filled : List ℕ → List ℕ
-filled key = key ++ replicate (64 - length key) 0
+-- a key of at most a block, filled_key with zeros to a whole one
+abbrev pub filled_key : List ℕ → List ℕ
+filled_key key = key ++ replicate (64 - length key) 0
 
 -- the block of a key; a key that is longer than a block is hashed first
 unfoldable pub key_block : (List ℕ → List ℕ) → List ℕ → List ℕ
-key_block hash key = if nat_lt 64 (length key) then filled (hash key) else filled key
+key_block hash key = if nat_lt 64 (length key) then filled_key (hash key) else filled_key key
 
 -- the MAC of a text under a key
 unfoldable pub hmac : (List ℕ → List ℕ) → List ℕ → List ℕ → List ℕ

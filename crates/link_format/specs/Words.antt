@@ -4,8 +4,8 @@ use Rattle.std.specs.Prelude.{◌≡◌, ℕ, ◌+◌, ◌*◌, ◌<◌, List, [
 use Rattle.sha2.specs.Sha256.{add32, word_at}
 
 -- Holds if each value of a block is below 256.
-abbrev pub AreBytes : List ℕ → Type 0
-AreBytes block = (i : ℕ) → slice_index block i < 256
+abbrev pub AreBytesOfWord : List ℕ → Type 0
+AreBytesOfWord block = (i : ℕ) → slice_index block i < 256
 
 -- four words of a list, from word t on
 abbrev pub four_at : List ℕ → ℕ → List ℕ

@@ -1,8 +1,8 @@
 //! HMAC over any hash function, as a stream.
 ghost use Rattle.std.specs.Prelude.{◌≡◌, ℕ, List, [], ◌∷◌, ◌++◌, ◌≤◌, ◌<◌, length, take};
 ghost use Rattle.arrayvec.specs.ArrayVec.{array_vec_len};
-ghost use Rattle.link_format.specs.Hmac.{xored, filled, key_block, hmac};
-ghost use Rattle.link_format.specs.Stands.{StandsFor};
+ghost use Rattle.link_format.specs.Hmac.{xored, filled_key, key_block, hmac};
+ghost use Rattle.link_format.specs.Stands.{MacStandsFor};
 ghost use Rattle.link_format.specs.Tag.{hmac_cut};
 
 use crate::{Digest, TagBytes};
@@ -26,7 +26,7 @@ pub struct Hmac<D, S, const N: usize> {
 // Returns a key of at most a block, filled with zeros to a whole one.
 fn filled(key: &[u8]) -> [u8; BLOCK_LEN]
     requires { length key.now ≤ 64 }
-    ensures { result ≡ filled key.now }
+    ensures { result ≡ filled_key key.now }
 {
     let mut block = [0; BLOCK_LEN];
     block[..key.len()].copy_from_slice(key);
@@ -90,7 +90,7 @@ impl<D: Digest<S, N>, S: Drop, const N: usize> Hmac<D, S, N> {
 
     // Returns a value that represents a key of any length and the empty text.
     pub(crate) fn with_key(key: &[u8]) -> Self
-        ensures { StandsFor D.digest_of D.starts D.holds result key.now [] }
+        ensures { MacStandsFor D.digest_of D.starts D.holds result key.now [] }
     {
         let block = key_block::<D, S, N>(key);
         let inner = D::start_of(&xored(INNER_PAD, block));
@@ -107,8 +107,8 @@ impl<D: Digest<S, N>, S: Drop, const N: usize> Hmac<D, S, N> {
     // Begins anew with the empty text, under the same key.
     #[inline]
     pub(crate) fn begin(&mut self)
-        ensures { (key text : List ℕ) → StandsFor D.digest_of D.starts D.holds self.old key text
-            → StandsFor D.digest_of D.starts D.holds self.new key [] }
+        ensures { (key text : List ℕ) → MacStandsFor D.digest_of D.starts D.holds self.old key text
+            → MacStandsFor D.digest_of D.starts D.holds self.new key [] }
     {
         self.running.begin(&self.inner);
     }
@@ -116,8 +116,8 @@ impl<D: Digest<S, N>, S: Drop, const N: usize> Hmac<D, S, N> {
     // Appends to the text.
     #[inline]
     pub(crate) fn update(&mut self, part: &[u8])
-        ensures { (key text : List ℕ) → StandsFor D.digest_of D.starts D.holds self.old key text
-            → StandsFor D.digest_of D.starts D.holds self.new key (text ++ part.now) }
+        ensures { (key text : List ℕ) → MacStandsFor D.digest_of D.starts D.holds self.old key text
+            → MacStandsFor D.digest_of D.starts D.holds self.new key (text ++ part.now) }
     {
         self.running.update(part);
     }
@@ -126,12 +126,12 @@ impl<D: Digest<S, N>, S: Drop, const N: usize> Hmac<D, S, N> {
     // the same key.
     #[tactic(auto, unfolding(crate::specs::Hmac::hmac))]
     pub(crate) fn finish(&mut self) -> TagBytes
-        ensures tag { (key text : List ℕ) → StandsFor D.digest_of D.starts D.holds self.old key text
+        ensures tag { (key text : List ℕ) → MacStandsFor D.digest_of D.starts D.holds self.old key text
             → result.items ≡ hmac_cut D.digest_of D.TAG key text }
         ensures len { array_vec_len result ≡ D.TAG }
         ensures begun { (key text : List ℕ)
-            → StandsFor D.digest_of D.starts D.holds self.old key text
-            → StandsFor D.digest_of D.starts D.holds self.new key [] }
+            → MacStandsFor D.digest_of D.starts D.holds self.old key text
+            → MacStandsFor D.digest_of D.starts D.holds self.new key [] }
     {
         let whole = D::nest(&self.outer, &self.running);
         self.begin();

@@ -7,7 +7,7 @@ ghost use Rattle.link_format.specs.Digests.{length-sha256, All-sha256, sha256-ta
 ghost use Rattle.link_format.specs.Digests.{sha256-tag_within, length-hmac_cut, All-hmac_cut};
 ghost use Rattle.link_format.specs.HashValues.{IsSha1After, IsSha256After};
 ghost use Rattle.link_format.specs.Hashing.{HasBegun, HasTaken};
-ghost use Rattle.link_format.specs.Stands.{StandsFor};
+ghost use Rattle.link_format.specs.Stands.{MacStandsFor};
 ghost use Rattle.link_format.specs.Tag.{hmac_sha1, hmac_sha1_96, hmac_sha256, hmac_sha256_128};
 ghost use Rattle.sha2.specs.Sha256.{sha256};
 
@@ -32,7 +32,7 @@ impl HmacSha1 {
 impl Mac for HmacSha1 {
     ghost tag_of = { hmac_sha1_96 };
 
-    ghost stands = { λ mac. StandsFor sha1 (HasBegun IsSha1After) (HasTaken IsSha1After) mac.hmac };
+    ghost stands = { λ mac. MacStandsFor sha1 (HasBegun IsSha1After) (HasTaken IsSha1After) mac.hmac };
 
     ghost TAG = { 12 };
 
@@ -84,7 +84,7 @@ impl HmacSha256 {
 impl Mac for HmacSha256 {
     ghost tag_of = { hmac_sha256_128 };
 
-    ghost stands = { λ mac. StandsFor sha256 (HasBegun IsSha256After) (HasTaken IsSha256After) mac.hmac };
+    ghost stands = { λ mac. MacStandsFor sha256 (HasBegun IsSha256After) (HasTaken IsSha256After) mac.hmac };
 
     ghost TAG = { 16 };
 

@@ -17,8 +17,8 @@ use Rattle.command_ends.specs.declared.status.Status.TheVariants.{Done, NoMemory
 use Rattle.command_ends.specs.declared.status.Unclean.{Unclean}
 use Rattle.link_box.specs.Sealing.{sealed}
 use Rattle.sequence_journal.specs.declared.numbers.TheConstants.{LIMIT}
-use Rattle.session_audit.{proofs.Auditing.kind-so, specs.AuditedInput.FindsNone}
-use Rattle.session_audit.specs.Sessions.{sent_setup, got_setup, verdict_of, verdict_with}
+use Rattle.session_audit.{proofs.Auditing.kind-so, specs.AuditedInput.FindsNoVerdict}
+use Rattle.session_audit.specs.Sessions.{sent_setup, got_setup, verdict_of_session, verdict_with}
 use Rattle.session_audit.specs.Verdicts.{verdict_on}
 use Rattle.session_audit.specs.declared.{session.Session.Session, verdict.Verdict.Verdict}
 use Rattle.session_audit.specs.declared.verdict.Finding.{Finding}
@@ -55,7 +55,7 @@ verdict_by proto profile session device link received = verdict_on (delay_of pro
 pub verdict-is : (proto : Proto) (profile : Profile) (session : Session)
     → session.label ≡ (rules_of proto).label → session.profile ≡ delay_of profile
     → (device link received : List Tick)
-    → verdict_of session device link received ≡ verdict_by proto profile session device link received
+    → verdict_of_session session device link received ≡ verdict_by proto profile session device link received
 verdict-is Rtu Y18 session label delay device link received =
     kind-so (λ kind. verdict_with kind session device link received
     ≡ verdict_by Rtu Y18 session device link received) session true true
@@ -161,7 +161,7 @@ module _ (verdict_on_three : List Tick → List Tick → List Tick → Verdict) 
     (same : out_now ≡ out_before) where
   -- If the consumer stopped and nothing was printed, the status NoMemory says so.
   pub stopped-nothing : (end : End) (stop : Stop) → end ≡ Stopped stop
-      → FindsNone verdict_on_three in_before in_now end
+      → FindsNoVerdict verdict_on_three in_before in_now end
       → AuditsItems asked key in_before in_now out_before out_now NoMemory
   stopped-nothing (Stopped stop) other is none =
       record { items = none.items; takes = none.takes; out = same }
@@ -173,7 +173,7 @@ module _ (verdict_on_three : List Tick → List Tick → List Tick → Verdict) 
   -- If the input didn't end well, the consumer didn't stop and nothing was printed, the status of
   -- that end says so.
   pub nothing-printed : (end : End) → ((stop : Stop) → end ≡ Stopped stop → ⊥)
-      → FindsNone verdict_on_three in_before in_now end
+      → FindsNoVerdict verdict_on_three in_before in_now end
       → AuditsItems asked key in_before in_now out_before out_now (status_of end)
   nothing-printed Whole other none = absurd (none.other refl)
   nothing-printed (Refused bad) other none =

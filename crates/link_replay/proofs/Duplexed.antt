@@ -6,7 +6,7 @@ use Rattle.command_ends.specs.{Outside.Outside, declared.status.Status.Status}
 use Rattle.command_ends.specs.declared.status.Status.TheVariants.{Done, BadTicks, ReadFault}
 use Rattle.command_ends.specs.declared.status.Status.TheVariants.{WriteFault, TooLong, NoMemory}
 use Rattle.std.proofs.Common.{◌≡◌, ◌⊎◌, ℕ, List, Option, false, refl}
-use Rattle.tick_drive.specs.{Consumers.is_write_fault, Drive.answer_of}
+use Rattle.tick_drive.specs.{Consumers.is_write_fault, Drive.drive_answer_of}
 use Rattle.yasir_io.specs.declared.{disk.SlotDisk.Ghosts as SlotDisk, sink.Sink.Ghosts as Sink}
 use Rattle.yasir_io.specs.declared.source.Source.{Ghosts as Source}
 use Rattle.yasir_ticks.specs.declared.tick.Tick.{Tick}
@@ -92,7 +92,7 @@ module _ (texts : List Tick → List Tick → BothTexts) (in_before in_now : Opt
       let never : stops.JournalFault ≡ stops.NoMemory = ended.memory stops.JournalFault refl in cc
 
   pub no-write : (end : End) → EndsOtherwise texts in_before in_now end
-      → is_write_fault (answer_of end) ≡ false
+      → is_write_fault (drive_answer_of end) ≡ false
   no-write Whole ended = refl
   no-write (Refused bad) ended = refl
   no-write (ends.TooLong what count) ended = refl

@@ -11,7 +11,7 @@ use Rattle.link_replay.specs.declared.commands.audit.Audited.{Audited}
 use Rattle.command_ends.specs.declared.words.{Profile.Profile, Proto.Proto}
 use Rattle.session_audit.{proofs.Keying.keyed-so, specs.Keyed.ReadsKeyFirst}
 use Rattle.session_audit.specs.Keyed.{RunsWithKey}
-use Rattle.session_audit.specs.{Keyed.LeavesAll, Recorded.PrintsItems, Recorded.lines_of}
+use Rattle.session_audit.specs.{Keyed.LeavesAll, Recorded.PrintsItems, Recorded.recorded_lines}
 use Rattle.session_lists.specs.Listed.{link_rest}
 use Rattle.{command_ends.proofs.Readable.all_of_told, tick_drive.specs.Input.max_bytes}
 use Rattle.command_ends.specs.Causes.{ReadsCause, SinkCause, NoneRose}
@@ -66,7 +66,7 @@ module _ {K S O L D : Type 0} (k : Source K) (s : Source S) (o : Sink O) (l : Si
       (status : Status) (key : List ℕ)
       → ReplaysWith proto profile dir (s.left before.input) (s.left after.input)
       (o.held before.out) (o.held after.out) key status
-      → PrintsItems 1 link_rest (lines_of (replay_listing proto profile dir key)
+      → PrintsItems 1 link_rest (recorded_lines (replay_listing proto profile dir key)
       (seal_rest profile)) (s.left before.input) (s.left after.input) (o.held before.out)
       (o.held after.out) status
   replays-lines proto profile dir before after Done key h =
@@ -85,12 +85,12 @@ module _ {K S O L D : Type 0} (k : Source K) (s : Source S) (o : Sink O) (l : Si
         → SinkCause (o.faults before.out) (o.faults after.out) (l.faults before.log)
         (l.faults after.log) status → (status ≡ Done) ⊎ (status ≡ NoMemory)
     listable_done proto profile dir right status h reads sinks = over_done 1 link_rest
-        (λ key. lines_of (replay_listing proto profile dir key) (seal_rest profile)) before after
+        (λ key. recorded_lines (replay_listing proto profile dir key) (seal_rest profile)) before after
         right calm status
         (keyed-so k before.key after.key
         (ReplaysWith proto profile dir (s.left before.input) (s.left after.input)
         (o.held before.out) (o.held after.out))
-        (λ key. PrintsItems 1 link_rest (lines_of (replay_listing proto profile dir key)
+        (λ key. PrintsItems 1 link_rest (recorded_lines (replay_listing proto profile dir key)
         (seal_rest profile)) (s.left before.input) (s.left after.input) (o.held before.out)
         (o.held after.out))
         (LeavesAll before.input after.input before.out after.out before.log after.log) status

@@ -29,7 +29,7 @@ use Rattle.sequence_journal.specs.{Slots.greatest, declared.link.LinkId.LinkId}
 use Rattle.line_commands.proofs.SpaceEnds.{nothing_taken}
 use Rattle.line_commands.specs.PrintsFrames.{HasPrinted, HasPrintedFront, read_rest}
 use Rattle.line_commands.specs.SpacesLine.{TakesNothing, space_rest}
-use Rattle.line_texts.specs.Sending.{HasSent, HasSentFronts}
+use Rattle.line_texts.specs.Sending.{TextsHaveSent, HasSentFronts}
 use Rattle.std.proofs.Common.{◌≡◌, ◌∙◌, ℕ, ◌≤◌, ◌⊎◌, List, [], Option, Some, None}
 use Rattle.std.proofs.Common.{IfSome, inl, inr}
 use Rattle.std.proofs.Common.{refl, sym, ap, subst, arith}
@@ -240,7 +240,7 @@ module _ {K S O L D : Type 0} (k : Source K) (s : Source S) (o : Sink O) (l : Si
   asked_done (Some (Trial proto profile seed count)) before after status may calm does causes =
       text_done _ _ _ _ _ _ _ _ _ _ calm _ _ _ status does.line.printed causes.streams.sinks
   asked_done (Some (Space proto profile)) before after status may calm does causes =
-      elim (right_input_done space_rest _ _ (HasSent (spaced_by proto profile) _ _)
+      elim (right_input_done space_rest _ _ (TextsHaveSent (spaced_by proto profile) _ _)
       (HasSentFronts (spaced_by proto profile) _ _) (TakesNothing (spaced_by proto profile) _ _ _ _)
       _ _ _ _ _ _ _ _ _ _ may calm status (whole-spaces proto profile _ _ _ _ status does.line)
       causes.own.0 causes.streams.sinks) as (λ _. (status ≡ Done) ⊎ (status ≡ NoMemory)) [

@@ -2,7 +2,7 @@
 use Rattle.dnp_link_frame.specs.{Rules.dnp_rules, RulesLaws.dnp_lawful, RulesLaws.dnp_framed}
 use Rattle.{line_spacer.specs.Spacing.accepted_of, line_texts.specs.Sending.SinkTexts}
 use Rattle.{link_replay.specs.ReadCommand.device_reads}
-use Rattle.link_replay.specs.SpaceCommand.{spaced_by, SpacesBy, SpacesTexts, Spaces}
+use Rattle.link_replay.specs.SpaceCommand.{spaced_by, SpacesInput, SpacesTexts, Spaces}
 use Rattle.command_ends.specs.Links.{gap_of}
 use Rattle.command_ends.specs.declared.words.Profile.{Profile, TheVariants.Y18, TheVariants.Y24}
 use Rattle.command_ends.specs.declared.words.Proto.{Proto, TheVariants.Rtu, TheVariants.Dnp3}
@@ -47,7 +47,7 @@ module _ (proto : Proto) (profile : Profile) (in_before in_now : Option (List �
     (before now : SinkTexts) where
   spaces-by : (status : Status)
       → SpacesLine (spaced_by proto profile) in_before in_now before now status
-      → SpacesBy proto profile in_before in_now before now status
+      → SpacesInput proto profile in_before in_now before now status
   spaces-by Done h = record {
     items = h.items;
     takes = h.takes;
@@ -56,7 +56,7 @@ module _ (proto : Proto) (profile : Profile) (in_before in_now : Option (List �
   }
   spaces-by status h = h
 
-  pub whole-spaces : (status : Status) → SpacesBy proto profile in_before in_now before now status
+  pub whole-spaces : (status : Status) → SpacesInput proto profile in_before in_now before now status
       → SpacesLine (spaced_by proto profile) in_before in_now before now status
   whole-spaces Done h = record { items = h.items; takes = h.takes; makes = h.sent }
   whole-spaces status h = h

@@ -12,7 +12,7 @@ use Rattle.command_ends.specs.Causes.{InputCause, DiskCause, LogsFault, NoneRose
 use Rattle.command_ends.specs.StreamCauses.{HasStreamCauses}
 use Rattle.link_replay.specs.InitCommand.{Inits, IsBlank}
 use Rattle.command_ends.specs.Readable.{IsReadable}
-use Rattle.link_replay.specs.ReadCommand.{Reads}
+use Rattle.link_replay.specs.ReadCommand.{ReadsOverInput}
 use Rattle.link_replay.specs.VectorsCommand.{Tabulates}
 use Rattle.line_commands.specs.ReplaysBox.{IsReplayable, KeepsFloorThroughout}
 use Rattle.command_ends.specs.Links.{link_of}
@@ -70,7 +70,7 @@ module _ {K S O L D : Type 0} (k : Source K) (s : Source S) (o : Sink O) (l : Si
   Does None before after status = (status ≡ Usage) × (after ≡ before)
   Does (Some (Init proto profile dir)) before after status =
       Inits o l d (link_of proto profile dir) before after status
-  Does (Some (Read proto)) before after status = Reads s o l proto before after status
+  Does (Some (Read proto)) before after status = ReadsOverInput s o l proto before after status
   Does (Some Vectors) before after status = Tabulates o l before after status
   Does (Some (Seal proto profile dir)) before after status =
       Seals k s o l d proto profile dir before after status

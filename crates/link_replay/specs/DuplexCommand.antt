@@ -11,7 +11,7 @@ use Rattle.link_format.specs.Profile.{Profile as LinkProfile}
 use Rattle.link_format.specs.Setup.{Setup}
 use Rattle.sequence_journal.specs.declared.numbers.TheConstants.{LIMIT}
 use Rattle.link_box.specs.Sealing.{seal_notes, link_line}
-use Rattle.seal_transmitter.specs.Answers.{brief_note as seal_brief}
+use Rattle.seal_transmitter.specs.Answers.{brief_seal_note}
 use Rattle.link_box.specs.Checking.{check_notes, received_line, brief_note as check_brief}
 use Rattle.tick_drive.specs.Input.{Takes, IsWhole}
 use Rattle.tick_drive.specs.declared.consumer.Stop.TheVariants as stops
@@ -42,7 +42,7 @@ abbrev pub duplex_sealer : Proto → Profile → Setup → TimedBox
 duplex_sealer proto profile setup = record {
   other_line = λ line.
       link_line (duplex_profile proto profile setup) (rules_of proto) setup.floor line;
-  note_lines = λ line. timed_lines seal_line (told_notes seal_brief
+  note_lines = λ line. timed_lines seal_line (told_notes brief_seal_note
       (seal_notes (duplex_profile proto profile setup) (rules_of proto) setup.floor line));
 }
 

@@ -18,7 +18,7 @@ device_reads Rtu line = rtu_reads line
 device_reads Dnp3 line = dnp_reads line
 
 -- What `read` does: neither the key nor the disk is touched.
-pub record Reads {K S O L D : Type 0} (s : Source S) (o : Sink O) (l : Sink L) (proto : Proto)
+pub record ReadsOverInput {K S O L D : Type 0} (s : Source S) (o : Sink O) (l : Sink L) (proto : Proto)
     (before after : Outside K S O L D) (status : Status) : Type 0 where
   pub frames : PrintsFrames (device_reads proto) (s.left before.input) (s.left after.input)
       (o.held before.out) (o.held after.out) status

@@ -25,7 +25,7 @@ use Rattle.command_ends.specs.declared.status.Status.{Status}
 use Rattle.command_ends.specs.declared.status.Status.TheVariants.{Done}
 use Rattle.session_audit.specs.Listing.{Listing, listing_text}
 use Rattle.session_audit.specs.Keyed.{ReadsKeyFirst, LeavesAll}
-use Rattle.session_audit.specs.Recorded.{IsRecorded, PrintsRecorded, device_line, link_ticks}
+use Rattle.session_audit.specs.Recorded.{IsRecordedSession, PrintsRecorded, device_line, link_ticks}
 use Rattle.session_audit.specs.TellsOf.{TellsOf}
 use Rattle.link_replay.specs.ReadCommand.{device_reads}
 use Rattle.line_commands.specs.Given.{HasKey}
@@ -55,7 +55,7 @@ pub record Headline (proto : Proto) (profile : Profile) (dir : Dir) (key : List 
   -- All of the input was taken. It is a text with one mark: the ticks of a device come before it,
   -- and those of a link after it.
   pub items : List Item
-  pub recorded : IsRecorded in_before in_now items
+  pub recorded : IsRecordedSession in_before in_now items
   -- `out` has got one line for each frame that was sealed, one for each that passed, one for each
   -- that was read and one for each that is forged, and nothing else.
   pub printed : out_now ≡ append_known out_before (listing_text

@@ -7,7 +7,7 @@ use Rattle.tick_drive.specs.Input.{Takes}
 use Rattle.tick_drive.specs.declared.end.End.TheVariants.{Whole}
 use Rattle.line_spacer.specs.Spacing.{accepted_of}
 use Rattle.spacer_laws.specs.Leaving.{HaveLeft}
-use Rattle.line_texts.specs.Sending.{LineAndNotes, SinkTexts, sink_texts, HasSent}
+use Rattle.line_texts.specs.Sending.{LineAndNotes, SinkTexts, sink_texts, TextsHaveSent}
 use Rattle.command_ends.specs.Outside.{Outside}
 use Rattle.command_ends.specs.declared.status.Status.{Status}
 use Rattle.command_ends.specs.declared.status.Status.TheVariants.{Done, NoMemory}
@@ -29,14 +29,14 @@ module _ (proto : Proto) (profile : Profile) (in_before in_now : Option (List �
   pub record SpacesWhole : Type 0 where
     pub items : List Item
     pub takes : Takes 0 space_rest in_before in_now items Whole
-    pub sent : HasSent (spaced_by proto profile) before now (ticks_in items)
+    pub sent : TextsHaveSent (spaced_by proto profile) before now (ticks_in items)
     pub left : HaveLeft (length (ticks_in items))
         (accepted_of (device_reads proto) (gap_of profile) most_waiting (ticks_in items))
 
   -- What each status says of the input and the sinks.
-  abbrev pub SpacesBy : Status → Type 0
-  SpacesBy Done = SpacesWhole
-  SpacesBy status = SpacesLine (spaced_by proto profile) in_before in_now before now status
+  abbrev pub SpacesInput : Status → Type 0
+  SpacesInput Done = SpacesWhole
+  SpacesInput status = SpacesLine (spaced_by proto profile) in_before in_now before now status
 
 module _ {K S O L D : Type 0} (s : Source S) (o : Sink O) (l : Sink L) where
   -- What a run of a spacer does if `made` has the texts that the spacer makes of a line: neither
@@ -54,7 +54,7 @@ module _ {K S O L D : Type 0} (s : Source S) (o : Sink O) (l : Sink L) where
   -- else is either.
   pub record Spaces (proto : Proto) (profile : Profile) (before after : Outside K S O L D)
       (status : Status) : Type 0 where
-    pub line : SpacesBy proto profile (s.left before.input) (s.left after.input)
+    pub line : SpacesInput proto profile (s.left before.input) (s.left after.input)
         (sink_texts (o.held before.out) (l.held before.log))
         (sink_texts (o.held after.out) (l.held after.log)) status
     pub untouched : status ≡ NoMemory → after ≡ before

@@ -11,7 +11,7 @@ use Rattle.live_commands.specs.LiveLine.{HearsAll, HearAnswer, HaltsAt, EndsAt, 
 use Rattle.live_commands.specs.LiveLine.{IsReady, TakesLast}
 use Rattle.live_commands.specs.TextEnds.{EndsText}
 use Rattle.line_commands.proofs.Reading.{read_begins}
-use Rattle.line_commands.specs.Lines.{HasRead, FinishAnswer as TextAnswer, IsOfText}
+use Rattle.line_commands.specs.Lines.{HasRead, LinesFinishAnswer, IsOfText}
 use Rattle.line_commands.specs.declared.{lines.LineReader.LineReader, port.Port.Ghosts as Port}
 use Rattle.std.proofs.Common.{◌≡◌, ◌∙◌, ◌⊎◌, ℕ, List, [], ◌++◌, length}
 use Rattle.std.proofs.Common.{Ok, Err, refl, sym, ap, subst, inl, inr, arith}
@@ -39,7 +39,7 @@ module _ {B N P D : Type 0} (b : LinkBox B N) (line_of : N → List ℕ) (p : Po
     pub finish_refused : (lines : LineReader) (rest : ℕ) (at : Live B P D) (end : End)
         → ((disk : D) (c : Slots) → d.left_since disk (d.moment disk) c → d.may_leave disk c)
         → IsReady b line_of d at.live_box at.disk → IsOfText end
-        → ((text : List ℕ) → HasRead lines text → TextAnswer text (Err end))
+        → ((text : List ℕ) → HasRead lines text → LinesFinishAnswer text (Err end))
         → TakesLast b line_of p d lines rest at at end
     finish_refused lines rest at (Refused bad) only_now ready of_text answer = record {
       no_read = refl;

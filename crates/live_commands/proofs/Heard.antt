@@ -16,7 +16,7 @@ use Rattle.std.proofs.{Common.length-append, Common.length-drop, lemmas.List.tak
 use Rattle.{std.proofs.lemmas.List.take_all, tick_drive.proofs.Causes.disk_none}
 use Rattle.tick_drive.proofs.{Causes.disk_then, ItemLaws.ticks_in-append}
 use Rattle.tick_drive.specs.Consumers.{Gives, is_journal_fault, is_write_fault}
-use Rattle.tick_drive.specs.{Drive.answer_of, Input.is_read_fault}
+use Rattle.tick_drive.specs.{Drive.drive_answer_of, Input.is_read_fault}
 use Rattle.tick_drive.specs.declared.{consumer.Stop.Stop, end.End.End, end.End.TheVariants.Whole}
 use Rattle.tick_drive.specs.declared.end.End.TheVariants.{Refused, TooLong, ReadFault, Stopped}
 use Rattle.tick_drive.specs.declared.end.TooMuch.TheVariants.{Ticks, Bytes}
@@ -88,13 +88,13 @@ module _ {B P D : Type 0} (p : Port P) (d : SlotDisk D) where
   goes_then a b c end first then = record {
     images = images_then p d (outside_of a) (outside_of b) (outside_of c) first.images then.images;
     disk = disk_then (d.faults a.disk) (d.faults b.disk) (d.faults c.disk)
-        (is_journal_fault (answer_of end)) first.disk then.disk;
+        (is_journal_fault (drive_answer_of end)) first.disk then.disk;
     reads = record {
       never_falls = omega (arith, first.reads.never_falls, then.reads.never_falls);
       failed = λ e. rw (← first.reads.same refl) (then.reads.failed e);
       same = λ e. then.reads.same e ∙ first.reads.same refl;
     };
-    outputs = outputs_then p a.port b.port c.port (is_write_fault (answer_of end)) first.outputs
+    outputs = outputs_then p a.port b.port c.port (is_write_fault (drive_answer_of end)) first.outputs
         then.outputs;
   }
 

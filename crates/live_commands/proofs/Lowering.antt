@@ -23,7 +23,7 @@ use Rattle.sequence_journal.specs.declared.journal.JournalFault.{JournalFault}
 use Rattle.std.proofs.Common.{◌≡◌, ◌∙◌, ℕ, ◌+◌, ◌≤◌, ◌⊎◌, List, [], ◌++◌, IfSome, Result, Ok, Err, true, false}
 use Rattle.std.proofs.Common.{inl, inr, refl, sym, ap, subst, arith, append-nil}
 use Rattle.tick_drive.proofs.Causes.{disk_then}
-use Rattle.tick_drive.specs.{Consumers.IsDiskCause, Consumers.is_journal_fault, Drive.answer_of}
+use Rattle.tick_drive.specs.{Consumers.IsDiskCause, Consumers.is_journal_fault, Drive.drive_answer_of}
 use Rattle.tick_drive.specs.{Input.is_read_fault, declared.end.End.End, declared.end.End.TheVariants.Whole}
 use Rattle.tick_drive.specs.declared.consumer.Stop.{Stop}
 use Rattle.std.specs.Io.KnownBytes.{IsAtEnd}
@@ -159,7 +159,7 @@ module _ {B N P D : Type 0} (b : LinkBox B N) (line_of : N → List ℕ) (p : Po
         came = hears.came;
         goes = let goes = hears.goes in record {
           images = images (Ok tt) lowers;
-          disk = subst (λ n. IsDiskCause (d.faults old.disk) n (is_journal_fault (answer_of end)))
+          disk = subst (λ n. IsDiskCause (d.faults old.disk) n (is_journal_fault (drive_answer_of end)))
               (sym lowers.cause.same) goes.disk;
           reads = goes.reads;
           outputs = goes.outputs;

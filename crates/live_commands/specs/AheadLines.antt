@@ -13,7 +13,7 @@ use Rattle.sequence_journal.specs.Ahead.{ahead_disk, ahead_link, ahead_floor, ah
 use Rattle.sequence_journal.specs.Ahead.{StandsAhead}
 use Rattle.link_format.specs.Setup.{Setup}
 use Rattle.link_box.specs.declared.box_trait.LinkBox.{Ghosts as LinkBox}
-use Rattle.line_texts.specs.Adding.{HasRoom, HasLineRoom, Closes}
+use Rattle.line_texts.specs.Adding.{TextHasRoom, HasLineRoom, ClosesText}
 use Rattle.line_texts.specs.Sending.{Waiting}
 use Rattle.line_texts.specs.declared.texts.Texts.{Texts}
 use Rattle.line_commands.specs.BoxLines as memory
@@ -69,8 +69,8 @@ module _ {B N : Type 0} (b : LinkBox B N) (line_of : N → List ℕ) where
   -- A box that may take ticks: there is room for what a few of them make, its journal in memory has
   -- no fault, and the disk is the one that the journal knows.
   pub record MayDrive (at : AheadLines B) (told : Option Slots) : Type 0 where
-    pub ready : memory.IsReady b line_of at.lines
-    pub room : HasRoom (texts_at at)
+    pub ready : memory.BoxLinesAreReady b line_of at.lines
+    pub room : TextHasRoom (texts_at at)
     pub fits : Fits (disk_journal (memory.late_in at.lines)) None
     pub ahead : IsAhead at
     pub stands : StandsAhead at.kept told
@@ -78,7 +78,7 @@ module _ {B N : Type 0} (b : LinkBox B N) (line_of : N → List ℕ) where
   -- A box whose texts may be handed on: there is room for the line that isn't filled, its journal in
   -- memory has no fault, and the disk is the one that the journal knows.
   pub record MayHandOn (at : AheadLines B) (told : Option Slots) : Type 0 where
-    pub ready : memory.IsReady b line_of at.lines
+    pub ready : memory.BoxLinesAreReady b line_of at.lines
     pub line_room : HasLineRoom (texts_at at)
     pub fits : Fits (disk_journal (memory.late_in at.lines)) None
     pub ahead : IsAhead at
@@ -98,12 +98,12 @@ module _ {B N D : Type 0} (b : LinkBox B N) (line_of : N → List ℕ) (d : Slot
   -- The floor of the disk is brought to the last number used, or to a number ahead of it, and then
   -- the line that isn't filled was added to the text that waits.
   pub record IsSettled (old new : AheadLines B) (now : D) : Type 0 where
-    pub ready : memory.IsReady b line_of new.lines
+    pub ready : memory.BoxLinesAreReady b line_of new.lines
     pub fits : Fits (disk_journal (memory.late_in new.lines)) None
     pub settled : settled_in new ≡ number_in old
     pub ahead : IsAhead new
     pub stands : StandsAhead new.kept (d.told now)
-    pub closes : Closes (waits_in old) (waits_in new)
+    pub closes : ClosesText (waits_in old) (waits_in new)
 
   -- The disk was settled, or it failed: then its floor is between the one before and the number
   -- that was to be written.

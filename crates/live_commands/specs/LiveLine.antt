@@ -10,7 +10,7 @@ use Rattle.yasir_ticks.specs.declared.tick.Tick.{Tick}
 use Rattle.sequence_journal.specs.declared.journal.JournalFault.{JournalFault}
 use Rattle.link_box.specs.declared.box_trait.LinkBox.{Ghosts as LinkBox}
 use Rattle.tick_drive.specs.Consumers.{Gives, IsDiskCause, is_journal_fault, is_write_fault}
-use Rattle.tick_drive.specs.Drive.{answer_of}
+use Rattle.tick_drive.specs.Drive.{drive_answer_of}
 use Rattle.tick_drive.specs.Input.{IsReadCause, is_read_fault}
 use Rattle.tick_drive.specs.declared.consumer.Stop.{Stop, TheVariants.JournalFault as JournalStop}
 use Rattle.tick_drive.specs.declared.end.End.{End}
@@ -124,9 +124,9 @@ module _ {B P D : Type 0} (p : Port P) (d : SlotDisk D) where
   -- its cause.
   pub record LiveGoes (old new : Live B P D) (end : End) : Type 0 where
     pub images : KeepsImages p d (outside_of old) (outside_of new)
-    pub disk : IsDiskCause (d.faults old.disk) (d.faults new.disk) (is_journal_fault (answer_of end))
+    pub disk : IsDiskCause (d.faults old.disk) (d.faults new.disk) (is_journal_fault (drive_answer_of end))
     pub reads : IsReadCause (p.read_faults old.port) (p.read_faults new.port) (is_read_fault end)
-    pub outputs : OutputCause p old.port new.port (is_write_fault (answer_of end))
+    pub outputs : OutputCause p old.port new.port (is_write_fault (drive_answer_of end))
 
 module _ {B N P D : Type 0} (b : LinkBox B N) (line_of : N → List ℕ) (p : Port P) (d : SlotDisk D)
   where

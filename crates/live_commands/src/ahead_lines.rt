@@ -7,7 +7,7 @@ ghost use Rattle.yasir_ticks.specs.declared.TheConstants.{MAX_TICKS};
 ghost use Rattle.link_format.specs.Setup.{setup_of};
 ghost use Rattle.sequence_journal.specs.Journal.{journal_link, journal_floor, is_broken, Fits};
 ghost use Rattle.sequence_journal.specs.Ahead.{StandsAhead};
-ghost use Rattle.line_texts.specs.Adding.{HasRoom, Waits};
+ghost use Rattle.line_texts.specs.Adding.{TextHasRoom, Waits};
 ghost use Rattle.line_commands.specs.BoxLines as memory;
 ghost use Rattle.live_commands.specs.AheadLines.{box_in, waits_in, texts_at, number_in, settled_in};
 ghost use Rattle.live_commands.specs.AheadLines.{disk_in, floor_in, most_in, StandsAfter, MayDrive};
@@ -58,8 +58,8 @@ impl<B: LineBox> AheadLines<B> {
     pub fn take_some(&mut self, run: TickRun<'_>) -> usize
         requires some { 0 < length (run_ticks run) }
         requires count { B.taken (box_in self.old) + length (run_ticks run) ≤ MAX_TICKS }
-        requires ready { memory.IsReady B.LinkBox B.line_of self.old.lines }
-        requires room { HasRoom (texts_at self.old) }
+        requires ready { memory.BoxLinesAreReady B.LinkBox B.line_of self.old.lines }
+        requires room { TextHasRoom (texts_at self.old) }
         ensures { TakesSome B.LinkBox B.line_of self.old self.new (run_ticks run.entry) result }
     {
         self.lines.take_some(run)
@@ -115,8 +115,8 @@ impl<B: LineBox> AheadLines<B> {
 
     /// Whether there is room for what the next ticks complete.
     pub fn has_room(&self) -> bool
-        ensures room { result ≡ true → HasRoom (texts_at self.now) }
-        ensures full { result ≡ false → HasRoom (texts_at self.now) → ⊥ }
+        ensures room { result ≡ true → TextHasRoom (texts_at self.now) }
+        ensures full { result ≡ false → TextHasRoom (texts_at self.now) → ⊥ }
     {
         self.lines.has_room()
     }

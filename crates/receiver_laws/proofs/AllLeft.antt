@@ -4,7 +4,7 @@ use Rattle.frame_ending.proofs.Emissions.{tick_at-none, laid-more}
 use Rattle.frame_ending.proofs.Spread.{AreSpread, EndBy, bursts-spread, bursts-end}
 use Rattle.frame_ending.proofs.Walks.{before-early}
 use Rattle.frame_ending.specs.{Causal.IsCausal, Laid.tick_at, Laid.laid}
-use Rattle.frame_ending.specs.Walk.{Walker, Noted, noted, walked, emitted, state_after, notes_before}
+use Rattle.frame_ending.specs.Walk.{Walker, Noted, noted, walked, emitted_by, state_after, notes_before}
 use Rattle.device_model.specs.Frames.{FrameRead}
 use Rattle.line_rules.specs.{Rules.Rules, RulesLaws.IsLawful, RulesLaws.IsHeaded}
 use Rattle.link_format.specs.Profile.{Profile, delay}
@@ -68,7 +68,7 @@ module _ (profile : Profile) (rules : Rules) (lawful : IsLawful rules) (headed :
 
   -- what the bursts of the link emit
   abbrev es : List Burst
-  es = emitted w begun (bursts link)
+  es = emitted_by w begun (bursts link)
 
   -- the notes of these bursts
   abbrev all : List (Noted FullNote)
@@ -86,7 +86,7 @@ module _ (profile : Profile) (rules : Rules) (lawful : IsLawful rules) (headed :
   line-is : (k : ℕ) → received_line profile rules floor (link ++ silent k)
       ≡ laid (length link + k) es
   line-is k =
-      ap (λ ds. laid (length (link ++ silent k)) (emitted w begun ds))
+      ap (λ ds. laid (length (link ++ silent k)) (emitted_by w begun ds))
       (bursts_from-silent_end T3_5_TICKS 0 k link)
       ∙ ap (λ n. laid n es) (silence-behind link k)
 

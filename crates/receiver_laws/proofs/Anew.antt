@@ -6,7 +6,7 @@ use Rattle.line_rules.specs.RulesLaws.{IsLawful, IsHeaded, IsFramed}
 use Rattle.{line_rules.specs.Spoiling.IsSpoiling, link_format.specs.Profile.Profile}
 use Rattle.receiver_laws.proofs.HunterReadings.{hunter_reads_what_passed}
 use Rattle.receiver_laws.proofs.Hunters.{timed-silent_ticks}
-use Rattle.receiver_laws.specs.Hunters.{IsFront, nothing, up_to, IsHunter}
+use Rattle.receiver_laws.specs.Hunters.{HunterIsFront, nothing, up_to, IsHunter}
 use Rattle.receiver_laws.specs.Reading.{ReadsWhatPassed}
 use Rattle.std.proofs.Common.{◌≡◌, ◌∙◌, ◌⊎◌, inl, inr, ℕ, suc, ◌+◌, ◌-◌, ◌<◌, ◌≤◌, List, [], ◌∷◌}
 use Rattle.std.proofs.Common.{◌++◌, length, refl, sym, ap, subst, arith, ⊎_elim, length-append}
@@ -161,7 +161,7 @@ module _ (cut : ℕ) (wide : 2 ≤ cut) where
         (λ joined. let never : [] ≡ joined.1 ∷ join.later = sym (no-bursts m) ∙ joined.2 in cc)
         join.behind
 
-    anew-breaks_off : (n : ℕ) (x : List Tick) → IsFront x → hunts (timed n x) ≡ []
+    anew-breaks_off : (n : ℕ) (x : List Tick) → HunterIsFront x → hunts (timed n x) ≡ []
         → read n x ≡ []
     anew-breaks_off n x nothing none = anew-none n
     anew-breaks_off n x (up_to y gap few contiguous) none =

@@ -1,13 +1,13 @@
 -- An untouched link delivers all.
 use Rattle.frame_ending.proofs.{LaidBursts.bursts-laid, LaidBursts.laid-later, Spread.EndBy}
 use Rattle.frame_ending.{proofs.Spread.bursts-spread, proofs.Spread.bursts-end, specs.Laid.laid}
-use Rattle.frame_ending.specs.{Laid.later, Laid.tick_at, Walk.walked, Walk.emitted, Walk.notes_before}
+use Rattle.frame_ending.specs.{Laid.later, Laid.tick_at, Walk.walked, Walk.emitted_by, Walk.notes_before}
 use Rattle.line_rules.specs.{Rules.Rules, RulesLaws.IsLawful, RulesLaws.IsFramed}
 use Rattle.link_format.specs.Profile.{Profile, HasTags, pause_len, trailer_len, delay}
 use Rattle.link_box.specs.Checking.{checker, at_floor as check_floor}
 use Rattle.receiver_laws.proofs.{Delivering.PassesAll, Delivering.passes-all, Notes.frames_in}
 use Rattle.receiver_laws.proofs.Packing.{packets, packets-spread, packets-end, SealsAll, seals-all}
-use Rattle.receiver_laws.specs.Untouched.{IsUntouched, DeliversAll, untouched}
+use Rattle.receiver_laws.specs.Untouched.{IsUntouchedLink, DeliversAll, untouched}
 use Rattle.link_box.proofs.SealNumbers.{frames_in as sealed_frames}
 use Rattle.link_box.specs.Sealing.{sealer, at_floor as seal_floor, link_line}
 use Rattle.std.proofs.Common.{◌≡◌, ◌∙◌, ℕ, ◌+◌, ◌-◌, ◌≤◌, List, [], ◌∷◌, ◌++◌, length, map, refl}
@@ -68,7 +68,7 @@ laid-line line k m here =
 
 module _ (profile : Profile) (tags : HasTags profile) (some : 1 ≤ profile.word_len)
     (rules : Rules) (lawful : IsLawful rules) (framing : IsFramed rules) (floor behind : ℕ)
-    (line : List Tick) (more rest : ℕ) (is : IsUntouched profile rules floor behind line more) where
+    (line : List Tick) (more rest : ℕ) (is : IsUntouchedLink profile rules floor behind line more) where
   abbrev ds : List Burst
   ds = bursts line
 
@@ -101,7 +101,7 @@ module _ (profile : Profile) (tags : HasTags profile) (some : 1 ≤ profile.word
 
   sealed-link : link_line profile rules floor sealed_line ≡ laid (length sealed_line) its
   sealed-link =
-      ap (λ es. laid (length sealed_line) (emitted (sealer profile rules) (seal_floor floor) es))
+      ap (λ es. laid (length sealed_line) (emitted_by (sealer profile rules) (seal_floor floor) es))
       same-bursts
       ∙ ap (λ es. laid (length sealed_line) es) all-sealed.emits
 
@@ -125,7 +125,7 @@ module _ (profile : Profile) (tags : HasTags profile) (some : 1 ≤ profile.word
   link-length : length link ≡ length line + more + rest
   link-length =
       let long : length (link_line profile rules floor sealed_line) ≡ length sealed_line =
-      length-map-range_with_len (λ i. tick_at (emitted (sealer profile rules) (seal_floor floor)
+      length-map-range_with_len (λ i. tick_at (emitted_by (sealer profile rules) (seal_floor floor)
       (bursts sealed_line)) i) 0 (length sealed_line) in
       let all = length-append (link_line profile rules floor sealed_line) (silent rest) in
       let tail = length-replicate rest Silent in
@@ -147,10 +147,10 @@ module _ (profile : Profile) (tags : HasTags profile) (some : 1 ≤ profile.word
       is.not_above is.near is.numbers
 
   -- The receiver emits what the device's line carries, later by the delay.
-  pub untouched-emits : emitted (checker profile rules) (check_floor behind) (bursts link)
+  pub untouched-emits : emitted_by (checker profile rules) (check_floor behind) (bursts link)
       ≡ map (later (delay profile)) ds
   untouched-emits =
-      ap (λ es. emitted (checker profile rules) (check_floor behind) es) link-bursts
+      ap (λ es. emitted_by (checker profile rules) (check_floor behind) es) link-bursts
       ∙ all-passed.emits
 
   pub delivers-all : DeliversAll profile rules floor behind line more rest
@@ -168,7 +168,7 @@ module _ (profile : Profile) (tags : HasTags profile) (some : 1 ≤ profile.word
             (walked (checker profile rules) (check_floor behind) es))) link-bursts
             ∙ all-passed.notes;
         comes = ap (λ es. laid (length link)
-            (emitted (checker profile rules) (check_floor behind) es))
+            (emitted_by (checker profile rules) (check_floor behind) es))
             link-bursts
             ∙ (ap (λ es. laid (length link) es) all-passed.emits
             ∙ (ap (λ k. laid k (map (later late) ds)) parts

@@ -1,6 +1,6 @@
 -- What the receiver makes of the packets of spaced frames: each passes and leaves as it came.
 use Rattle.frame_ending.proofs.{Spread.AreSpread, Spread.EndBy, Walks.before-early}
-use Rattle.frame_ending.specs.{Laid.later, Walk.Noted, Walk.walked, Walk.emitted, Walk.notes_before}
+use Rattle.frame_ending.specs.{Laid.later, Walk.Noted, Walk.walked, Walk.emitted_by, Walk.notes_before}
 use Rattle.frame_ending.proofs.{BurstSteps.live-le, LiveTicks.live_ticks-whole}
 use Rattle.frame_ending.proofs.Pauses.{ended, contiguous-ends, before_pause-paused}
 use Rattle.frame_ending.proofs.Pauses.{before_pause-goes_on, before_pause-whole, up_to_byte-append}
@@ -97,7 +97,7 @@ module _ (profile : Profile) (tags : HasTags profile) (some : 1 ≤ profile.word
 
   module _ (m last : ℕ) (after : m + pause_len + trailer_len profile ≤ last) where
     pub record PassesAll (s : CheckState) (floor : ℕ) (ds : List Burst) : Type 0 where
-      pub emits : emitted (checker profile rules) s (packets profile rules floor ds)
+      pub emits : emitted_by (checker profile rules) s (packets profile rules floor ds)
           ≡ map (later (delay profile)) ds
       pub notes : frames_in
           (notes_before last (walked (checker profile rules) s (packets profile rules floor ds)))
@@ -128,8 +128,8 @@ module _ (profile : Profile) (tags : HasTags profile) (some : 1 ≤ profile.word
         let others : List Burst = packets profile rules (suc floor) ds in
         record {
           emits = ap (λ w. emission_by profile rules p w
-              ++ emitted (checker profile rules) (state_by profile rules s p w) others) is
-              ∙ (ap (λ x. delayed profile p x ∷ emitted (checker profile rules) next others)
+              ++ emitted_by (checker profile rules) (state_by profile rules s p w) others) is
+              ∙ (ap (λ x. delayed profile p x ∷ emitted_by (checker profile rules) next others)
               (packet-ticks (suc floor) d spread.1 spaced.1)
               ∙ ap (λ l. later (delay profile) d ∷ l) rest.emits);
           notes = ap (λ w. let noted : Noted FullNote =

@@ -2,7 +2,7 @@
 -- of it.
 use Rattle.frame_ending.proofs.LaidBursts.{bursts-laid}
 use Rattle.frame_ending.proofs.Spread.{AreSpread, EndBy, bursts-spread, bursts-end}
-use Rattle.frame_ending.specs.{Laid.laid, Laid.tick_at, Walk.emitted}
+use Rattle.frame_ending.specs.{Laid.laid, Laid.tick_at, Walk.emitted_by}
 use Rattle.frame_ending.proofs.LiveTicks.{live_ticks-contiguous, live_end-within, live_end-whole}
 use Rattle.frame_ending.proofs.{LiveTicks.live_ticks-whole, Pauses.contiguous-ends}
 use Rattle.frame_ending.specs.LiveBytes.{live_bytes, live_ticks, has_extra}
@@ -119,12 +119,12 @@ module _ (profile : Profile) (tags : HasTags profile) (some : 1 ≤ profile.word
 
   pub emissions-spread : (s : SealState) (n m : ℕ) (ds : List Burst) → AreSpread 4 n ds
       → ((x : ℕ) → n ≤ x → s.earliest_start ≤ x → m ≤ x)
-      → AreSpread 4 m (emitted (sealer profile rules) s ds)
+      → AreSpread 4 m (emitted_by (sealer profile rules) s ds)
   emissions-spread s n m [] spread on = tt
   emissions-spread s n m (d ∷ ds) spread on =
       let from = spread.0 in
       let j : Judgement = judged profile rules s d in
-      spread-by s d m j (emitted (sealer profile rules) (state_by profile rules s d j) ds) refl
+      spread-by s d m j (emitted_by (sealer profile rules) (state_by profile rules s d j) ds) refl
       spread.1 (λ late. on d.start from late) (λ late. omega arith)
       (λ k after. emissions-spread (state_by profile rules s d j) (end_of d + 4) k ds spread.2
       after)
@@ -151,11 +151,11 @@ module _ (profile : Profile) (tags : HasTags profile) (some : 1 ≤ profile.word
       (omega arith, rest)
 
   emissions-end : (s : SealState) (n m : ℕ) (ds : List Burst) → AreSpread 4 n ds → EndBy m ds
-      → EndBy (m + pause_len + trailer_len profile) (emitted (sealer profile rules) s ds)
+      → EndBy (m + pause_len + trailer_len profile) (emitted_by (sealer profile rules) s ds)
   emissions-end s n m [] spread ends = tt
   emissions-end s n m (d ∷ ds) spread ends =
       let j : Judgement = judged profile rules s d in
-      ends-by s d m j (emitted (sealer profile rules) (state_by profile rules s d j) ds) refl
+      ends-by s d m j (emitted_by (sealer profile rules) (state_by profile rules s d j) ds) refl
       spread.1 ends.0
       (emissions-end (state_by profile rules s d j) (end_of d + 4) m ds spread.2 ends.1)
 
@@ -163,7 +163,7 @@ module _ (profile : Profile) (tags : HasTags profile) (some : 1 ≤ profile.word
 
   module _ (floor : ℕ) (line : List Tick) where
     abbrev pub its : List Burst
-    its = emitted (sealer profile rules) (at_floor floor) (bursts line)
+    its = emitted_by (sealer profile rules) (at_floor floor) (bursts line)
 
     abbrev pub link : List Tick
     link = link_line profile rules floor line

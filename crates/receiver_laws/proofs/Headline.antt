@@ -9,7 +9,7 @@ use Rattle.receiver_laws.proofs.Subsequences.{front-is, join-is, map-is, chain-i
 use Rattle.receiver_laws.specs.Accounted.{pairs_of, IsSubsequence, rightly_passed, forged}
 use Rattle.receiver_laws.specs.Accounted.{IsAccountedFor, is_among, IsSubsequence.none}
 use Rattle.receiver_laws.specs.Headline.{bytes_read, bytes_sealed, ReadsWhatWasSealed}
-use Rattle.receiver_laws.specs.OverUptimes.{BoxUptime, bytes_over, sealed_over, passed_over}
+use Rattle.receiver_laws.specs.OverUptimes.{BoxUptime, bytes_over, sealed_over, passed_over_uptimes}
 use Rattle.receiver_laws.specs.OverUptimes.{BothGoOn, ReadsOverUptimes}
 use Rattle.receiver_laws.specs.Reading.{delivered, ReadsWhatPassed}
 use Rattle.link_box.specs.Sealing.{sealed}
@@ -86,11 +86,11 @@ module _ (rules : Rules) (lawful : IsLawful rules) (reads : List Tick → List F
       (front-is (bytes_read read_ones) (bytes_read later))
 
   reads-passed : (checks : List BoxUptime) → IsSubsequence (bytes_over reads profile rules checks)
-      (bytes_sealed (passed_over profile rules checks))
+      (bytes_sealed (passed_over_uptimes profile rules checks))
   reads-passed [] = none
   reads-passed (check ∷ checks) =
       let first : List NumberedFrame = passed profile rules check.floor check.line in
-      let later : List NumberedFrame = passed_over profile rules checks in
+      let later : List NumberedFrame = passed_over_uptimes profile rules checks in
       subst (λ y. IsSubsequence (bytes_over reads profile rules (check ∷ checks)) y)
       (sym (map-append (λ f. f.frame) first later))
       (join-is (bytes_over reads profile rules checks) (bytes_sealed later)
@@ -104,10 +104,10 @@ module _ (rules : Rules) (lawful : IsLawful rules) (reads : List Tick → List F
       go_on in
       record {
         only_sealed = λ unforged. chain-is (bytes_over reads profile rules checks)
-            (bytes_sealed (passed_over profile rules checks))
+            (bytes_sealed (passed_over_uptimes profile rules checks))
             (bytes_sealed (sealed_over profile rules seals)) (reads-passed checks)
             (passed-sealed seal_floor check_floor (sealed_over profile rules seals)
-            (passed_over profile rules checks) accounted unforged);
+            (passed_over_uptimes profile rules checks) accounted unforged);
         only_passed = reads-passed checks;
         accounted = accounted;
       }
@@ -133,7 +133,7 @@ module _ (rules : Rules) (lawful : IsLawful rules) (reads : List Tick → List F
             (subst (λ p. Only sealed_ones p
             (bytes_over reads profile rules (alone check_floor link)))
             (alone-is (passed profile rules) check_floor link)
-            (subst (λ s. Only s (passed_over profile rules (alone check_floor link))
+            (subst (λ s. Only s (passed_over_uptimes profile rules (alone check_floor link))
             (bytes_over reads profile rules (alone check_floor link)))
             (alone-is (sealed profile rules) seal_floor line) over.only_sealed));
         only_passed = passes check_floor link;

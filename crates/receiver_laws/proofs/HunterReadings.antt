@@ -1,12 +1,12 @@
 -- A device behind the receiver that hunts for frames reads only what passed: the hunt takes each
 -- burst that leaves as a whole, and reads nothing of a refused one.
-use Rattle.frame_ending.{proofs.Spread.AreSpread, proofs.Spread.bursts-spread, specs.Walk.emitted}
+use Rattle.frame_ending.{proofs.Spread.AreSpread, proofs.Spread.bursts-spread, specs.Walk.emitted_by}
 use Rattle.device_model.proofs.Heads.{head-good, head-bad, good-long, good-header, header-more}
 use Rattle.device_model.proofs.HuntCases.{good-starts, good-room, good-size}
 use Rattle.device_model.proofs.HuntSteps.{timed-append}
 use Rattle.device_model.proofs.Hunts.{begins-more, begins-front, hunt-none, taken-is}
 use Rattle.device_model.{proofs.ReadLaws.frames_ended, specs.Frames.FrameRead}
-use Rattle.device_model.specs.Hunt.{timed, header_in, begins, hunt, hunt_line}
+use Rattle.device_model.specs.Hunt.{timed, header_hunted, begins, hunt, hunt_line}
 use Rattle.{device_model.specs.HuntLaws.IsHunted, frame_ending.proofs.LiveTicks.live_ticks-bytes}
 use Rattle.frame_ending.proofs.{Pauses.contiguous-ends, Rooms.within_room-fit}
 use Rattle.frame_ending.specs.LiveBytes.{live_bytes, live_ticks, spelled}
@@ -72,12 +72,12 @@ module _ (first second : ℕ) (rules : Rules) (headed : IsHeaded rules) (framed 
     last = rules.spoil h a
 
     abbrev size : ℕ
-    size = rules.size (header_in rules x)
+    size = rules.size (header_hunted rules x)
 
     long : rules.header_len ≤ length x
     long = good-long rules x head
 
-    good : rules.is_good_header (header_in rules x) ≡ true
+    good : rules.is_good_header (header_hunted rules x) ≡ true
     good = good-header rules x head
 
     room-is : rules.room x ≡ size
@@ -100,11 +100,11 @@ module _ (first second : ℕ) (rules : Rules) (headed : IsHeaded rules) (framed 
     spoiled-long : rules.header_len ≤ length h → IsTaken first second rules (h ++ last ∷ [])
     spoiled-long within =
         let w : List ℕ = h ++ last ∷ [] in
-        let same : header_in rules w ≡ header_in rules x =
+        let same : header_hunted rules w ≡ header_hunted rules x =
         header-more rules h (last ∷ []) within
         ∙ (sym (header-more rules h (a ∷ []) within)
-        ∙ (ap (header_in rules) all ∙ header-more rules x zeros long)) in
-        let is_good : rules.is_good_header (header_in rules w) ≡ true =
+        ∙ (ap (header_hunted rules) all ∙ header-more rules x zeros long)) in
+        let is_good : rules.is_good_header (header_hunted rules w) ≡ true =
         ap rules.is_good_header same ∙ good in
         let sum = length-append h (last ∷ []) in
         let whole = length-is in
@@ -131,7 +131,7 @@ module _ (first second : ℕ) (rules : Rules) (headed : IsHeaded rules) (framed 
         let none : length zeros ≡ 0 = omega arith in
         let same : begun ≡ x = all ∙ (ap (λ y. x ++ y) (empty zeros none) ∙ append-nil x) in
         let exact : length x ≡ rules.header_len = omega arith in
-        let itself : header_in rules x ≡ x = take_all rules.header_len x (omega arith) in
+        let itself : header_hunted rules x ≡ x = take_all rules.header_len x (omega arith) in
         let is_good : rules.is_good_header begun ≡ true =
         ap rules.is_good_header (same ∙ sym itself) ∙ good in
         let sized : rules.size begun ≡ rules.header_len =
@@ -139,7 +139,7 @@ module _ (first second : ℕ) (rules : Rules) (headed : IsHeaded rules) (framed 
         let bad : rules.is_good_header w ≡ false = hunted.spoils h a bare is_good sized in
         let sum = length-append h (last ∷ []) in
         let enough : rules.header_len ≤ length w = omega arith in
-        let cut : header_in rules w ≡ w = take_all rules.header_len w (omega arith) in
+        let cut : header_hunted rules w ≡ w = take_all rules.header_len w (omega arith) in
         let within = hunted.start_within in
         let two : 2 ≤ length h = omega arith in
         let front : begins first second h ≡ true =
@@ -236,12 +236,12 @@ module _ (first second : ℕ) (rules : Rules) (headed : IsHeaded rules) (framed 
     emission-taken s d (dropped why) es contiguous is taken = taken
 
     pub emissions-taken : (s : CheckState) (n : ℕ) (ds : List Burst) → AreSpread 4 n ds
-        → AreTaken first second rules (emitted (checker profile rules) s ds)
+        → AreTaken first second rules (emitted_by (checker profile rules) s ds)
     emissions-taken s n [] spread = tt
     emissions-taken s n (d ∷ ds) spread =
         let v : Verdict = checked profile rules s d in
         let next : CheckState = state_by profile rules s d v in
-        emission-taken s d v (emitted (checker profile rules) next ds) spread.1 refl
+        emission-taken s d v (emitted_by (checker profile rules) next ds) spread.1 refl
         (emissions-taken next (end_of d + 4) ds spread.2)
 
     -- ---- what a device reads
@@ -265,10 +265,10 @@ module _ (first second : ℕ) (rules : Rules) (headed : IsHeaded rules) (framed 
       link-read : (floor : ℕ) (link : List Tick)
           → read 0 (received_line profile rules floor link)
           ≡ frames_ended 0 (λ d. rules.is_frame (bytes_in d.body)) (length link)
-          (emitted (checker profile rules) (at_floor floor) (bursts link))
+          (emitted_by (checker profile rules) (at_floor floor) (bursts link))
       link-read floor link =
           hunter-laid first second rules headed framed hunted read hunter (length link)
-          (emitted (checker profile rules) (at_floor floor) (bursts link))
+          (emitted_by (checker profile rules) (at_floor floor) (bursts link))
           (emissions-spread profile rules lawful 2 (omega arith) (omega arith) (at_floor floor) 0 0
           (bursts link) (bursts-spread link) (omega arith))
           (emissions-taken (at_floor floor) 0 (bursts link) (bursts-spread link))

@@ -11,7 +11,7 @@ use Rattle.frame_ending.proofs.Pauses.{contiguous-ends}
 use Rattle.line_rules.specs.{Rules.Rules, RulesLaws.IsHeaded, RulesLaws.IsFramed}
 use Rattle.receiver_laws.proofs.Readings.{read-open}
 use Rattle.receiver_laws.proofs.Settled.{laid-longer, last_end, EndBy-last, EndBy-later}
-use Rattle.receiver_laws.specs.Hunters.{IsFront, nothing, up_to, IsHunter}
+use Rattle.receiver_laws.specs.Hunters.{HunterIsFront, nothing, up_to, IsHunter}
 use Rattle.std.proofs.Common.{◌≡◌, ◌∙◌, ℕ, zero, suc, ◌+◌, ◌-◌, ◌<◌, ◌≤◌, Bool, true, cond, List}
 use Rattle.std.proofs.Common.{[], ◌∷◌, ◌++◌, length, take, drop, refl, sym, ap, subst, arith}
 use Rattle.std.proofs.Common.{⊎_elim, length-append, append_assoc}
@@ -39,17 +39,17 @@ timed-silent_ticks n m (suc k) x at =
 
 -- ---- the front of contiguous ticks
 
-front-gap : (b gap j : ℕ) → j ≤ gap → gap < 2 → IsFront (Byte b ∷ silent j)
+front-gap : (b gap j : ℕ) → j ≤ gap → gap < 2 → HunterIsFront (Byte b ∷ silent j)
 front-gap b gap j le few = let h : j < 2 = omega arith in up_to (Byte b ∷ []) j h (one b)
 
-front-behind : (b gap : ℕ) (x : List Tick) → gap < 2 → IsFront x
-    → IsFront (Byte b ∷ (silent gap ++ x))
+front-behind : (b gap : ℕ) (x : List Tick) → gap < 2 → HunterIsFront x
+    → HunterIsFront (Byte b ∷ (silent gap ++ x))
 front-behind b gap x few nothing =
-    let P : List Tick → Type 0 = λ y. IsFront (Byte b ∷ y) in
+    let P : List Tick → Type 0 = λ y. HunterIsFront (Byte b ∷ y) in
     let le : gap ≤ gap = omega arith in
     subst P (sym (append-nil (silent gap))) (front-gap b gap gap le few)
 front-behind b gap x few (up_to y k little contiguous) =
-    let P : List Tick → Type 0 = λ z. IsFront (Byte b ∷ z) in
+    let P : List Tick → Type 0 = λ z. HunterIsFront (Byte b ∷ z) in
     subst P (append_assoc (silent gap) y (silent k))
     (up_to (Byte b ∷ (silent gap ++ y)) k little (more b gap y few contiguous))
 
@@ -60,7 +60,7 @@ take-silent (suc j) (suc k) le =
     let h : j ≤ k = omega arith in ap (λ x. Silent ∷ x) (take-silent j k h)
 
 pub contiguous-front : (x : List Tick) (j : ℕ) → IsContiguous 2 x → j < length x
-    → IsFront (take j x)
+    → HunterIsFront (take j x)
 contiguous-front x zero contiguous short = nothing
 contiguous-front x (suc j) (one b) short = absurd (omega arith)
 contiguous-front x (suc j) (more b gap rest few contiguous) short =
@@ -68,13 +68,13 @@ contiguous-front x (suc j) (more b gap rest few contiguous) short =
     let sum = length-append (silent gap) rest in
     ⊎_elim
     (λ within.
-    let P : List Tick → Type 0 = λ y. IsFront (Byte b ∷ y) in
+    let P : List Tick → Type 0 = λ y. HunterIsFront (Byte b ∷ y) in
     let le : j ≤ gap = omega arith in
     let fits : j ≤ length (silent gap) = omega arith in
     subst P (sym (take-append-le j (silent gap) rest fits ∙ take-silent j gap le))
     (front-gap b gap j le few))
     (λ past.
-    let P : List Tick → Type 0 = λ y. IsFront (Byte b ∷ y) in
+    let P : List Tick → Type 0 = λ y. HunterIsFront (Byte b ∷ y) in
     let k : ℕ = j - gap in
     let at : j ≡ length (silent gap) + k = omega arith in
     let less : k < length rest = omega arith in

@@ -1,7 +1,7 @@
 -- The receiver's walk over packets and the transmitter's walk over the bursts of these packets,
 -- side by side: each packet finds the receiver free, with a number above the receiver's floor.
 use Rattle.frame_ending.proofs.{Spread.AreSpread, Walks.before-early}
-use Rattle.frame_ending.specs.Walk.{Noted, walked, emitted, notes_before, state_after}
+use Rattle.frame_ending.specs.Walk.{Noted, walked, emitted_by, notes_before, state_after}
 use Rattle.frame_ending.{proofs.LiveTicks.live_end-whole, specs.LiveBytes.live_bytes}
 use Rattle.{frame_ending.specs.LiveBytes.has_extra, line_rules.specs.Rules.Rules}
 use Rattle.line_rules.specs.{Rules.lacking_of, Rules.lacking_by, RulesLaws.IsLawful, RulesLaws.IsFramed}
@@ -223,7 +223,7 @@ module _ (profile : Profile) (tags : HasTags profile) (some : 1 ≤ profile.word
     pub stay-in_step : (k n : ℕ) (t : SealState) (s : CheckState) (ds : List Burst)
         → AreSealedAbove profile rules k t ds → AreSpread 4 n ds → InStep late t s
         → InStep late (state_after (sealer profile rules) t ds)
-        (state_after (checker profile rules) s (emitted (sealer profile rules) t ds))
+        (state_after (checker profile rules) s (emitted_by (sealer profile rules) t ds))
     stay-in_step k n t s [] above spread step = step
     stay-in_step k n t s (d ∷ ds) above spread step =
         let P : Judgement → Type 0 = λ j. AreSealedAbove profile rules k
@@ -232,7 +232,7 @@ module _ (profile : Profile) (tags : HasTags profile) (some : 1 ≤ profile.word
         (state_after (sealer profile rules) (seal_by profile rules t d j) ds)
         (state_after (checker profile rules) s
         (sent_by profile rules d j
-        ++ emitted (sealer profile rules) (seal_by profile rules t d j) ds)) in
+        ++ emitted_by (sealer profile rules) (seal_by profile rules t d j) ds)) in
         ⊎_elim
         (λ early. subst Q (sym early)
         (stay-in_step k (end_of d + 4) t s ds (subst P early above.1) spread.2 step))

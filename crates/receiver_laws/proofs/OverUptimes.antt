@@ -6,7 +6,7 @@ use Rattle.{link_format.specs.Profile.Profile, link_box.specs.Checking.passed}
 use Rattle.receiver_laws.proofs.Accounting.{sealed-rise, rising-accounted}
 use Rattle.receiver_laws.{proofs.Rising.have_passed, specs.Accounted.IsAccountedFor}
 use Rattle.receiver_laws.specs.OverUptimes.{BoxUptime, frames_over, GoOnFrom, ShareDisk, BothGoOn}
-use Rattle.receiver_laws.specs.OverUptimes.{sealed_over, passed_over}
+use Rattle.receiver_laws.specs.OverUptimes.{sealed_over, passed_over_uptimes}
 use Rattle.link_box.specs.Sealing.{sealed}
 use Rattle.sequence_journal.proofs.UptimeLaws.{rise-lower, rise-append, some_weaker}
 use Rattle.sequence_journal.specs.{Journal.HasFloorAtLeast, Slots.floor_of}
@@ -78,10 +78,10 @@ module _ (profile : Profile) (rules : Rules) (lawful : IsLawful rules) where
   pub accounted-over : (seal_floor check_floor : ℕ) (seals checks : List BoxUptime)
       → BothGoOn profile rules seal_floor check_floor seals checks
       → IsAccountedFor seal_floor check_floor (sealed_over profile rules seals)
-      (passed_over profile rules checks)
+      (passed_over_uptimes profile rules checks)
   accounted-over seal_floor check_floor seals checks go_on =
       rising-accounted seal_floor check_floor (sealed_over profile rules seals)
-      (passed_over profile rules checks)
+      (passed_over_uptimes profile rules checks)
       (rise-over (sealed profile rules) (sealed-rise profile rules lawful) seal_floor seals
       go_on.sealing)
       (rise-over (passed profile rules) (λ floor link.

@@ -1,6 +1,6 @@
 -- The transmitter makes of spaced frames the packets of all of them.
 use Rattle.frame_ending.proofs.{Spread.AreSpread, Spread.EndBy, Walks.before-early}
-use Rattle.frame_ending.specs.Walk.{Noted, walked, emitted, notes_before}
+use Rattle.frame_ending.specs.Walk.{Noted, walked, emitted_by, notes_before}
 use Rattle.frame_ending.proofs.LiveTicks.{live_ticks-whole}
 use Rattle.frame_ending.specs.LiveBytes.{live_bytes, live_ticks, has_extra}
 use Rattle.line_rules.specs.{Rules.Rules, RulesLaws.IsLawful}
@@ -123,7 +123,7 @@ module _ (profile : Profile) (tags : HasTags profile) (some : 1 ≤ profile.word
   module _ (m last : ℕ) (after : m + 4 ≤ last) where
     -- what the transmitter emits from a state on, and the frames that it notes
     pub record SealsAll (s : SealState) (ds : List Burst) : Type 0 where
-      pub emits : emitted (sealer profile rules) s ds ≡ packets profile rules s.floor ds
+      pub emits : emitted_by (sealer profile rules) s ds ≡ packets profile rules s.floor ds
       pub notes : frames_in (notes_before last (walked (sealer profile rules) s ds))
           ≡ numbered rules s.floor ds
 
@@ -147,7 +147,7 @@ module _ (profile : Profile) (tags : HasTags profile) (some : 1 ≤ profile.word
         let soon : end_of d + 3 < last = omega arith in
         record {
           emits = ap (λ j. emission_by profile rules d j
-              ++ emitted (sealer profile rules) (state_by profile rules s d j) ds) is
+              ++ emitted_by (sealer profile rules) (state_by profile rules s d j) ds) is
               ∙ ap (λ l. packet profile rules (suc s.floor) d ∷ l) rest.emits;
           notes = ap (λ j. let noted : Noted FullNote =
               record { tick = end_of d + 3; note = note_by rules d j } in

@@ -1,7 +1,7 @@
 -- A device behind the receiver reads only what passed.
 use Rattle.frame_ending.proofs.Spread.{AreSpread, EndBy, bursts-spread, bursts-end}
 use Rattle.frame_ending.{proofs.Walks.before-early, specs.Longer.Begins}
-use Rattle.frame_ending.specs.Walk.{Noted, walked, emitted, notes_before}
+use Rattle.frame_ending.specs.Walk.{Noted, walked, emitted_by, notes_before}
 use Rattle.device_model.proofs.ReadLaws.{frames_ended, frames_ended-append, frames_ended-open}
 use Rattle.device_model.proofs.ReadLaws.{frames_ended-ended}
 use Rattle.device_model.specs.{Frames.FrameRead, RtuReads.frame_in}
@@ -198,11 +198,11 @@ module _ (profile : Profile) (rules : Rules) where
     next s d = state_by profile rules s d (checked profile rules s d)
 
     walk-begins : (m : ℕ) (s : CheckState) (n : ℕ) (ds : List Burst) → AreSpread 4 n ds
-        → Begins (read_by m (emitted (checker profile rules) s ds))
+        → Begins (read_by m (emitted_by (checker profile rules) s ds))
         (told (notes_before m (walked (checker profile rules) s ds)))
     walk-begins m s n [] spread = record { rest = []; is = refl }
     walk-begins m s n (d ∷ ds) spread =
-        step-begins m s d spread.1 (emitted (checker profile rules) (next s d) ds)
+        step-begins m s d spread.1 (emitted_by (checker profile rules) (next s d) ds)
         (walked (checker profile rules) (next s d) ds)
         (checked profile rules s d) refl
         (emissions-spread profile rules lawful 2 two apart (next s d) (end_of d + 4)
@@ -211,12 +211,12 @@ module _ (profile : Profile) (rules : Rules) where
 
     walk-all : (m k : ℕ) → k + delay profile + ends ≤ m → (s : CheckState) (n : ℕ) (ds : List Burst)
         → AreSpread 4 n ds → EndBy k ds
-        → read_by m (emitted (checker profile rules) s ds)
+        → read_by m (emitted_by (checker profile rules) s ds)
         ≡ told (notes_before m (walked (checker profile rules) s ds))
     walk-all m k behind s n [] spread ends = refl
     walk-all m k behind s n (d ∷ ds) spread ends =
         let end : end_of d ≤ k = ends.0 in
-        step-all m s d spread.1 (emitted (checker profile rules) (next s d) ds)
+        step-all m s d spread.1 (emitted_by (checker profile rules) (next s d) ds)
         (walked (checker profile rules) (next s d) ds)
         (checked profile rules s d) refl (omega arith)
         (walk-all m k behind (next s d) (end_of d + 4) ds spread.2 ends.1)
@@ -225,7 +225,7 @@ module _ (profile : Profile) (rules : Rules) where
 
     module _ (floor : ℕ) (reads : List Tick → List FrameRead)
         (link_read : (link : List Tick) → reads (received_line profile rules floor link)
-        ≡ read_by (length link) (emitted (checker profile rules) (at_floor floor) (bursts link)))
+        ≡ read_by (length link) (emitted_by (checker profile rules) (at_floor floor) (bursts link)))
       where
         reads-begin : (link : List Tick)
             → Begins (reads (received_line profile rules floor link))

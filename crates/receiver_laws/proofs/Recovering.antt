@@ -2,7 +2,7 @@
 use Rattle.frame_ending.proofs.Spread.{AreSpread, EndBy, bursts-spread, bursts-end}
 use Rattle.frame_ending.proofs.Spread.{bursts_from-spread}
 use Rattle.frame_ending.proofs.Walks.{emitted-append, state_after-append}
-use Rattle.frame_ending.specs.Walk.{walked, emitted, state_after, notes_before}
+use Rattle.frame_ending.specs.Walk.{walked, emitted_by, state_after, notes_before}
 use Rattle.frame_ending.proofs.{LiveTicks.live_end-within, Rooms.within_room-fit}
 use Rattle.frame_ending.specs.LiveBytes.{before_pause, spelled, live_bytes}
 use Rattle.line_rules.specs.{Bytes.AreBytes, Rules.Rules, RulesLaws.IsLawful, RulesLaws.IsFramed}
@@ -171,20 +171,20 @@ module _ (profile : Profile) (tags : HasTags profile) (some : 1 ≤ profile.word
 
   are-sealed : (G xs rest : List Burst) → bursts line ≡ G ++ (xs ++ rest)
       → ((e : Burst)
-      → Contains (emitted (sealer profile rules) (state_after (sealer profile rules) begun G) xs) e
+      → Contains (emitted_by (sealer profile rules) (state_after (sealer profile rules) begun G) xs) e
       → IsNew e)
       → AreSealedAbove profile rules low (state_after (sealer profile rules) begun G) xs
   are-sealed G [] rest is new = tt
   are-sealed G (x ∷ xs) rest is new =
       let t : SealState = state_after (sealer profile rules) begun G in
       let j : Judgement = judged profile rules t x in
-      let more : List Burst = emitted (sealer profile rules) (seal_by profile rules t x j) xs in
+      let more : List Burst = emitted_by (sealer profile rules) (seal_by profile rules t x j) xs in
       let next : state_after (sealer profile rules) begun (G ++ x ∷ [])
       ≡ seal_by profile rules t x j =
       state_after-append (sealer profile rules) begun G (x ∷ []) in
       let P : SealState → Type 0 = λ s. AreSealedAbove profile rules low s xs in
       let E : SealState → Type 0 = λ s.
-      (e : Burst) → Contains (emitted (sealer profile rules) s xs) e → IsNew e in (
+      (e : Burst) → Contains (emitted_by (sealer profile rules) s xs) e → IsNew e in (
         sealed-or G x (xs ++ rest) j is refl
             (λ e there. new e (Contains-append_left (sent_by profile rules x j) more e there)),
         subst P next
@@ -228,18 +228,18 @@ module _ (profile : Profile) (tags : HasTags profile) (some : 1 ≤ profile.word
 
       -- what is sent before the packet
       abbrev sent-before : List Burst
-      sent-before = emitted (sealer profile rules) begun of-burst.front
+      sent-before = emitted_by (sealer profile rules) begun of-burst.front
 
       -- what is sent after the packet
       abbrev sent-after : List Burst
-      sent-after = emitted (sealer profile rules)
+      sent-after = emitted_by (sealer profile rules)
           (seal_by profile rules before d (sealed_with n)) of-burst.back
 
-      sends : emitted (sealer profile rules) begun (bursts line) ≡ sent-before ++ e ∷ sent-after
+      sends : emitted_by (sealer profile rules) begun (bursts line) ≡ sent-before ++ e ∷ sent-after
       sends =
           let more : Judgement → List Burst = λ j. sent_by profile rules d j
-          ++ emitted (sealer profile rules) (seal_by profile rules before d j) of-burst.back in
-          ap (λ ds. emitted (sealer profile rules) begun ds) of-burst.is
+          ++ emitted_by (sealer profile rules) (seal_by profile rules before d j) of-burst.back in
+          ap (λ ds. emitted_by (sealer profile rules) begun ds) of-burst.is
           ∙ (emitted-append (sealer profile rules) begun of-burst.front (d ∷ of-burst.back)
           ∙ ap (λ j. sent-before ++ more j) of-burst.sealed)
 

@@ -2,7 +2,7 @@
 -- line.
 use Rattle.frame_ending.proofs.Spread.{AreSpread, bursts-spread}
 use Rattle.frame_ending.proofs.Walks.{before-early, before-late}
-use Rattle.frame_ending.specs.Walk.{Noted, noted, walked, emitted, notes_before, notes_of}
+use Rattle.frame_ending.specs.Walk.{Noted, noted, walked, emitted_by, notes_before, notes_of}
 use Rattle.frame_ending.proofs.LiveTicks.{live_ticks-bytes, live_ticks-contiguous}
 use Rattle.frame_ending.specs.LiveBytes.{has_pause, live_bytes, live_ticks, has_extra}
 use Rattle.{link_format.specs.Tag.tag_text, line_rules.specs.Rules.Rules}
@@ -343,13 +343,13 @@ module _ (profile : Profile) (other : ℕ → List ℕ → List ℕ) (rules : Ru
           (others stand.5)
 
       all-reflected : (s : SealState) (n : ℕ) (ds : List Burst) → AreSpread 4 n ds → Among s ds
-          → AreOn long (emitted (sealer profile rules) s ds) → (c : CheckState)
-          → AllPassed mirror rules Reflected (length link) c (emitted (sealer profile rules) s ds)
+          → AreOn long (emitted_by (sealer profile rules) s ds) → (c : CheckState)
+          → AllPassed mirror rules Reflected (length link) c (emitted_by (sealer profile rules) s ds)
       all-reflected s n [] spread among stand c = All-nil Reflected
       all-reflected s n (d ∷ ds) spread among stand c =
           let j : Judgement = judged profile rules s d in
           let next : SealState = state_by profile rules s d j in
-          by-judgement s d ds j refl spread.1 among (emitted (sealer profile rules) next ds) stand
+          by-judgement s d ds j refl spread.1 among (emitted_by (sealer profile rules) next ds) stand
           (λ on next_check. all-reflected next (end_of d + 4) ds spread.2 (among-rest s d ds among)
           on next_check) c
 

@@ -1,5 +1,5 @@
 -- A Modbus RTU device behind the receiver reads only what passed.
-use Rattle.frame_ending.{proofs.Spread.bursts-spread, specs.Walk.emitted}
+use Rattle.frame_ending.{proofs.Spread.bursts-spread, specs.Walk.emitted_by}
 use Rattle.device_model.specs.RtuReads.{is_frame_body, frames_read}
 use Rattle.frame_ending.proofs.LiveTicks.{live_ticks-bytes, live_ticks-contiguous}
 use Rattle.frame_ending.specs.LiveBytes.{live_ticks}
@@ -48,10 +48,10 @@ module _ (profile : Profile) (cut pause : ℕ) (wide : 2 ≤ cut) (near : cut �
   link-read : (floor : ℕ) (link : List Tick)
       → reads_with cut pause (received_line profile rtu_rules floor link)
       ≡ frames_read cut pause (length link)
-      (emitted (checker profile rtu_rules) (at_floor floor) (bursts link))
+      (emitted_by (checker profile rtu_rules) (at_floor floor) (bursts link))
   link-read floor link =
       reads-laid cut pause (length link)
-      (emitted (checker profile rtu_rules) (at_floor floor) (bursts link))
+      (emitted_by (checker profile rtu_rules) (at_floor floor) (bursts link))
       (emissions-spread profile rtu_rules rtu_lawful cut wide near (at_floor floor) 0 0
       (bursts link) (bursts-spread link) (omega arith))
 

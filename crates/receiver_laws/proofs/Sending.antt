@@ -1,7 +1,7 @@
 -- What the transmitter makes of each burst of the device's line: which bursts are sealed, and what
 -- they emit.
 use Rattle.frame_ending.proofs.Walks.{before-early, before-late}
-use Rattle.frame_ending.specs.Walk.{Noted, walked, emitted, notes_before, state_after}
+use Rattle.frame_ending.specs.Walk.{Noted, walked, emitted_by, notes_before, state_after}
 use Rattle.frame_ending.specs.LiveBytes.{live_bytes, has_extra}
 use Rattle.line_rules.specs.Rules.{Rules}
 use Rattle.link_format.specs.{NumberedFrame.NumberedFrame, Profile.Profile}
@@ -172,8 +172,8 @@ module _ (profile : Profile) (rules : Rules) where
     pub front : List Burst
     pub back : List Burst
     pub is : ds ≡ front ++ back
-    pub first : emitted (sealer profile rules) s front ≡ A
-    pub rest : emitted (sealer profile rules) (state_after (sealer profile rules) s front) back
+    pub first : emitted_by (sealer profile rules) s front ≡ A
+    pub rest : emitted_by (sealer profile rules) (state_after (sealer profile rules) s front) back
         ≡ M
 
   emits-later : (s : SealState) (d : Burst) (ds E A M : List Burst)
@@ -183,7 +183,7 @@ module _ (profile : Profile) (rules : Rules) where
     front = d ∷ later.front;
     back = later.back;
     is = ap (λ l. d ∷ l) later.is;
-    first = ap (λ l. l ++ emitted (sealer profile rules) (next s d) later.front) emission
+    first = ap (λ l. l ++ emitted_by (sealer profile rules) (next s d) later.front) emission
         ∙ ap (λ l. E ++ l) later.first;
     rest = later.rest;
   }
@@ -193,14 +193,14 @@ module _ (profile : Profile) (rules : Rules) where
   emits-none (a ∷ A) M same = cc
 
   pub emits-parted : (s : SealState) (ds A M : List Burst)
-      → emitted (sealer profile rules) s ds ≡ A ++ M → Emits s ds A M
+      → emitted_by (sealer profile rules) s ds ≡ A ++ M → Emits s ds A M
   emits-parted s [] A M same =
       let both = emits-none A M same in
       record { front = []; back = []; is = refl; first = sym both.0; rest = sym both.1 }
   emits-parted s (d ∷ ds) [] M same =
       record { front = []; back = d ∷ ds; is = refl; first = refl; rest = same }
   emits-parted s (d ∷ ds) (a ∷ A) M same =
-      let others : List Burst = emitted (sealer profile rules) (next s d) ds in
+      let others : List Burst = emitted_by (sealer profile rules) (next s d) ds in
       ⊎_elim
       (λ none.
       let here : others ≡ a ∷ (A ++ M) = ap (λ l. l ++ others) (sym none) ∙ same in

@@ -9,7 +9,7 @@ use Rattle.link_box.specs.{Checking.passed, Checking.received_line, Emissions.sp
 use Rattle.link_box.specs.{Shapes.kept, Verdicts.verdict_of, Verdicts.checked}
 use Rattle.receiver_laws.proofs.Worked.{READ_TEN_REGISTERS, on_line, profile}
 use Rattle.receiver_laws.specs.{Accounted.forged, OverUptimes.BoxUptime, OverUptimes.sealed_over}
-use Rattle.receiver_laws.specs.OverUptimes.{passed_over, bytes_over, ShareDisk, GoOnFrom}
+use Rattle.receiver_laws.specs.OverUptimes.{passed_over_uptimes, bytes_over, ShareDisk, GoOnFrom}
 use Rattle.rtu_frame.specs.{Frame.is_frame, Frame.has_right_ending, Rules.rtu_rules}
 use Rattle.link_box.specs.Sealing.{judged, link_line, sealed}
 use Rattle.sequence_journal.proofs.{FloorLaws.floor_beside, SlotLemmas.held}
@@ -60,14 +60,14 @@ unfolding bursts_from with_byte before_pause up_to_byte tick_at judged crc byte_
     bit_step is_frame has_right_ending ends_in_check
 both-sealed = refl
 
-both-passed : passed_over profile rtu_rules (both_heard ∷ [])
+both-passed : passed_over_uptimes profile rtu_rules (both_heard ∷ [])
     ≡ numbered_at 1 0 ∷ numbered_at 2 36 ∷ []
 unfolding bursts_from with_byte before_pause up_to_byte tick_at judged kept spoiled verdict_of
     checked crc byte_step bit_steps bit_step is_frame has_right_ending ends_in_check
 both-passed = refl
 
 none-forged : forged (sealed_over profile rtu_rules (first_seal ∷ second_seal ∷ []))
-    (passed_over profile rtu_rules (both_heard ∷ [])) ≡ []
+    (passed_over_uptimes profile rtu_rules (both_heard ∷ [])) ≡ []
 unfolding bursts_from with_byte before_pause up_to_byte tick_at judged kept spoiled verdict_of
     checked crc byte_step bit_steps bit_step is_frame has_right_ending ends_in_check
 none-forged = refl
@@ -94,7 +94,7 @@ first_check = uptime_of 0 (link_of first_seal) (holding 0 1)
 abbrev second_check : BoxUptime
 second_check = uptime_of 1 (link_of first_seal ++ link_of second_seal) (holding 2 1)
 
-anew-passed : passed_over profile rtu_rules (first_check ∷ second_check ∷ [])
+anew-passed : passed_over_uptimes profile rtu_rules (first_check ∷ second_check ∷ [])
     ≡ numbered_at 1 0 ∷ numbered_at 2 36 ∷ []
 unfolding bursts_from with_byte before_pause up_to_byte tick_at judged kept spoiled verdict_of
     checked crc byte_step bit_steps bit_step is_frame has_right_ending ends_in_check

@@ -10,10 +10,10 @@ use Rattle.device_model.specs.Hunt.{Timed, timed, hunt}
 
 -- Holds for a front of ticks that are contiguous as the receiver's bursts are: for no ticks, or for
 -- contiguous ticks and then less silence than would divide them.
-pub data IsFront : List Tick → Type 0 where
-  nothing : IsFront []
+pub data HunterIsFront : List Tick → Type 0 where
+  nothing : HunterIsFront []
   up_to : (x : List Tick) (gap : ℕ) → gap < T1_5_TICKS → IsContiguous T1_5_TICKS x
-      → IsFront (x ++ silent gap)
+      → HunterIsFront (x ++ silent gap)
 
 -- A device that hunts: `read n` has the frames that it reads of ticks if the first of them is tick
 -- n of the line and the device is at rest before it. It reads nothing of silence, and stays at
@@ -29,5 +29,5 @@ pub record IsHunter (first second : ℕ) (rules : Rules) (read : ℕ → List Ti
       → ((z : List Timed) → hunt first second rules 0 (timed n x ++ z)
       ≡ frames ++ hunt first second rules 0 z)
       → read n (x ++ more) ≡ frames ++ read m more
-  pub breaks_off : (n : ℕ) (x : List Tick) → IsFront x
+  pub breaks_off : (n : ℕ) (x : List Tick) → HunterIsFront x
       → hunt first second rules 0 (timed n x) ≡ [] → read n x ≡ []

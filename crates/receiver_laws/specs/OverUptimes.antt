@@ -65,8 +65,8 @@ abbrev pub sealed_over : Profile → Rules → List BoxUptime → List NumberedF
 sealed_over profile rules seals = frames_over (sealed profile rules) seals
 
 -- the frames that pass in these uptimes of the receiver
-abbrev pub passed_over : Profile → Rules → List BoxUptime → List NumberedFrame
-passed_over profile rules checks = frames_over (passed profile rules) checks
+abbrev pub passed_over_uptimes : Profile → Rules → List BoxUptime → List NumberedFrame
+passed_over_uptimes profile rules checks = frames_over (passed profile rules) checks
 
 -- Holds if the uptimes of each box go on from one another, over the box's own journal.
 pub record BothGoOn (profile : Profile) (rules : Rules) (seal_floor check_floor : ℕ)
@@ -80,10 +80,10 @@ pub record BothGoOn (profile : Profile) (rules : Rules) (seal_floor check_floor 
 -- numbers rise over all uptimes on both sides.
 pub record ReadsOverUptimes (rules : Rules) (reads : List Tick → List FrameRead) (profile : Profile)
     (seal_floor check_floor : ℕ) (seals checks : List BoxUptime) : Type 0 where
-  pub only_sealed : forged (sealed_over profile rules seals) (passed_over profile rules checks) ≡ []
+  pub only_sealed : forged (sealed_over profile rules seals) (passed_over_uptimes profile rules checks) ≡ []
       → IsSubsequence (bytes_over reads profile rules checks)
       (bytes_sealed (sealed_over profile rules seals))
   pub only_passed : IsSubsequence (bytes_over reads profile rules checks)
-      (bytes_sealed (passed_over profile rules checks))
+      (bytes_sealed (passed_over_uptimes profile rules checks))
   pub accounted : IsAccountedFor seal_floor check_floor (sealed_over profile rules seals)
-      (passed_over profile rules checks)
+      (passed_over_uptimes profile rules checks)

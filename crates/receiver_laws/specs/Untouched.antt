@@ -38,7 +38,7 @@ untouched profile rules floor line more rest =
 -- them, and at least as many silent ticks as the delay follow the line, so that the last trailer is
 -- sent. The receiver's floor isn't above the transmitter's, nor so far below it that words no
 -- longer tell the numbers apart.
-pub record IsUntouched (profile : Profile) (rules : Rules) (floor behind : ℕ) (line : List Tick)
+pub record IsUntouchedLink (profile : Profile) (rules : Rules) (floor behind : ℕ) (line : List Tick)
     (more : ℕ) : Type 0 where
   pub spaced : AreSpaced profile rules 0 (bursts line)
   pub numbers : floor + length (bursts line) ≤ profile.limit

@@ -2,7 +2,7 @@
 ghost use Rattle.std.specs.Prelude.{◌≤◌, ℕ, List};
 ghost use Rattle.yasir_ticks.specs.declared.tick.Tick.{Tick};
 ghost use Rattle.link_format.specs.Profile.{Profile, HasTags};
-ghost use Rattle.receiver_laws.specs.Untouched.{IsUntouched, DeliversAll};
+ghost use Rattle.receiver_laws.specs.Untouched.{IsUntouchedLink, DeliversAll};
 
 use line_rules::LineRules;
 
@@ -12,6 +12,6 @@ use line_rules::LineRules;
 pub fn untouched_link_delivers_all<R: LineRules>()
     ensures { (profile : Profile) → HasTags profile → 1 ≤ profile.word_len
         → (floor behind : ℕ) (line : List Tick) (more rest : ℕ)
-        → IsUntouched profile R.rules floor behind line more
+        → IsUntouchedLink profile R.rules floor behind line more
         → DeliversAll profile R.rules floor behind line more rest }
 {}

@@ -14,7 +14,7 @@ ghost use Rattle.link_format.specs.NumberedFrame.{NumberedFrame, numbers_of};
 ghost use Rattle.link_format.specs.Profile.{Profile, delay};
 ghost use Rattle.receiver_laws.specs.Accounted.{IsAccountedFor};
 ghost use Rattle.receiver_laws.specs.OverUptimes.{BoxUptime, GoOnFrom, ShareDisk, BothGoOn};
-ghost use Rattle.receiver_laws.specs.OverUptimes.{sealed_over, passed_over, ReadsOverUptimes};
+ghost use Rattle.receiver_laws.specs.OverUptimes.{sealed_over, passed_over_uptimes, ReadsOverUptimes};
 
 use line_rules::LineRules;
 
@@ -32,7 +32,7 @@ pub fn uptimes_are_accounted_for<R: LineRules>()
     ensures over { (profile : Profile) (seal_floor check_floor : ℕ) (seals checks : List BoxUptime)
         → BothGoOn profile R.rules seal_floor check_floor seals checks
         → IsAccountedFor seal_floor check_floor (sealed_over profile R.rules seals)
-        (passed_over profile R.rules checks) }
+        (passed_over_uptimes profile R.rules checks) }
     ensures on_a_disk { (frames : ℕ → List Tick → List NumberedFrame) (link : LinkId)
         (begins : Slots) (floor : ℕ) (uptimes : List BoxUptime)
         → HasNoFloorBelow link floor begins

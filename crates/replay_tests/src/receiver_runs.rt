@@ -4,7 +4,7 @@ ghost use Rattle.std.specs.Prelude.{◌≡◌, ◌+◌, ◌<◌, ◌≤◌, leng
 ghost use Rattle.yasir_io.specs.Steady.{steady_slots};
 ghost use Rattle.link_box.specs.Links.{link_by};
 ghost use Rattle.sequence_journal.specs.Journal.{journal_link, Fits};
-ghost use Rattle.check_receiver.specs.Stands.{direction_of, ticks_taken};
+ghost use Rattle.check_receiver.specs.Stands.{checker_direction, checker_ticks};
 
 use crate::fresh::{FreshJournal, load_fresh};
 use crate::packets::{DNP_PACKET, KEY, RTU_PACKET, WIDE_RTU_PACKET};
@@ -60,10 +60,10 @@ fn pass<R: LineRules, M: Mac, const B: usize, const D: usize>(
     part: &[u8],
     sent: &mut RunBytes,
 ) -> usize
-    requires room { ticks_taken checker.old + length part.now ≤ 1000 }
+    requires room { checker_ticks checker.old + length part.now ≤ 1000 }
     ensures within { result ≤ length part.now }
-    ensures taken { ticks_taken checker.new ≡ ticks_taken checker.old + result }
-    ensures direction { direction_of checker.new ≡ direction_of checker.old }
+    ensures taken { checker_ticks checker.new ≡ checker_ticks checker.old + result }
+    ensures direction { checker_direction checker.new ≡ checker_direction checker.old }
 {
     match part.first() {
         Some(b'.') => checker.pass_silence(part.len() as u32, sent) as usize,
@@ -105,10 +105,10 @@ fn take_run<R: LineRules, M: Mac, const B: usize, const D: usize>(
     part: &[u8],
     wanted: &[BoxStep<CheckNote>],
 ) -> usize
-    requires room { ticks_taken checker.old + length part.now ≤ 1000 }
+    requires room { checker_ticks checker.old + length part.now ≤ 1000 }
     ensures within { result ≤ length part.now }
-    ensures taken { ticks_taken checker.new ≡ ticks_taken checker.old + result }
-    ensures direction { direction_of checker.new ≡ direction_of checker.old }
+    ensures taken { checker_ticks checker.new ≡ checker_ticks checker.old + result }
+    ensures direction { checker_direction checker.new ≡ checker_direction checker.old }
 {
     let mut sent = RunBytes::new();
     let count = pass(checker, part, &mut sent);
@@ -127,17 +127,17 @@ fn take<R: LineRules, M: Mac, const B: usize, const D: usize>(
     part: &[u8],
     wanted: &[BoxStep<CheckNote>],
 ) -> Result<usize, Fail>
-    requires room { ticks_taken checker.old + length part.now ≤ 1000 }
+    requires room { checker_ticks checker.old + length part.now ≤ 1000 }
     requires some { 0 < length part.now }
     requires of_link { journal_link fresh.old.journal
-        ≡ link_by R.LineRules M.Mac B (direction_of checker.old) }
+        ≡ link_by R.LineRules M.Mac B (checker_direction checker.old) }
     requires fits { Fits fresh.old.journal (Some (steady_slots fresh.old.disk)) }
     ensures some { IfOk result (λ count. 0 < count) }
     ensures within { IfOk result (λ count. count ≤ length part.now) }
-    ensures taken { IfOk result (λ count. ticks_taken checker.new
-        ≡ ticks_taken checker.old + count) }
+    ensures taken { IfOk result (λ count. checker_ticks checker.new
+        ≡ checker_ticks checker.old + count) }
     ensures of_link { OnOk result (journal_link fresh.new.journal
-        ≡ link_by R.LineRules M.Mac B (direction_of checker.new)) }
+        ≡ link_by R.LineRules M.Mac B (checker_direction checker.new)) }
     ensures fits { OnOk result (Fits fresh.new.journal (Some (steady_slots fresh.new.disk))) }
 {
     let count = take_run(rt, checker, part, wanted);
@@ -184,9 +184,9 @@ fn follow<R: LineRules, M: Mac, const B: usize, const D: usize>(
     stepped: &Stepped<'_>,
     cut: Cut,
 ) -> Result<usize, Fail>
-    requires begun { ticks_taken checker.old ≡ 0 }
+    requires begun { checker_ticks checker.old ≡ 0 }
     requires of_link { journal_link fresh.old.journal
-        ≡ link_by R.LineRules M.Mac B (direction_of checker.old) }
+        ≡ link_by R.LineRules M.Mac B (checker_direction checker.old) }
     requires fits { Fits fresh.old.journal (Some (steady_slots fresh.old.disk)) }
     requires short { length stepped.now.link.now < 1000 }
 {

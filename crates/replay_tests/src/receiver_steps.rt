@@ -2,7 +2,7 @@
 ghost use Rattle.std.specs.Prelude.{◌≡◌, ◌+◌, ◌<◌, length, OnOk};
 ghost use Rattle.link_box.specs.Links.{link_by};
 ghost use Rattle.sequence_journal.specs.Journal.{journal_link, Fits};
-ghost use Rattle.check_receiver.specs.Stands.{direction_of, ticks_taken};
+ghost use Rattle.check_receiver.specs.Stands.{checker_direction, checker_ticks};
 
 use crate::receiver_runs::rtu_steps;
 use check_receiver::{BoxStep, CheckNote, Checker, DroppedWhy, RefusedWhy};
@@ -30,13 +30,13 @@ pub fn step_by<R: LineRules, M: Mac, S: SlotDisk, const B: usize, const D: usize
     disk: &mut S,
     letter: u8,
 ) -> Result<BoxStep<CheckNote>, Fail>
-    requires room { ticks_taken checker.old < 1000 }
+    requires room { checker_ticks checker.old < 1000 }
     requires of_link { journal_link journal.old
-        ≡ link_by R.LineRules M.Mac B (direction_of checker.old) }
+        ≡ link_by R.LineRules M.Mac B (checker_direction checker.old) }
     requires fits { Fits journal.old (S.told disk.old) }
-    ensures taken { OnOk result (ticks_taken checker.new ≡ ticks_taken checker.old + 1) }
+    ensures taken { OnOk result (checker_ticks checker.new ≡ checker_ticks checker.old + 1) }
     ensures of_link { OnOk result (journal_link journal.new
-        ≡ link_by R.LineRules M.Mac B (direction_of checker.new)) }
+        ≡ link_by R.LineRules M.Mac B (checker_direction checker.new)) }
     ensures fits { OnOk result (Fits journal.new (S.told disk.new)) }
 {
     Ok(checker.step(tick_of(letter), journal, disk)?)
@@ -50,9 +50,9 @@ pub fn steps<R: LineRules, M: Mac, S: SlotDisk, const B: usize, const D: usize>(
     disk: &mut S,
     link: &[u8],
 ) -> Result<Vec<BoxStep<CheckNote>>, Fail>
-    requires begun { ticks_taken checker.old ≡ 0 }
+    requires begun { checker_ticks checker.old ≡ 0 }
     requires of_link { journal_link journal.old
-        ≡ link_by R.LineRules M.Mac B (direction_of checker.old) }
+        ≡ link_by R.LineRules M.Mac B (checker_direction checker.old) }
     requires fits { Fits journal.old (S.told disk.old) }
     requires short { length link.now < 1000 }
 {

@@ -22,8 +22,8 @@ use Rattle.link_box.specs.declared.seal_note.UnsealedWhy.{UnsealedWhy}
 use Rattle.seal_transmitter.proofs.Steps.{walked-begun, walked-divided, walks-silent}
 use Rattle.seal_transmitter.proofs.Steps.{walks-unsealed, walks-sealed, walks-early, walks-live}
 use Rattle.seal_transmitter.proofs.Steps.{walks-extra, seals-late, seals-whole, walked-number}
-use Rattle.seal_transmitter.specs.{Answers.AnswersTick, Answers.SealsWith, Between.IsJudged}
-use Rattle.seal_transmitter.specs.{Between.noteless, Stands.HasWalked, Stands.Walks}
+use Rattle.seal_transmitter.specs.{Answers.SealerAnswersTick, Answers.SealsWith, Between.IsJudged}
+use Rattle.seal_transmitter.specs.{Between.noteless, Stands.SealerHasWalked, Stands.SealerWalks}
 use Rattle.sequence_journal.specs.declared.numbers.TheConstants.{LIMIT}
 use Rattle.std.proofs.Common.{◌≡◌, ◌∙◌, ℕ, ◌+◌, ◌<◌, ◌≤◌, List, [], ◌∷◌, ◌++◌, length, drop, refl}
 use Rattle.std.proofs.Common.{sym, ap, subst, arith, ⊎_elim, Option, Some, None, IfSome}
@@ -37,8 +37,8 @@ use Rattle.yasir_ticks.specs.declared.tick.Tick.{Tick, TheVariants.Silent, TheVa
 pub record WalksOn {R M : Type 0} (proto : LineRules R) (macs : Mac M) (word_len : ℕ)
     (setup : Setup) (last earliest : ℕ)
     (unsent : List ℕ) (mac : M) (line : List Tick) (t : Tick) (step : BoxStep SealNote) : Type 0 where
-  pub walks : Walks proto macs word_len last earliest unsent mac setup (line ++ t ∷ [])
-  pub answers : AnswersTick (profile_of proto macs word_len LIMIT setup) proto.rules setup.floor
+  pub walks : SealerWalks proto macs word_len last earliest unsent mac setup (line ++ t ∷ [])
+  pub answers : SealerAnswersTick (profile_of proto macs word_len LIMIT setup) proto.rules setup.floor
       line t step
 
 module _ {R M : Type 0} (proto : LineRules R) (macs : Mac M) (word_len : ℕ) (setup : Setup) where
@@ -55,7 +55,7 @@ module _ {R M : Type 0} (proto : LineRules R) (macs : Mac M) (word_len : ℕ) (s
   }
 
   pub walks-begun : (mac : M) (none : macs.stands mac setup.key [])
-      → Walks proto macs word_len setup.floor 0 [] mac setup []
+      → SealerWalks proto macs word_len setup.floor 0 [] mac setup []
   walks-begun mac none = record {
     running = None;
     walked = walked-begun profile rules setup.floor;
@@ -65,7 +65,7 @@ module _ {R M : Type 0} (proto : LineRules R) (macs : Mac M) (word_len : ℕ) (s
   }
 
   module _ (line : List Tick) (last earliest : ℕ) (unsent : List ℕ) (mac : M)
-      (old : Walks proto macs word_len last earliest unsent mac setup line) where
+      (old : SealerWalks proto macs word_len last earliest unsent mac setup line) where
     abbrev state : SealState
     state = record { floor = last; earliest_start = earliest }
 
@@ -77,11 +77,11 @@ module _ {R M : Type 0} (proto : LineRules R) (macs : Mac M) (word_len : ℕ) (s
         WalksOn proto macs word_len setup number next to_send new line t step
 
     abbrev WalkedBy : Option Burst → Type 0
-    WalkedBy running = HasWalked profile rules setup.floor m (bursts line) state unsent running
+    WalkedBy running = SealerHasWalked profile rules setup.floor m (bursts line) state unsent running
 
     abbrev WalkedThen : Tick → SealState → List ℕ → Option Burst → Type 0
     WalkedThen t next to_send running =
-        HasWalked profile rules setup.floor (length (line ++ t ∷ [])) (bursts (line ++ t ∷ [])) next
+        SealerHasWalked profile rules setup.floor (length (line ++ t ∷ [])) (bursts (line ++ t ∷ [])) next
         to_send running
 
     runs : IsRunning line old.running
@@ -157,7 +157,7 @@ module _ {R M : Type 0} (proto : LineRules R) (macs : Mac M) (word_len : ℕ) (s
         (closed-judged closed (unsealed why) judge) in
         let start : d.start ≡ start_so_far (line ++ Silent ∷ []) =
         sym (ap start_in (closed-last closed)) in
-        let P : ℕ → Type 0 = λ n. AnswersTick profile rules setup.floor line Silent
+        let P : ℕ → Type 0 = λ n. SealerAnswersTick profile rules setup.floor line Silent
         (record { tick = first_of unsent; note = Some (Unsealed n why) }) in
         record {
           walks = record {
@@ -189,7 +189,7 @@ module _ {R M : Type 0} (proto : LineRules R) (macs : Mac M) (word_len : ℕ) (s
           floor = number;
           earliest_start = start_after profile rules (closes closed).burst;
         }) (drop 1 bytes) None
-        × AnswersTick profile rules setup.floor line Silent
+        × SealerAnswersTick profile rules setup.floor line Silent
         (record {
           tick = first_of bytes;
           note = Some (Sealed number (closes closed).burst.start
@@ -241,7 +241,7 @@ module _ {R M : Type 0} (proto : LineRules R) (macs : Mac M) (word_len : ℕ) (s
         let earliest_is : live_end rules d + 3 + (word_len + macs.TAG) + 4 ≡ next = omega arith in
         let P : ℕ → Type 0 = λ f. WalkedThen Silent (record { floor = number; earliest_start = f })
         (drop 1 bytes) None in
-        let Q : Option Burst → Type 0 = λ o. AnswersTick profile rules setup.floor line Silent
+        let Q : Option Burst → Type 0 = λ o. SealerAnswersTick profile rules setup.floor line Silent
         (record {
           tick = first_of bytes;
           note = Some (Sealed number (start_in o) (length (live_bytes_in rules o)));
@@ -359,7 +359,7 @@ module _ {R M : Type 0} (proto : LineRules R) (macs : Mac M) (word_len : ℕ) (s
         let step = walks-extra profile rules proto.lawful tags setup.floor line state unsent
         old.running b old.walked (omega arith) end in
         let P : List ℕ → Type 0 = λ l. WalkedThen (Byte b) state (drop 1 l) (Some (next_burst b)) in
-        let Q : List ℕ → Type 0 = λ l. AnswersTick profile rules setup.floor line (Byte b)
+        let Q : List ℕ → Type 0 = λ l. SealerAnswersTick profile rules setup.floor line (Byte b)
         (noteless (first_of l)) in
         record {
           walks = record {

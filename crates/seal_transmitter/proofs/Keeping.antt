@@ -7,8 +7,8 @@ use Rattle.link_box.specs.{Runs.TakesRun, Stepping.KeepsJournal as KeepsBoxed}
 use Rattle.link_format.specs.Setup.{Setup}
 use Rattle.link_box.specs.declared.seal_note.SealNote.{SealNote}
 use Rattle.link_box.specs.declared.seal_note.SealNote.TheVariants.{Sealed, Unsealed}
-use Rattle.seal_transmitter.specs.{Answers.CommitsNoted, Answers.KeepsJournal, Boxed.seal_walking}
-use Rattle.seal_transmitter.specs.{Runs.HasTakenRun, Stands.StandsAt, declared.sealer.Sealer.Sealer}
+use Rattle.seal_transmitter.specs.{Answers.SealerCommitsNoted, Answers.SealerKeepsJournal, Boxed.seal_walking}
+use Rattle.seal_transmitter.specs.{Runs.SealerHasTakenRun, Stands.SealerStandsAt, declared.sealer.Sealer.Sealer}
 use Rattle.sequence_journal.specs.Journal.{journal_floor}
 use Rattle.sequence_journal.specs.declared.journal.{Journal.Journal, JournalFault.JournalFault}
 use Rattle.std.proofs.Common.{◌≡◌, ◌≤◌, ℕ, List, Ok, Err, Option, Some, None, ap, arith}
@@ -18,7 +18,7 @@ use Rattle.yasir_ticks.specs.declared.tick.Tick.{Tick}
 -- A step doesn't lower the journal's floor.
 pub commits-rise : {D : Type 0} (d : SlotDisk D) (old new : Journal) (disk_old disk_new : D)
     (note : Option SealNote)
-    → CommitsNoted d old new disk_old disk_new note → journal_floor old ≤ journal_floor new
+    → SealerCommitsNoted d old new disk_old disk_new note → journal_floor old ≤ journal_floor new
 commits-rise d old new disk_old disk_new None h = omega (arith, ap journal_floor h.0)
 commits-rise d old new disk_old disk_new (Some (Unsealed start why)) h =
     omega (arith, ap journal_floor h.0)
@@ -27,7 +27,7 @@ commits-rise d old new disk_old disk_new (Some (Sealed number start len)) h =
 
 module _ {D : Type 0} (d : SlotDisk D) (old new : Journal) (disk_old disk_new : D) where
   pub keeps-ok : (step : BoxStep SealNote)
-      → KeepsJournal d old new disk_old disk_new (Ok step)
+      → SealerKeepsJournal d old new disk_old disk_new (Ok step)
       → KeepsBoxed d old new disk_old disk_new (Ok step)
   keeps-ok step keeps = record {
     link = keeps.link;
@@ -43,7 +43,7 @@ module _ {D : Type 0} (d : SlotDisk D) (old new : Journal) (disk_old disk_new : 
   }
 
   pub keeps-err : (fault : JournalFault)
-      → KeepsJournal d old new disk_old disk_new (Err fault)
+      → SealerKeepsJournal d old new disk_old disk_new (Err fault)
       → KeepsBoxed {A = BoxStep SealNote} d old new disk_old disk_new (Err fault)
   keeps-err fault keeps = record {
     link = keeps.link;
@@ -62,11 +62,11 @@ module _ {R M : Type 0} (proto : LineRules R) (macs : Mac M) {B : ℕ}
     (old new : Sealer R M B) where
   -- A run that the transmitter takes is a run that a box takes, if the ticks are the same.
   pub takes-run : (run answer front told : List Tick) → run ≡ front → answer ≡ told
-      → ((last : ℕ) (setup : Setup) (line : List Tick) → StandsAt proto macs old last setup line
-      → HasTakenRun proto macs new last setup line run answer)
-      → TakesRun (seal_walking proto macs B) (λ value. StandsAt proto macs value) old new front told
+      → ((last : ℕ) (setup : Setup) (line : List Tick) → SealerStandsAt proto macs old last setup line
+      → SealerHasTakenRun proto macs new last setup line run answer)
+      → TakesRun (seal_walking proto macs B) (λ value. SealerStandsAt proto macs value) old new front told
   takes-run run answer front told run_is answer_is takes =
-      takes-as (seal_walking proto macs B) (λ value. StandsAt proto macs value) old new run answer
+      takes-as (seal_walking proto macs B) (λ value. SealerStandsAt proto macs value) old new run answer
       front told run_is answer_is
       (λ last setup line stands.
       let taken = takes last setup line stands in

@@ -1,7 +1,7 @@
 -- Silent ticks that close no burst, as a run.
 use Rattle.frame_ending.proofs.{Cutting.stands-wait, Cutting.cut-wait, Runs.cuts-silence}
 use Rattle.frame_ending.specs.Cuts.{cut_of, cuts_after, IsPassing}
-use Rattle.frame_ending.specs.{Stands.StandsFor, declared.burst_cut.BurstCut.BurstCut}
+use Rattle.frame_ending.specs.{Stands.CutStandsFor, declared.burst_cut.BurstCut.BurstCut}
 use Rattle.frame_ending.specs.declared.cut.Cut.{Cut, TheVariants.Pause, TheVariants.Quiet}
 use Rattle.line_rules.specs.{Rules.Rules, declared.line_rules.LineRules.Ghosts as LineRules}
 use Rattle.std.proofs.Common.{◌≡◌, ℕ, zero, suc, ◌+◌, ◌<◌, ◌≤◌, List, [], ◌∷◌, ◌++◌, sym, subst}
@@ -19,14 +19,14 @@ module _ {R : Type 0} (proto : LineRules R) where
   rules = proto.rules
 
   -- If no burst runs, silence closes none.
-  pub rest-open : (n : ℕ) (v : BurstCut R) (line : List Tick) → StandsFor proto v line
+  pub rest-open : (n : ℕ) (v : BurstCut R) (line : List Tick) → CutStandsFor proto v line
       → 4 ≤ v.quiet → All IsPassing (cuts_after rules line (silent n))
   rest-open n v line old quiet =
       subst (λ (l : List Cut). All IsPassing l) (sym (cuts-silence proto n v line old quiet))
       (quiet-passing n)
 
   -- A running burst isn't closed by fewer than four silent ticks in all.
-  pub wait-open : (n : ℕ) (v : BurstCut R) (line : List Tick) → StandsFor proto v line
+  pub wait-open : (n : ℕ) (v : BurstCut R) (line : List Tick) → CutStandsFor proto v line
       → v.quiet + n < 4 → All IsPassing (cuts_after rules line (silent n))
   wait-open zero v line old few = All-nil IsPassing
   wait-open (suc n) v line old few =

@@ -3,7 +3,7 @@
 use Rattle.frame_ending.proofs.BurstRuns.{run-none, run-joined, run-tick}
 use Rattle.{frame_ending.specs.Runs.AnswersRun, frame_ending.proofs.Runs.live-start}
 use Rattle.frame_ending.specs.Cuts.{cut_of, cuts_after, IsPassing}
-use Rattle.frame_ending.specs.{SoFar.start_so_far, Stands.StandsFor as CutStandsFor}
+use Rattle.frame_ending.specs.{SoFar.start_so_far, Stands.CutStandsFor}
 use Rattle.frame_ending.specs.declared.{burst_cut.BurstCut.BurstCut, cut.Cut.Cut}
 use Rattle.frame_ending.specs.declared.cut.Cut.TheVariants.{Live, Extra}
 use Rattle.link_format.specs.declared.tag.Mac.{Ghosts as Mac}
@@ -14,8 +14,8 @@ use Rattle.link_format.specs.declared.trailer.Trailer.{Trailer}
 use Rattle.link_box.specs.Sealing.{sealer, at_floor, sealed}
 use Rattle.seal_transmitter.proofs.Advancing.{WalksOn, number-is, advance-live, advance-early}
 use Rattle.seal_transmitter.proofs.Advancing.{advance-passing}
-use Rattle.seal_transmitter.specs.{Answers.brief_note, Between.noteless, Runs.HasTakenRun}
-use Rattle.seal_transmitter.specs.{Stands.Walks, Stands.StandsAt, declared.sealer.Sealer.Sealer}
+use Rattle.seal_transmitter.specs.{Answers.brief_seal_note, Between.noteless, Runs.SealerHasTakenRun}
+use Rattle.seal_transmitter.specs.{Stands.SealerWalks, Stands.SealerStandsAt, declared.sealer.Sealer.Sealer}
 use Rattle.{sequence_journal.specs.declared.numbers.TheConstants.LIMIT, std.proofs.Common.◌≡◌}
 use Rattle.std.proofs.Common.{◌∙◌, ℕ, zero, suc, ◌+◌, ◌<◌, ◌≤◌, List, [], ◌∷◌, ◌++◌, length, take}
 use Rattle.std.proofs.Common.{drop, map, refl, sym, ap, subst, arith, append-nil, append_assoc}
@@ -66,10 +66,10 @@ module _ {R M : Type 0} (proto : LineRules R) (macs : Mac M) (word_len : ℕ) (s
 
   abbrev TextWalks : ℕ → ℕ → List ℕ → List ℕ → List Tick → Type 0
   TextWalks last earliest unsent text line =
-      Walks proto as_text word_len last earliest unsent text setup line
+      SealerWalks proto as_text word_len last earliest unsent text setup line
 
   pub to-text : (last earliest : ℕ) (unsent : List ℕ) (mac : M) (line : List Tick)
-      (w : Walks proto macs word_len last earliest unsent mac setup line)
+      (w : SealerWalks proto macs word_len last earliest unsent mac setup line)
       → TextWalks last earliest unsent w.text line
   to-text last earliest unsent mac line w = record {
     running = w.running;
@@ -81,7 +81,7 @@ module _ {R M : Type 0} (proto : LineRules R) (macs : Mac M) (word_len : ℕ) (s
 
   pub of-text : (last earliest : ℕ) (unsent text : List ℕ) (mac : M) (line : List Tick)
       → macs.stands mac setup.key text → TextWalks last earliest unsent text line
-      → Walks proto macs word_len last earliest unsent mac setup line
+      → SealerWalks proto macs word_len last earliest unsent mac setup line
   of-text last earliest unsent text mac line mac_is w =
       let P : List ℕ → Type 0 = λ x. macs.stands mac setup.key x in
       record {
@@ -97,7 +97,7 @@ module _ {R M : Type 0} (proto : LineRules R) (macs : Mac M) (word_len : ℕ) (s
   pub record RunsOn (last earliest : ℕ) (unsent text : List ℕ) (line run answer : List Tick) :
       Type 0 where
     pub walks : TextWalks last earliest unsent text (line ++ run)
-    pub answers : AnswersRun (sealer (profile_of proto macs word_len LIMIT setup) rules) brief_note
+    pub answers : AnswersRun (sealer (profile_of proto macs word_len LIMIT setup) rules) brief_seal_note
         (at_floor setup.floor) line run answer
 
   module _ (last earliest : ℕ) where
@@ -107,7 +107,7 @@ module _ {R M : Type 0} (proto : LineRules R) (macs : Mac M) (word_len : ℕ) (s
         let P : List Tick → Type 0 = λ l. TextWalks last earliest unsent text l in
         record {
           walks = subst P (sym (append-nil line)) w;
-          answers = run-none (sealer (profile_of proto macs word_len LIMIT setup) rules) brief_note
+          answers = run-none (sealer (profile_of proto macs word_len LIMIT setup) rules) brief_seal_note
               (at_floor setup.floor) line;
         }
 
@@ -121,8 +121,8 @@ module _ {R M : Type 0} (proto : LineRules R) (macs : Mac M) (word_len : ℕ) (s
         record {
           walks = subst P (append_assoc line (t ∷ []) run) rest.walks;
           answers = run-joined (sealer (profile_of proto macs word_len LIMIT setup) rules)
-              brief_note (at_floor setup.floor) line (t ∷ []) run (u ∷ []) answer
-              (run-tick (sealer (profile_of proto macs word_len LIMIT setup) rules) brief_note
+              brief_seal_note (at_floor setup.floor) line (t ∷ []) run (u ∷ []) answer
+              (run-tick (sealer (profile_of proto macs word_len LIMIT setup) rules) brief_seal_note
               (at_floor setup.floor) line t u on.answers) rest.answers;
         }
 
@@ -208,14 +208,14 @@ module _ {R M : Type 0} (proto : LineRules R) (macs : Mac M) (word_len : ℕ) (s
 -- ---- the transmitter after a run
 
 module _ {R M : Type 0} (proto : LineRules R) (macs : Mac M) {B : ℕ} (old : Sealer R M B) (last : ℕ)
-    (setup : Setup) (line : List Tick) (stands : StandsAt proto macs old last setup line) where
+    (setup : Setup) (line : List Tick) (stands : SealerStandsAt proto macs old last setup line) where
   abbrev Takes : Sealer R M B → List Tick → List Tick → Type 0
-  Takes new run answer = HasTakenRun proto macs new last setup line run answer
+  Takes new run answer = SealerHasTakenRun proto macs new last setup line run answer
 
   abbrev unsent : List ℕ
   unsent = bytes_unsent old.trailer
 
-  walks-text : Walks proto (as_text proto macs B setup) B last old.earliest_start unsent
+  walks-text : SealerWalks proto (as_text proto macs B setup) B last old.earliest_start unsent
       stands.walks.text setup line
   walks-text = to-text proto macs B setup last old.earliest_start unsent old.mac line stands.walks
 
@@ -225,7 +225,7 @@ module _ {R M : Type 0} (proto : LineRules R) (macs : Mac M) {B : ℕ} (old : Se
       → RunsOn proto macs B setup last old.earliest_start (bytes_unsent trailer) text line run answer
       → Takes (record old { cut = cut; mac = mac; trailer = trailer }) run answer
   taken cut mac trailer text run answer cuts mac_is on =
-      let walks : Walks proto macs B last old.earliest_start (bytes_unsent trailer) mac setup
+      let walks : SealerWalks proto macs B last old.earliest_start (bytes_unsent trailer) mac setup
       (line ++ run) = of-text proto macs B setup last old.earliest_start (bytes_unsent trailer) text
       mac (line ++ run) mac_is on.walks in
       record {
@@ -306,18 +306,18 @@ module _ {R M : Type 0} (proto : LineRules R) (macs : Mac M) {B : ℕ} (old : Se
 
 pub run-then : {R M : Type 0} (proto : LineRules R) (macs : Mac M) {B : ℕ} (last : ℕ)
     (mid new : Sealer R M B) (setup : Setup) (line run answer more next : List Tick)
-    → HasTakenRun proto macs mid last setup line run answer
-    → HasTakenRun proto macs new last setup (line ++ run) more next
-    → HasTakenRun proto macs new last setup line (run ++ more) (answer ++ next)
+    → SealerHasTakenRun proto macs mid last setup line run answer
+    → SealerHasTakenRun proto macs new last setup (line ++ run) more next
+    → SealerHasTakenRun proto macs new last setup line (run ++ more) (answer ++ next)
 run-then proto macs {B} last mid new setup line run answer more next first then =
     let whole : (line ++ run) ++ more ≡ line ++ (run ++ more) = append_assoc line run more in
-    let P : List Tick → Type 0 = λ l. StandsAt proto macs new last setup l in
+    let P : List Tick → Type 0 = λ l. SealerStandsAt proto macs new last setup l in
     let Q : List Tick → Type 0 = λ l. last ≡ last_number setup.floor
     (sealed (profile_of proto macs B LIMIT setup) proto.rules setup.floor l) in
     record {
       stands = subst P whole then.stands;
       floor = subst Q whole then.floor;
-      answers = run-joined (sealer (profile_of proto macs B LIMIT setup) proto.rules) brief_note
+      answers = run-joined (sealer (profile_of proto macs B LIMIT setup) proto.rules) brief_seal_note
           (at_floor setup.floor) line run more answer next first.answers then.answers;
     }
 
@@ -336,10 +336,10 @@ bytes-then n k x =
 -- A run after a run of no tick is a run.
 pub run-behind : {R M : Type 0} (proto : LineRules R) (macs : Mac M) {B : ℕ} (last : ℕ)
     (mid new : Sealer R M B) (setup : Setup) (line none run nothing answer : List Tick)
-    → none ≡ [] → HasTakenRun proto macs mid last setup line none nothing
-    → (StandsAt proto macs mid last setup line
-    → HasTakenRun proto macs new last setup line run answer)
-    → HasTakenRun proto macs new last setup line run answer
+    → none ≡ [] → SealerHasTakenRun proto macs mid last setup line none nothing
+    → (SealerStandsAt proto macs mid last setup line
+    → SealerHasTakenRun proto macs new last setup line run answer)
+    → SealerHasTakenRun proto macs new last setup line run answer
 run-behind proto macs last mid new setup line none run nothing answer is first then =
-    then (subst (λ l. StandsAt proto macs mid last setup l)
+    then (subst (λ l. SealerStandsAt proto macs mid last setup l)
     (ap (λ r. line ++ r) is ∙ append-nil line) first.stands)

@@ -1,6 +1,6 @@
 -- What is on the link as the line of the device goes on.
 use Rattle.frame_ending.proofs.Emissions.{tick_at-none, tick_at-from}
-use Rattle.frame_ending.specs.{HasCome.AreNoted, Laid.tick_at, Walk.Noted, Walk.walked, Walk.emitted}
+use Rattle.frame_ending.specs.{HasCome.AreNoted, Laid.tick_at, Walk.Noted, Walk.walked, Walk.emitted_by}
 use Rattle.{frame_ending.specs.Walk.state_after, frame_ending.proofs.LiveTicks.live_end-within}
 use Rattle.frame_ending.specs.LiveBytes.{live_bytes, live_ticks, live_end}
 use Rattle.{line_rules.specs.Rules.Rules, link_format.specs.NumberedFrame.last_number}
@@ -156,14 +156,14 @@ module _ (profile : Profile) (rules : Rules) where
 
   pub noted-overlays : (s : SealState) (ds : List Burst) (m i : ℕ)
       → AreNoted (sealer profile rules) s m ds
-      → m ≤ i → Overlays (emitted (sealer profile rules) s ds) i
+      → m ≤ i → Overlays (emitted_by (sealer profile rules) s ds) i
   noted-overlays s [] m i are later = overlays-none i
   noted-overlays s (d ∷ ds) m i are later =
       let j : Judgement = judged profile rules s d in
       let next : SealState = state_by profile rules s d j in
       let close : end_of d + 3 < m = are.0 in
       let past : end_of d + 3 ≤ i = omega arith in
-      overlays-append (emission_by profile rules d j) (emitted (sealer profile rules) next ds) i
+      overlays-append (emission_by profile rules d j) (emitted_by (sealer profile rules) next ds) i
       (emission-overlays d i j past) (noted-overlays next ds m i are.1 later)
 
   -- ---- numbers of bursts

@@ -2,7 +2,7 @@
 use Rattle.frame_ending.specs.declared.box_step.BoxStep.{BoxStep}
 use Rattle.frame_ending.{proofs.Running.start-tick, proofs.Running.live-tick, specs.Cuts.cut_of}
 use Rattle.frame_ending.specs.{Cuts.IsPassing, SoFar.start_so_far, SoFar.live_bytes_so_far}
-use Rattle.frame_ending.specs.{Stands.StandsFor as CutStandsFor, declared.cut.Cut.Cut}
+use Rattle.frame_ending.specs.{Stands.CutStandsFor, declared.cut.Cut.Cut}
 use Rattle.frame_ending.specs.declared.cut.Cut.TheVariants.{Start, Live, Closed}
 use Rattle.link_format.specs.{Tag.direction_number, declared.tag.Mac.Ghosts as Mac}
 use Rattle.line_rules.specs.declared.line_rules.LineRules.{Ghosts as LineRules}
@@ -14,8 +14,8 @@ use Rattle.link_box.specs.declared.seal_note.SealNote.TheVariants.{Sealed, Unsea
 use Rattle.link_box.specs.declared.seal_note.UnsealedWhy.{UnsealedWhy}
 use Rattle.seal_transmitter.proofs.Advancing.{WalksOn, number-is, advance-passing, advance-early}
 use Rattle.seal_transmitter.proofs.Advancing.{advance-begin, advance-live, advance-unsealed}
-use Rattle.seal_transmitter.{proofs.Advancing.advance-sealed, specs.Between.IsBetween}
-use Rattle.seal_transmitter.specs.{Between.Judges, Between.noteless, Stands.HasTaken}
+use Rattle.seal_transmitter.{proofs.Advancing.advance-sealed, specs.Between.SealerIsBetween}
+use Rattle.seal_transmitter.specs.{Between.Judges, Between.noteless, Stands.SealerHasTaken}
 use Rattle.{seal_transmitter.specs.declared.sealer.Sealer.Sealer, std.proofs.Common.◌≡◌}
 use Rattle.std.proofs.Common.{ℕ, ◌+◌, ◌<◌, ◌≤◌, List, [], ◌∷◌, ◌++◌, length, drop, sym, subst, Some}
 use Rattle.std.specs.Int.{w64, to_be_bytes, bytes_high_first}
@@ -33,10 +33,10 @@ module _ {R M : Type 0} (proto : LineRules R) (macs : Mac M) {B : ℕ} (old : Se
     (setup : Setup)
     (line : List Tick) where
   abbrev Between : Tick → Cut → Type 0
-  Between t cut = IsBetween proto macs old last setup line t cut
+  Between t cut = SealerIsBetween proto macs old last setup line t cut
 
   abbrev Taken : Sealer R M B → ℕ → Tick → BoxStep SealNote → Type 0
-  Taken new number t step = HasTaken proto macs new number setup line t step
+  Taken new number t step = SealerHasTaken proto macs new number setup line t step
 
   abbrev On : ℕ → ℕ → List ℕ → M → Tick → BoxStep SealNote → Type 0
   On number earliest unsent mac t step = WalksOn proto macs B setup number earliest unsent mac line t

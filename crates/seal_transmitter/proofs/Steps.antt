@@ -5,7 +5,7 @@ use Rattle.frame_ending.proofs.Coming.{note-now, note-later}
 use Rattle.frame_ending.proofs.Emissions.{tick_at-none, tick_at-from}
 use Rattle.frame_ending.specs.Answers.{told_notes, note_in}
 use Rattle.frame_ending.specs.{HasCome.HasCome, HasCome.AreNoted, HasCome.waiting_part, Laid.tick_at}
-use Rattle.frame_ending.specs.Walk.{Walker, Noted, walked, emitted, notes_at}
+use Rattle.frame_ending.specs.Walk.{Walker, Noted, walked, emitted_by, notes_at}
 use Rattle.frame_ending.specs.declared.box_step.BoxStep.{BoxStep}
 use Rattle.frame_ending.proofs.Dividing.{longer-line, divided-within, byte-ends, byte-begun}
 use Rattle.frame_ending.proofs.Dividing.{byte-contiguous, byte-last}
@@ -30,8 +30,8 @@ use Rattle.link_box.specs.declared.seal_note.UnsealedWhy.TheVariants.{Early, For
 use Rattle.seal_transmitter.proofs.StepLemmas.{or_else, or_else-silent, sent-first, sent-later}
 use Rattle.seal_transmitter.proofs.StepLemmas.{noted-overlays, noted-number, sealed-from}
 use Rattle.seal_transmitter.proofs.StepLemmas.{forwarded-past}
-use Rattle.seal_transmitter.specs.Answers.{AnswersTick, SealsWith, brief_note}
-use Rattle.seal_transmitter.specs.{Between.noteless, Stands.HasWalked, Stands.sent_at}
+use Rattle.seal_transmitter.specs.Answers.{SealerAnswersTick, SealsWith, brief_seal_note}
+use Rattle.seal_transmitter.specs.{Between.noteless, Stands.SealerHasWalked, Stands.sent_at}
 use Rattle.std.proofs.Common.{◌≡◌, ◌∙◌, ◌==◌, ◌||◌, not, ℕ, suc, ◌+◌, ◌-◌, ◌<◌, ◌≤◌, nat_lt, Bool}
 use Rattle.std.proofs.Common.{true, false, List, [], ◌∷◌, ◌++◌, length, drop, refl, sym, ap, subst}
 use Rattle.std.proofs.Common.{arith, get_or, ⊎_elim, Option, Some, None, IfSome}
@@ -64,7 +64,7 @@ early-unsealed wrong last number n is = cc
 
 module _ (profile : Profile) (rules : Rules) (floor : ℕ) where
   -- a transmitter at rest
-  pub walked-nothing : HasWalked profile rules floor 0 [] (at_floor floor) [] None
+  pub walked-nothing : SealerHasWalked profile rules floor 0 [] (at_floor floor) [] None
   unfolding tick_at
   walked-nothing = record {
     emissions = [];
@@ -73,7 +73,7 @@ module _ (profile : Profile) (rules : Rules) (floor : ℕ) where
     in_time = λ some. absurd (omega arith);
   }
 
-  pub walked-begun : HasWalked profile rules floor 0 (bursts []) (at_floor floor) [] None
+  pub walked-begun : SealerHasWalked profile rules floor 0 (bursts []) (at_floor floor) [] None
   unfolding bursts_from
   walked-begun = walked-nothing
 
@@ -109,13 +109,13 @@ module _ (profile : Profile) (rules : Rules) (lawful : IsLawful rules) (tags : H
   m = length line
 
   abbrev Walked : Option Burst → Type 0
-  Walked running = HasWalked profile rules floor m (bursts line) s unsent running
+  Walked running = SealerHasWalked profile rules floor m (bursts line) s unsent running
 
   -- the walk after one more tick, with this state, these bytes still to be sent, and this running
   -- burst
   abbrev WalkedThen : Tick → SealState → List ℕ → Option Burst → Type 0
   WalkedThen t next to_send running =
-      HasWalked profile rules floor (length (line ++ t ∷ [])) (bursts (line ++ t ∷ [])) next to_send
+      SealerHasWalked profile rules floor (length (line ++ t ∷ [])) (bursts (line ++ t ∷ [])) next to_send
       running
 
   -- Holds if the tick has come, and the burst `now` is the running one.
@@ -176,7 +176,7 @@ module _ (profile : Profile) (rules : Rules) (lawful : IsLawful rules) (tags : H
       → Taken running now so_far t
       → IfSome now (λ d. m + 1 ≤ end_of d + 3) → WalkedThen t s (drop 1 unsent) now
   walks-on running now so_far t taken later =
-      let P : ℕ → Type 0 = λ k. HasWalked profile rules floor k (bursts (line ++ t ∷ [])) s
+      let P : ℕ → Type 0 = λ k. SealerHasWalked profile rules floor k (bursts (line ++ t ∷ [])) s
       (drop 1 unsent) now in
       subst P (sym (longer-line line t))
       (record {
@@ -193,21 +193,21 @@ module _ (profile : Profile) (rules : Rules) (lawful : IsLawful rules) (tags : H
   answers : (running now : Option Burst) (so_far : Walked running) (t : Tick)
       (step : BoxStep SealNote)
       → Taken running now so_far t
-      → or_else (sent_at m unsent m) (tick_at (emitted walker s (waiting_part now)) m) ≡ step.tick
-      → told_notes brief_note (notes_at m (walked walker s (waiting_part now)))
+      → or_else (sent_at m unsent m) (tick_at (emitted_by walker s (waiting_part now)) m) ≡ step.tick
+      → told_notes brief_seal_note (notes_at m (walked walker s (waiting_part now)))
       ≡ note_in m step.note
-      → AnswersTick profile rules floor line t step
+      → SealerAnswersTick profile rules floor line t step
   answers running now so_far t step taken tick note =
       let here : m ≤ m = omega arith in
       answers-step walker (sealer-causal profile rules lawful) (at_floor floor) line s
       so_far.emissions t now taken
-      brief_note step.tick step.note
-      (link-more running so_far (emitted walker s (waiting_part now)) m here ∙ tick) note
+      brief_seal_note step.tick step.note
+      (link-more running so_far (emitted_by walker s (waiting_part now)) m here ∙ tick) note
 
   -- ---- one burst that isn't closed
 
   emission-alone : (d : Burst) (i : ℕ)
-      → tick_at (emitted walker s (d ∷ [])) i
+      → tick_at (emitted_by walker s (d ∷ [])) i
       ≡ tick_at (emission_by profile rules d (judgement_now d)) i
   emission-alone d i =
       ap (λ x. tick_at x i) (append-nil (emission_by profile rules d (judgement_now d)))
@@ -259,7 +259,7 @@ module _ (profile : Profile) (rules : Rules) (lawful : IsLawful rules) (tags : H
 
   quiet-answers : (running : Option Burst) → Walked running
       → IfSome running (λ d. m + 1 < end_of d + T3_5_TICKS)
-      → AnswersTick profile rules floor line Silent (noteless (first_of unsent))
+      → SealerAnswersTick profile rules floor line Silent (noteless (first_of unsent))
   quiet-answers None so_far near =
       answers None None so_far Silent (noteless (first_of unsent)) (take-silent None so_far)
       (only-sent [] (tick_at-none m)) refl
@@ -272,8 +272,8 @@ module _ (profile : Profile) (rules : Rules) (lawful : IsLawful rules) (tags : H
       let dark = emission-past d m within.contiguous (omega arith) (omega arith) (omega arith) in
       answers (Some d) (Some d) so_far Silent (noteless (first_of unsent))
       (take-silent (Some d) so_far)
-      (only-sent (emitted walker s (d ∷ [])) (emission-alone d m ∙ dark))
-      (ap (λ x. told_notes brief_note x) (note-later walker s m (Some d) later))
+      (only-sent (emitted_by walker s (d ∷ [])) (emission-alone d m ∙ dark))
+      (ap (λ x. told_notes brief_seal_note x) (note-later walker s m (Some d) later))
 
   open-later : (running : Option Burst) → IfSome running (λ d. m + 1 < end_of d + T3_5_TICKS)
       → IfSome running (λ d. m + 1 ≤ end_of d + 3)
@@ -283,7 +283,7 @@ module _ (profile : Profile) (rules : Rules) (lawful : IsLawful rules) (tags : H
   pub walks-silent : (running : Option Burst) → Walked running
       → IfSome running (λ d. m + 1 < end_of d + T3_5_TICKS)
       → WalkedThen Silent s (drop 1 unsent) running
-      × AnswersTick profile rules floor line Silent (noteless (first_of unsent))
+      × SealerAnswersTick profile rules floor line Silent (noteless (first_of unsent))
   walks-silent running so_far near = (
     walks-on running running so_far Silent (take-silent running so_far) (open-later running near),
     quiet-answers running so_far near,
@@ -305,7 +305,7 @@ module _ (profile : Profile) (rules : Rules) (lawful : IsLawful rules) (tags : H
       let ds : List Burst = bursts (line ++ Silent ∷ []) in
       let emission : List Burst = emission_by profile rules d (judgement_now d) in
       let now : end_of d + 3 ≡ m = omega arith in
-      let P : ℕ → Type 0 = λ k. HasWalked profile rules floor k ds next (drop 1 to_send) None in
+      let P : ℕ → Type 0 = λ k. SealerHasWalked profile rules floor k ds next (drop 1 to_send) None in
       subst P (sym (longer-line line Silent))
       (record {
         emissions = so_far.emissions ++ emission;
@@ -324,19 +324,19 @@ module _ (profile : Profile) (rules : Rules) (lawful : IsLawful rules) (tags : H
       → m + 1 ≡ end_of d + T3_5_TICKS
       → or_else (sent_at m unsent m) (tick_at (emission_by profile rules d (judgement_now d)) m)
       ≡ step.tick
-      → Some (brief_note (note_by rules d (judgement_now d))) ≡ step.note
-      → AnswersTick profile rules floor line Silent step
+      → Some (brief_seal_note (note_by rules d (judgement_now d))) ≡ step.note
+      → SealerAnswersTick profile rules floor line Silent step
   close-answers d step so_far closing tick note =
       let now : end_of d + 3 ≡ m = omega arith in
       answers (Some d) (Some d) so_far Silent step (take-silent (Some d) so_far)
       (ap (λ t. or_else (sent_at m unsent m) t) (emission-alone d m) ∙ tick)
-      (ap (λ x. told_notes brief_note x) (note-now walker s m d now) ∙ ap (λ o. note_in m o) note)
+      (ap (λ x. told_notes brief_seal_note x) (note-now walker s m d now) ∙ ap (λ o. note_in m o) note)
 
   pub walks-unsealed : (d : Burst) (why : UnsealedWhy) → Walked (Some d)
       → m + 1 ≡ end_of d + T3_5_TICKS
       → judgement_now d ≡ unsealed why
       → WalkedThen Silent s (drop 1 unsent) None
-      × AnswersTick profile rules floor line Silent
+      × SealerAnswersTick profile rules floor line Silent
       (record { tick = first_of unsent; note = Some (Unsealed d.start why) })
   walks-unsealed d why so_far closing is =
       let dark : SendsThen d unsent = λ i from.
@@ -350,7 +350,7 @@ module _ (profile : Profile) (rules : Rules) (lawful : IsLawful rules) (tags : H
         close-answers d (record { tick = first_of unsent; note = Some (Unsealed d.start why) }) so_far
             closing
             (dark m here ∙ sent-first m unsent)
-            (ap (λ j. Some (brief_note (note_by rules d j))) is),
+            (ap (λ j. Some (brief_seal_note (note_by rules d j))) is),
       )
 
   -- A burst that is sealed isn't early.
@@ -422,7 +422,7 @@ module _ (profile : Profile) (rules : Rules) (lawful : IsLawful rules) (tags : H
       → judgement_now d ≡ sealed_with number → bytes ≡ trailer profile number (live_bytes rules d)
       → WalkedThen Silent (record { floor = number; earliest_start = start_after profile rules d })
       (drop 1 bytes) None
-      × AnswersTick profile rules floor line Silent
+      × SealerAnswersTick profile rules floor line Silent
       (record {
         tick = first_of bytes;
         note =
@@ -446,7 +446,7 @@ module _ (profile : Profile) (rules : Rules) (lawful : IsLawful rules) (tags : H
           note = Some (Sealed number d.start (length (live_bytes rules d)));
         })
             so_far closing (sends m here ∙ sent-first m bytes)
-            (ap (λ j. Some (brief_note (note_by rules d j))) is),
+            (ap (λ j. Some (brief_seal_note (note_by rules d j))) is),
         seals d number so_far closing is,
       )
 
@@ -473,18 +473,18 @@ module _ (profile : Profile) (rules : Rules) (lawful : IsLawful rules) (tags : H
 
     byte-answers : (t : Tick) → or_else (sent_at m unsent m)
         (tick_at (emission_by profile rules d (judgement_now d)) m) ≡ t
-        → AnswersTick profile rules floor line (Byte b) (noteless t)
+        → SealerAnswersTick profile rules floor line (Byte b) (noteless t)
     byte-answers t is =
         let end = ends in
         let later : m + 1 ≤ end_of d + 3 = omega arith in
         answers running (Some d) so_far (Byte b) (noteless t) (take-byte running b so_far)
         (ap (λ x. or_else (sent_at m unsent m) x) (emission-alone d m) ∙ is)
-        (ap (λ x. told_notes brief_note x) (note-later walker s m (Some d) later))
+        (ap (λ x. told_notes brief_seal_note x) (note-later walker s m (Some d) later))
 
     -- A byte of an early burst isn't forwarded.
     pub walks-early : d.start < s.earliest_start
         → WalkedThen (Byte b) s (drop 1 unsent) (Some d)
-        × AnswersTick profile rules floor line (Byte b) (noteless (first_of unsent))
+        × SealerAnswersTick profile rules floor line (Byte b) (noteless (first_of unsent))
     walks-early early = (
       walks-byte,
       byte-answers (first_of unsent)
@@ -505,7 +505,7 @@ module _ (profile : Profile) (rules : Rules) (lawful : IsLawful rules) (tags : H
 
     late-answers : (t : Tick) → s.earliest_start ≤ d.start
         → tick_at (emission_by profile rules d (judgement_now d)) m ≡ t
-        → AnswersTick profile rules floor line (Byte b) (noteless t)
+        → SealerAnswersTick profile rules floor line (Byte b) (noteless t)
     late-answers t late is =
         byte-answers t
         (ap (λ l. or_else (sent_at m l m)
@@ -514,7 +514,7 @@ module _ (profile : Profile) (rules : Rules) (lawful : IsLawful rules) (tags : H
 
     pub walks-live : s.earliest_start ≤ d.start → live_end rules d ≡ m + 1
         → (unsent ≡ []) × WalkedThen (Byte b) s [] (Some d)
-        × AnswersTick profile rules floor line (Byte b) (noteless (Byte b))
+        × SealerAnswersTick profile rules floor line (Byte b) (noteless (Byte b))
     walks-live late live =
         let end = ends in
         let begun : d.start ≤ m = byte-begun line closed b running
@@ -532,7 +532,7 @@ module _ (profile : Profile) (rules : Rules) (lawful : IsLawful rules) (tags : H
 
     pub walks-extra : s.earliest_start ≤ d.start → live_end rules d ≤ m
         → (unsent ≡ []) × WalkedThen (Byte b) s [] (Some d)
-        × AnswersTick profile rules floor line (Byte b) (noteless Silent)
+        × SealerAnswersTick profile rules floor line (Byte b) (noteless Silent)
     walks-extra late extra =
         let end = ends in
         let begun : d.start ≤ m = byte-begun line closed b running

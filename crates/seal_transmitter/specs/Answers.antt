@@ -20,15 +20,15 @@ use Rattle.link_box.specs.declared.seal_note.SealNote.TheVariants.{Sealed, Unsea
 use Rattle.frame_ending.specs.declared.box_step.BoxStep.{BoxStep}
 
 -- The note as a step returns it: for a sealed frame it has only the length.
-abbrev pub brief_note : FullNote → SealNote
-brief_note (sealed_note number start frame) = Sealed number start (length frame)
-brief_note (unsealed_note start why) = Unsealed start why
+abbrev pub brief_seal_note : FullNote → SealNote
+brief_seal_note (sealed_note number start frame) = Sealed number start (length frame)
+brief_seal_note (unsealed_note start why) = Unsealed start why
 
 -- Holds if the step for the tick `t`, after the ticks `line` of the device, returns the tick of the
 -- link and the note that the definitions add.
-abbrev pub AnswersTick : Profile → Rules → ℕ → List Tick → Tick → BoxStep SealNote → Type 0
-AnswersTick profile rules floor line t step =
-    AnswersTickOf (sealer profile rules) brief_note (at_floor floor) line t step.tick step.note
+abbrev pub SealerAnswersTick : Profile → Rules → ℕ → List Tick → Tick → BoxStep SealNote → Type 0
+SealerAnswersTick profile rules floor line t step =
+    AnswersTickOf (sealer profile rules) brief_seal_note (at_floor floor) line t step.tick step.note
 
 -- Holds if, by the definitions, a burst is sealed with this number in the step of the tick `t`,
 -- which comes after `line`.
@@ -41,25 +41,25 @@ pub record SealsWith (profile : Profile) (rules : Rules) (floor : ℕ) (line : L
 
 -- Holds if a step did what its note says: it has committed the next number, that of the sealed
 -- frame, or has left the journal and the disk as they were.
-abbrev pub CommitsNoted : {D : Type 0} → SlotDisk D → Journal → Journal → D → D → Option SealNote
+abbrev pub SealerCommitsNoted : {D : Type 0} → SlotDisk D → Journal → Journal → D → D → Option SealNote
     → Type 0
-CommitsNoted d old new disk_old disk_new (Some (Sealed number start len)) =
+SealerCommitsNoted d old new disk_old disk_new (Some (Sealed number start len)) =
     (number ≡ journal_floor old + 1)
     × HasCommitted old new (d.told disk_old) (d.told disk_new) (d.may_leave disk_new) number
-CommitsNoted d old new disk_old disk_new (Some (Unsealed start why)) =
+SealerCommitsNoted d old new disk_old disk_new (Some (Unsealed start why)) =
     (new ≡ old) × (disk_new ≡ disk_old)
-CommitsNoted d old new disk_old disk_new None = (new ≡ old) × (disk_new ≡ disk_old)
+SealerCommitsNoted d old new disk_old disk_new None = (new ≡ old) × (disk_new ≡ disk_old)
 
 -- the number of the note, if it has one
-abbrev pub numbers_noted : Option SealNote → List ℕ
-numbers_noted (Some (Sealed number start len)) = number ∷ []
-numbers_noted (Some (Unsealed start why)) = []
-numbers_noted None = []
+abbrev pub numbers_sealed_in : Option SealNote → List ℕ
+numbers_sealed_in (Some (Sealed number start len)) = number ∷ []
+numbers_sealed_in (Some (Unsealed start why)) = []
+numbers_sealed_in None = []
 
 -- What a step does to the journal and its disk.
-pub record KeepsJournal {D : Type 0} (d : SlotDisk D) (old new : Journal) (disk_old disk_new : D)
+pub record SealerKeepsJournal {D : Type 0} (d : SlotDisk D) (old new : Journal) (disk_old disk_new : D)
     (result : Result (BoxStep SealNote) JournalFault) : Type 0 where
-  pub commits : IfOk result (λ step. CommitsNoted d old new disk_old disk_new step.note)
+  pub commits : IfOk result (λ step. SealerCommitsNoted d old new disk_old disk_new step.note)
   pub link : journal_link new ≡ journal_link old
   pub fits : OnOk result (Fits new (d.told disk_new))
   -- the only number that a step can commit is the next one

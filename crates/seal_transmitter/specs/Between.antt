@@ -7,7 +7,7 @@ use Rattle.line_rules.specs.declared.line_rules.LineRules.{Ghosts as LineRules}
 use Rattle.frame_ending.specs.declared.cut.Cut.{Cut}
 use Rattle.frame_ending.specs.Cuts.{cut_of}
 use Rattle.frame_ending.specs.SoFar.{last_burst}
-use Rattle.frame_ending.specs.Stands.{StandsFor as CutStandsFor}
+use Rattle.frame_ending.specs.Stands.{CutStandsFor}
 use Rattle.link_format.specs.declared.tag.Mac.{Ghosts as Mac}
 use Rattle.link_format.specs.Tag.{direction_number}
 use Rattle.link_format.specs.Profile.{Profile, profile_of}
@@ -16,7 +16,7 @@ use Rattle.link_format.specs.Trailers.{bytes_unsent}
 use Rattle.sequence_journal.specs.declared.numbers.TheConstants.{LIMIT}
 use Rattle.link_box.specs.Sealing.{Judgement, judged}
 use Rattle.link_box.specs.Sealing.Judgement.{sealed_with, unsealed}
-use Rattle.seal_transmitter.specs.Stands.{Walks}
+use Rattle.seal_transmitter.specs.Stands.{SealerWalks}
 use Rattle.link_box.specs.declared.seal_note.SealNote.{SealNote}
 use Rattle.link_box.specs.declared.seal_note.SealNote.TheVariants.{Sealed, Unsealed}
 use Rattle.frame_ending.specs.declared.box_step.BoxStep.{BoxStep}
@@ -35,11 +35,11 @@ module _ {R M : Type 0} (proto : LineRules R) (macs : Mac M) {B : ℕ} (value : 
     (setup : Setup) (line : List Tick) where
   -- Holds if the transmitter has taken `line`, the last number that it used is `last`, and then
   -- only the value that cuts the line has taken the tick `t`, and has said that it is `cut`.
-  pub record IsBetween (t : Tick) (cut : Cut) : Type 0 where
+  pub record SealerIsBetween (t : Tick) (cut : Cut) : Type 0 where
     pub direction_is : direction_number value.direction ≡ setup.direction
     pub cuts : CutStandsFor proto value.cut (line ++ t ∷ [])
     pub is_cut : cut_of proto.rules line t ≡ cut
-    pub walks : Walks proto macs B last value.earliest_start (bytes_unsent value.trailer) value.mac
+    pub walks : SealerWalks proto macs B last value.earliest_start (bytes_unsent value.trailer) value.mac
         setup line
 
   -- Holds if the last burst of the line is judged so, by the number `last` and the value's earliest

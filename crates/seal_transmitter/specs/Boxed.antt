@@ -5,7 +5,7 @@ use Rattle.link_format.specs.declared.tag.Mac.{Ghosts as Mac}
 use Rattle.link_format.specs.Profile.{profile_of}
 use Rattle.link_box.specs.Walking.{Walking}
 use Rattle.sequence_journal.specs.declared.numbers.TheConstants.{LIMIT}
-use Rattle.seal_transmitter.specs.Answers.{brief_note}
+use Rattle.seal_transmitter.specs.Answers.{brief_seal_note}
 use Rattle.link_box.specs.Sealing.{SealState, FullNote, sealer, at_floor, sealed_in}
 use Rattle.link_box.specs.declared.seal_note.SealNote.{SealNote}
 
@@ -16,6 +16,6 @@ seal_walking proto macs word_len = record {
   Full = FullNote;
   walker = λ setup. sealer (profile_of proto macs word_len LIMIT setup) proto.rules;
   begun = λ setup. at_floor setup.floor;
-  brief = brief_note;
+  brief = brief_seal_note;
   frame_in = sealed_in;
 }

@@ -8,7 +8,7 @@ use Rattle.yasir_ticks.specs.declared.tick.Tick.TheVariants.{Silent, Byte}
 use Rattle.line_rules.specs.Rules.{Rules}
 use Rattle.line_rules.specs.declared.line_rules.LineRules.{Ghosts as LineRules}
 use Rattle.frame_ending.specs.LiveBytes.{live_bytes}
-use Rattle.frame_ending.specs.Stands.{StandsFor as CutStandsFor, ticks_taken as ticks_cut}
+use Rattle.frame_ending.specs.Stands.{CutStandsFor, ticks_taken as ticks_cut}
 use Rattle.frame_ending.specs.Laid.{tick_at}
 use Rattle.frame_ending.specs.HasCome.{HasCome}
 use Rattle.link_format.specs.declared.tag.Mac.{Ghosts as Mac}
@@ -20,7 +20,7 @@ use Rattle.link_format.specs.Trailers.{bytes_unsent}
 use Rattle.sequence_journal.specs.declared.journal.Journal.{Journal}
 use Rattle.sequence_journal.specs.declared.numbers.TheConstants.{LIMIT}
 use Rattle.sequence_journal.specs.Journal.{journal_floor}
-use Rattle.seal_transmitter.specs.Answers.{AnswersTick}
+use Rattle.seal_transmitter.specs.Answers.{SealerAnswersTick}
 use Rattle.link_box.specs.Sealing.{SealState, sealer, at_floor, sealed}
 use Rattle.frame_ending.specs.declared.box_step.BoxStep.{BoxStep}
 use Rattle.link_box.specs.declared.seal_note.SealNote.{SealNote}
@@ -34,7 +34,7 @@ sent_at m unsent i = slice_index_or (map (λ b. Byte b) unsent) (i - m) Silent
 -- burst `running`, if there is one, isn't noted. Of what the other bursts emit, the bytes `unsent`
 -- are still to be sent, the last of them at least four silent ticks before a burst may be sealed
 -- again.
-pub record HasWalked (profile : Profile) (rules : Rules) (floor m : ℕ) (ds : List Burst)
+pub record SealerHasWalked (profile : Profile) (rules : Rules) (floor m : ℕ) (ds : List Burst)
     (s : SealState)
     (unsent : List ℕ) (running : Option Burst) : Type 0 where
   pub emissions : List Burst
@@ -46,10 +46,10 @@ module _ {R M : Type 0} (proto : LineRules R) (macs : Mac M) where
   -- Holds if a transmitter with words of `word_len` bytes has come so far over the line: `last` is
   -- the last number that it used, a burst that starts before tick `earliest` is early, the bytes
   -- `unsent` are still to be sent, and `mac` is the MAC of the running burst.
-  pub record Walks (word_len last earliest : ℕ) (unsent : List ℕ) (mac : M) (setup : Setup)
+  pub record SealerWalks (word_len last earliest : ℕ) (unsent : List ℕ) (mac : M) (setup : Setup)
       (line : List Tick) : Type 0 where
     pub running : Option Burst
-    pub walked : HasWalked (profile_of proto macs word_len LIMIT setup) proto.rules setup.floor
+    pub walked : SealerHasWalked (profile_of proto macs word_len LIMIT setup) proto.rules setup.floor
         (length line) (bursts line) (record { floor = last; earliest_start = earliest }) unsent
         running
     -- the text of the tag so far, if a burst is running and isn't early
@@ -60,32 +60,32 @@ module _ {R M : Type 0} (proto : LineRules R) (macs : Mac M) where
 
   -- Holds if the transmitter, with this setup, has taken the ticks of `line`, and `last` is the
   -- last number that it used.
-  pub record StandsAt {B : ℕ} (value : Sealer R M B) (last : ℕ) (setup : Setup) (line : List Tick) :
+  pub record SealerStandsAt {B : ℕ} (value : Sealer R M B) (last : ℕ) (setup : Setup) (line : List Tick) :
       Type 0 where
     pub direction_is : direction_number value.direction ≡ setup.direction
     pub cuts : CutStandsFor proto value.cut line
-    pub walks : Walks B last value.earliest_start (bytes_unsent value.trailer) value.mac setup line
+    pub walks : SealerWalks B last value.earliest_start (bytes_unsent value.trailer) value.mac setup line
 
   -- Holds if the transmitter, with this setup, has taken the ticks of `line`, and its journal is
   -- `journal`.
-  abbrev pub StandsFor : {B : ℕ} → Sealer R M B → Journal → Setup → List Tick → Type 0
-  StandsFor value journal setup line = StandsAt value (journal_floor journal) setup line
+  abbrev pub SealerStandsFor : {B : ℕ} → Sealer R M B → Journal → Setup → List Tick → Type 0
+  SealerStandsFor value journal setup line = SealerStandsAt value (journal_floor journal) setup line
 
   -- Holds if the transmitter, after `line`, has taken the tick `t` as well: it represents both, the
   -- last number used is that of the last sealed frame, and `step` is what the definitions say.
-  pub record HasTaken {B : ℕ} (value : Sealer R M B) (last : ℕ) (setup : Setup) (line : List Tick)
+  pub record SealerHasTaken {B : ℕ} (value : Sealer R M B) (last : ℕ) (setup : Setup) (line : List Tick)
       (t : Tick)
       (step : BoxStep SealNote) : Type 0 where
-    pub stands : StandsAt value last setup (line ++ t ∷ [])
+    pub stands : SealerStandsAt value last setup (line ++ t ∷ [])
     pub floor : last ≡ last_number setup.floor
         (sealed (profile_of proto macs B LIMIT setup) proto.rules setup.floor (line ++ t ∷ []))
-    pub answers : AnswersTick (profile_of proto macs B LIMIT setup) proto.rules setup.floor line t
+    pub answers : SealerAnswersTick (profile_of proto macs B LIMIT setup) proto.rules setup.floor line t
         step
 
 -- how many ticks the transmitter has taken
-abbrev pub ticks_taken : {R M : Type 0} {B : ℕ} → Sealer R M B → ℕ
-ticks_taken value = ticks_cut value.cut
+abbrev pub sealer_ticks : {R M : Type 0} {B : ℕ} → Sealer R M B → ℕ
+sealer_ticks value = ticks_cut value.cut
 
 -- the number of the transmitter's direction
-abbrev pub direction_of : {R M : Type 0} {B : ℕ} → Sealer R M B → ℕ
-direction_of value = direction_number value.direction
+abbrev pub sealer_direction : {R M : Type 0} {B : ℕ} → Sealer R M B → ℕ
+sealer_direction value = direction_number value.direction

@@ -2,7 +2,7 @@
 ghost use Rattle.std.specs.Prelude.{◌≡◌};
 ghost use Rattle.link_format.specs.Profile.{IsWordLen};
 ghost use Rattle.seal_transmitter.specs.Boxed.{seal_walking};
-ghost use Rattle.seal_transmitter.specs.Stands.{StandsAt, direction_of, ticks_taken};
+ghost use Rattle.seal_transmitter.specs.Stands.{SealerStandsAt, sealer_direction, sealer_ticks};
 ghost use Rattle.link_format.specs.Tag.{direction_number};
 ghost use Rattle.link_box.specs.Links.{link_by};
 
@@ -18,15 +18,15 @@ use yasir_ticks::{Tick, TickRun};
 impl<R: LineRules, M: Mac, const B: usize> LinkBox for Sealer<R, M, B> {
     type Note = SealNote;
 
-    ghost stands = { λ value. StandsAt R.LineRules M.Mac value };
+    ghost stands = { λ value. SealerStandsAt R.LineRules M.Mac value };
 
-    ghost taken = { λ value. ticks_taken value };
+    ghost taken = { λ value. sealer_ticks value };
 
     ghost walking = { seal_walking R.LineRules M.Mac B };
 
     ghost widths_fit = { IsWordLen B };
 
-    ghost link_of = { λ value. link_by R.LineRules M.Mac B (direction_of value) };
+    ghost link_of = { λ value. link_by R.LineRules M.Mac B (sealer_direction value) };
 
     ghost link_in = { λ dir. link_by R.LineRules M.Mac B (direction_number dir) };
 

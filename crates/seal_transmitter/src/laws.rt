@@ -11,7 +11,7 @@ ghost use Rattle.sequence_journal.specs.Journal.{journal_floor, IsCrashSafe};
 ghost use Rattle.sequence_journal.specs.Uptimes.{IsStepOf, last_from, numbers_answered};
 ghost use Rattle.frame_ending.specs.declared.box_step.BoxStep.{BoxStep};
 ghost use Rattle.link_box.specs.declared.seal_note.SealNote.{SealNote};
-ghost use Rattle.seal_transmitter.specs.Answers.{KeepsJournal, numbers_noted};
+ghost use Rattle.seal_transmitter.specs.Answers.{SealerKeepsJournal, numbers_sealed_in};
 ghost use Rattle.link_box.specs.Sealing.{sealer, at_floor, sealed};
 
 use line_rules::LineRules;
@@ -43,15 +43,15 @@ pub fn longer_lines<R: LineRules, M: Mac>()
 pub fn steps_are_of_an_uptime<D: SlotDisk>()
     ensures is_step { (old new : Journal) (before after : D)
         (result : Result (BoxStep SealNote) JournalFault)
-        → KeepsJournal D.SlotDisk old new before after result
+        → SealerKeepsJournal D.SlotDisk old new before after result
         → IsCrashSafe old (D.told before) (D.may_leave before)
         → IsStepOf D.SlotDisk old before (record {
-          numbers = numbers_answered (λ step. numbers_noted step.note) result;
+          numbers = numbers_answered (λ step. numbers_sealed_in step.note) result;
           after = after;
         }) }
     ensures goes_on { (old new : Journal) (before after : D)
         (result : Result (BoxStep SealNote) JournalFault)
-        → KeepsJournal D.SlotDisk old new before after result
-        → last_from (journal_floor old) (numbers_answered (λ step. numbers_noted step.note) result)
+        → SealerKeepsJournal D.SlotDisk old new before after result
+        → last_from (journal_floor old) (numbers_answered (λ step. numbers_sealed_in step.note) result)
         ≡ journal_floor new }
 {}

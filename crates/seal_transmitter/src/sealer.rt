@@ -48,7 +48,7 @@ impl<R: LineRules, M: Mac, const B: usize> Sealer<R, M, B> {
     ghost use Rattle.frame_ending.specs.declared.cut.Cut.TheVariants.{Start, Live, Closed};
     ghost use Rattle.frame_ending.specs.Cuts.{IsPassing};
     ghost use Rattle.frame_ending.specs.SoFar.{start_so_far, live_bytes_so_far};
-    ghost use Rattle.frame_ending.specs.Stands.{StandsFor as CutStandsFor};
+    ghost use Rattle.frame_ending.specs.Stands.{CutStandsFor};
     ghost use Rattle.frame_ending.specs.Answered.{answered};
     ghost use Rattle.link_format.specs.Profile.{IsWordLen, profile_of};
     ghost use Rattle.link_format.specs.Setup.{Setup, setup_of};
@@ -58,19 +58,19 @@ impl<R: LineRules, M: Mac, const B: usize> Sealer<R, M, B> {
     ghost use Rattle.link_format.specs.Tag.{direction_number};
     ghost use Rattle.link_box.specs.Links.{link_by};
     ghost use Rattle.link_box.specs.Sealing.Judgement.{sealed_with, unsealed};
-    ghost use Rattle.seal_transmitter.specs.Answers.{SealsWith, KeepsJournal};
-    ghost use Rattle.seal_transmitter.specs.Stands.{StandsAt, StandsFor, HasTaken, ticks_taken};
-    ghost use Rattle.seal_transmitter.specs.Stands.{direction_of};
-    ghost use Rattle.seal_transmitter.specs.Runs.{HasTakenRun};
-    ghost use Rattle.seal_transmitter.specs.Between.{IsBetween, Judges, judgement_of, noteless};
+    ghost use Rattle.seal_transmitter.specs.Answers.{SealsWith, SealerKeepsJournal};
+    ghost use Rattle.seal_transmitter.specs.Stands.{SealerStandsAt, SealerStandsFor, SealerHasTaken, sealer_ticks};
+    ghost use Rattle.seal_transmitter.specs.Stands.{sealer_direction};
+    ghost use Rattle.seal_transmitter.specs.Runs.{SealerHasTakenRun};
+    ghost use Rattle.seal_transmitter.specs.Between.{SealerIsBetween, Judges, judgement_of, noteless};
     ghost use Rattle.seal_transmitter.specs.Between.{IsSealedNote, IsUnsealedNote};
 
     /// Makes a transmitter that has taken no tick, for a key of any length and a direction.
     pub fn new(key: &[u8], dir: Dir) -> Sealer<R, M, B>
         requires word { IsWordLen B }
-        ensures taken { ticks_taken result ≡ 0 }
-        ensures direction { direction_of result ≡ direction_number dir }
-        ensures stands { (floor : ℕ) → StandsAt R.LineRules M.Mac result floor
+        ensures taken { sealer_ticks result ≡ 0 }
+        ensures direction { sealer_direction result ≡ direction_number dir }
+        ensures stands { (floor : ℕ) → SealerStandsAt R.LineRules M.Mac result floor
             (setup_of key.now dir floor) [] }
     {
         Sealer {
@@ -96,23 +96,23 @@ impl<R: LineRules, M: Mac, const B: usize> Sealer<R, M, B> {
         journal: &mut Journal,
         disk: &mut D,
     ) -> Result<BoxStep<SealNote>, JournalFault>
-        requires room { ticks_taken self.old < MAX_TICKS }
+        requires room { sealer_ticks self.old < MAX_TICKS }
         requires of_link { journal_link journal.old
-            ≡ link_by R.LineRules M.Mac B (direction_of self.old) }
+            ≡ link_by R.LineRules M.Mac B (sealer_direction self.old) }
         requires fits { Fits journal.old (D.told disk.old) }
 
-        ensures taken { OnOk result (ticks_taken self.new ≡ ticks_taken self.old + 1) }
+        ensures taken { OnOk result (sealer_ticks self.new ≡ sealer_ticks self.old + 1) }
         ensures step { IfOk result (λ step. (setup : Setup) (line : List Tick)
-            → StandsFor R.LineRules M.Mac self.old journal.old setup line
-            → HasTaken R.LineRules M.Mac self.new (journal_floor journal.new) setup line t step) }
+            → SealerStandsFor R.LineRules M.Mac self.old journal.old setup line
+            → SealerHasTaken R.LineRules M.Mac self.new (journal_floor journal.new) setup line t step) }
 
         // It fails only in a step in which a burst is sealed by the definitions.
         ensures err_seals { OnErr result ((setup : Setup) (line : List Tick)
-            → StandsFor R.LineRules M.Mac self.old journal.old setup line
+            → SealerStandsFor R.LineRules M.Mac self.old journal.old setup line
             → SealsWith (profile_of R.LineRules M.Mac B LIMIT setup) R.rules setup.floor line t
             (journal_floor journal.old + 1)) }
-        ensures journal { KeepsJournal D.SlotDisk journal.old journal.new disk.old disk.new result }
-        ensures direction { direction_of self.new ≡ direction_of self.old }
+        ensures journal { SealerKeepsJournal D.SlotDisk journal.old journal.new disk.old disk.new result }
+        ensures direction { sealer_direction self.new ≡ sealer_direction self.old }
     {
         match self.cut.step(t) {
             Cut::Start(byte) => Ok(self.begin(byte)),
@@ -126,14 +126,14 @@ impl<R: LineRules, M: Mac, const B: usize> Sealer<R, M, B> {
     // bytes it has taken, one or none.
     #[inline]
     fn begin_some(&mut self, bytes: &[u8]) -> usize
-        requires { ticks_taken self.old + length bytes.now ≤ MAX_TICKS }
+        requires { sealer_ticks self.old + length bytes.now ≤ MAX_TICKS }
         ensures within { result ≤ length bytes.now }
-        ensures taken { ticks_taken self.new ≡ ticks_taken self.old + result }
+        ensures taken { sealer_ticks self.new ≡ sealer_ticks self.old + result }
         ensures run { (last : ℕ) (setup : Setup) (line : List Tick)
-            → StandsAt R.LineRules M.Mac self.old last setup line
-            → HasTakenRun R.LineRules M.Mac self.new last setup line
+            → SealerStandsAt R.LineRules M.Mac self.old last setup line
+            → SealerHasTakenRun R.LineRules M.Mac self.new last setup line
             (map Byte (take result bytes.now)) (map Byte (take result bytes.now)) }
-        ensures direction { direction_of self.new ≡ direction_of self.old }
+        ensures direction { sealer_direction self.new ≡ sealer_direction self.old }
     {
         if self.cut.quiet() < T3_5_TICKS {
             return 0;
@@ -154,14 +154,14 @@ impl<R: LineRules, M: Mac, const B: usize> Sealer<R, M, B> {
     // Returns how many it has taken.
     #[inline]
     fn go_on_some(&mut self, bytes: &[u8]) -> usize
-        requires { ticks_taken self.old + length bytes.now ≤ MAX_TICKS }
+        requires { sealer_ticks self.old + length bytes.now ≤ MAX_TICKS }
         ensures within { result ≤ length bytes.now }
-        ensures taken { ticks_taken self.new ≡ ticks_taken self.old + result }
+        ensures taken { sealer_ticks self.new ≡ sealer_ticks self.old + result }
         ensures run { (last : ℕ) (setup : Setup) (line : List Tick)
-            → StandsAt R.LineRules M.Mac self.old last setup line
-            → HasTakenRun R.LineRules M.Mac self.new last setup line
+            → SealerStandsAt R.LineRules M.Mac self.old last setup line
+            → SealerHasTakenRun R.LineRules M.Mac self.new last setup line
             (map Byte (take result bytes.now)) (map Byte (take result bytes.now)) }
-        ensures direction { direction_of self.new ≡ direction_of self.old }
+        ensures direction { sealer_direction self.new ≡ sealer_direction self.old }
     {
         if self.is_early() {
             return 0;
@@ -180,14 +180,14 @@ impl<R: LineRules, M: Mac, const B: usize> Sealer<R, M, B> {
     /// may be at most `MAX_TICKS` together.
     #[inline(never)]
     pub fn forward(&mut self, bytes: &[u8]) -> usize
-        requires { ticks_taken self.old + length bytes.now ≤ MAX_TICKS }
+        requires { sealer_ticks self.old + length bytes.now ≤ MAX_TICKS }
         ensures within { result ≤ length bytes.now }
-        ensures taken { ticks_taken self.new ≡ ticks_taken self.old + result }
+        ensures taken { sealer_ticks self.new ≡ sealer_ticks self.old + result }
         ensures run { (last : ℕ) (setup : Setup) (line : List Tick)
-            → StandsAt R.LineRules M.Mac self.old last setup line
-            → HasTakenRun R.LineRules M.Mac self.new last setup line
+            → SealerStandsAt R.LineRules M.Mac self.old last setup line
+            → SealerHasTakenRun R.LineRules M.Mac self.new last setup line
             (map Byte (take result bytes.now)) (map Byte (take result bytes.now)) }
-        ensures direction { direction_of self.new ≡ direction_of self.old }
+        ensures direction { sealer_direction self.new ≡ sealer_direction self.old }
     {
         let begun = self.begin_some(bytes);
         let more = self.go_on_some(&bytes[begun..]);
@@ -199,14 +199,14 @@ impl<R: LineRules, M: Mac, const B: usize> Sealer<R, M, B> {
     /// meanwhile. The ticks taken before and these bytes may be at most `MAX_TICKS` together.
     #[inline]
     pub fn hold(&mut self, bytes: &[u8]) -> usize
-        requires { ticks_taken self.old + length bytes.now ≤ MAX_TICKS }
+        requires { sealer_ticks self.old + length bytes.now ≤ MAX_TICKS }
         ensures within { result ≤ length bytes.now }
-        ensures taken { ticks_taken self.new ≡ ticks_taken self.old + result }
+        ensures taken { sealer_ticks self.new ≡ sealer_ticks self.old + result }
         ensures run { (last : ℕ) (setup : Setup) (line : List Tick)
-            → StandsAt R.LineRules M.Mac self.old last setup line
-            → HasTakenRun R.LineRules M.Mac self.new last setup line
+            → SealerStandsAt R.LineRules M.Mac self.old last setup line
+            → SealerHasTakenRun R.LineRules M.Mac self.new last setup line
             (map Byte (take result bytes.now)) (silent result) }
-        ensures direction { direction_of self.new ≡ direction_of self.old }
+        ensures direction { sealer_direction self.new ≡ sealer_direction self.old }
     {
         if self.trailer.unsent().len() > 0 {
             return 0;
@@ -223,14 +223,14 @@ impl<R: LineRules, M: Mac, const B: usize> Sealer<R, M, B> {
     /// `MAX_TICKS` together.
     #[inline]
     pub fn pass_over(&mut self, bytes: &[u8]) -> usize
-        requires { ticks_taken self.old + length bytes.now ≤ MAX_TICKS }
+        requires { sealer_ticks self.old + length bytes.now ≤ MAX_TICKS }
         ensures within { result ≤ length bytes.now }
-        ensures taken { ticks_taken self.new ≡ ticks_taken self.old + result }
+        ensures taken { sealer_ticks self.new ≡ sealer_ticks self.old + result }
         ensures run { (last : ℕ) (setup : Setup) (line : List Tick)
-            → StandsAt R.LineRules M.Mac self.old last setup line
-            → HasTakenRun R.LineRules M.Mac self.new last setup line
+            → SealerStandsAt R.LineRules M.Mac self.old last setup line
+            → SealerHasTakenRun R.LineRules M.Mac self.new last setup line
             (map Byte (take result bytes.now)) (silent result) }
-        ensures direction { direction_of self.new ≡ direction_of self.old }
+        ensures direction { sealer_direction self.new ≡ sealer_direction self.old }
     {
         if self.trailer.unsent().len() > 0 {
             return 0;
@@ -244,14 +244,14 @@ impl<R: LineRules, M: Mac, const B: usize> Sealer<R, M, B> {
     /// `MAX_TICKS` together.
     #[inline]
     pub fn send_over(&mut self, bytes: &[u8]) -> LineBytes
-        requires { ticks_taken self.old + length bytes.now ≤ MAX_TICKS }
+        requires { sealer_ticks self.old + length bytes.now ≤ MAX_TICKS }
         ensures within { length result.items ≤ length bytes.now }
-        ensures taken { ticks_taken self.new ≡ ticks_taken self.old + length result.items }
+        ensures taken { sealer_ticks self.new ≡ sealer_ticks self.old + length result.items }
         ensures run { (last : ℕ) (setup : Setup) (line : List Tick)
-            → StandsAt R.LineRules M.Mac self.old last setup line
-            → HasTakenRun R.LineRules M.Mac self.new last setup line
+            → SealerStandsAt R.LineRules M.Mac self.old last setup line
+            → SealerHasTakenRun R.LineRules M.Mac self.new last setup line
             (map Byte (take (length result.items) bytes.now)) (map Byte result.items) }
-        ensures direction { direction_of self.new ≡ direction_of self.old }
+        ensures direction { sealer_direction self.new ≡ sealer_direction self.old }
     {
         if !self.is_early() {
             return LineBytes::new();
@@ -266,14 +266,14 @@ impl<R: LineRules, M: Mac, const B: usize> Sealer<R, M, B> {
     /// these may be at most `MAX_TICKS` together.
     #[inline]
     pub fn keep_silent(&mut self, ticks: u32) -> u32
-        requires { ticks_taken self.old + ticks ≤ MAX_TICKS }
+        requires { sealer_ticks self.old + ticks ≤ MAX_TICKS }
         ensures within { result ≤ ticks }
-        ensures taken { ticks_taken self.new ≡ ticks_taken self.old + result }
+        ensures taken { sealer_ticks self.new ≡ sealer_ticks self.old + result }
         ensures run { (last : ℕ) (setup : Setup) (line : List Tick)
-            → StandsAt R.LineRules M.Mac self.old last setup line
-            → HasTakenRun R.LineRules M.Mac self.new last setup line
+            → SealerStandsAt R.LineRules M.Mac self.old last setup line
+            → SealerHasTakenRun R.LineRules M.Mac self.new last setup line
             (silent result) (silent result) }
-        ensures direction { direction_of self.new ≡ direction_of self.old }
+        ensures direction { sealer_direction self.new ≡ sealer_direction self.old }
     {
         if self.trailer.unsent().len() > 0 {
             return 0;
@@ -286,14 +286,14 @@ impl<R: LineRules, M: Mac, const B: usize> Sealer<R, M, B> {
     /// taken. The ticks taken before and these may be at most `MAX_TICKS` together.
     #[inline]
     pub fn send_some(&mut self, ticks: u32) -> LineBytes
-        requires { ticks_taken self.old + ticks ≤ MAX_TICKS }
+        requires { sealer_ticks self.old + ticks ≤ MAX_TICKS }
         ensures within { length result.items ≤ ticks }
-        ensures taken { ticks_taken self.new ≡ ticks_taken self.old + length result.items }
+        ensures taken { sealer_ticks self.new ≡ sealer_ticks self.old + length result.items }
         ensures run { (last : ℕ) (setup : Setup) (line : List Tick)
-            → StandsAt R.LineRules M.Mac self.old last setup line
-            → HasTakenRun R.LineRules M.Mac self.new last setup line
+            → SealerStandsAt R.LineRules M.Mac self.old last setup line
+            → SealerHasTakenRun R.LineRules M.Mac self.new last setup line
             (silent (length result.items)) (map Byte result.items) }
-        ensures direction { direction_of self.new ≡ direction_of self.old }
+        ensures direction { sealer_direction self.new ≡ sealer_direction self.old }
     {
         let most = ticks.min(self.trailer.unsent().len() as u32);
         let count = wait_open(&mut self.cut, most);
@@ -304,14 +304,14 @@ impl<R: LineRules, M: Mac, const B: usize> Sealer<R, M, B> {
     // it has taken.
     #[inline]
     fn hold_some(&mut self, bytes: &[u8]) -> usize
-        requires { ticks_taken self.old + length bytes.now ≤ MAX_TICKS }
+        requires { sealer_ticks self.old + length bytes.now ≤ MAX_TICKS }
         ensures within { result ≤ length bytes.now }
-        ensures taken { ticks_taken self.new ≡ ticks_taken self.old + result }
+        ensures taken { sealer_ticks self.new ≡ sealer_ticks self.old + result }
         ensures run { (last : ℕ) (setup : Setup) (line : List Tick)
-            → StandsAt R.LineRules M.Mac self.old last setup line
-            → HasTakenRun R.LineRules M.Mac self.new last setup line
+            → SealerStandsAt R.LineRules M.Mac self.old last setup line
+            → SealerHasTakenRun R.LineRules M.Mac self.new last setup line
             (map Byte (take result bytes.now)) (silent result) }
-        ensures direction { direction_of self.new ≡ direction_of self.old }
+        ensures direction { sealer_direction self.new ≡ sealer_direction self.old }
     {
         let held = self.hold(bytes);
         if held > 0 {
@@ -327,14 +327,14 @@ impl<R: LineRules, M: Mac, const B: usize> Sealer<R, M, B> {
     /// these bytes may be at most `MAX_TICKS` together.
     #[inline]
     pub fn pass_bytes(&mut self, bytes: &[u8], sent: &mut RunBytes) -> usize
-        requires { ticks_taken self.old + length bytes.now ≤ MAX_TICKS }
+        requires { sealer_ticks self.old + length bytes.now ≤ MAX_TICKS }
         ensures within { result ≤ length bytes.now }
-        ensures taken { ticks_taken self.new ≡ ticks_taken self.old + result }
+        ensures taken { sealer_ticks self.new ≡ sealer_ticks self.old + result }
         ensures run { (last : ℕ) (setup : Setup) (line : List Tick)
-            → StandsAt R.LineRules M.Mac self.old last setup line
-            → HasTakenRun R.LineRules M.Mac self.new last setup line
+            → SealerStandsAt R.LineRules M.Mac self.old last setup line
+            → SealerHasTakenRun R.LineRules M.Mac self.new last setup line
             (map Byte (take result bytes.now)) (answered result sent.new.items) }
-        ensures direction { direction_of self.new ≡ direction_of self.old }
+        ensures direction { sealer_direction self.new ≡ sealer_direction self.old }
     {
         let held = self.hold_some(bytes);
         if held > 0 {
@@ -350,14 +350,14 @@ impl<R: LineRules, M: Mac, const B: usize> Sealer<R, M, B> {
     /// with another call. The ticks taken before and these may be at most `MAX_TICKS` together.
     #[inline]
     pub fn pass_silence(&mut self, ticks: u32, sent: &mut RunBytes) -> u32
-        requires { ticks_taken self.old + ticks ≤ MAX_TICKS }
+        requires { sealer_ticks self.old + ticks ≤ MAX_TICKS }
         ensures within { result ≤ ticks }
-        ensures taken { ticks_taken self.new ≡ ticks_taken self.old + result }
+        ensures taken { sealer_ticks self.new ≡ sealer_ticks self.old + result }
         ensures run { (last : ℕ) (setup : Setup) (line : List Tick)
-            → StandsAt R.LineRules M.Mac self.old last setup line
-            → HasTakenRun R.LineRules M.Mac self.new last setup line
+            → SealerStandsAt R.LineRules M.Mac self.old last setup line
+            → SealerHasTakenRun R.LineRules M.Mac self.new last setup line
             (silent result) (answered result sent.new.items) }
-        ensures direction { direction_of self.new ≡ direction_of self.old }
+        ensures direction { sealer_direction self.new ≡ sealer_direction self.old }
     {
         if self.trailer.unsent().len() == 0 {
             sent.clear();
@@ -396,9 +396,9 @@ impl<R: LineRules, M: Mac, const B: usize> Sealer<R, M, B> {
         ensures note { result.note ≡ None }
         ensures step { (last : ℕ) (setup : Setup) (line : List Tick) (t : Tick) (cut : Cut)
             → IsPassing cut
-            → IsBetween R.LineRules M.Mac self.old last setup line t cut
-            → HasTaken R.LineRules M.Mac self.new last setup line t result }
-        ensures direction { direction_of self.new ≡ direction_of self.old }
+            → SealerIsBetween R.LineRules M.Mac self.old last setup line t cut
+            → SealerHasTaken R.LineRules M.Mac self.new last setup line t result }
+        ensures direction { sealer_direction self.new ≡ sealer_direction self.old }
     {
         self.send()
     }
@@ -409,9 +409,9 @@ impl<R: LineRules, M: Mac, const B: usize> Sealer<R, M, B> {
         ensures cut { self.new.cut ≡ self.old.cut }
         ensures note { result.note ≡ None }
         ensures step { (last : ℕ) (setup : Setup) (line : List Tick) (t : Tick)
-            → IsBetween R.LineRules M.Mac self.old last setup line t (Start byte)
-            → HasTaken R.LineRules M.Mac self.new last setup line t result }
-        ensures direction { direction_of self.new ≡ direction_of self.old }
+            → SealerIsBetween R.LineRules M.Mac self.old last setup line t (Start byte)
+            → SealerHasTaken R.LineRules M.Mac self.new last setup line t result }
+        ensures direction { sealer_direction self.new ≡ sealer_direction self.old }
     {
         if self.is_early() {
             return self.send();
@@ -430,9 +430,9 @@ impl<R: LineRules, M: Mac, const B: usize> Sealer<R, M, B> {
         ensures cut { self.new.cut ≡ self.old.cut }
         ensures note { result.note ≡ None }
         ensures step { (last : ℕ) (setup : Setup) (line : List Tick) (t : Tick)
-            → IsBetween R.LineRules M.Mac self.old last setup line t (Live byte)
-            → HasTaken R.LineRules M.Mac self.new last setup line t result }
-        ensures direction { direction_of self.new ≡ direction_of self.old }
+            → SealerIsBetween R.LineRules M.Mac self.old last setup line t (Live byte)
+            → SealerHasTaken R.LineRules M.Mac self.new last setup line t result }
+        ensures direction { sealer_direction self.new ≡ sealer_direction self.old }
     {
         if self.is_early() {
             return self.send();
@@ -473,22 +473,22 @@ impl<R: LineRules, M: Mac, const B: usize> Sealer<R, M, B> {
         journal: &mut Journal,
         disk: &mut D,
     ) -> Result<BoxStep<SealNote>, JournalFault>
-        requires room { ticks_taken self.old ≤ MAX_TICKS }
+        requires room { sealer_ticks self.old ≤ MAX_TICKS }
         requires fits { Fits journal.old (D.told disk.old) }
 
         ensures cut { OnOk result (self.new.cut ≡ self.old.cut) }
         ensures step { IfOk result (λ step. (setup : Setup) (line : List Tick)
-            → IsBetween R.LineRules M.Mac self.old (journal_floor journal.old) setup line Silent
+            → SealerIsBetween R.LineRules M.Mac self.old (journal_floor journal.old) setup line Silent
             Closed
-            → HasTaken R.LineRules M.Mac self.new (journal_floor journal.new) setup line Silent
+            → SealerHasTaken R.LineRules M.Mac self.new (journal_floor journal.new) setup line Silent
             step) }
         ensures err_seals { OnErr result ((setup : Setup) (line : List Tick)
-            → IsBetween R.LineRules M.Mac self.old (journal_floor journal.old) setup line Silent
+            → SealerIsBetween R.LineRules M.Mac self.old (journal_floor journal.old) setup line Silent
             Closed
             → SealsWith (profile_of R.LineRules M.Mac B LIMIT setup) R.rules setup.floor line Silent
             (journal_floor journal.old + 1)) }
-        ensures journal { KeepsJournal D.SlotDisk journal.old journal.new disk.old disk.new result }
-        ensures direction { direction_of self.new ≡ direction_of self.old }
+        ensures journal { SealerKeepsJournal D.SlotDisk journal.old journal.new disk.old disk.new result }
+        ensures direction { sealer_direction self.new ≡ sealer_direction self.old }
     {
         match self.unsealed_why(journal) {
             Some(why) => Ok(self.leave(why)),
@@ -507,10 +507,10 @@ impl<R: LineRules, M: Mac, const B: usize> Sealer<R, M, B> {
         ensures cut { self.new.cut ≡ self.old.cut }
         ensures note { IsUnsealedNote why result.note }
         ensures step { (last : ℕ) (setup : Setup) (line : List Tick)
-            → IsBetween R.LineRules M.Mac self.old last setup line Silent Closed
+            → SealerIsBetween R.LineRules M.Mac self.old last setup line Silent Closed
             → Judges R.LineRules M.Mac self.old last setup (line ++ Silent ∷ []) (unsealed why)
-            → HasTaken R.LineRules M.Mac self.new last setup line Silent result }
-        ensures direction { direction_of self.new ≡ direction_of self.old }
+            → SealerHasTaken R.LineRules M.Mac self.new last setup line Silent result }
+        ensures direction { sealer_direction self.new ≡ sealer_direction self.old }
     {
         BoxStep {
             tick: self.trailer.next_tick(),
@@ -523,15 +523,15 @@ impl<R: LineRules, M: Mac, const B: usize> Sealer<R, M, B> {
 
     // Seals the closed burst with this number, which must have been committed.
     fn seal(&mut self, number: u64) -> BoxStep<SealNote>
-        requires room { ticks_taken self.old ≤ MAX_TICKS }
+        requires room { sealer_ticks self.old ≤ MAX_TICKS }
         ensures cut { self.new.cut ≡ self.old.cut }
         ensures note { IsSealedNote number result.note }
         ensures step { (last : ℕ) (setup : Setup) (line : List Tick)
-            → IsBetween R.LineRules M.Mac self.old last setup line Silent Closed
+            → SealerIsBetween R.LineRules M.Mac self.old last setup line Silent Closed
             → Judges R.LineRules M.Mac self.old last setup (line ++ Silent ∷ [])
             (sealed_with number)
-            → HasTaken R.LineRules M.Mac self.new number setup line Silent result }
-        ensures direction { direction_of self.new ≡ direction_of self.old }
+            → SealerHasTaken R.LineRules M.Mac self.new number setup line Silent result }
+        ensures direction { sealer_direction self.new ≡ sealer_direction self.old }
     {
         self.mac.update(&number.to_be_bytes());
         let tag = self.mac.finish();
@@ -552,7 +552,7 @@ impl<R: LineRules, M: Mac, const B: usize> Sealer<R, M, B> {
     #[inline]
     pub fn live_bytes(&self) -> &R
         ensures { (last : ℕ) (setup : Setup) (line : List Tick)
-            → StandsAt R.LineRules M.Mac self.now last setup line
+            → SealerStandsAt R.LineRules M.Mac self.now last setup line
             → R.stands result.now (live_bytes_so_far R.rules line) }
     {
         self.cut.rules()

@@ -4,7 +4,7 @@ ghost use Rattle.yasir_ticks.specs.Ticks.{silent};
 ghost use Rattle.yasir_ticks.specs.declared.tick.Tick.{Tick};
 ghost use Rattle.yasir_ticks.specs.declared.tick.Tick.TheVariants.{Byte};
 ghost use Rattle.frame_ending.specs.Cuts.{cuts_after, IsPassing};
-ghost use Rattle.frame_ending.specs.Stands.{StandsFor, ticks_taken};
+ghost use Rattle.frame_ending.specs.Stands.{CutStandsFor, ticks_taken};
 
 use frame_ending::BurstCut;
 use line_rules::LineRules;
@@ -16,9 +16,9 @@ pub(crate) fn wait_open<R: LineRules>(cut: &mut BurstCut<R>, ticks: u32) -> u32
     requires { ticks_taken cut.old + ticks ≤ MAX_TICKS }
     ensures within { result ≤ ticks }
     ensures taken { ticks_taken cut.new ≡ ticks_taken cut.old + result }
-    ensures stands { (line : List Tick) → StandsFor R.LineRules cut.old line
-        → StandsFor R.LineRules cut.new (line ++ silent result) }
-    ensures open { (line : List Tick) → StandsFor R.LineRules cut.old line
+    ensures stands { (line : List Tick) → CutStandsFor R.LineRules cut.old line
+        → CutStandsFor R.LineRules cut.new (line ++ silent result) }
+    ensures open { (line : List Tick) → CutStandsFor R.LineRules cut.old line
         → All IsPassing (cuts_after R.rules line (silent result)) }
 {
     let quiet = cut.quiet();

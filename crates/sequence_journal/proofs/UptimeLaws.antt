@@ -2,7 +2,7 @@
 use Rattle.sequence_journal.proofs.LoadLemmas.{no_floor_of_others}
 use Rattle.sequence_journal.specs.{Journal.HasFloorAtLeast, Loading.KeepsLoadable, Slots.floor_of}
 use Rattle.sequence_journal.specs.Uptimes.{RiseFrom, last_from, IsUptime, IsIdle, HasNoFloorBelow}
-use Rattle.sequence_journal.specs.Uptimes.{Uptime, AreUptimes, all_numbers, Step, answered}
+use Rattle.sequence_journal.specs.Uptimes.{Uptime, AreUptimes, all_numbers, Step, answered_in}
 use Rattle.sequence_journal.specs.Uptimes.{disk_after, IsStep, AreSteps, EndsInside}
 use Rattle.sequence_journal.specs.declared.link.LinkId.{LinkId}
 use Rattle.std.proofs.Common.{◌≡◌, ℕ, ◌<◌, ◌≤◌, List, [], ◌∷◌, ◌++◌, Option, Some, None, IsSomeAnd}
@@ -98,19 +98,19 @@ module _ {D : Type 0} (disk : SlotDisk D) (link : LinkId) where
   -- the steps that are done, and the one in which the uptime ends
   steps-part : (floor : ℕ) (before : D) (done : List (Step D)) (last : Step D)
       → AreSteps disk link floor before (done ++ last ∷ [])
-      → RiseFrom floor (answered done)
-      × IsStep disk link (last_from floor (answered done)) (disk_after before done) last
+      → RiseFrom floor (answered_in done)
+      × IsStep disk link (last_from floor (answered_in done)) (disk_after before done) last
   steps-part floor before [] last are = (tt, are.0)
   steps-part floor before (step ∷ done) last are =
       let rest = steps-part (last_from floor step.numbers) step.after done last are.1 in
       let S : ℕ → Type 0 = λ n. IsStep disk link n (disk_after step.after done) last in (
-        rise-append floor step.numbers (answered done) are.0.rise rest.0,
-        subst S (sym (last-append floor step.numbers (answered done))) rest.1,
+        rise-append floor step.numbers (answered_in done) are.0.rise rest.0,
+        subst S (sym (last-append floor step.numbers (answered_in done))) rest.1,
       )
 
   pub ends-inside : (begins : Slots) (floor : ℕ) (loaded : D) (done : List (Step D)) (image : Slots)
       → floor_of link begins ≡ Some floor → EndsInside disk link floor loaded done image
-      → IsUptime link begins (answered done) image
+      → IsUptime link begins (answered_in done) image
   ends-inside begins floor loaded done image is ends =
       let parts = steps-part floor loaded done ends.last ends.are_steps in
       record {

@@ -73,9 +73,9 @@ numbers_answered numbers_of (Ok answer) = numbers_of answer
 numbers_answered numbers_of (Err fault) = []
 
 -- the numbers that these steps return
-abbrev pub answered : {D : Type 0} → List (Step D) → List ℕ
-answered [] = []
-answered (step ∷ steps) = step.numbers ++ answered steps
+abbrev pub answered_in : {D : Type 0} → List (Step D) → List ℕ
+answered_in [] = []
+answered_in (step ∷ steps) = step.numbers ++ answered_in steps
 
 -- the disk after these steps
 abbrev pub disk_after : {D : Type 0} → D → List (Step D) → D

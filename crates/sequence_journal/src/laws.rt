@@ -13,7 +13,7 @@ ghost use Rattle.sequence_journal.specs.declared.journal.LoadError.{LoadError};
 ghost use Rattle.yasir_io.specs.Causes.{Rose};
 ghost use Rattle.sequence_journal.specs.Uptimes.{RiseFrom, IsUptime, IsIdle, HasNoFloorBelow};
 ghost use Rattle.sequence_journal.specs.Uptimes.{Uptime, AreUptimes, all_numbers};
-ghost use Rattle.sequence_journal.specs.Uptimes.{Step, answered, IsStep, EndsInside};
+ghost use Rattle.sequence_journal.specs.Uptimes.{Step, answered_in, IsStep, EndsInside};
 
 use yasir_io::SlotDisk;
 
@@ -32,7 +32,7 @@ pub fn uptime_ends_at_any_moment<D: SlotDisk>()
     ensures inside { (link : LinkId) (begins : Slots) (floor : ℕ) (loaded : D)
         (done : List (Step D)) (image : Slots)
         → floor_of link begins ≡ Some floor → EndsInside D.SlotDisk link floor loaded done image
-        → IsUptime link begins (answered done) image }
+        → IsUptime link begins (answered_in done) image }
     ensures between { (link : LinkId) (floor : ℕ) (disk : D)
         → ((c : Slots) → D.may_leave disk c → HasFloorAtLeast link floor c)
         → IsStep D.SlotDisk link floor disk (record { numbers = []; after = disk }) }

@@ -16,9 +16,9 @@ use Rattle.session_lists.specs.declared.comparison.Difference.{Difference}
 use Rattle.rtu_frame.specs.Rules.{rtu_rules}
 use Rattle.sequence_journal.specs.{Uptimes.RiseFrom, declared.numbers.TheConstants.LIMIT}
 use Rattle.session_audit.specs.{AuditedInput.AuditsInput, Clean.IsClean, Sessions.LinkKind}
-use Rattle.session_audit.specs.Sessions.{link_profile_of, kind_of, sent_profile, got_profile}
-use Rattle.session_audit.specs.Sessions.{sealed_in, passed_in, read_in, line_received, verdict_with}
-use Rattle.session_audit.specs.{Sessions.verdict_of, Verdicts.finding_by}
+use Rattle.session_audit.specs.Sessions.{session_profile_of, kind_of, sent_profile, got_profile}
+use Rattle.session_audit.specs.Sessions.{sealed_in_session, passed_in_session, read_in, line_received, verdict_with}
+use Rattle.session_audit.specs.{Sessions.verdict_of_session, Verdicts.finding_by}
 use Rattle.session_audit.specs.Verdicts.{are_none, counts_of}
 use Rattle.session_audit.specs.declared.{session.Session.Session, verdict.Verdict.Verdict}
 use Rattle.session_audit.specs.declared.verdict.Counts.{Counts}
@@ -125,8 +125,8 @@ module _ (kind : LinkKind) (session : Session) where
       → IsClean kind session device link received counts
   clean-says lawful device link received counts is =
       let late : ℕ = delay (got_profile kind session) in
-      let S : List NumberedFrame = sealed_in kind session device in
-      let P : List NumberedFrame = passed_in kind session link in
+      let S : List NumberedFrame = sealed_in_session kind session device in
+      let P : List NumberedFrame = passed_in_session kind session link in
       let X : List FrameRead = read_in kind session received in
       let E : List FrameRead = map (read_later late) P in
       let counted : counts_of S P X ≡ counts = ap (λ v. v.counts) is in
@@ -171,13 +171,13 @@ module _ (kind : LinkKind) (session : Session) where
       ≢ Differs difference
   never-differs device link difference reads =
       let profile = got_profile kind session in
-      let P : List NumberedFrame = passed_in kind session link in
+      let P : List NumberedFrame = passed_in_session kind session link in
       let X : List FrameRead = read_in kind session (line_received kind session link) in
       let E : List FrameRead = map (delivered profile) P in
       let none : difference_of E X ≡ None = ap (option_map (difference_at E X))
       (ap (λ l. first_difference E l) reads ∙ differs-nowhere E) in
-      never-by (are_none (counts_of (sealed_in kind session device) P X))
-      (forged (sealed_in kind session device) P) (difference_of E X) difference none
+      never-by (are_none (counts_of (sealed_in_session kind session device) P X))
+      (forged (sealed_in_session kind session device) P) (difference_of E X) difference none
 
 -- What holds for both protocols with both profiles holds for each session.
 pub each-kind : (P : LinkKind → Type 0)
@@ -188,8 +188,8 @@ pub each-kind : (P : LinkKind → Type 0)
     → (session : Session) → P (kind_of session)
 each-kind P rtu18 rtu24 dnp18 dnp24 session =
     cond_both (session.label == 1)
-    (record { profile = link_profile_of session.profile 1; rules = rtu_rules; reads = rtu_reads })
-    (record { profile = link_profile_of session.profile 2; rules = dnp_rules; reads = dnp_reads }) P
+    (record { profile = session_profile_of session.profile 1; rules = rtu_rules; reads = rtu_reads })
+    (record { profile = session_profile_of session.profile 2; rules = dnp_rules; reads = dnp_reads }) P
     (λ rtu. cond_both (session.profile == 18) (y18 1 LIMIT) (y24 1 LIMIT)
     (λ format. P (record { profile = format; rules = rtu_rules; reads = rtu_reads }))
     (λ e. rtu18) (λ e. rtu24))
@@ -227,7 +227,7 @@ pub judged-so : {E : Type 0} (session : Session) (device link received : List Ti
     → (result : Result Verdict E)
     → IfOk result (λ verdict. verdict
     ≡ verdict_with (kind_at rtu short) session device link received)
-    → IfOk result (λ verdict. verdict ≡ verdict_of session device link received)
+    → IfOk result (λ verdict. verdict ≡ verdict_of_session session device link received)
 judged-so session device link received rtu short rtu_is short_is result is =
     kind-so (λ kind. IfOk result (λ verdict. verdict
     ≡ verdict_with kind session device link received)) session rtu short rtu_is short_is is
@@ -235,7 +235,7 @@ judged-so session device link received rtu short rtu_is short_is result is =
 pub audited-so : (session : Session) (before now : Option (List ℕ)) (result : Result Verdict End)
     (rtu short : Bool) → (session.label == 1) ≡ rtu → (session.profile == 18) ≡ short
     → AuditsInput (verdict_with (kind_at rtu short) session) before now result
-    → AuditsInput (verdict_of session) before now result
+    → AuditsInput (verdict_of_session session) before now result
 audited-so session before now result rtu short rtu_is short_is is =
     kind-so (λ kind. AuditsInput (verdict_with kind session) before now result) session rtu short
     rtu_is short_is is

@@ -1,6 +1,6 @@
 -- Four texts that are added one after the other, and a text that was printed.
 use Rattle.session_audit.proofs.Pushing.{adds-then, breaks-then, breaks-before}
-use Rattle.session_audit.specs.Printing.{OnTheWay, AddsText, BreaksOff, PrintsText}
+use Rattle.session_audit.specs.Printing.{OnTheWay, AddsText, PrintingBreaksOff, PrintsText}
 use Rattle.command_ends.{proofs.Printed.prints_whole, specs.declared.status.Status.Status}
 use Rattle.command_ends.specs.declared.status.Status.TheVariants.{Done, WriteFault}
 use Rattle.std.proofs.Common.{◌≡◌, ◌⊎◌, ℕ, List, ◌++◌, Option}
@@ -10,12 +10,12 @@ module _ (w0 w1 w2 w3 : OnTheWay) (a b c d : List ℕ) where
   abbrev all : List ℕ
   all = a ++ b ++ c ++ d
 
-  pub breaks-first : (held : Option (List ℕ)) → BreaksOff w0 held a → BreaksOff w0 held all
+  pub breaks-first : (held : Option (List ℕ)) → PrintingBreaksOff w0 held a → PrintingBreaksOff w0 held all
   breaks-first held breaks = breaks-before w0 held (a ++ b ++ c) d
       (breaks-before w0 held (a ++ b) c (breaks-before w0 held a b breaks))
 
   module _ (first : AddsText w0 w1 a) where
-    pub breaks-second : (held : Option (List ℕ)) → BreaksOff w1 held b → BreaksOff w0 held all
+    pub breaks-second : (held : Option (List ℕ)) → PrintingBreaksOff w1 held b → PrintingBreaksOff w0 held all
     breaks-second held breaks = breaks-before w0 held (a ++ b ++ c) d
         (breaks-before w0 held (a ++ b) c (breaks-then w0 w1 held a b first breaks))
 
@@ -23,7 +23,7 @@ module _ (w0 w1 w2 w3 : OnTheWay) (a b c d : List ℕ) where
       two : AddsText w0 w2 (a ++ b)
       two = adds-then w0 w1 w2 a b first second
 
-      pub breaks-third : (held : Option (List ℕ)) → BreaksOff w2 held c → BreaksOff w0 held all
+      pub breaks-third : (held : Option (List ℕ)) → PrintingBreaksOff w2 held c → PrintingBreaksOff w0 held all
       breaks-third held breaks = breaks-before w0 held (a ++ b ++ c) d
           (breaks-then w0 w2 held (a ++ b) c two breaks)
 
@@ -31,8 +31,8 @@ module _ (w0 w1 w2 w3 : OnTheWay) (a b c d : List ℕ) where
         three : AddsText w0 w3 (a ++ b ++ c)
         three = adds-then w0 w2 w3 (a ++ b) c two third
 
-        pub breaks-fourth : (held : Option (List ℕ)) → BreaksOff w3 held d
-            → BreaksOff w0 held all
+        pub breaks-fourth : (held : Option (List ℕ)) → PrintingBreaksOff w3 held d
+            → PrintingBreaksOff w0 held all
         breaks-fourth held breaks = breaks-then w0 w3 held (a ++ b ++ c) d three breaks
 
         pub adds-all : (w4 : OnTheWay) → AddsText w3 w4 d → AddsText w0 w4 all

@@ -8,7 +8,7 @@ use Rattle.frame_ending.specs.LiveBytes.{live_bytes}
 use Rattle.frame_ending.specs.SoFar.{last_of, live_bytes_in, live_bytes_so_far}
 use Rattle.{line_rules.specs.Rules.Rules, link_format.specs.NumberedFrame.NumberedFrame}
 use Rattle.session_lists.specs.{FrameBox.frame_told, declared.frame_box.Numbered.Numbered}
-use Rattle.session_audit.specs.FramesOf.{frames_among, numbered, told_by, HasFrames}
+use Rattle.session_audit.specs.FramesOf.{frames_among, numbered_frames, told_by, HasFrames}
 use Rattle.std.proofs.Common.{◌≡◌, ◌∙◌, ◌==◌, ℕ, ◌+◌, ◌<◌, ◌≤◌, false, List, [], ◌∷◌, ◌++◌, length}
 use Rattle.std.proofs.Common.{refl, ap, sym, subst, arith, ⊎_elim, Option, Some, None}
 use Rattle.std.proofs.Common.{length-append, IfSome}
@@ -86,7 +86,7 @@ module _ {S N A : Type 0} (w : Walker S N) (causal : IsCausal w) (rules : Rules)
   module _ (bytes : List ℕ) (bytes_are : bytes ≡ live_bytes_so_far rules now) where
     framed : (n : Noted N) (o : Option NumberedFrame) → frame_in n.note ≡ o
         → IfSome o (λ f. f.frame ≡ bytes)
-        → frames_among frame_in (n ∷ []) ≡ frame_told (numbered o) bytes
+        → frames_among frame_in (n ∷ []) ≡ frame_told (numbered_frames o) bytes
     framed n None is live = rw is refl
     framed n (Some f) is live = rw is
         (subst (λ b. f ∷ [] ≡ record { number = f.number; start = f.start; frame = b } ∷ []) live
@@ -111,7 +111,7 @@ module _ {S N A : Type 0} (w : Walker S N) (causal : IsCausal w) (rules : Rules)
         let each = last.each n rest refl in
         let alone : n ∷ rest ≡ n ∷ [] = ap (λ l. n ∷ l) each.4 in
         let said : brief n.note ≡ note = same-note _ _ _ _ tells in
-        let told_is : told note ≡ numbered (frame_in n.note) =
+        let told_is : told note ≡ numbered_frames (frame_in n.note) =
         ap told (sym said) ∙ has.tells n.note in
         ap (frames_among frame_in) alone
         ∙ framed n (frame_in n.note) refl (live-of n each.0 each.1 each.2 each.3)

@@ -4,9 +4,9 @@ use Rattle.command_ends.specs.FrameLine.{frame_line}
 use Rattle.command_ends.specs.FrameLine.{frame_lines}
 use Rattle.link_format.specs.NumberedFrame.{NumberedFrame}
 use Rattle.receiver_laws.specs.Accounted.{forged, is_among}
-use Rattle.session_audit.specs.Listing.{numbered_line, numbered_lines}
-use Rattle.session_audit.specs.Printing.{OnTheWay, AddsText, BreaksOff, line_if_forged}
-use Rattle.session_lists.specs.{FrameBox.kept_frames, FrameList.Kept, FrameList.Holds}
+use Rattle.session_audit.specs.Listing.{numbered_line_of, numbered_lines}
+use Rattle.session_audit.specs.Printing.{OnTheWay, AddsText, PrintingBreaksOff, line_if_forged}
+use Rattle.session_lists.specs.{FrameBox.kept_frames, FrameList.KeptFrames, FrameList.Holds}
 use Rattle.session_lists.specs.ReplayLists.{kept_reads}
 use Rattle.session_lists.specs.declared.{frame_box.Numbered.Numbered, frame_list.FrameList.FrameList}
 use Rattle.std.proofs.Common.{◌≡◌, ◌∙◌, ℕ, ◌+◌, ◌<◌, ◌≤◌, Bool, true, false, not, cond, List, []}
@@ -29,13 +29,13 @@ adds-then a b c x y first second start text waits =
     (second start (text ++ x) (first start text waits))
 
 pub breaks-then : (a b : OnTheWay) (held : Option (List ℕ)) (x y : List ℕ) → AddsText a b x
-    → BreaksOff b held y → BreaksOff a held (x ++ y)
+    → PrintingBreaksOff b held y → PrintingBreaksOff a held (x ++ y)
 breaks-then a b held x y first second start text waits =
     subst (GotPrefix start held) (append_assoc text x y)
     (second start (text ++ x) (first start text waits))
 
-pub breaks-before : (a : OnTheWay) (held : Option (List ℕ)) (x y : List ℕ) → BreaksOff a held x
-    → BreaksOff a held (x ++ y)
+pub breaks-before : (a : OnTheWay) (held : Option (List ℕ)) (x y : List ℕ) → PrintingBreaksOff a held x
+    → PrintingBreaksOff a held (x ++ y)
 breaks-before a held x y first start text waits =
     let got = first start text waits in record {
       front = got.front;
@@ -47,7 +47,7 @@ breaks-before a held x y first start text waits =
 
 -- ---- line by line
 
-module _ {K : Type 0} (line : Kept K → List ℕ) (kept : List (Kept K)) (i : ℕ) (e : Kept K)
+module _ {K : Type 0} (line : KeptFrames K → List ℕ) (kept : List (KeptFrames K)) (i : ℕ) (e : KeptFrames K)
     (within : i < length kept) (is : get_or kept i e ≡ e) where
   lines-step : flat_map line (take (i + 1) kept) ≡ flat_map line (take i kept) ++ line e
   lines-step = ap (flat_map line) (take_more kept i e within)
@@ -67,29 +67,29 @@ module _ {K : Type 0} (line : Kept K → List ℕ) (kept : List (Kept K)) (i : �
     line-added c more = subst (AddsText a c) (sym lines-step)
         (adds-then a b c (flat_map line (take i kept)) (line e) before more)
 
-    pub line-breaks : (held : Option (List ℕ)) → BreaksOff b held (line e)
-        → BreaksOff a held (flat_map line kept)
-    line-breaks held breaks = subst (BreaksOff a held) (sym lines-all)
+    pub line-breaks : (held : Option (List ℕ)) → PrintingBreaksOff b held (line e)
+        → PrintingBreaksOff a held (flat_map line kept)
+    line-breaks held breaks = subst (PrintingBreaksOff a held) (sym lines-all)
         (breaks-before a held (flat_map line (take i kept) ++ line e)
         (flat_map line (drop (i + 1) kept))
         (breaks-then a b held (flat_map line (take i kept)) (line e) before breaks))
 
-kept-is : {K : Type 0} (x e : Kept K) → e.head ≡ x.head → e.frame ≡ x.frame → x ≡ e
+kept-is : {K : Type 0} (x e : KeptFrames K) → e.head ≡ x.head → e.frame ≡ x.frame → x ≡ e
 kept-is x e head frame = ap (λ h. record { head = h; frame = x.frame }) (sym head)
     ∙ ap (λ f. record { head = e.head; frame = f }) (sym frame)
 
 -- The frame at place `i`, whose head and bytes were looked up, and its line `x`.
-module _ {K : Type 0} (line : Kept K → List ℕ) (list : FrameList K) (i n : ℕ) (head : K)
+module _ {K : Type 0} (line : KeptFrames K → List ℕ) (list : FrameList K) (i n : ℕ) (head : K)
     (bytes : List ℕ) (within : i < n)
-    (len_is : (frames : List (Kept K)) → Holds list frames → n ≡ length frames)
-    (head_is : (frames : List (Kept K)) (other : Kept K) → Holds list frames
+    (len_is : (frames : List (KeptFrames K)) → Holds list frames → n ≡ length frames)
+    (head_is : (frames : List (KeptFrames K)) (other : KeptFrames K) → Holds list frames
     → head ≡ (get_or frames i other).head)
-    (bytes_is : (frames : List (Kept K)) (other : Kept K) → Holds list frames
+    (bytes_is : (frames : List (KeptFrames K)) (other : KeptFrames K) → Holds list frames
     → bytes ≡ (get_or frames i other).frame)
-    (a b : OnTheWay) (kept : List (Kept K)) (holds : Holds list kept)
+    (a b : OnTheWay) (kept : List (KeptFrames K)) (holds : Holds list kept)
     (before : AddsText a b (flat_map line (take i kept))) (x : List ℕ)
     (is : x ≡ line (record { head = head; frame = bytes })) where
-  abbrev item : Kept K
+  abbrev item : KeptFrames K
   item = record { head = head; frame = bytes }
 
   at_place : get_or kept i item ≡ item
@@ -103,16 +103,16 @@ module _ {K : Type 0} (line : Kept K → List ℕ) (list : FrameList K) (i n : �
   item-added c more =
       line-added line kept i item inside at_place a b before c (subst (AddsText b c) is more)
 
-  pub item-breaks : (held : Option (List ℕ)) → BreaksOff b held x
-      → BreaksOff a held (flat_map line kept)
+  pub item-breaks : (held : Option (List ℕ)) → PrintingBreaksOff b held x
+      → PrintingBreaksOff a held (flat_map line kept)
   item-breaks held breaks = line-breaks line kept i item inside at_place a b before held
-      (subst (BreaksOff b held) is breaks)
+      (subst (PrintingBreaksOff b held) is breaks)
 
 -- If the lines of the first `i` frames were added, and there are no more than `i`, all lines were
 -- added.
-pub all-added : {K : Type 0} (line : Kept K → List ℕ) (list : FrameList K) (i n : ℕ)
-    (len_is : (frames : List (Kept K)) → Holds list frames → n ≡ length frames) → n ≤ i
-    → (a b : OnTheWay) (kept : List (Kept K)) → Holds list kept
+pub all-added : {K : Type 0} (line : KeptFrames K → List ℕ) (list : FrameList K) (i n : ℕ)
+    (len_is : (frames : List (KeptFrames K)) → Holds list frames → n ≡ length frames) → n ≤ i
+    → (a b : OnTheWay) (kept : List (KeptFrames K)) → Holds list kept
     → AddsText a b (flat_map line (take i kept)) → AddsText a b (flat_map line kept)
 all-added line list i n len_is end a b kept holds before =
     subst (λ l. AddsText a b (flat_map line l))
@@ -120,23 +120,23 @@ all-added line list i n len_is end a b kept holds before =
 
 -- ---- the groups
 
-abbrev pub numbered_of : Kept Numbered → NumberedFrame
+abbrev pub numbered_of : KeptFrames Numbered → NumberedFrame
 numbered_of k = record { number = k.head.number; start = k.head.start; frame = k.frame }
 
-abbrev pub kept_line : List ℕ → Kept Numbered → List ℕ
-kept_line name k = numbered_line name (numbered_of k)
+abbrev pub kept_line : List ℕ → KeptFrames Numbered → List ℕ
+kept_line name k = numbered_line_of name (numbered_of k)
 
-abbrev pub kept_read_line : Kept ℕ → List ℕ
+abbrev pub kept_read_line : KeptFrames ℕ → List ℕ
 kept_read_line k = frame_line (record { start = k.head; frame = k.frame })
 
 -- the line of a frame if it was never sealed with its number, otherwise nothing
-abbrev pub forged_line : List NumberedFrame → Kept Numbered → List ℕ
+abbrev pub forged_line : List NumberedFrame → KeptFrames Numbered → List ℕ
 forged_line sealed_ones k = line_if_forged sealed_ones (numbered_of k)
 
 pub kept-lines : (name : List ℕ) (frames : List NumberedFrame)
     → flat_map (kept_line name) (kept_frames frames) ≡ numbered_lines name frames
 kept-lines name [] = refl
-kept-lines name (f ∷ frames) = ap (λ l. numbered_line name f ++ l) (kept-lines name frames)
+kept-lines name (f ∷ frames) = ap (λ l. numbered_line_of name f ++ l) (kept-lines name frames)
 
 pub kept-read-lines : (frames : List FrameRead)
     → flat_map kept_read_line (kept_reads frames) ≡ frame_lines frames
@@ -155,7 +155,7 @@ pub forged-lines : (sealed_ones frames : List NumberedFrame)
     ≡ numbered_lines (codes "forged") (forged sealed_ones frames)
 forged-lines sealed_ones [] = refl
 forged-lines sealed_ones (f ∷ frames) =
-    ap (λ l. cond (is_among sealed_ones f) [] (numbered_line (codes "forged") f) ++ l)
+    ap (λ l. cond (is_among sealed_ones f) [] (numbered_line_of (codes "forged") f) ++ l)
     (forged-lines sealed_ones frames)
-    ∙ forged-step (is_among sealed_ones f) (numbered_line (codes "forged") f) f
-    (numbered_line (codes "forged")) (forged sealed_ones frames) refl
+    ∙ forged-step (is_among sealed_ones f) (numbered_line_of (codes "forged") f) f
+    (numbered_line_of (codes "forged")) (forged sealed_ones frames) refl

@@ -8,7 +8,7 @@ use Rattle.link_box.specs.Checking.{passed, received_line}
 use Rattle.receiver_laws.proofs.Deliveries.{delivers-all}
 use Rattle.receiver_laws.specs.Accounted.{forged, is_among, is_same_pair}
 use Rattle.receiver_laws.specs.Headline.{ReadsWhatWasSealed}
-use Rattle.receiver_laws.specs.Untouched.{AreSpaced, DeliversAll, IsUntouched}
+use Rattle.receiver_laws.specs.Untouched.{AreSpaced, DeliversAll, IsUntouchedLink}
 use Rattle.session_audit.specs.Listing.{Listing}
 use Rattle.session_audit.specs.TellsOf.{TellsOf, DeliversLine, HasNoNumberTwice, device_rest}
 use Rattle.{session_lists.specs.Recordings.before_mark, link_box.specs.Sealing.sealed}
@@ -131,7 +131,7 @@ module _ (profile : Profile) (tags : HasTags profile) (some : 1 ≤ profile.word
       → DeliversLine profile rules device link more listed
   delivers more is spaced =
       let many : 1 ≤ words profile = one-le-pow profile.word_len 256 (omega arith) in
-      let untouched : IsUntouched profile rules 0 0 device (device_rest profile) = record {
+      let untouched : IsUntouchedLink profile rules 0 0 device (device_rest profile) = record {
         spaced = spaced;
         numbers = omega (arith, numbers);
         not_above = omega arith;

@@ -21,7 +21,7 @@ module _ (verdict_on_three : List Tick → List Tick → List Tick → Verdict)
 
   -- Holds if the input ended with `end`, which isn't `Whole`. If it is `Stopped`, there was no
   -- memory for what was taken of the input.
-  pub record FindsNone (end : End) : Type 0 where
+  pub record FindsNoVerdict (end : End) : Type 0 where
     pub items : List Item
     pub takes : Takes 2 0 before now items end
     pub other : end ≢ Whole
@@ -30,4 +30,4 @@ module _ (verdict_on_three : List Tick → List Tick → List Tick → Verdict)
   -- What the result of an audit says of the input.
   abbrev pub AuditsInput : Result Verdict End → Type 0
   AuditsInput (Ok verdict) = FindsVerdict verdict
-  AuditsInput (Err end) = FindsNone end
+  AuditsInput (Err end) = FindsNoVerdict end

@@ -7,7 +7,7 @@ use Rattle.link_format.specs.Profile.{delay}
 use Rattle.receiver_laws.specs.Accounted.{IsSubsequence, pairs_of}
 use Rattle.receiver_laws.specs.Headline.{bytes_read, bytes_sealed}
 use Rattle.session_lists.specs.Comparison.{read_later}
-use Rattle.session_audit.specs.Sessions.{LinkKind, got_profile, sealed_in, passed_in, read_in}
+use Rattle.session_audit.specs.Sessions.{LinkKind, got_profile, sealed_in_session, passed_in_session, read_in}
 use Rattle.session_audit.specs.declared.session.Session.{Session}
 use Rattle.session_audit.specs.declared.verdict.Counts.{Counts}
 
@@ -19,14 +19,14 @@ use Rattle.session_audit.specs.declared.verdict.Counts.{Counts}
 pub record IsClean (kind : LinkKind) (session : Session) (device link received : List Tick)
     (counts : Counts) : Type 0 where
   pub read_what_passed : read_in kind session received
-      ≡ map (read_later (delay (got_profile kind session))) (passed_in kind session link)
-  pub passed_what_was_sealed : IsSubsequence (pairs_of (passed_in kind session link))
-      (pairs_of (sealed_in kind session device))
+      ≡ map (read_later (delay (got_profile kind session))) (passed_in_session kind session link)
+  pub passed_what_was_sealed : IsSubsequence (pairs_of (passed_in_session kind session link))
+      (pairs_of (sealed_in_session kind session device))
   pub read_what_was_sealed : IsSubsequence (bytes_read (read_in kind session received))
-      (bytes_sealed (sealed_in kind session device))
-  pub sealed_rise : RiseFrom session.sent_floor (numbers_of (sealed_in kind session device))
-  pub passed_rise : RiseFrom session.got_floor (numbers_of (passed_in kind session link))
+      (bytes_sealed (sealed_in_session kind session device))
+  pub sealed_rise : RiseFrom session.sent_floor (numbers_of (sealed_in_session kind session device))
+  pub passed_rise : RiseFrom session.got_floor (numbers_of (passed_in_session kind session link))
   pub some_sealed : 1 ≤ counts.sealed
-  pub sealed_count : counts.sealed ≡ length (sealed_in kind session device)
-  pub passed_count : counts.passed ≡ length (passed_in kind session link)
+  pub sealed_count : counts.sealed ≡ length (sealed_in_session kind session device)
+  pub passed_count : counts.passed ≡ length (passed_in_session kind session link)
   pub read_count : counts.read ≡ length (read_in kind session received)

@@ -14,9 +14,9 @@ abbrev pub frames_among : {N : Type 0} → (N → Option NumberedFrame) → List
 frames_among frame_in notes = filter_map (λ n. frame_in n.note) notes
 
 -- number and start of a frame
-abbrev pub numbered : Option NumberedFrame → Option Numbered
-numbered None = None
-numbered (Some f) = Some (record { number = f.number; start = f.start })
+abbrev pub numbered_frames : Option NumberedFrame → Option Numbered
+numbered_frames None = None
+numbered_frames (Some f) = Some (record { number = f.number; start = f.start })
 
 -- what a box tells of the note of a step, if there is one
 abbrev pub told_by : {A : Type 0} → (A → Option Numbered) → Option A → Option Numbered
@@ -30,4 +30,4 @@ pub record HasFrames {S N A : Type 0} (w : Walker S N) (rules : Rules)
     Type 0 where
   pub live : (s : S) (d : Burst)
       → IfSome (frame_in (w.note s d)) (λ f. f.frame ≡ live_bytes rules d)
-  pub tells : (note : N) → told (brief note) ≡ numbered (frame_in note)
+  pub tells : (note : N) → told (brief note) ≡ numbered_frames (frame_in note)

@@ -26,13 +26,13 @@ abbrev pub forged_in : Listing → List NumberedFrame
 forged_in listing = forged listing.sealed listing.passed
 
 -- the line of a numbered frame: `NAME N at S HEX`
-abbrev pub numbered_line : List ℕ → NumberedFrame → List ℕ
-numbered_line name f = name ++ codes " " ++ decimal f.number ++ codes " at " ++ decimal f.start
+abbrev pub numbered_line_of : List ℕ → NumberedFrame → List ℕ
+numbered_line_of name f = name ++ codes " " ++ decimal f.number ++ codes " at " ++ decimal f.start
     ++ codes " " ++ encode_lower f.frame ++ codes "\n"
 
 -- the lines of these frames, in order, each of which begins with this name
 abbrev pub numbered_lines : List ℕ → List NumberedFrame → List ℕ
-numbered_lines name frames = flat_map (numbered_line name) frames
+numbered_lines name frames = flat_map (numbered_line_of name) frames
 
 -- the lines of the sealed, passed, read and forged frames, one group after the other, each in the
 -- order of its list

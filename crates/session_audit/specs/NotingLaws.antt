@@ -8,13 +8,13 @@ use Rattle.link_box.specs.Sealing.{Judgement, sealer, sealed_in, judged}
 use Rattle.link_box.specs.Sealing.{FullNote as SealFull, note_by as seal_note_by}
 use Rattle.link_box.specs.Sealing.Judgement.{sealed_with, unsealed}
 use Rattle.link_box.specs.Sealing.FullNote.{sealed_note, unsealed_note}
-use Rattle.seal_transmitter.specs.Answers.{brief_note as seal_brief}
+use Rattle.seal_transmitter.specs.Answers.{brief_seal_note}
 use Rattle.link_box.specs.Verdicts.{Verdict, checked}
 use Rattle.link_box.specs.Verdicts.Verdict.{passed_with, refused, dropped}
 use Rattle.link_box.specs.Checking.{checker, passed_in, brief_note as check_brief}
 use Rattle.link_box.specs.Checking.{FullNote as CheckFull, note_by as check_note_by}
 use Rattle.link_box.specs.Checking.FullNote.{passed_note, refused_note, dropped_note}
-use Rattle.session_audit.specs.FramesOf.{HasFrames, numbered}
+use Rattle.session_audit.specs.FramesOf.{HasFrames, numbered_frames}
 use Rattle.session_audit.specs.NotesTold.{sealed_told, passed_told}
 
 module _ (profile : Profile) (rules : Rules) where
@@ -23,11 +23,11 @@ module _ (profile : Profile) (rules : Rules) where
   live-sealed d (sealed_with number) = refl
   live-sealed d (unsealed why) = tt
 
-  told-sealed : (note : SealFull) → sealed_told (seal_brief note) ≡ numbered (sealed_in note)
+  told-sealed : (note : SealFull) → sealed_told (brief_seal_note note) ≡ numbered_frames (sealed_in note)
   told-sealed (sealed_note number start frame) = refl
   told-sealed (unsealed_note start why) = refl
 
-  pub sealer-has : HasFrames (sealer profile rules) rules sealed_in seal_brief sealed_told
+  pub sealer-has : HasFrames (sealer profile rules) rules sealed_in brief_seal_note sealed_told
   sealer-has = record {
     live = λ s d. live-sealed d (judged profile rules s d);
     tells = told-sealed;
@@ -39,7 +39,7 @@ module _ (profile : Profile) (rules : Rules) where
   live-passed d (refused why) = tt
   live-passed d (dropped why) = tt
 
-  told-passed : (note : CheckFull) → passed_told (check_brief note) ≡ numbered (passed_in note)
+  told-passed : (note : CheckFull) → passed_told (check_brief note) ≡ numbered_frames (passed_in note)
   told-passed (passed_note number start frame) = refl
   told-passed (refused_note start why) = refl
   told-passed (dropped_note start why) = refl

@@ -28,8 +28,8 @@ pub record IsRecordedWith (marks : ℕ) (before now : Option (List ℕ)) (items 
 
 -- Holds if the whole input was met, is a right text with one mark, so with two recordings, and has
 -- these items, with no more ticks than may be taken.
-abbrev pub IsRecorded : Option (List ℕ) → Option (List ℕ) → List Item → Type 0
-IsRecorded before now items = IsRecordedWith 1 before now items
+abbrev pub IsRecordedSession : Option (List ℕ) → Option (List ℕ) → List Item → Type 0
+IsRecordedSession before now items = IsRecordedWith 1 before now items
 
 -- the device's line: the recording before the mark, followed by `device_rest` silent ticks
 abbrev pub device_line : ℕ → List Item → List Tick
@@ -51,7 +51,7 @@ module _ (marks rest : ℕ) (text_of : List Item → List ℕ)
     pub printed : out_now ≡ append_known out_before (text_of items)
 
   -- Holds if a write failed, and `out` has got a front of the text of the recordings.
-  pub record PrintsFront : Type 0 where
+  pub record PrintsFrontOfLists : Type 0 where
     pub items : List Item
     pub recorded : IsRecordedWith marks in_before in_now items
     pub printed : GotPrefix out_before out_now (text_of items)
@@ -66,7 +66,7 @@ module _ (marks rest : ℕ) (text_of : List Item → List ℕ)
   -- What each status says of the input and of `out`.
   abbrev pub PrintsItems : Status → Type 0
   PrintsItems Done = PrintsWhole
-  PrintsItems WriteFault = PrintsFront
+  PrintsItems WriteFault = PrintsFrontOfLists
   PrintsItems (BadTicks bad) = PrintsNothing (Refused bad)
   PrintsItems (TooLong what count) = PrintsNothing (ends.TooLong what count)
   PrintsItems ReadFault = PrintsNothing ends.ReadFault
@@ -74,11 +74,11 @@ module _ (marks rest : ℕ) (text_of : List Item → List ℕ)
   PrintsItems status = ⊥
 
 -- the text that is printed for the items of two recordings
-abbrev pub lines_of : (List Tick → List Tick → Listing) → ℕ → List Item → List ℕ
-lines_of listing device_rest items =
+abbrev pub recorded_lines : (List Tick → List Tick → Listing) → ℕ → List Item → List ℕ
+recorded_lines listing device_rest items =
     listing_text (listing (device_line device_rest items) (link_ticks items))
 
 -- What each status says of two recordings and of the lines printed for them.
 abbrev pub PrintsRecorded : (List Tick → List Tick → Listing) → ℕ → Option (List ℕ)
     → Option (List ℕ) → Option (List ℕ) → Option (List ℕ) → Status → Type 0
-PrintsRecorded listing device_rest = PrintsItems 1 link_rest (lines_of listing device_rest)
+PrintsRecorded listing device_rest = PrintsItems 1 link_rest (recorded_lines listing device_rest)

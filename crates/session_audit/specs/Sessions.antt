@@ -59,15 +59,15 @@ pub record LinkKind : Type 0 where
 
 -- the profile of a link by the session's `profile`, the label of the protocol and a setup: y18 for
 -- 18, and y24 for any other number
-abbrev pub link_profile_of : ℕ → ℕ → Setup → Profile
-link_profile_of profile label = if profile == 18 then y18 label LIMIT else y24 label LIMIT
+abbrev pub session_profile_of : ℕ → ℕ → Setup → Profile
+session_profile_of profile label = if profile == 18 then y18 label LIMIT else y24 label LIMIT
 
 -- what belongs to this label and this profile: Modbus RTU for label 1, and DNP3 for any other
 abbrev pub kind_by : ℕ → ℕ → LinkKind
 kind_by label profile =
     if label == 1
-    then record { profile = link_profile_of profile 1; rules = rtu_rules; reads = rtu_reads }
-    else record { profile = link_profile_of profile 2; rules = dnp_rules; reads = dnp_reads }
+    then record { profile = session_profile_of profile 1; rules = rtu_rules; reads = rtu_reads }
+    else record { profile = session_profile_of profile 2; rules = dnp_rules; reads = dnp_reads }
 
 -- what belongs to the protocol and the profile of a session
 abbrev pub kind_of : Session → LinkKind
@@ -86,14 +86,14 @@ module _ (kind : LinkKind) (session : Session) where
 
   -- the frames that are sealed of the line of the device that sends, with so much silence after it
   -- that its last burst is closed and its last trailer is sent
-  abbrev pub sealed_in : List Tick → List NumberedFrame
-  sealed_in device =
+  abbrev pub sealed_in_session : List Tick → List NumberedFrame
+  sealed_in_session device =
       sealed sent_profile kind.rules session.sent_floor (device ++ silent (delay sent_profile + 6))
 
   -- the frames that pass of the link, with so much silence after it that the last verdict has
   -- fallen
-  abbrev pub passed_in : List Tick → List NumberedFrame
-  passed_in link = passed got_profile kind.rules session.got_floor (link ++ silent link_rest)
+  abbrev pub passed_in_session : List Tick → List NumberedFrame
+  passed_in_session link = passed got_profile kind.rules session.got_floor (link ++ silent link_rest)
 
   -- the frames that the device that receives reads, with so much silence after its line that its
   -- last burst is closed
@@ -109,8 +109,8 @@ module _ (kind : LinkKind) (session : Session) where
   -- and the line of the device that receives
   abbrev pub verdict_with : List Tick → List Tick → List Tick → Verdict
   verdict_with device link received =
-      verdict_on (delay got_profile) (sealed_in device) (passed_in link) (read_in received)
+      verdict_on (delay got_profile) (sealed_in_session device) (passed_in_session link) (read_in received)
 
 -- the verdict on three recordings of a session, by its protocol and its profile
-abbrev pub verdict_of : Session → List Tick → List Tick → List Tick → Verdict
-verdict_of session = verdict_with (kind_of session) session
+abbrev pub verdict_of_session : Session → List Tick → List Tick → List Tick → Verdict
+verdict_of_session session = verdict_with (kind_of session) session

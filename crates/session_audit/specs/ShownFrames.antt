@@ -13,7 +13,7 @@ use Rattle.session_audit.specs.BurstBytes.{BurstFor}
 use Rattle.session_audit.specs.declared.shown_frames.ShownFrames.{ShownFrames}
 
 -- Holds if the journal is that of the box's link, and the disk fits the journal.
-pub record IsSteady {X R K : Type 0} (link_of : X → LinkId) (told : K → Option Slots)
+pub record IsSteadyBox {X R K : Type 0} (link_of : X → LinkId) (told : K → Option Slots)
     (value : ShownFrames X R K) : Type 0 where
   pub of_link : journal_link value.journal ≡ link_of value.line_box
   pub fits : Fits value.journal (told value.disk)

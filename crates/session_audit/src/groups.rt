@@ -8,10 +8,10 @@ ghost use Rattle.command_ends.specs.FrameLine.{frame_lines};
 ghost use Rattle.link_format.specs.NumberedFrame.{NumberedFrame, AreNumberedFrom};
 ghost use Rattle.receiver_laws.specs.Accounted.{forged};
 ghost use Rattle.session_lists.specs.FrameBox.{kept_frames};
-ghost use Rattle.session_lists.specs.FrameList.{Holds, IsWhole};
+ghost use Rattle.session_lists.specs.FrameList.{Holds, ListIsWhole};
 ghost use Rattle.session_lists.specs.ReplayLists.{kept_reads};
 ghost use Rattle.session_audit.specs.Listing.{numbered_lines};
-ghost use Rattle.session_audit.specs.Printing.{AddsText, BreaksOff, on_the_way, line_if_forged};
+ghost use Rattle.session_audit.specs.Printing.{AddsText, PrintingBreaksOff, on_the_way, line_if_forged};
 
 use crate::lines::push_numbered_line;
 use command_ends::push_read_line;
@@ -26,12 +26,12 @@ pub fn push_numbered<O: Sink>(
     frames: &FrameList<Numbered>,
 ) -> Result<(), Failed>
     requires name { length name.now ≤ 6 }
-    requires whole { IsWhole frames.now }
+    requires whole { ListIsWhole frames.now }
     ensures ok { OnOk result ((listed : List NumberedFrame) → Holds frames.now (kept_frames listed)
         → AddsText (on_the_way (O.held out.old) (waiting_bytes text.old))
         (on_the_way (O.held out.new) (waiting_bytes text.new)) (numbered_lines name.now listed)) }
     ensures err { OnErr result ((listed : List NumberedFrame) → Holds frames.now (kept_frames listed)
-        → BreaksOff (on_the_way (O.held out.old) (waiting_bytes text.old)) (O.held out.new)
+        → PrintingBreaksOff (on_the_way (O.held out.old) (waiting_bytes text.old)) (O.held out.new)
         (numbered_lines name.now listed)) }
     ensures cause { HasCause (O.faults out.old) (O.faults out.new) result }
     ensures flushes { O.flushes out.new ≡ O.flushes out.old }
@@ -51,12 +51,12 @@ pub fn push_reads<O: Sink>(
     out: &mut O,
     frames: &FrameList<u64>,
 ) -> Result<(), Failed>
-    requires { IsWhole frames.now }
+    requires { ListIsWhole frames.now }
     ensures ok { OnOk result ((listed : List FrameRead) → Holds frames.now (kept_reads listed)
         → AddsText (on_the_way (O.held out.old) (waiting_bytes text.old))
         (on_the_way (O.held out.new) (waiting_bytes text.new)) (frame_lines listed)) }
     ensures err { OnErr result ((listed : List FrameRead) → Holds frames.now (kept_reads listed)
-        → BreaksOff (on_the_way (O.held out.old) (waiting_bytes text.old)) (O.held out.new)
+        → PrintingBreaksOff (on_the_way (O.held out.old) (waiting_bytes text.old)) (O.held out.new)
         (frame_lines listed)) }
     ensures cause { HasCause (O.faults out.old) (O.faults out.new) result }
     ensures flushes { O.flushes out.new ≡ O.flushes out.old }
@@ -77,7 +77,7 @@ fn push_if_forged<O: Sink>(
     head: Numbered,
     bytes: &[u8],
 ) -> Result<(), Failed>
-    requires whole { IsWhole sealed.now }
+    requires whole { ListIsWhole sealed.now }
     requires frame { length bytes.now ≤ 292 }
     ensures ok { OnOk result ((sealed_ones : List NumberedFrame)
         → Holds sealed.now (kept_frames sealed_ones) → AreNumberedFrom 0 sealed_ones
@@ -86,7 +86,7 @@ fn push_if_forged<O: Sink>(
         (record { number = head.number; start = head.start; frame = bytes.now }))) }
     ensures err { OnErr result ((sealed_ones : List NumberedFrame)
         → Holds sealed.now (kept_frames sealed_ones) → AreNumberedFrom 0 sealed_ones
-        → BreaksOff (on_the_way (O.held out.old) (waiting_bytes text.old)) (O.held out.new)
+        → PrintingBreaksOff (on_the_way (O.held out.old) (waiting_bytes text.old)) (O.held out.new)
         (line_if_forged sealed_ones
         (record { number = head.number; start = head.start; frame = bytes.now }))) }
     ensures cause { HasCause (O.faults out.old) (O.faults out.new) result }
@@ -109,8 +109,8 @@ pub fn push_forged<O: Sink>(
     sealed: &FrameList<Numbered>,
     passed: &FrameList<Numbered>,
 ) -> Result<(), Failed>
-    requires sealed { IsWhole sealed.now }
-    requires passed { IsWhole passed.now }
+    requires sealed { ListIsWhole sealed.now }
+    requires passed { ListIsWhole passed.now }
     ensures ok { OnOk result ((sealed_ones passed_ones : List NumberedFrame)
         → Holds sealed.now (kept_frames sealed_ones) → Holds passed.now (kept_frames passed_ones)
         → AreNumberedFrom 0 sealed_ones
@@ -120,7 +120,7 @@ pub fn push_forged<O: Sink>(
     ensures err { OnErr result ((sealed_ones passed_ones : List NumberedFrame)
         → Holds sealed.now (kept_frames sealed_ones) → Holds passed.now (kept_frames passed_ones)
         → AreNumberedFrom 0 sealed_ones
-        → BreaksOff (on_the_way (O.held out.old) (waiting_bytes text.old)) (O.held out.new)
+        → PrintingBreaksOff (on_the_way (O.held out.old) (waiting_bytes text.old)) (O.held out.new)
         (numbered_lines (codes "forged") (forged sealed_ones passed_ones))) }
     ensures cause { HasCause (O.faults out.old) (O.faults out.new) result }
     ensures flushes { O.flushes out.new ≡ O.flushes out.old }

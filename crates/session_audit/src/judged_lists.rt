@@ -6,7 +6,7 @@ ghost use Rattle.link_format.specs.Setup.{Setup};
 ghost use Rattle.session_lists.specs.SessionListed.{MayListSession};
 ghost use Rattle.session_lists.specs.SessionLists.{HasSession};
 ghost use Rattle.session_audit.specs.Sessions.{IsSession};
-ghost use Rattle.session_audit.specs.Through.{timing_of, setups_of, HasTaken, HasTakenSome};
+ghost use Rattle.session_audit.specs.Through.{timing_through, setups_of, AuditHasTaken, HasTakenSome};
 ghost use Rattle.session_audit.specs.Through.{verdict_through};
 
 use crate::judging::judge;
@@ -19,7 +19,7 @@ use yasir_ticks::T3_5_TICKS;
 
 // How late the receiver is, and how much silence follows each recording.
 fn timing_of(late: u8) -> Timing
-    ensures { result ≡ timing_of late }
+    ensures { result ≡ timing_through late }
 {
     Timing {
         late: u64::from(late),
@@ -61,7 +61,7 @@ pub(crate) fn judge_lists<S: FrameBox, C: FrameBox, V: Device + Drop>(
     requires in_time { (setup : Setup) (line : List Tick)
         → All (λ f. f.start ≤ length line) ((C.numbering setup).frames line) }
     ensures { (late : ℕ) (device link received : List Tick)
-        → HasTaken S.FrameBox C.FrameBox V.Device session.now late lists.now device link received
+        → AuditHasTaken S.FrameBox C.FrameBox V.Device session.now late lists.now device link received
         → result
         ≡ verdict_through S.FrameBox C.FrameBox V.Device session.now late device link received }
 {

@@ -5,7 +5,7 @@ ghost use Rattle.link_format.specs.NumberedFrame.{NumberedFrame, AreNumberedFrom
 ghost use Rattle.receiver_laws.specs.Accounted.{forged};
 ghost use Rattle.session_lists.specs.Comparison.{difference_of, expected_reads};
 ghost use Rattle.session_lists.specs.FrameBox.{kept_frames};
-ghost use Rattle.session_lists.specs.FrameList.{Holds, IsWhole};
+ghost use Rattle.session_lists.specs.FrameList.{Holds, ListIsWhole};
 ghost use Rattle.session_audit.specs.Judging.{first_head, AreShort};
 ghost use Rattle.session_audit.specs.Verdicts.{counts_of, finding_on, verdict_on};
 
@@ -19,8 +19,8 @@ fn first_forged(
     sealed: &FrameList<Numbered>,
     passed: &FrameList<Numbered>,
 ) -> Option<Numbered>
-    requires sealed { IsWhole sealed.now }
-    requires passed { IsWhole passed.now }
+    requires sealed { ListIsWhole sealed.now }
+    requires passed { ListIsWhole passed.now }
     ensures { (sealed_ones passed_ones : List NumberedFrame)
         → Holds sealed.now (kept_frames sealed_ones) → Holds passed.now (kept_frames passed_ones)
         → AreNumberedFrom floor sealed_ones
@@ -44,8 +44,8 @@ fn find(
     counts: Counts,
     difference: Option<Difference>,
 ) -> Finding
-    requires sealed { IsWhole sealed.now }
-    requires passed { IsWhole passed.now }
+    requires sealed { ListIsWhole sealed.now }
+    requires passed { ListIsWhole passed.now }
     ensures { (late : ℕ) (sealed_ones passed_ones : List NumberedFrame) (reads : List FrameRead)
         → Holds sealed.now (kept_frames sealed_ones) → Holds passed.now (kept_frames passed_ones)
         → counts ≡ counts_of sealed_ones passed_ones reads
@@ -78,8 +78,8 @@ pub(crate) fn judge(
     read: u64,
     difference: Option<Difference>,
 ) -> Verdict
-    requires sealed { IsWhole sealed.now }
-    requires passed { IsWhole passed.now }
+    requires sealed { ListIsWhole sealed.now }
+    requires passed { ListIsWhole passed.now }
     requires short { AreShort sealed.now passed.now read }
     ensures { (late : ℕ) (sealed_ones passed_ones : List NumberedFrame) (reads : List FrameRead)
         → Holds sealed.now (kept_frames sealed_ones) → Holds passed.now (kept_frames passed_ones)

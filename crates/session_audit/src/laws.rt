@@ -3,7 +3,7 @@ ghost use Rattle.std.specs.Prelude.{◌≡◌, ◌≢◌, List};
 ghost use Rattle.yasir_ticks.specs.Ticks.{AreTicks};
 ghost use Rattle.yasir_ticks.specs.declared.tick.Tick.{Tick};
 ghost use Rattle.session_audit.specs.Clean.{IsClean};
-ghost use Rattle.session_audit.specs.Sessions.{kind_of, line_received, verdict_of};
+ghost use Rattle.session_audit.specs.Sessions.{kind_of, line_received, verdict_of_session};
 ghost use Rattle.session_audit.specs.declared.session.Session.{Session};
 ghost use Rattle.session_audit.specs.declared.verdict.Counts.{Counts};
 ghost use Rattle.session_audit.specs.declared.verdict.Finding.TheVariants.{Clean, Differs};
@@ -20,7 +20,7 @@ use rtu_frame::Rtu;
 /// sealed.
 pub fn clean_recordings_have_only_sealed_frames()
     ensures { (session : Session) (device link received : List Tick) (counts : Counts)
-        → verdict_of session device link received ≡ record { counts = counts; finding = Clean }
+        → verdict_of_session session device link received ≡ record { counts = counts; finding = Clean }
         → IsClean (kind_of session) session device link received counts }
 {}
 
@@ -31,7 +31,7 @@ pub fn clean_recordings_have_only_sealed_frames()
 pub fn own_line_of_a_receiver_never_differs()
     ensures { (session : Session) (device link : List Tick) → AreTicks link
         → (difference : Difference)
-        → (verdict_of session device link (line_received (kind_of session) session link)).finding
+        → (verdict_of_session session device link (line_received (kind_of session) session link)).finding
         ≢ Differs difference }
 {
     recorded_line_reads_all_that_passed();

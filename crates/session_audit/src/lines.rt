@@ -2,8 +2,8 @@
 ghost use Rattle.std.specs.Prelude.{◌≡◌, ◌+◌, ◌≤◌, ◌++◌, length, OnOk, OnErr};
 ghost use Rattle.yasir_io.specs.Causes.{HasCause};
 ghost use Rattle.yasir_io.specs.TextBuffer.{waiting_bytes};
-ghost use Rattle.session_audit.specs.Listing.{numbered_line};
-ghost use Rattle.session_audit.specs.Printing.{AddsText, BreaksOff, on_the_way};
+ghost use Rattle.session_audit.specs.Listing.{numbered_line_of};
+ghost use Rattle.session_audit.specs.Printing.{AddsText, PrintingBreaksOff, on_the_way};
 
 use command_ends::{append_decimal, append_digits};
 use session_lists::Numbered;
@@ -25,7 +25,7 @@ fn write_numbered_line<const CAP: usize>(
     requires room { length text.old.items + 701 ≤ CAP }
     requires name { length name.now ≤ 6 }
     requires frame { length bytes.now ≤ 292 }
-    ensures { text.new.items ≡ text.old.items ++ numbered_line name.now
+    ensures { text.new.items ≡ text.old.items ++ numbered_line_of name.now
         (record { number = head.number; start = head.start; frame = bytes.now }) }
 {
     text.append(name);
@@ -50,10 +50,10 @@ pub(crate) fn push_numbered_line<O: Sink>(
     requires name { length name.now ≤ 6 }
     requires frame { length bytes.now ≤ 292 }
     ensures ok { OnOk result (AddsText (on_the_way (O.held out.old) (waiting_bytes text.old))
-        (on_the_way (O.held out.new) (waiting_bytes text.new)) (numbered_line name.now
+        (on_the_way (O.held out.new) (waiting_bytes text.new)) (numbered_line_of name.now
         (record { number = head.number; start = head.start; frame = bytes.now }))) }
-    ensures err { OnErr result (BreaksOff (on_the_way (O.held out.old) (waiting_bytes text.old))
-        (O.held out.new) (numbered_line name.now
+    ensures err { OnErr result (PrintingBreaksOff (on_the_way (O.held out.old) (waiting_bytes text.old))
+        (O.held out.new) (numbered_line_of name.now
         (record { number = head.number; start = head.start; frame = bytes.now }))) }
     ensures cause { HasCause (O.faults out.old) (O.faults out.new) result }
     ensures flushes { O.flushes out.new ≡ O.flushes out.old }

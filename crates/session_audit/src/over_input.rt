@@ -5,7 +5,7 @@ ghost use Rattle.tick_drive.specs.Input.{IsReadCause, is_read_answer};
 ghost use Rattle.link_format.specs.NumberedFrame.{AreNumberedFrom};
 ghost use Rattle.link_format.specs.Setup.{Setup};
 ghost use Rattle.session_audit.specs.AuditedInput.{AuditsInput};
-ghost use Rattle.session_audit.specs.Sessions.{IsSession, verdict_of};
+ghost use Rattle.session_audit.specs.Sessions.{IsSession, verdict_of_session};
 ghost use Rattle.session_audit.specs.Through.{verdict_through};
 
 use crate::judged_lists::{judge_lists, lists_for};
@@ -56,7 +56,7 @@ pub fn audit_input<I: Source>(
     input: &mut I,
 ) -> Result<Verdict, End>
     requires { IsSession session.now }
-    ensures audits { AuditsInput (verdict_of session.now) (I.left input.old) (I.left input.new)
+    ensures audits { AuditsInput (verdict_of_session session.now) (I.left input.old) (I.left input.new)
         result }
     ensures read { IsReadCause (I.faults input.old) (I.faults input.new)
         (is_read_answer result) }

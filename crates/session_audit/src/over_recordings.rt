@@ -3,7 +3,7 @@ ghost use Rattle.std.specs.Prelude.{◌≡◌, ◌≤◌, List, IfOk, All, lengt
 ghost use Rattle.yasir_ticks.specs.declared.tick.Tick.{Tick};
 ghost use Rattle.link_format.specs.NumberedFrame.{AreNumberedFrom};
 ghost use Rattle.link_format.specs.Setup.{Setup};
-ghost use Rattle.session_audit.specs.Sessions.{IsSession, AreRecordings, verdict_of};
+ghost use Rattle.session_audit.specs.Sessions.{IsSession, AreRecordings, verdict_of_session};
 ghost use Rattle.session_audit.specs.Through.{verdict_through};
 
 use crate::judged_lists::{judge_lists, lists_for};
@@ -67,7 +67,7 @@ pub fn audit(
     requires session { IsSession session.now }
     requires recordings { AreRecordings device.now link.now received.now }
     ensures { IfOk result (λ verdict.
-        verdict ≡ verdict_of session.now device.now link.now received.now) }
+        verdict ≡ verdict_of_session session.now device.now link.now received.now) }
 {
     let lines = Lines {
         device,

@@ -5,8 +5,8 @@ ghost use Rattle.yasir_io.specs.TextBuffer.{waiting_bytes};
 ghost use Rattle.command_ends.specs.Causes.{SinkCause};
 ghost use Rattle.command_ends.specs.Flushes.{FlushesAtEnd};
 ghost use Rattle.session_audit.specs.Listing.{Listing, listing_text};
-ghost use Rattle.session_audit.specs.Printing.{AddsText, BreaksOff, on_the_way};
-ghost use Rattle.session_audit.specs.Printing.{HoldsListing, AreWhole, PrintsText};
+ghost use Rattle.session_audit.specs.Printing.{AddsText, PrintingBreaksOff, on_the_way};
+ghost use Rattle.session_audit.specs.Printing.{HoldsListing, AreWholeLists, PrintsText};
 
 use crate::groups::{push_forged, push_numbered, push_reads};
 use command_ends::{Status, flush_both};
@@ -21,14 +21,14 @@ fn push_listing<O: Sink>(
     passed: &FrameList<Numbered>,
     read: &FrameList<u64>,
 ) -> Result<(), Failed>
-    requires { AreWhole sealed.now passed.now read.now }
+    requires { AreWholeLists sealed.now passed.now read.now }
     ensures ok { OnOk result ((listing : Listing)
         → HoldsListing sealed.now passed.now read.now listing
         → AddsText (on_the_way (O.held out.old) (waiting_bytes text.old))
         (on_the_way (O.held out.new) (waiting_bytes text.new)) (listing_text listing)) }
     ensures err { OnErr result ((listing : Listing)
         → HoldsListing sealed.now passed.now read.now listing
-        → BreaksOff (on_the_way (O.held out.old) (waiting_bytes text.old)) (O.held out.new)
+        → PrintingBreaksOff (on_the_way (O.held out.old) (waiting_bytes text.old)) (O.held out.new)
         (listing_text listing)) }
     ensures cause { HasCause (O.faults out.old) (O.faults out.new) result }
     ensures flushes { O.flushes out.new ≡ O.flushes out.old }
@@ -57,7 +57,7 @@ pub fn print_listing<O: Sink, L: Sink>(
     out: &mut O,
     log: &mut L,
 ) -> Status
-    requires { AreWhole sealed.now passed.now read.now }
+    requires { AreWholeLists sealed.now passed.now read.now }
     ensures prints { (listing : Listing) → HoldsListing sealed.now passed.now read.now listing
         → PrintsText (listing_text listing) (O.held out.old) (O.held out.new) result }
     ensures status { (result ≡ Status.Done) ⊎ (result ≡ Status.WriteFault) }

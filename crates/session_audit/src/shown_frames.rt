@@ -1,7 +1,7 @@
 //! A box over a journal of its own, with the bytes of the frames that it numbers.
 ghost use Rattle.std.specs.Prelude.{◌≡◌, ◌≤◌, take};
 ghost use Rattle.session_audit.specs.FramesOf.{told_by};
-ghost use Rattle.session_audit.specs.ShownFrames.{ShowsFrames, IsSteady, numbering_of};
+ghost use Rattle.session_audit.specs.ShownFrames.{ShowsFrames, IsSteadyBox, numbering_of};
 
 use crate::burst_bytes::BurstBytes;
 use crate::noting_box::NotingBox;
@@ -43,7 +43,7 @@ impl<R: LineRules, X: NotingBox<R>, K: SteadyDisk> FrameBox for ShownFrames<X, R
 
     ghost taken = { λ value. X.taken value.line_box };
 
-    ghost able = { IsSteady X.link_of K.told };
+    ghost able = { IsSteadyBox X.link_of K.told };
 
     ghost numbering = { numbering_of X.walking };
 

@@ -8,7 +8,7 @@ use Rattle.session_lists.proofs.Parting.{place-none}
 use Rattle.session_lists.specs.Listing.{listing}
 use Rattle.session_lists.specs.Parts.{part}
 use Rattle.session_lists.specs.ListPlaces.{place_behind, place_after}
-use Rattle.session_lists.specs.TickLists.{HoldsParts, TakesTick, with_first, with_second, with_third}
+use Rattle.session_lists.specs.TickLists.{HoldsParts, TakesTick, with_first_tick, with_second, with_third}
 use Rattle.session_lists.specs.TickLists.{ticks_first, ticks_second, ticks_third}
 use Rattle.session_lists.specs.declared.tick_lists.{Place.Place, TickLists.TickLists}
 use Rattle.yasir_ticks.specs.Ticks.{Item, marks_in, Item.tick, Item.mark}
@@ -17,12 +17,12 @@ use Rattle.yasir_ticks.specs.declared.tick.Tick.{Tick}
 -- If the first list is part 0 of some items, then after one tick more it is part 0 of these and the
 -- tick, however many marks came before the tick.
 first-with : (m : ℕ) (items : List Item) (t : Tick) → marks_in items ≡ m
-    → with_first (place_after m) t (part 0 items) ≡ part 0 (items ++ tick t ∷ [])
+    → with_first_tick (place_after m) t (part 0 items) ≡ part 0 (items ++ tick t ∷ [])
 first-with zero items t marks = sym (part-here 0 items t marks)
 first-with (suc zero) items t marks = sym (part-there 0 items t (λ same. omega arith))
 first-with (suc (suc zero)) items t marks = sym (part-there 0 items t (λ same. omega arith))
 first-with (suc (suc (suc k))) items t marks =
-    ap (λ p. with_first p t (part 0 items)) (place-none k)
+    ap (λ p. with_first_tick p t (part 0 items)) (place-none k)
     ∙ sym (part-there 0 items t (λ same. omega arith))
 
 second-with : (m : ℕ) (items : List Item) (t : Tick) → marks_in items ≡ m
@@ -49,8 +49,8 @@ holds-tick old new t items takes holds =
     let m : ℕ = marks_in items in
     record {
       first_is = takes.first_is
-          ∙ (ap (λ p. with_first p t (ticks_first old)) holds.place_is
-          ∙ (ap (λ l. with_first (place_after m) t l) holds.first_is ∙ first-with m items t refl));
+          ∙ (ap (λ p. with_first_tick p t (ticks_first old)) holds.place_is
+          ∙ (ap (λ l. with_first_tick (place_after m) t l) holds.first_is ∙ first-with m items t refl));
       second_is = takes.second_is
           ∙ (ap (λ p. with_second p t (ticks_second old)) holds.place_is
           ∙ (ap (λ l. with_second (place_after m) t l) holds.second_is

@@ -2,7 +2,7 @@
 use Rattle.device_model.specs.{Frames.FrameRead, declared.device.Device.Ghosts as Device}
 use Rattle.link_format.specs.Setup.{Setup}
 use Rattle.session_lists.specs.FrameBox.{AnswersFrame, frame_told, kept_numbered, kept_frames}
-use Rattle.session_lists.specs.FrameList.{Kept, Holds}
+use Rattle.session_lists.specs.FrameList.{KeptFrames, Holds}
 use Rattle.session_lists.specs.ReplayLists.{KeepsFrames, StepsInto, Listens, kept_reads}
 use Rattle.session_lists.specs.declared.frame_box.{FrameBox.Ghosts as FrameBox, FrameStep.FrameStep}
 use Rattle.session_lists.specs.declared.{frame_box.Numbered.Numbered, frame_list.FrameList.FrameList}
@@ -22,7 +22,7 @@ module _ {B : Type 0} (box : FrameBox B) (old new : B) (before after : FrameList
   pub steps-frame : (head : Numbered) → step.frame ≡ Some head
       → KeepsFrames box old before setup line → box.stands new setup now
       → AnswersFrame (box.numbering setup) line t step (box.shown new)
-      → ((frames : List (Kept Numbered)) → Holds before frames
+      → ((frames : List (KeptFrames Numbered)) → Holds before frames
       → Holds after (frames ++ record { head = head; frame = box.shown new } ∷ []))
       → StepsInto box new after setup line t step.tick
   steps-frame head is keeps stands answers push =

@@ -3,7 +3,7 @@ use Rattle.device_model.specs.declared.device.Device.{Ghosts as Device}
 use Rattle.{link_format.specs.Setup.Setup, session_lists.proofs.Marks.has_mark-some}
 use Rattle.session_lists.proofs.Marks.{before_mark-more, behind_mark-more, ticks_in-silence}
 use Rattle.session_lists.specs.Listed.{MayList, ListsRecordings}
-use Rattle.session_lists.specs.Recordings.{has_mark, before_mark, behind_mark}
+use Rattle.session_lists.specs.Recordings.{lists_have_mark, before_mark, behind_mark}
 use Rattle.session_lists.specs.ReplayLists.{HasListed, listing}
 use Rattle.session_lists.specs.declared.frame_box.FrameBox.{Ghosts as FrameBox}
 use Rattle.session_lists.specs.declared.replay_lists.ReplayLists.{ReplayLists}
@@ -29,7 +29,7 @@ module _ {S C V : Type 0} (s : FrameBox S) (c : FrameBox C) (v : Device V)
       (behind_mark driven.takes.told ++ silent 320)
   listed-whole driven setup listed =
       let whole : IsWhole 1 320 before now driven.items = driven.takes in
-      let some : has_mark whole.told ≡ true = has_mark-some whole.told 0 whole.right.marked in
+      let some : lists_have_mark whole.told ≡ true = has_mark-some whole.told 0 whole.right.marked in
       let first : before_mark driven.items ≡ before_mark whole.told =
       ap before_mark whole.are ∙ before_mark-more whole.told (silent_items 320) some in
       let second : behind_mark driven.items ≡ behind_mark whole.told ++ silent 320 =

@@ -1,5 +1,5 @@
 -- The frames of a list: one more frame, and the frame at a place.
-use Rattle.session_lists.specs.FrameList.{Kept, Holds, IsWhole, frames_from, AreEnds, longest_frame}
+use Rattle.session_lists.specs.FrameList.{KeptFrames, Holds, ListIsWhole, frames_from, AreEnds, longest_frame}
 use Rattle.session_lists.specs.declared.frame_list.{Entry.Entry, FrameList.FrameList}
 use Rattle.std.proofs.Common.{◌≡◌, ◌∙◌, ℕ, zero, suc, ◌+◌, ◌-◌, ◌<◌, ◌≤◌, List, [], ◌∷◌, ◌++◌}
 use Rattle.std.proofs.Common.{length, take, drop, refl, ap, sym, subst, arith, length-append}
@@ -37,13 +37,13 @@ module _ {K : Type 0} where
       let front : take (d.end - start) (drop start x ++ y) ≡ take (d.end - start) (drop start x) =
       take-append-le (d.end - start) (drop start x) y
       (omega (arith, ends.0, within, length-drop start x)) in
-      let first : Kept K = record { head = d.head; frame = take (d.end - start) (drop start x) } in
+      let first : KeptFrames K = record { head = d.head; frame = take (d.end - start) (drop start x) } in
       rw (back, front) (ap (λ l. first ∷ l) (frames-more d.end entries e x y ends.2 is))
 
   pub holds-more : (old new : FrameList K) (e : Entry K) (y : List ℕ)
       → new.entries.items ≡ old.entries.items ++ e ∷ [] → new.bytes.items ≡ old.bytes.items ++ y
       → e.end ≡ length old.bytes.items + length y → length y ≤ longest_frame
-      → (frames : List (Kept K)) → Holds old frames
+      → (frames : List (KeptFrames K)) → Holds old frames
       → Holds new (frames ++ record { head = e.head; frame = y } ∷ [])
   holds-more old new e y entries bytes end short frames holds =
       let long : length (old.bytes.items ++ y) ≡ length old.bytes.items + length y =
@@ -64,13 +64,13 @@ module _ {K : Type 0} where
   length-frames start [] bytes = refl
   length-frames start (e ∷ entries) bytes = ap suc (length-frames e.end entries bytes)
 
-  pub holds-length : (list : FrameList K) (frames : List (Kept K)) → Holds list frames
+  pub holds-length : (list : FrameList K) (frames : List (KeptFrames K)) → Holds list frames
       → length list.entries.items ≡ length frames
   holds-length list frames holds =
       sym (length-frames 0 list.entries.items list.bytes.items) ∙ ap length holds.is
 
   head-at : (start : ℕ) (entries : List (Entry K)) (bytes : List ℕ) (i : ℕ) (e : Entry K)
-      (other : Kept K) → i < length entries
+      (other : KeptFrames K) → i < length entries
       → (slice_index_or (frames_from start entries bytes) i other).head
       ≡ (slice_index_or entries i e).head
   head-at start [] bytes i e other within = absurd (omega arith)
@@ -84,7 +84,7 @@ module _ {K : Type 0} where
   start_at start entries e (suc i) = (slice_index_or entries i e).end
 
   frame-at : (start : ℕ) (entries : List (Entry K)) (bytes : List ℕ) (i : ℕ) (e : Entry K)
-      (other : Kept K) → i < length entries
+      (other : KeptFrames K) → i < length entries
       → (slice_index_or (frames_from start entries bytes) i other).frame
       ≡ take ((slice_index_or entries i e).end - start_at start entries e i)
       (drop (start_at start entries e i) bytes)
@@ -110,15 +110,15 @@ module _ {K : Type 0} where
   ends-at start end (d ∷ entries) (suc (suc i)) e ends within =
       ends-at d.end end entries (suc i) e ends.2 (omega arith)
 
-  pub holds-head : (list : FrameList K) (i : ℕ) (e : Entry K) (frames : List (Kept K))
-      (other : Kept K) → i < length list.entries.items → Holds list frames
+  pub holds-head : (list : FrameList K) (i : ℕ) (e : Entry K) (frames : List (KeptFrames K))
+      (other : KeptFrames K) → i < length list.entries.items → Holds list frames
       → (slice_index_or list.entries.items i e).head ≡ (slice_index_or frames i other).head
   holds-head list i e frames other within holds =
       sym (head-at 0 list.entries.items list.bytes.items i e other within)
       ∙ ap (λ l. (slice_index_or l i other).head) holds.is
 
-  pub holds-frame : (list : FrameList K) (i : ℕ) (e : Entry K) (frames : List (Kept K))
-      (other : Kept K) → i < length list.entries.items → Holds list frames
+  pub holds-frame : (list : FrameList K) (i : ℕ) (e : Entry K) (frames : List (KeptFrames K))
+      (other : KeptFrames K) → i < length list.entries.items → Holds list frames
       → take ((slice_index_or list.entries.items i e).end - start_at 0 list.entries.items e i)
       (drop (start_at 0 list.entries.items e i) list.bytes.items)
       ≡ (slice_index_or frames i other).frame
@@ -129,8 +129,8 @@ module _ {K : Type 0} where
   -- ---- a frame by its own entry and the one before it
 
   -- The bytes of a frame that isn't the first start where those of the frame before it end.
-  pub holds-later : (list : FrameList K) (i before : ℕ) (e : Entry K) (frames : List (Kept K))
-      (other : Kept K) → before + 1 ≡ i → i < length list.entries.items → Holds list frames
+  pub holds-later : (list : FrameList K) (i before : ℕ) (e : Entry K) (frames : List (KeptFrames K))
+      (other : KeptFrames K) → before + 1 ≡ i → i < length list.entries.items → Holds list frames
       → take ((slice_index_or list.entries.items i e).end
       - (slice_index_or list.entries.items before e).end)
       (drop (slice_index_or list.entries.items before e).end list.bytes.items)
@@ -144,7 +144,7 @@ module _ {K : Type 0} where
       subst P next (holds-frame list (suc before) e frames other (omega (arith, is, within)) holds)
 
   pub rises-later : (list : FrameList K) (i before : ℕ) (e : Entry K) → before + 1 ≡ i
-      → i < length list.entries.items → IsWhole list
+      → i < length list.entries.items → ListIsWhole list
       → (slice_index_or list.entries.items before e).end
       ≤ (slice_index_or list.entries.items i e).end
   rises-later list i before e is within whole =
@@ -156,7 +156,7 @@ module _ {K : Type 0} where
 
   -- A frame that isn't the first is no longer than the longest one.
   short-later : (list : FrameList K) (i before : ℕ) (e : Entry K) → before + 1 ≡ i
-      → i < length list.entries.items → IsWhole list
+      → i < length list.entries.items → ListIsWhole list
       → (slice_index_or list.entries.items i e).end
       ≤ (slice_index_or list.entries.items before e).end + longest_frame
   short-later list i before e is within whole =
@@ -167,7 +167,7 @@ module _ {K : Type 0} where
       (omega (arith, is, within))).1
 
   pub ends-within : (list : FrameList K) (i : ℕ) (e : Entry K) → i < length list.entries.items
-      → IsWhole list → (slice_index_or list.entries.items i e).end ≤ length list.bytes.items
+      → ListIsWhole list → (slice_index_or list.entries.items i e).end ≤ length list.bytes.items
   ends-within list i e within whole =
       (ends-at 0 (length list.bytes.items) list.entries.items i e whole within).2
 
@@ -183,7 +183,7 @@ module _ {K : Type 0} where
     before_as = before_is
         ∙ get_or_default list.entries.items (i - 1) e d (omega (arith, some, within))
 
-    pub rises-by : IsWhole list → before.end ≤ last.end
+    pub rises-by : ListIsWhole list → before.end ≤ last.end
     rises-by whole =
         let rise = rises-later list i (i - 1) d next within whole in
         omega (
@@ -193,7 +193,7 @@ module _ {K : Type 0} where
           ap (λ (x : Entry K). x.end) last_is,
         )
 
-    pub short-by : IsWhole list → last.end ≤ before.end + longest_frame
+    pub short-by : ListIsWhole list → last.end ≤ before.end + longest_frame
     short-by whole =
         let short = short-later list i (i - 1) d next within whole in
         omega (
@@ -203,7 +203,7 @@ module _ {K : Type 0} where
           ap (λ (x : Entry K). x.end) last_is,
         )
 
-    pub frame-by : (frames : List (Kept K)) (other : Kept K) → Holds list frames
+    pub frame-by : (frames : List (KeptFrames K)) (other : KeptFrames K) → Holds list frames
         → take (last.end - before.end) (drop before.end list.bytes.items)
         ≡ (slice_index_or frames i other).frame
     frame-by frames other holds =

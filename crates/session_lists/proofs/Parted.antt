@@ -8,7 +8,7 @@ use Rattle.yasir_ticks.specs.TickRun.{run_ticks, run_items}
 use Rattle.yasir_ticks.specs.Ticks.{Item, marks_in, silent, Item.tick, Item.mark}
 use Rattle.yasir_ticks.specs.declared.{tick.Tick.Tick, tick_run.TickRun.TickRun}
 use Rattle.session_lists.specs.declared.tick_lists.Place.TheVariants as place
-use Rattle.session_lists.specs.SessionLists.{link_of, rest_after}
+use Rattle.session_lists.specs.SessionLists.{link_of_lists, rest_after}
 use Rattle.session_lists.proofs.Parting.{marks-mark, part-mark, place-none}
 
 part-all : (ticks : List Tick) → part 0 (map tick ticks) ≡ ticks
@@ -111,17 +111,17 @@ rest-same rest (suc zero) differ = absurd (differ refl)
 rest-same rest (suc (suc m)) differ = refl
 
 module _ (rest : ℕ) (items : List Item) where
-  link-open : marks_in items ≡ 1 → link_of rest items ≡ part 1 items
+  link-open : marks_in items ≡ 1 → link_of_lists rest items ≡ part 1 items
   link-open one = ap (λ l. part 1 items ++ l) (ap (rest_after rest) one) ∙ append-nil (part 1 items)
 
-  pub link-mark : (marks_in items ≡ 1 → ⊥) → link_of rest (items ++ mark ∷ []) ≡ link_of rest items
+  pub link-mark : (marks_in items ≡ 1 → ⊥) → link_of_lists rest (items ++ mark ∷ []) ≡ link_of_lists rest items
   link-mark differ =
       ap (λ l. l ++ rest_after rest (marks_in (items ++ mark ∷ []))) (part-mark 1 items)
       ∙ ap (λ l. part 1 items ++ l)
       (ap (rest_after rest) (marks-mark items) ∙ rest-same rest (marks_in items) differ)
 
   pub link-ends : marks_in items ≡ 1
-      → link_of rest (items ++ mark ∷ []) ≡ link_of rest items ++ silent rest
+      → link_of_lists rest (items ++ mark ∷ []) ≡ link_of_lists rest items ++ silent rest
   link-ends one =
       ap (λ l. l ++ rest_after rest (marks_in (items ++ mark ∷ []))) (part-mark 1 items)
       ∙ ap (λ l. part 1 items ++ l)
@@ -132,13 +132,13 @@ module _ (rest : ℕ) (items : List Item) where
     abbrev now : List Item
     now = items ++ take k (run_items run)
 
-    pub link-there : (marks_in items ≡ 1 → ⊥) → link_of rest now ≡ link_of rest items
+    pub link-there : (marks_in items ≡ 1 → ⊥) → link_of_lists rest now ≡ link_of_lists rest items
     link-there differ =
         ap (λ l. l ++ rest_after rest (marks_in now)) (front-there items run k 1 differ)
         ∙ ap (λ m. part 1 items ++ rest_after rest m) (front-marks items run k)
 
     pub link-here : marks_in items ≡ 1
-        → link_of rest now ≡ link_of rest items ++ take k (run_ticks run)
+        → link_of_lists rest now ≡ link_of_lists rest items ++ take k (run_ticks run)
     link-here one =
         ap (λ l. part 1 now ++ l) (ap (rest_after rest) (front-marks items run k ∙ one))
         ∙ append-nil (part 1 now)

@@ -1,7 +1,7 @@
 -- The first ticks of a run at a box or a device.
 use Rattle.link_format.specs.Setup.{Setup}
 use Rattle.session_lists.proofs.{Runs.keeps-run, TakenLines.goes-then}
-use Rattle.session_lists.specs.{FrameBox.AnswersFrameRun, Lines.GoesOn, Lines.TakesOn}
+use Rattle.session_lists.specs.{FrameBox.AnswersFrameRun, Lines.ListsGoOn, Lines.TakesOn}
 use Rattle.session_lists.specs.declared.frame_box.{FrameBox.Ghosts as FrameBox, Numbered.Numbered}
 use Rattle.{session_lists.specs.declared.frame_list.FrameList.FrameList, std.proofs.Common.◌≡◌}
 use Rattle.std.proofs.Common.{ℕ, ◌+◌, ◌≤◌, List, [], ◌∷◌, ◌++◌, length, take, ap, sym, subst, arith}
@@ -28,11 +28,11 @@ passes-on box old new list ticks answer n within counts stands answers =
 -- If no tick was taken at once, and then one tick by itself, the first tick of the run was taken.
 pub one-on : {O S L : Type 0} (taken : S → ℕ) (size : L → ℕ)
     (keeps : O → S → L → List Tick → Type 0) (a b c : S) (x y z : L) (ticks rest : List Tick) (t : Tick) (n : ℕ) → n ≤ 0 → ticks ≡ t ∷ rest
-    → GoesOn taken size keeps a b x y (take n ticks) → GoesOn taken size keeps b c y z (t ∷ [])
-    → GoesOn taken size keeps a c x z (take 1 ticks)
+    → ListsGoOn taken size keeps a b x y (take n ticks) → ListsGoOn taken size keeps b c y z (t ∷ [])
+    → ListsGoOn taken size keeps a c x z (take 1 ticks)
 one-on taken size keeps a b c x y z ticks rest t n few is none then =
     let zero_is : n ≡ 0 = omega (arith, few) in
-    let first : GoesOn taken size keeps a b x y [] =
-    subst (λ k. GoesOn taken size keeps a b x y (take k ticks)) zero_is none in
-    subst (GoesOn taken size keeps a c x z) (sym (ap (λ l. take 1 l) is))
+    let first : ListsGoOn taken size keeps a b x y [] =
+    subst (λ k. ListsGoOn taken size keeps a b x y (take k ticks)) zero_is none in
+    subst (ListsGoOn taken size keeps a c x z) (sym (ap (λ l. take 1 l) is))
     (goes-then taken size keeps a b c x y z [] (t ∷ []) first then)

@@ -3,8 +3,8 @@ use Rattle.device_model.specs.declared.device.Device.{Ghosts as Device}
 use Rattle.{link_format.specs.Setup.Setup, session_lists.proofs.SessionListing.checks-same}
 use Rattle.session_lists.proofs.{SessionListing.ready-same, Marks.before_mark-more, Marks.behind_mark-more}
 use Rattle.session_lists.specs.{FrameBox.AnswersFrameRun, FrameBox.kept_frames, FrameList.Holds}
-use Rattle.session_lists.specs.Recordings.{has_mark, before_mark, behind_mark}
-use Rattle.session_lists.specs.ReplayLists.{KeepsFrames, Checks, GoesOnBy, IsReady}
+use Rattle.session_lists.specs.Recordings.{lists_have_mark, before_mark, behind_mark}
+use Rattle.session_lists.specs.ReplayLists.{KeepsFrames, ChecksLists, GoesOnBy, ListsAreReady}
 use Rattle.session_lists.specs.declared.frame_box.{FrameBox.Ghosts as FrameBox, Numbered.Numbered}
 use Rattle.session_lists.specs.declared.frame_list.FrameList.{FrameList}
 use Rattle.session_lists.specs.declared.replay_lists.ReplayLists.{ReplayLists}
@@ -17,40 +17,40 @@ use Rattle.yasir_ticks.specs.declared.{tick.Tick.Tick, tick_run.TickRun.TickRun}
 
 -- ---- items without a mark
 
-no_mark-ticks : (ticks : List Tick) → has_mark (map tick ticks) ≡ false
+no_mark-ticks : (ticks : List Tick) → lists_have_mark (map tick ticks) ≡ false
 no_mark-ticks [] = refl
 no_mark-ticks (t ∷ ticks) = no_mark-ticks ticks
 
-pub no_mark-front : (run : TickRun) (n : ℕ) → has_mark (take n (run_items run)) ≡ false
+pub no_mark-front : (run : TickRun) (n : ℕ) → lists_have_mark (take n (run_items run)) ≡ false
 no_mark-front run n =
-    ap (λ l. has_mark (take n l)) (items_of_ticks run) ∙ ap has_mark (take-map tick n (run_ticks
+    ap (λ l. lists_have_mark (take n l)) (items_of_ticks run) ∙ ap lists_have_mark (take-map tick n (run_ticks
     run))
     ∙ no_mark-ticks (take n (run_ticks run))
 
-pub has_mark-run : (items more : List Item) → has_mark more ≡ false
-    → has_mark (items ++ more) ≡ has_mark items
+pub has_mark-run : (items more : List Item) → lists_have_mark more ≡ false
+    → lists_have_mark (items ++ more) ≡ lists_have_mark items
 has_mark-run [] more none = none
 has_mark-run (tick t ∷ items) more none = has_mark-run items more none
 has_mark-run (mark ∷ items) more none = refl
 
-all_before : (more : List Item) → has_mark more ≡ false → before_mark more ≡ ticks_in more
+all_before : (more : List Item) → lists_have_mark more ≡ false → before_mark more ≡ ticks_in more
 all_before [] none = refl
 all_before (tick t ∷ more) none = ap (λ l. t ∷ l) (all_before more none)
 all_before (mark ∷ more) none = cc
 
-none_behind : (more : List Item) → has_mark more ≡ false → behind_mark more ≡ []
+none_behind : (more : List Item) → lists_have_mark more ≡ false → behind_mark more ≡ []
 none_behind [] none = refl
 none_behind (tick t ∷ more) none = none_behind more none
 none_behind (mark ∷ more) none = cc
 
-pub before_mark-run : (items more : List Item) → has_mark items ≡ false → has_mark more ≡ false
+pub before_mark-run : (items more : List Item) → lists_have_mark items ≡ false → lists_have_mark more ≡ false
     → before_mark (items ++ more) ≡ before_mark items ++ ticks_in more
 before_mark-run [] more none unmarked = all_before more unmarked
 before_mark-run (tick t ∷ items) more none unmarked =
     ap (λ l. t ∷ l) (before_mark-run items more none unmarked)
 before_mark-run (mark ∷ items) more none unmarked = cc
 
-pub behind_mark-run : (items more : List Item) → has_mark items ≡ false → has_mark more ≡ false
+pub behind_mark-run : (items more : List Item) → lists_have_mark items ≡ false → lists_have_mark more ≡ false
     → behind_mark (items ++ more) ≡ behind_mark items
 behind_mark-run [] more none unmarked = none_behind more unmarked
 behind_mark-run (tick t ∷ items) more none unmarked = behind_mark-run items more none unmarked
@@ -71,7 +71,7 @@ keeps-run box old new list setup line run answer keeps stands answers = record {
 -- ---- both recordings
 
 module _ {S C V : Type 0} (s : FrameBox S) (c : FrameBox C) (v : Device V)
-    (old new : ReplayLists S C V) (more : List Item) (unmarked : has_mark more ≡ false)
+    (old new : ReplayLists S C V) (more : List Item) (unmarked : lists_have_mark more ≡ false)
     (run : List Tick) (run_is : ticks_in more ≡ run) where
   size : length run ≡ length (ticks_in more)
   size = ap length (sym run_is)
@@ -79,7 +79,7 @@ module _ {S C V : Type 0} (s : FrameBox S) (c : FrameBox C) (v : Device V)
   -- If the transmitter has taken the run, and it comes before the mark, the lists go on by it.
   pub seals-on : new ≡ record old { sealer = new.sealer; sealed = new.sealed }
       → old.marked ≡ false → s.taken new.sealer ≡ s.taken old.sealer + length run
-      → s.able new.sealer → IsReady s c v old
+      → s.able new.sealer → ListsAreReady s c v old
       → ((setup : Setup) (line : List Tick) → KeepsFrames s old.sealer old.sealed setup line
       → KeepsFrames s new.sealer new.sealed setup (line ++ run))
       → GoesOnBy s c v old new more
@@ -89,7 +89,7 @@ module _ {S C V : Type 0} (s : FrameBox S) (c : FrameBox C) (v : Device V)
       ap (λ l. c.taken l.checker) others in
       record {
         moved = λ setup items lists.
-            let none : has_mark items ≡ false = sym lists.marked ∙ before in
+            let none : lists_have_mark items ≡ false = sym lists.marked ∙ before in
             let front : before_mark (items ++ more) ≡ before_mark items ++ run =
             before_mark-run items more none unmarked ∙ ap (λ l. before_mark items ++ l) run_is in
             record {
@@ -111,9 +111,9 @@ module _ {S C V : Type 0} (s : FrameBox S) (c : FrameBox C) (v : Device V)
     passed = new.passed;
     read = new.read;
   } → old.marked ≡ true → c.taken new.checker ≡ c.taken old.checker + length run
-      → IsReady s c v new
-      → ((setup : Setup) (link : List Tick) → Checks s c v old setup link
-      → Checks s c v new setup (link ++ run))
+      → ListsAreReady s c v new
+      → ((setup : Setup) (link : List Tick) → ChecksLists s c v old setup link
+      → ChecksLists s c v new setup (link ++ run))
       → GoesOnBy s c v old new more
   checks-on others behind counts ready step =
       let same : new.marked ≡ old.marked = ap (λ l. l.marked) others in
@@ -122,7 +122,7 @@ module _ {S C V : Type 0} (s : FrameBox S) (c : FrameBox C) (v : Device V)
       let kept : s.taken new.sealer ≡ s.taken old.sealer = ap (λ l. s.taken l.sealer) others in
       record {
         moved = λ setup items lists.
-            let some : has_mark items ≡ true = sym lists.marked ∙ behind in
+            let some : lists_have_mark items ≡ true = sym lists.marked ∙ behind in
             let back : behind_mark (items ++ more) ≡ behind_mark items ++ run =
             behind_mark-more items more some ∙ ap (λ l. behind_mark items ++ l) run_is in
             record {

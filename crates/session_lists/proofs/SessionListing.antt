@@ -2,7 +2,7 @@
 use Rattle.device_model.specs.declared.device.Device.{Ghosts as Device}
 use Rattle.link_format.specs.Setup.{Setup}
 use Rattle.session_lists.proofs.Marks.{has_mark-mark, before_mark-mark, behind_mark-mark}
-use Rattle.session_lists.specs.ReplayLists.{KeepsFrames, Checks, HasListed, ListsItems, IsReady}
+use Rattle.session_lists.specs.ReplayLists.{KeepsFrames, ChecksLists, HasListed, ListsItems, ListsAreReady}
 use Rattle.session_lists.specs.ReplayLists.{listing, GoesOnBy}
 use Rattle.session_lists.specs.declared.frame_box.FrameBox.{Ghosts as FrameBox}
 use Rattle.session_lists.specs.declared.replay_lists.ReplayLists.{ReplayLists}
@@ -17,8 +17,8 @@ module _ {S C V : Type 0} (s : FrameBox S) (c : FrameBox C) (v : Device V)
   -- ---- a tick for the transmitter
 
   module _ (others : new ≡ record old { sealer = new.sealer; sealed = new.sealed }) where
-    pub checks-same : (setup : Setup) (link : List Tick) → Checks s c v old setup link
-        → Checks s c v new setup link
+    pub checks-same : (setup : Setup) (link : List Tick) → ChecksLists s c v old setup link
+        → ChecksLists s c v new setup link
     checks-same setup link checks =
         let checker : new.checker ≡ old.checker = ap (λ l. l.checker) others in
         let passed : new.passed ≡ old.passed = ap (λ l. l.passed) others in
@@ -29,7 +29,7 @@ module _ {S C V : Type 0} (s : FrameBox S) (c : FrameBox C) (v : Device V)
           reads = rw (device, read) checks.reads;
         }
 
-    pub ready-same : s.able new.sealer → IsReady s c v old → IsReady s c v new
+    pub ready-same : s.able new.sealer → ListsAreReady s c v old → ListsAreReady s c v new
     ready-same able ready =
         let checker : new.checker ≡ old.checker = ap (λ l. l.checker) others in
         let device : new.device ≡ old.device = ap (λ l. l.device) others in

@@ -25,8 +25,8 @@ use Rattle.session_lists.specs.Comparison.{Compares, expected_reads}
 use Rattle.session_lists.specs.{FrameBox.kept_frames, FrameList.Holds, Lines.TakesOn, Lines.HearsOn}
 use Rattle.session_lists.specs.ReplayLists.{KeepsFrames}
 use Rattle.session_lists.specs.SessionListed.{MayListSession, ListsSession}
-use Rattle.session_lists.specs.SessionLists.{Setups, HasSession, TakesParts, IsOpen, parting}
-use Rattle.session_lists.specs.SessionLists.{session_taken, expected_of, link_of, rest_after}
+use Rattle.session_lists.specs.SessionLists.{SetupsOfLists, HasSession, TakesParts, IsOpenList, parting}
+use Rattle.session_lists.specs.SessionLists.{session_taken, expected_of, link_of_lists, rest_after}
 use Rattle.session_lists.specs.{SessionLists.rest_left, declared.comparison.Comparison.Comparison}
 use Rattle.session_lists.specs.declared.frame_box.{FrameBox.Ghosts as FrameBox, Numbered.Numbered}
 use Rattle.session_lists.specs.declared.frame_list.FrameList.{FrameList}
@@ -67,7 +67,7 @@ hears-on v t1 t2 same passed frames holds old new before after line more takes c
     (sym same) compares) holds)
 
 module _ {S C V : Type 0} (s : FrameBox S) (c : FrameBox C) (v : Device V)
-    (old : SessionLists S C V) (open_old : IsOpen s c v old) (run : TickRun) (k : ℕ)
+    (old : SessionLists S C V) (open_old : IsOpenList s c v old) (run : TickRun) (k : ℕ)
     (some : 0 < k) (within : k ≤ length (run_ticks run)) where
   size : length (ticks_in (take k (run_items run))) ≡ length (take k (run_ticks run))
   size = ap length (ticks_in-front run k)
@@ -141,7 +141,7 @@ module _ {S C V : Type 0} (s : FrameBox S) (c : FrameBox C) (v : Device V)
                 (sym (front-there items run k 0 (λ is. omega (arith, one, is)))) parts.seals;
             passes = subst (KeepsFrames c checker passed setups.got)
                 (sym (link-here setups.timing.link_rest items run k one))
-                (takes.kept setups.got (link_of setups.timing.link_rest items) parts.passes);
+                (takes.kept setups.got (link_of_lists setups.timing.link_rest items) parts.passes);
             reads = λ few. compares-nothing v old.device old.read _ _ _ _ parts.nothing
                 (part-empty 2 items (omega (arith, one)))
                 (front-there items run k 2 (λ is. omega (arith, one, is)))
@@ -194,7 +194,7 @@ module _ {S C V : Type 0} (s : FrameBox S) (c : FrameBox C) (v : Device V)
                 (ap (expected_of s c v setups) link)
                 (front-here items run k 2 (omega (arith, least, few, same)))
                 (hears-on v old.timing setups.timing parts.timing_is old.passed
-                ((c.numbering setups.got).frames (link_of setups.timing.link_rest items))
+                ((c.numbering setups.got).frames (link_of_lists setups.timing.link_rest items))
                 parts.passes.holds old.device device old.read read (part 2 items)
                 (take k (run_ticks run)) takes (parts.reads (omega (arith, few, same))));
             nothing = parts.nothing;
@@ -240,7 +240,7 @@ module _ {S C V : Type 0} (s : FrameBox S) (c : FrameBox C) (v : Device V) where
   }
 
   -- A mark that doesn't end the link changes only the place.
-  pub gives-mark : (lists : SessionLists S C V) (p : Place) → IsOpen s c v lists
+  pub gives-mark : (lists : SessionLists S C V) (p : Place) → IsOpenList s c v lists
       → (lists.place ≡ place.Second → ⊥) → p ≡ place_behind lists.place
       → Gives (parting s c v) lists (record lists { place = p }) (mark ∷ []) (Ok tt)
   gives-mark lists p able other is =
@@ -282,7 +282,7 @@ module _ {S C V : Type 0} (s : FrameBox S) (c : FrameBox C) (v : Device V) where
 
   -- At the mark that ends the link, the lists go on if the receiver has taken the link's silence.
   pub gives-end : (lists : SessionLists S C V) (checker : C) (passed : FrameList Numbered)
-      → IsOpen s c v lists → lists.place ≡ place.Second → c.able checker
+      → IsOpenList s c v lists → lists.place ≡ place.Second → c.able checker
       → TakesOn c lists.checker checker lists.passed passed (silent lists.timing.link_rest)
       → Gives (parting s c v) lists
       (record lists { checker = checker; passed = passed; place = place.Third }) (mark ∷ []) (Ok tt)
@@ -301,8 +301,8 @@ module _ {S C V : Type 0} (s : FrameBox S) (c : FrameBox C) (v : Device V) where
               seals = subst (KeepsFrames s lists.sealer lists.sealed setups.sent)
                   (sym (part-mark 0 items)) parts.seals;
               passes = subst (KeepsFrames c checker passed setups.got)
-                  (ap (λ l. link_of rest items ++ l) silence ∙ sym (link-ends rest items one))
-                  (takes.kept setups.got (link_of rest items) parts.passes);
+                  (ap (λ l. link_of_lists rest items ++ l) silence ∙ sym (link-ends rest items one))
+                  (takes.kept setups.got (link_of_lists rest items) parts.passes);
               reads = λ few. compares-nothing v lists.device lists.read _ _ _ _ parts.nothing
                   (part-empty 2 items (omega (arith, one))) (part-mark 2 items)
                   (parts.reads (omega (arith, one)));
@@ -330,7 +330,7 @@ module _ {S C V : Type 0} (s : FrameBox S) (c : FrameBox C) (v : Device V) where
 -- ---- the silence after the lines of both devices
 
 module _ {S C V : Type 0} (s : FrameBox S) (c : FrameBox C) (v : Device V)
-    (old : SessionLists S C V) (open_old : IsOpen s c v old)
+    (old : SessionLists S C V) (open_old : IsOpenList s c v old)
     (sealer : S) (sealed : FrameList Numbered) (device : V) (read : Comparison)
     (able_sealer : s.able sealer)
     (seals : TakesOn s old.sealer sealer old.sealed sealed (silent old.timing.sent_rest))
@@ -339,7 +339,7 @@ module _ {S C V : Type 0} (s : FrameBox S) (c : FrameBox C) (v : Device V)
   abbrev rested : SessionLists S C V
   rested = record old { sealer = sealer; sealed = sealed; device = device; read = read }
 
-  pub rests-have : (setups : Setups) (sent link received : List Tick)
+  pub rests-have : (setups : SetupsOfLists) (sent link received : List Tick)
       → HasSession s c v old setups sent link received
       → HasSession s c v rested setups (sent ++ silent setups.timing.sent_rest) link
       (received ++ silent setups.timing.received_rest)
@@ -360,7 +360,7 @@ module _ {S C V : Type 0} (s : FrameBox S) (c : FrameBox C) (v : Device V)
         timing_is = has.timing_is;
       }
 
-  pub rests-open : IsOpen s c v rested
+  pub rests-open : IsOpenList s c v rested
   rests-open = record {
     sealer = able_sealer;
     checker = open_old.checker;
@@ -377,7 +377,7 @@ module _ {S C V : Type 0} (s : FrameBox S) (c : FrameBox C) (v : Device V)
 -- ---- three recordings in memory
 
 module _ {S C V : Type 0} (s : FrameBox S) (c : FrameBox C) (v : Device V)
-    (old : SessionLists S C V) (open_old : IsOpen s c v old) (here : old.place ≡ place.First)
+    (old : SessionLists S C V) (open_old : IsOpenList s c v old) (here : old.place ≡ place.First)
     (sealer : S) (sealed : FrameList Numbered) (middle checker : C)
     (before passed : FrameList Numbered) (device : V) (read : Comparison)
     (sent link received : List Tick) (able_sealer : s.able sealer) (able_checker : c.able checker)
@@ -396,7 +396,7 @@ module _ {S C V : Type 0} (s : FrameBox S) (c : FrameBox C) (v : Device V)
     place = place.Third;
   }
 
-  pub lines-have : v.reads [] ≡ [] → (setups : Setups) → HasSession s c v old setups [] [] []
+  pub lines-have : v.reads [] ≡ [] → (setups : SetupsOfLists) → HasSession s c v old setups [] [] []
       → HasSession s c v now setups sent (link ++ silent setups.timing.link_rest) received
   lines-have nothing setups has =
       let all = link ++ silent setups.timing.link_rest in
@@ -415,7 +415,7 @@ module _ {S C V : Type 0} (s : FrameBox S) (c : FrameBox C) (v : Device V)
         timing_is = has.timing_is;
       }
 
-  pub lines-open : IsOpen s c v now
+  pub lines-open : IsOpenList s c v now
   lines-open = record {
     sealer = able_sealer;
     checker = able_checker;
@@ -457,7 +457,7 @@ module _ {S C V : Type 0} (s : FrameBox S) (c : FrameBox C) (v : Device V)
 
     -- After a whole input, the lists are those of the three recordings, the second of which is
     -- followed by the link's silence.
-    pub session-whole : (driven : HasDriven Whole) (setups : Setups)
+    pub session-whole : (driven : HasDriven Whole) (setups : SetupsOfLists)
         → HasSession s c v old setups [] [] []
         → HasSession s c v new setups (part 0 driven.takes.told)
         (part 1 driven.takes.told ++ silent setups.timing.link_rest) (part 2 driven.takes.told)
@@ -473,7 +473,7 @@ module _ {S C V : Type 0} (s : FrameBox S) (c : FrameBox C) (v : Device V)
           timing_is = has.timing_is;
         }) in
         let marks : marks_in driven.items ≡ 2 = ap marks_in told ∙ whole.right.marked in
-        let link : link_of setups.timing.link_rest driven.items
+        let link : link_of_lists setups.timing.link_rest driven.items
         ≡ part 1 driven.items ++ silent setups.timing.link_rest =
         ap (λ m. part 1 driven.items ++ rest_after setups.timing.link_rest m) marks in
         subst (λ items. HasSession s c v new setups (part 0 items)

@@ -4,7 +4,7 @@ use Rattle.link_format.specs.{NumberedFrame.NumberedFrame, Setup.Setup}
 use Rattle.session_lists.proofs.HeardRuns.{silent_on}
 use Rattle.session_lists.specs.Comparison.{Compares, Found, expected_reads}
 use Rattle.session_lists.specs.{FrameBox.kept_frames, FrameList.Holds, FrameList.list_len}
-use Rattle.session_lists.specs.{Lines.GoesOn, Lines.TakesOn, Lines.HearsOn, ReplayLists.KeepsFrames}
+use Rattle.session_lists.specs.{Lines.ListsGoOn, Lines.TakesOn, Lines.HearsOn, ReplayLists.KeepsFrames}
 use Rattle.session_lists.specs.{ReplayLists.StepsInto, declared.comparison.Comparison.Comparison}
 use Rattle.session_lists.specs.declared.frame_box.{FrameBox.Ghosts as FrameBox, Numbered.Numbered}
 use Rattle.{session_lists.specs.declared.frame_list.FrameList.FrameList, std.proofs.Common.◌≡◌}
@@ -16,7 +16,7 @@ use Rattle.yasir_ticks.specs.declared.tick.Tick.{Tick, TheVariants.Silent}
 module _ {O S L : Type 0} (taken : S → ℕ) (size : L → ℕ)
     (keeps : O → S → L → List Tick → Type 0) where
   abbrev On : S → S → L → L → List Tick → Type 0
-  On = GoesOn taken size keeps
+  On = ListsGoOn taken size keeps
 
   pub goes-nowhere : (value : S) (list : L) → On value value list list []
   goes-nowhere value list = record {

@@ -2,7 +2,7 @@
 use Rattle.std.specs.Prelude.{◌≡◌, ℕ, List, [], ◌∷◌, ◌++◌, length, Option, Some, None, map}
 use Rattle.yasir_ticks.specs.declared.tick.Tick.{Tick}
 use Rattle.link_format.specs.NumberedFrame.{NumberedFrame}
-use Rattle.session_lists.specs.FrameList.{Kept}
+use Rattle.session_lists.specs.FrameList.{KeptFrames}
 use Rattle.session_lists.specs.declared.frame_box.Numbered.{Numbered}
 use Rattle.session_lists.specs.declared.frame_box.FrameStep.{FrameStep}
 
@@ -33,12 +33,12 @@ pub record AnswersFrameRun (box : Numbering) (line run answer : List Tick) : Typ
   pub frames : box.frames (line ++ run) ≡ box.frames line
 
 -- a frame as a list in memory keeps it
-abbrev pub kept_numbered : NumberedFrame → Kept Numbered
+abbrev pub kept_numbered : NumberedFrame → KeptFrames Numbered
 kept_numbered f = record {
   head = record { number = f.number; start = f.start };
   frame = f.frame;
 }
 
 -- these frames, each as a list in memory keeps it
-abbrev pub kept_frames : List NumberedFrame → List (Kept Numbered)
+abbrev pub kept_frames : List NumberedFrame → List (KeptFrames Numbered)
 kept_frames frames = map kept_numbered frames

@@ -4,13 +4,13 @@ use Rattle.session_lists.specs.declared.frame_list.Entry.{Entry}
 use Rattle.session_lists.specs.declared.frame_list.FrameList.{FrameList}
 
 -- a frame, and what is kept of it besides its bytes
-pub record Kept (K : Type 0) : Type 0 where
+pub record KeptFrames (K : Type 0) : Type 0 where
   pub head : K
   pub frame : List ℕ
 
 -- The frames of these entries. Their bytes follow one another in `bytes`, from the place `start`
 -- on.
-abbrev pub frames_from : {K : Type 0} → ℕ → List (Entry K) → List ℕ → List (Kept K)
+abbrev pub frames_from : {K : Type 0} → ℕ → List (Entry K) → List ℕ → List (KeptFrames K)
 frames_from start [] bytes = []
 frames_from start (e ∷ entries) bytes =
     record { head = e.head; frame = take (e.end - start) (drop start bytes) }
@@ -29,14 +29,14 @@ AreEnds start (e ∷ entries) end =
 
 -- Holds if the bytes of the list are exactly those of its frames, each of which has at most
 -- `longest_frame` bytes.
-abbrev pub IsWhole : {K : Type 0} → FrameList K → Type 0
-IsWhole list = AreEnds 0 list.entries.items (length list.bytes.items)
+abbrev pub ListIsWhole : {K : Type 0} → FrameList K → Type 0
+ListIsWhole list = AreEnds 0 list.entries.items (length list.bytes.items)
 
 -- how many frames there are
 abbrev pub list_len : {K : Type 0} → FrameList K → ℕ
 list_len list = length list.entries.items
 
 -- The list holds these frames.
-pub record Holds {K : Type 0} (list : FrameList K) (frames : List (Kept K)) : Type 0 where
+pub record Holds {K : Type 0} (list : FrameList K) (frames : List (KeptFrames K)) : Type 0 where
   pub is : frames_from 0 list.entries.items list.bytes.items ≡ frames
-  pub whole : IsWhole list
+  pub whole : ListIsWhole list

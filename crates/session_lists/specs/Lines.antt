@@ -16,7 +16,7 @@ use Rattle.session_lists.specs.declared.frame_list.FrameList.{FrameList}
 -- Holds if the ticks `more` were taken and counted, at most as many frames as ticks were added, and
 -- whatever line the value and what is kept represented before, they now represent that line
 -- followed by these ticks.
-pub record GoesOn {O S L : Type 0} (taken : S → ℕ) (size : L → ℕ)
+pub record ListsGoOn {O S L : Type 0} (taken : S → ℕ) (size : L → ℕ)
     (keeps : O → S → L → List Tick → Type 0) (old new : S) (before after : L)
     (more : List Tick) : Type 0 where
   pub counted : taken new ≡ taken old + length more
@@ -27,14 +27,14 @@ pub record GoesOn {O S L : Type 0} (taken : S → ℕ) (size : L → ℕ)
 -- Holds if a box, whatever its setup, takes these ticks too, and its frames are kept.
 abbrev pub TakesOn : {B : Type 0} → FrameBox B → B → B → FrameList Numbered → FrameList Numbered
     → List Tick → Type 0
-TakesOn box = GoesOn box.taken (λ (list : FrameList Numbered). list_len list)
+TakesOn box = ListsGoOn box.taken (λ (list : FrameList Numbered). list_len list)
     (λ (setup : Setup) value list line. KeepsFrames box value list setup line)
 
 -- Holds if a device hears these ticks too, and what it reads is compared with what passed `late`
 -- ticks earlier.
 abbrev pub HearsOn : {V : Type 0} → Device V → ℕ → FrameList Numbered → V → V → Comparison
     → Comparison → List Tick → Type 0
-HearsOn device late passed = GoesOn device.taken (λ (comparison : Comparison). comparison.read)
+HearsOn device late passed = ListsGoOn device.taken (λ (comparison : Comparison). comparison.read)
     (λ (passed_ones : List NumberedFrame) value comparison line.
     Holds passed (kept_frames passed_ones)
     → Compares device value comparison (expected_reads late passed_ones) line)

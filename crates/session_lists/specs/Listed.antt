@@ -8,7 +8,7 @@ use Rattle.tick_drive.specs.declared.end.End.{End}
 use Rattle.tick_drive.specs.declared.end.End.TheVariants.{Whole}
 use Rattle.tick_drive.specs.Drive.{StopsForMemory}
 use Rattle.session_lists.specs.Recordings.{before_mark, behind_mark}
-use Rattle.session_lists.specs.ReplayLists.{HasListed, IsReady, lists_taken}
+use Rattle.session_lists.specs.ReplayLists.{HasListed, ListsAreReady, lists_taken}
 use Rattle.session_lists.specs.declared.frame_box.FrameBox.{Ghosts as FrameBox}
 use Rattle.session_lists.specs.declared.replay_lists.ReplayLists.{ReplayLists}
 
@@ -21,7 +21,7 @@ module _ {S C V : Type 0} (s : FrameBox S) (c : FrameBox C) (v : Device V) where
   -- Lists that have taken no item, with some setup.
   pub record MayList (lists : ReplayLists S C V) : Type 0 where
     pub none : lists_taken s c v lists ≡ 0
-    pub ready : IsReady s c v lists
+    pub ready : ListsAreReady s c v lists
     pub unmarked : lists.marked ≡ false
     pub setup : Setup
     pub listed : HasListed s c v lists setup [] []

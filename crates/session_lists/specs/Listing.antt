@@ -7,7 +7,7 @@ use Rattle.tick_drive.specs.Input.{Takes, IsWhole}
 use Rattle.tick_drive.specs.declared.consumer.Stop.TheVariants.{NoMemory}
 use Rattle.tick_drive.specs.declared.end.End.{End}
 use Rattle.tick_drive.specs.declared.end.End.TheVariants.{Whole}
-use Rattle.session_lists.specs.TickLists.{HoldsParts, ticks_taken}
+use Rattle.session_lists.specs.TickLists.{HoldsParts, ticks_listed}
 use Rattle.session_lists.specs.declared.tick_lists.TickLists.{TickLists}
 
 -- What the lists promise as a consumer: they stop only if there is no memory, and they write
@@ -17,7 +17,7 @@ listing = record {
   Origin = Unit {0};
   stands = λ lists origin items. HoldsParts lists items;
   stopped = λ lists stop origin items. stop ≡ NoMemory;
-  taken = ticks_taken;
+  taken = ticks_listed;
   able = λ lists. Unit {0};
   went = λ old new result. ⊤;
 }

@@ -5,10 +5,10 @@ use Rattle.yasir_ticks.specs.Ticks.Item.{tick, mark}
 use Rattle.yasir_ticks.specs.declared.tick.Tick.{Tick}
 
 -- whether one of these items is a mark
-abbrev pub has_mark : List Item → Bool
-has_mark [] = false
-has_mark (tick t ∷ items) = has_mark items
-has_mark (mark ∷ items) = true
+abbrev pub lists_have_mark : List Item → Bool
+lists_have_mark [] = false
+lists_have_mark (tick t ∷ items) = lists_have_mark items
+lists_have_mark (mark ∷ items) = true
 
 -- the ticks before the first mark, or all of them if there is no mark
 abbrev pub before_mark : List Item → List Tick

@@ -8,8 +8,8 @@ use Rattle.device_model.specs.declared.device.Device.{Ghosts as Device}
 use Rattle.tick_drive.specs.Consumers.{Consuming}
 use Rattle.tick_drive.specs.declared.consumer.Stop.TheVariants.{NoMemory}
 use Rattle.session_lists.specs.FrameBox.{kept_frames}
-use Rattle.session_lists.specs.FrameList.{Kept, Holds}
-use Rattle.session_lists.specs.Recordings.{has_mark, before_mark, behind_mark}
+use Rattle.session_lists.specs.FrameList.{KeptFrames, Holds}
+use Rattle.session_lists.specs.Recordings.{lists_have_mark, before_mark, behind_mark}
 use Rattle.session_lists.specs.declared.frame_box.FrameBox.{Ghosts as FrameBox}
 use Rattle.session_lists.specs.declared.frame_box.Numbered.{Numbered}
 use Rattle.session_lists.specs.declared.frame_list.FrameList.{FrameList}
@@ -30,11 +30,11 @@ pub record StepsInto {B : Type 0} (box : FrameBox B) (value : B) (list : FrameLi
       ≡ (box.numbering setup).other_line line ++ tick ∷ []
 
 -- a frame that was read, as a list in memory keeps it
-abbrev pub kept_read : FrameRead → Kept ℕ
+abbrev pub kept_read : FrameRead → KeptFrames ℕ
 kept_read f = record { head = f.start; frame = f.frame }
 
 -- these frames that were read, each as a list in memory keeps it
-abbrev pub kept_reads : List FrameRead → List (Kept ℕ)
+abbrev pub kept_reads : List FrameRead → List (KeptFrames ℕ)
 kept_reads reads = map kept_read reads
 
 -- The device has heard this line, and the list holds what it has read.
@@ -45,7 +45,7 @@ pub record Listens {V : Type 0} (device : Device V) (value : V) (list : FrameLis
 
 module _ {S C V : Type 0} (s : FrameBox S) (c : FrameBox C) (v : Device V) where
   -- The receiver has taken this link, and the device has heard the receiver's line.
-  pub record Checks (lists : ReplayLists S C V) (setup : Setup) (link : List Tick) : Type 0 where
+  pub record ChecksLists (lists : ReplayLists S C V) (setup : Setup) (link : List Tick) : Type 0 where
     pub passes : KeepsFrames c lists.checker lists.passed setup link
     pub reads : Listens v lists.device lists.read ((c.numbering setup).other_line link)
 
@@ -54,7 +54,7 @@ module _ {S C V : Type 0} (s : FrameBox S) (c : FrameBox C) (v : Device V) where
   pub record HasListed (lists : ReplayLists S C V) (setup : Setup) (device link : List Tick) :
       Type 0 where
     pub seals : KeepsFrames s lists.sealer lists.sealed setup device
-    pub checks : Checks lists setup link
+    pub checks : ChecksLists lists setup link
 
   -- how many ticks were taken of both recordings
   abbrev pub lists_taken : ReplayLists S C V → ℕ
@@ -62,7 +62,7 @@ module _ {S C V : Type 0} (s : FrameBox S) (c : FrameBox C) (v : Device V) where
 
   -- Both boxes may take a tick, and the device has heard a tick for each one that the receiver has
   -- taken.
-  pub record IsReady (lists : ReplayLists S C V) : Type 0 where
+  pub record ListsAreReady (lists : ReplayLists S C V) : Type 0 where
     pub sealer : s.able lists.sealer
     pub checker : c.able lists.checker
     pub taken : v.taken lists.device ≡ c.taken lists.checker
@@ -72,7 +72,7 @@ module _ {S C V : Type 0} (s : FrameBox S) (c : FrameBox C) (v : Device V) where
   pub record ListsItems (lists : ReplayLists S C V) (setup : Setup) (items : List Item) :
       Type 0 where
     pub listed : HasListed lists setup (before_mark items) (behind_mark items)
-    pub marked : lists.marked ≡ has_mark items
+    pub marked : lists.marked ≡ lists_have_mark items
 
   -- Holds if the boxes took the items `more`, whatever they had taken before, counted their ticks,
   -- and may take others.
@@ -80,7 +80,7 @@ module _ {S C V : Type 0} (s : FrameBox S) (c : FrameBox C) (v : Device V) where
     pub moved : (setup : Setup) (items : List Item) → ListsItems old setup items
         → ListsItems new setup (items ++ more)
     pub counted : lists_taken new ≡ lists_taken old + length (ticks_in more)
-    pub ready : IsReady new
+    pub ready : ListsAreReady new
 
   -- What holds for this consumer: it stops only if there is no memory, and writes nothing.
   abbrev pub listing : Consuming (ReplayLists S C V)
@@ -89,6 +89,6 @@ module _ {S C V : Type 0} (s : FrameBox S) (c : FrameBox C) (v : Device V) where
     stands = ListsItems;
     stopped = λ lists stop setup items. stop ≡ NoMemory;
     taken = lists_taken;
-    able = IsReady;
+    able = ListsAreReady;
     went = λ old new result. ⊤;
   }

@@ -9,7 +9,7 @@ use Rattle.tick_drive.specs.declared.end.End.TheVariants.{Whole}
 use Rattle.tick_drive.specs.Drive.{StopsForMemory}
 use Rattle.session_lists.specs.Parts.{part}
 use Rattle.session_lists.specs.declared.tick_lists.Place.TheVariants.{First}
-use Rattle.session_lists.specs.SessionLists.{HasSession, IsOpen, Setups, all_rests, boxes_taken}
+use Rattle.session_lists.specs.SessionLists.{HasSession, IsOpenList, SetupsOfLists, all_rests, boxes_taken}
 use Rattle.session_lists.specs.SessionLists.{session_taken}
 use Rattle.session_lists.specs.declared.frame_box.FrameBox.{Ghosts as FrameBox}
 use Rattle.session_lists.specs.declared.session_lists.SessionLists.{SessionLists}
@@ -18,20 +18,20 @@ module _ {S C V : Type 0} (s : FrameBox S) (c : FrameBox C) (v : Device V) where
   -- Lists that have taken no item, with some setup.
   pub record MayListSession (lists : SessionLists S C V) : Type 0 where
     pub none : boxes_taken s c v lists ≡ 0
-    pub able : IsOpen s c v lists
+    pub able : IsOpenList s c v lists
     pub first : lists.place ≡ First
     pub short : all_rests lists.timing ≤ 1000
     pub nothing : v.reads [] ≡ []
-    pub setups : Setups
+    pub setups : SetupsOfLists
     pub has : HasSession s c v lists setups [] [] []
 
   -- The lists are those of these recordings, each followed by its silence.
   pub record ListsLines (old new : SessionLists S C V) (device link received : List Tick) :
       Type 0 where
-    pub has : (setups : Setups) → HasSession s c v old setups [] [] []
+    pub has : (setups : SetupsOfLists) → HasSession s c v old setups [] [] []
         → HasSession s c v new setups (device ++ silent setups.timing.sent_rest)
         (link ++ silent setups.timing.link_rest) (received ++ silent setups.timing.received_rest)
-    pub able : IsOpen s c v new
+    pub able : IsOpenList s c v new
     pub few : session_taken s c v new < 2 ^ 32
 
   -- Holds if the input is a whole text with two marks, and the lists are those of the three

@@ -20,7 +20,7 @@ use Rattle.session_lists.specs.declared.session_lists.Timing.{Timing}
 
 -- how the two boxes of a session are set up, how late the receiver is, and how many silent ticks
 -- follow each recording
-pub record Setups : Type 0 where
+pub record SetupsOfLists : Type 0 where
   pub sent : Setup
   pub got : Setup
   pub timing : Timing
@@ -37,8 +37,8 @@ rest_after rest (suc zero) = []
 rest_after rest (suc (suc more)) = silent rest
 
 -- what the receiver has taken when these items have come
-abbrev pub link_of : ℕ → List Item → List Tick
-link_of rest items = part 1 items ++ rest_after rest (marks_in items)
+abbrev pub link_of_lists : ℕ → List Item → List Tick
+link_of_lists rest items = part 1 items ++ rest_after rest (marks_in items)
 
 -- how many ticks of the link's silence are still to come while the next tick belongs to this place
 abbrev pub rest_left : ℕ → Place → ℕ
@@ -49,13 +49,13 @@ rest_left rest place.None = 0
 
 module _ {S C V : Type 0} (s : FrameBox S) (c : FrameBox C) (v : Device V) where
   -- the frames that should be read if this is the link
-  abbrev pub expected_of : Setups → List Tick → List FrameRead
+  abbrev pub expected_of : SetupsOfLists → List Tick → List FrameRead
   expected_of setups link =
       expected_reads setups.timing.late ((c.numbering setups.got).frames link)
 
   -- Holds if the lists hold what is sealed of the line `device` and what passes of the line `link`,
   -- and what is read of the line `received` was compared with what has passed.
-  pub record HasSession (lists : SessionLists S C V) (setups : Setups)
+  pub record HasSession (lists : SessionLists S C V) (setups : SetupsOfLists)
       (device link received : List Tick) : Type 0 where
     pub seals : KeepsFrames s lists.sealer lists.sealed setups.sent device
     pub passes : KeepsFrames c lists.checker lists.passed setups.got link
@@ -65,7 +65,7 @@ module _ {S C V : Type 0} (s : FrameBox S) (c : FrameBox C) (v : Device V) where
   -- Holds if the lists are those of some recordings, and each frame that passed, read as late as
   -- the receiver is, starts at a tick below 2 ^ 64.
   pub record AreReadInTime (lists : SessionLists S C V) : Type 0 where
-    pub setups : Setups
+    pub setups : SetupsOfLists
     pub device : List Tick
     pub link : List Tick
     pub received : List Tick
@@ -76,14 +76,14 @@ module _ {S C V : Type 0} (s : FrameBox S) (c : FrameBox C) (v : Device V) where
   -- The boxes and the device have taken these items, each its own part. After a third mark the
   -- device hears ticks that belong to none of the three parts, and nothing is said of what it
   -- reads.
-  pub record TakesParts (lists : SessionLists S C V) (setups : Setups) (items : List Item) :
+  pub record TakesParts (lists : SessionLists S C V) (setups : SetupsOfLists) (items : List Item) :
       Type 0 where
     pub seals : KeepsFrames s lists.sealer lists.sealed setups.sent (part 0 items)
     pub passes : KeepsFrames c lists.checker lists.passed setups.got
-        (link_of setups.timing.link_rest items)
+        (link_of_lists setups.timing.link_rest items)
     pub reads : marks_in items ≤ 2
         → Compares v lists.device lists.read
-        (expected_of setups (link_of setups.timing.link_rest items)) (part 2 items)
+        (expected_of setups (link_of_lists setups.timing.link_rest items)) (part 2 items)
     pub nothing : v.reads [] ≡ []
     pub place_is : lists.place ≡ place_after (marks_in items)
     pub timing_is : lists.timing ≡ setups.timing
@@ -105,7 +105,7 @@ module _ {S C V : Type 0} (s : FrameBox S) (c : FrameBox C) (v : Device V) where
 
   -- Both boxes may take a tick, each list has at most as many frames as its box has taken ticks,
   -- and the device has read at most as many frames as it has heard ticks.
-  pub record IsOpen (lists : SessionLists S C V) : Type 0 where
+  pub record IsOpenList (lists : SessionLists S C V) : Type 0 where
     pub sealer : s.able lists.sealer
     pub checker : c.able lists.checker
     pub few_sealed : list_len lists.sealed ≤ s.taken lists.sealer
@@ -116,10 +116,10 @@ module _ {S C V : Type 0} (s : FrameBox S) (c : FrameBox C) (v : Device V) where
   -- What holds for this consumer: it stops only if there is no memory, and writes nothing.
   abbrev pub parting : Consuming (SessionLists S C V)
   parting = record {
-    Origin = Setups;
+    Origin = SetupsOfLists;
     stands = TakesParts;
     stopped = λ lists stop setups items. stop ≡ NoMemory;
     taken = session_taken;
-    able = IsOpen;
+    able = IsOpenList;
     went = λ old new result. ⊤;
   }

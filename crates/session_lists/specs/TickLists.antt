@@ -21,8 +21,8 @@ abbrev pub ticks_third : TickLists → List Tick
 ticks_third lists = lists.third.items
 
 -- how many ticks were taken, of all recordings together
-abbrev pub ticks_taken : TickLists → ℕ
-ticks_taken lists = lists.taken
+abbrev pub ticks_listed : TickLists → ℕ
+ticks_listed lists = lists.taken
 
 -- Holds if these items were taken: each list holds the ticks of its part.
 pub record HoldsParts (lists : TickLists) (items : List Item) : Type 0 where
@@ -32,11 +32,11 @@ pub record HoldsParts (lists : TickLists) (items : List Item) : Type 0 where
   pub place_is : lists.place ≡ place_after (marks_in items)
 
 -- the first list after a tick: with that tick at its end if the tick belongs to it
-abbrev pub with_first : Place → Tick → List Tick → List Tick
-with_first place.First t list = list ++ t ∷ []
-with_first place.Second t list = list
-with_first place.Third t list = list
-with_first place.None t list = list
+abbrev pub with_first_tick : Place → Tick → List Tick → List Tick
+with_first_tick place.First t list = list ++ t ∷ []
+with_first_tick place.Second t list = list
+with_first_tick place.Third t list = list
+with_first_tick place.None t list = list
 
 -- the second list after a tick: with that tick at its end if the tick belongs to it
 abbrev pub with_second : Place → Tick → List Tick → List Tick
@@ -54,8 +54,8 @@ with_third place.None t list = list
 
 -- Holds if a tick was added to the list that it belongs to, if any, and was counted.
 pub record TakesTick (old new : TickLists) (t : Tick) : Type 0 where
-  pub first_is : ticks_first new ≡ with_first old.place t (ticks_first old)
+  pub first_is : ticks_first new ≡ with_first_tick old.place t (ticks_first old)
   pub second_is : ticks_second new ≡ with_second old.place t (ticks_second old)
   pub third_is : ticks_third new ≡ with_third old.place t (ticks_third old)
   pub place_is : new.place ≡ old.place
-  pub counted : ticks_taken new ≡ ticks_taken old + 1
+  pub counted : ticks_listed new ≡ ticks_listed old + 1

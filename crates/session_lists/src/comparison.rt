@@ -8,7 +8,7 @@ ghost use Rattle.link_format.specs.NumberedFrame.{NumberedFrame};
 ghost use Rattle.session_lists.specs.Comparison.{Found, IsReadInTime, difference_of, expected_reads};
 ghost use Rattle.session_lists.specs.Comparison.{first_difference, is_next};
 ghost use Rattle.session_lists.specs.FrameBox.{kept_frames};
-ghost use Rattle.session_lists.specs.FrameList.{Holds, IsWhole, longest_frame};
+ghost use Rattle.session_lists.specs.FrameList.{Holds, ListIsWhole, longest_frame};
 
 use crate::frame_box::Numbered;
 use crate::frame_list::FrameList;
@@ -39,7 +39,7 @@ pub(crate) struct Read<'a> {
 // Whether this frame is the one that passed at `place`, read `late` ticks later. False if no frame
 // passed there.
 fn is_next(passed: Passed<'_>, place: u64, read: Read<'_>) -> bool
-    requires { IsWhole passed.frames.now }
+    requires { ListIsWhole passed.frames.now }
     ensures { (passed_ones : List NumberedFrame)
         → Holds passed.entry.frames.now (kept_frames passed_ones)
         → result ≡ is_next (drop place (expected_reads passed.entry.late passed_ones))
@@ -63,7 +63,7 @@ fn is_next(passed: Passed<'_>, place: u64, read: Read<'_>) -> bool
 // Returns the frame that passed at `place`, as it is read `late` ticks later. `None` if no frame
 // passed there.
 fn expected_at(late: u64, passed: &FrameList<Numbered>, place: u64) -> Option<ReadFrame>
-    requires whole { IsWhole passed.now }
+    requires whole { ListIsWhole passed.now }
     requires in_time { IsReadInTime late passed.now }
     ensures { (passed_ones : List NumberedFrame) → Holds passed.now (kept_frames passed_ones)
         → result ≡ slice_get (expected_reads late passed_ones) place }
@@ -118,7 +118,7 @@ impl Comparison {
     #[inline]
     pub(crate) fn take(&mut self, passed: Passed<'_>, read: Read<'_>)
         requires room { self.old.read < MAX_TICKS }
-        requires whole { IsWhole passed.frames.now }
+        requires whole { ListIsWhole passed.frames.now }
         requires short { length read.bytes.now ≤ longest_frame }
         ensures counted { self.new.read ≡ self.old.read + 1 }
         ensures found { (passed_ones : List NumberedFrame) (reads : List FrameRead)
@@ -183,7 +183,7 @@ impl Comparison {
     /// Returns the first difference between the frames that passed, each read `late` ticks later,
     /// and the frames that were read. `None` if there is no difference.
     pub(crate) fn difference(&self, late: u64, passed: &FrameList<Numbered>) -> Option<Difference>
-        requires whole { IsWhole passed.now }
+        requires whole { ListIsWhole passed.now }
         requires in_time { IsReadInTime late passed.now }
         ensures { (passed_ones : List NumberedFrame) (reads : List FrameRead)
             → Holds passed.now (kept_frames passed_ones)

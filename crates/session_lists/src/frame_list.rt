@@ -1,7 +1,7 @@
 //! Frames kept in memory, all their bytes in one buffer.
 ghost use Rattle.std.specs.Prelude.{◌≡◌, ◌+◌, ◌<◌, ◌≤◌, ◌-◌, take, drop, List, [], ◌∷◌, ◌++◌};
 ghost use Rattle.std.specs.Prelude.{length, OnOk, slice_index_or};
-ghost use Rattle.session_lists.specs.FrameList.{Kept, Holds, IsWhole, list_len, longest_frame};
+ghost use Rattle.session_lists.specs.FrameList.{KeptFrames, Holds, ListIsWhole, list_len, longest_frame};
 
 use std::alloc::Global;
 use yasir_io::NoMemory;
@@ -43,7 +43,7 @@ impl<K: Copy + Drop> FrameList<K> {
     #[inline(never)]
     pub fn push(&mut self, head: K, bytes: &[u8]) -> Result<(), NoMemory>
         requires { length bytes.now ≤ longest_frame }
-        ensures kept { OnOk result ((frames : List (Kept K)) → Holds self.old frames
+        ensures kept { OnOk result ((frames : List (KeptFrames K)) → Holds self.old frames
             → Holds self.new (frames ++ record { head = head; frame = bytes.now } ∷ [])) }
         ensures grows { OnOk result (list_len self.new ≡ list_len self.old + 1) }
     {
@@ -63,7 +63,7 @@ impl<K: Copy + Drop> FrameList<K> {
     /// How many frames there are.
     pub fn len(&self) -> usize
         ensures value { result ≡ list_len self.now }
-        ensures frames { (frames : List (Kept K)) → Holds self.now frames → result ≡ length frames }
+        ensures frames { (frames : List (KeptFrames K)) → Holds self.now frames → result ≡ length frames }
     {
         self.entries.as_slice().len()
     }
@@ -71,7 +71,7 @@ impl<K: Copy + Drop> FrameList<K> {
     /// The head of the frame at `index`, counted from 0.
     pub fn head(&self, index: usize) -> K
         requires { index < list_len self.now }
-        ensures { (frames : List (Kept K)) (other : Kept K) → Holds self.now frames
+        ensures { (frames : List (KeptFrames K)) (other : KeptFrames K) → Holds self.now frames
             → result ≡ (slice_index_or frames index other).head }
     {
         self.entries[index].head
@@ -80,8 +80,8 @@ impl<K: Copy + Drop> FrameList<K> {
     /// The bytes of the frame at `index`, counted from 0.
     pub fn bytes(&self, index: usize) -> &[u8]
         requires within { index < list_len self.now }
-        requires whole { IsWhole self.now }
-        ensures frame { (frames : List (Kept K)) (other : Kept K) → Holds self.now frames
+        requires whole { ListIsWhole self.now }
+        ensures frame { (frames : List (KeptFrames K)) (other : KeptFrames K) → Holds self.now frames
             → result.now ≡ (slice_index_or frames index other).frame }
         ensures short { length result.now ≤ longest_frame }
     {
@@ -92,11 +92,11 @@ impl<K: Copy + Drop> FrameList<K> {
     // Where the bytes of the frame at `index` are in the buffer.
     fn bounds(&self, index: usize) -> Bounds
         requires within { index < list_len self.now }
-        requires whole { IsWhole self.now }
+        requires whole { ListIsWhole self.now }
         ensures rise { result.start ≤ result.end }
         ensures end { result.end ≤ length self.now.bytes.items }
         ensures short { result.end ≤ result.start + longest_frame }
-        ensures frame { (frames : List (Kept K)) (other : Kept K) → Holds self.now frames
+        ensures frame { (frames : List (KeptFrames K)) (other : KeptFrames K) → Holds self.now frames
             → take (result.end - result.start) (drop result.start self.now.bytes.items)
             ≡ (slice_index_or frames index other).frame }
     {

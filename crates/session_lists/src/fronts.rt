@@ -2,7 +2,7 @@
 ghost use Rattle.std.specs.Prelude.{◌+◌, ◌<◌, ◌≤◌, [], ◌∷◌, length, take, IfOk, OnOk};
 ghost use Rattle.yasir_ticks.specs.TickRun.{run_ticks};
 ghost use Rattle.yasir_ticks.specs.declared.TheConstants.{MAX_TICKS};
-ghost use Rattle.session_lists.specs.FrameList.{IsWhole};
+ghost use Rattle.session_lists.specs.FrameList.{ListIsWhole};
 ghost use Rattle.session_lists.specs.Lines.{TakesOn, HearsOn};
 
 use crate::comparison::{Comparison, Passed};
@@ -74,7 +74,7 @@ pub(crate) fn hear_front<V: Device>(
     requires some { 0 < length (run_ticks run) }
     requires room { V.taken device.old + length (run_ticks run) ≤ MAX_TICKS }
     requires few { read.old.read ≤ V.taken device.old }
-    requires whole { IsWhole passed.frames.now }
+    requires whole { ListIsWhole passed.frames.now }
     ensures some { 0 < result }
     ensures within { result ≤ length (run_ticks run.entry) }
     ensures hears { HearsOn V.Device passed.entry.late passed.entry.frames.now device.old

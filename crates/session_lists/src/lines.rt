@@ -7,7 +7,7 @@ ghost use Rattle.device_model.specs.Frames.{FrameRead, frames_lent};
 ghost use Rattle.link_format.specs.NumberedFrame.{NumberedFrame};
 ghost use Rattle.session_lists.specs.Comparison.{Found, expected_reads};
 ghost use Rattle.session_lists.specs.FrameBox.{kept_frames};
-ghost use Rattle.session_lists.specs.FrameList.{Holds, IsWhole};
+ghost use Rattle.session_lists.specs.FrameList.{Holds, ListIsWhole};
 ghost use Rattle.session_lists.specs.Lines.{TakesOn, HearsOn};
 
 use crate::comparison::{Comparison, Passed, Read};
@@ -67,7 +67,7 @@ pub(crate) fn take_lent<V: Device>(
     passed: Passed<'_>,
 )
     requires room { read.old.read < MAX_TICKS }
-    requires whole { IsWhole passed.frames.now }
+    requires whole { ListIsWhole passed.frames.now }
     ensures few { read.new.read ≤ read.old.read + 1 }
     ensures found { (passed_ones : List NumberedFrame) (reads : List FrameRead)
         → Holds passed.entry.frames.now (kept_frames passed_ones)
@@ -89,7 +89,7 @@ pub(crate) fn take_lent<V: Device>(
 fn hear_tick<V: Device>(device: &mut V, read: &mut Comparison, passed: Passed<'_>, tick: Tick)
     requires room { V.taken device.old < MAX_TICKS }
     requires few { read.old.read ≤ V.taken device.old }
-    requires whole { IsWhole passed.frames.now }
+    requires whole { ListIsWhole passed.frames.now }
     ensures { HearsOn V.Device passed.entry.late passed.entry.frames.now device.old device.new
         read.old read.new (tick ∷ []) }
 {
@@ -106,7 +106,7 @@ pub(crate) fn hear_line<V: Device>(
 )
     requires room { V.taken device.old + length line.now ≤ MAX_TICKS }
     requires few { read.old.read ≤ V.taken device.old }
-    requires whole { IsWhole passed.frames.now }
+    requires whole { ListIsWhole passed.frames.now }
     ensures { HearsOn V.Device passed.entry.late passed.entry.frames.now device.old device.new
         read.old read.new line.now }
 {
@@ -124,7 +124,7 @@ pub(crate) fn hear_rest<V: Device>(
 )
     requires room { V.taken device.old + ticks ≤ MAX_TICKS }
     requires few { read.old.read ≤ V.taken device.old }
-    requires whole { IsWhole passed.frames.now }
+    requires whole { ListIsWhole passed.frames.now }
     ensures { HearsOn V.Device passed.entry.late passed.entry.frames.now device.old device.new
         read.old read.new (silent ticks) }
 {

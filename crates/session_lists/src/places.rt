@@ -2,7 +2,7 @@
 ghost use Rattle.std.specs.Prelude.{◌≡◌, List};
 ghost use Rattle.link_format.specs.NumberedFrame.{NumberedFrame};
 ghost use Rattle.session_lists.specs.FrameBox.{kept_frames};
-ghost use Rattle.session_lists.specs.FrameList.{Holds, IsWhole};
+ghost use Rattle.session_lists.specs.FrameList.{Holds, ListIsWhole};
 ghost use Rattle.session_lists.specs.Places.{stands_at_its_number};
 
 use crate::frame_box::Numbered;
@@ -12,7 +12,7 @@ use crate::frame_list::FrameList;
 /// one after the other from `floor + 1` on. False if there is no frame at that place. No other
 /// frame is looked at.
 pub fn is_at_its_number(frames: &FrameList<Numbered>, floor: u64, number: u64, bytes: &[u8]) -> bool
-    requires { IsWhole frames.now }
+    requires { ListIsWhole frames.now }
     ensures { (listed : List NumberedFrame) (f : NumberedFrame)
         → Holds frames.now (kept_frames listed) → f.number ≡ number → f.frame ≡ bytes.now
         → result ≡ stands_at_its_number floor listed f }

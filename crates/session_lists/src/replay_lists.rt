@@ -8,7 +8,7 @@ ghost use Rattle.frame_ending.specs.Answered.{answered};
 ghost use Rattle.link_format.specs.Setup.{Setup, setup_of};
 ghost use Rattle.device_model.specs.declared.device.Device.{Ghosts as Device};
 ghost use Rattle.session_lists.specs.FrameBox.{AnswersFrameRun, kept_frames};
-ghost use Rattle.session_lists.specs.FrameList.{Kept, Holds, list_len};
+ghost use Rattle.session_lists.specs.FrameList.{KeptFrames, Holds, list_len};
 ghost use Rattle.session_lists.specs.ReplayLists.{KeepsFrames, Listens, StepsInto};
 ghost use Rattle.session_lists.specs.declared.frame_box.Numbered.{Numbered};
 
@@ -113,7 +113,7 @@ pub struct ReplayLists<S, C, V> {
 impl<S: FrameBox, C: FrameBox, V: Device + Drop> ReplayLists<S, C, V> {
     ghost use Rattle.yasir_ticks.specs.Ticks.Item.{tick as tick_item};
     ghost use Rattle.yasir_ticks.specs.TickRun.{run_items};
-    ghost use Rattle.session_lists.specs.ReplayLists.{Checks, HasListed, IsReady, lists_taken};
+    ghost use Rattle.session_lists.specs.ReplayLists.{ChecksLists, HasListed, ListsAreReady, lists_taken};
     ghost use Rattle.session_lists.specs.ReplayLists.{GoesOnBy};
     ghost use Rattle.session_lists.specs.Listed.{MayList};
     ghost use Rattle.session_lists.specs.ReplayLists.{kept_reads};
@@ -163,7 +163,7 @@ impl<S: FrameBox, C: FrameBox, V: Device + Drop> ReplayLists<S, C, V> {
     #[inline]
     fn check(&mut self, t: Tick) -> Result<(), NoMemory>
         requires room { C.taken self.old.checker < MAX_TICKS }
-        requires ready { IsReady S.FrameBox C.FrameBox V.Device self.old }
+        requires ready { ListsAreReady S.FrameBox C.FrameBox V.Device self.old }
         ensures others { self.new ≡ record self.old {
           checker = self.new.checker;
           device = self.new.device;
@@ -171,10 +171,10 @@ impl<S: FrameBox, C: FrameBox, V: Device + Drop> ReplayLists<S, C, V> {
           read = self.new.read;
         } }
         ensures taken { C.taken self.new.checker ≡ C.taken self.old.checker + 1 }
-        ensures ready { OnOk result (IsReady S.FrameBox C.FrameBox V.Device self.new) }
+        ensures ready { OnOk result (ListsAreReady S.FrameBox C.FrameBox V.Device self.new) }
         ensures ok { OnOk result ((setup : Setup) (link : List Tick)
-            → Checks S.FrameBox C.FrameBox V.Device self.old setup link
-            → Checks S.FrameBox C.FrameBox V.Device self.new setup (link ++ t ∷ [])) }
+            → ChecksLists S.FrameBox C.FrameBox V.Device self.old setup link
+            → ChecksLists S.FrameBox C.FrameBox V.Device self.new setup (link ++ t ∷ [])) }
     {
         let received = match step_into(&mut self.checker, &mut self.passed, t) {
             Ok(tick) => tick,
@@ -209,7 +209,7 @@ impl<S: FrameBox, C: FrameBox, V: Device + Drop> ReplayLists<S, C, V> {
     #[inline(always)]
     fn check_run(&mut self, run: TickRun<'_>) -> Result<usize, NoMemory>
         requires room { C.taken self.old.checker + length (run_ticks run) ≤ MAX_TICKS }
-        requires ready { IsReady S.FrameBox C.FrameBox V.Device self.old }
+        requires ready { ListsAreReady S.FrameBox C.FrameBox V.Device self.old }
         ensures within { IfOk result (λ n. n ≤ length (run_ticks run.entry)) }
         ensures others { self.new ≡ record self.old {
           checker = self.new.checker;
@@ -219,10 +219,10 @@ impl<S: FrameBox, C: FrameBox, V: Device + Drop> ReplayLists<S, C, V> {
         } }
         ensures taken { IfOk result (λ n.
             C.taken self.new.checker ≡ C.taken self.old.checker + n) }
-        ensures ready { OnOk result (IsReady S.FrameBox C.FrameBox V.Device self.new) }
+        ensures ready { OnOk result (ListsAreReady S.FrameBox C.FrameBox V.Device self.new) }
         ensures ok { IfOk result (λ n. (setup : Setup) (link : List Tick)
-            → Checks S.FrameBox C.FrameBox V.Device self.old setup link
-            → Checks S.FrameBox C.FrameBox V.Device self.new setup
+            → ChecksLists S.FrameBox C.FrameBox V.Device self.old setup link
+            → ChecksLists S.FrameBox C.FrameBox V.Device self.new setup
             (link ++ take n (run_ticks run.entry))) }
     {
         let mut sent = RunBytes::new();
@@ -238,7 +238,7 @@ impl<S: FrameBox, C: FrameBox, V: Device + Drop> ReplayLists<S, C, V> {
     fn take_front(&mut self, run: TickRun<'_>) -> Result<usize, NoMemory>
         requires room { lists_taken S.FrameBox C.FrameBox V.Device self.old
             + length (run_ticks run) ≤ MAX_TICKS }
-        requires ready { IsReady S.FrameBox C.FrameBox V.Device self.old }
+        requires ready { ListsAreReady S.FrameBox C.FrameBox V.Device self.old }
         ensures within { IfOk result (λ n. n ≤ length (run_ticks run.entry)) }
         ensures goes { IfOk result (λ n. GoesOnBy S.FrameBox C.FrameBox V.Device self.old self.new
             (take n (run_items run.entry))) }
@@ -256,7 +256,7 @@ impl<S: FrameBox, C: FrameBox, V: Device + Drop> ReplayLists<S, C, V> {
     #[inline(never)]
     fn take_tick(&mut self, tick: Tick) -> Result<(), NoMemory>
         requires room { lists_taken S.FrameBox C.FrameBox V.Device self.old < MAX_TICKS }
-        requires ready { IsReady S.FrameBox C.FrameBox V.Device self.old }
+        requires ready { ListsAreReady S.FrameBox C.FrameBox V.Device self.old }
         ensures { OnOk result (GoesOnBy S.FrameBox C.FrameBox V.Device self.old self.new
             (tick_item tick ∷ [])) }
     {

@@ -14,7 +14,7 @@ ghost use Rattle.session_lists.specs.declared.tick_lists.Place.TheVariants.{Firs
 ghost use Rattle.session_lists.specs.Comparison.{difference_of};
 ghost use Rattle.session_lists.specs.FrameBox.{kept_frames};
 ghost use Rattle.session_lists.specs.FrameList.{Holds, list_len};
-ghost use Rattle.session_lists.specs.SessionLists.{Setups, HasSession, IsOpen, AreReadInTime};
+ghost use Rattle.session_lists.specs.SessionLists.{SetupsOfLists, HasSession, IsOpenList, AreReadInTime};
 ghost use Rattle.session_lists.specs.SessionLists.{session_taken, all_rests, expected_of, parting};
 ghost use Rattle.session_lists.specs.SessionListed.{MayListSession};
 
@@ -114,7 +114,7 @@ impl<S: FrameBox, C: FrameBox, V: Device + Drop> SessionLists<S, C, V> {
         requires some { 0 < length (run_ticks run) }
         requires room { session_taken S.FrameBox C.FrameBox V.Device self.old
             + length (run_ticks run) ≤ MAX_TICKS }
-        requires able { IsOpen S.FrameBox C.FrameBox V.Device self.old }
+        requires able { IsOpenList S.FrameBox C.FrameBox V.Device self.old }
         ensures { IfOk result (λ n. GivesFirst (parting S.FrameBox C.FrameBox V.Device) self.old
             self.new (run_items run.entry) n) }
     {
@@ -139,9 +139,9 @@ impl<S: FrameBox, C: FrameBox, V: Device + Drop> SessionLists<S, C, V> {
 
     /// The frames that were sealed.
     pub fn sealed(&self) -> &FrameList<Numbered>
-        ensures few { IsOpen S.FrameBox C.FrameBox V.Device self.now
+        ensures few { IsOpenList S.FrameBox C.FrameBox V.Device self.now
             → list_len result.now ≤ session_taken S.FrameBox C.FrameBox V.Device self.now }
-        ensures frames { (setups : Setups) (device link received : List Tick)
+        ensures frames { (setups : SetupsOfLists) (device link received : List Tick)
             → HasSession S.FrameBox C.FrameBox V.Device self.now setups device link received
             → Holds result.now (kept_frames ((S.numbering setups.sent).frames device)) }
     {
@@ -150,9 +150,9 @@ impl<S: FrameBox, C: FrameBox, V: Device + Drop> SessionLists<S, C, V> {
 
     /// The frames that have passed.
     pub fn passed(&self) -> &FrameList<Numbered>
-        ensures few { IsOpen S.FrameBox C.FrameBox V.Device self.now
+        ensures few { IsOpenList S.FrameBox C.FrameBox V.Device self.now
             → list_len result.now ≤ session_taken S.FrameBox C.FrameBox V.Device self.now }
-        ensures frames { (setups : Setups) (device link received : List Tick)
+        ensures frames { (setups : SetupsOfLists) (device link received : List Tick)
             → HasSession S.FrameBox C.FrameBox V.Device self.now setups device link received
             → Holds result.now (kept_frames ((C.numbering setups.got).frames link)) }
     {
@@ -161,9 +161,9 @@ impl<S: FrameBox, C: FrameBox, V: Device + Drop> SessionLists<S, C, V> {
 
     /// How many frames were read.
     pub fn read_count(&self) -> u64
-        ensures few { IsOpen S.FrameBox C.FrameBox V.Device self.now
+        ensures few { IsOpenList S.FrameBox C.FrameBox V.Device self.now
             → result ≤ session_taken S.FrameBox C.FrameBox V.Device self.now }
-        ensures count { (setups : Setups) (device link received : List Tick)
+        ensures count { (setups : SetupsOfLists) (device link received : List Tick)
             → HasSession S.FrameBox C.FrameBox V.Device self.now setups device link received
             → result ≡ length (V.reads received) }
     {
@@ -174,7 +174,7 @@ impl<S: FrameBox, C: FrameBox, V: Device + Drop> SessionLists<S, C, V> {
     /// receiver is, and the frames that were read. `None` if there is no difference.
     pub fn difference(&self) -> Option<Difference>
         requires { AreReadInTime S.FrameBox C.FrameBox V.Device self.now }
-        ensures { (setups : Setups) (device link received : List Tick)
+        ensures { (setups : SetupsOfLists) (device link received : List Tick)
             → HasSession S.FrameBox C.FrameBox V.Device self.now setups device link received
             → result ≡ difference_of (expected_of S.FrameBox C.FrameBox V.Device setups link)
             (V.reads received) }
@@ -192,13 +192,13 @@ impl<S: FrameBox, C: FrameBox, V: Device + Drop> SessionLists<S, C, V> {
         requires room { session_taken S.FrameBox C.FrameBox V.Device self.old
             + length device.now + length link.now + length received.now ≤ MAX_TICKS }
         requires first { self.old.place ≡ First }
-        requires able { IsOpen S.FrameBox C.FrameBox V.Device self.old }
+        requires able { IsOpenList S.FrameBox C.FrameBox V.Device self.old }
         requires nothing { V.reads [] ≡ [] }
-        ensures has { OnOk result ((setups : Setups)
+        ensures has { OnOk result ((setups : SetupsOfLists)
             → HasSession S.FrameBox C.FrameBox V.Device self.old setups [] [] []
             → HasSession S.FrameBox C.FrameBox V.Device self.new setups device.now
             (link.now ++ silent setups.timing.link_rest) received.now) }
-        ensures able { OnOk result (IsOpen S.FrameBox C.FrameBox V.Device self.new) }
+        ensures able { OnOk result (IsOpenList S.FrameBox C.FrameBox V.Device self.new) }
         ensures taken { OnOk result (session_taken S.FrameBox C.FrameBox V.Device self.new
             ≡ session_taken S.FrameBox C.FrameBox V.Device self.old
             + length device.now + length link.now + length received.now) }
@@ -227,12 +227,12 @@ impl<S: FrameBox, C: FrameBox, V: Device + Drop> SessionLists<S, C, V> {
     pub(crate) fn rest(&mut self) -> Result<(), NoMemory>
         requires room { session_taken S.FrameBox C.FrameBox V.Device self.old
             + all_rests self.old.timing ≤ MAX_TICKS }
-        requires able { IsOpen S.FrameBox C.FrameBox V.Device self.old }
-        ensures rests { OnOk result ((setups : Setups) (a b c : List Tick)
+        requires able { IsOpenList S.FrameBox C.FrameBox V.Device self.old }
+        ensures rests { OnOk result ((setups : SetupsOfLists) (a b c : List Tick)
             → HasSession S.FrameBox C.FrameBox V.Device self.old setups a b c
             → HasSession S.FrameBox C.FrameBox V.Device self.new setups
             (a ++ silent setups.timing.sent_rest) b (c ++ silent setups.timing.received_rest)) }
-        ensures able { OnOk result (IsOpen S.FrameBox C.FrameBox V.Device self.new) }
+        ensures able { OnOk result (IsOpenList S.FrameBox C.FrameBox V.Device self.new) }
         ensures taken { OnOk result (session_taken S.FrameBox C.FrameBox V.Device self.new
             ≤ session_taken S.FrameBox C.FrameBox V.Device self.old + all_rests self.old.timing) }
     {
@@ -258,7 +258,7 @@ impl<S: FrameBox, C: FrameBox, V: Device + Drop> SessionLists<S, C, V> {
     fn end_link(&mut self) -> Result<(), NoMemory>
         requires room { session_taken S.FrameBox C.FrameBox V.Device self.old ≤ MAX_TICKS }
         requires second { self.old.place ≡ Second }
-        requires able { IsOpen S.FrameBox C.FrameBox V.Device self.old }
+        requires able { IsOpenList S.FrameBox C.FrameBox V.Device self.old }
         ensures { OnOk result (Gives (parting S.FrameBox C.FrameBox V.Device) self.old self.new
             (mark ∷ []) (Ok tt)) }
     {

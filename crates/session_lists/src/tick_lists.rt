@@ -62,11 +62,11 @@ impl TickLists {
     ghost use Rattle.std.specs.Prelude.{◌+◌, ◌<◌};
     ghost use Rattle.yasir_ticks.specs.declared.TheConstants.{MAX_TICKS};
     ghost use Rattle.session_lists.specs.TickLists.{ticks_first, ticks_second, ticks_third};
-    ghost use Rattle.session_lists.specs.TickLists.{ticks_taken, HoldsParts, TakesTick};
+    ghost use Rattle.session_lists.specs.TickLists.{ticks_listed, HoldsParts, TakesTick};
 
     /// Returns lists that have taken no tick yet.
     pub fn new(alloc: Global) -> TickLists
-        ensures none { ticks_taken result ≡ 0 }
+        ensures none { ticks_listed result ≡ 0 }
         ensures holds { HoldsParts result [] }
     {
         TickLists {
@@ -101,7 +101,7 @@ impl TickLists {
 
     // Adds a tick to the list that it belongs to.
     fn take_tick(&mut self, tick: Tick) -> Result<(), NoMemory>
-        requires { ticks_taken self.old < MAX_TICKS }
+        requires { ticks_listed self.old < MAX_TICKS }
         ensures { OnOk result (TakesTick self.old self.new tick) }
     {
         self.taken += 1;

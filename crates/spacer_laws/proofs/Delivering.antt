@@ -6,7 +6,7 @@ use Rattle.line_spacer.specs.Spacing.{accepted_of, spaced_line}
 use Rattle.link_format.specs.Profile.{Profile, HasTags, pause_len, trailer_len, delay}
 use Rattle.receiver_laws.proofs.{Deliveries.delivers-all, Standing.bytes_in-byte_ticks}
 use Rattle.receiver_laws.specs.Headline.{bytes_sealed}
-use Rattle.receiver_laws.specs.Untouched.{AreSpaced, IsUntouched, numbered}
+use Rattle.receiver_laws.specs.Untouched.{AreSpaced, IsUntouchedLink, numbered}
 use Rattle.spacer_laws.proofs.{Accepted.accepted-apart, Within.laid-bursts, Within.within-begun}
 use Rattle.spacer_laws.specs.Delivering.{IsSpacedForSealing, DeliversSpaced}
 use Rattle.spacer_laws.specs.Leaving.{HaveLeft}
@@ -107,7 +107,7 @@ module _ (rules : Rules) (framed : IsFramed rules) where
         apart
         ∙ within-left gap (length line) 0 ds apart is.left
 
-    is-untouched : IsUntouched profile rules floor behind sent more
+    is-untouched : IsUntouchedLink profile rules floor behind sent more
     is-untouched =
         let same = same-bursts in
         let count = ap length same in

@@ -1,6 +1,6 @@
 -- A spacer behind the receiver gives all that comes over an untouched link.
 use Rattle.frame_ending.proofs.Spread.{AreSpread, EndBy, bursts-spread, bursts-end}
-use Rattle.frame_ending.specs.{Laid.tick_at, Laid.laid, Laid.later, Walk.emitted}
+use Rattle.frame_ending.specs.{Laid.tick_at, Laid.laid, Laid.later, Walk.emitted_by}
 use Rattle.device_model.proofs.ReadLaws.{frames_ended}
 use Rattle.device_model.specs.{Frames.FrameRead, RtuReads.frame_in}
 use Rattle.line_rules.specs.{Rules.Rules, RulesLaws.IsLawful, RulesLaws.IsFramed}
@@ -9,7 +9,7 @@ use Rattle.link_format.specs.Profile.{Profile, HasTags, pause_len, trailer_len, 
 use Rattle.link_box.specs.Checking.{checker, at_floor, passed, received_line}
 use Rattle.receiver_laws.proofs.Deliveries.{delivers-all, untouched-emits}
 use Rattle.receiver_laws.specs.Reading.{delivered}
-use Rattle.receiver_laws.specs.Untouched.{AreSpaced, IsUntouched, numbered, untouched}
+use Rattle.receiver_laws.specs.Untouched.{AreSpaced, IsUntouchedLink, numbered, untouched}
 use Rattle.link_box.specs.Sealing.{link_line}
 use Rattle.spacer_laws.proofs.Accepted.{all-first, all-others, all-cons}
 use Rattle.spacer_laws.proofs.GivingAll.{ComeApart, given-from, given-left}
@@ -102,7 +102,7 @@ module _ (profile : Profile) (tags : HasTags profile) (some : 1 ≤ profile.word
     (heard : List Tick → List FrameRead) (ends : ℕ)
     (hears : HearsEmissions rules heard ends profile)
     (floor behind : ℕ) (line : List Tick) (more : ℕ)
-    (is : IsUntouched profile rules floor behind line more) where
+    (is : IsUntouchedLink profile rules floor behind line more) where
   abbrev ds : List Burst
   ds = bursts line
 
@@ -113,7 +113,7 @@ module _ (profile : Profile) (tags : HasTags profile) (some : 1 ≤ profile.word
   link rest = untouched profile rules floor line more rest
 
   emits : (rest : ℕ)
-      → emitted (checker profile rules) (at_floor behind) (bursts (link rest)) ≡ es
+      → emitted_by (checker profile rules) (at_floor behind) (bursts (link rest)) ≡ es
   emits rest =
       untouched-emits profile tags some rules lawful framed floor behind line more rest is
 
@@ -168,7 +168,7 @@ module _ (profile : Profile) (tags : HasTags profile) (some : 1 ≤ profile.word
       let behind_it = length-append line (silent left) in
       let long : length (received_line profile rules behind (link rest)) ≡ length (link rest) =
       length-map-range_with_len
-      (λ i. tick_at (emitted (checker profile rules) (at_floor behind) (bursts (link rest))) i) 0
+      (λ i. tick_at (emitted_by (checker profile rules) (at_floor behind) (bursts (link rest))) i) 0
       (length (link rest)) in
       let comes = ap length all.comes in
       omega arith
@@ -207,7 +207,7 @@ module _ (profile : Profile) (tags : HasTags profile) (some : 1 ≤ profile.word
           let long = link-length rest in
           let same : length heard_line ≡ length (link rest) =
           length-map-range_with_len
-          (λ i. tick_at (emitted (checker profile rules) (at_floor behind) (bursts (link rest))) i)
+          (λ i. tick_at (emitted_by (checker profile rules) (at_floor behind) (bursts (link rest))) i)
           0 (length (link rest)) in
           given-left gap ends most cap fits.room (delay profile + length line)
           (length heard_line) es

@@ -1,6 +1,6 @@
 -- A spacer behind the receiver gives only frames that have passed.
 use Rattle.frame_ending.proofs.{LaidBursts.bursts-laid, Spread.AreSpread, Spread.bursts-spread}
-use Rattle.frame_ending.specs.{Laid.laid, Walk.emitted}
+use Rattle.frame_ending.specs.{Laid.laid, Walk.emitted_by}
 use Rattle.device_model.{proofs.ReadLaws.frames_ended, specs.Frames.FrameRead}
 use Rattle.line_rules.specs.{Rules.Rules, RulesLaws.IsLawful, RulesLaws.IsFramed}
 use Rattle.line_spacer.{proofs.Sending.on_line, specs.Arrivals.Arrival, specs.Arrivals.arrivals}
@@ -185,12 +185,12 @@ pub record HearsEmissions (rules : Rules) (heard : List Tick → List FrameRead)
   pub passes : (floor : ℕ) (link : List Tick) → ReadsWhatPassed rules heard ends profile floor link
   pub whole : Burst → Bool
   pub emissions : (floor : ℕ) (link : List Tick) (m : ℕ)
-      → heard (laid m (emitted (checker profile rules) (at_floor floor) (bursts link)))
-      ≡ frames_ended ends whole m (emitted (checker profile rules) (at_floor floor) (bursts link))
+      → heard (laid m (emitted_by (checker profile rules) (at_floor floor) (bursts link)))
+      ≡ frames_ended ends whole m (emitted_by (checker profile rules) (at_floor floor) (bursts link))
 
 pub emissions-apart : (cut : ℕ) (profile : Profile) (rules : Rules) → IsLawful rules → 2 ≤ cut
     → cut ≤ delay profile → (floor : ℕ) (link : List Tick)
-    → AreSpread cut 0 (emitted (checker profile rules) (at_floor floor) (bursts link))
+    → AreSpread cut 0 (emitted_by (checker profile rules) (at_floor floor) (bursts link))
 emissions-apart cut profile rules lawful some near floor link =
     let start : 0 ≤ 0 + delay profile = omega arith in
     emissions-spread profile rules lawful cut some near (at_floor floor) 0 0 (bursts link)
@@ -204,7 +204,7 @@ module _ (rules : Rules) (lawful : IsLawful rules) (framed : IsFramed rules)
       → IsSubsequence (map (λ a. a.frame) (arrivals heard (received_line profile rules floor link)))
       (map (delivered profile) (passed profile rules floor link))
   arriving-passed floor link =
-      let es : List Burst = emitted (checker profile rules) (at_floor floor) (bursts link) in
+      let es : List Burst = emitted_by (checker profile rules) (at_floor floor) (bursts link) in
       let late : 2 ≤ delay profile = omega arith in
       let spread = emissions-apart 2 profile rules lawful (omega arith) late floor link in
       let prefix = (hears.passes floor link).prefix in

@@ -1,5 +1,5 @@
 -- The spacers of each protocol, behind the receiver.
-use Rattle.frame_ending.{proofs.Spread.bursts-spread, specs.Walk.emitted}
+use Rattle.frame_ending.{proofs.Spread.bursts-spread, specs.Walk.emitted_by}
 use Rattle.device_model.specs.{Frames.FrameRead, Hunt.timed, Hunt.hunt, Hunt.hunt_anew}
 use Rattle.device_model.specs.{HuntFamily.hunt_family, HuntLaws.IsHunted, RtuReads.is_frame_body}
 use Rattle.line_rules.specs.{Rules.Rules, RulesLaws.IsLawful, RulesLaws.IsHeaded}
@@ -25,7 +25,7 @@ rtu-hears cut pause profile some near long = record {
   passes = rtu_reads_what_passed profile cut pause some near long;
   whole = λ d. is_frame_body pause d.body;
   emissions = λ floor link m. reads-laid cut pause m
-      (emitted (checker profile rtu_rules) (at_floor floor) (bursts link))
+      (emitted_by (checker profile rtu_rules) (at_floor floor) (bursts link))
       (emissions-apart cut profile rtu_rules rtu_lawful some near floor link);
 }
 
@@ -44,7 +44,7 @@ module _ (first second : ℕ) (rules : Rules) (lawful : IsLawful rules) (headed 
         whole = λ d. rules.is_frame (bytes_in d.body);
         emissions = λ floor link m.
             hunter-laid first second rules headed framed hunted read hunter m
-            (emitted (checker profile rules) (at_floor floor) (bursts link))
+            (emitted_by (checker profile rules) (at_floor floor) (bursts link))
             (emissions-apart 2 profile rules lawful (omega arith) late floor link)
             (emissions-taken first second rules headed framed hunted profile lawful (at_floor floor)
             0 (bursts link) (bursts-spread link));

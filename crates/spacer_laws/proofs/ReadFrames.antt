@@ -1,7 +1,7 @@
 -- Devices read only frames of the protocol, and they read each burst that is such a frame.
 use Rattle.device_model.proofs.ReadLaws.{frames_ended, frames_read-append}
 use Rattle.device_model.specs.{Frames.FrameRead, Hunt.Timed, Hunt.timed, Hunt.timed_bytes}
-use Rattle.device_model.specs.Hunt.{begins, found, found_by, frame_of, passed_over, header_in, hunt}
+use Rattle.device_model.specs.Hunt.{begins, found, found_by, frame_hunted, passed_over, header_hunted, hunt}
 use Rattle.device_model.specs.HuntFamily.{hunt_family}
 use Rattle.device_model.specs.RtuReads.{has_silence, is_frame_body, is_read, frame_in, frames_read}
 use Rattle.line_rules.specs.{Rules.Rules, Rules.head_of, declared.head.Head.Head}
@@ -67,7 +67,7 @@ module _ (first second : ℕ) (rules : Rules) (P : List ℕ → Type 0) (R : Fra
   nothing-read : All R []
   nothing-read = λ k d none. absurd (omega arith)
 
-  frame_of-all : (start n : ℕ) (x : List ℕ) → P x → All R (frame_of rules start n x)
+  frame_of-all : (start n : ℕ) (x : List ℕ) → P x → All R (frame_hunted rules start n x)
   frame_of-all start n x kind =
       let f : FrameRead = record { start = start; frame = take n x } in
       let Q : Bool → Type 0 = λ v. All R (cond v (f ∷ []) []) in
@@ -78,7 +78,7 @@ module _ (first second : ℕ) (rules : Rules) (P : List ℕ → Type 0) (R : Fra
       (cases_Bool (nat_le n (length x) && rules.is_frame (take n x)))
 
   found_by-all : (head : Head) (start : ℕ) (x : List ℕ) → P x → All R (found_by rules head start x)
-  found_by-all Good start x kind = frame_of-all start (rules.size (header_in rules x)) x kind
+  found_by-all Good start x kind = frame_of-all start (rules.size (header_hunted rules x)) x kind
   found_by-all Short start x kind = nothing-read
   found_by-all Bad start x kind = nothing-read
 

@@ -9,7 +9,7 @@ ghost use Rattle.device_model.specs.HuntFamily.{dnp_family_reads, hunt_family};
 ghost use Rattle.device_model.specs.RtuFamily.{rtu_family_reads};
 ghost use Rattle.device_model.specs.RtuReads.{rtu_reads};
 ghost use Rattle.link_format.specs.Profile.{Profile, HasTags, delay};
-ghost use Rattle.receiver_laws.specs.Untouched.{IsUntouched};
+ghost use Rattle.receiver_laws.specs.Untouched.{IsUntouchedLink};
 ghost use Rattle.spacer_laws.specs.GivingAll.{HasRoomFor, GivesAll};
 ghost use Rattle.spacer_laws.specs.Guarding.{GivesOnlySealed};
 
@@ -63,25 +63,25 @@ pub fn only_sealed_hunted_frames_are_given<R: Hunted>()
 pub fn untouched_link_gives_all()
     ensures rtu { (profile : Profile) → HasTags profile → 1 ≤ profile.word_len
         → (floor behind : ℕ) (line : List Tick) (more rest most gap cap : ℕ)
-        → IsUntouched profile rtu_rules floor behind line more
+        → IsUntouchedLink profile rtu_rules floor behind line more
         → HasRoomFor profile most gap cap line
         → GivesAll profile rtu_rules rtu_reads T3_5_TICKS most gap cap floor behind line more rest }
     ensures dnp { (profile : Profile) → HasTags profile → 1 ≤ profile.word_len
         → (floor behind : ℕ) (line : List Tick) (more rest most gap cap : ℕ)
-        → IsUntouched profile dnp_rules floor behind line more
+        → IsUntouchedLink profile dnp_rules floor behind line more
         → HasRoomFor profile most gap cap line
         → GivesAll profile dnp_rules dnp_reads 0 most gap cap floor behind line more rest }
     ensures rtu_family { (cut pause : ℕ) (profile : Profile) → HasTags profile
         → 1 ≤ profile.word_len
         → (floor behind : ℕ) (line : List Tick) (more rest most gap cap : ℕ)
-        → IsUntouched profile rtu_rules floor behind line more
+        → IsUntouchedLink profile rtu_rules floor behind line more
         → HasRoomFor profile most gap cap line
         → 2 ≤ cut → cut ≤ delay profile → 1 ≤ pause
         → GivesAll profile rtu_rules (rtu_family_reads cut pause) cut
         most gap cap floor behind line more rest }
     ensures dnp_family { (cut : ℕ) (profile : Profile) → HasTags profile → 1 ≤ profile.word_len
         → (floor behind : ℕ) (line : List Tick) (more rest most gap cap : ℕ)
-        → IsUntouched profile dnp_rules floor behind line more
+        → IsUntouchedLink profile dnp_rules floor behind line more
         → HasRoomFor profile most gap cap line
         → (cut ≡ 0) ⊎ (2 ≤ cut)
         → GivesAll profile dnp_rules (dnp_family_reads cut) 0
@@ -94,7 +94,7 @@ pub fn untouched_link_gives_all()
 pub fn untouched_link_gives_all_hunted<R: Hunted>()
     ensures { (cut : ℕ) (profile : Profile) → HasTags profile → 1 ≤ profile.word_len
         → (floor behind : ℕ) (line : List Tick) (more rest most gap cap : ℕ)
-        → IsUntouched profile R.rules floor behind line more
+        → IsUntouchedLink profile R.rules floor behind line more
         → HasRoomFor profile most gap cap line
         → (cut ≡ 0) ⊎ (2 ≤ cut)
         → GivesAll profile R.rules (hunt_family R.FIRST R.SECOND R.rules cut) 0

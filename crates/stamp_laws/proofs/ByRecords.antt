@@ -2,7 +2,7 @@
 use Rattle.line_stamps.specs.Clock.{AllNext, ArePartedRecords, silent_ticks}
 use Rattle.{line_stamps.specs.Places.PlacedByte, rtu_frame.specs.Frame.is_frame}
 use Rattle.stamp_laws.proofs.{CutLines.AreTold, CutLines.Told, CutReads.is_whole_frame}
-use Rattle.stamp_laws.specs.{Cuts.any_next, Cuts.bytes_of, RecordFrames.begins_record}
+use Rattle.stamp_laws.specs.{Cuts.any_next, Cuts.bytes_of_cut, RecordFrames.begins_record}
 use Rattle.std.proofs.Common.{◌≡◌, ◌∙◌, ⊎_elim, sym, ap, List, [], ◌∷◌, Bool, true, false, arith}
 use Rattle.std.proofs.Common.{le-leb, ◌&&◌, not, refl, filter, cond}
 use Rattle.std.proofs.lemmas.Bool.{cases_Bool, le-ltb, lt-leb}
@@ -36,13 +36,13 @@ never-next [] = refl
 never-next (x ∷ []) = refl
 never-next (x ∷ y ∷ more) = never-next (y ∷ more)
 
-whole : (z : List PlacedByte) → is_whole_frame begins_record never z ≡ is_frame (bytes_of z)
-whole z = ap (λ v. not v && is_frame (bytes_of z)) (never-next z)
+whole : (z : List PlacedByte) → is_whole_frame begins_record never z ≡ is_frame (bytes_of_cut z)
+whole z = ap (λ v. not v && is_frame (bytes_of_cut z)) (never-next z)
 
 pub whole-frames : (zs : List (List PlacedByte))
-    → filter (is_whole_frame begins_record never) zs ≡ filter (λ z. is_frame (bytes_of z)) zs
+    → filter (is_whole_frame begins_record never) zs ≡ filter (λ z. is_frame (bytes_of_cut z)) zs
 whole-frames [] = refl
 whole-frames (z ∷ zs) =
     ap (λ v. cond v (z ∷ filter (is_whole_frame begins_record never) zs)
     (filter (is_whole_frame begins_record never) zs)) (whole z)
-    ∙ ap (λ w. cond (is_frame (bytes_of z)) (z ∷ w) w) (whole-frames zs)
+    ∙ ap (λ w. cond (is_frame (bytes_of_cut z)) (z ∷ w) w) (whole-frames zs)

@@ -4,7 +4,7 @@ use Rattle.device_model.specs.RtuReads.{has_silence, is_frame_body, is_read, fra
 use Rattle.line_stamps.specs.{Clock.silent_ticks, Places.PlacedByte, Places.ticks_from}
 use Rattle.{rtu_frame.specs.Frame.is_frame, stamp_laws.proofs.CutLines.body_of}
 use Rattle.stamp_laws.proofs.CutLines.{burst_of, Told, IsPart, AreParts, bursts-are, are-parts}
-use Rattle.stamp_laws.specs.Cuts.{cut_where, any_next, bytes_of, first_tick, frame_of}
+use Rattle.stamp_laws.specs.Cuts.{cut_where, any_next, bytes_of_cut, first_tick, frame_cut}
 use Rattle.std.proofs.Common.{◌≡◌, ◌∙◌, ℕ, zero, suc, ◌+◌, ◌≤◌, inl, sym, ap, List, [], ◌∷◌, ◌++◌}
 use Rattle.std.proofs.Common.{Bool, true, false, arith, refl, subst, map, filter, nat_lt, nat_le}
 use Rattle.std.proofs.Common.{◌&&◌, ◌||◌, not, cond, length, le-leb, length-append}
@@ -52,7 +52,7 @@ module _ (parted apart : PlacedByte → PlacedByte → Bool) where
       ∙ (ap (λ v. v || has_silence 2 (body_of (y ∷ more))) part.0
       ∙ ap (λ v. apart x y || v) (breaks (y ∷ more) part.1)))))
 
-  bytes-are : (z : List PlacedByte) → bytes_in (body_of z) ≡ bytes_of z
+  bytes-are : (z : List PlacedByte) → bytes_in (body_of z) ≡ bytes_of_cut z
   bytes-are [] = refl
   bytes-are (x ∷ []) = refl
   bytes-are (x ∷ y ∷ more) =
@@ -61,7 +61,7 @@ module _ (parted apart : PlacedByte → PlacedByte → Bool) where
 
   -- whether the second test holds nowhere in a part, and the part's bytes are a frame
   abbrev pub is_whole_frame : List PlacedByte → Bool
-  is_whole_frame z = not (any_next apart z) && is_frame (bytes_of z)
+  is_whole_frame z = not (any_next apart z) && is_frame (bytes_of_cut z)
 
   frame-is : (z : List PlacedByte) → IsPart parted apart z
       → is_frame_body 2 (body_of z) ≡ is_whole_frame z
@@ -69,7 +69,7 @@ module _ (parted apart : PlacedByte → PlacedByte → Bool) where
       ap (λ v. not v && is_frame (bytes_in (body_of z))) (breaks z part)
       ∙ ap (λ w. not (any_next apart z) && is_frame w) (bytes-are z)
 
-  read-is : (z : List PlacedByte) → frame_in (burst_of z) ≡ frame_of z
+  read-is : (z : List PlacedByte) → frame_in (burst_of z) ≡ frame_cut z
   read-is z =
       ap (λ w. let f : FrameRead = record { start = first_tick z; frame = w } in f) (bytes-are z)
 
@@ -95,7 +95,7 @@ module _ (parted apart : PlacedByte → PlacedByte → Bool) where
   read-each : (m n : ℕ) → m + 4 ≤ n → (zs : List (List PlacedByte)) → AreParts parted apart zs
       → AllEnd m (map burst_of zs)
       → map frame_in (filter (is_read 4 2 n) (map burst_of zs))
-      ≡ map frame_of (filter (is_whole_frame parted apart) zs)
+      ≡ map frame_cut (filter (is_whole_frame parted apart) zs)
   read-each m n long [] parts end = refl
   read-each m n long (z ∷ zs) parts end =
       let closed : nat_le (end_of (burst_of z) + 4) n ≡ true =
@@ -108,16 +108,16 @@ module _ (parted apart : PlacedByte → PlacedByte → Bool) where
       ∙ (elim (is_whole_frame parted apart z) as (λ v.
       map frame_in (cond v (burst_of z ∷ filter (is_read 4 2 n) (map burst_of zs))
       (filter (is_read 4 2 n) (map burst_of zs)))
-      ≡ map frame_of (cond v (z ∷ filter (is_whole_frame parted apart) zs)
+      ≡ map frame_cut (cond v (z ∷ filter (is_whole_frame parted apart) zs)
       (filter (is_whole_frame parted apart) zs))) [
         | true ↦ ap (λ f. f ∷ map frame_in (filter (is_read 4 2 n) (map burst_of zs)))
-            (read-is parted apart z) ∙ ap (λ fs. frame_of z ∷ fs) rest
+            (read-is parted apart z) ∙ ap (λ fs. frame_cut z ∷ fs) rest
         | false ↦ rest
       ])
 
   pub reads-of-parts : (xs : List PlacedByte) → Told parted apart xs → (n : ℕ) → 4 ≤ n
       → rtu_reads (ticks_from 0 xs ++ silent n)
-      ≡ map frame_of (filter (is_whole_frame parted apart) (cut_where parted xs))
+      ≡ map frame_cut (filter (is_whole_frame parted apart) (cut_where parted xs))
   reads-of-parts xs told n some =
       let are : bursts_from 4 0 (ticks_from 0 xs) ≡ map burst_of (cut_where parted xs) =
       bursts-are parted apart 0 xs told (inl (omega arith)) in

@@ -6,7 +6,7 @@ use Rattle.line_stamps.specs.declared.capture.{CaptureByte.CaptureByte, Way.TheV
 use Rattle.line_stamps.specs.declared.{rate.Rate.Rate, timing.Spacing.Spacing}
 use Rattle.line_stamps.specs.declared.timing.Spacing.TheVariants.{ByTime, ByRecord}
 use Rattle.rtu_frame.specs.Frame.{is_frame, has_right_ending}
-use Rattle.stamp_laws.specs.{Cuts.bytes_of, RecordFrames.records_that_are_frames}
+use Rattle.stamp_laws.specs.{Cuts.bytes_of_cut, RecordFrames.records_that_are_frames}
 use Rattle.stamp_laws.specs.TimedFrames.{frames_by_time}
 use Rattle.std.proofs.Common.{◌≡◌, ℕ, ◌*◌, List, [], ◌∷◌, ◌++◌, map, refl, true, false, lit≤}
 
@@ -32,7 +32,7 @@ abbrev places : Spacing → List CaptureByte → List PlacedByte
 places spacing cs = placed (record { rate = slow; spacing = spacing; origin = 0 }) cs
 
 abbrev read : List CaptureByte → List (List ℕ)
-read cs = map bytes_of (frames_by_time (character slow) (places ByTime cs))
+read cs = map bytes_of_cut (frames_by_time (character slow) (places ByTime cs))
 
 -- a request to read ten registers
 abbrev REQUEST : List ℕ
@@ -67,12 +67,12 @@ unfolding is_frame has_right_ending ends_in_check crc byte_step bit_steps bit_st
 rows-broken = refl
 
 -- Records that are taken for frames are read even if their times overlap.
-rows-records : map bytes_of (records_that_are_frames (places ByRecord (request 0 ++ request 70000)))
+rows-records : map bytes_of_cut (records_that_are_frames (places ByRecord (request 0 ++ request 70000)))
     ≡ REQUEST ∷ REQUEST ∷ []
 unfolding is_frame has_right_ending ends_in_check crc byte_step bit_steps bit_step
 rows-records = refl
 
 -- A frame in two records isn't read if each record is taken for a frame.
-rows-parts : map bytes_of (records_that_are_frames (places ByRecord (parts 30000))) ≡ []
+rows-parts : map bytes_of_cut (records_that_are_frames (places ByRecord (parts 30000))) ≡ []
 unfolding is_frame has_right_ending ends_in_check crc byte_step bit_steps bit_step
 rows-parts = refl

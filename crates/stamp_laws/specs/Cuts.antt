@@ -24,8 +24,8 @@ module _ {A : Type 0} (test : A → A → Bool) where
   any_next (x ∷ y ∷ more) = test x y || any_next (y ∷ more)
 
 -- the values of these bytes
-abbrev pub bytes_of : List PlacedByte → List ℕ
-bytes_of xs = map (λ x. x.byte) xs
+abbrev pub bytes_of_cut : List PlacedByte → List ℕ
+bytes_of_cut xs = map (λ x. x.byte) xs
 
 -- the tick of the first of these bytes, or 0 if there are none
 abbrev pub first_tick : List PlacedByte → ℕ
@@ -33,5 +33,5 @@ first_tick [] = 0
 first_tick (x ∷ xs) = x.spot.tick
 
 -- these bytes as a frame, with the tick of the first byte
-abbrev pub frame_of : List PlacedByte → FrameRead
-frame_of xs = record { start = first_tick xs; frame = bytes_of xs }
+abbrev pub frame_cut : List PlacedByte → FrameRead
+frame_cut xs = record { start = first_tick xs; frame = bytes_of_cut xs }

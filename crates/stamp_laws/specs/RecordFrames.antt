@@ -3,7 +3,7 @@
 use Rattle.std.specs.Prelude.{Bool, List, filter}
 use Rattle.rtu_frame.specs.Frame.{is_frame}
 use Rattle.line_stamps.specs.Places.{PlacedByte}
-use Rattle.stamp_laws.specs.Cuts.{cut_where, bytes_of}
+use Rattle.stamp_laws.specs.Cuts.{cut_where, bytes_of_cut}
 
 -- whether the second of two bytes begins a record
 abbrev pub begins_record : PlacedByte → PlacedByte → Bool
@@ -11,4 +11,4 @@ begins_record x y = y.first
 
 -- the bytes of each record that is a frame
 abbrev pub records_that_are_frames : List PlacedByte → List (List PlacedByte)
-records_that_are_frames xs = filter (λ z. is_frame (bytes_of z)) (cut_where begins_record xs)
+records_that_are_frames xs = filter (λ z. is_frame (bytes_of_cut z)) (cut_where begins_record xs)

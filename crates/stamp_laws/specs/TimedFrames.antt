@@ -8,7 +8,7 @@ use Rattle.std.specs.Prelude.{ℕ, ◌*◌, nat_le, nat_lt, ◌&&◌, not, Bool,
 use Rattle.rtu_frame.specs.Frame.{is_frame}
 use Rattle.line_stamps.specs.Places.{PlacedByte}
 use Rattle.line_stamps.specs.Clock.{silence}
-use Rattle.stamp_laws.specs.Cuts.{cut_where, any_next, bytes_of}
+use Rattle.stamp_laws.specs.Cuts.{cut_where, any_next, bytes_of_cut}
 
 module _ (character : ℕ) where
   -- whether at least 3.5 characters of silence are between two bytes
@@ -21,7 +21,7 @@ module _ (character : ℕ) where
 
   -- whether these bytes are a frame, with at most 1.5 characters of silence between neighbours
   abbrev pub is_timed_frame : List PlacedByte → Bool
-  is_timed_frame xs = not (any_next are_apart xs) && is_frame (bytes_of xs)
+  is_timed_frame xs = not (any_next are_apart xs) && is_frame (bytes_of_cut xs)
 
   -- the bytes of each frame that is read: those between two ends, if they are a frame. The end of
   -- the capture ends the last one.

@@ -11,8 +11,8 @@ ghost use Rattle.line_stamps.specs.declared.capture.CaptureByte.{CaptureByte};
 ghost use Rattle.line_stamps.specs.declared.timing.Spacing.TheVariants.{ByTime, ByRecord};
 ghost use Rattle.line_stamps.specs.declared.timing.Timing.{Timing};
 ghost use Rattle.line_stamps.specs.Parts.{character};
-ghost use Rattle.line_stamps.specs.Places.{line_of, placed};
-ghost use Rattle.stamp_laws.specs.Cuts.{frame_of};
+ghost use Rattle.line_stamps.specs.Places.{line_of_places, placed};
+ghost use Rattle.stamp_laws.specs.Cuts.{frame_cut};
 ghost use Rattle.stamp_laws.specs.HuntedBytes.{timed_byte};
 ghost use Rattle.stamp_laws.specs.RecordFrames.{records_that_are_frames};
 ghost use Rattle.stamp_laws.specs.TimedFrames.{frames_by_time};
@@ -23,8 +23,8 @@ ghost use Rattle.stamp_laws.specs.TimedFrames.{frames_by_time};
 /// of its first byte, and no other.
 pub fn times_tell_what_is_read()
     ensures { (t : Timing) (cs : List CaptureByte) (n : ℕ) → t.spacing ≡ ByTime → T3_5_TICKS ≤ n
-        → rtu_reads (line_of t cs ++ silent n)
-        ≡ map frame_of (frames_by_time (character t.rate) (placed t cs)) }
+        → rtu_reads (line_of_places t cs ++ silent n)
+        ≡ map frame_cut (frames_by_time (character t.rate) (placed t cs)) }
 {}
 
 /// A law of the definitions, for captures whose records are taken for frames: after the line and
@@ -32,8 +32,8 @@ pub fn times_tell_what_is_read()
 /// whatever its time, and nothing else.
 pub fn records_tell_what_is_read()
     ensures { (t : Timing) (cs : List CaptureByte) (n : ℕ) → t.spacing ≡ ByRecord → T3_5_TICKS ≤ n
-        → rtu_reads (line_of t cs ++ silent n)
-        ≡ map frame_of (records_that_are_frames (placed t cs)) }
+        → rtu_reads (line_of_places t cs ++ silent n)
+        ≡ map frame_cut (records_that_are_frames (placed t cs)) }
 {}
 
 /// A law of the definitions: a DNP3 device ignores silence, so it reads of the line what it reads
@@ -41,6 +41,6 @@ pub fn records_tell_what_is_read()
 /// is in the tick of its first byte.
 pub fn bytes_tell_what_dnp_reads()
     ensures { (t : Timing) (cs : List CaptureByte) (n : ℕ)
-        → dnp_reads (line_of t cs ++ silent n)
+        → dnp_reads (line_of_places t cs ++ silent n)
         ≡ hunt 0x05 0x64 dnp_rules 0 (map timed_byte (placed t cs)) }
 {}

@@ -7,7 +7,7 @@ use Rattle.tick_drive.proofs.{ItemLaws.ticks_with, Moving.gives_then, Moving.giv
 use Rattle.tick_drive.{proofs.Moving.gives_items, specs.Consumers.Consuming}
 use Rattle.tick_drive.specs.{Consumers.AreJoined, Consumers.Gives, Drive.Drives, Drive.HandsOver}
 use Rattle.tick_drive.specs.{Drive.HandAnswer, Drive.halted_end, Input.IsMetOf}
-use Rattle.tick_drive.specs.Input.{EndsLine, IsWhole, IsReadCause, max_ticks, is_read_fault}
+use Rattle.tick_drive.specs.Input.{EndsInputLine, IsWhole, IsReadCause, max_ticks, is_read_fault}
 use Rattle.tick_drive.specs.Intake.{HasMet, MeetsLine, MeetsEnd, StepAnswer, FinishAnswer, lent}
 use Rattle.tick_drive.specs.{Items.silent_items, declared.consumer.Stop.Stop, declared.end.End.End}
 use Rattle.tick_drive.specs.declared.end.End.TheVariants.{Whole, Refused, TooLong, ReadFault}
@@ -43,7 +43,7 @@ ends_by_line_feed text byte line ended some = elim (cases_eq byte line_feed) [
 -- the LF.
 ends_line : (intake : Intake) (marks : ℕ) (before now : Option (List ℕ)) (text : List ℕ)
     (line : List Item) (met : MeetsLine intake marks before now text line) → line ≢ []
-    → EndsLine marks before (text ++ met.front) (ended_items text) line
+    → EndsInputLine marks before (text ++ met.front) (ended_items text) line
 ends_line intake marks before now text line met some =
     let byte_is : met.byte ≡ line_feed =
     ends_by_line_feed (text ++ met.front) met.byte line
@@ -288,7 +288,7 @@ module _ {C : Type 0} (meaning : Consuming C) (joins : AreJoined meaning) where
           takes = inl (record {
             text = p.text ++ met.front;
             line = line;
-            ended = subst (λ items. EndsLine marks before (p.text ++ met.front) items line)
+            ended = subst (λ items. EndsInputLine marks before (p.text ++ met.front) items line)
                 (sym quiet) (ends_line next marks before later p.text line met some);
             few = omega (arith, h.few, p.sum, ticks_with (ended_items p.text) line);
             are = ap (λ items. items ++ line) (sym quiet);

@@ -4,7 +4,7 @@ use Rattle.std.proofs.Common.{append-nil, Result, Ok, Err, subst, sym, ap, refl,
 use Rattle.std.proofs.{Common.arith, Common.◌∙◌, Math.Seq.take-append-add}
 use Rattle.std.proofs.lemmas.List.{take-append-le, take-append-drop}
 use Rattle.tick_drive.proofs.ItemLaws.{ticks_with}
-use Rattle.tick_drive.specs.Consumers.{Consuming, IsNoneDone, AreJoined, MayTake, Moves, Stops}
+use Rattle.tick_drive.specs.Consumers.{Consuming, IsNoneDone, AreJoined, MayTake, Moves, ConsumerStops}
 use Rattle.tick_drive.specs.{Consumers.Gives, Consumers.GivesFirst, declared.consumer.Stop.Stop}
 use Rattle.yasir_ticks.specs.Ticks.{Item, ticks_in, Item.mark}
 
@@ -16,7 +16,7 @@ module _ {C : Type 0} (meaning : Consuming C) where
       (second origin (items ++ a) (first origin items stands))
 
   stops_then : (c0 c1 c2 : C) (a b : List Item) (stop : Stop) → Moves meaning c0 c1 a
-      → Stops meaning c1 c2 b stop → Stops meaning c0 c2 (a ++ b) stop
+      → ConsumerStops meaning c1 c2 b stop → ConsumerStops meaning c0 c2 (a ++ b) stop
   stops_then c0 c1 c2 a b stop first second =
       let sum : length a + second.place + 1 ≡ length a + (second.place + 1) = omega arith in
       let front : take (length a + second.place + 1) (a ++ b) ≡ a ++ take (second.place + 1) b =
@@ -29,8 +29,8 @@ module _ {C : Type 0} (meaning : Consuming C) where
       }
 
   -- Where a consumer stopped among some items doesn't depend on the items that follow.
-  stops_before : (c0 c1 : C) (a rest : List Item) (stop : Stop) → Stops meaning c0 c1 a stop
-      → Stops meaning c0 c1 (a ++ rest) stop
+  stops_before : (c0 c1 : C) (a rest : List Item) (stop : Stop) → ConsumerStops meaning c0 c1 a stop
+      → ConsumerStops meaning c0 c1 (a ++ rest) stop
   stops_before c0 c1 a rest stop stops = record {
     place = stops.place;
     within = omega (arith, length-append a rest, stops.within);

@@ -1,6 +1,6 @@
 -- A consumer that stops only if there is no memory stops a drive only then.
 use Rattle.std.proofs.Common.{◌≡◌, ℕ, List, [], Option, Err, subst}
-use Rattle.tick_drive.specs.{Consumers.Consuming, Consumers.Gives, Drive.Drives, Drive.answer_of}
+use Rattle.tick_drive.specs.{Consumers.Consuming, Consumers.Gives, Drive.Drives, Drive.drive_answer_of}
 use Rattle.tick_drive.specs.Drive.{StopsForMemory}
 use Rattle.tick_drive.specs.declared.consumer.Stop.{Stop, TheVariants.NoMemory}
 use Rattle.tick_drive.specs.declared.end.End.{End}
@@ -15,5 +15,5 @@ module _ {C : Type 0} (meaning : Consuming C)
       → StopsForMemory end
   stops-for-memory end driven = λ stop is.
       let gives : Gives meaning old new driven.items (Err stop) =
-      subst (λ e. Gives meaning old new driven.items (answer_of e)) is driven.gives in
+      subst (λ e. Gives meaning old new driven.items (drive_answer_of e)) is driven.gives in
       only new stop origin _ (gives.stopped.at origin [] begins)

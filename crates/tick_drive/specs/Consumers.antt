@@ -73,7 +73,7 @@ module _ {C : Type 0} (meaning : Consuming C) where
       → meaning.stands old origin items → meaning.stands new origin (items ++ more)
 
   -- Holds if the consumer, whatever it had taken before, stopped at one of these items.
-  pub record Stops (old new : C) (more : List Item) (stop : Stop) : Type 0 where
+  pub record ConsumerStops (old new : C) (more : List Item) (stop : Stop) : Type 0 where
     pub place : ℕ
     pub within : place < length more
     pub at : (origin : meaning.Origin) (items : List Item) → meaning.stands old origin items
@@ -84,7 +84,7 @@ module _ {C : Type 0} (meaning : Consuming C) where
   pub record Gives (old new : C) (items : List Item) (result : Result (Unit {0}) Stop) :
       Type 0 where
     pub moved : OnOk result (Moves old new items)
-    pub stopped : IfErr result (Stops old new items)
+    pub stopped : IfErr result (ConsumerStops old new items)
     pub counted : OnOk result (meaning.taken new ≡ meaning.taken old + length (ticks_in items))
     pub is_able : OnOk result (meaning.able new)
     pub went : meaning.went old new result

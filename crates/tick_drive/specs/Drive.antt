@@ -13,9 +13,9 @@ use Rattle.tick_drive.specs.declared.input_loop.Halt.{Halt}
 use Rattle.tick_drive.specs.declared.input_loop.Halt.TheVariants.{TooMany, ByConsumer}
 
 -- what the consumer returned last, if the drive ended like this
-abbrev pub answer_of : End → Result (Unit {0}) Stop
-answer_of (Stopped stop) = Err stop
-answer_of end = Ok tt
+abbrev pub drive_answer_of : End → Result (Unit {0}) Stop
+drive_answer_of (Stopped stop) = Err stop
+drive_answer_of end = Ok tt
 
 -- Holds if whatever took the ticks of an input that ended like this stopped for want of memory, if
 -- it stopped.
@@ -34,7 +34,7 @@ module _ {C : Type 0} (meaning : Consuming C) where
     pub able : meaning.able consumer
 
   -- Holds if a consumer may be used, and may count as many more ticks as an input may have.
-  pub record HasRoom (consumer : C) : Type 0 where
+  pub record DriveHasRoom (consumer : C) : Type 0 where
     pub room : meaning.taken consumer + max_ticks ≤ MAX_TICKS
     pub able : meaning.able consumer
 
@@ -44,7 +44,7 @@ module _ {C : Type 0} (meaning : Consuming C) where
       Type 0 where
     pub items : List Item
     pub takes : Takes marks rest before now items end
-    pub gives : Gives meaning old new items (answer_of end)
+    pub gives : Gives meaning old new items (drive_answer_of end)
 
   -- Holds if the items of one line were handed over. With the ticks before, there are `sum` ticks.
   pub record HandsOver (old new : C) (ticks : ℕ) (items : List Item) (sum : ℕ) : Type 0 where
@@ -59,7 +59,7 @@ module _ {C : Type 0} (meaning : Consuming C) where
     pub above : max_ticks < count
 
   -- Holds if the consumer stopped at one of the items of the line.
-  pub record StopsAt (old new : C) (ticks : ℕ) (items : List Item) (stop : Stop) : Type 0 where
+  pub record DriveStopsAt (old new : C) (ticks : ℕ) (items : List Item) (stop : Stop) : Type 0 where
     pub gives : Gives meaning old new items (Err stop)
     pub few : ticks + length (ticks_in items) ≤ max_ticks
 
@@ -67,4 +67,4 @@ module _ {C : Type 0} (meaning : Consuming C) where
   abbrev pub HandAnswer : C → C → ℕ → List Item → Result ℕ Halt → Type 0
   HandAnswer old new ticks items (Ok sum) = HandsOver old new ticks items sum
   HandAnswer old new ticks items (Err (TooMany count)) = HoldsBack old new ticks items count
-  HandAnswer old new ticks items (Err (ByConsumer stop)) = StopsAt old new ticks items stop
+  HandAnswer old new ticks items (Err (ByConsumer stop)) = DriveStopsAt old new ticks items stop

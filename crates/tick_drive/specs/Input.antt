@@ -72,7 +72,7 @@ pub record IsRefusedEnd (marks : ℕ) (before now : Option (List ℕ)) (text : L
 
 -- Holds if the next byte, an LF, ends a line with these items, and a right text begins with it and
 -- the bytes before it.
-pub record EndsLine (marks : ℕ) (before : Option (List ℕ)) (text : List ℕ)
+pub record EndsInputLine (marks : ℕ) (before : Option (List ℕ)) (text : List ℕ)
     (items line : List Item) : Type 0 where
   pub met : IsMetOf before (text ++ line_feed ∷ [])
   pub begins : BeginsTickText marks (text ++ line_feed ∷ [])
@@ -96,7 +96,7 @@ pub record IsWhole (marks rest : ℕ) (before now : Option (List ℕ)) (items : 
   pub are : items ≡ told ++ silent_items rest
 
 -- Holds if these are the items of the lines that ended before the refused place.
-pub record IsRefused (marks : ℕ) (before now : Option (List ℕ)) (items : List Item)
+pub record InputIsRefused (marks : ℕ) (before now : Option (List ℕ)) (items : List Item)
     (bad : BadTicks) : Type 0 where
   pub text : List ℕ
   pub refused : IsRefusedByte marks before text bad ⊎ IsRefusedEnd marks before now text bad
@@ -109,7 +109,7 @@ pub record HasTooManyTicks (marks : ℕ) (before now : Option (List ℕ)) (items
     (count : ℕ) : Type 0 where
   pub text : List ℕ
   pub line : List Item
-  pub ended : EndsLine marks before text items line ⊎ EndsLast marks before now text items line
+  pub ended : EndsInputLine marks before text items line ⊎ EndsLast marks before now text items line
   pub few : AreFew items
   pub are : items ≡ ended_items text
   pub sum : count ≡ length (ticks_in (items ++ line))
@@ -140,7 +140,7 @@ pub record FailsToRead (marks : ℕ) (before now : Option (List ℕ)) (items : L
 pub record StopsInLine (marks : ℕ) (before : Option (List ℕ)) (items : List Item) : Type 0 where
   pub text : List ℕ
   pub line : List Item
-  pub ended : EndsLine marks before text (ended_items text) line
+  pub ended : EndsInputLine marks before text (ended_items text) line
   pub few : AreFew items
   pub are : items ≡ ended_items text ++ line
 
@@ -149,7 +149,7 @@ pub record StopsInLine (marks : ℕ) (before : Option (List ℕ)) (items : List 
 -- lines that were met, of which all are whole, or after an input that was met to its end.
 abbrev pub Takes : ℕ → ℕ → Option (List ℕ) → Option (List ℕ) → List Item → End → Type 0
 Takes marks rest before now items Whole = IsWhole marks rest before now items
-Takes marks rest before now items (Refused bad) = IsRefused marks before now items bad
+Takes marks rest before now items (Refused bad) = InputIsRefused marks before now items bad
 Takes marks rest before now items (TooLong Ticks count) =
     HasTooManyTicks marks before now items count
 Takes marks rest before now items (TooLong Bytes count) = HasTooManyBytes marks before items count

@@ -9,8 +9,8 @@ abbrev pub tick_item : Tick → Item
 tick_item t = tick t
 
 -- bytes, one for each tick
-abbrev pub byte_items : List ℕ → List Item
-byte_items bytes = map (λ b. tick (Byte b)) bytes
+abbrev pub bytes_as_items : List ℕ → List Item
+bytes_as_items bytes = map (λ b. tick (Byte b)) bytes
 
 -- n silent ticks
 abbrev pub silent_items : ℕ → List Item

@@ -8,7 +8,7 @@ ghost use Rattle.yasir_ticks.specs.declared.place.Content.TheVariants.{SilentTic
 ghost use Rattle.yasir_ticks.specs.declared.TheConstants.{MAX_TICKS};
 ghost use Rattle.tick_drive.specs.Input.{IsReadCause, is_read_fault, max_ticks};
 ghost use Rattle.tick_drive.specs.Consumers.{MayTake, Gives};
-ghost use Rattle.tick_drive.specs.Drive.{Drives, IsFresh, HasRoom, HandAnswer};
+ghost use Rattle.tick_drive.specs.Drive.{Drives, IsFresh, DriveHasRoom, HandAnswer};
 ghost use Rattle.tick_drive.specs.Drive.{halted_end};
 
 use crate::intake::Intake;
@@ -222,7 +222,7 @@ fn hand_last<C: Consumer>(ticks: u32, run: &Run, consumer: &mut C) -> Result<u32
 /// two stops. The consumer may have counted ticks before, as long as it can count as many more as
 /// an input may have.
 pub fn drive_with_room<S: Source, C: Consumer>(marks: u8, input: &mut S, consumer: &mut C) -> End
-    requires { HasRoom C.meaning consumer.old }
+    requires { DriveHasRoom C.meaning consumer.old }
     ensures driven { Drives C.meaning marks 0 (S.left input.old) (S.left input.new) consumer.old
         consumer.new result }
     ensures read { IsReadCause (S.faults input.old) (S.faults input.new) (is_read_fault result) }

@@ -7,7 +7,7 @@ use Rattle.std.proofs.Common.{◌≡◌, ◌∙◌, ℕ, ◌+◌, Bool, List, []
 use Rattle.std.proofs.Common.{arith, Option, Some, None, cond, length-append}
 use Rattle.std.{proofs.lemmas.List.Elements.filter-append, specs.List.filter}
 use Rattle.trial_session.proofs.Starting.{no-note, no-tick}
-use Rattle.trial_session.specs.Boxes.{trial_setup, told_by}
+use Rattle.trial_session.specs.Boxes.{trial_setup, told_in_trial}
 use Rattle.trial_session.specs.Counting.{Counting, CountsNothing, CountsStep, CountsRun, through_in}
 use Rattle.trial_session.specs.{Counting.refused_in, Counting.dropped_in, FateLaws.length-cond}
 use Rattle.trial_session.specs.Fates.{CountsFates, tally, is_through, is_refused, is_dropped}
@@ -96,17 +96,17 @@ dropped-one Dropped = refl
 
 module _ {A : Type 0} (fate_of : A → Fate) where
   pub through-told : (note : Option A)
-      → counted (λ a. is_through (fate_of a)) note ≡ through_in (told_by fate_of note)
+      → counted (λ a. is_through (fate_of a)) note ≡ through_in (told_in_trial fate_of note)
   through-told None = refl
   through-told (Some note) = through-one (fate_of note)
 
   pub refused-told : (note : Option A)
-      → counted (λ a. is_refused (fate_of a)) note ≡ refused_in (told_by fate_of note)
+      → counted (λ a. is_refused (fate_of a)) note ≡ refused_in (told_in_trial fate_of note)
   refused-told None = refl
   refused-told (Some note) = refused-one (fate_of note)
 
   pub dropped-told : (note : Option A)
-      → counted (λ a. is_dropped (fate_of a)) note ≡ dropped_in (told_by fate_of note)
+      → counted (λ a. is_dropped (fate_of a)) note ≡ dropped_in (told_in_trial fate_of note)
   dropped-told None = refl
   dropped-told (Some note) = dropped-one (fate_of note)
 
@@ -148,7 +148,7 @@ module _ {A : Type 0} (walking : Walking A) (fate_of : A → Fate) (counting : C
         ∙ ap (λ k. k + counted (λ a. is (fate_of a)) note) (sym (counted_is line))
 
     -- One more step counts the fate of its note.
-    pub counts-step : CountsStep counting line t tick (told_by fate_of note)
+    pub counts-step : CountsStep counting line t tick (told_in_trial fate_of note)
     counts-step = record {
       tick_is = counts.other_is (line ++ t ∷ []) ∙ answers.tick
           ∙ ap (λ l. l ++ tick ∷ []) (sym (counts.other_is line));

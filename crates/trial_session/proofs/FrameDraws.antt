@@ -2,8 +2,8 @@
 use Rattle.dnp_link_frame.specs.{Frame.frame_of, declared.header.Header.Header}
 use Rattle.std.proofs.Common.{◌≡◌, ◌∙◌, ℕ, ◌+◌, ◌-◌, ◌%◌, List, [], ◌++◌, ap, sym, arith}
 use Rattle.trial_session.proofs.Drawing.{after-one, one-is, two-is, three-is, state_after-add}
-use Rattle.trial_session.specs.DnpDrawn.{dnp_header, dnp_user, dnp_user_len, dnp_drawing}
-use Rattle.trial_session.specs.Draws.{next_state, drawn, state_after, bytes_drawn, nth_drawn}
+use Rattle.trial_session.specs.DnpDrawn.{drawn_dnp_header, dnp_user, dnp_user_len, dnp_drawing}
+use Rattle.trial_session.specs.Draws.{next_state, drawn, draw_state_after, bytes_drawn, nth_drawn}
 use Rattle.trial_session.specs.RtuDrawn.{rtu_body, rtu_frame_len}
 
 -- An empty frame has the bytes that are put into it.
@@ -12,7 +12,7 @@ pub rtu-filled : (items before more body : List ℕ) → items ≡ before ++ mor
 rtu-filled items before more body is none same = is ∙ ap (λ l. l ++ more) none ∙ same
 
 module _ (x one value : ℕ) (first : one ≡ next_state x) (value_is : value ≡ drawn one) where
-  begun : one ≡ state_after 1 x
+  begun : one ≡ draw_state_after 1 x
   begun = first ∙ sym (after-one x)
 
   length-is : value % 253 + 2 ≡ rtu_frame_len x - 2
@@ -27,11 +27,11 @@ module _ (x one value : ℕ) (first : one ≡ next_state x) (value_is : value �
       is ∙ ap (λ n. bytes_drawn n one) length-is
       ∙ ap (λ s. bytes_drawn (rtu_frame_len x - 2) s) begun
 
-  pub rtu-state-is : (end : ℕ) → end ≡ state_after (value % 253 + 2) one
-      → end ≡ state_after (1 + (rtu_frame_len x - 2)) x
+  pub rtu-state-is : (end : ℕ) → end ≡ draw_state_after (value % 253 + 2) one
+      → end ≡ draw_state_after (1 + (rtu_frame_len x - 2)) x
   rtu-state-is end is =
-      is ∙ ap (λ n. state_after n one) length-is
-      ∙ ap (λ s. state_after (rtu_frame_len x - 2) s) begun
+      is ∙ ap (λ n. draw_state_after n one) length-is
+      ∙ ap (λ s. draw_state_after (rtu_frame_len x - 2) s) begun
       ∙ sym (state_after-add 1 (rtu_frame_len x - 2) x)
 
 module _ (x one two three a b c : ℕ) (first : one ≡ next_state x) (second : two ≡ next_state one)
@@ -46,7 +46,7 @@ module _ (x one two three a b c : ℕ) (first : one ≡ next_state x) (second : 
   third-is : c ≡ nth_drawn 3 x
   third-is = c_is ∙ ap drawn (three-is x one two three a b c first second third)
 
-  begun-three : three ≡ state_after 3 x
+  begun-three : three ≡ draw_state_after 3 x
   begun-three = three-is x one two three a b c first second third
 
   header-is : (let header : Header = record {
@@ -54,7 +54,7 @@ module _ (x one two three a b c : ℕ) (first : one ≡ next_state x) (second : 
     destination = b % 65536;
     source = c % 65536;
   } in
-      header ≡ dnp_header x)
+      header ≡ drawn_dnp_header x)
   header-is =
       ap (λ d. record { control = 0xC4; destination = d % 65536; source = c % 65536 }) second-is
       ∙ ap (λ s. record {
@@ -72,11 +72,11 @@ module _ (x one two three a b c : ℕ) (first : one ≡ next_state x) (second : 
       → frame ≡ frame_of (record { control = 0xC4; destination = b % 65536; source = c % 65536 })
       user → user ≡ bytes_drawn (a % 251) three → frame ≡ dnp_drawing.frame x
   dnp-frame-is frame user is of =
-      is ∙ ap (λ h. frame_of h user) header-is ∙ ap (frame_of (dnp_header x)) (user-is user of)
+      is ∙ ap (λ h. frame_of h user) header-is ∙ ap (frame_of (drawn_dnp_header x)) (user-is user of)
 
-  pub dnp-state-is : (end : ℕ) → end ≡ state_after (a % 251) three
-      → end ≡ state_after (3 + dnp_user_len x) x
+  pub dnp-state-is : (end : ℕ) → end ≡ draw_state_after (a % 251) three
+      → end ≡ draw_state_after (3 + dnp_user_len x) x
   dnp-state-is end is =
-      is ∙ ap (λ v. state_after (v % 251) three) first-is
-      ∙ ap (λ s. state_after (dnp_user_len x) s) begun-three
+      is ∙ ap (λ v. draw_state_after (v % 251) three) first-is
+      ∙ ap (λ s. draw_state_after (dnp_user_len x) s) begun-three
       ∙ sym (state_after-add 3 (dnp_user_len x) x)

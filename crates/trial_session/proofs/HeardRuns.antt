@@ -4,7 +4,7 @@ use Rattle.link_box.specs.declared.box_trait.LinkBox.{Ghosts as LinkBox}
 use Rattle.std.proofs.Common.{◌≡◌, ◌∙◌, ℕ, ◌+◌, List, [], ◌∷◌, ◌++◌, length, map, ap, sym, subst}
 use Rattle.std.proofs.Common.{refl, arith, length-append, append_assoc, append-nil}
 use Rattle.{std.proofs.lemmas.List.map-append, trial_session.specs.Counting.Counting}
-use Rattle.trial_session.specs.Sides.{HasTaken, HasPassed, HasHeard, IsHearing, HasReceived}
+use Rattle.trial_session.specs.Sides.{HasTaken, HasPassed, SideHasHeard, IsHearing, HasReceived}
 use Rattle.trial_session.specs.{Sides.IsReceiving, declared.listening.Listening.Listening}
 use Rattle.trial_session.specs.declared.receiving.Receiving.{Receiving}
 use Rattle.yasir_ticks.specs.declared.tick.Tick.{Tick, TheVariants.Byte}
@@ -19,11 +19,11 @@ module _ {V : Type 0} (device : Device V) where
       (frames : List FrameRead) (n : ℕ) → run ≡ front
       → device.stands next.device (line ++ run)
       → device.reads (line ++ run) ≡ device.reads line ++ frames
-      → n ≡ length frames → HasHeard device value line
+      → n ≡ length frames → SideHasHeard device value line
       → next.read ≡ value.read + n
-      → HasHeard device next (line ++ front)
+      → SideHasHeard device next (line ++ front)
   hears-run value next line run front frames n same stands reads count heard more =
-      subst (λ l. HasHeard device next (line ++ l)) same (record {
+      subst (λ l. SideHasHeard device next (line ++ l)) same (record {
         stands = stands;
         counts = more
             ∙ ap (λ k. k + n) heard.counts
@@ -39,12 +39,12 @@ module _ {V : Type 0} (device : Device V) where
 
   -- If no byte waits, the device has heard all of its line.
   pub hears-all : (value : Listening V) (line : List Tick)
-      → IsHearing device value [] line → HasHeard device value line
+      → IsHearing device value [] line → SideHasHeard device value line
   hears-all value line so =
-      subst (HasHeard device value) (sym (so.is ∙ append-nil so.front)) so.hears
+      subst (SideHasHeard device value) (sym (so.is ∙ append-nil so.front)) so.hears
 
   pub hears-none : (value : Listening V) (line : List Tick)
-      → HasHeard device value line → IsHearing device value [] line
+      → SideHasHeard device value line → IsHearing device value [] line
   hears-none value line heard = record {
     front = line;
     is = sym (append-nil line);

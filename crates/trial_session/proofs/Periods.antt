@@ -7,10 +7,10 @@ use Rattle.std.proofs.Math.Seq.{drop-append_seam}
 use Rattle.std.proofs.lemmas.List.{take-append-le, drop-append-le, take_all}
 use Rattle.trial_session.specs.Alterations.{alteration_of, altered}
 use Rattle.trial_session.specs.{Counting.Counting, DrawnFrames.Drawing, Draws.draw_state}
-use Rattle.trial_session.specs.{Draws.state_after, Draws.nth_drawn, Runs.HasRun}
+use Rattle.trial_session.specs.{Draws.draw_state_after, Draws.nth_drawn, Runs.HasRun}
 use Rattle.trial_session.specs.Session.{period_len, period_line, state_at, session_line}
-use Rattle.trial_session.specs.Session.{altered_link, alteration_in, after_frame, ticks_of}
-use Rattle.trial_session.specs.Sides.{HasTaken, HasSent, HasReceived}
+use Rattle.trial_session.specs.Session.{altered_link, alteration_in, after_frame, ticks_of_session}
+use Rattle.trial_session.specs.Sides.{HasTaken, SideHasSent, HasReceived}
 use Rattle.trial_session.specs.declared.{alteration.Alteration.Alteration, session.Session.Session}
 use Rattle.trial_session.specs.declared.summary.Summary.{Summary}
 use Rattle.yasir_ticks.specs.declared.tick.Tick.{Tick}
@@ -31,7 +31,7 @@ module _ (drawing : Drawing) (behind seed : ℕ) where
   altered-front zero l more long = refl
   altered-front (suc n) l more long =
       ap (λ x. x ++ altered (alteration_in drawing behind (state_at drawing seed n))
-      (ticks_of drawing n (l ++ more)))
+      (ticks_of_session drawing n (l ++ more)))
       (altered-front n l more (omega arith))
       ∙ ap (λ x. altered_link drawing behind seed n l
       ++ altered (alteration_in drawing behind (state_at drawing seed n)) x)
@@ -44,12 +44,12 @@ module _ (drawing : Drawing) (behind seed : ℕ) where
       ++ altered (alteration_in drawing behind (state_at drawing seed n)) ticks
   unfolding altered_link
   link-suc n l ticks long whole =
-      let own : ticks_of drawing n (l ++ ticks) ≡ ticks =
+      let own : ticks_of_session drawing n (l ++ ticks) ≡ ticks =
       ap (λ k. take period_len (drop k (l ++ ticks))) (sym long)
       ∙ ap (take period_len) (drop-append_seam l ticks)
       ∙ take_all period_len ticks (omega (arith, whole)) in
       ap (λ x. x ++ altered (alteration_in drawing behind (state_at drawing seed n))
-      (ticks_of drawing n (l ++ ticks)))
+      (ticks_of_session drawing n (l ++ ticks)))
       (altered-front n l ticks (omega (arith, long)))
       ∙ ap (λ x. altered_link drawing behind seed n l
       ++ altered (alteration_in drawing behind (state_at drawing seed n)) x) own
@@ -60,7 +60,7 @@ module _ (drawing : Drawing) (behind seed : ℕ) where
   line-suc n = refl
 
   state-suc : (n : ℕ) → state_at drawing seed (suc n)
-      ≡ state_after 3 (after_frame drawing (state_at drawing seed n))
+      ≡ draw_state_after 3 (after_frame drawing (state_at drawing seed n))
   unfolding state_at
   state-suc n = refl
 
@@ -81,13 +81,13 @@ module _ {S C V N K : Type 0} (seals : LinkBox S N) (sealing : Counting) (checks
     C V) (frame : List ℕ) (mid : ℕ)
     (alteration : Alteration) (sent : List Tick) where
   pub run-suc : frame ≡ drawing.frame (draw_state old.draws)
-      → mid ≡ state_after (drawing.draws (draw_state old.draws)) (draw_state old.draws)
-      → draw_state new.draws ≡ state_after 3 mid
+      → mid ≡ draw_state_after (drawing.draws (draw_state old.draws)) (draw_state old.draws)
+      → draw_state new.draws ≡ draw_state_after 3 mid
       → alteration ≡ alteration_of (nth_drawn 1 mid % 8)
       (nth_drawn 2 mid % (length frame + behind)) (1 + nth_drawn 3 mid % 255)
       → length sent ≡ period_len
       → ((line : List Tick) → HasTaken seals sealing old.sealing line
-      → HasSent seals sealing new.sealing line (period_line frame) sent)
+      → SideHasSent seals sealing new.sealing line (period_line frame) sent)
       → ((link : List Tick) → HasReceived checks checking device old.receiving link
       → HasReceived checks checking device new.receiving (link ++ altered alteration sent))
       → (seed n : ℕ) → HasRun seals sealing checks checking device drawing behind old seed n
@@ -98,7 +98,7 @@ module _ {S C V N K : Type 0} (seals : LinkBox S N) (sealing : Counting) (checks
       let link = altered_link drawing behind seed n (sealing.other_line line) in
       let frame_at : frame ≡ drawing.frame x = frame_is ∙ ap drawing.frame run.state_is in
       let mid_at : mid ≡ after_frame drawing x =
-      mid_is ∙ ap (λ s. state_after (drawing.draws s) s) run.state_is in
+      mid_is ∙ ap (λ s. draw_state_after (drawing.draws s) s) run.state_is in
       let alter_at : alteration ≡ alteration_in drawing behind x =
       alteration_is
       ∙ ap (λ s. alteration_of (nth_drawn 1 s % 8) (nth_drawn 2 s % (length frame + behind))
@@ -119,7 +119,7 @@ module _ {S C V N K : Type 0} (seals : LinkBox S N) (sealing : Counting) (checks
       ∙ sym (ap (altered_link drawing behind seed (suc n)) now
       ∙ link-suc drawing behind seed n (sealing.other_line line) sent run.link_long long) in
       record {
-        state_is = end_is ∙ ap (state_after 3) mid_at ∙ sym (state-suc drawing behind seed n);
+        state_is = end_is ∙ ap (draw_state_after 3) mid_at ∙ sym (state-suc drawing behind seed n);
         seals_line = subst (HasTaken seals sealing new.sealing) whole sealed.taken;
         link_long = ap length now ∙ (omega (
           arith,

@@ -5,7 +5,7 @@ use Rattle.link_format.specs.Profile.{Profile, HasTags, trailer_len}
 use Rattle.link_box.specs.Checking.{passed, received_line}
 use Rattle.receiver_laws.proofs.Deliveries.{delivers-all}
 use Rattle.receiver_laws.specs.Reading.{ReadsWhatPassed, delivered}
-use Rattle.receiver_laws.specs.Untouched.{AreSpaced, IsUntouched, numbered}
+use Rattle.receiver_laws.specs.Untouched.{AreSpaced, IsUntouchedLink, numbered}
 use Rattle.link_box.specs.Sealing.{sealer, at_floor, sealed, sealed_in}
 use Rattle.std.proofs.Common.{◌≡◌, ◌∙◌, ℕ, zero, suc, ◌+◌, ◌-◌, ◌*◌, ◌^◌, ◌<◌, ◌≤◌, true, List, []}
 use Rattle.std.proofs.Common.{◌∷◌, ◌++◌, length, map, refl, ap, sym, subst, arith, append_assoc}
@@ -71,7 +71,7 @@ module _ (profile : Profile) (tags : HasTags profile) (some : 1 ≤ profile.word
         ∙ length-drawn drawing seed (suc n) in
         let short_frame = few (state_at drawing seed n) in
         let room = some-words profile.word_len in
-        let is : IsUntouched profile rules 0 0 line more = record {
+        let is : IsUntouchedLink profile rules 0 0 line more = record {
           spaced = subst (AreSpaced profile rules 0) (sym them)
               (spaced rules profile framed short 0 0 (frames_drawn drawing seed (suc n))
               (frames-are (suc n)) (omega arith));

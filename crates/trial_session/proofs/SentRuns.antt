@@ -7,7 +7,7 @@ use Rattle.std.proofs.Common.{map, ap, sym, subst, append_assoc, append-nil, ref
 use Rattle.std.proofs.lemmas.List.{take_all, take_rest, map-append, replicate-append-replicate}
 use Rattle.trial_session.specs.{Boxes.trial_setup, Counting.Counting}
 use Rattle.trial_session.specs.Counting.{CountsStep, CountsRun, through_in, refused_in, dropped_in}
-use Rattle.trial_session.specs.Sides.{HasTaken, HasSent, HasPassed}
+use Rattle.trial_session.specs.Sides.{HasTaken, SideHasSent, HasPassed}
 use Rattle.trial_session.specs.declared.{fate.Fate.Fate, side.Side.Side}
 use Rattle.yasir_ticks.specs.Ticks.{silent}
 use Rattle.yasir_ticks.specs.declared.tick.Tick.{Tick, TheVariants.Silent, TheVariants.Byte}
@@ -77,7 +77,7 @@ module _ {X N : Type 0} (line_box : LinkBox X N) (counting : Counting) where
       → next.refused ≡ side.refused + refused_in fate
       → next.dropped ≡ side.dropped + dropped_in fate
       → HasTaken line_box counting side line → CountsStep counting line t tick fate
-      → HasSent line_box counting next line (t ∷ []) (tick ∷ [])
+      → SideHasSent line_box counting next line (t ∷ []) (tick ∷ [])
   sends-step side next line t tick fate stands through refused dropped before counts = record {
     taken = record {
       stands = stands;
@@ -101,7 +101,7 @@ module _ {X N : Type 0} (line_box : LinkBox X N) (counting : Counting) where
   -- A single tick that is sent is a run.
   pub passes-tick : (next : Side X) (line : List Tick) (t answer : Tick) (run answers : List Tick)
       → run ≡ t ∷ [] → answers ≡ answer ∷ []
-      → HasSent line_box counting next line (t ∷ []) (answer ∷ [])
+      → SideHasSent line_box counting next line (t ∷ []) (answer ∷ [])
       → HasPassed line_box counting next line run answers
   passes-tick next line t answer run answers run_is answers_are sent =
       subst (λ l. HasPassed line_box counting next line l answers) (sym run_is)
@@ -119,7 +119,7 @@ module _ {X N : Type 0} (line_box : LinkBox X N) (counting : Counting) where
 
   -- nothing is sent yet
   pub sends-none : (side : Side X) (line : List Tick) → HasTaken line_box counting side line
-      → HasSent line_box counting side line [] []
+      → SideHasSent line_box counting side line [] []
   sends-none side line taken = record {
     taken = subst (HasTaken line_box counting side) (sym (append-nil line)) taken;
     answered = ap counting.other_line (append-nil line)
@@ -128,11 +128,11 @@ module _ {X N : Type 0} (line_box : LinkBox X N) (counting : Counting) where
 
   -- One more run is sent.
   pub sends-run : (side next : Side X) (line more run answer before after : List Tick)
-      → HasSent line_box counting side line more before
+      → SideHasSent line_box counting side line more before
       → ((l : List Tick) → HasTaken line_box counting side l → HasPassed line_box counting next l
       run answer)
       → after ≡ before ++ answer
-      → HasSent line_box counting next line (more ++ run) after
+      → SideHasSent line_box counting next line (more ++ run) after
   sends-run side next line more run answer before after so pass is =
       let one = (pass (line ++ more) so.taken).sent in
       record {

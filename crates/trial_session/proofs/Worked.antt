@@ -2,12 +2,12 @@
 use Rattle.std.proofs.Common.{◌≡◌, [], ◌∷◌, refl}
 use Rattle.yasir_ticks.specs.declared.tick.Tick.TheVariants.{Silent, Byte}
 use Rattle.trial_session.specs.Alterations.{altered, alteration_of}
-use Rattle.trial_session.specs.Draws.{draws, state_after, nth_drawn}
+use Rattle.trial_session.specs.Draws.{draws, draw_state_after, nth_drawn}
 use Rattle.trial_session.specs.declared.alteration.Alteration.TheVariants.{Nothing, Change, Lose}
 use Rattle.trial_session.specs.declared.alteration.Alteration.TheVariants.{CutOff}
 
 first-draw : nth_drawn 1 0 ≡ 335903614
-unfolding state_after
+unfolding draw_state_after
 first-draw = refl
 
 -- the numbers that scripts/trial_model.py draws

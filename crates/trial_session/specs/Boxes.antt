@@ -30,9 +30,9 @@ abbrev pub trial_profile : {R M : Type 0} → LineRules R → Mac M → ℕ → 
 trial_profile proto macs word_len = profile_of proto macs word_len LIMIT trial_setup
 
 -- the fate that a box tells of the note of a step, if there is a note
-abbrev pub told_by : {A : Type 0} → (A → Fate) → Option A → Option Fate
-told_by fate_of None = None
-told_by fate_of (Some note) = Some (fate_of note)
+abbrev pub told_in_trial : {A : Type 0} → (A → Fate) → Option A → Option Fate
+told_in_trial fate_of None = None
+told_in_trial fate_of (Some note) = Some (fate_of note)
 
 -- ---- the transmitter
 
@@ -60,8 +60,8 @@ seal_counting profile rules = record {
 }
 
 -- `seal_counting` for the profile of a protocol and a MAC, with words of this many bytes
-abbrev pub sealing : {R M : Type 0} → LineRules R → Mac M → ℕ → Counting
-sealing proto macs word_len = seal_counting (trial_profile proto macs word_len) proto.rules
+abbrev pub trial_sealing : {R M : Type 0} → LineRules R → Mac M → ℕ → Counting
+trial_sealing proto macs word_len = seal_counting (trial_profile proto macs word_len) proto.rules
 
 -- ---- the receiver
 
@@ -101,5 +101,5 @@ check_counting profile rules = record {
 }
 
 -- `check_counting` for the profile of a protocol and a MAC, with words of this many bytes
-abbrev pub checking : {R M : Type 0} → LineRules R → Mac M → ℕ → Counting
-checking proto macs word_len = check_counting (trial_profile proto macs word_len) proto.rules
+abbrev pub trial_checking : {R M : Type 0} → LineRules R → Mac M → ℕ → Counting
+trial_checking proto macs word_len = check_counting (trial_profile proto macs word_len) proto.rules

@@ -12,9 +12,9 @@ use Rattle.rtu_frame.proofs.FrameLaws.{is_frame-from}
 use Rattle.dnp_link_frame.specs.Rules.{dnp_rules}
 use Rattle.dnp_link_frame.proofs.FrameLaws.{frame-is_frame}
 use Rattle.dnp_link_frame.proofs.FrameParts.{length-frame_of}
-use Rattle.trial_session.specs.Draws.{next_state, draws, bytes_drawn, state_after, nth_drawn}
+use Rattle.trial_session.specs.Draws.{next_state, draws, bytes_drawn, draw_state_after, nth_drawn}
 use Rattle.trial_session.specs.RtuDrawn.{rtu_drawing, rtu_body, rtu_frame_len}
-use Rattle.trial_session.specs.DnpDrawn.{dnp_drawing, dnp_header, dnp_user, dnp_user_len}
+use Rattle.trial_session.specs.DnpDrawn.{dnp_drawing, drawn_dnp_header, dnp_user, dnp_user_len}
 
 pub length-draws : (n x : ℕ) → length (draws n x) ≡ n
 unfolding draws
@@ -33,7 +33,7 @@ are-bytes l = All-map (λ b. b < 256) (λ d. d % 256) l
 pub rtu_are_frames : (x : ℕ) → rtu_rules.is_frame (rtu_drawing.frame x) ≡ true
 rtu_are_frames x =
     let few = mod_below (nth_drawn 1 x) 253 (omega arith) in
-    let body_len = length-bytes_drawn (rtu_frame_len x - 2) (state_after 1 x) in
+    let body_len = length-bytes_drawn (rtu_frame_len x - 2) (draw_state_after 1 x) in
     let long = length-append (rtu_body x) (low_first (crc_rtu (rtu_body x))) in
     is_frame-from (rtu_drawing.frame x) (record {
       at_least = omega (arith, few, body_len, long);
@@ -43,10 +43,10 @@ rtu_are_frames x =
 
 pub dnp_are_frames : (x : ℕ) → dnp_rules.is_frame (dnp_drawing.frame x) ≡ true
 dnp_are_frames x =
-    let user_len = length-bytes_drawn (dnp_user_len x) (state_after 3 x) in
+    let user_len = length-bytes_drawn (dnp_user_len x) (draw_state_after 3 x) in
     let few = mod_below (nth_drawn 1 x) 251 (omega arith) in
     frame-is_frame (dnp_drawing.frame x) (record {
-      header = dnp_header x;
+      header = drawn_dnp_header x;
       user = dnp_user x;
       of = record {
         header_fits = record {
@@ -54,7 +54,7 @@ dnp_are_frames x =
           destination_fits = mod_below (nth_drawn 2 x) 65536 (omega arith);
           source_fits = mod_below (nth_drawn 3 x) 65536 (omega arith);
         };
-        user_bytes = are-bytes (draws (dnp_user_len x) (state_after 3 x));
+        user_bytes = are-bytes (draws (dnp_user_len x) (draw_state_after 3 x));
         user_fits = omega (arith, user_len, few);
         is = refl;
       };
@@ -64,13 +64,13 @@ dnp_are_frames x =
 pub rtu_are_short : (x : ℕ) → length (rtu_drawing.frame x) ≤ 292
 rtu_are_short x =
     let few = mod_below (nth_drawn 1 x) 253 (omega arith) in
-    let body_len = length-bytes_drawn (rtu_frame_len x - 2) (state_after 1 x) in
+    let body_len = length-bytes_drawn (rtu_frame_len x - 2) (draw_state_after 1 x) in
     let long = length-append (rtu_body x) (low_first (crc_rtu (rtu_body x))) in
     omega (arith, few, body_len, long)
 
 pub dnp_are_short : (x : ℕ) → length (dnp_drawing.frame x) ≤ 292
 dnp_are_short x =
-    let user_len = length-bytes_drawn (dnp_user_len x) (state_after 3 x) in
+    let user_len = length-bytes_drawn (dnp_user_len x) (draw_state_after 3 x) in
     let few = mod_below (nth_drawn 1 x) 251 (omega arith) in
-    let long = length-frame_of (dnp_header x) (dnp_user x) in
+    let long = length-frame_of (drawn_dnp_header x) (dnp_user x) in
     omega (arith, user_len, few, long)

@@ -12,13 +12,13 @@ abbrev pub drawn : ℕ → ℕ
 drawn x = x / 2 ^ 32
 
 -- the state after this many draws
-unfoldable pub state_after : ℕ → ℕ → ℕ
-state_after zero x = x
-state_after (suc n) x = state_after n (next_state x)
+unfoldable pub draw_state_after : ℕ → ℕ → ℕ
+draw_state_after zero x = x
+draw_state_after (suc n) x = draw_state_after n (next_state x)
 
 -- what the nth draw from a state on gives, counted from 1
 abbrev pub nth_drawn : ℕ → ℕ → ℕ
-nth_drawn n x = drawn (state_after n x)
+nth_drawn n x = drawn (draw_state_after n x)
 
 -- this many draws from a state on
 unfoldable pub draws : ℕ → ℕ → List ℕ

@@ -10,12 +10,12 @@ use Rattle.link_box.specs.Walking.{full_notes}
 use Rattle.seal_transmitter.specs.Boxed.{seal_walking}
 use Rattle.link_box.specs.Sealing.{FullNote as SealFull, sealed_in}
 use Rattle.link_box.specs.Sealing.FullNote.{sealed_note, unsealed_note}
-use Rattle.seal_transmitter.specs.Answers.{brief_note as seal_brief}
+use Rattle.seal_transmitter.specs.Answers.{brief_seal_note}
 use Rattle.link_box.specs.Checking.{FullNote as CheckFull, passed_in}
 use Rattle.link_box.specs.Checking.{brief_note as check_brief}
 use Rattle.link_box.specs.Checking.FullNote.{passed_note, refused_note, dropped_note}
 use Rattle.check_receiver.specs.Boxed.{check_walking}
-use Rattle.trial_session.specs.Boxes.{trial_setup, fate_sealed, fate_checked, sealing, checking}
+use Rattle.trial_session.specs.Boxes.{trial_setup, fate_sealed, fate_checked, trial_sealing, trial_checking}
 use Rattle.trial_session.specs.Boxes.{is_unsealed}
 use Rattle.trial_session.specs.Boxes.{is_refused as notes_refused, is_dropped as notes_dropped}
 use Rattle.trial_session.specs.Fates.{CountsFates, tally, is_through, is_refused, is_dropped}
@@ -59,15 +59,15 @@ tally-none (n ∷ notes) = tally-none notes
 
 -- ---- the transmitter
 
-sealed-alike : (n : SealFull) → is_some (sealed_in n) ≡ is_through (fate_sealed (seal_brief n))
+sealed-alike : (n : SealFull) → is_some (sealed_in n) ≡ is_through (fate_sealed (brief_seal_note n))
 sealed-alike (sealed_note number start frame) = refl
 sealed-alike (unsealed_note start why) = refl
 
-unsealed-alike : (n : SealFull) → is_unsealed n ≡ is_refused (fate_sealed (seal_brief n))
+unsealed-alike : (n : SealFull) → is_unsealed n ≡ is_refused (fate_sealed (brief_seal_note n))
 unsealed-alike (sealed_note number start frame) = refl
 unsealed-alike (unsealed_note start why) = refl
 
-none-dropped : (n : SealFull) → false ≡ is_dropped (fate_sealed (seal_brief n))
+none-dropped : (n : SealFull) → false ≡ is_dropped (fate_sealed (brief_seal_note n))
 none-dropped (sealed_note number start frame) = refl
 none-dropped (unsealed_note start why) = refl
 
@@ -90,7 +90,7 @@ dropped-alike (dropped_note start why) = refl
 
 module _ {R M : Type 0} (proto : LineRules R) (macs : Mac M) (word_len : ℕ) where
   pub seals-fates : CountsFates (seal_walking proto macs word_len) fate_sealed
-      (sealing proto macs word_len)
+      (trial_sealing proto macs word_len)
   seals-fates = record {
     other_is = λ line. refl;
     through_is = λ line. length-filter_map sealed_in _ sealed-alike
@@ -104,7 +104,7 @@ module _ {R M : Type 0} (proto : LineRules R) (macs : Mac M) (word_len : ℕ) wh
   }
 
   pub checks-fates : CountsFates (check_walking proto macs word_len) fate_checked
-      (checking proto macs word_len)
+      (trial_checking proto macs word_len)
   checks-fates = record {
     other_is = λ link. refl;
     through_is = λ link. length-filter_map passed_in _ passed-alike

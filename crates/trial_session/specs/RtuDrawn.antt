@@ -3,7 +3,7 @@
 use Rattle.std.specs.Prelude.{ℕ, ◌+◌, ◌-◌, ◌%◌, List, ◌++◌}
 use Rattle.line_rules.specs.Bytes.{low_first}
 use Rattle.rtu_frame.specs.Crc.{crc_rtu}
-use Rattle.trial_session.specs.Draws.{state_after, nth_drawn, bytes_drawn}
+use Rattle.trial_session.specs.Draws.{draw_state_after, nth_drawn, bytes_drawn}
 use Rattle.trial_session.specs.DrawnFrames.{Drawing}
 
 -- how many bytes the frame has: 4 to 256
@@ -12,7 +12,7 @@ rtu_frame_len x = 4 + nth_drawn 1 x % 253
 
 -- all bytes of the frame but its CRC
 abbrev pub rtu_body : ℕ → List ℕ
-rtu_body x = bytes_drawn (rtu_frame_len x - 2) (state_after 1 x)
+rtu_body x = bytes_drawn (rtu_frame_len x - 2) (draw_state_after 1 x)
 
 -- how a frame of Modbus RTU is drawn
 abbrev pub rtu_drawing : Drawing

@@ -6,13 +6,13 @@ use Rattle.trial_session.specs.Counting.{Counting}
 use Rattle.trial_session.specs.Draws.{draw_state}
 use Rattle.trial_session.specs.DrawnFrames.{Drawing}
 use Rattle.trial_session.specs.Session.{period_len, state_at, session_line, altered_link}
-use Rattle.trial_session.specs.Sides.{MayTake, HasTaken, MayReceive, HasReceived}
+use Rattle.trial_session.specs.Sides.{SideMayTake, HasTaken, MayReceive, HasReceived}
 use Rattle.trial_session.specs.declared.session.Session.{Session}
 
 -- Holds if both boxes and the device have taken this many ticks, and may take more.
-pub record MayGoOn {S C V N K : Type 0} (seals : LinkBox S N) (checks : LinkBox C K)
+pub record TrialMayGoOn {S C V N K : Type 0} (seals : LinkBox S N) (checks : LinkBox C K)
     (device : Device V) (session : Session S C V) (ticks : ℕ) : Type 0 where
-  pub may_seal : MayTake seals session.sealing
+  pub may_seal : SideMayTake seals session.sealing
   pub may_receive : MayReceive checks device session.receiving
   pub sealed_ticks : seals.taken session.sealing.line_box ≡ ticks
   pub checked_ticks : checks.taken session.receiving.checking.line_box ≡ ticks

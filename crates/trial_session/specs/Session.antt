@@ -4,7 +4,7 @@ use Rattle.std.specs.Prelude.{drop}
 use Rattle.yasir_ticks.specs.Ticks.{silent}
 use Rattle.yasir_ticks.specs.declared.tick.Tick.{Tick}
 use Rattle.yasir_ticks.specs.declared.tick.Tick.TheVariants.{Byte}
-use Rattle.trial_session.specs.Draws.{state_after, nth_drawn}
+use Rattle.trial_session.specs.Draws.{draw_state_after, nth_drawn}
 use Rattle.trial_session.specs.DrawnFrames.{Drawing}
 use Rattle.trial_session.specs.Alterations.{alteration_of, altered}
 use Rattle.trial_session.specs.declared.alteration.Alteration.{Alteration}
@@ -20,11 +20,11 @@ period_line frame = map (λ b. Byte b) frame ++ silent (period_len - length fram
 module _ (drawing : Drawing) where
   -- the state after the frame of a period is drawn, if the period began in this state
   abbrev pub after_frame : ℕ → ℕ
-  after_frame x = state_after (drawing.draws x) x
+  after_frame x = draw_state_after (drawing.draws x) x
 
   -- the state at the end of that period: three more draws are made, for the alteration of the link
   abbrev pub after_period : ℕ → ℕ
-  after_period x = state_after 3 (after_frame x)
+  after_period x = draw_state_after 3 (after_frame x)
 
   -- the state at the start of a period, counted from 0, in the session of this seed
   unfoldable pub state_at : ℕ → ℕ → ℕ
@@ -46,11 +46,11 @@ module _ (drawing : Drawing) where
   session_line seed (suc n) = session_line seed n ++ period_line (drawing.frame (state_at seed n))
 
   -- the ticks of a period, counted from 0, on a line
-  abbrev pub ticks_of : ℕ → List Tick → List Tick
-  ticks_of n line = take period_len (drop (period_len * n) line)
+  abbrev pub ticks_of_session : ℕ → List Tick → List Tick
+  ticks_of_session n line = take period_len (drop (period_len * n) line)
 
   -- the first periods of a link, each altered as in the session of this seed
   unfoldable pub altered_link : ℕ → ℕ → ℕ → List Tick → List Tick
   altered_link behind seed zero link = []
   altered_link behind seed (suc n) link = altered_link behind seed n link
-      ++ altered (alteration_in behind (state_at seed n)) (ticks_of n link)
+      ++ altered (alteration_in behind (state_at seed n)) (ticks_of_session n link)

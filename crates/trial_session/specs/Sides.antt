@@ -15,7 +15,7 @@ use Rattle.trial_session.specs.declared.side.Side.{Side}
 module _ {X N : Type 0} (line_box : LinkBox X N) where
   -- Holds if the box may take a tick: the journal is that of the box's link, the disk fits the
   -- journal, and no more bursts are counted for a fate than the box has taken ticks.
-  pub record MayTake (side : Side X) : Type 0 where
+  pub record SideMayTake (side : Side X) : Type 0 where
     pub of_link : journal_link side.journal ≡ line_box.link_of side.line_box
     pub fits : Fits side.journal (Some (steady_slots side.disk))
     pub through_few : side.through ≤ line_box.taken side.line_box
@@ -32,17 +32,17 @@ module _ {X N : Type 0} (line_box : LinkBox X N) (counting : Counting) where
 
   -- Holds if, after this line, the box has taken the ticks `more`, and has answered them with
   -- `answers`.
-  pub record HasSent (side : Side X) (line more answers : List Tick) : Type 0 where
+  pub record SideHasSent (side : Side X) (line more answers : List Tick) : Type 0 where
     pub taken : HasTaken side (line ++ more)
     pub answered : counting.other_line (line ++ more) ≡ counting.other_line line ++ answers
 
   -- Holds if, after this line, the box has taken a run, and has answered it with as many ticks.
   pub record HasPassed (side : Side X) (line run answer : List Tick) : Type 0 where
-    pub sent : HasSent side line run answer
+    pub sent : SideHasSent side line run answer
     pub long : length answer ≡ length run
 
 -- Holds if a device has heard this line, and the frames that it read are counted.
-pub record HasHeard {V : Type 0} (device : Device V) (value : Listening V) (line : List Tick)
+pub record SideHasHeard {V : Type 0} (device : Device V) (value : Listening V) (line : List Tick)
     : Type 0 where
   pub stands : device.stands value.device line
   pub counts : value.read ≡ length (device.reads line)
@@ -52,18 +52,18 @@ pub record IsHearing {V : Type 0} (device : Device V) (value : Listening V) (wai
     (line : List Tick) : Type 0 where
   pub front : List Tick
   pub is : line ≡ front ++ map Byte waiting
-  pub hears : HasHeard device value front
+  pub hears : SideHasHeard device value front
 
 -- Holds if the receiver has taken this link, and the device has heard the line that it made of it.
 pub record HasReceived {C N V : Type 0} (checks : LinkBox C N) (checking : Counting)
     (device : Device V) (receiving : Receiving C V) (link : List Tick) : Type 0 where
   pub checks_link : HasTaken checks checking receiving.checking link
-  pub hears_line : HasHeard device receiving.listening (checking.other_line link)
+  pub hears_line : SideHasHeard device receiving.listening (checking.other_line link)
 
 -- Holds if the receiver and the device have taken equally many ticks, and may take more.
 pub record MayReceive {C N V : Type 0} (checks : LinkBox C N) (device : Device V)
     (receiving : Receiving C V) : Type 0 where
-  pub may_check : MayTake checks receiving.checking
+  pub may_check : SideMayTake checks receiving.checking
   pub read_few : receiving.listening.read ≤ device.taken receiving.listening.device
   pub heard_ticks : device.taken receiving.listening.device
       ≡ checks.taken receiving.checking.line_box
@@ -80,7 +80,7 @@ pub record IsReceiving {C N V : Type 0} (checks : LinkBox C N) (checking : Count
 -- may take more.
 pub record MayGoOnReceiving {C N V : Type 0} (checks : LinkBox C N) (device : Device V)
     (receiving : Receiving C V) (waiting : List ℕ) : Type 0 where
-  pub may_check : MayTake checks receiving.checking
+  pub may_check : SideMayTake checks receiving.checking
   pub read_few : receiving.listening.read ≤ device.taken receiving.listening.device
   pub heard_ticks : device.taken receiving.listening.device + length waiting
       ≡ checks.taken receiving.checking.line_box

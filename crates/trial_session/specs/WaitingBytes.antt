@@ -2,5 +2,5 @@
 use Rattle.std.specs.Prelude.{ℕ, List}
 
 -- the bytes, in the order in which they came
-pub record Kept : Type 0 where
+pub record KeptWaiting : Type 0 where
   pub items : List ℕ

@@ -1,6 +1,6 @@
 //! The receiver as a box whose bursts are counted.
 ghost use Rattle.std.specs.Prelude.{◌≡◌};
-ghost use Rattle.trial_session.specs.Boxes.{checking, fate_checked};
+ghost use Rattle.trial_session.specs.Boxes.{trial_checking, fate_checked};
 ghost use Rattle.trial_session.specs.FateLaws.{checks-fates};
 
 use crate::counting_box::CountingBox;
@@ -12,7 +12,7 @@ use link_format::Mac;
 impl<R: LineRules, M: Mac, const B: usize, const D: usize> CountingBox for Checker<R, M, B, D> {
     ghost fate_of = { fate_checked };
 
-    ghost counting = { checking R.LineRules M.Mac B };
+    ghost counting = { trial_checking R.LineRules M.Mac B };
 
     fn fate(note: CheckNote) -> Fate {
         match note {

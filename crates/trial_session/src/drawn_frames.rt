@@ -1,6 +1,6 @@
 //! How the frames of each protocol are drawn.
 ghost use Rattle.std.specs.Prelude.{◌≡◌, ℕ, true};
-ghost use Rattle.trial_session.specs.Draws.{draw_state, state_after};
+ghost use Rattle.trial_session.specs.Draws.{draw_state, draw_state_after};
 ghost use Rattle.trial_session.specs.DrawnFrames.{Drawing};
 
 use crate::{Draws, FrameBytes};
@@ -17,7 +17,7 @@ pub trait DrawnFrames: LineRules {
     fn draw_frame(draws: &mut Draws) -> FrameBytes
         ensures frame { result.items ≡ drawing.frame (draw_state draws.old) }
         ensures state { draw_state draws.new
-            ≡ state_after (drawing.draws (draw_state draws.old)) (draw_state draws.old) };
+            ≡ draw_state_after (drawing.draws (draw_state draws.old)) (draw_state draws.old) };
 
     /// Each drawn frame is a frame by the protocol's rules.
     ghost are_frames: { (x : ℕ) → Self.rules.is_frame (drawing.frame x) ≡ true };

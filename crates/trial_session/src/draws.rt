@@ -14,7 +14,7 @@ pub struct Draws {
 }
 
 impl Draws {
-    ghost use Rattle.trial_session.specs.Draws.{next_state, drawn, state_after, bytes_drawn};
+    ghost use Rattle.trial_session.specs.Draws.{next_state, drawn, draw_state_after, bytes_drawn};
     ghost use Rattle.trial_session.specs.Draws.{draw_state};
 
     /// A generator with this seed, from which nothing is drawn yet.
@@ -43,7 +43,7 @@ impl Draws {
     #[inline]
     pub fn draw_bytes(&mut self, places: &mut [u8])
         ensures state { draw_state self.new
-            ≡ state_after (length places.old) (draw_state self.old) }
+            ≡ draw_state_after (length places.old) (draw_state self.old) }
         ensures bytes { places.new ≡ bytes_drawn (length places.old) (draw_state self.old) }
     {
         for place in places.iter_mut() {

@@ -40,13 +40,13 @@ impl<V: Device + Drop> Listening<V> {
     ghost use Rattle.yasir_ticks.specs.declared.tick.Tick.TheVariants.{Byte};
     ghost use Rattle.frame_ending.specs.Answered.{answered};
     ghost use Rattle.yasir_ticks.specs.declared.tick.Tick.{Tick};
-    ghost use Rattle.trial_session.specs.Sides.{HasHeard, IsHearing};
+    ghost use Rattle.trial_session.specs.Sides.{SideHasHeard, IsHearing};
 
     /// A device that has heard nothing.
     pub fn new() -> Listening<V>
         ensures few { result.read ≡ 0 }
         ensures taken { V.taken result.device ≡ 0 }
-        ensures heard { HasHeard V.Device result [] }
+        ensures heard { SideHasHeard V.Device result [] }
     {
         Listening {
             device: V::fresh(),
@@ -67,8 +67,8 @@ impl<V: Device + Drop> Listening<V> {
         requires room { V.taken self.old.device + length bytes.now ≤ MAX_TICKS }
         ensures few { self.new.read ≤ V.taken self.new.device }
         ensures taken { V.taken self.new.device ≡ V.taken self.old.device + length bytes.now }
-        ensures heard { (line : List Tick) → HasHeard V.Device self.old line
-            → HasHeard V.Device self.new (line ++ map Byte bytes.now) }
+        ensures heard { (line : List Tick) → SideHasHeard V.Device self.old line
+            → SideHasHeard V.Device self.new (line ++ map Byte bytes.now) }
     {
         let mut at = 0;
         while at < bytes.len() {
@@ -84,8 +84,8 @@ impl<V: Device + Drop> Listening<V> {
         requires room { V.taken self.old.device + ticks ≤ MAX_TICKS }
         ensures few { self.new.read ≤ V.taken self.new.device }
         ensures taken { V.taken self.new.device ≡ V.taken self.old.device + ticks }
-        ensures heard { (line : List Tick) → HasHeard V.Device self.old line
-            → HasHeard V.Device self.new (line ++ silent ticks) }
+        ensures heard { (line : List Tick) → SideHasHeard V.Device self.old line
+            → SideHasHeard V.Device self.new (line ++ silent ticks) }
     {
         let mut at = 0;
         while at < ticks {
@@ -105,7 +105,7 @@ impl<V: Device + Drop> Listening<V> {
         ensures none { waiting.new.items ≡ [] }
         ensures heard { (line : List Tick)
             → IsHearing V.Device self.old waiting.old.items line
-            → HasHeard V.Device self.new line }
+            → SideHasHeard V.Device self.new line }
     {
         if waiting.is_empty() {
             return;

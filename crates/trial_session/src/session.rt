@@ -1,7 +1,7 @@
 //! A session: drawn frames go through the transmitter, the link, the receiver and the device.
 ghost use Rattle.std.specs.Prelude.{◌≡◌, ◌+◌, ◌%◌, ◌<◌, ◌≤◌};
 ghost use Rattle.trial_session.specs.Alterations.{alteration_of};
-ghost use Rattle.trial_session.specs.Draws.{draw_state, state_after, nth_drawn};
+ghost use Rattle.trial_session.specs.Draws.{draw_state, draw_state_after, nth_drawn};
 ghost use Rattle.trial_session.specs.Summaries.{session_summary};
 
 use crate::alteration::{Alteration, alteration_of};
@@ -33,7 +33,7 @@ pub struct Session<S, C, V> {
 // Draws the alteration of the link for a period whose packet has `packet_len` ticks.
 fn draw_alteration(draws: &mut Draws, packet_len: usize) -> Alteration
     requires { 0 < packet_len }
-    ensures state { draw_state draws.new ≡ state_after 3 (draw_state draws.old) }
+    ensures state { draw_state draws.new ≡ draw_state_after 3 (draw_state draws.old) }
     ensures alteration { result ≡ alteration_of (nth_drawn 1 (draw_state draws.old) % 8)
         (nth_drawn 2 (draw_state draws.old) % packet_len)
         (1 + nth_drawn 3 (draw_state draws.old) % 255) }
@@ -47,13 +47,13 @@ fn draw_alteration(draws: &mut Draws, packet_len: usize) -> Alteration
 impl<S: CountingBox, C: CountingBox, V: Device + Drop> Session<S, C, V> {
     ghost use Rattle.std.specs.Prelude.{ℕ, suc};
     ghost use Rattle.trial_session.specs.DrawnFrames.{Drawing};
-    ghost use Rattle.trial_session.specs.Runs.{HasRun, MayGoOn};
+    ghost use Rattle.trial_session.specs.Runs.{HasRun, TrialMayGoOn};
 
     // The session of a seed, before its first period.
     fn new(seed: u32) -> Session<S, C, V>
         requires sealing { S.widths_fit }
         requires checking { C.widths_fit }
-        ensures able { MayGoOn S.LinkBox C.LinkBox V.Device result 0 }
+        ensures able { TrialMayGoOn S.LinkBox C.LinkBox V.Device result 0 }
         ensures run { (drawing : Drawing) (behind : ℕ)
             → HasRun S.LinkBox S.counting C.LinkBox C.counting V.Device drawing behind result
             seed 0 }
@@ -70,10 +70,10 @@ impl<S: CountingBox, C: CountingBox, V: Device + Drop> Session<S, C, V> {
     fn run_period<R: DrawnFrames>(&mut self, behind: usize)
         requires some { 0 < behind }
         requires few { behind ≤ 64 }
-        requires able { MayGoOn S.LinkBox C.LinkBox V.Device self.old
+        requires able { TrialMayGoOn S.LinkBox C.LinkBox V.Device self.old
             (S.taken self.old.sealing.line_box) }
         requires room { S.taken self.old.sealing.line_box + 640 ≤ MAX_TICKS }
-        ensures able { MayGoOn S.LinkBox C.LinkBox V.Device self.new
+        ensures able { TrialMayGoOn S.LinkBox C.LinkBox V.Device self.new
             (S.taken self.old.sealing.line_box + 640) }
         ensures run { (seed count : ℕ)
             → HasRun S.LinkBox S.counting C.LinkBox C.counting V.Device R.drawing behind self.old
@@ -94,7 +94,7 @@ impl<S: CountingBox, C: CountingBox, V: Device + Drop> Session<S, C, V> {
 
     // Ends the session with the silence after the link, and returns what was counted.
     fn close(&mut self) -> Summary
-        requires able { MayGoOn S.LinkBox C.LinkBox V.Device self.old
+        requires able { TrialMayGoOn S.LinkBox C.LinkBox V.Device self.old
             (S.taken self.old.sealing.line_box) }
         requires room { S.taken self.old.sealing.line_box + 320 ≤ MAX_TICKS }
         ensures { (drawing : Drawing) (behind seed count : ℕ)

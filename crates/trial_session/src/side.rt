@@ -33,16 +33,16 @@ impl<X: CountingBox> Side<X> {
     ghost use Rattle.yasir_ticks.specs.TickRun.{run_ticks};
     ghost use Rattle.trial_session.specs.Links.{link_sent};
     ghost use Rattle.yasir_ticks.specs.declared.tick.Tick.{Tick};
-    ghost use Rattle.trial_session.specs.Boxes.{told_by};
+    ghost use Rattle.trial_session.specs.Boxes.{told_in_trial};
     ghost use Rattle.trial_session.specs.Counting.{through_in, refused_in, dropped_in};
     ghost use Rattle.trial_session.specs.Counting.{CountsNothing};
-    ghost use Rattle.trial_session.specs.Sides.{MayTake, HasTaken, HasSent, HasPassed};
+    ghost use Rattle.trial_session.specs.Sides.{SideMayTake, HasTaken, SideHasSent, HasPassed};
     ghost use Rattle.frame_ending.specs.Answered.{answered};
 
     /// A new box over a new journal.
     pub fn new() -> Side<X>
         requires widths { X.widths_fit }
-        ensures able { MayTake X.LinkBox result }
+        ensures able { SideMayTake X.LinkBox result }
         ensures taken { X.taken result.line_box ≡ 0 }
         ensures counts { HasTaken X.LinkBox X.counting result [] }
         ensures nothing { CountsNothing X.counting }
@@ -104,7 +104,7 @@ impl<X: CountingBox> Side<X> {
     // The fate of the burst that a step's note is about, if there is a note.
     #[inline]
     fn fate_in(note: Option<X::Note>) -> Option<Fate>
-        ensures { result ≡ told_by X.fate_of note }
+        ensures { result ≡ told_in_trial X.fate_of note }
     {
         match note {
             Some(note) => Some(X::fate(note)),
@@ -115,12 +115,12 @@ impl<X: CountingBox> Side<X> {
     /// Takes the next tick, and returns the tick of the other line.
     #[inline]
     pub fn step(&mut self, t: Tick) -> Tick
-        requires able { MayTake X.LinkBox self.old }
+        requires able { SideMayTake X.LinkBox self.old }
         requires room { X.taken self.old.line_box < MAX_TICKS }
-        ensures able { MayTake X.LinkBox self.new }
+        ensures able { SideMayTake X.LinkBox self.new }
         ensures taken { X.taken self.new.line_box ≡ X.taken self.old.line_box + 1 }
         ensures sent { (line : List Tick) → HasTaken X.LinkBox X.counting self.old line
-            → HasSent X.LinkBox X.counting self.new line (t ∷ []) (result ∷ []) }
+            → SideHasSent X.LinkBox X.counting self.new line (t ∷ []) (result ∷ []) }
     {
         let step = self
             .line_box
@@ -136,9 +136,9 @@ impl<X: CountingBox> Side<X> {
     /// with `step`.
     #[inline]
     pub fn pass(&mut self, run: TickRun<'_>, sent: &mut RunBytes) -> usize
-        requires able { MayTake X.LinkBox self.old }
+        requires able { SideMayTake X.LinkBox self.old }
         requires room { X.taken self.old.line_box + length (run_ticks run) ≤ MAX_TICKS }
-        ensures able { MayTake X.LinkBox self.new }
+        ensures able { SideMayTake X.LinkBox self.new }
         ensures within { result ≤ length (run_ticks run.entry) }
         ensures taken { X.taken self.new.line_box ≡ X.taken self.old.line_box + result }
         ensures sent { (line : List Tick) → HasTaken X.LinkBox X.counting self.old line
@@ -153,17 +153,17 @@ impl<X: CountingBox> Side<X> {
     #[inline]
     fn send_on(&mut self, run: TickRun<'_>, link: &mut Link) -> usize
         requires some { 0 < length (run_ticks run) }
-        requires able { MayTake X.LinkBox self.old }
+        requires able { SideMayTake X.LinkBox self.old }
         requires room { X.taken self.old.line_box + length (run_ticks run) ≤ MAX_TICKS }
         requires link { link.old.len + length (run_ticks run) ≤ 640 }
-        ensures able { MayTake X.LinkBox self.new }
+        ensures able { SideMayTake X.LinkBox self.new }
         ensures some { 0 < result }
         ensures within { result ≤ length (run_ticks run.entry) }
         ensures taken { X.taken self.new.line_box ≡ X.taken self.old.line_box + result }
         ensures len { link.new.len ≡ link.old.len + result }
         ensures sent { (line more : List Tick)
-            → HasSent X.LinkBox X.counting self.old line more (link_sent link.old)
-            → HasSent X.LinkBox X.counting self.new line
+            → SideHasSent X.LinkBox X.counting self.old line more (link_sent link.old)
+            → SideHasSent X.LinkBox X.counting self.new line
             (more ++ take result (run_ticks run.entry)) (link_sent link.new) }
     {
         let forwarded = self.line_box.forward(run);
@@ -183,16 +183,16 @@ impl<X: CountingBox> Side<X> {
 
     /// Takes these ticks, and sends on the link what the other line has in them.
     pub fn forward(&mut self, run: TickRun<'_>, link: &mut Link)
-        requires able { MayTake X.LinkBox self.old }
+        requires able { SideMayTake X.LinkBox self.old }
         requires room { X.taken self.old.line_box + length (run_ticks run) ≤ MAX_TICKS }
         requires link { link.old.len + length (run_ticks run) ≤ 640 }
-        ensures able { MayTake X.LinkBox self.new }
+        ensures able { SideMayTake X.LinkBox self.new }
         ensures taken { X.taken self.new.line_box
             ≡ X.taken self.old.line_box + length (run_ticks run.entry) }
         ensures len { link.new.len ≡ link.old.len + length (run_ticks run.entry) }
         ensures sent { (line more : List Tick)
-            → HasSent X.LinkBox X.counting self.old line more (link_sent link.old)
-            → HasSent X.LinkBox X.counting self.new line (more ++ run_ticks run.entry)
+            → SideHasSent X.LinkBox X.counting self.old line more (link_sent link.old)
+            → SideHasSent X.LinkBox X.counting self.new line (more ++ run_ticks run.entry)
             (link_sent link.new) }
     {
         let mut at = 0;

@@ -17,9 +17,9 @@ pub struct Waiting {
 
 impl Model for Waiting {
     ghost use Rattle.std.specs.Prelude.{◌≤◌, take};
-    ghost use Rattle.trial_session.specs.WaitingBytes.{Kept};
+    ghost use Rattle.trial_session.specs.WaitingBytes.{KeptWaiting};
 
-    ghost Value = { Kept };
+    ghost Value = { KeptWaiting };
 
     ghost view = { λ v. record { items = take v.len v.bytes } };
 

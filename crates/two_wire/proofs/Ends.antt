@@ -1,7 +1,7 @@
 -- What a two-wire box gives to its device.
 use Rattle.frame_ending.proofs.Longer.{length-line_of}
 use Rattle.frame_ending.proofs.Spread.{AreSpread, bursts-spread}
-use Rattle.frame_ending.specs.{Laid.laid, Laid.later, Walk.emitted}
+use Rattle.frame_ending.specs.{Laid.laid, Laid.later, Walk.emitted_by}
 use Rattle.line_rules.specs.{Rules.Rules, RulesLaws.IsLawful}
 use Rattle.link_format.specs.Profile.{delay}
 use Rattle.link_box.proofs.Apart.{emissions-spread}
@@ -55,7 +55,7 @@ module _ (rules : Rules) (lawful : IsLawful rules) (end : EndSetup) (l : EndLine
       let link : List Tick = l.from_link in
       let m : ℕ = length link in
       let es : List Burst =
-      emitted (checker end.incoming rules) (check_floor end.got_floor) (bursts link) in
+      emitted_by (checker end.incoming rules) (check_floor end.got_floor) (bursts link) in
       let xs : List Burst = map (later end.late) es in
       let wide : 2 ≤ delay end.incoming = omega arith in
       let spread : AreSpread 2 0 xs =

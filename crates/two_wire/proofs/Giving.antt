@@ -1,6 +1,6 @@
 -- A line on which some bursts of a receiver are, and others aren't: what is read of it was sealed.
 use Rattle.frame_ending.proofs.Spread.{AreSpread}
-use Rattle.frame_ending.specs.{Laid.laid, Laid.later, Walk.emitted}
+use Rattle.frame_ending.specs.{Laid.laid, Laid.later, Walk.emitted_by}
 use Rattle.device_model.proofs.ReadLaws.{frames_ended, frames_ended-append, frames_ended-open}
 use Rattle.device_model.proofs.ReadLaws.{frames_ended-ended}
 use Rattle.device_model.specs.{Frames.FrameRead, RtuReads.frame_in}
@@ -118,7 +118,7 @@ module _ (rules : Rules) (lawful : IsLawful rules) (reads : List Tick → List F
     (some-fit : (late : ℕ) (xs ys : List Burst) → IsSubsequence xs ys → Fit ys
     → Fit (map (later late) xs))
     (all-fit : (floor : ℕ) (link : List Tick)
-    → Fit (emitted (checker profile rules) (at_floor floor) (bursts link)))
+    → Fit (emitted_by (checker profile rules) (at_floor floor) (bursts link)))
     (passes : (floor : ℕ) (link : List Tick) → ReadsWhatPassed rules reads ends profile floor link)
   where
     reads-front : (floor : ℕ) (link : List Tick)
@@ -139,7 +139,7 @@ module _ (rules : Rules) (lawful : IsLawful rules) (reads : List Tick → List F
         → IsSubsequence (bytes_read (reads given))
         (bytes_read (reads (received_line profile rules floor link)))
     given-less floor late link given gives =
-        let es : List Burst = emitted (checker profile rules) (at_floor floor) (bursts link) in
+        let es : List Burst = emitted_by (checker profile rules) (at_floor floor) (bursts link) in
         let m : ℕ = length link in
         let xs : List Burst = map (later late) gives.bursts_given in
         let left : reads given ≡ frames_ended ends (λ d. body_whole d.body) m xs =

@@ -5,7 +5,7 @@ use Rattle.line_rules.specs.{Rules.Rules, RulesLaws.IsLawful}
 use Rattle.link_format.specs.Profile.{Profile, HasTags, delay}
 use Rattle.receiver_laws.proofs.Packing.{packet, packets, packet-length, packets-spread}
 use Rattle.receiver_laws.proofs.Parting.{silent-add}
-use Rattle.receiver_laws.specs.Untouched.{AreSpaced, IsUntouched}
+use Rattle.receiver_laws.specs.Untouched.{AreSpaced, IsUntouchedLink}
 use Rattle.std.proofs.Common.{◌≡◌, ◌∙◌, ◌⊎◌, inl, inr, ◌&&◌, ℕ, zero, suc, ◌+◌, ◌-◌, ◌≤◌, ◌<◌}
 use Rattle.std.proofs.Common.{nat_lt, nat_le, false, List, [], ◌∷◌, ◌++◌, length, map, refl}
 use Rattle.std.proofs.Common.{sym, ap, subst, arith, ⊎_elim, length-append, take, append_assoc}
@@ -302,7 +302,7 @@ module _ (rules : Rules) (lawful : IsLawful rules) (p : Polling) (start : ℕ) (
   abbrev line_b : List Tick
   line_b = replied late_ab 0 (late_ab + start) ps
 
-  untouched-asked : IsUntouched p.ab rules p.requests_floor p.requests_behind line_a (late_ab + more)
+  untouched-asked : IsUntouchedLink p.ab rules p.requests_floor p.requests_behind line_a (late_ab + more)
   untouched-asked = record {
     spaced = subst (λ ds. AreSpaced p.ab rules 0 ds) (sym (bursts-asked rules p start ps is.turns))
         (requests-spaced rules p 0 start ps is.turns (omega arith));
@@ -312,7 +312,7 @@ module _ (rules : Rules) (lawful : IsLawful rules) (p : Polling) (start : ℕ) (
     silence = omega arith;
   }
 
-  untouched-replied : IsUntouched p.ba rules p.answers_floor p.answers_behind line_b more
+  untouched-replied : IsUntouchedLink p.ba rules p.answers_floor p.answers_behind line_b more
   untouched-replied =
       let same = is.same_delay in
       let quiet = is.silence in

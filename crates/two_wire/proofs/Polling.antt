@@ -2,7 +2,7 @@
 use Rattle.frame_ending.proofs.LaidBursts.{bursts-laid}
 use Rattle.frame_ending.proofs.Longer.{length-line_of}
 use Rattle.frame_ending.proofs.Spread.{AreSpread, EndBy, bursts-spread, bursts-end}
-use Rattle.frame_ending.specs.{Laid.laid, Laid.later, Walk.emitted, Walk.walked, Walk.notes_before}
+use Rattle.frame_ending.specs.{Laid.laid, Laid.later, Walk.emitted_by, Walk.walked, Walk.notes_before}
 use Rattle.link_box.specs.Checking.{checker, at_floor as check_floor}
 use Rattle.receiver_laws.proofs.{Notes.frames_in, Delivering.PassesAll, Delivering.passes-all}
 use Rattle.receiver_laws.proofs.Packing.{packet, packets, packets-spread, packets-end}
@@ -16,7 +16,7 @@ use Rattle.line_rules.specs.{Rules.Rules, RulesLaws.IsLawful, RulesLaws.IsFramed
 use Rattle.link_format.specs.Profile.{Profile, HasTags, delay, pause_len, trailer_len}
 use Rattle.link_box.specs.Checking.{received_line, passed}
 use Rattle.receiver_laws.proofs.Deliveries.{delivers-all}
-use Rattle.receiver_laws.specs.Untouched.{IsUntouched, AreSpaced, numbered}
+use Rattle.receiver_laws.specs.Untouched.{IsUntouchedLink, AreSpaced, numbered}
 use Rattle.link_box.specs.Sealing.{sealer, link_line, sealed, at_floor as seal_floor}
 use Rattle.std.proofs.Common.{◌≡◌, ◌∙◌, ℕ, suc, ◌+◌, ◌≤◌, ◌<◌, Bool, true, false, ◌||◌}
 use Rattle.std.proofs.Common.{List, [], ◌∷◌, length, map, refl, sym, ap, arith}
@@ -99,7 +99,7 @@ module _ (profile : Profile) (rules : Rules) (late : ℕ) where
 
 module _ (rules : Rules) (lawful : IsLawful rules) (framed : IsFramed rules) (profile : Profile)
     (tags : HasTags profile) (some : 1 ≤ profile.word_len) (floor behind : ℕ) (said : Said)
-    (untouched_is : IsUntouched profile rules floor behind said.line said.more) (late : ℕ)
+    (untouched_is : IsUntouchedLink profile rules floor behind said.line said.more) (late : ℕ)
     (end : lateness profile late ≤ said.more) where
   abbrev sent : List Tick
   sent = link_line profile rules floor (all_said said)
@@ -188,7 +188,7 @@ module _ (rules : Rules) (lawful : IsLawful rules) (framed : IsFramed rules) (pr
       ≡ said_later profile late said
   said-comes =
       ap (on_wires late) (ap (λ bs. laid (length on_link)
-      (emitted (checker profile rules) (check_floor behind) bs)) link-bursts
+      (emitted_by (checker profile rules) (check_floor behind) bs)) link-bursts
       ∙ (ap (λ bs. laid (length on_link) bs) all-passed.emits
       ∙ ap (λ k. laid k (map (later (delay profile)) es)) link-long))
       ∙ (on_wires-laid late m (map (later (delay profile)) es)

@@ -1,6 +1,6 @@
 -- A device that has heard silence for long enough reads what comes as one that has heard nothing.
 use Rattle.device_model.specs.{Frames.FrameRead, Hunt.Timed, Hunt.timed, Hunt.timed_bytes, Hunt.hunt}
-use Rattle.device_model.specs.Hunt.{hunt_anew, found, found_by, frame_of, begins, passed_over}
+use Rattle.device_model.specs.Hunt.{hunt_anew, found, found_by, frame_hunted, begins, passed_over}
 use Rattle.device_model.specs.RtuReads.{frame_in, frames_read, is_frame_body}
 use Rattle.device_model.proofs.ReadLaws.{frames_read-append, frames_read-ended, frames_read-open}
 use Rattle.frame_ending.proofs.Spread.{AreSpread, EndBy, bursts_from-spread, bursts_from-end}

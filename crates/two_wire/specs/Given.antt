@@ -4,7 +4,7 @@ use Rattle.yasir_ticks.specs.Bursts.{Burst, bursts}
 use Rattle.yasir_ticks.specs.declared.tick.Tick.{Tick}
 use Rattle.line_rules.specs.Rules.{Rules}
 use Rattle.frame_ending.specs.Laid.{laid, later}
-use Rattle.frame_ending.specs.Walk.{emitted}
+use Rattle.frame_ending.specs.Walk.{emitted_by}
 use Rattle.device_model.specs.Frames.{FrameRead}
 use Rattle.link_format.specs.Profile.{Profile}
 use Rattle.link_box.specs.Checking.{checker, at_floor, passed}
@@ -18,7 +18,7 @@ pub record GivesSome (profile : Profile) (rules : Rules) (floor late : ℕ) (lin
     Type 0 where
   pub bursts_given : List Burst
   pub among : IsSubsequence bursts_given
-      (emitted (checker profile rules) (at_floor floor) (bursts link))
+      (emitted_by (checker profile rules) (at_floor floor) (bursts link))
   pub is : given ≡ laid (length link) (map (later late) bursts_given)
 
 -- A device that reads a line as `reads` says reads from what is given only frames that were sealed,

@@ -7,7 +7,7 @@ use Rattle.frame_ending.specs.Laid.{later}
 use Rattle.line_rules.specs.Rules.{Rules}
 use Rattle.link_format.specs.Profile.{Profile, delay}
 use Rattle.link_box.specs.Checking.{passed}
-use Rattle.receiver_laws.specs.Untouched.{IsUntouched, numbered}
+use Rattle.receiver_laws.specs.Untouched.{IsUntouchedLink, numbered}
 use Rattle.link_box.specs.Sealing.{link_line, sealed}
 use Rattle.two_wire.specs.Gate.{gated, at_rest}
 use Rattle.two_wire.specs.TwoWire.{EndSetup, EndWires, IsTwoWire, HearEachOther, heard_link}
@@ -105,9 +105,9 @@ module _ (rules : Rules) (p : Polling) where
   -- pair of wires while another does.
   pub record PollsInTurn : Type 0 where
     pub same_ticks : length (all_said p.master) ≡ length (all_said p.devices)
-    pub requests : IsUntouched p.ab rules p.requests_floor p.requests_behind p.master.line
+    pub requests : IsUntouchedLink p.ab rules p.requests_floor p.requests_behind p.master.line
         p.master.more
-    pub answers : IsUntouched p.ba rules p.answers_floor p.answers_behind p.devices.line
+    pub answers : IsUntouchedLink p.ba rules p.answers_floor p.answers_behind p.devices.line
         p.devices.more
     pub requests_end : lateness p.ab p.late ≤ p.master.more
     pub answers_end : lateness p.ba p.late ≤ p.devices.more

@@ -1,5 +1,5 @@
 -- What a two-wire box over journals in memory has driven, after one more step.
-use Rattle.duplex_box.specs.Pairs.{outgoing_box, incoming_box, ways_of, GoesOn}
+use Rattle.duplex_box.specs.Pairs.{outgoing_box, incoming_box, ways_of, PairGoesOn}
 use Rattle.duplex_box.specs.declared.pair.PairStep.{PairStep}
 use Rattle.link_box.specs.declared.box_trait.LinkBox.{Ghosts as LinkBox}
 use Rattle.link_format.specs.Setup.{Setup}
@@ -34,7 +34,7 @@ module _ {S C A B : Type 0} (sends : LinkBox S A) (gets : LinkBox C B) where
   pub driven-more : (side : Side) (waits : Waits) (sent_setup got_setup : Setup)
       (old new : SteadyEnd S C) (steps : List (WireStep A B)) (device_wires link_wires : Tick)
       (step : PairStep A B)
-      → GoesOn sends gets ghosts ghosts (heard (device_now old.wires) device_wires)
+      → PairGoesOn sends gets ghosts ghosts (heard (device_now old.wires) device_wires)
       (heard (link_now old.wires) link_wires)
       (ways_of (pair_of old.wires) old.sent old.sent_disk old.got old.got_disk)
       (ways_of (pair_of new.wires) new.sent new.sent_disk new.got new.got_disk) step

@@ -5,7 +5,7 @@ use Rattle.yasir_io.specs.declared.disk.SlotDisk.{Ghosts as SlotDisk}
 use Rattle.link_format.specs.Setup.{Setup}
 use Rattle.link_box.specs.declared.box_trait.LinkBox.{Ghosts as LinkBox}
 use Rattle.link_box.specs.Walking.{other_line}
-use Rattle.duplex_box.specs.Pairs.{BothWays, GoesOn}
+use Rattle.duplex_box.specs.Pairs.{BothWays, PairGoesOn}
 use Rattle.duplex_box.specs.declared.pair.PairStep.{PairStep}
 use Rattle.two_wire.specs.Gate.{GateState, lets, let_through, gate_after}
 use Rattle.two_wire.specs.TwoWire.{EndWires, DrivesWires}
@@ -35,7 +35,7 @@ module _ {S C A B X Y : Type 0} (sends : LinkBox S A) (gets : LinkBox C B) (d : 
       Type 0 where
     pub device_is : taken.to_device ≡ let_through old.for_device (lets side waits old.gate)
     pub link_is : taken.to_link ≡ old.for_link
-    pub goes_on : GoesOn sends gets d e (heard taken.to_device taken.device_wires)
+    pub goes_on : PairGoesOn sends gets d e (heard taken.to_device taken.device_wires)
         (heard taken.to_link taken.link_wires) old.ways new.ways taken.step
     pub gate_is : new.gate ≡ gate_after side waits old.gate old.for_device
         (heard taken.to_device taken.device_wires)

@@ -6,12 +6,12 @@ use Rattle.std.proofs.lemmas.List.{append-nil, length_push}
 use Rattle.std.proofs.lemmas.List.Elements.{All-nil, All-cons, All-append}
 use Rattle.std.{proofs.lemmas.Slice.Eq.bytes_eq-Decides, specs.List.position_from}
 use Rattle.std.specs.Prelude.{Result, Option, Some, None, All}
-use Rattle.vectors.specs.Cases.{value_of, has_bytes, IsRight, is_right, IsAnswer, answer_at, answer}
+use Rattle.vectors.specs.Cases.{case_value_of, has_bytes, IsRight, is_right, IsAnswer, case_answer_at, answer}
 use Rattle.vectors.specs.declared.{case.Case.Case, table.Miss.Miss}
 
 -- the answer to the cases from number `n` on, counted from 0
 abbrev answer_from : ℕ → List Case → Result (Unit {0}) Miss
-answer_from n rest = answer_at (position_from (λ case. not (is_right case)) n rest)
+answer_from n rest = case_answer_at (position_from (λ case. not (is_right case)) n rest)
 
 -- If all cases before these are right, the answer to these is the answer to all.
 AnswersOn : List Case → Type 0
@@ -26,7 +26,7 @@ has_bytes-Decides (Some value) bytes =
     ((λ is. ap Some (same.0 is)), (λ is. same.1 cc))
 
 is_right-Decides : (case : Case) → Decides (is_right case) (IsRight case)
-is_right-Decides case = has_bytes-Decides (value_of case) case.want.items
+is_right-Decides case = has_bytes-Decides (case_value_of case) case.want.items
 
 answers_on : (case : Case) (rest : List Case) → AnswersOn rest → (b : Bool) → is_right case ≡ b
     → AnswersOn (case ∷ rest)

@@ -1,7 +1,7 @@
 -- `user_of` is the user data that a frame carries, and there is none if the text is no frame.
 use Rattle.dnp_link_frame.proofs.FrameLaws.{is_frame-frame, frame-is_frame}
 use Rattle.dnp_link_frame.proofs.FrameParts.{length-frame_of, user_in-frame_of}
-use Rattle.dnp_link_frame.specs.{Beginnings.user_in, Blocks.is_frame, Frame.IsFrame}
+use Rattle.dnp_link_frame.specs.{Beginnings.user_in, Blocks.is_frame, Frame.IsDnpFrame}
 use Rattle.dnp_link_frame.specs.{Frame.IsFrameOf, declared.header.Header.Header}
 use Rattle.line_rules.specs.Bytes.{AreBytes}
 use Rattle.std.proofs.Common.{◌≡◌, ℕ, ◌≤◌, List, length, Some, None, arith, ◌∙◌, ap, subst, ⊎_elim}
@@ -15,7 +15,7 @@ user_of-frame header user text of =
     (frame-is_frame text (record { header = header; user = user; of = of }))
     ∙ ap Some (ap user_in of.is ∙ user_in-frame_of header user)
 
-pub user_of-none : (text : List ℕ) → AreBytes text → (IsFrame text → ⊥) → user_of text ≡ None
+pub user_of-none : (text : List ℕ) → AreBytes text → (IsDnpFrame text → ⊥) → user_of text ≡ None
 user_of-none text bytes none =
     cond-false (is_frame text) (Some (user_in text)) None
     (false_from_ne_true (is_frame text) (λ yes. none (is_frame-frame text bytes yes)))

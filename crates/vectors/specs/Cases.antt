@@ -49,12 +49,12 @@ value_by DnpFrame key text = Some (truth (dnp.is_frame text))
 value_by DnpUser key text = user_of text
 
 -- the value that the definitions give for a case, if there is one
-abbrev pub value_of : Case → Option (List ℕ)
-value_of case = value_by case.kind case.key.items case.text.items
+abbrev pub case_value_of : Case → Option (List ℕ)
+case_value_of case = value_by case.kind case.key.items case.text.items
 
 -- Holds if the definitions give the wanted value.
 abbrev pub IsRight : Case → Type 0
-IsRight case = value_of case ≡ Some case.want.items
+IsRight case = case_value_of case ≡ Some case.want.items
 
 -- whether there is a value, and it has these bytes
 abbrev pub has_bytes : Option (List ℕ) → List ℕ → Bool
@@ -63,7 +63,7 @@ has_bytes (Some value) bytes = bytes_eq value bytes
 
 -- whether `IsRight` holds, as a function
 abbrev pub is_right : Case → Bool
-is_right case = has_bytes (value_of case) case.want.items
+is_right case = has_bytes (case_value_of case) case.want.items
 
 -- Holds if `row`, counted from 1, is the first of the cases that isn't right.
 pub record IsFirstMiss (cases : List Case) (row : ℕ) : Type 0 where
@@ -83,10 +83,10 @@ IsAnswer cases result = MatchResult result (λ _. All IsRight cases)
 
 -- the answer to a table, by how many cases come before the first one that isn't right, or `None` if
 -- all are right
-abbrev pub answer_at : Option ℕ → Result (Unit {0}) Miss
-answer_at None = Ok tt
-answer_at (Some before) = Err (record { row = before + 1 })
+abbrev pub case_answer_at : Option ℕ → Result (Unit {0}) Miss
+case_answer_at None = Ok tt
+case_answer_at (Some before) = Err (record { row = before + 1 })
 
 -- the answer to a table as a function: it satisfies `IsAnswer`, and no other result does
 unfoldable pub answer : List Case → Result (Unit {0}) Miss
-answer cases = answer_at (position (λ case. not (is_right case)) cases)
+answer cases = case_answer_at (position (λ case. not (is_right case)) cases)

@@ -74,7 +74,7 @@ fn user_of(text: &[u8]) -> Option<CaseBytes>
 }
 
 impl Case {
-    ghost use Rattle.vectors.specs.Cases.{case_of, value_of, is_right};
+    ghost use Rattle.vectors.specs.Cases.{case_of, case_value_of, is_right};
 
     /// Returns a case with copies of these three lists.
     pub fn new(kind: CaseKind, key: &[u8], text: &[u8], want: &[u8]) -> Case
@@ -92,7 +92,7 @@ impl Case {
     }
 
     fn value(&self) -> Option<CaseBytes>
-        ensures { option_map (λ value. value.items) result ≡ value_of self.now }
+        ensures { option_map (λ value. value.items) result ≡ case_value_of self.now }
     {
         let (key, text) = (self.key.as_slice(), self.text.as_slice());
         match self.kind {

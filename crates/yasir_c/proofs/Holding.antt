@@ -5,14 +5,14 @@ use Rattle.std.specs.Prelude.{Option, Some, None, is_some}
 use Rattle.any_box.specs.declared.{held_box.HeldBox.HeldBox, held_box.HeldStep.HeldStep}
 use Rattle.yasir_c.specs.{Answers.answer_of, Holding.HoldsOne, Withholding.readiness_after}
 use Rattle.yasir_c.specs.Withholding.{withholding, after_step}
-use Rattle.yasir_c.specs.Owning.{number_held}
+use Rattle.yasir_c.specs.Owning.{number_in_handle}
 use Rattle.yasir_c.specs.declared.held.Held.{Held, TheVariants.LineBox}
 use Rattle.yasir_c.specs.declared.answer.Answer.{Answer}
 use Rattle.yasir_c.specs.declared.withholding.Readiness.TheVariants.{Ready, Withholds}
 use Rattle.yasir_c.specs.declared.withholding.{Readiness.Readiness, WithholdingBox.WithholdingBox}
 
 -- a handle whose number isn't 0 holds something
-pub some-held : (value : Option Held) (n : ℕ) → n ≡ number_held value → 1 ≤ n
+pub some-held : (value : Option Held) (n : ℕ) → n ≡ number_in_handle value → 1 ≤ n
     → (held : Held) × (value ≡ Some held)
 some-held None n is some = absurd (omega (arith, is, some))
 some-held (Some held) n is some = (held, refl)

@@ -6,9 +6,9 @@ use Rattle.std.proofs.Common.{refl, sym, ap, subst, arith, append_assoc}
 use Rattle.std.proofs.lemmas.List.{append-nil, map-append, length-map}
 use Rattle.{std.specs.Prelude.Option}
 use Rattle.std.specs.Prelude.{Some, None, nat_eq, if◌then◌else◌}
-use Rattle.any_box.specs.Boxes.{kind_of}
+use Rattle.any_box.specs.Boxes.{box_kind}
 use Rattle.any_box.specs.Noting.{Definition}
-use Rattle.any_box.specs.Held.{floor_held, Begins, Holds, StepsHeld}
+use Rattle.any_box.specs.Held.{floor_held, HeldBegins, HeldHolds, StepsHeld}
 use Rattle.any_box.specs.declared.any_note.AnyNote.{AnyNote}
 use Rattle.any_box.specs.declared.any_note.AnyNote.TheVariants.{OfSealer, OfChecker}
 use Rattle.any_box.specs.declared.{held_box.HeldBox.HeldBox, held_box.HeldStep.HeldStep}
@@ -21,9 +21,9 @@ use Rattle.sequence_journal.specs.Journal.{journal_floor}
 use Rattle.link_box.specs.declared.check_note.CheckNote.TheVariants.{Passed, Refused, Dropped}
 use Rattle.link_box.specs.declared.seal_note.SealNote.TheVariants.{Sealed, Unsealed}
 use Rattle.yasir_c.specs.Answers.{answer_of, numbers_in, tick_bytes}
-use Rattle.yasir_c.specs.Holding.{TakesTick, TakesFront, HandsOut, Stops}
+use Rattle.yasir_c.specs.Holding.{HandleTakesTick, TakesFront, HandleHandsOut, HandleStops}
 use Rattle.yasir_c.specs.Telling.{tick_told, note_told, notes_told, quiet}
-use Rattle.yasir_c.specs.Telling.{AreAnswers, HasTold, Tells}
+use Rattle.yasir_c.specs.Telling.{AreAnswers, HasTold, TellsAnswers}
 use Rattle.yasir_c.specs.Withholding.{ready, readiness_after}
 use Rattle.yasir_c.specs.declared.answer.{Answer.Answer, NoteNumbers.NoteNumbers}
 use Rattle.yasir_c.specs.declared.held.Held.{Held, TheVariants.LineBox, TheVariants.Spacer}
@@ -121,14 +121,14 @@ module _ (boxes : DefinedBox AnyBox)
 
   -- one more answer to one more tick
   answers-step : (kind : Kind) (setup : Setup) (before after : HeldBox) (line : List Tick)
-      (some : List Answer) (t : Tick) (step : HeldStep) → kind_of before.line_box ≡ kind
-      → Holds boxes before setup line
+      (some : List Answer) (t : Tick) (step : HeldStep) → box_kind before.line_box ≡ kind
+      → HeldHolds boxes before setup line
       → StepsHeld boxes before after t step
       → AreAnswers (made kind) setup line some
       → AreAnswers (made kind) setup (line ++ t ∷ []) (some ++ answer_of step ∷ [])
   answers-step kind setup before after line some t step kind_is holds steps are =
       let one = steps.steps.steps setup line holds in
-      let e : kind_of after.line_box ≡ kind = steps.steps.kind_is ∙ kind_is in
+      let e : box_kind after.line_box ≡ kind = steps.steps.kind_is ∙ kind_is in
       let tick_is = subst (λ k. (made k).other setup (line ++ t ∷ [])
       ≡ (made k).other setup line ++ step.tick ∷ []) e one.tick_is in
       let note_is = subst (λ k. (made k).notes setup (line ++ t ∷ [])
@@ -147,24 +147,24 @@ module _ (boxes : DefinedBox AnyBox)
   -- what a box has taken after a step, and the answers to it
   record Stepped (kind : Kind) (setup : Setup) (new : WithholdingBox) (line : List Tick)
       (some : List Answer) : Type 0 where
-    kind_is : kind_of new.line_box.line_box ≡ kind
-    holds : Holds boxes new.line_box setup line
+    kind_is : box_kind new.line_box.line_box ≡ kind
+    holds : HeldHolds boxes new.line_box setup line
     are : AreAnswers (made kind) setup line some
 
   stepped : (kind : Kind) (setup : Setup) (old new : WithholdingBox) (line : List Tick)
       (some : List Answer) (t : Tick) (step : HeldStep)
-      → Tells boxes kind setup old line some
-      → TakesTick boxes (Some (LineBox old)) (Some (LineBox new)) t step
+      → TellsAnswers boxes kind setup old line some
+      → HandleTakesTick boxes (Some (LineBox old)) (Some (LineBox new)) t step
       → Stepped kind setup new (line ++ t ∷ []) (some ++ answer_of step ∷ [])
   stepped kind setup old new line some t step tells takes =
-      let was = subst (λ b. Tells boxes kind setup b line some)
+      let was = subst (λ b. TellsAnswers boxes kind setup b line some)
       (same-box _ _ takes.old_is) tells in
       let is : takes.after ≡ new.line_box =
       sym (ap (λ (b : WithholdingBox). b.line_box) (same-box _ _ takes.new_is)) in
       record {
-        kind_is = subst (λ (h : HeldBox). kind_of h.line_box ≡ kind) is
+        kind_is = subst (λ (h : HeldBox). box_kind h.line_box ≡ kind) is
             (takes.steps.steps.kind_is ∙ was.kind_is);
-        holds = subst (λ h. Holds boxes h setup (line ++ t ∷ [])) is
+        holds = subst (λ h. HeldHolds boxes h setup (line ++ t ∷ [])) is
             (takes.steps.steps.steps setup line was.holds).stands;
         are = answers-step kind setup takes.before takes.after line some t step was.kind_is
             was.holds takes.steps was.told;
@@ -172,7 +172,7 @@ module _ (boxes : DefinedBox AnyBox)
 
   readiness-is : (new : WithholdingBox) (t : Tick) (step : HeldStep) (old : WithholdingBox)
       (commit : Option Commit)
-      → TakesTick boxes (Some (LineBox old)) (Some (LineBox new)) t step
+      → HandleTakesTick boxes (Some (LineBox old)) (Some (LineBox new)) t step
       → step.commit ≡ commit → new.readiness ≡ readiness_after commit (answer_of step)
   readiness-is new t step old commit takes is =
       ap (λ (b : WithholdingBox). b.readiness) (same-box _ _ takes.new_is)
@@ -180,10 +180,10 @@ module _ (boxes : DefinedBox AnyBox)
 
   pub tells-answer : (kind : Kind) (setup : Setup) (old new : WithholdingBox) (line : List Tick)
       (some : List Answer) (t : Tick) (step : HeldStep)
-      → Tells boxes kind setup old line some
-      → TakesTick boxes (Some (LineBox old)) (Some (LineBox new)) t step
+      → TellsAnswers boxes kind setup old line some
+      → HandleTakesTick boxes (Some (LineBox old)) (Some (LineBox new)) t step
       → step.commit ≡ None
-      → Tells boxes kind setup new (line ++ t ∷ []) (some ++ answer_of step ∷ [])
+      → TellsAnswers boxes kind setup new (line ++ t ∷ []) (some ++ answer_of step ∷ [])
   tells-answer kind setup old new line some t step tells takes is =
       let has = stepped kind setup old new line some t step tells takes in
       record {
@@ -196,10 +196,10 @@ module _ (boxes : DefinedBox AnyBox)
 
   pub tells-less : (kind : Kind) (setup : Setup) (old new : WithholdingBox) (line : List Tick)
       (some : List Answer) (t : Tick) (step : HeldStep) (commit : Commit)
-      → Tells boxes kind setup old line some
-      → TakesTick boxes (Some (LineBox old)) (Some (LineBox new)) t step
+      → TellsAnswers boxes kind setup old line some
+      → HandleTakesTick boxes (Some (LineBox old)) (Some (LineBox new)) t step
       → step.commit ≡ Some commit
-      → Tells boxes kind setup new (line ++ t ∷ []) some
+      → TellsAnswers boxes kind setup new (line ++ t ∷ []) some
   tells-less kind setup old new line some t step commit tells takes is =
       let has = stepped kind setup old new line some t step tells takes in
       record {
@@ -211,40 +211,40 @@ module _ (boxes : DefinedBox AnyBox)
 
   pub tells-withheld : (kind : Kind) (setup : Setup) (old new : WithholdingBox) (line : List Tick)
       (some : List Answer) (answer : Answer)
-      → Tells boxes kind setup old line some
-      → HandsOut (Some (LineBox old)) (Some (LineBox new)) answer
-      → Tells boxes kind setup new line (some ++ answer ∷ [])
+      → TellsAnswers boxes kind setup old line some
+      → HandleHandsOut (Some (LineBox old)) (Some (LineBox new)) answer
+      → TellsAnswers boxes kind setup new line (some ++ answer ∷ [])
   tells-withheld kind setup old new line some answer tells hands =
-      let was = subst (λ b. Tells boxes kind setup b line some)
+      let was = subst (λ b. TellsAnswers boxes kind setup b line some)
       (same-box _ _ hands.old_is) tells in
-      subst (λ b. Tells boxes kind setup b line (some ++ answer ∷ []))
+      subst (λ b. TellsAnswers boxes kind setup b line (some ++ answer ∷ []))
       (sym (same-box new _ hands.new_is))
       (record { kind_is = was.kind_is; holds = was.holds; told = was.told })
 
   pub tells-no-more : (kind : Kind) (setup : Setup) (old new : WithholdingBox) (line : List Tick)
-      (some : List Answer) → Tells boxes kind setup old line some
-      → Stops (Some (LineBox old)) (Some (LineBox new))
-      → Tells boxes kind setup new line some
+      (some : List Answer) → TellsAnswers boxes kind setup old line some
+      → HandleStops (Some (LineBox old)) (Some (LineBox new))
+      → TellsAnswers boxes kind setup new line some
   tells-no-more kind setup old new line some tells stops =
-      let was = subst (λ b. Tells boxes kind setup b line some)
+      let was = subst (λ b. TellsAnswers boxes kind setup b line some)
       (same-box _ _ stops.old_is) tells in
-      subst (λ b. Tells boxes kind setup b line some)
+      subst (λ b. TellsAnswers boxes kind setup b line some)
       (sym (same-box new _ stops.new_is))
       (record { kind_is = was.kind_is; holds = was.holds; told = (stops.answer, was.told) })
 
   pub tells-run : (kind : Kind) (setup : Setup) (old new : WithholdingBox) (line : List Tick)
       (some : List Answer) (run : List Tick) (sent : List ℕ) (taken : ℕ)
-      → Tells boxes kind setup old line some
+      → TellsAnswers boxes kind setup old line some
       → TakesFront boxes (Some (LineBox old)) (Some (LineBox new)) run sent taken
-      → Tells boxes kind setup new (line ++ take taken run)
+      → TellsAnswers boxes kind setup new (line ++ take taken run)
       (some ++ map (λ t. quiet t) (answered taken sent))
   tells-run kind setup old new line some run sent taken tells takes =
-      let was = subst (λ b. Tells boxes kind setup b line some)
+      let was = subst (λ b. TellsAnswers boxes kind setup b line some)
       (same-box _ _ takes.old_is) tells in
       let front = take taken run in let ticks = answered taken sent in
       let more = map (λ t. quiet t) ticks in
       let taking = takes.takes.takes in
-      let e : kind_of takes.after.line_box ≡ kind = taking.kind_is ∙ was.kind_is in
+      let e : box_kind takes.after.line_box ≡ kind = taking.kind_is ∙ was.kind_is in
       let one = taking.takes (floor_held takes.before) setup line was.holds in
       let ticks_are = subst (λ k. (made k).other setup (line ++ front)
       ≡ (made k).other setup line ++ ticks) e one.ticks_are in
@@ -255,7 +255,7 @@ module _ (boxes : DefinedBox AnyBox)
       (ap told no_note ∙ (sym (append-nil (told ((made kind).notes setup line)))
       ∙ ap (λ ns. told ((made kind).notes setup line) ++ ns)
       (sym (notes-quiet (0 + length some) ticks)))) in
-      subst (λ b. Tells boxes kind setup b (line ++ front) (some ++ more))
+      subst (λ b. TellsAnswers boxes kind setup b (line ++ front) (some ++ more))
       (sym (same-box new _ takes.new_is))
       (record {
         kind_is = e;
@@ -269,8 +269,8 @@ module _ (boxes : DefinedBox AnyBox)
   no-other kind setup = no-length ((made kind).other setup []) (as-long kind setup [])
 
   pub tells-none : (kind : Kind) (dir : Dir) (key a b : List ℕ) (held : HeldBox)
-      → Begins boxes kind dir key a b held
-      → Tells boxes kind (setup_of key dir (floor_held held)) (ready held) [] []
+      → HeldBegins boxes kind dir key a b held
+      → TellsAnswers boxes kind (setup_of key dir (floor_held held)) (ready held) [] []
   tells-none kind dir key a b held begins =
       let setup = setup_of key dir (floor_held held) in
       record {

@@ -53,9 +53,9 @@ numbers_in (Some (OfChecker (Refused start why))) = of_burst 4 start (refused_nu
 numbers_in (Some (OfChecker (Dropped start why))) = of_burst 5 start (dropped_number why)
 
 -- the number of a slot
-abbrev pub slot_number : Slot → ℕ
-slot_number A = 1
-slot_number B = 2
+abbrev pub slot_number_told : Slot → ℕ
+slot_number_told A = 1
+slot_number_told B = 2
 
 -- whether a tick carries a byte, and that byte
 abbrev pub tick_bytes : Tick → ℕ × ℕ
@@ -84,7 +84,7 @@ asking commit = record {
   len = 0;
   is_byte = 0;
   byte = 0;
-  commit = slot_number commit.slot;
+  commit = slot_number_told commit.slot;
   note = 0;
   why = 0;
   unused = 0;

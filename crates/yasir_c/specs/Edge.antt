@@ -11,14 +11,14 @@ use Rattle.sequence_journal.specs.Slots.{slot_bytes, any_floor, wrong_slot}
 use Rattle.sequence_journal.specs.declared.journal.LoadError.{LoadError}
 use Rattle.sequence_journal.specs.declared.journal.LoadError.TheVariants as Load
 use Rattle.any_box.specs.Kinds.{link_for}
-use Rattle.any_box.specs.Held.{slots_given, Begins}
+use Rattle.any_box.specs.Held.{slots_given, HeldBegins}
 use Rattle.any_box.specs.declared.held_box.HeldBox.{HeldBox}
 use Rattle.any_box.specs.declared.held_box.HeldStep.{HeldStep}
 use Rattle.any_box.specs.declared.kind.Kind.{Kind}
 use Rattle.any_box.specs.declared.owed.Commit.{Commit}
 use Rattle.yasir_c.specs.Answers.{answer_of, asking, tick_in}
-use Rattle.yasir_c.specs.Holding.{HoldsOne, HandsOut, HandsNothing}
-use Rattle.yasir_c.specs.Holding.{TakesTick, TakesNoTick, TakesFront}
+use Rattle.yasir_c.specs.Holding.{HoldsOne, HandleHandsOut, HandsNothing}
+use Rattle.yasir_c.specs.Holding.{HandleTakesTick, TakesNoTick, TakesFront}
 use Rattle.yasir_c.specs.Kinds.{IsKind, IsNoKind}
 use Rattle.yasir_c.specs.Withholding.{ready}
 use Rattle.yasir_c.specs.declared.answer.Answer.{Answer}
@@ -101,7 +101,7 @@ TellsStep step answer slot status = ⊥
 -- What has happened, by the status: the answer that was withheld is returned, or the box is
 -- stopped, or there is a cause to return none, and nothing has changed.
 abbrev pub CommittedBy : Option Held → Option Held → ℕ → Answer → Answer → Status → Type 0
-CommittedBy old new ok answer_old answer_new Is.Done = (ok ≡ 1) × HandsOut old new answer_new
+CommittedBy old new ok answer_old answer_new Is.Done = (ok ≡ 1) × HandleHandsOut old new answer_new
 CommittedBy old new ok answer_old answer_new status =
     (answer_new ≡ answer_old) × HandsNothing ok old new status
 
@@ -125,7 +125,7 @@ module _ (boxes : DefinedBox AnyBox) where
     pub dir : Dir
     pub new_is : new ≡ Some (LineBox (ready held))
     pub asks : AsksFor numbers slots old kind dir
-    pub begins : Begins boxes kind dir key (first_slot slots) (second_slot slots) held
+    pub begins : HeldBegins boxes kind dir key (first_slot slots) (second_slot slots) held
 
   -- What has happened, by the status: the handle holds a box that begins, or there is a cause for
   -- none, and the handle holds what it held.
@@ -144,7 +144,7 @@ module _ (boxes : DefinedBox AnyBox) where
     pub t : Tick
     pub step : HeldStep
     pub tick_is : tick_in number ≡ Some t
-    pub takes : TakesTick boxes old new t step
+    pub takes : HandleTakesTick boxes old new t step
     pub tells : TellsStep step answer slot status
 
   -- What has happened, by the status: the box has taken a tick, or there is a cause not to, and

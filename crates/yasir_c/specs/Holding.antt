@@ -70,13 +70,13 @@ TakesNoTick value Is.Full = HoldsFull value
 TakesNoTick value status = ⊥
 
 -- Holds if the box in a handle has returned the answer that it withheld, and takes the next tick.
-pub record HandsOut (old new : Option Held) (answer : Answer) : Type 0 where
+pub record HandleHandsOut (old new : Option Held) (answer : Answer) : Type 0 where
   pub held : HeldBox
   pub old_is : old ≡ Some (LineBox (withholding answer held))
   pub new_is : new ≡ Some (LineBox (ready held))
 
 -- Holds if the box in a handle withheld an answer, and was stopped.
-pub record Stops (old new : Option Held) : Type 0 where
+pub record HandleStops (old new : Option Held) : Type 0 where
   pub held : HeldBox
   pub answer : Answer
   pub old_is : old ≡ Some (LineBox (withholding answer held))
@@ -90,7 +90,7 @@ TellsNothing ok = 1 < ok
 -- tells it of the number: the box is stopped, or nothing changes.
 abbrev pub HandsNothing : ℕ → Option Held → Option Held → Status → Type 0
 HandsNothing ok old new Is.Stopped =
-    ((ok ≡ 0) × Stops old new) ⊎ ((new ≡ old) × (ok ≤ 1) × HoldsStopped old)
+    ((ok ≡ 0) × HandleStops old new) ⊎ ((new ≡ old) × (ok ≤ 1) × HoldsStopped old)
 HandsNothing ok old new Is.BadArgument = (new ≡ old) × (TellsNothing ok ⊎ HoldsReady old)
 HandsNothing ok old new Is.Empty = (new ≡ old) × HoldsNoBox old
 HandsNothing ok old new status = ⊥
@@ -99,7 +99,7 @@ HandsNothing ok old new status = ⊥
 module _ (boxes : DefinedBox AnyBox) where
   -- Holds if the box in a handle has taken a tick by this step. If the caller must write something,
   -- the box then withholds the answer of the step.
-  pub record TakesTick (old new : Option Held) (t : Tick) (step : HeldStep) : Type 0 where
+  pub record HandleTakesTick (old new : Option Held) (t : Tick) (step : HeldStep) : Type 0 where
     pub before : HeldBox
     pub after : HeldBox
     pub old_is : old ≡ Some (LineBox (ready before))
@@ -118,8 +118,8 @@ module _ (boxes : DefinedBox AnyBox) where
     pub takes : TakesHeld boxes before after (take taken run) (answered taken sent)
 
   -- Holds if the box has done so, or if nothing was taken and nothing has changed.
-  abbrev pub TakesRun : Option Held → Option Held → List Tick → List ℕ → ℕ → Type 0
-  TakesRun old new run sent taken =
+  abbrev pub HandleTakesRun : Option Held → Option Held → List Tick → List ℕ → ℕ → Type 0
+  HandleTakesRun old new run sent taken =
       TakesFront old new run sent taken ⊎ ((taken ≡ 0) × (sent ≡ []) × (new ≡ old))
 
 -- What the spacers are by the definitions.

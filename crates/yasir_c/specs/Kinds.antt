@@ -29,9 +29,9 @@ dir_number Ba = 1
 
 -- Holds if the value has this number, or if there is no value, and none has this number.
 module _ {A : Type 0} (number_of : A → ℕ) where
-  abbrev pub HasNumber : ℕ → Option A → Type 0
-  HasNumber number None = (a : A) → number ≢ number_of a
-  HasNumber number (Some a) = number ≡ number_of a
+  abbrev pub HasKindNumber : ℕ → Option A → Type 0
+  HasKindNumber number None = (a : A) → number ≢ number_of a
+  HasKindNumber number (Some a) = number ≡ number_of a
 
 -- Holds if these are the numbers of this box and this direction.
 pub record IsKind (numbers : KindNumbers) (kind : Kind) (dir : Dir) : Type 0 where

@@ -15,6 +15,6 @@ owner_owns at (Some value) =
     fex Global (λ heap. box_owns (ghosts.dealloc_token heap) the_row at value)
 
 -- the number by which a handle tells whether it holds something
-abbrev pub number_held : Option Held → ℕ
-number_held None = 0
-number_held (Some value) = 1
+abbrev pub number_in_handle : Option Held → ℕ
+number_in_handle None = 0
+number_in_handle (Some value) = 1

@@ -9,8 +9,8 @@ use Rattle.yasir_ticks.specs.declared.tick.Tick.TheVariants.{Silent, Byte}
 use Rattle.frame_ending.specs.Answers.{told_notes}
 use Rattle.frame_ending.specs.Walk.{Noted}
 use Rattle.link_format.specs.Setup.{Setup}
-use Rattle.any_box.specs.Boxes.{kind_of}
-use Rattle.any_box.specs.Held.{Holds}
+use Rattle.any_box.specs.Boxes.{box_kind}
+use Rattle.any_box.specs.Held.{HeldHolds}
 use Rattle.any_box.specs.Noting.{Definition}
 use Rattle.any_box.specs.declared.kind.Kind.{Kind}
 use Rattle.yasir_c.specs.Answers.{answer_of, numbers_in}
@@ -46,7 +46,7 @@ notes_told m (answer ∷ answers) = note_told m answer ++ notes_told (m + 1) ans
 abbrev pub quiet : Tick → Answer
 quiet tick = answer_of (record { tick = tick; note = None; commit = None })
 
--- Holds if these are the answers of a box to a line, one for each tick: the other line that the
+-- HeldHolds if these are the answers of a box to a line, one for each tick: the other line that the
 -- definition of the box makes of it, and its notes, each in the answer to the tick into whose step
 -- it falls.
 pub record AreAnswers (made : Definition) (setup : Setup) (line : List Tick)
@@ -55,7 +55,7 @@ pub record AreAnswers (made : Definition) (setup : Setup) (line : List Tick)
   pub notes_are : notes_told 0 answers
       ≡ told_notes (λ note. numbers_in (Some note)) (made.notes setup line)
 
--- Holds if a box has told these answers of those to a line: all of them, if it takes the next tick,
+-- HeldHolds if a box has told these answers of those to a line: all of them, if it takes the next tick,
 -- or all but the last.
 abbrev pub HasTold : Definition → Setup → List Tick → Readiness → List Answer → Type 0
 HasTold made setup line Ready answers = AreAnswers made setup line answers
@@ -66,9 +66,9 @@ HasTold made setup line Stopped answers =
 
 -- What the boxes are by the definitions.
 module _ (boxes : DefinedBox AnyBox) where
-  -- Holds if a box of this kind with this setup has taken this line, and C has read these answers.
-  pub record Tells (kind : Kind) (setup : Setup) (value : WithholdingBox) (line : List Tick)
+  -- HeldHolds if a box of this kind with this setup has taken this line, and C has read these answers.
+  pub record TellsAnswers (kind : Kind) (setup : Setup) (value : WithholdingBox) (line : List Tick)
       (answers : List Answer) : Type 0 where
-    pub kind_is : kind_of value.line_box.line_box ≡ kind
-    pub holds : Holds boxes value.line_box setup line
+    pub kind_is : box_kind value.line_box.line_box ≡ kind
+    pub holds : HeldHolds boxes value.line_box setup line
     pub told : HasTold (boxes.defined kind) setup line value.readiness answers

@@ -1,7 +1,7 @@
 //! What a step returns, as C reads it.
 ghost use Rattle.std.specs.Prelude.{◌≡◌};
 ghost use Rattle.yasir_c.specs.Answers.{answer_of, asking, numbers_in, unsealed_number};
-ghost use Rattle.yasir_c.specs.Answers.{refused_number, dropped_number, slot_number, tick_bytes};
+ghost use Rattle.yasir_c.specs.Answers.{refused_number, dropped_number, slot_number_told, tick_bytes};
 
 use any_box::{AnyNote, Commit, HeldStep};
 use check_receiver::{CheckNote, DroppedWhy, RefusedWhy};
@@ -125,7 +125,7 @@ fn dropped_number(why: DroppedWhy) -> u8
 }
 
 fn slot_number(slot: Slot) -> u8
-    ensures { result ≡ slot_number slot }
+    ensures { result ≡ slot_number_told slot }
 {
     match slot {
         Slot::A => 1,

@@ -1,6 +1,6 @@
 //! The handle that C holds.
 ghost use Rattle.std.specs.Prelude.{◌≡◌, Some, None, option_map, is_some};
-ghost use Rattle.yasir_c.specs.Owning.{number_held};
+ghost use Rattle.yasir_c.specs.Owning.{number_in_handle};
 
 use crate::held::Held;
 use crate::loose::Loose;
@@ -17,7 +17,7 @@ pub struct Handle {
     pub(crate) held: Owner,
     // 1 if something is held, and 0 if nothing is
     holds: u8,
-    ghost holds_is: { holds ≡ number_held held.value },
+    ghost holds_is: { holds ≡ number_in_handle held.value },
 }
 
 impl Handle {

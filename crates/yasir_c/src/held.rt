@@ -1,7 +1,7 @@
 //! What a handle holds.
 ghost use Rattle.std.specs.Prelude.{◌≡◌, IfOk, IfErr, Some};
 ghost use Rattle.yasir_ticks.specs.TickRun.{run_ticks};
-ghost use Rattle.yasir_c.specs.Holding.{TakesTick, TakesNoTick, HandsOut, HandsNothing, TakesRun};
+ghost use Rattle.yasir_c.specs.Holding.{HandleTakesTick, TakesNoTick, HandleHandsOut, HandsNothing, HandleTakesRun};
 ghost use Rattle.yasir_c.specs.Holding.{floor_told, SpacesTick, SpacesNoTick};
 
 use crate::answer::Answer;
@@ -25,7 +25,7 @@ impl Held {
     /// Takes the next tick with the box that is held. If the step uses a number, its answer is then
     /// withheld.
     pub(crate) fn step(&mut self, t: Tick) -> Result<HeldStep, Status>
-        ensures steps { IfOk result (TakesTick ⟦<AnyBox as DefinedBox>⟧ (Some self.old) (Some self.new) t) }
+        ensures steps { IfOk result (HandleTakesTick ⟦<AnyBox as DefinedBox>⟧ (Some self.old) (Some self.new) t) }
         ensures kept { IfErr result (λ why. (self.new ≡ self.old)
             × TakesNoTick (Some self.old) why) }
     {
@@ -39,7 +39,7 @@ impl Held {
     /// box if C couldn't write it (0).
     pub(crate) fn committed(&mut self, ok: u8) -> Result<Answer, Status>
         ensures handed { IfOk result (λ answer. (ok ≡ 1)
-            × HandsOut (Some self.old) (Some self.new) answer) }
+            × HandleHandsOut (Some self.old) (Some self.new) answer) }
         ensures kept { IfErr result (HandsNothing ok (Some self.old) (Some self.new)) }
     {
         match self {
@@ -51,7 +51,7 @@ impl Held {
     /// Takes the first of these ticks with the box that is held, as long as it returns silence for
     /// all of them or bytes for all of them, and returns how many.
     pub(crate) fn take_alike(&mut self, run: TickRun<'_>, sent: &mut RunBytes) -> usize
-        ensures { TakesRun ⟦<AnyBox as DefinedBox>⟧ (Some self.old) (Some self.new) (run_ticks run.entry)
+        ensures { HandleTakesRun ⟦<AnyBox as DefinedBox>⟧ (Some self.old) (Some self.new) (run_ticks run.entry)
             sent.new.items result }
     {
         match self {

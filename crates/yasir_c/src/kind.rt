@@ -1,6 +1,6 @@
 //! Which box C asks for.
 ghost use Rattle.yasir_c.specs.Kinds.{part_number, proto_number, profile_number, dir_number};
-ghost use Rattle.yasir_c.specs.Kinds.{HasNumber};
+ghost use Rattle.yasir_c.specs.Kinds.{HasKindNumber};
 
 use any_box::{Kind, Part, Profile, Proto};
 use link_format::Dir;
@@ -20,7 +20,7 @@ pub struct KindNumbers {
 }
 
 fn part_in(number: u8) -> Option<Part>
-    ensures { HasNumber part_number number result }
+    ensures { HasKindNumber part_number number result }
 {
     match number {
         0 => Some(Part::Sealer),
@@ -30,7 +30,7 @@ fn part_in(number: u8) -> Option<Part>
 }
 
 fn proto_in(number: u8) -> Option<Proto>
-    ensures { HasNumber proto_number number result }
+    ensures { HasKindNumber proto_number number result }
 {
     match number {
         1 => Some(Proto::Rtu),
@@ -40,7 +40,7 @@ fn proto_in(number: u8) -> Option<Proto>
 }
 
 fn profile_in(number: u8) -> Option<Profile>
-    ensures { HasNumber profile_number number result }
+    ensures { HasKindNumber profile_number number result }
 {
     match number {
         18 => Some(Profile::Y18),
@@ -50,7 +50,7 @@ fn profile_in(number: u8) -> Option<Profile>
 }
 
 fn dir_in(number: u8) -> Option<Dir>
-    ensures { HasNumber dir_number number result }
+    ensures { HasKindNumber dir_number number result }
 {
     match number {
         0 => Some(Dir::Ab),

@@ -4,14 +4,14 @@ ghost use Rattle.yasir_ticks.specs.declared.tick.Tick.{Tick};
 ghost use Rattle.frame_ending.specs.Answered.{answered};
 ghost use Rattle.link_format.specs.declared.dir.Dir.{Dir};
 ghost use Rattle.link_format.specs.Setup.{Setup, setup_of};
-ghost use Rattle.any_box.specs.Held.{floor_held, Begins};
+ghost use Rattle.any_box.specs.Held.{floor_held, HeldBegins};
 ghost use Rattle.any_box.specs.declared.held_box.HeldBox.{HeldBox};
 ghost use Rattle.any_box.specs.declared.held_box.HeldStep.{HeldStep};
 ghost use Rattle.any_box.specs.declared.kind.Kind.{Kind};
 ghost use Rattle.any_box.specs.declared.owed.Commit.{Commit};
 ghost use Rattle.yasir_c.specs.Answers.{answer_of};
-ghost use Rattle.yasir_c.specs.Holding.{TakesTick, TakesFront, HandsOut, Stops};
-ghost use Rattle.yasir_c.specs.Telling.{quiet, Tells};
+ghost use Rattle.yasir_c.specs.Holding.{HandleTakesTick, TakesFront, HandleHandsOut, HandleStops};
+ghost use Rattle.yasir_c.specs.Telling.{quiet, TellsAnswers};
 ghost use Rattle.yasir_c.specs.Withholding.{ready};
 ghost use Rattle.yasir_c.specs.declared.answer.Answer.{Answer};
 ghost use Rattle.yasir_c.specs.declared.held.Held.TheVariants.{LineBox};
@@ -26,34 +26,34 @@ use any_box::{AnyBox, DefinedBox};
 /// *runs*: after a run it has read the ticks that the box returned for it.
 pub fn all_answers_are_told()
     ensures begins { (kind : Kind) (dir : Dir) (key a b : List ℕ) (held : HeldBox)
-        → Begins ⟦<AnyBox as DefinedBox>⟧ kind dir key a b held
-        → Tells ⟦<AnyBox as DefinedBox>⟧ kind (setup_of key dir (floor_held held)) (ready held) [] [] }
+        → HeldBegins ⟦<AnyBox as DefinedBox>⟧ kind dir key a b held
+        → TellsAnswers ⟦<AnyBox as DefinedBox>⟧ kind (setup_of key dir (floor_held held)) (ready held) [] [] }
     ensures answers { (kind : Kind) (setup : Setup) (old new : WithholdingBox) (line : List Tick)
         (told : List Answer) (t : Tick) (step : HeldStep)
-        → Tells ⟦<AnyBox as DefinedBox>⟧ kind setup old line told
-        → TakesTick ⟦<AnyBox as DefinedBox>⟧ (Some (LineBox old)) (Some (LineBox new)) t step
+        → TellsAnswers ⟦<AnyBox as DefinedBox>⟧ kind setup old line told
+        → HandleTakesTick ⟦<AnyBox as DefinedBox>⟧ (Some (LineBox old)) (Some (LineBox new)) t step
         → step.commit ≡ None
-        → Tells ⟦<AnyBox as DefinedBox>⟧ kind setup new (line ++ t ∷ []) (told ++ answer_of step ∷ []) }
+        → TellsAnswers ⟦<AnyBox as DefinedBox>⟧ kind setup new (line ++ t ∷ []) (told ++ answer_of step ∷ []) }
     ensures withholds { (kind : Kind) (setup : Setup) (old new : WithholdingBox) (line : List Tick)
         (told : List Answer) (t : Tick) (step : HeldStep) (commit : Commit)
-        → Tells ⟦<AnyBox as DefinedBox>⟧ kind setup old line told
-        → TakesTick ⟦<AnyBox as DefinedBox>⟧ (Some (LineBox old)) (Some (LineBox new)) t step
+        → TellsAnswers ⟦<AnyBox as DefinedBox>⟧ kind setup old line told
+        → HandleTakesTick ⟦<AnyBox as DefinedBox>⟧ (Some (LineBox old)) (Some (LineBox new)) t step
         → step.commit ≡ Some commit
-        → Tells ⟦<AnyBox as DefinedBox>⟧ kind setup new (line ++ t ∷ []) told }
+        → TellsAnswers ⟦<AnyBox as DefinedBox>⟧ kind setup new (line ++ t ∷ []) told }
     ensures hands { (kind : Kind) (setup : Setup) (old new : WithholdingBox) (line : List Tick)
         (told : List Answer) (answer : Answer)
-        → Tells ⟦<AnyBox as DefinedBox>⟧ kind setup old line told
-        → HandsOut (Some (LineBox old)) (Some (LineBox new)) answer
-        → Tells ⟦<AnyBox as DefinedBox>⟧ kind setup new line (told ++ answer ∷ []) }
+        → TellsAnswers ⟦<AnyBox as DefinedBox>⟧ kind setup old line told
+        → HandleHandsOut (Some (LineBox old)) (Some (LineBox new)) answer
+        → TellsAnswers ⟦<AnyBox as DefinedBox>⟧ kind setup new line (told ++ answer ∷ []) }
     ensures stops { (kind : Kind) (setup : Setup) (old new : WithholdingBox) (line : List Tick)
         (told : List Answer)
-        → Tells ⟦<AnyBox as DefinedBox>⟧ kind setup old line told
-        → Stops (Some (LineBox old)) (Some (LineBox new))
-        → Tells ⟦<AnyBox as DefinedBox>⟧ kind setup new line told }
+        → TellsAnswers ⟦<AnyBox as DefinedBox>⟧ kind setup old line told
+        → HandleStops (Some (LineBox old)) (Some (LineBox new))
+        → TellsAnswers ⟦<AnyBox as DefinedBox>⟧ kind setup new line told }
     ensures runs { (kind : Kind) (setup : Setup) (old new : WithholdingBox) (line : List Tick)
         (told : List Answer) (run : List Tick) (sent : List ℕ) (taken : ℕ)
-        → Tells ⟦<AnyBox as DefinedBox>⟧ kind setup old line told
+        → TellsAnswers ⟦<AnyBox as DefinedBox>⟧ kind setup old line told
         → TakesFront ⟦<AnyBox as DefinedBox>⟧ (Some (LineBox old)) (Some (LineBox new)) run sent taken
-        → Tells ⟦<AnyBox as DefinedBox>⟧ kind setup new (line ++ take taken run)
+        → TellsAnswers ⟦<AnyBox as DefinedBox>⟧ kind setup new (line ++ take taken run)
         (told ++ map (λ tick. quiet tick) (answered taken sent)) }
 {}

@@ -1,7 +1,7 @@
 //! A box that withholds what a step returns if the step uses a number.
 ghost use Rattle.std.specs.Prelude.{◌≡◌, IfOk, IfErr, Some};
 ghost use Rattle.yasir_ticks.specs.TickRun.{run_ticks};
-ghost use Rattle.yasir_c.specs.Holding.{TakesTick, TakesNoTick, HandsOut, HandsNothing, TakesRun};
+ghost use Rattle.yasir_c.specs.Holding.{HandleTakesTick, TakesNoTick, HandleHandsOut, HandsNothing, HandleTakesRun};
 ghost use Rattle.yasir_c.specs.Holding.{floor_told};
 ghost use Rattle.yasir_c.specs.Withholding.{ready};
 ghost use Rattle.yasir_c.specs.declared.held.Held.TheVariants.{LineBox};
@@ -43,7 +43,7 @@ impl WithholdingBox {
 
     /// Takes the next tick. If the step uses a number, its answer is then withheld.
     pub(crate) fn step(&mut self, t: Tick) -> Result<HeldStep, Status>
-        ensures steps { IfOk result (TakesTick ⟦<AnyBox as DefinedBox>⟧ (Some (LineBox self.old))
+        ensures steps { IfOk result (HandleTakesTick ⟦<AnyBox as DefinedBox>⟧ (Some (LineBox self.old))
             (Some (LineBox self.new)) t) }
         ensures kept { IfErr result (λ why. (self.new ≡ self.old)
             × TakesNoTick (Some (LineBox self.old)) why) }
@@ -66,7 +66,7 @@ impl WithholdingBox {
     /// couldn't write it (0).
     pub(crate) fn committed(&mut self, ok: u8) -> Result<Answer, Status>
         ensures handed { IfOk result (λ answer. (ok ≡ 1)
-            × HandsOut (Some (LineBox self.old)) (Some (LineBox self.new)) answer) }
+            × HandleHandsOut (Some (LineBox self.old)) (Some (LineBox self.new)) answer) }
         ensures kept { IfErr result (HandsNothing ok (Some (LineBox self.old))
             (Some (LineBox self.new))) }
     {
@@ -89,7 +89,7 @@ impl WithholdingBox {
     /// Takes the first of these ticks, as long as the box returns silence for all of them or bytes
     /// for all of them, without a note and with nothing to write, and returns how many.
     pub(crate) fn take_alike(&mut self, run: TickRun<'_>, sent: &mut RunBytes) -> usize
-        ensures { TakesRun ⟦<AnyBox as DefinedBox>⟧ (Some (LineBox self.old)) (Some (LineBox self.new))
+        ensures { HandleTakesRun ⟦<AnyBox as DefinedBox>⟧ (Some (LineBox self.old)) (Some (LineBox self.new))
             (run_ticks run.entry) sent.new.items result }
     {
         let Readiness::Ready = self.readiness else {

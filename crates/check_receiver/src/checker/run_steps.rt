@@ -20,7 +20,7 @@ impl<R: LineRules, M: Mac, const B: usize, const D: usize> Checker<R, M, B, D> {
     ghost use Rattle.frame_ending.specs.SoFar.{live_bytes_so_far};
     ghost use Rattle.yasir_ticks.specs.DelayRing.{ring_ticks};
     ghost use Rattle.link_format.specs.Setup.{Setup};
-    ghost use Rattle.check_receiver.specs.Stands.{ticks_taken};
+    ghost use Rattle.check_receiver.specs.Stands.{checker_ticks};
     ghost use Rattle.line_rules.specs.Rules.{head_of};
     ghost use Rattle.check_receiver.specs.Runs.{KeepsHeader};
     ghost use Rattle.frame_ending.specs.Cuts.{cut_of};
@@ -29,23 +29,23 @@ impl<R: LineRules, M: Mac, const B: usize, const D: usize> Checker<R, M, B, D> {
     ghost use Rattle.std.specs.Prelude.{map, take};
     ghost use Rattle.yasir_ticks.specs.Ticks.{silent};
     ghost use Rattle.frame_ending.specs.Answered.{answered};
-    ghost use Rattle.check_receiver.specs.Stands.{StandsAt, direction_of};
-    ghost use Rattle.check_receiver.specs.Runs.{HasTakenRun, BeginsNone};
+    ghost use Rattle.check_receiver.specs.Stands.{CheckerStandsAt, checker_direction};
+    ghost use Rattle.check_receiver.specs.Runs.{CheckerHasTakenRun, BeginsNone};
     ghost use Rattle.line_rules.specs.Outlet.{owed_by};
 
     // Takes live bytes of the burst whose verdict is open, if its header is a good one.
     #[inline(never)]
     pub(super) fn follow(&mut self, bytes: &[u8], sent: &mut RunBytes) -> usize
-        requires room { ticks_taken self.old + length bytes.now ≤ MAX_TICKS }
+        requires room { checker_ticks self.old + length bytes.now ≤ MAX_TICKS }
         requires phase { self.old.phase ≡ Open }
         requires empty { sent.old.items ≡ [] }
         ensures within { result ≤ length bytes.now }
-        ensures taken { ticks_taken self.new ≡ ticks_taken self.old + result }
+        ensures taken { checker_ticks self.new ≡ checker_ticks self.old + result }
         ensures run { (last : ℕ) (setup : Setup) (line : List Tick)
-            → StandsAt R.LineRules M.Mac self.old last setup line
-            → HasTakenRun R.LineRules M.Mac self.new last setup line
+            → CheckerStandsAt R.LineRules M.Mac self.old last setup line
+            → CheckerHasTakenRun R.LineRules M.Mac self.new last setup line
             (map Byte (take result bytes.now)) (answered result sent.new.items) }
-        ensures direction { direction_of self.new ≡ direction_of self.old }
+        ensures direction { checker_direction self.new ≡ checker_direction self.old }
     {
         if !self.has_good_head() {
             return 0;
@@ -57,19 +57,19 @@ impl<R: LineRules, M: Mac, const B: usize, const D: usize> Checker<R, M, B, D> {
     // as soon as it is whole.
     #[inline(always)]
     fn follow_on(&mut self, bytes: &[u8], sent: &mut RunBytes) -> usize
-        requires room { ticks_taken self.old + length bytes.now ≤ MAX_TICKS }
+        requires room { checker_ticks self.old + length bytes.now ≤ MAX_TICKS }
         requires empty { sent.old.items ≡ [] }
         ensures within { result ≤ length bytes.now }
-        ensures taken { ticks_taken self.new ≡ ticks_taken self.old + result }
+        ensures taken { checker_ticks self.new ≡ checker_ticks self.old + result }
         ensures run { (last : ℕ) (setup : Setup) (line : List Tick)
-            → StandsAt R.LineRules M.Mac self.old last setup line
+            → CheckerStandsAt R.LineRules M.Mac self.old last setup line
             → self.old.phase ≡ Open
             → KeepsHeader R.rules (live_bytes_so_far R.rules line) bytes.now
-            → HasTakenRun R.LineRules M.Mac self.new last setup line
+            → CheckerHasTakenRun R.LineRules M.Mac self.new last setup line
             (map Byte (take result bytes.now)) (answered result sent.new.items) }
         ensures silent { slice_index_or (ring_ticks self.old.ring) 0 Silent ≡ Silent
             → sent.new.items ≡ [] }
-        ensures direction { direction_of self.new ≡ direction_of self.old }
+        ensures direction { checker_direction self.new ≡ checker_direction self.old }
     {
         let count = alike_along(&self.ring, bytes);
         let part = &bytes[..count];
@@ -89,16 +89,16 @@ impl<R: LineRules, M: Mac, const B: usize, const D: usize> Checker<R, M, B, D> {
     // Takes bytes of the trailer of the burst whose verdict is open, but not the last one.
     #[inline(never)]
     pub(super) fn hear_trailer(&mut self, bytes: &[u8], sent: &mut RunBytes) -> usize
-        requires room { ticks_taken self.old + length bytes.now ≤ MAX_TICKS }
+        requires room { checker_ticks self.old + length bytes.now ≤ MAX_TICKS }
         requires phase { self.old.phase ≡ Open }
         requires empty { sent.old.items ≡ [] }
         ensures within { result ≤ length bytes.now }
-        ensures taken { ticks_taken self.new ≡ ticks_taken self.old + result }
+        ensures taken { checker_ticks self.new ≡ checker_ticks self.old + result }
         ensures run { (last : ℕ) (setup : Setup) (line : List Tick)
-            → StandsAt R.LineRules M.Mac self.old last setup line
-            → HasTakenRun R.LineRules M.Mac self.new last setup line
+            → CheckerStandsAt R.LineRules M.Mac self.old last setup line
+            → CheckerHasTakenRun R.LineRules M.Mac self.new last setup line
             (map Byte (take result bytes.now)) (answered result sent.new.items) }
-        ensures direction { direction_of self.new ≡ direction_of self.old }
+        ensures direction { checker_direction self.new ≡ checker_direction self.old }
     {
         let until = usize::from(self.until);
         // the next byte is the trailer's last one
@@ -123,16 +123,16 @@ impl<R: LineRules, M: Mac, const B: usize, const D: usize> Checker<R, M, B, D> {
     // Takes silent ticks of the pause after the live bytes of the burst whose verdict is open.
     #[inline(never)]
     pub(super) fn pause_some(&mut self, ticks: u32, sent: &mut RunBytes) -> u32
-        requires room { ticks_taken self.old + ticks ≤ MAX_TICKS }
+        requires room { checker_ticks self.old + ticks ≤ MAX_TICKS }
         requires phase { self.old.phase ≡ Open }
         requires empty { sent.old.items ≡ [] }
         ensures within { result ≤ ticks }
-        ensures taken { ticks_taken self.new ≡ ticks_taken self.old + result }
+        ensures taken { checker_ticks self.new ≡ checker_ticks self.old + result }
         ensures run { (last : ℕ) (setup : Setup) (line : List Tick)
-            → StandsAt R.LineRules M.Mac self.old last setup line
-            → HasTakenRun R.LineRules M.Mac self.new last setup line
+            → CheckerStandsAt R.LineRules M.Mac self.old last setup line
+            → CheckerHasTakenRun R.LineRules M.Mac self.new last setup line
             (silent result) (answered result sent.new.items) }
-        ensures direction { direction_of self.new ≡ direction_of self.old }
+        ensures direction { checker_direction self.new ≡ checker_direction self.old }
     {
         if !self.has_good_head() {
             return 0;
@@ -154,16 +154,16 @@ impl<R: LineRules, M: Mac, const B: usize, const D: usize> Checker<R, M, B, D> {
     // which the last of its live ticks leaves.
     #[inline(never)]
     pub(super) fn pass_over(&mut self, bytes: &[u8], sent: &mut RunBytes) -> usize
-        requires room { ticks_taken self.old + length bytes.now ≤ MAX_TICKS }
+        requires room { checker_ticks self.old + length bytes.now ≤ MAX_TICKS }
         requires phase { is_open self.old.phase ≡ false }
         requires empty { sent.old.items ≡ [] }
         ensures within { result ≤ length bytes.now }
-        ensures taken { ticks_taken self.new ≡ ticks_taken self.old + result }
+        ensures taken { checker_ticks self.new ≡ checker_ticks self.old + result }
         ensures run { (last : ℕ) (setup : Setup) (line : List Tick)
-            → StandsAt R.LineRules M.Mac self.old last setup line
-            → HasTakenRun R.LineRules M.Mac self.new last setup line
+            → CheckerStandsAt R.LineRules M.Mac self.old last setup line
+            → CheckerHasTakenRun R.LineRules M.Mac self.new last setup line
             (map Byte (take result bytes.now)) (answered result sent.new.items) }
-        ensures direction { direction_of self.new ≡ direction_of self.old }
+        ensures direction { checker_direction self.new ≡ checker_direction self.old }
     {
         // the last live tick leaves in the next step, or a fill leaves
         if self.until < 2 {
@@ -182,16 +182,16 @@ impl<R: LineRules, M: Mac, const B: usize, const D: usize> Checker<R, M, B, D> {
     // a burst that doesn't start too soon, as long as its header isn't whole, or is a good one.
     #[inline(never)]
     pub(super) fn start_some(&mut self, bytes: &[u8], sent: &mut RunBytes) -> usize
-        requires room { ticks_taken self.old + length bytes.now ≤ MAX_TICKS }
+        requires room { checker_ticks self.old + length bytes.now ≤ MAX_TICKS }
         requires phase { self.old.phase ≡ Idle }
         requires empty { sent.old.items ≡ [] }
         ensures within { result ≤ length bytes.now }
-        ensures taken { ticks_taken self.new ≡ ticks_taken self.old + result }
+        ensures taken { checker_ticks self.new ≡ checker_ticks self.old + result }
         ensures run { (last : ℕ) (setup : Setup) (line : List Tick)
-            → StandsAt R.LineRules M.Mac self.old last setup line
-            → HasTakenRun R.LineRules M.Mac self.new last setup line
+            → CheckerStandsAt R.LineRules M.Mac self.old last setup line
+            → CheckerHasTakenRun R.LineRules M.Mac self.new last setup line
             (map Byte (take result bytes.now)) (answered result sent.new.items) }
-        ensures direction { direction_of self.new ≡ direction_of self.old }
+        ensures direction { checker_direction self.new ≡ checker_direction self.old }
     {
         let passed = cut_some(&mut self.cut, bytes);
         if passed > 0 {
@@ -213,19 +213,19 @@ impl<R: LineRules, M: Mac, const B: usize, const D: usize> Checker<R, M, B, D> {
     // header by itself, and all live ticks must have left.
     #[inline]
     fn start(&mut self, first: u8)
-        requires room { ticks_taken self.old < MAX_TICKS }
-        ensures taken { ticks_taken self.new ≡ ticks_taken self.old + 1 }
+        requires room { checker_ticks self.old < MAX_TICKS }
+        ensures taken { checker_ticks self.new ≡ checker_ticks self.old + 1 }
         ensures run { (last : ℕ) (setup : Setup) (line : List Tick)
-            → StandsAt R.LineRules M.Mac self.old last setup line
+            → CheckerStandsAt R.LineRules M.Mac self.old last setup line
             → cut_of R.rules line (Byte first) ≡ Start first
             → self.old.until ≡ 0 → self.old.earliest_start ≤ length line
             → (head_of R.rules (first ∷ []) ≡ Bad → ⊥)
-            → HasTakenRun R.LineRules M.Mac self.new last setup line
+            → CheckerHasTakenRun R.LineRules M.Mac self.new last setup line
             (Byte first ∷ []) (Silent ∷ [])
             × (self.new.phase ≡ Open)
             × (slice_index_or (ring_ticks self.new.ring) 0 Silent ≡ Silent)
             × (live_bytes_so_far R.rules (line ++ Byte first ∷ []) ≡ first ∷ []) }
-        ensures direction { direction_of self.new ≡ direction_of self.old }
+        ensures direction { checker_direction self.new ≡ checker_direction self.old }
     {
         let _ = self.cut.step(Tick::Byte(first));
         let _ = self.begin(first);
@@ -235,16 +235,16 @@ impl<R: LineRules, M: Mac, const B: usize, const D: usize> Checker<R, M, B, D> {
     // last of its live ticks leaves.
     #[inline(never)]
     pub(super) fn rest_some(&mut self, ticks: u32, sent: &mut RunBytes) -> u32
-        requires room { ticks_taken self.old + ticks ≤ MAX_TICKS }
+        requires room { checker_ticks self.old + ticks ≤ MAX_TICKS }
         requires phase { is_open self.old.phase ≡ false }
         requires empty { sent.old.items ≡ [] }
         ensures within { result ≤ ticks }
-        ensures taken { ticks_taken self.new ≡ ticks_taken self.old + result }
+        ensures taken { checker_ticks self.new ≡ checker_ticks self.old + result }
         ensures run { (last : ℕ) (setup : Setup) (line : List Tick)
-            → StandsAt R.LineRules M.Mac self.old last setup line
-            → HasTakenRun R.LineRules M.Mac self.new last setup line
+            → CheckerStandsAt R.LineRules M.Mac self.old last setup line
+            → CheckerHasTakenRun R.LineRules M.Mac self.new last setup line
             (silent result) (answered result sent.new.items) }
-        ensures direction { direction_of self.new ≡ direction_of self.old }
+        ensures direction { checker_direction self.new ≡ checker_direction self.old }
     {
         if self.until == 0 {
             return self.fill_some(ticks, sent);
@@ -266,17 +266,17 @@ impl<R: LineRules, M: Mac, const B: usize, const D: usize> Checker<R, M, B, D> {
     // Takes silent ticks while a fill leaves.
     #[inline(never)]
     fn fill_some(&mut self, ticks: u32, sent: &mut RunBytes) -> u32
-        requires room { ticks_taken self.old + ticks ≤ MAX_TICKS }
+        requires room { checker_ticks self.old + ticks ≤ MAX_TICKS }
         requires phase { is_open self.old.phase ≡ false }
         requires until { self.old.until ≡ 0 }
         requires empty { sent.old.items ≡ [] }
         ensures within { result ≤ ticks }
-        ensures taken { ticks_taken self.new ≡ ticks_taken self.old + result }
+        ensures taken { checker_ticks self.new ≡ checker_ticks self.old + result }
         ensures run { (last : ℕ) (setup : Setup) (line : List Tick)
-            → StandsAt R.LineRules M.Mac self.old last setup line
-            → HasTakenRun R.LineRules M.Mac self.new last setup line
+            → CheckerStandsAt R.LineRules M.Mac self.old last setup line
+            → CheckerHasTakenRun R.LineRules M.Mac self.new last setup line
             (silent result) (answered result sent.new.items) }
-        ensures direction { direction_of self.new ≡ direction_of self.old }
+        ensures direction { checker_direction self.new ≡ checker_direction self.old }
     {
         let most = ticks.min(MOST_FILLED);
         for count in 0..most {
@@ -292,16 +292,16 @@ impl<R: LineRules, M: Mac, const B: usize, const D: usize> Checker<R, M, B, D> {
     // Takes a tick that begins no burst, and returns the byte of a fill that leaves for it.
     #[inline(always)]
     fn fill_one(&mut self, t: Tick) -> u8
-        requires { ticks_taken self.old < MAX_TICKS }
-        ensures taken { ticks_taken self.new ≡ ticks_taken self.old + 1 }
+        requires { checker_ticks self.old < MAX_TICKS }
+        ensures taken { checker_ticks self.new ≡ checker_ticks self.old + 1 }
         ensures until { self.new.until ≡ self.old.until }
         ensures phase { is_open self.old.phase ≡ false → is_open self.new.phase ≡ false }
         ensures run { (last : ℕ) (setup : Setup) (line : List Tick)
-            → StandsAt R.LineRules M.Mac self.old last setup line
+            → CheckerStandsAt R.LineRules M.Mac self.old last setup line
             → is_open self.old.phase ≡ false → self.old.until ≡ 0 → 0 < owed_by self.old.outlet
             → BeginsNone R.rules line t
-            → HasTakenRun R.LineRules M.Mac self.new last setup line (t ∷ []) (Byte result ∷ []) }
-        ensures direction { direction_of self.new ≡ direction_of self.old }
+            → CheckerHasTakenRun R.LineRules M.Mac self.new last setup line (t ∷ []) (Byte result ∷ []) }
+        ensures direction { checker_direction self.new ≡ checker_direction self.old }
     {
         let _ = self.cut.step(t);
         match self.turn(Tick::Silent) {

@@ -24,17 +24,17 @@ impl<R: LineRules, M: Mac, const B: usize, const D: usize> Checker<R, M, B, D> {
     ghost use Rattle.sequence_journal.specs.declared.numbers.TheConstants.{LIMIT};
     ghost use Rattle.sequence_journal.specs.Commits.{HasFailed};
     ghost use Rattle.sequence_journal.specs.Journal.{journal_floor, Fits};
-    ghost use Rattle.check_receiver.specs.Checkings.{PassesWith, KeepsJournal};
-    ghost use Rattle.check_receiver.specs.Stands.{HasTaken, direction_of};
+    ghost use Rattle.check_receiver.specs.Checkings.{PassesWith, CheckerKeepsJournal};
+    ghost use Rattle.check_receiver.specs.Stands.{CheckerHasTaken, checker_direction};
     ghost use Rattle.line_rules.specs.Rules.{head_of};
     ghost use Rattle.line_rules.specs.declared.head.Head.TheVariants.{Bad, Short};
     ghost use Rattle.frame_ending.specs.SoFar.{live_bytes_so_far};
-    ghost use Rattle.frame_ending.specs.Stands.{StandsFor as CutStandsFor};
+    ghost use Rattle.frame_ending.specs.Stands.{CutStandsFor};
     ghost use Rattle.std.specs.Prelude.{slice_index_or};
     ghost use Rattle.check_receiver.specs.Turning.{Turned, with_until};
     ghost use Rattle.check_receiver.specs.Phases.{is_open};
     ghost use Rattle.check_receiver.specs.declared.phase.Phase.TheVariants.{Open};
-    ghost use Rattle.check_receiver.specs.Between.{IsBetween, IsSilence, IsNoPass};
+    ghost use Rattle.check_receiver.specs.Between.{CheckerIsBetween, IsSilence, IsNoPass};
     ghost use Rattle.yasir_ticks.specs.Ticks.{silent};
     ghost use Rattle.line_rules.specs.declared.head.Head.TheVariants.{Good};
 
@@ -44,15 +44,15 @@ impl<R: LineRules, M: Mac, const B: usize, const D: usize> Checker<R, M, B, D> {
         ensures cut { self.new.cut ≡ self.old.cut }
         ensures note { IsNoPass result.note }
         ensures step { (last : ℕ) (setup : Setup) (line : List Tick) (t : Tick)
-            → IsBetween R.LineRules M.Mac self.old last setup line t (Start byte)
-            → HasTaken R.LineRules M.Mac self.new last setup line t result }
+            → CheckerIsBetween R.LineRules M.Mac self.old last setup line t (Start byte)
+            → CheckerHasTaken R.LineRules M.Mac self.new last setup line t result }
         ensures opens { (last : ℕ) (setup : Setup) (line : List Tick)
-            → IsBetween R.LineRules M.Mac self.old last setup line (Byte byte) (Start byte)
+            → CheckerIsBetween R.LineRules M.Mac self.old last setup line (Byte byte) (Start byte)
             → self.old.earliest_start ≤ length line
             → (head_of R.rules (byte ∷ []) ≡ Bad → ⊥)
             → (result.note ≡ None) × (result.tick ≡ Silent) × (self.new.phase ≡ Open)
             × (slice_index_or (ring_ticks self.new.ring) 0 Silent ≡ Silent) }
-        ensures direction { direction_of self.new ≡ direction_of self.old }
+        ensures direction { checker_direction self.new ≡ checker_direction self.old }
     {
         if self.cut.start() < self.earliest_start {
             return self.drop_busy();
@@ -74,9 +74,9 @@ impl<R: LineRules, M: Mac, const B: usize, const D: usize> Checker<R, M, B, D> {
         ensures cut { self.new.cut ≡ self.old.cut }
         ensures note { IsNoPass result.note }
         ensures step { (last : ℕ) (setup : Setup) (line : List Tick) (t : Tick)
-            → IsBetween R.LineRules M.Mac self.old last setup line t (Live byte)
-            → HasTaken R.LineRules M.Mac self.new last setup line t result }
-        ensures direction { direction_of self.new ≡ direction_of self.old }
+            → CheckerIsBetween R.LineRules M.Mac self.old last setup line t (Live byte)
+            → CheckerHasTaken R.LineRules M.Mac self.new last setup line t result }
+        ensures direction { checker_direction self.new ≡ checker_direction self.old }
     {
         if !self.phase.is_open() {
             return self.pass_by(None);
@@ -111,9 +111,9 @@ impl<R: LineRules, M: Mac, const B: usize, const D: usize> Checker<R, M, B, D> {
         ensures note { IsNoPass result.note }
         ensures step { (last : ℕ) (setup : Setup) (line : List Tick) (cut : Cut)
             → IsSilence cut
-            → IsBetween R.LineRules M.Mac self.old last setup line Silent cut
-            → HasTaken R.LineRules M.Mac self.new last setup line Silent result }
-        ensures direction { direction_of self.new ≡ direction_of self.old }
+            → CheckerIsBetween R.LineRules M.Mac self.old last setup line Silent cut
+            → CheckerHasTaken R.LineRules M.Mac self.new last setup line Silent result }
+        ensures direction { checker_direction self.new ≡ checker_direction self.old }
     {
         if !self.phase.is_open() {
             return self.pass_by(None);
@@ -136,9 +136,9 @@ impl<R: LineRules, M: Mac, const B: usize, const D: usize> Checker<R, M, B, D> {
         ensures note { IsNoPass result.note }
         ensures step { (last : ℕ) (setup : Setup) (line : List Tick) (cut : Cut)
             → IsSilence cut → is_open self.old.phase ≡ true → self.old.until + 2 ≡ D
-            → IsBetween R.LineRules M.Mac self.old last setup line Silent cut
-            → HasTaken R.LineRules M.Mac self.new last setup line Silent result }
-        ensures direction { direction_of self.new ≡ direction_of self.old }
+            → CheckerIsBetween R.LineRules M.Mac self.old last setup line Silent cut
+            → CheckerHasTaken R.LineRules M.Mac self.new last setup line Silent result }
+        ensures direction { checker_direction self.new ≡ checker_direction self.old }
     {
         match self.head() {
             Head::Short => self.drop_headless(),
@@ -158,18 +158,18 @@ impl<R: LineRules, M: Mac, const B: usize, const D: usize> Checker<R, M, B, D> {
         requires fits { Fits journal.old (S.told disk.old) }
         ensures cut { OnOk result (self.new.cut ≡ self.old.cut) }
         ensures step { IfOk result (λ step. (setup : Setup) (line : List Tick) (t : Tick)
-            → IsBetween R.LineRules M.Mac self.old (journal_floor journal.old) setup line t
+            → CheckerIsBetween R.LineRules M.Mac self.old (journal_floor journal.old) setup line t
             (Extra byte)
-            → HasTaken R.LineRules M.Mac self.new (journal_floor journal.new) setup line t step) }
+            → CheckerHasTaken R.LineRules M.Mac self.new (journal_floor journal.new) setup line t step) }
         ensures err_passes { OnErr result ((number : ℕ)
             × HasFailed journal.old journal.new (S.told disk.old) (S.told disk.new) number
             × ((setup : Setup) (line : List Tick) (t : Tick)
-            → IsBetween R.LineRules M.Mac self.old (journal_floor journal.old) setup line t
+            → CheckerIsBetween R.LineRules M.Mac self.old (journal_floor journal.old) setup line t
             (Extra byte)
             → PassesWith (profile_of R.LineRules M.Mac B LIMIT setup) R.rules setup.floor line t
             number)) }
-        ensures journal { KeepsJournal S.SlotDisk journal.old journal.new disk.old disk.new result }
-        ensures direction { direction_of self.new ≡ direction_of self.old }
+        ensures journal { CheckerKeepsJournal S.SlotDisk journal.old journal.new disk.old disk.new result }
+        ensures direction { checker_direction self.new ≡ checker_direction self.old }
     {
         if !self.phase.is_open() {
             return Ok(self.pass_by(None));

@@ -16,7 +16,7 @@ impl<R: LineRules, M: Mac, const B: usize, const D: usize> Checker<R, M, B, D> {
     ghost use Rattle.yasir_ticks.specs.declared.tick.Tick.TheVariants.{Silent};
     ghost use Rattle.frame_ending.specs.SoFar.{live_bytes_so_far};
     ghost use Rattle.frame_ending.specs.Stands.{ticks_taken as ticks_cut};
-    ghost use Rattle.frame_ending.specs.Stands.{StandsFor as CutStandsFor};
+    ghost use Rattle.frame_ending.specs.Stands.{CutStandsFor};
     ghost use Rattle.link_format.specs.Profile.{profile_of};
     ghost use Rattle.link_format.specs.Setup.{Setup};
     ghost use Rattle.sequence_journal.specs.declared.journal.Journal.{Journal};
@@ -25,8 +25,8 @@ impl<R: LineRules, M: Mac, const B: usize, const D: usize> Checker<R, M, B, D> {
     ghost use Rattle.sequence_journal.specs.Journal.{journal_floor, Fits};
     ghost use Rattle.link_box.specs.declared.check_note.CheckNote.TheVariants.{Passed, Refused};
     ghost use Rattle.link_box.specs.declared.check_note.CheckNote.TheVariants.{Dropped};
-    ghost use Rattle.check_receiver.specs.Checkings.{PassesWith, KeepsJournal};
-    ghost use Rattle.check_receiver.specs.Stands.{HasTaken, direction_of};
+    ghost use Rattle.check_receiver.specs.Checkings.{PassesWith, CheckerKeepsJournal};
+    ghost use Rattle.check_receiver.specs.Stands.{CheckerHasTaken, checker_direction};
     ghost use Rattle.yasir_ticks.specs.Bursts.{Burst};
     ghost use Rattle.line_rules.specs.Rules.{lacking_of};
     ghost use Rattle.frame_ending.specs.SoFar.{last_burst, start_so_far};
@@ -41,7 +41,7 @@ impl<R: LineRules, M: Mac, const B: usize, const D: usize> Checker<R, M, B, D> {
     ghost use Rattle.std.specs.Int.{w64, to_be_bytes};
     ghost use Rattle.link_box.specs.Holding.{trailer_so_far};
     ghost use Rattle.check_receiver.specs.Turning.{Turned, TurnedClear, TurnedRefused};
-    ghost use Rattle.check_receiver.specs.Between.{IsWhole};
+    ghost use Rattle.check_receiver.specs.Between.{BurstIsWhole};
     ghost use Rattle.check_receiver.specs.Between.{verdict_told};
 
     // Decides on a burst when the last byte of its trailer has come.
@@ -55,16 +55,16 @@ impl<R: LineRules, M: Mac, const B: usize, const D: usize> Checker<R, M, B, D> {
         requires fits { Fits journal.old (S.told disk.old) }
         ensures cut { OnOk result (self.new.cut ≡ self.old.cut) }
         ensures step { IfOk result (λ step. (setup : Setup) (line : List Tick) (t : Tick)
-            → IsWhole R.LineRules M.Mac self.old (journal_floor journal.old) setup line t
-            → HasTaken R.LineRules M.Mac self.new (journal_floor journal.new) setup line t step) }
+            → BurstIsWhole R.LineRules M.Mac self.old (journal_floor journal.old) setup line t
+            → CheckerHasTaken R.LineRules M.Mac self.new (journal_floor journal.new) setup line t step) }
         ensures err_passes { OnErr result ((number : ℕ)
             × HasFailed journal.old journal.new (S.told disk.old) (S.told disk.new) number
             × ((setup : Setup) (line : List Tick) (t : Tick)
-            → IsWhole R.LineRules M.Mac self.old (journal_floor journal.old) setup line t
+            → BurstIsWhole R.LineRules M.Mac self.old (journal_floor journal.old) setup line t
             → PassesWith (profile_of R.LineRules M.Mac B LIMIT setup) R.rules setup.floor line t
             number)) }
-        ensures journal { KeepsJournal S.SlotDisk journal.old journal.new disk.old disk.new result }
-        ensures direction { direction_of self.new ≡ direction_of self.old }
+        ensures journal { CheckerKeepsJournal S.SlotDisk journal.old journal.new disk.old disk.new result }
+        ensures direction { checker_direction self.new ≡ checker_direction self.old }
     {
         let number = match self.verdict(journal) {
             Ok(number) => number,

@@ -5,7 +5,7 @@ ghost use Rattle.sequence_journal.specs.declared.numbers.TheConstants.{LIMIT};
 ghost use Rattle.command_ends.specs.Causes.{InputCause, SinkCause};
 ghost use Rattle.command_ends.specs.Ends.{outside_before, outside_after};
 ghost use Rattle.command_ends.specs.Flushes.{FlushesAtEnd};
-ghost use Rattle.session_audit.specs.Sessions.{IsSession, verdict_of};
+ghost use Rattle.session_audit.specs.Sessions.{IsSession, verdict_of_session};
 ghost use Rattle.link_replay.specs.declared.words.Command.TheVariants.{Audit};
 ghost use Rattle.link_replay.specs.AuditCommand.{Audits, AuditsItems, PrintsFinding, audited_verdict};
 ghost use Rattle.link_replay.specs.AuditCommand.{counts_words, finding_status, finding_words};
@@ -43,7 +43,7 @@ fn session_of(asked: Audited, key: &[u8]) -> Session<'_>
     requires got { asked.got_floor ≤ LIMIT }
     ensures right { IsSession result }
     ensures verdicts { (device link received : List Tick)
-        → verdict_of result device link received
+        → verdict_of_session result device link received
         ≡ audited_verdict asked key.now device link received }
 {
     let link = link_of(asked.proto, asked.profile, asked.dir);

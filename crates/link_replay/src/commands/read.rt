@@ -3,7 +3,7 @@ ghost use Rattle.std.specs.Prelude.{Some};
 ghost use Rattle.command_ends.specs.Ends.{outside_before, outside_after};
 ghost use Rattle.link_replay.specs.declared.words.Command.TheVariants.{Read};
 ghost use Rattle.link_replay.specs.Commands.{HasCauses};
-ghost use Rattle.link_replay.specs.ReadCommand.{Reads};
+ghost use Rattle.link_replay.specs.ReadCommand.{ReadsOverInput};
 
 use command_ends::{Ends, Proto, Status};
 use device_model::{DnpDevice, RtuDevice};
@@ -17,7 +17,7 @@ pub fn read_line<K: Source, S: Source, O: Sink, L: Sink, D: SlotDisk>(
     proto: Proto,
     ends: Ends<K, S, O, L, D>,
 ) -> Status
-    ensures reads { Reads S.Source O.Sink L.Sink proto (outside_before ends.entry)
+    ensures reads { ReadsOverInput S.Source O.Sink L.Sink proto (outside_before ends.entry)
         (outside_after ends.exit) result }
     ensures causes { HasCauses K.Source S.Source O.Sink L.Sink D.SlotDisk (Some (Read proto))
         (outside_before ends.entry) (outside_after ends.exit) result }

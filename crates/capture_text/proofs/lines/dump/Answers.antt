@@ -1,5 +1,5 @@
 use Rattle.capture_text.proofs.DumpLines.{tick_more, lines_end}
-use Rattle.capture_text.specs.{Changes.padded, Dump.wires_for, Writer.rate_of, Writer.wires_of}
+use Rattle.capture_text.specs.{Changes.padded_rows, Dump.wires_for, Writer.rate_of, Writer.wires_of}
 use Rattle.std.proofs.Common.{◌≡◌, ◌∙◌, ◌<◌, ◌++◌, length, max, take, ap, arith}
 use Rattle.capture_text.proofs.lines.dump.Goals as goal
 
@@ -10,8 +10,8 @@ loop-n-preserved c = record {
       c.extend_from_slice-in-loop-n.new.self.items
       (omega (arith, c.loop-n-test.true, c.longest-ticks.ensures)) c.tick_at.ensures
       c.tick_at-in-loop-n.ensures
-      (c.tick-piece.ensures.writes (take c.loop-n.n (padded c.args.a.now c.args.b.now))
-      (take c.loop-n.n (padded c.args.b.now c.args.a.now)) c.loop-n.text.items
+      (c.tick-piece.ensures.writes (take c.loop-n.n (padded_rows c.args.a.now c.args.b.now))
+      (take c.loop-n.n (padded_rows c.args.b.now c.args.a.now)) c.loop-n.text.items
       c.loop-n.invariant.written)
       (c.in_ok-extend_from_slice-2.ensures.items
       ∙ ap (λ x. c.loop-n.text.items ++ x) c.as_slice.ensures.value);
@@ -29,6 +29,6 @@ returns c =
     c.end.result.items
     (omega (arith, c.loop-n-test.false, c.loop-n.auto.n-end, c.longest-ticks.ensures))
     c.loop-n.invariant.rate c.loop-n.invariant.wires
-    (c.end.ensures.whole (take c.loop-n.n (padded c.args.a.now c.args.b.now))
-    (take c.loop-n.n (padded c.args.b.now c.args.a.now)) c.loop-n.text.items
+    (c.end.ensures.whole (take c.loop-n.n (padded_rows c.args.a.now c.args.b.now))
+    (take c.loop-n.n (padded_rows c.args.b.now c.args.a.now)) c.loop-n.text.items
     c.loop-n.invariant.written)

@@ -1,6 +1,6 @@
 use Rattle.check_receiver.proofs.Beginnings.{byte-begins}
 use Rattle.check_receiver.proofs.RestRuns.{live-begin_none, extra-begin_none}
-use Rattle.frame_ending.specs.Stands.{StandsFor as CutStandsFor}
+use Rattle.frame_ending.specs.Stands.{CutStandsFor}
 use Rattle.std.proofs.Common.{◌≡◌, ◌∙◌, ◌++◌, ap, subst, arith, map, take, List, ℕ}
 use Rattle.std.proofs.lemmas.List.{append-nil}
 use Rattle.yasir_ticks.specs.declared.tick.Tick.{Tick, TheVariants.Byte}

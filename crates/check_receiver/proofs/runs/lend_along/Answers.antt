@@ -1,5 +1,5 @@
 use Rattle.check_receiver.proofs.Lending.{of-ok, ring-whole, front-along, whole-along, ring-alike}
-use Rattle.check_receiver.{proofs.Lending.bytes-long, proofs.Lending.no-bytes, specs.Runs.IsFront}
+use Rattle.check_receiver.{proofs.Lending.bytes-long, proofs.Lending.no-bytes, specs.Runs.CheckerIsFront}
 use Rattle.{yasir_ticks.specs.DelayRing.ring_ticks, std.proofs.Common.◌≡◌, std.proofs.Common.◌∙◌}
 use Rattle.std.proofs.Common.{◌-◌, ◌≤◌, ◌++◌, sym, ap, subst, arith, length, List, ℕ, take, map}
 use Rattle.std.proofs.{Common.length-append, lemmas.Bool.eqb-true, lemmas.List.length-take-le}
@@ -33,7 +33,7 @@ returns-then-is_empty g c =
     let capped = c.min.ensures in
     let size = eqb-true (length front) 0 (sym c.is_empty.ensures ∙ c.if-is_empty.true) in
     let some = c.args.ring.now.some in
-    let P : List ℕ → Type 0 = λ y. IsFront (Q ++ E) c.args.count y in
+    let P : List ℕ → Type 0 = λ y. CheckerIsFront (Q ++ E) c.args.count y in
     subst P (no-bytes front size ∙ sym c.requires.empty)
     (front-along Q E g.row.D c.args.count c.min.result front (ring-whole c.args.ring.now)
     c.min.ensures (omega arith) within c.alike_bytes-front.ensures.bytes
@@ -53,7 +53,7 @@ returns-then-front g c =
     of-ok c.try_extend_from_slice.result _
     (c.try_extend_from_slice.ensures.variant.1 (omega arith)) c.try_extend_from_slice.ensures.ok
     ∙ ap (λ y. y ++ front) empty in
-    let P : List ℕ → Type 0 = λ y. IsFront (Q ++ E) c.args.count y in
+    let P : List ℕ → Type 0 = λ y. CheckerIsFront (Q ++ E) c.args.count y in
     subst P (sym items)
     (front-along Q E g.row.D c.args.count c.min.result front (ring-whole c.args.ring.now)
     c.min.ensures c.if-front.true within c.alike_bytes-front.ensures.bytes
@@ -86,7 +86,7 @@ returns g c =
     (c.try_extend_from_slice-2.ensures.variant.1 (omega arith))
     c.try_extend_from_slice-2.ensures.ok
     ∙ ap (λ y. y ++ behind) first in
-    let P : List ℕ → Type 0 = λ y. IsFront (Q ++ map (λ b. Byte b) bytes) c.args.count y in
+    let P : List ℕ → Type 0 = λ y. CheckerIsFront (Q ++ map (λ b. Byte b) bytes) c.args.count y in
     subst P (sym items)
     (whole-along Q g.row.D c.args.count front bytes (ring-whole c.args.ring.now) size more few
     c.alike_bytes-front.ensures.bytes)

@@ -1,12 +1,12 @@
 use Rattle.{line_capture.specs.Placed.AllInTime, std.proofs.Common.◌≡◌, std.proofs.Common.None}
 use Rattle.std.proofs.Common.{take}
-use Rattle.line_stamps.specs.Placing.{HasTaken, timing_of}
+use Rattle.line_stamps.specs.Placing.{PlacingHasTaken, timing_of}
 use Rattle.line_capture.proofs.placing.count_overlaps.Given as goal
 
 -- the bytes so far were counted
 abbrev pub invariant-loop-byte : goal.invariant-loop-byte
 invariant-loop-byte l = record {
   timing : timing_of l.placer ≡ l.fn.timing;
-  taken : HasTaken l.placer (take l.byte-index l.bytes);
+  taken : PlacingHasTaken l.placer (take l.byte-index l.bytes);
   in_time : AllInTime l.fn.timing None (take l.byte-index l.bytes);
 }

@@ -1,4 +1,4 @@
-use Rattle.line_capture.specs.{Words.IsCommand, declared.words.Command.Command}
+use Rattle.line_capture.specs.{Words.IsCaptureCommand, declared.words.Command.Command}
 use Rattle.std.proofs.Common.{◌≡◌, ℕ, ◌<◌, ◌≤◌, List, [], ◌∷◌, length, get_or, map, OnErr, subst}
 use Rattle.std.{proofs.Common.sym, proofs.Common.arith, specs.String.string_bytes}
 use Rattle.line_capture.proofs.words.read_words.Goals as goal
@@ -27,5 +27,5 @@ five f (u ∷ v ∷ w ∷ x ∷ y ∷ z ∷ xs) a b c d e p q r s t least below 
 pub returns-in-len5-clause-usage : goal.returns-in-len5-clause-usage
 returns-in-len5-clause-usage c =
     let words = five string_bytes c.args.words.now c.verb-item-then-words-lt6.result c.form-item-then-words-lt6.result c.rate-item-then-words-lt6.result c.ways-item-then-words-lt6.result c.last-item.result _ _ _ _ _ c.in-len5.len_at_least c.in-len5.len_below c.verb-item-then-words-lt6.is c.form-item-then-words-lt6.is c.rate-item-then-words-lt6.is c.ways-item-then-words-lt6.is c.last-item.is c.as_str-in-len5.ensures.value c.as_str-in-len5-2.ensures.value c.as_str-in-len5-3.ensures.value c.as_str-in-len5-4.ensures.value c.as_str-in-len5-5.ensures.value in
-    subst (λ l. OnErr c.read_five.result ((command : Command) → IsCommand l command → ⊥))
+    subst (λ l. OnErr c.read_five.result ((command : Command) → IsCaptureCommand l command → ⊥))
     (sym words) c.read_five.ensures.usage

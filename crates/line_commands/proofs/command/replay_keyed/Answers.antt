@@ -2,7 +2,7 @@ use Rattle.line_commands.proofs.{Behind.drives_behind, Floors.disk_cause_of_end}
 use Rattle.line_commands.proofs.Outcomes.{BoxDrive, HasDriven, IsRun, is_run, not_whole}
 use Rattle.line_commands.proofs.Outcomes.{sink_cause_of_stop, went_then, drive_stops, finish_stops}
 use Rattle.line_commands.proofs.Outcomes.{input_of_stop, all_runs, begun_state}
-use Rattle.line_commands.specs.BoxLines.{State, state_of, KeepsImages}
+use Rattle.line_commands.specs.BoxLines.{State, state_of_lines, KeepsImages}
 use Rattle.line_commands.specs.{OverInput.has_stopped, ReplaysBox.around}
 use Rattle.command_ends.proofs.EndCauses.{input_cause}
 use Rattle.command_ends.proofs.EndCauses.{sink_cause_of_whole}
@@ -16,7 +16,7 @@ use Rattle.line_commands.proofs.command.replay_keyed.Goals.{After-is_stopped}
 abbrev driven_state : (g : _) → After-is_stopped g
     → State g.row.B.Denot g.row.O.Denot g.row.L.Denot g.row.D.Denot
 driven_state g c =
-    state_of c.lines-2-1.given.0 c.out-1.given.0 c.log-1.given.0 c.disk-1.given.0
+    state_of_lines c.lines-2-1.given.0 c.out-1.given.0 c.log-1.given.0 c.disk-1.given.0
 
 -- the drive of the box, and how it was left
 abbrev drive : (g : _) → After-is_stopped g
@@ -44,7 +44,7 @@ driven g c last =
     let made = c.new-driven.ensures in
     drives_behind g.B.LinkBox g.B.LineBox.line_of g.O.Sink g.L.Sink g.D.SlotDisk
     c.new-driven.result c.drive_to_rest-end.new.consumer
-    (state_of c.new-lines.result c.args.ends.out.now c.args.ends.log.now c.load.new.disk)
+    (state_of_lines c.new-lines.result c.args.ends.out.now c.args.ends.log.now c.load.new.disk)
     made.state _ _ _ _ (ap (λ m. m.ghost_name) made.lines) (ap (λ m. m.ghost_name) made.out)
     (ap (λ m. m.ghost_name) made.log) (ap (λ m. m.ghost_name) made.disk)
     c.lines-2-1.given c.out-1.given c.log-1.given c.disk-1.given 0 c.args.rest _ _
@@ -89,7 +89,7 @@ returns g c =
     sym c.is_stopped.ensures ∙ c.if-is_stopped.false in
     let fin = c.in-Ok-finish.ensures in
     let last : State g.row.B.Denot g.row.O.Denot g.row.L.Denot g.row.D.Denot =
-    state_of fin.last c.finish.new.out c.finish.new.log c.finish.new.disk in
+    state_of_lines fin.last c.finish.new.out c.finish.new.log c.finish.new.disk in
     let drove = driven g at last in
     let all = went_then g.B.LinkBox g.B.LineBox.line_of g.O.Sink g.L.Sink g.D.SlotDisk
     c.args.rest _ _ (begun_state (drive g at last)) (driven_state g at) c.drive_to_rest-end.result
@@ -121,7 +121,7 @@ returns-in-Err g c =
     sym c.is_stopped.ensures ∙ c.if-is_stopped.false in
     let fin = c.in-Err.ensures in
     let last : State g.row.B.Denot g.row.O.Denot g.row.L.Denot g.row.D.Denot =
-    state_of fin.last c.finish.new.out c.finish.new.log c.finish.new.disk in
+    state_of_lines fin.last c.finish.new.out c.finish.new.log c.finish.new.disk in
     let drove = driven g at last in
     let all = went_then g.B.LinkBox g.B.LineBox.line_of g.O.Sink g.L.Sink g.D.SlotDisk
     c.args.rest _ _ (begun_state (drive g at last)) (driven_state g at) c.drive_to_rest-end.result

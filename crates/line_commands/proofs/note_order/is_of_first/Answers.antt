@@ -1,11 +1,11 @@
 use Rattle.line_commands.proofs.NotesInOrder.{second-alone, first-alone, first-earlier}
 use Rattle.line_commands.proofs.NotesInOrder.{second-earlier}
-use Rattle.session_lists.{proofs.Lists.holds-length, specs.FrameList.Kept}
+use Rattle.session_lists.{proofs.Lists.holds-length, specs.FrameList.KeptFrames}
 use Rattle.std.proofs.Common.{◌<◌, ℕ, [], length, inl, inr, arith}
 use Rattle.std.proofs.lemmas.Bool.{leb-true, leb-false}
 use Rattle.line_commands.proofs.note_order.is_of_first.Goals as goal
 
-none : Kept ℕ
+none : KeptFrames ℕ
 none = record { head = 0; frame = [] }
 
 pub returns-then-places-len-clause-comes_before : goal.returns-then-places-len-clause-comes_before

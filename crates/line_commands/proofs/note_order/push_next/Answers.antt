@@ -1,10 +1,10 @@
 use Rattle.line_commands.proofs.NotesInOrder.{one-first, one-second}
 use Rattle.line_commands.specs.NoteOrder.{MergedTo}
-use Rattle.session_lists.{proofs.Lists.holds-length, specs.FrameList.Kept}
+use Rattle.session_lists.{proofs.Lists.holds-length, specs.FrameList.KeptFrames}
 use Rattle.std.proofs.Common.{◌+◌, ℕ, [], refl, subst, sym, arith}
 use Rattle.line_commands.proofs.note_order.push_next.Goals as goal
 
-none : Kept ℕ
+none : KeptFrames ℕ
 none = record { head = 0; frame = [] }
 
 pub returns-then-is_of_first : goal.returns-then-is_of_first

@@ -1,6 +1,6 @@
 use Rattle.line_commands.{proofs.ReadEnds.drives_frames, specs.PrintsFrames.DrivesFrames}
 use Rattle.std.proofs.Common.{◌≡◌, ◌∙◌, ap, subst, sym}
-use Rattle.tick_drive.specs.Drive.{answer_of}
+use Rattle.tick_drive.specs.Drive.{drive_answer_of}
 use Rattle.yasir_io.specs.{Causes.HasCause, TextBuffer.waiting_bytes}
 use Rattle.line_commands.proofs.read_command.drive_frames.Goals as goal
 
@@ -28,7 +28,7 @@ returns-clause-sink g c =
     let out : c.out-1.given.0 ≡ ended.out.now =
     c.out-1.given.1 (sym (went.out ∙ ap (λ m. m.ghost_name) begun.out)) in
     rw out (subst (λ out. HasCause (g.O.Sink.faults out.now) (g.O.Sink.faults ended.out.now)
-    (answer_of c.drive_to_rest.result)) begun.out went.cause)
+    (drive_answer_of c.drive_to_rest.result)) begun.out went.cause)
 
 pub returns-clause-flushes : goal.returns-clause-flushes
 returns-clause-flushes g c =

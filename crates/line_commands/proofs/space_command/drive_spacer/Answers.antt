@@ -1,7 +1,7 @@
-use Rattle.line_texts.specs.{Adding.HasRoom, Sending.sink_texts, Texts.waiting_in}
+use Rattle.line_texts.specs.{Adding.TextHasRoom, Sending.sink_texts, Texts.waiting_in}
 use Rattle.line_commands.specs.{SpacedTexts.spaced_texts, SpacesLine.DrivesSpacer}
 use Rattle.std.proofs.Common.{◌≡◌, ◌∙◌, [], ap, refl, subst, sym, arith}
-use Rattle.tick_drive.specs.{Consumers.IsSinkCause, Consumers.is_write_fault, Drive.answer_of}
+use Rattle.tick_drive.specs.{Consumers.IsSinkCause, Consumers.is_write_fault, Drive.drive_answer_of}
 use Rattle.yasir_io.specs.Flushed.{NoneFlushed}
 use Rattle.line_commands.proofs.space_command.drive_spacer.Goals as goal
 
@@ -12,7 +12,7 @@ drive_lines-requires g c =
       none = ap (λ m. g.B.LineSpacer.taken m.now) begun.spacer ∙ c.requires.fresh;
       able = record {
         few = omega (arith, begun.owed);
-        room = subst (λ m. HasRoom m.now) (sym begun.texts) c.requires.room;
+        room = subst (λ m. TextHasRoom m.now) (sym begun.texts) c.requires.room;
       };
     }
 
@@ -61,10 +61,10 @@ returns-clause-sinks g c =
     c.log-1.given.1 (sym (went.log ∙ ap (λ m. m.ghost_name) begun.log)) in
     rw (out, log) (subst (λ o. IsSinkCause (g.O.Sink.faults o.now) (g.O.Sink.faults ended.out.now)
     (g.L.Sink.faults c.args.log.now) (g.L.Sink.faults ended.log.now)
-    (is_write_fault (answer_of c.drive_lines.result))) begun.out
+    (is_write_fault (drive_answer_of c.drive_lines.result))) begun.out
     (subst (λ l. IsSinkCause (g.O.Sink.faults c.new-lines.result.out.now)
     (g.O.Sink.faults ended.out.now) (g.L.Sink.faults l.now) (g.L.Sink.faults ended.log.now)
-    (is_write_fault (answer_of c.drive_lines.result))) begun.log went.sinks))
+    (is_write_fault (drive_answer_of c.drive_lines.result))) begun.log went.sinks))
 
 pub returns-clause-flushes : goal.returns-clause-flushes
 returns-clause-flushes g c =

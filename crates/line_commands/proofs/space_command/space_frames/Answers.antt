@@ -4,7 +4,7 @@ use Rattle.line_commands.proofs.OverInput.{is_at_write}
 use Rattle.line_commands.proofs.{FrontsSent.fronts_of_all, SpaceEnds.nothing_sends, SpaceEnds.has_memory}
 use Rattle.line_commands.specs.{SpacedTexts.spaced_texts, SpacesLine.TakesNothing}
 use Rattle.line_commands.specs.SpacesLine.{space_rest}
-use Rattle.line_texts.specs.Sending.{HasSent, HasSentFronts}
+use Rattle.line_texts.specs.Sending.{TextsHaveSent, HasSentFronts}
 use Rattle.std.proofs.Common.{◌∙◌, ◌⊎◌, ap, inl, refl, subst}
 use Rattle.tick_drive.specs.Consumers.{is_write_fault}
 use Rattle.yasir_io.{proofs.FlushLaws.none_flushed_then, specs.Causes.Rose}
@@ -61,7 +61,7 @@ returns-in-Ok-finish g c =
     record {
       spaces = rw (ended.out, ended.log) (writes_over space_rest _ _ _ _ c.drive_spacer-end.result
           other driven.driven
-          (HasSent (spaced_texts g.B.LineSpacer.reads g.B.LineSpacer.gap) _ _)
+          (TextsHaveSent (spaced_texts g.B.LineSpacer.reads g.B.LineSpacer.gap) _ _)
           (HasSentFronts (spaced_texts g.B.LineSpacer.reads g.B.LineSpacer.gap) _ _)
           (TakesNothing (spaced_texts g.B.LineSpacer.reads g.B.LineSpacer.gap) _ _ _ _)
           (λ line sends. sent.ok _ _ line sends) (λ line sends. fronts_of_all _ _ _ line (sent.ok _ _ line sends))

@@ -1,5 +1,5 @@
 use Rattle.{frame_ending.specs.Answered.answered, device_model.specs.Frames.frames_lent}
-use Rattle.line_texts.{proofs.Added.adds_as, proofs.Added.short_answer, specs.Adding.Adds}
+use Rattle.line_texts.{proofs.Added.adds_as, proofs.Added.short_answer, specs.Adding.TextAdds}
 use Rattle.line_texts.specs.{Adding.IsShort, Texts.waiting_in}
 use Rattle.line_commands.specs.SpacedTexts.{lost_line, lost_lines}
 use Rattle.std.proofs.Common.{◌≡◌, ◌∙◌, [], arith, ap, sym, subst, append-nil}
@@ -22,7 +22,7 @@ returns-in-None g c =
     let lent = g.B.LineSpacer.lent c.args.spacer.now in
     let same : run_ticks c.answer_run-answer.result ≡ answered c.args.run.taken left =
     c.answer_run-answer.ensures ∙ ap (answered c.args.run.taken) c.sent_bytes.ensures.bytes in
-    subst (λ note. Adds (waiting_in c.args.texts.now) (waiting_in c.add_run.new.self)
+    subst (λ note. TextAdds (waiting_in c.args.texts.now) (waiting_in c.add_run.new.self)
     (answered c.args.run.taken left) note)
     (sym (ap (λ lost. lost_lines (frames_lent lost lent)) c.in-None.is))
     (adds_as (waiting_in c.args.texts.now) (waiting_in c.add_run.new.self) _ _ [] same
@@ -34,13 +34,13 @@ returns-in-Some g c =
     let lent = g.B.LineSpacer.lent c.args.spacer.now in
     let same : run_ticks c.answer_run-answer.result ≡ answered c.args.run.taken left =
     c.answer_run-answer.ensures ∙ ap (answered c.args.run.taken) c.sent_bytes.ensures.bytes in
-    subst (λ note. Adds (waiting_in c.args.texts.now) (waiting_in c.add_lost.new.texts)
+    subst (λ note. TextAdds (waiting_in c.args.texts.now) (waiting_in c.add_lost.new.texts)
     (answered c.args.run.taken left) note)
     (sym (ap (λ lost. lost_lines (frames_lent lost lent)) c.in-Some.is
     ∙ append-nil (lost_line (record { start = c.in-Some.start; frame = lent }))))
     (adds_as (waiting_in c.args.texts.now) (waiting_in c.add_lost.new.texts) _ _
     (lost_line (record { start = c.in-Some.start; frame = lent })) same
-    (subst (λ f. Adds (waiting_in c.args.texts.now) (waiting_in c.add_lost.new.texts)
+    (subst (λ f. TextAdds (waiting_in c.args.texts.now) (waiting_in c.add_lost.new.texts)
     (run_ticks c.answer_run-answer.result)
     (lost_line (record { start = c.in-Some.start; frame = f })))
     c.frame_bytes.ensures.bytes c.add_lost.ensures))

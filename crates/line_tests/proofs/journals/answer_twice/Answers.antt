@@ -1,6 +1,6 @@
 use Rattle.sequence_journal.proofs.UptimeLaws.{ends-inside, next_floor}
 use Rattle.sequence_journal.specs.Slots.{floor_of}
-use Rattle.sequence_journal.specs.Uptimes.{Step, answered, EndsInside, IsUptime, last_from}
+use Rattle.sequence_journal.specs.Uptimes.{Step, answered_in, EndsInside, IsUptime, last_from}
 use Rattle.sequence_journal.specs.declared.link.LinkId.{LinkId}
 use Rattle.std.proofs.Common.{◌≡◌, ℕ, [], ◌∷◌, List, Some, inl, subst}
 use Rattle.yasir_io.specs.{Disks.Slots, declared.disk.SlotDisk.Ghosts as SlotDisk}
@@ -8,7 +8,7 @@ use Rattle.line_tests.proofs.journals.answer_twice.Goals as goal
 
 answered-one : {D : Type 0} (d : SlotDisk D) (link : LinkId) (begins : Slots) (floor n : ℕ)
     (loaded : D) (done : List (Step D)) (image : Slots) → floor_of link begins ≡ Some floor
-    → answered done ≡ n ∷ [] → EndsInside d link floor loaded done image
+    → answered_in done ≡ n ∷ [] → EndsInside d link floor loaded done image
     → IsUptime link begins (n ∷ []) image
 answered-one d link begins floor n loaded done image is one ends =
     let P : List ℕ → Type 0 = λ numbers. IsUptime link begins numbers image in

@@ -1,6 +1,6 @@
 use Rattle.link_format.proofs.{KeyedWords.keyed_none, KeyedWords.AreKeyed_at, KeyedWords.IsFour_at}
 use Rattle.link_format.proofs.Sha1Blocks.{IsFour_first, eight_on}
-use Rattle.{link_format.specs.Words.AreBytes, sha1.specs.Sha1.schedule, sha1.specs.Sha1.round_constant}
+use Rattle.{link_format.specs.Words.AreBytesOfWord, sha1.specs.Sha1.schedule, sha1.specs.Sha1.round_constant}
 use Rattle.std.proofs.Common.{ℕ, List, ◌+◌, ◌*◌, arith}
 use Rattle.link_format.proofs.sha1_block.keyed_schedule.Goals as goal
 
@@ -32,7 +32,7 @@ loop-i-preserved c =
     let words : List ℕ = schedule block 64 in
     let i : ℕ = c.loop-i.i in
     let eight = c.loop-i.invariant.1 in
-    let bytes : AreBytes block = c.fits-block in
+    let bytes : AreBytesOfWord block = c.fits-block in
     let next = c.far_four-next.ensures block (4 * i) bytes (omega arith) eight.is_a eight.is_b
     eight.is_e eight.is_g eight.is_h in
     let keyed = c.write_keyed-in-loop-i.ensures words c.loop-i.invariant.0

@@ -1,6 +1,6 @@
 use Rattle.{link_format.specs.Setup.setup_of, session_audit.proofs.Recording.recorded-prints}
 use Rattle.session_audit.specs.{Listing.listing_with, Listing.listing_text, Printing.PrintsText}
-use Rattle.session_audit.specs.Recorded.{device_line, lines_of, link_ticks}
+use Rattle.session_audit.specs.Recorded.{device_line, recorded_lines, link_ticks}
 use Rattle.session_lists.specs.Listed.{link_rest}
 use Rattle.command_ends.proofs.{EndCauses.input_cause_of_whole, FlushLaws.flushes_of_whole}
 use Rattle.std.proofs.Common.{refl, subst}
@@ -15,7 +15,7 @@ returns-clause-prints g c =
     let link = link_ticks takes.told in
     let listed = both.listed setup c.new-lists.ensures.listed in
     let listing = listing_with g.S.FrameBox g.C.FrameBox g.V.Device c.args.dir c.args.key.now in
-    recorded-prints 1 link_rest (lines_of listing c.args.device_rest) (g.I.Source.left c.args.ends.input.now)
+    recorded-prints 1 link_rest (recorded_lines listing c.args.device_rest) (g.I.Source.left c.args.ends.input.now)
     (g.I.Source.left c.list_recordings-end.new.input) (g.O.Sink.held c.args.ends.out.now)
     (g.O.Sink.held c.print_listing.new.out) takes.told
     (record { text = takes.text; met = takes.met; right = takes.right; few = takes.few })

@@ -1,6 +1,6 @@
 use Rattle.std.proofs.Common.{◌∙◌, subst, refl, arith}
 use Rattle.session_lists.specs.FrameBox.{kept_frames}
-use Rattle.session_audit.specs.Printing.{AddsText, BreaksOff, on_the_way}
+use Rattle.session_audit.specs.Printing.{AddsText, PrintingBreaksOff, on_the_way}
 use Rattle.session_audit.proofs.Pushing.{forged_line, forged-lines, item-added, item-breaks}
 use Rattle.session_audit.proofs.Pushing.{all-added}
 use Rattle.session_audit.proofs.groups.push_forged.Goals as goal
@@ -9,7 +9,7 @@ pub returns-in_default-clause-err : goal.returns-in_default-clause-err
 returns-in_default-clause-err g c = λ sealed_ones passed_ones sealed passed turn.
     let first = on_the_way (g.O.Sink.held c.args.out.now) c.args.text.now.text.items in
     let last = g.O.Sink.held c.push_if_forged.new.out in
-    subst (BreaksOff first last) (forged-lines sealed_ones passed_ones)
+    subst (PrintingBreaksOff first last) (forged-lines sealed_ones passed_ones)
     (item-breaks (forged_line sealed_ones) c.args.passed.now c.loop-index.index
     c.len-index-end.result c.head-head.result c.bytes-bytes.result.now c.loop-index-test.true
     c.len-index-end.ensures.frames (λ frames other. c.head-head.ensures frames other)

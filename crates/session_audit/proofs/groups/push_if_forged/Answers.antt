@@ -1,7 +1,7 @@
 use Rattle.link_format.specs.NumberedFrame.{NumberedFrame}
 use Rattle.receiver_laws.{proofs.InTurn.among-in-place, specs.Accounted.is_among}
 use Rattle.session_audit.proofs.Pushing.{adds-nothing}
-use Rattle.session_audit.specs.Printing.{AddsText, BreaksOff, on_the_way}
+use Rattle.session_audit.specs.Printing.{AddsText, PrintingBreaksOff, on_the_way}
 use Rattle.std.proofs.Common.{◌≡◌, ◌∙◌, true, false, sym, subst, refl}
 use Rattle.std.proofs.lemmas.Bool.{cond-true, cond-false}
 use Rattle.yasir_io.specs.TextBuffer.{waiting_bytes}
@@ -45,5 +45,5 @@ returns-in-Err-clause-err g c = λ sealed_ones holds turn.
     sym (c.is_at_its_number.ensures sealed_ones f holds refl refl
     ∙ among-in-place 0 sealed_ones f turn) ∙ c.if-is_at_its_number.false in
     let a = on_the_way (g.O.Sink.held c.args.out.now) (waiting_bytes c.args.text.now) in
-    subst (λ l. BreaksOff a (g.O.Sink.held c.push_numbered_line.new.out) l)
+    subst (λ l. PrintingBreaksOff a (g.O.Sink.held c.push_numbered_line.new.out) l)
     (sym (cond-false _ _ _ none)) c.in-Err.ensures.err

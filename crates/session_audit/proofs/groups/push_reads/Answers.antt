@@ -1,6 +1,6 @@
 use Rattle.session_audit.proofs.Pushing.{kept_read_line, kept-read-lines, item-added}
 use Rattle.session_audit.proofs.Pushing.{item-breaks, all-added}
-use Rattle.session_audit.specs.Printing.{AddsText, BreaksOff, on_the_way}
+use Rattle.session_audit.specs.Printing.{AddsText, PrintingBreaksOff, on_the_way}
 use Rattle.session_lists.specs.ReplayLists.{kept_reads}
 use Rattle.std.proofs.Common.{◌∙◌, subst, refl, arith}
 use Rattle.session_audit.proofs.groups.push_reads.Goals as goal
@@ -9,7 +9,7 @@ pub returns-in_default-clause-err : goal.returns-in_default-clause-err
 returns-in_default-clause-err g c = λ listed holds.
     let first = on_the_way (g.O.Sink.held c.args.out.now) c.args.text.now.text.items in
     let last = g.O.Sink.held c.push_read_line.new.out in
-    subst (BreaksOff first last) (kept-read-lines listed)
+    subst (PrintingBreaksOff first last) (kept-read-lines listed)
     (item-breaks kept_read_line c.args.frames.now c.loop-index.index
     c.len-index-end.result c.head.result c.bytes.result.now c.loop-index-test.true
     c.len-index-end.ensures.frames (λ frames other. c.head.ensures frames other)

@@ -1,11 +1,11 @@
-use Rattle.{session_audit.specs.Listing.numbered_line, std.proofs.Common.◌++◌}
+use Rattle.{session_audit.specs.Listing.numbered_line_of, std.proofs.Common.◌++◌}
 use Rattle.{std.proofs.Common.sym, std.proofs.Common.subst, yasir_io.proofs.OutputLemmas.more_waits}
 use Rattle.yasir_io.{proofs.OutputLemmas.prefix_of_more, specs.Output.Buffered}
 use Rattle.session_audit.proofs.lines.push_numbered_line.Goals as goal
 
 pub returns-in-Ok-clause-ok : goal.returns-in-Ok-clause-ok
 returns-in-Ok-clause-ok g c = λ held before waits.
-    let line = numbered_line c.args.name.now (record {
+    let line = numbered_line_of c.args.name.now (record {
       number = c.args.head.number;
       start = c.args.head.start;
       frame = c.args.bytes.now;

@@ -1,5 +1,5 @@
 use Rattle.std.proofs.Common.{◌≡◌, ◌*◌, ◌+◌, suc, subst, sym, arith}
-use Rattle.trial_session.specs.{Runs.HasRun, Runs.MayGoOn, Summaries.session_summary}
+use Rattle.trial_session.specs.{Runs.HasRun, Runs.TrialMayGoOn, Summaries.session_summary}
 use Rattle.trial_session.proofs.session.try_session.Goals as goal
 
 pub loop-init : goal.loop-init
@@ -11,7 +11,7 @@ loop-init g c = (
 pub run_period-requires-clause-able : goal.run_period-requires-clause-able
 run_period-requires-clause-able g c =
     let may = c.loop.invariant.0 in
-    subst (MayGoOn g.S.LinkBox g.C.LinkBox g.V.Device c.loop.session)
+    subst (TrialMayGoOn g.S.LinkBox g.C.LinkBox g.V.Device c.loop.session)
     (sym may.sealed_ticks) may
 
 pub run_period-requires-clause-room : goal.run_period-requires-clause-room
@@ -23,7 +23,7 @@ loop-preserved g c =
     let more : suc c.loop.counter ≡ c.loop.counter + 1 = omega arith in
     let ticks : g.S.LinkBox.taken c.loop.session.sealing.line_box + 640
     ≡ 640 * (c.loop.counter + 1) = omega (arith, c.loop.invariant.0.sealed_ticks) in (
-      subst (MayGoOn g.S.LinkBox g.C.LinkBox g.V.Device c.run_period.new.self) ticks
+      subst (TrialMayGoOn g.S.LinkBox g.C.LinkBox g.V.Device c.run_period.new.self) ticks
           c.run_period.ensures.able,
       subst (HasRun g.S.LinkBox g.S.CountingBox.counting g.C.LinkBox g.C.CountingBox.counting
           g.V.Device g.R.DrawnFrames.drawing c.args.behind
@@ -34,7 +34,7 @@ loop-preserved g c =
 pub close-requires-clause-able : goal.close-requires-clause-able
 close-requires-clause-able g c =
     let may = c.loop.invariant.0 in
-    subst (MayGoOn g.S.LinkBox g.C.LinkBox g.V.Device c.loop.session)
+    subst (TrialMayGoOn g.S.LinkBox g.C.LinkBox g.V.Device c.loop.session)
     (sym may.sealed_ticks) may
 
 pub close-requires-clause-room : goal.close-requires-clause-room

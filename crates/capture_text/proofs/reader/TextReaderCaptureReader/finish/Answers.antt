@@ -1,7 +1,7 @@
-use Rattle.line_stamps.specs.Walks.{Begins}
+use Rattle.line_stamps.specs.Walks.{WalkBegins}
 use Rattle.capture_text.proofs.{Reading.text_begins, SeenTexts.seen_begins}
-use Rattle.capture_text.specs.CaptureText.{IsTextCapture, IsCause}
-use Rattle.capture_text.specs.Reader.{IsSeenText, HasSeen, IsPlaceOf, Refuses}
+use Rattle.capture_text.specs.CaptureText.{IsTextCapture, IsRowCause}
+use Rattle.capture_text.specs.Reader.{IsSeenText, HasSeen, IsPlaceOf, TextReaderRefuses}
 use Rattle.capture_text.specs.declared.{fault.BadText.BadText, reader.TextReader.TextReader}
 use Rattle.line_stamps.specs.declared.{capture.CaptureByte.CaptureByte, seen.Seen.Seen}
 use Rattle.std.proofs.Common.{ℕ, List, Result, Ok, Err, IfErr, OnOk, None}
@@ -14,10 +14,10 @@ right text items reader (Ok a) s o = record { bytes = s.bytes; right = o; items_
 right text items reader (Err bad) s o = tt
 
 refused : {A : Type 0} (text : List ℕ) (items : List Seen) (r : Result A BadText)
-    → Begins IsSeenText text items
+    → WalkBegins IsSeenText text items
     → IfErr r (λ bad. ((all : List CaptureByte) → IsTextCapture text all → ⊥)
-    × IsPlaceOf bad text × IsCause text None bad.why)
-    → IfErr r (λ bad. ((all : List Seen) → IsSeenText text all → ⊥) × Refuses text items None bad)
+    × IsPlaceOf bad text × IsRowCause text None bad.why)
+    → IfErr r (λ bad. ((all : List Seen) → IsSeenText text all → ⊥) × TextReaderRefuses text items None bad)
 refused text items (Ok a) begins o = tt
 refused text items (Err bad) begins o = (
   λ all whole. o.0 whole.bytes whole.right,

@@ -1,7 +1,7 @@
 use Rattle.check_receiver.proofs.Starting.{start-is, start-busy, start-bad, start-open}
 use Rattle.check_receiver.proofs.Starting.{start-mac_holds, start-live, start-quiet, start-still}
-use Rattle.check_receiver.specs.Between.{IsNoPass, IsBetween}
-use Rattle.check_receiver.specs.Stands.{HasTaken, direction_of}
+use Rattle.check_receiver.specs.Between.{IsNoPass, CheckerIsBetween}
+use Rattle.check_receiver.specs.Stands.{CheckerHasTaken, checker_direction}
 use Rattle.frame_ending.{proofs.Running.start-tick, specs.declared.cut.Cut.TheVariants.Start}
 use Rattle.line_rules.specs.Rules.{head_of}
 use Rattle.link_box.specs.declared.check_note.CheckNote.{CheckNote}
@@ -12,9 +12,9 @@ use Rattle.check_receiver.proofs.checker.Checker.begin.Goals as goal
 pub returns-then-start-self-clause-step : goal.returns-then-start-self-clause-step
 returns-then-start-self-clause-step g c = λ last setup line t between.
     let is = start-tick g.R.LineRules.rules line t c.args.byte between.is_cut in
-    let P : Tick → Type 0 = λ u. IsBetween g.R.LineRules g.M.Mac c.args.self.now last setup line u
+    let P : Tick → Type 0 = λ u. CheckerIsBetween g.R.LineRules g.M.Mac c.args.self.now last setup line u
     (Start c.args.byte)
-    → HasTaken g.R.LineRules g.M.Mac c.drop_busy.new.self last setup line u c.drop_busy.result in
+    → CheckerHasTaken g.R.LineRules g.M.Mac c.drop_busy.new.self last setup line u c.drop_busy.result in
     let taken : P (Byte c.args.byte) = λ at.
     let start = c.start.ensures (line ++ Byte c.args.byte ∷ []) at.cuts in
     let here = start-is g.R.LineRules g.M.Mac c.args.self.now last setup line c.args.byte at in
@@ -27,9 +27,9 @@ returns-then-start-self-clause-step g c = λ last setup line t between.
 pub returns-in-Bad-clause-step : goal.returns-in-Bad-clause-step
 returns-in-Bad-clause-step g c = λ last setup line t between.
     let is = start-tick g.R.LineRules.rules line t c.args.byte between.is_cut in
-    let P : Tick → Type 0 = λ u. IsBetween g.R.LineRules g.M.Mac c.args.self.now last setup line u
+    let P : Tick → Type 0 = λ u. CheckerIsBetween g.R.LineRules g.M.Mac c.args.self.now last setup line u
     (Start c.args.byte)
-    → HasTaken g.R.LineRules g.M.Mac c.drop_headless.new.self last setup line u
+    → CheckerHasTaken g.R.LineRules g.M.Mac c.drop_headless.new.self last setup line u
     c.drop_headless.result in
     let taken : P (Byte c.args.byte) = λ at.
     let start = c.start.ensures (line ++ Byte c.args.byte ∷ []) at.cuts in
@@ -50,15 +50,15 @@ returns-in-Bad-clause-step g c = λ last setup line t between.
 pub returns-in-Short : goal.returns-in-Short
 returns-in-Short g c = record {
   cut = ap (λ v. v.cut) c.enter.ensures.turned.others;
-  direction = ap direction_of c.enter.ensures.turned.others;
+  direction = ap checker_direction c.enter.ensures.turned.others;
   note =
       let P : Option CheckNote → Type 0 = λ n. IsNoPass n in
       subst P (sym c.enter.ensures.note) tt;
   step = λ last setup line t between.
       let is = start-tick g.R.LineRules.rules line t c.args.byte between.is_cut in
-      let P : Tick → Type 0 = λ u. IsBetween g.R.LineRules g.M.Mac c.args.self.now last setup line u
+      let P : Tick → Type 0 = λ u. CheckerIsBetween g.R.LineRules g.M.Mac c.args.self.now last setup line u
       (Start c.args.byte)
-      → HasTaken g.R.LineRules g.M.Mac c.enter.new.self last setup line u c.enter.result in
+      → CheckerHasTaken g.R.LineRules g.M.Mac c.enter.new.self last setup line u c.enter.result in
       let taken : P (Byte c.args.byte) = λ at.
       let start = c.start.ensures (line ++ Byte c.args.byte ∷ []) at.cuts in
       let here = start-is g.R.LineRules g.M.Mac c.args.self.now last setup line c.args.byte at in

@@ -1,6 +1,6 @@
 use Rattle.check_receiver.proofs.Deciding.{room-kept, decide-refuses, decide-passes, decide-fails}
 use Rattle.check_receiver.proofs.Journals.{journal-kept}
-use Rattle.check_receiver.specs.{Between.IsNoPass, Checkings.CommitsNoted, Stands.HasTaken}
+use Rattle.check_receiver.specs.{Between.IsNoPass, Checkings.CheckerCommitsNoted, Stands.CheckerHasTaken}
 use Rattle.link_box.specs.declared.check_note.CheckNote.{CheckNote}
 use Rattle.sequence_journal.specs.Journal.{journal_floor}
 use Rattle.std.proofs.Common.{◌∙◌, ℕ, sym, ap, subst, rules, Option}
@@ -65,7 +65,7 @@ returns-clause-cut g c =
 
 pub returns-clause-step : goal.returns-clause-step
 returns-clause-step g c = λ setup line t whole.
-    let S : ℕ → Type 0 = λ n. HasTaken g.R.LineRules g.M.Mac c.pass.new.self n setup line t
+    let S : ℕ → Type 0 = λ n. CheckerHasTaken g.R.LineRules g.M.Mac c.pass.new.self n setup line t
     c.pass.result in
     subst S (sym c.in-Ok-commit.ensures.committed.floor)
     (decide-passes g.R.LineRules g.M.Mac c.args.self.now (journal_floor c.args.journal.now) setup
@@ -76,7 +76,7 @@ returns-clause-step g c = λ setup line t whole.
 
 pub returns-clause-journal : goal.returns-clause-journal
 returns-clause-journal g c =
-    let P : Option CheckNote → Type 0 = λ note. CommitsNoted g.S.SlotDisk c.args.journal.now
+    let P : Option CheckNote → Type 0 = λ note. CheckerCommitsNoted g.S.SlotDisk c.args.journal.now
     c.commit.new.self c.args.disk.now c.commit.new.disk note in
     let noted = c.pass.ensures.note in
     record {

@@ -1,5 +1,5 @@
 use Rattle.check_receiver.proofs.Fills.{fill-leaves, fill-taken, still-closed}
-use Rattle.check_receiver.specs.{Phases.is_open, Runs.HasTakenRun}
+use Rattle.check_receiver.specs.{Phases.is_open, Runs.CheckerHasTakenRun}
 use Rattle.line_rules.specs.Outlet.{owed_by}
 use Rattle.std.proofs.Common.{◌∙◌, ◌∷◌, [], sym, subst, ap, nat_lt}
 use Rattle.yasir_ticks.specs.declared.tick.Tick.{Tick}
@@ -7,7 +7,7 @@ use Rattle.check_receiver.proofs.checker.Checker.fill_one.Goals as goal
 
 pub returns-in-Byte-clause-run : goal.returns-in-Byte-clause-run
 returns-in-Byte-clause-run g c = λ last setup line stands closed gone some begins.
-    let P : Tick → Type 0 = λ a. HasTakenRun g.R.LineRules g.M.Mac c.turn.new.self last setup line
+    let P : Tick → Type 0 = λ a. CheckerHasTakenRun g.R.LineRules g.M.Mac c.turn.new.self last setup line
     (c.args.t ∷ []) (a ∷ []) in
     subst P c.in-Byte.is
     (fill-taken g.R.LineRules g.M.Mac c.args.self.now last setup line stands c.step.new.self

@@ -1,6 +1,6 @@
 use Rattle.{frame_ending.specs.Answered.answered, check_receiver.proofs.Beginnings.more-taken}
 use Rattle.check_receiver.proofs.{Fills.answered-bytes, Lending.of-ok, Lending.same-taken}
-use Rattle.{check_receiver.specs.Runs.HasTakenRun, std.proofs.Common.◌≡◌}
+use Rattle.{check_receiver.specs.Runs.CheckerHasTakenRun, std.proofs.Common.◌≡◌}
 use Rattle.std.proofs.Common.{◌∙◌, ◌++◌, ℕ, List, [], ◌∷◌, arith, length, map, refl, sym, ap, subst}
 use Rattle.std.proofs.{Common.length-append, lemmas.Bool.ltb-true, lemmas.List.map-append}
 use Rattle.{std.proofs.lemmas.List.replicate-append-replicate, yasir_ticks.specs.Ticks.silent}
@@ -15,7 +15,7 @@ loop-count-init g c = record {
   long = ap length c.requires.empty;
   direction = refl;
   run = λ last setup line stands.
-      let A : List ℕ → Type 0 = λ x. HasTakenRun g.R.LineRules g.M.Mac c.args.self.now last setup
+      let A : List ℕ → Type 0 = λ x. CheckerHasTakenRun g.R.LineRules g.M.Mac c.args.self.now last setup
       line [] (map (λ b. Byte b) x) in
       subst A (sym c.requires.empty)
       (same-taken g.R.LineRules g.M.Mac c.args.self.now last setup line stands [] refl);
@@ -49,7 +49,7 @@ loop-count-preserved g c =
           let first = before.run last setup line stands in
           let next = c.fill_one-byte.ensures.run last setup (line ++ silent n) first.stands
           before.closed before.until some tt in
-          let A : List Tick → List Tick → Type 0 = λ run answer. HasTakenRun g.R.LineRules g.M.Mac
+          let A : List Tick → List Tick → Type 0 = λ run answer. CheckerHasTakenRun g.R.LineRules g.M.Mac
           new last setup line run answer in
           subst (λ run. A run (map (λ b. Byte b) c.try_push.new.self.items))
           (replicate-append-replicate n 1 Silent)
@@ -62,7 +62,7 @@ loop-count-preserved g c =
 pub returns-then-not-owes-clause-run : goal.returns-then-not-owes-clause-run
 returns-then-not-owes-clause-run g c = λ last setup line stands.
     let n : ℕ = c.loop-count.count in
-    let A : List Tick → Type 0 = λ answer. HasTakenRun g.R.LineRules g.M.Mac c.loop-count.self last
+    let A : List Tick → Type 0 = λ answer. CheckerHasTakenRun g.R.LineRules g.M.Mac c.loop-count.self last
     setup line (silent n) answer in
     subst A (answered-bytes c.loop-count.sent.items n c.loop-count.invariant.long)
     (c.loop-count.invariant.run last setup line stands)
@@ -74,9 +74,9 @@ returns-clause-run g c = λ last setup line stands.
     let end = c.loop-count-test.false in
     let within = c.loop-count.auto.count-end in
     let all : n ≡ c.min-most.result = omega arith in
-    let A : List Tick → Type 0 = λ answer. HasTakenRun g.R.LineRules g.M.Mac c.loop-count.self last
+    let A : List Tick → Type 0 = λ answer. CheckerHasTakenRun g.R.LineRules g.M.Mac c.loop-count.self last
     setup line (silent n) answer in
-    let Len : ℕ → Type 0 = λ k. HasTakenRun g.R.LineRules g.M.Mac c.loop-count.self last setup line
+    let Len : ℕ → Type 0 = λ k. CheckerHasTakenRun g.R.LineRules g.M.Mac c.loop-count.self last setup line
     (silent k) (answered k x) in
     subst Len all (subst A (answered-bytes x n c.loop-count.invariant.long)
     (c.loop-count.invariant.run last setup line stands))

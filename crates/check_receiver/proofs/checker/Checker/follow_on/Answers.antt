@@ -2,9 +2,9 @@ use Rattle.frame_ending.specs.Answered.{answered}
 use Rattle.check_receiver.proofs.Beginnings.{front-none, keeps-front}
 use Rattle.check_receiver.proofs.Lending.{none-taken, bytes-long, ring-whole, first-along}
 use Rattle.check_receiver.proofs.{Lending.less-alike, RunTicks.take-along, RunsTaken.follow-taken}
-use Rattle.check_receiver.specs.{Phases.is_open, Runs.HasTakenRun, Runs.IsFront, Runs.KeepsHeader}
+use Rattle.check_receiver.specs.{Phases.is_open, Runs.CheckerHasTakenRun, Runs.CheckerIsFront, Runs.KeepsHeader}
 use Rattle.yasir_ticks.specs.DelayRing.{ring_ticks}
-use Rattle.frame_ending.specs.{SoFar.live_bytes_so_far, Stands.StandsFor as CutStandsFor}
+use Rattle.frame_ending.specs.{SoFar.live_bytes_so_far, Stands.CutStandsFor}
 use Rattle.std.proofs.Common.{◌≡◌, ◌∙◌, ◌++◌, [], sym, ap, subst, arith, length, List, ℕ, take, map}
 use Rattle.std.proofs.Common.{refl, length-append}
 use Rattle.std.proofs.lemmas.List.{take-take, take-map, length-take-le}
@@ -17,7 +17,7 @@ returns-then-taken-eq0-clause-run g c = λ last setup line stands waits keeps.
     let cut = c.go_on_some-taken.new.self in
     let C : ℕ → Type 0 = λ k. CutStandsFor g.R.LineRules cut
     (line ++ map (λ b. Byte b) (take k part)) in
-    let A : List ℕ → Type 0 = λ y. HasTakenRun g.R.LineRules g.M.Mac
+    let A : List ℕ → Type 0 = λ y. CheckerHasTakenRun g.R.LineRules g.M.Mac
     (record c.args.self.now { cut = cut }) last setup line [] (answered 0 y) in
     subst A (sym c.requires.empty)
     (none-taken g.R.LineRules g.M.Mac c.args.self.now last setup line stands cut
@@ -77,16 +77,16 @@ returns-clause-run g c = λ last setup line stands waits keeps.
     (sym (take-map (λ b. Byte b) taken c.args.bytes.now))
     ∙ take-along (length entering) taken Q E (omega arith)) in
     let items : List ℕ = c.lend_along.new.sent.items in
-    let F : ℕ → Type 0 = λ k. IsFront (Q ++ E) k items in
+    let F : ℕ → Type 0 = λ k. CheckerIsFront (Q ++ E) k items in
     let new = record old {
       cut = c.go_on_some-taken.new.self;
       mac = c.update.new.self;
       ring = c.pass_bytes.new.self;
       until = g.row.D;
     } in
-    let Len : ℕ → Type 0 = λ k. HasTakenRun g.R.LineRules g.M.Mac new last setup line
+    let Len : ℕ → Type 0 = λ k. CheckerHasTakenRun g.R.LineRules g.M.Mac new last setup line
     (map (λ b. Byte b) entering) (answered k items) in
-    let Ticks : List ℕ → Type 0 = λ y. HasTakenRun g.R.LineRules g.M.Mac new last setup line
+    let Ticks : List ℕ → Type 0 = λ y. CheckerHasTakenRun g.R.LineRules g.M.Mac new last setup line
     (map (λ b. Byte b) y) (answered taken items) in
     subst Ticks first
     (subst Len size

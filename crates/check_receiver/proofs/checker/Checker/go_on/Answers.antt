@@ -1,8 +1,8 @@
 use Rattle.frame_ending.specs.Causal.{going_on}
 use Rattle.check_receiver.proofs.{Dropping.drop-live, Entering.live-taken, Entering.live-mac_holds}
 use Rattle.check_receiver.proofs.{Machine.waiting-some, Resting.begins-none, Resting.rest-taken}
-use Rattle.check_receiver.specs.{Between.IsNoPass, Between.IsBetween, Stands.HasTaken}
-use Rattle.{check_receiver.specs.Stands.direction_of, frame_ending.proofs.Running.live-tick}
+use Rattle.check_receiver.specs.{Between.IsNoPass, Between.CheckerIsBetween, Stands.CheckerHasTaken}
+use Rattle.{check_receiver.specs.Stands.checker_direction, frame_ending.proofs.Running.live-tick}
 use Rattle.frame_ending.specs.{LiveBytes.live_bytes, declared.cut.Cut.TheVariants.Live}
 use Rattle.link_box.specs.declared.check_note.CheckNote.{CheckNote}
 use Rattle.std.proofs.Common.{◌∙◌}
@@ -22,15 +22,15 @@ returns-then-not-is_open-clause-step g c = λ last setup line t between.
 pub returns-in-Short : goal.returns-in-Short
 returns-in-Short g c = record {
   cut = ap (λ v. v.cut) c.enter.ensures.turned.others;
-  direction = ap direction_of c.enter.ensures.turned.others;
+  direction = ap checker_direction c.enter.ensures.turned.others;
   note =
       let P : Option CheckNote → Type 0 = λ n. IsNoPass n in
       subst P (sym c.enter.ensures.note) tt;
   step = λ last setup line t between.
       let is = live-tick g.R.LineRules.rules line t c.args.byte between.is_cut in
-      let P : Tick → Type 0 = λ u. IsBetween g.R.LineRules g.M.Mac c.args.self.now last setup line u
+      let P : Tick → Type 0 = λ u. CheckerIsBetween g.R.LineRules g.M.Mac c.args.self.now last setup line u
       (Live c.args.byte)
-      → HasTaken g.R.LineRules g.M.Mac c.enter.new.self last setup line u c.enter.result in
+      → CheckerHasTaken g.R.LineRules g.M.Mac c.enter.new.self last setup line u c.enter.result in
       let taken : P (Byte c.args.byte) = λ at.
       let opens = sym c.is_open.ensures ∙ c.if-not-is_open.false in
       let d = waiting-some at.walks.waiting (sym at.walks.waits_is ∙ opens) in
@@ -50,9 +50,9 @@ returns-in-Short g c = record {
 pub returns-in-Bad-clause-step : goal.returns-in-Bad-clause-step
 returns-in-Bad-clause-step g c = λ last setup line t between.
     let is = live-tick g.R.LineRules.rules line t c.args.byte between.is_cut in
-    let P : Tick → Type 0 = λ u. IsBetween g.R.LineRules g.M.Mac c.args.self.now last setup line u
+    let P : Tick → Type 0 = λ u. CheckerIsBetween g.R.LineRules g.M.Mac c.args.self.now last setup line u
     (Live c.args.byte)
-    → HasTaken g.R.LineRules g.M.Mac c.drop_headless.new.self last setup line u
+    → CheckerHasTaken g.R.LineRules g.M.Mac c.drop_headless.new.self last setup line u
     c.drop_headless.result in
     let taken : P (Byte c.args.byte) = λ at.
     let opens = sym c.is_open.ensures ∙ c.if-not-is_open.false in

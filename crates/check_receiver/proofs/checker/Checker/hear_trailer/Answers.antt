@@ -1,6 +1,6 @@
 use Rattle.{frame_ending.specs.Answered.answered, check_receiver.proofs.Lending.same-taken}
 use Rattle.check_receiver.proofs.{Lending.less-alike, Lending.ring-whole, RunsTaken.trailer-taken}
-use Rattle.check_receiver.specs.{Phases.is_open, Runs.HasTakenRun, Runs.IsFront}
+use Rattle.check_receiver.specs.{Phases.is_open, Runs.CheckerHasTakenRun, Runs.CheckerIsFront}
 use Rattle.{yasir_ticks.specs.DelayRing.ring_ticks, std.proofs.Common.◌≡◌}
 use Rattle.std.proofs.Common.{◌-◌, ◌++◌, sym, ap, subst, arith, length, List, ℕ, take, drop, map}
 use Rattle.std.proofs.lemmas.List.{take-take, length-take-le}
@@ -56,7 +56,7 @@ returns-clause-run g c = λ last setup line stands.
     let long : length part ≡ count = length-take-le count c.args.bytes.now (omega arith) in
     let size : length heard ≡ taken = length-take-le taken part (omega arith) in
     let items : List ℕ = c.lend.new.sent.items in
-    let F : ℕ → Type 0 = λ k. IsFront (ring_ticks old.ring) k items in
+    let F : ℕ → Type 0 = λ k. CheckerIsFront (ring_ticks old.ring) k items in
     let G : ℕ → Type 0 = λ k. ring_ticks c.pass_silence.new.self
     ≡ drop k (ring_ticks old.ring ++ silent k) in
     let new = record old {
@@ -65,9 +65,9 @@ returns-clause-run g c = λ last setup line stands.
       ring = c.pass_silence.new.self;
       until = old.until - taken;
     } in
-    let Len : ℕ → Type 0 = λ k. HasTakenRun g.R.LineRules g.M.Mac new last setup line
+    let Len : ℕ → Type 0 = λ k. CheckerHasTakenRun g.R.LineRules g.M.Mac new last setup line
     (map (λ b. Byte b) heard) (answered k items) in
-    let Ticks : List ℕ → Type 0 = λ y. HasTakenRun g.R.LineRules g.M.Mac new last setup line
+    let Ticks : List ℕ → Type 0 = λ y. CheckerHasTakenRun g.R.LineRules g.M.Mac new last setup line
     (map (λ b. Byte b) y) (answered taken items) in
     subst Ticks (take-take taken count c.args.bytes.now (omega arith))
     (subst Len size

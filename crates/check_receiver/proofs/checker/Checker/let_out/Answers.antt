@@ -1,6 +1,6 @@
 use Rattle.{check_receiver.specs.Phases.passes_in, yasir_ticks.specs.DelayRing.ring_ticks}
 use Rattle.link_box.specs.Turns.{HasTurned, tick_or_silence}
-use Rattle.line_rules.specs.Outlet.{StandsFor as OutletStandsFor, refused_by, filled_bytes}
+use Rattle.line_rules.specs.Outlet.{OutletStandsForTicks, refused_by, filled_bytes}
 use Rattle.std.proofs.Common.{◌∙◌, ℕ, ◌++◌, get_or, sym, ap, subst, ◌==◌, Bool, Option}
 use Rattle.yasir_ticks.specs.declared.tick.Tick.{Tick, TheVariants.Silent, TheVariants.Byte}
 use Rattle.check_receiver.proofs.checker.Checker.let_out.Goals as goal
@@ -24,7 +24,7 @@ returns-in-Some-clause-out g c = λ x stands.
     let old = c.args.self.now in
     let P : Tick → Type 0 = λ u. HasTurned g.R.LineRules old.outlet c.fill.new.self
     (old.until == 0) (passes_in old.phase) x (Byte c.in-Some.byte) u in
-    let Q : Option ℕ → Type 0 = λ o. OutletStandsFor g.R.LineRules c.fill.new.self
+    let Q : Option ℕ → Type 0 = λ o. OutletStandsForTicks g.R.LineRules c.fill.new.self
     (x ++ filled_bytes o) in
     subst P (sym c.in-Silent.is ∙ c.turn.ensures.answer) (
       ap tick_or_silence (sym c.in-Some.is ∙ c.fill.ensures.answer x stands),
@@ -38,7 +38,7 @@ returns-in-None-clause-out g c = λ x stands.
     let old = c.args.self.now in
     let P : Tick → Type 0 = λ u. HasTurned g.R.LineRules old.outlet c.fill.new.self
     (old.until == 0) (passes_in old.phase) x Silent u in
-    let Q : Option ℕ → Type 0 = λ o. OutletStandsFor g.R.LineRules c.fill.new.self
+    let Q : Option ℕ → Type 0 = λ o. OutletStandsForTicks g.R.LineRules c.fill.new.self
     (x ++ filled_bytes o) in
     subst P (sym c.in-Silent.is ∙ c.turn.ensures.answer) (
       ap tick_or_silence (sym c.in-None.is ∙ c.fill.ensures.answer x stands),

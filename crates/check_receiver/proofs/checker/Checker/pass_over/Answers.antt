@@ -1,7 +1,7 @@
 use Rattle.{frame_ending.specs.Answered.answered, check_receiver.proofs.Lending.bytes-long}
 use Rattle.check_receiver.proofs.Lending.{same-taken, less-alike, ring-whole}
 use Rattle.yasir_ticks.specs.DelayRing.{ring_ticks}
-use Rattle.check_receiver.{proofs.RunsTaken.flow-counted, specs.Runs.HasTakenRun}
+use Rattle.check_receiver.{proofs.RunsTaken.flow-counted, specs.Runs.CheckerHasTakenRun}
 use Rattle.std.proofs.Common.{◌≡◌, ◌∙◌, ◌-◌, subst, arith, length, List, ℕ, take, map}
 use Rattle.std.proofs.lemmas.List.{take-take, length-take-le}
 use Rattle.yasir_ticks.specs.declared.tick.Tick.{Tick, TheVariants.Byte}
@@ -56,7 +56,7 @@ returns-clause-run g c = λ last setup line stands.
       ring = c.pass_silence.new.self;
       until = old.until - taken;
     } in
-    let Ticks : List ℕ → Type 0 = λ y. HasTakenRun g.R.LineRules g.M.Mac new last setup line
+    let Ticks : List ℕ → Type 0 = λ y. CheckerHasTakenRun g.R.LineRules g.M.Mac new last setup line
     (map (λ b. Byte b) y) (answered taken items) in
     subst Ticks (take-take taken count c.args.bytes.now (omega arith))
     (flow-counted g.R.LineRules g.M.Mac old last setup line stands c.cut_some-taken.new.cut

@@ -1,7 +1,7 @@
 use Rattle.check_receiver.proofs.{Dropping.drop-silent, Heads.head-is-short, Heads.head-isn't-short}
 use Rattle.check_receiver.proofs.Machine.{waiting-some}
 use Rattle.check_receiver.proofs.Silences.{open-silent, waits-long, waits-last}
-use Rattle.check_receiver.specs.{Between.IsNoPass, Stands.direction_of}
+use Rattle.check_receiver.specs.{Between.IsNoPass, Stands.checker_direction}
 use Rattle.frame_ending.specs.{LiveBytes.live_bytes, LiveBytes.live_end, SoFar.live_bytes_in}
 use Rattle.line_rules.specs.{Rules.head_of, declared.head.Head.TheVariants.Short}
 use Rattle.link_box.specs.declared.check_note.CheckNote.{CheckNote}
@@ -31,7 +31,7 @@ returns-in-Short-clause-step g c = λ last setup line cut silence waits until be
 pub returns-in-Bad : goal.returns-in-Bad
 returns-in-Bad g c = record {
   cut = ap (λ v. v.cut) c.pass_by.ensures.turned.others;
-  direction = ap direction_of c.pass_by.ensures.turned.others;
+  direction = ap checker_direction c.pass_by.ensures.turned.others;
   note =
       let P : Option CheckNote → Type 0 = λ n. IsNoPass n in
       subst P (sym c.pass_by.ensures.note) tt;

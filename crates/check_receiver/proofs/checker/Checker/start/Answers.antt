@@ -1,5 +1,5 @@
 use Rattle.check_receiver.proofs.{Beginnings.one-taken, Starting.start-live}
-use Rattle.check_receiver.specs.Between.{IsBetween}
+use Rattle.check_receiver.specs.Between.{CheckerIsBetween}
 use Rattle.{frame_ending.specs.declared.cut.Cut.TheVariants.Start, std.proofs.Common.arith}
 use Rattle.yasir_ticks.specs.declared.tick.Tick.TheVariants.{Silent, Byte}
 use Rattle.check_receiver.proofs.checker.Checker.start.Goals as goal
@@ -8,7 +8,7 @@ pub returns-clause-run : goal.returns-clause-run
 returns-clause-run g c = λ last setup line stands starts none early good.
     let first = c.args.first in
     let before = record c.args.self.now { cut = c.step.new.self } in
-    let between : IsBetween g.R.LineRules g.M.Mac before last setup line (Byte first)
+    let between : CheckerIsBetween g.R.LineRules g.M.Mac before last setup line (Byte first)
     (Start first) = record {
       word_is = stands.word_is;
       wide = stands.wide;

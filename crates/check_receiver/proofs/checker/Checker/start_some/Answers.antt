@@ -2,7 +2,7 @@ use Rattle.frame_ending.specs.Answered.{answered}
 use Rattle.check_receiver.proofs.Beginnings.{answer-whole, first-byte, more-taken, not-bad}
 use Rattle.check_receiver.proofs.Beginnings.{run-whole, still-stands}
 use Rattle.check_receiver.proofs.{Lending.bytes-long, Lending.same-taken, RunsTaken.idle-taken}
-use Rattle.check_receiver.specs.{Phases.LeftIn, Runs.HasTakenRun, Runs.KeepsHeader}
+use Rattle.check_receiver.specs.{Phases.LeftIn, Runs.CheckerHasTakenRun, Runs.KeepsHeader}
 use Rattle.check_receiver.specs.declared.phase.Phase.{Phase, TheVariants.Idle}
 use Rattle.line_rules.specs.Outlet.{owed_by}
 use Rattle.std.proofs.Common.{◌≡◌, ◌∙◌, ◌+◌, ◌-◌, ◌<◌, ◌++◌, [], ◌∷◌, sym, ap, subst, arith, length}
@@ -20,9 +20,9 @@ returns-then-passed-gt0-clause-run g c = λ last setup line stands.
     let size : length run ≡ c.cut_some-passed.result = bytes-long bytes
     ∙ length-take-le c.cut_some-passed.result c.args.bytes.now (omega arith) in
     let new = record c.args.self.now { cut = c.cut_some-passed.new.cut } in
-    let Len : ℕ → Type 0 = λ k. HasTakenRun g.R.LineRules g.M.Mac new last setup line run
+    let Len : ℕ → Type 0 = λ k. CheckerHasTakenRun g.R.LineRules g.M.Mac new last setup line run
     (silent k) in
-    let A : List ℕ → Type 0 = λ y. HasTakenRun g.R.LineRules g.M.Mac new last setup line run
+    let A : List ℕ → Type 0 = λ y. CheckerHasTakenRun g.R.LineRules g.M.Mac new last setup line run
     (answered c.cut_some-passed.result y) in
     subst A (sym c.requires.empty) (subst Len size
     (idle-taken g.R.LineRules g.M.Mac c.args.self.now last setup line stands
@@ -83,7 +83,7 @@ returns-clause-run g c = λ last setup line stands.
     let few = c.follow_on.ensures.within in
     let long = ap length whole in
     let is = c.noteless_front-front.ensures.front in
-    let A : List Tick → List Tick → Type 0 = λ run answer. HasTakenRun g.R.LineRules g.M.Mac
+    let A : List Tick → List Tick → Type 0 = λ run answer. CheckerHasTakenRun g.R.LineRules g.M.Mac
     c.follow_on.new.self last setup line run answer in
     subst (λ run. A run (answered (1 + more) items))
     (run-whole first tail front more (1 + more) whole refl

@@ -1,6 +1,6 @@
 use Rattle.device_model.proofs.HuntRuns.{begun-run, part-joined, first-two}
 use Rattle.device_model.proofs.HuntSteps.{items-held, empty-held}
-use Rattle.device_model.specs.HuntingDevice.{TakesRun}
+use Rattle.device_model.specs.HuntingDevice.{HuntTakesRun}
 use Rattle.std.proofs.Common.{◌≡◌, ◌∙◌, [], ◌++◌, ◌+◌, length, take, sym, ap, subst, arith}
 use Rattle.std.proofs.lemmas.List.{length-take, take_rest}
 use Rattle.device_model.proofs.hunting.HuntingDevice.begin_header.Goals as goal
@@ -25,7 +25,7 @@ returns-clause-takes g c =
     part-joined g.R.LineRules g.R.Hunted.FIRST g.R.Hunted.SECOND g.met.R.Hunted.hunted
     c.args.self.now mid c.go_on-part.new.self c.args.at following _ n c.go_on-part.result.taken _
     (take_rest following n) (omega arith)
-    (subst (λ y. TakesRun g.R.LineRules g.R.Hunted.FIRST g.R.Hunted.SECOND c.args.self.now mid
+    (subst (λ y. HuntTakesRun g.R.LineRules g.R.Hunted.FIRST g.R.Hunted.SECOND c.args.self.now mid
     c.args.at y []) (sym mark)
     (begun-run g.R.LineRules g.R.Hunted.FIRST g.R.Hunted.SECOND g.met.R.Hunted.hunted
     c.args.self.now mid c.args.at

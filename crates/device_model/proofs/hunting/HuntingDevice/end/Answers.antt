@@ -1,5 +1,5 @@
 use Rattle.device_model.proofs.HuntSteps.{takes-rest, empty-held}
-use Rattle.device_model.specs.Hunt.{header_in}
+use Rattle.device_model.specs.Hunt.{header_hunted}
 use Rattle.std.proofs.Common.{◌∙◌, sym, ap, drop, refl, arith}
 use Rattle.std.proofs.lemmas.{Bool.cond-true, Bool.cond-false, List.take_rest}
 use Rattle.device_model.proofs.hunting.HuntingDevice.end.Goals as goal
@@ -13,7 +13,7 @@ returns-then-not-good-clause-goes g c = λ lacking long stands room.
     let all = takes-rest g.R.LineRules g.R.Hunted.FIRST g.R.Hunted.SECOND g.met.R.Hunted.hunted
     c.take_some.new.self items _ n c.take_some.result (omega arith) (omega arith)
     (take_rest c.as_slice.result.now n ∙ ap (drop n) value) room
-    (c.take_some.ensures.stands (header_in g.R.LineRules.rules items) stands)
+    (c.take_some.ensures.stands (header_hunted g.R.LineRules.rules items) stands)
     c.take_some.ensures.all in
     record {
       none = empty-held c.lose.new.self c.lose.ensures.lends c.lose.ensures.bytes;
@@ -31,7 +31,7 @@ returns-clause-goes g c = λ lacking long stands room.
     let all = takes-rest g.R.LineRules g.R.Hunted.FIRST g.R.Hunted.SECOND g.met.R.Hunted.hunted
     c.take_some.new.self items _ n c.take_some.result (omega arith) (omega arith)
     (take_rest c.as_slice.result.now n ∙ ap (drop n) value) room
-    (c.take_some.ensures.stands (header_in g.R.LineRules.rules items) stands)
+    (c.take_some.ensures.stands (header_hunted g.R.LineRules.rules items) stands)
     c.take_some.ensures.all in
     record {
       none = refl;

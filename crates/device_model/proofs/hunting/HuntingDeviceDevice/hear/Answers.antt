@@ -1,6 +1,6 @@
 use Rattle.device_model.proofs.HuntRuns.{no-run, part-joined, run-stands, run-reads}
 use Rattle.device_model.{proofs.HuntRuns.run-unread-front, specs.Hunt.hunt_line}
-use Rattle.device_model.specs.HuntingDevice.{TakesRun, frames_told}
+use Rattle.device_model.specs.HuntingDevice.{HuntTakesRun, frames_told}
 use Rattle.std.proofs.Common.{◌≡◌, ◌≤◌, ◌∙◌, ◌+◌, [], ◌++◌, refl, take, length, ap, subst, arith}
 use Rattle.std.proofs.lemmas.Bool.{cond-true, cond-false}
 use Rattle.std.proofs.lemmas.List.{take_rest, length-drop, length-take}
@@ -58,7 +58,7 @@ loop-taken-preserved g c =
           c.args.self.now c.loop-taken.self new c.args.self.now.ticks
           c.args.bytes.now _ c.loop-taken.taken c.hear_part-part.result.taken [] same
           c.loop-taken.invariant.0 c.loop-taken.invariant.1
-          (subst (TakesRun g.R.LineRules g.R.Hunted.FIRST g.R.Hunted.SECOND c.loop-taken.self new
+          (subst (HuntTakesRun g.R.LineRules g.R.Hunted.FIRST g.R.Hunted.SECOND c.loop-taken.self new
           _ _) (cond-false _ _ _ c.if-part.false) c.hear_part-part.ensures.takes),
     )
 
@@ -66,7 +66,7 @@ pub returns : goal.returns
 returns g c =
     let bytes = c.args.bytes.now in
     let all : c.loop-taken.taken ≡ length bytes = omega (arith, c.loop-taken.invariant.0) in
-    let takes = subst (λ k. TakesRun g.R.LineRules g.R.Hunted.FIRST g.R.Hunted.SECOND
+    let takes = subst (λ k. HuntTakesRun g.R.LineRules g.R.Hunted.FIRST g.R.Hunted.SECOND
     c.args.self.now c.loop-taken.self c.args.self.now.ticks (take k bytes) []) all
     c.loop-taken.invariant.1 in
     let long = length-take (length bytes) bytes in

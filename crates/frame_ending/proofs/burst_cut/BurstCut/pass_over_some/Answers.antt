@@ -1,5 +1,5 @@
 use Rattle.frame_ending.proofs.Passing.{passes-over, passed_over, quiet-not_extra, open-not_extra}
-use Rattle.frame_ending.specs.{Cuts.cuts_after, Stands.StandsFor}
+use Rattle.frame_ending.specs.{Cuts.cuts_after, Stands.CutStandsFor}
 use Rattle.{frame_ending.specs.declared.cut.Cut.TheVariants.Extra, std.proofs.Common.◌≡◌}
 use Rattle.std.proofs.Common.{◌∙◌, ◌+◌, ◌<◌, ◌++◌, sym, subst, arith, length, map, List, ℕ, refl}
 use Rattle.std.proofs.{Common.false, Common.◌||◌, lemmas.Bool.or_parts, lemmas.List.take_all}
@@ -27,7 +27,7 @@ returns-clause-stands g c = λ line old.
     over refl in
     let any = c.if-count-eq0.false in
     let some : 0 < length x = omega arith in
-    let P : List ℕ → Type 0 = λ y. StandsFor g.R.LineRules
+    let P : List ℕ → Type 0 = λ y. CutStandsFor g.R.LineRules
     (passed_over g.R.LineRules c.args.self.now (c.args.self.now.taken + length x))
     (line ++ map Byte y) in
     subst P (sym (take_all (length x) x (omega arith)))

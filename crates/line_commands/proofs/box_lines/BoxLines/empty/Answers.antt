@@ -1,4 +1,4 @@
-use Rattle.line_texts.specs.Writer.{HasWritten}
+use Rattle.line_texts.specs.Writer.{WriterHasWritten}
 use Rattle.std.proofs.Common.{[], refl, sym, ap, subst, arith, length}
 use Rattle.line_commands.proofs.box_lines.BoxLines.empty.Goals as goal
 
@@ -9,7 +9,7 @@ returns g c = let did = c.empty.ensures in record {
   number = refl;
   late = refl;
   waits = record {
-    written = subst (HasWritten c.empty.new.self.writer []) (sym did.ticks) did.written;
+    written = subst (WriterHasWritten c.empty.new.self.writer []) (sym did.ticks) did.written;
     notes_are = did.notes;
   };
   may = λ told ready fits. record {

@@ -1,7 +1,7 @@
 use Rattle.line_commands.proofs.Walking.{walk-boxed}
 use Rattle.line_commands.specs.{LinkBoxed.boxed_of, Sending.made_by}
 use Rattle.line_texts.proofs.Sending.{begins, fronts_sent}
-use Rattle.line_texts.specs.Writer.{HasWritten}
+use Rattle.line_texts.specs.Writer.{WriterHasWritten}
 use Rattle.{line_texts.specs.Texts.waiting_in, link_format.specs.Setup.setup_of}
 use Rattle.sequence_journal.specs.Journal.{journal_link, journal_floor}
 use Rattle.std.proofs.Common.{◌∙◌, [], ap, refl, sym, subst}
@@ -69,7 +69,7 @@ returns-clause-stands g c =
 
 pub returns-clause-waits : goal.returns-clause-waits
 returns-clause-waits g c = record {
-  written = subst (HasWritten c.new-3.result.writer []) (sym c.new-3.ensures.ticks)
+  written = subst (WriterHasWritten c.new-3.result.writer []) (sym c.new-3.ensures.ticks)
       c.new-3.ensures.written;
   notes_are = c.new-3.ensures.notes;
 }

@@ -1,6 +1,6 @@
 use Rattle.{frame_ending.specs.Answered.answered, device_model.specs.Frames.frames_lent}
 use Rattle.line_spacer.proofs.Owing.{given-answers, given-before, given-pending, given-sent}
-use Rattle.line_spacer.specs.Stands.{AnswersSpaced, bytes_sent, frame_at, frames_waiting, unsent_of}
+use Rattle.line_spacer.specs.Stands.{AnswersSpaced, bytes_sent, spaced_frame_at, frames_waiting, unsent_of}
 use Rattle.line_spacer.specs.Stands.{taken_in}
 use Rattle.std.proofs.Common.{◌≡◌, ◌∙◌, ◌<◌, ◌≤◌, ◌+◌, ◌-◌, ◌++◌, [], List, length, take, drop, sym}
 use Rattle.std.proofs.Common.{ap, subst, arith, append_assoc, take-append-drop}
@@ -50,7 +50,7 @@ returns-clause-owes g c = λ cap line ticks long owes.
     let run = c.send_some.ensures.sends (length line) accepted
     (c.make_ready.ensures.sent (length line) accepted owes.sent) in
     let before = given-before reads gap cap room fits line ticks owes.made frames n some within
-    owes.pending front part all accepted (unsent_of sent.ready sent.sent (frame_at sent)) sent.pause
+    owes.pending front part all accepted (unsent_of sent.ready sent.sent (spaced_frame_at sent)) sent.pause
     (frames_waiting sent) answer c.send_some.ensures.long run.sent in
     let after = taken_in gap room (length line + (n - 1)) owes.made front in
     record {
@@ -62,7 +62,7 @@ returns-clause-owes g c = λ cap line ticks long owes.
       room = c.keep-kept.ensures.room ∙ fits;
       made = after;
       sent = given-sent reads gap cap room fits line ticks owes.made frames n some within
-          owes.pending front part all after.accepted (unsent_of new.ready new.sent (frame_at new))
+          owes.pending front part all after.accepted (unsent_of new.ready new.sent (spaced_frame_at new))
           new.pause (frames_waiting new)
           (c.keep-kept.ensures.sent (length line + (n - 1)) owes.made before);
       pending = given-pending reads gap cap room fits line ticks owes.made frames n some within
@@ -99,7 +99,7 @@ returns-clause-answer g c = λ cap line ticks long owes.
     let run = c.send_some.ensures.sends (length line) accepted
     (c.make_ready.ensures.sent (length line) accepted owes.sent) in
     let before = given-before reads gap cap room fits line ticks owes.made frames n some within
-    owes.pending front part all accepted (unsent_of sent.ready sent.sent (frame_at sent)) sent.pause
+    owes.pending front part all accepted (unsent_of sent.ready sent.sent (spaced_frame_at sent)) sent.pause
     (frames_waiting sent) answer c.send_some.ensures.long run.sent in
     let lost = frames_lent c.keep-kept.result (device.lent new.device) in
     subst (λ b. AnswersSpaced reads gap cap line (take n ticks) (answered n b)

@@ -1,6 +1,6 @@
 use Rattle.std.proofs.Common.{◌≤◌, ◌<◌, length, arith}
 use Rattle.device_model.specs.Frames.{FrameRead}
-use Rattle.line_spacer.specs.Stands.{unsent_of, frame_at, frames_waiting}
+use Rattle.line_spacer.specs.Stands.{unsent_of, spaced_frame_at, frames_waiting}
 use Rattle.line_spacer.proofs.Arriving.{kept-takes, lost-sent, lost-takes}
 use Rattle.line_spacer.proofs.spacer.Spacer.keep_frame.Goals as goal
 
@@ -16,7 +16,7 @@ returns-then-waiting-capacity-clause-sent g c = λ step s has.
       c.if-waiting-capacity.true,
     ) in
     lost-sent g.row.GAP old.queue.capacity step s read
-    (unsent_of old.ready old.sent (frame_at old)) old.pause (frames_waiting old) has many
+    (unsent_of old.ready old.sent (spaced_frame_at old)) old.pause (frames_waiting old) has many
 
 pub returns-then-waiting-capacity-clause-takes : goal.returns-then-waiting-capacity-clause-takes
 returns-then-waiting-capacity-clause-takes g c = λ step s has.
@@ -30,7 +30,7 @@ returns-then-waiting-capacity-clause-takes g c = λ step s has.
       c.if-waiting-capacity.true,
     ) in
     lost-takes g.row.GAP old.queue.capacity step s read
-    (unsent_of old.ready old.sent (frame_at old)) old.pause (frames_waiting old) has many
+    (unsent_of old.ready old.sent (spaced_frame_at old)) old.pause (frames_waiting old) has many
 
 pub returns-then-waiting-gt0-clause-sent : goal.returns-then-waiting-gt0-clause-sent
 returns-then-waiting-gt0-clause-sent g c = λ step s has.
@@ -48,7 +48,7 @@ returns-then-waiting-gt0-clause-takes g c = λ step s has.
       c.if-waiting-capacity.false,
     ) in
     kept-takes g.row.GAP old.queue.capacity step s read
-    (unsent_of old.ready old.sent (frame_at old)) old.pause (frames_waiting old) has few
+    (unsent_of old.ready old.sent (spaced_frame_at old)) old.pause (frames_waiting old) has few
 
 pub returns-clause-sent : goal.returns-clause-sent
 returns-clause-sent g c = λ step s has. c.hold_frame.ensures.sent c.args.start step s has
@@ -65,4 +65,4 @@ returns-clause-takes g c = λ step s has.
       c.if-waiting-capacity.false,
     ) in
     kept-takes g.row.GAP old.queue.capacity step s read
-    (unsent_of old.ready old.sent (frame_at old)) old.pause (frames_waiting old) has few
+    (unsent_of old.ready old.sent (spaced_frame_at old)) old.pause (frames_waiting old) has few

@@ -1,6 +1,6 @@
 use Rattle.{frame_ending.specs.Answered.answered, device_model.specs.Frames.frames_lent}
 use Rattle.line_spacer.proofs.RunSteps.{answered-one}
-use Rattle.line_spacer.specs.Stands.{StandsFor, AnswersSpaced, bytes_sent}
+use Rattle.line_spacer.specs.Stands.{SpacerStandsFor, AnswersSpaced, bytes_sent}
 use Rattle.std.proofs.Common.{◌≡◌, ◌+◌, ◌-◌, ◌++◌, [], ◌∷◌, length, sym, subst, arith}
 use Rattle.{std.proofs.lemmas.List.take_all, yasir_ticks.specs.TickRun.run_ticks}
 use Rattle.line_spacer.proofs.spacer.Spacer.take_one.Goals as goal
@@ -11,7 +11,7 @@ returns-clause-stands g c = λ cap line stands.
     let n = c.take_some-lost.result.taken in
     let one : n ≡ 1 =
     omega (arith, c.take_some-lost.ensures.some, c.take_some-lost.ensures.within, c.requires.one) in
-    subst (λ x. StandsFor g.V.Device cap c.take_some-lost.new.self (line ++ x))
+    subst (λ x. SpacerStandsFor g.V.Device cap c.take_some-lost.new.self (line ++ x))
     (take_all n all (omega (arith, c.requires.one, one)))
     (c.take_some-lost.ensures.stands cap line stands)
 

@@ -1,7 +1,7 @@
 use Rattle.{frame_ending.specs.Answered.answered, device_model.specs.Frames.frames_lent}
 use Rattle.line_spacer.proofs.Runs.{IsQuiet, run-before, run-sent, run-answers}
-use Rattle.line_spacer.specs.{Spacing.spaced, Spacing.accepted_of, Stands.StandsFor}
-use Rattle.line_spacer.specs.Stands.{AnswersSpaced, unsent_of, frame_at, frames_waiting, bytes_sent}
+use Rattle.line_spacer.specs.{Spacing.spaced, Spacing.accepted_of, Stands.SpacerStandsFor}
+use Rattle.line_spacer.specs.Stands.{AnswersSpaced, unsent_of, spaced_frame_at, frames_waiting, bytes_sent}
 use Rattle.std.proofs.Common.{◌≡◌, ◌∙◌, ◌<◌, ◌≤◌, ◌+◌, ◌-◌, ◌++◌, List, length, take, sym}
 use Rattle.std.proofs.Common.{ap, subst, arith}
 use Rattle.std.proofs.lemmas.List.{length-take, length-take-le, take-take}
@@ -59,19 +59,19 @@ returns-clause-stands g c = λ cap line stands.
     let run = c.send_some.ensures.sends (length line) accepted
     (c.make_ready.ensures.sent (length line) accepted stands.sent) in
     let before = run-before reads gap cap sent.queue.capacity fits line x frames some quiet is
-    accepted (unsent_of sent.ready sent.sent (frame_at sent)) sent.pause (frames_waiting sent) answer
+    accepted (unsent_of sent.ready sent.sent (spaced_frame_at sent)) sent.pause (frames_waiting sent) answer
     as_long run.sent in
     let new = c.keep-lost.new.self in
-    let stands_now : StandsFor g.V.Device cap new (line ++ x) = record {
+    let stands_now : SpacerStandsFor g.V.Device cap new (line ++ x) = record {
       heard = rw (c.keep-lost.ensures.device, c.send_some.ensures.device)
           (heard.ensures.stands line start);
       room = c.keep-lost.ensures.room ∙ fits;
       sent = run-sent reads gap cap sent.queue.capacity fits line x frames some quiet is
-          (unsent_of new.ready new.sent (frame_at new)) new.pause (frames_waiting new)
+          (unsent_of new.ready new.sent (spaced_frame_at new)) new.pause (frames_waiting new)
           (c.keep-lost.ensures.sent (length line + (length x - 1))
           (spaced reads gap cap line) before);
     } in
-    subst (λ y. StandsFor g.V.Device cap new (line ++ y)) same stands_now
+    subst (λ y. SpacerStandsFor g.V.Device cap new (line ++ y)) same stands_now
 
 pub returns-clause-answer : goal.returns-clause-answer
 returns-clause-answer g c = λ cap line stands.
@@ -119,7 +119,7 @@ returns-clause-answer g c = λ cap line stands.
     let run = c.send_some.ensures.sends (length line) accepted
     (c.make_ready.ensures.sent (length line) accepted stands.sent) in
     let before = run-before reads gap cap sent.queue.capacity fits line x frames some quiet is
-    accepted (unsent_of sent.ready sent.sent (frame_at sent)) sent.pause (frames_waiting sent) answer
+    accepted (unsent_of sent.ready sent.sent (spaced_frame_at sent)) sent.pause (frames_waiting sent) answer
     as_long run.sent in
     let lost = frames_lent c.keep-lost.result (g.V.Device.lent c.keep-lost.new.self.device) in
     let answers = run-answers reads gap cap sent.queue.capacity fits line x frames some quiet is

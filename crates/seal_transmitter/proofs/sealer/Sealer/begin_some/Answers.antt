@@ -1,5 +1,5 @@
 use Rattle.seal_transmitter.proofs.Beginning.{first-of, begun-taken}
-use Rattle.seal_transmitter.{proofs.RunSteps.nothing-taken, specs.Runs.HasTakenRun}
+use Rattle.seal_transmitter.{proofs.RunSteps.nothing-taken, specs.Runs.SealerHasTakenRun}
 use Rattle.std.proofs.Common.{◌≡◌, ◌∙◌, ℕ, List, [], ◌∷◌, map, take, sym, subst, arith}
 use Rattle.yasir_ticks.specs.declared.tick.Tick.TheVariants.{Byte}
 use Rattle.seal_transmitter.proofs.sealer.Sealer.begin_some.Goals as goal
@@ -32,7 +32,7 @@ returns-clause-run g c = λ last setup line stands.
     (n ∷ c.number.result ∷ b ∷ []) in
     let D : ℕ → Type 0 = λ n. g.M.Mac.stands c.update.new.self setup.key
     (g.R.LineRules.rules.label ∷ n ∷ b ∷ []) in
-    let P : List ℕ → Type 0 = λ x. HasTakenRun g.R.LineRules g.M.Mac
+    let P : List ℕ → Type 0 = λ x. SealerHasTakenRun g.R.LineRules g.M.Mac
     (record c.args.self.now { cut = c.step.new.self; mac = c.update.new.self })
     last setup line (map Byte x) (map Byte x) in
     subst P (sym first)

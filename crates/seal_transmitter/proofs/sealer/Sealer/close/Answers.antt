@@ -2,7 +2,7 @@ use Rattle.link_format.specs.Trailers.{bytes_unsent}
 use Rattle.link_box.specs.Sealing.Judgement.{sealed_with}
 use Rattle.link_box.specs.declared.seal_note.SealNote.{SealNote}
 use Rattle.seal_transmitter.proofs.Advancing.{seals-with}
-use Rattle.seal_transmitter.specs.{Answers.CommitsNoted, Between.Judges, Stands.HasTaken}
+use Rattle.seal_transmitter.specs.{Answers.SealerCommitsNoted, Between.Judges, Stands.SealerHasTaken}
 use Rattle.sequence_journal.specs.{Commits.HasFailed, Journal.journal_floor}
 use Rattle.std.proofs.Common.{ℕ, ◌≡◌, ◌+◌, [], ◌∷◌, ◌++◌, rules, sym, ap, subst, Option}
 use Rattle.yasir_ticks.specs.declared.tick.Tick.TheVariants.{Silent}
@@ -28,7 +28,7 @@ returns-in-Ok-clause-step g c = λ setup line between.
     let J : ℕ → Type 0 = λ n. Judges g.R.LineRules g.M.Mac c.args.self.now
     (journal_floor c.args.journal.now) setup
     (line ++ Silent ∷ []) (sealed_with n) in
-    let S : ℕ → Type 0 = λ n. HasTaken g.R.LineRules g.M.Mac c.seal.new.self n setup line Silent
+    let S : ℕ → Type 0 = λ n. SealerHasTaken g.R.LineRules g.M.Mac c.seal.new.self n setup line Silent
     c.seal.result in
     subst S (sym c.in-Ok.ensures.committed.floor)
     (c.seal.ensures.step (journal_floor c.args.journal.now) setup line between
@@ -50,7 +50,7 @@ returns-in_default-clause-journal g c =
 
 pub returns-in-Ok-clause-journal : goal.returns-in-Ok-clause-journal
 returns-in-Ok-clause-journal g c =
-    let P : Option SealNote → Type 0 = λ note. CommitsNoted g.D.SlotDisk c.args.journal.now
+    let P : Option SealNote → Type 0 = λ note. SealerCommitsNoted g.D.SlotDisk c.args.journal.now
     c.commit.new.self c.args.disk.now c.commit.new.disk note in
     let noted = c.seal.ensures.note in
     record {

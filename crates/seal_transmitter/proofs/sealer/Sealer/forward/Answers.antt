@@ -1,5 +1,5 @@
 use Rattle.seal_transmitter.proofs.RunSteps.{run-then, bytes-then}
-use Rattle.seal_transmitter.specs.Runs.{HasTakenRun}
+use Rattle.seal_transmitter.specs.Runs.{SealerHasTakenRun}
 use Rattle.std.proofs.Common.{◌≡◌, ◌∙◌, ◌+◌, ◌-◌, ◌++◌, ℕ, List, map, take, drop, subst, ap, length}
 use Rattle.std.proofs.{Common.arith, lemmas.List.take-take}
 use Rattle.yasir_ticks.specs.declared.tick.Tick.{Tick, TheVariants.Byte}
@@ -19,7 +19,7 @@ returns-clause-run g c = λ last setup line stands.
     ≡ map Byte (take (d + k) x) =
     ap (λ y. map Byte (take d x) ++ map Byte y)
     (take-take k (length x - d) (drop d x) (omega arith)) ∙ bytes-then d k x in
-    let P : List Tick → Type 0 = λ l. HasTakenRun g.R.LineRules g.M.Mac c.go_on_some-more.new.self
+    let P : List Tick → Type 0 = λ l. SealerHasTakenRun g.R.LineRules g.M.Mac c.go_on_some-more.new.self
     last setup line l l in
     subst P same
     (run-then g.R.LineRules g.M.Mac last c.begin_some-begun.new.self

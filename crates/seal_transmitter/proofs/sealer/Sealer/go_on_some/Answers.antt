@@ -1,5 +1,5 @@
 use Rattle.{frame_ending.specs.SoFar.start_so_far, seal_transmitter.proofs.RunSteps.nothing-taken}
-use Rattle.seal_transmitter.{proofs.RunSteps.forward-taken, specs.Runs.HasTakenRun}
+use Rattle.seal_transmitter.{proofs.RunSteps.forward-taken, specs.Runs.SealerHasTakenRun}
 use Rattle.std.proofs.Common.{◌≡◌, ◌∙◌, ◌++◌, ℕ, List, sym, subst, take, map, ap, arith, append-nil}
 use Rattle.{std.proofs.lemmas.Bool.ltb-false, yasir_ticks.specs.declared.tick.Tick.TheVariants.Byte}
 use Rattle.seal_transmitter.proofs.sealer.Sealer.go_on_some.Goals as goal
@@ -13,7 +13,7 @@ returns-then-count-eq0-clause-run g c = λ last setup line stands.
     let x : List ℕ = c.args.bytes.now in
     let n : ℕ = c.go_on_some-count.result in
     let zero : n ≡ 0 = omega arith in
-    let P : ℕ → Type 0 = λ k. HasTakenRun g.R.LineRules g.M.Mac
+    let P : ℕ → Type 0 = λ k. SealerHasTakenRun g.R.LineRules g.M.Mac
     (record c.args.self.now { cut = c.go_on_some-count.new.self }) last setup
     line (map Byte (take k x)) (map Byte (take k x)) in
     subst P zero

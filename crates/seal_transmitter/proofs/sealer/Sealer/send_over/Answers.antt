@@ -1,6 +1,6 @@
 use Rattle.{frame_ending.specs.SoFar.start_so_far, link_format.specs.Trailers.bytes_unsent}
 use Rattle.seal_transmitter.proofs.RunSteps.{sent-bytes, nothing-taken, early-taken}
-use Rattle.seal_transmitter.specs.Runs.{HasTakenRun}
+use Rattle.seal_transmitter.specs.Runs.{SealerHasTakenRun}
 use Rattle.std.proofs.Common.{◌≡◌, ◌∙◌, ◌≤◌, ℕ, List, sym, ap, subst, take, map, length, arith}
 use Rattle.std.proofs.lemmas.{Bool.ltb-true, List.length-take-le, List.take-take}
 use Rattle.yasir_ticks.specs.declared.tick.Tick.TheVariants.{Byte}
@@ -8,7 +8,7 @@ use Rattle.seal_transmitter.proofs.sealer.Sealer.send_over.Goals as goal
 
 pub returns-then-not-is_early-clause-run : goal.returns-then-not-is_early-clause-run
 returns-then-not-is_early-clause-run g c = λ last setup line stands.
-    let P : List ℕ → Type 0 = λ x. HasTakenRun g.R.LineRules g.M.Mac c.args.self.now
+    let P : List ℕ → Type 0 = λ x. SealerHasTakenRun g.R.LineRules g.M.Mac c.args.self.now
     last setup line (map Byte (take (length x) c.args.bytes.now))
     (map Byte x) in
     subst P (sym c.new.ensures)
@@ -27,7 +27,7 @@ returns-clause-run g c = λ last setup line stands.
     let fewer : count ≤ c.min-most.result = omega arith in
     let long : length c.send_some.result.items ≡ count =
     ap length c.send_some.ensures.sent ∙ length-take-le count unsent few in
-    let P : List ℕ → Type 0 = λ x. HasTakenRun g.R.LineRules g.M.Mac
+    let P : List ℕ → Type 0 = λ x. SealerHasTakenRun g.R.LineRules g.M.Mac
     (record c.args.self.now { cut = c.go_on_some-count.new.self; trailer = c.send_some.new.self })
     last setup line (map Byte x) (map Byte c.send_some.result.items) in
     subst P (take-take count c.min-most.result c.args.bytes.now fewer

@@ -1,5 +1,5 @@
 use Rattle.{link_format.specs.Trailers.bytes_unsent, seal_transmitter.proofs.RunSteps.sent-bytes}
-use Rattle.seal_transmitter.{proofs.RunSteps.open-taken, specs.Runs.HasTakenRun}
+use Rattle.seal_transmitter.{proofs.RunSteps.open-taken, specs.Runs.SealerHasTakenRun}
 use Rattle.std.proofs.Common.{◌≡◌, ◌∙◌, ◌≤◌, ℕ, List, sym, ap, subst, map, length, arith}
 use Rattle.std.proofs.lemmas.List.{length-take-le}
 use Rattle.yasir_ticks.specs.{Ticks.silent, declared.tick.Tick.TheVariants.Byte}
@@ -14,7 +14,7 @@ returns-clause-run g c = λ last setup line stands.
     let few : count ≤ length unsent = omega arith in
     let long : length c.send_some.result.items ≡ count =
     ap length c.send_some.ensures.sent ∙ length-take-le count unsent few in
-    let P : ℕ → Type 0 = λ k. HasTakenRun g.R.LineRules g.M.Mac
+    let P : ℕ → Type 0 = λ k. SealerHasTakenRun g.R.LineRules g.M.Mac
     (record c.args.self.now { cut = c.wait_open-count.new.cut; trailer = c.send_some.new.self })
     last setup line (silent k) (map Byte c.send_some.result.items) in
     subst P (sym long)

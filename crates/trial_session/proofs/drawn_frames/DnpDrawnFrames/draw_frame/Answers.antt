@@ -2,7 +2,7 @@ use Rattle.std.proofs.Common.{◌≡◌, ◌∙◌, ℕ, ◌%◌, List, ap, arit
 use Rattle.std.proofs.lemmas.List.{length-replicate, length-take-le, take_at}
 use Rattle.trial_session.proofs.FrameDraws.{dnp-frame-is, dnp-state-is}
 use Rattle.trial_session.specs.{DrawLaws.length-bytes_drawn, Draws.bytes_drawn, Draws.draw_state}
-use Rattle.trial_session.specs.Draws.{state_after}
+use Rattle.trial_session.specs.Draws.{draw_state_after}
 use Rattle.trial_session.proofs.drawn_frames.DnpDrawnFrames.draw_frame.Goals as goal
 
 pub returns-clause-frame : goal.returns-clause-frame
@@ -33,4 +33,4 @@ returns-clause-state c =
     c.draw-3.result c.draw.ensures.state c.draw-2.ensures.state c.draw-3.ensures.state
     c.draw.ensures.value c.draw-2.ensures.value c.draw-3.ensures.value _
     (c.draw_bytes.ensures.state
-    ∙ ap (λ k. state_after k (draw_state c.draw-3.new.self)) room)
+    ∙ ap (λ k. draw_state_after k (draw_state c.draw-3.new.self)) room)

@@ -3,7 +3,7 @@ use Rattle.std.proofs.Common.{◌≡◌, ◌∙◌, ℕ, ◌+◌, ◌%◌, List,
 use Rattle.std.proofs.lemmas.List.{length-replicate, length-take-le, take_at}
 use Rattle.trial_session.proofs.FrameDraws.{rtu-body-is, rtu-filled, rtu-state-is}
 use Rattle.trial_session.specs.{DrawLaws.length-bytes_drawn, Draws.bytes_drawn, Draws.draw_state}
-use Rattle.trial_session.specs.{Draws.state_after}
+use Rattle.trial_session.specs.{Draws.draw_state_after}
 use Rattle.trial_session.proofs.drawn_frames.RtuDrawnFrames.draw_frame.Goals as goal
 
 pub returns-clause-frame : goal.returns-clause-frame
@@ -36,4 +36,4 @@ returns-clause-state c =
     let room : length (take n blank) ≡ n = length-take-le n blank (omega (arith, long)) in
     rtu-state-is (draw_state c.args.draws.now) one c.draw.result
     c.draw.ensures.state c.draw.ensures.value _
-    (c.draw_bytes.ensures.state ∙ ap (λ k. state_after k one) room)
+    (c.draw_bytes.ensures.state ∙ ap (λ k. draw_state_after k one) room)

@@ -2,7 +2,7 @@ use Rattle.std.proofs.Common.{◌≡◌, ◌∙◌, length, sym, ap, arith, refl
 use Rattle.std.proofs.lemmas.List.{length-set, take_all, take_more_set}
 use Rattle.trial_session.proofs.Drawing.{state_after-zero, bytes_drawn-zero, state_after-more}
 use Rattle.trial_session.proofs.Drawing.{drawn-more}
-use Rattle.trial_session.specs.Draws.{state_after, bytes_drawn, next_state}
+use Rattle.trial_session.specs.Draws.{draw_state_after, bytes_drawn, next_state}
 use Rattle.trial_session.proofs.draws.Draws.draw_bytes.Goals as goal
 
 pub loop-place-init : goal.loop-place-init
@@ -29,7 +29,7 @@ returns c =
     let before = c.loop-place.invariant in
     let all : i ≡ length c.args.places.now = omega (arith, before.2) in
     record {
-      state = before.0 ∙ ap (λ n. state_after n x) all;
+      state = before.0 ∙ ap (λ n. draw_state_after n x) all;
       bytes = sym (take_all i items (omega (arith, before.2))) ∙ before.1
           ∙ ap (λ n. bytes_drawn n x) all;
     }

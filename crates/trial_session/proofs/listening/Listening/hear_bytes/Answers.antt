@@ -1,7 +1,7 @@
 use Rattle.std.proofs.Common.{◌∙◌, ◌++◌, ap, subst, arith, length, map, refl}
 use Rattle.std.proofs.lemmas.List.{take_all, take_rest, length-drop}
 use Rattle.trial_session.proofs.{HeardRuns.hears-run, SentRuns.bytes-more}
-use Rattle.trial_session.specs.Sides.{HasHeard}
+use Rattle.trial_session.specs.Sides.{SideHasHeard}
 use Rattle.yasir_ticks.specs.declared.tick.Tick.TheVariants.{Byte}
 use Rattle.trial_session.proofs.listening.Listening.hear_bytes.Goals as goal
 
@@ -26,7 +26,7 @@ loop-at-preserved g c =
       omega (arith, c.hear-met.ensures.taken, before.2),
       λ line heard.
           let so = before.3 line heard in
-          subst (HasHeard g.V.Device _) (bytes-more at n bytes line)
+          subst (SideHasHeard g.V.Device _) (bytes-more at n bytes line)
           (hears-run g.V.Device c.loop-at.self _ _ _ _ _ c.frames_in.result refl
           (c.hear-met.ensures.stands _ so.stands)
           (c.hear-met.ensures.answer _ so.stands)
@@ -35,6 +35,6 @@ loop-at-preserved g c =
 
 pub returns-clause-heard : goal.returns-clause-heard
 returns-clause-heard g c = λ line heard.
-    subst (λ l. HasHeard g.V.Device c.loop-at.self (line ++ map (λ b. Byte b) l))
+    subst (λ l. SideHasHeard g.V.Device c.loop-at.self (line ++ map (λ b. Byte b) l))
     (take_all c.loop-at.at c.args.bytes.now c.loop-at-test.false)
     (c.loop-at.invariant.3 line heard)

@@ -1,7 +1,7 @@
 use Rattle.std.proofs.Common.{◌∙◌, ◌++◌, [], ap, subst, sym, arith, length, map}
 use Rattle.std.proofs.lemmas.Bool.{eqb-true}
 use Rattle.yasir_ticks.specs.declared.tick.Tick.TheVariants.{Byte}
-use Rattle.trial_session.specs.Sides.{HasHeard}
+use Rattle.trial_session.specs.Sides.{SideHasHeard}
 use Rattle.trial_session.proofs.HeardRuns.{none-waits, hearing-as, hears-all}
 use Rattle.trial_session.proofs.listening.Listening.settle.Goals as goal
 
@@ -32,6 +32,6 @@ returns-clause-taken g c =
 
 pub returns-clause-heard : goal.returns-clause-heard
 returns-clause-heard g c = λ line so.
-    subst (HasHeard g.V.Device c.hear_bytes.new.self)
+    subst (SideHasHeard g.V.Device c.hear_bytes.new.self)
     (ap (λ x. so.front ++ map (λ b. Byte b) x) c.as_slice.ensures.value ∙ sym so.is)
     (c.hear_bytes.ensures.heard so.front so.hears)

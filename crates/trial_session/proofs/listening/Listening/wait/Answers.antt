@@ -1,6 +1,6 @@
 use Rattle.std.proofs.Common.{◌≡◌, ◌++◌, subst, arith, refl}
 use Rattle.trial_session.proofs.{HeardRuns.hears-run, SentRuns.silence-more}
-use Rattle.{trial_session.specs.Sides.HasHeard, yasir_ticks.specs.Ticks.silent}
+use Rattle.{trial_session.specs.Sides.SideHasHeard, yasir_ticks.specs.Ticks.silent}
 use Rattle.trial_session.proofs.listening.Listening.wait.Goals as goal
 
 pub loop-at-preserved : goal.loop-at-preserved
@@ -20,7 +20,7 @@ loop-at-preserved g c =
       omega (arith, c.wait-met.ensures.taken, before.2),
       λ line heard.
           let so = before.3 line heard in
-          subst (HasHeard g.V.Device _) (silence-more at n line)
+          subst (SideHasHeard g.V.Device _) (silence-more at n line)
           (hears-run g.V.Device c.loop-at.self _ _ _ _ _ c.frames_in.result refl
           (c.wait-met.ensures.stands _ so.stands)
           (c.wait-met.ensures.answer _ so.stands)
@@ -30,5 +30,5 @@ loop-at-preserved g c =
 pub returns-clause-heard : goal.returns-clause-heard
 returns-clause-heard g c = λ line heard.
     let end : c.loop-at.at ≡ c.args.ticks = omega (arith, c.loop-at.invariant.0) in
-    subst (λ n. HasHeard g.V.Device c.loop-at.self (line ++ silent n)) end
+    subst (λ n. SideHasHeard g.V.Device c.loop-at.self (line ++ silent n)) end
     (c.loop-at.invariant.3 line heard)

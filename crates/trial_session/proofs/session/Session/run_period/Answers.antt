@@ -2,7 +2,7 @@ use Rattle.std.proofs.Common.{◌≡◌, ◌∙◌, ◌+◌, ◌-◌, ◌%◌, �
 use Rattle.std.proofs.lemmas.List.{length-map, length-replicate}
 use Rattle.trial_session.proofs.{Behind.link-long, Periods.run-suc, SentRuns.sends-none}
 use Rattle.trial_session.specs.{Alterations.alteration_of, Draws.draw_state, Draws.nth_drawn}
-use Rattle.trial_session.specs.{Links.link_sent, Session.period_line, Sides.HasSent}
+use Rattle.trial_session.specs.{Links.link_sent, Session.period_line, Sides.SideHasSent}
 use Rattle.{trial_session.specs.Sides.HasReceived, yasir_ticks.specs.Ticks.silent}
 use Rattle.yasir_ticks.specs.declared.tick.Tick.TheVariants.{Silent, Byte}
 use Rattle.trial_session.proofs.session.Session.run_period.Goals as goal
@@ -39,11 +39,11 @@ returns-clause-run g c =
     ∙ ap (λ n. alteration_of (nth_drawn 1 mid % 8) (nth_drawn 2 mid % (n + c.args.behind))
     (1 + nth_drawn 3 mid % 255)) c.len.ensures.value)
     (link-long sent ∙ all)
-    (λ line taken. subst (λ l. HasSent g.S.LinkBox g.S.CountingBox.counting c.forward-2.new.self
+    (λ line taken. subst (λ l. SideHasSent g.S.LinkBox g.S.CountingBox.counting c.forward-2.new.self
     line l (link_sent sent)) period_is
     (c.forward-2.ensures.sent line (map (λ b. Byte b) c.as_slice.result.now)
     (c.forward.ensures.sent line []
-    (subst (λ l. HasSent g.S.LinkBox g.S.CountingBox.counting c.args.self.now.sealing line [] l)
+    (subst (λ l. SideHasSent g.S.LinkBox g.S.CountingBox.counting c.args.self.now.sealing line [] l)
     (sym c.clear.ensures.sent)
     (sends-none g.S.LinkBox g.S.CountingBox.counting c.args.self.now.sealing line taken)))))
     (λ line received. subst (λ l. HasReceived g.C.LinkBox g.C.CountingBox.counting g.V.Device

@@ -1,6 +1,6 @@
 use Rattle.std.proofs.Common.{◌∙◌, ◌++◌, ap, subst, arith, length, sym, take}
 use Rattle.std.proofs.lemmas.List.{take_all, length-drop, append-nil}
-use Rattle.trial_session.{proofs.SentRuns.run-more, specs.Links.link_sent, specs.Sides.HasSent}
+use Rattle.trial_session.{proofs.SentRuns.run-more, specs.Links.link_sent, specs.Sides.SideHasSent}
 use Rattle.yasir_ticks.specs.TickRun.{run_ticks}
 use Rattle.trial_session.proofs.side.Side.forward.Goals as goal
 
@@ -10,7 +10,7 @@ loop-at-init g c = (
   c.requires.able,
   omega arith,
   omega arith,
-  λ line more sent. subst (λ l. HasSent g.X.LinkBox g.X.CountingBox.counting c.args.self.now line l
+  λ line more sent. subst (λ l. SideHasSent g.X.LinkBox g.X.CountingBox.counting c.args.self.now line l
       (link_sent c.args.link.now)) (sym (append-nil more)) sent,
 )
 
@@ -27,7 +27,7 @@ loop-at-preserved g c =
       omega (arith, c.send_on-at.ensures.taken, before.2),
       omega (arith, c.send_on-at.ensures.len, before.3),
       λ line more sent.
-          subst (λ l. HasSent g.X.LinkBox g.X.CountingBox.counting c.send_on-at.new.self line l
+          subst (λ l. SideHasSent g.X.LinkBox g.X.CountingBox.counting c.send_on-at.new.self line l
           (link_sent c.send_on-at.new.link))
           (run-more at n ticks (run_ticks c.behind.result) more c.behind.ensures)
           (c.send_on-at.ensures.sent line (more ++ take at ticks) (before.4 line more sent)),
@@ -35,7 +35,7 @@ loop-at-preserved g c =
 
 pub returns-clause-sent : goal.returns-clause-sent
 returns-clause-sent g c = λ line more sent.
-    subst (λ l. HasSent g.X.LinkBox g.X.CountingBox.counting c.loop-at.self line (more ++ l)
+    subst (λ l. SideHasSent g.X.LinkBox g.X.CountingBox.counting c.loop-at.self line (more ++ l)
     (link_sent c.loop-at.link))
     (take_all c.loop-at.at (run_ticks c.args.run) (omega (
       arith,
