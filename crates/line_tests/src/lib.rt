@@ -1,5 +1,5 @@
 //! Tests of what lies below the boxes and beside them: tick text, frames, tags, the ring of a delay,
-//! bursts, models of devices, the spacer, the forms of captures, streams, files, disks and journals.
+//! bursts, models of devices, the spacer, the forms of captures, and key texts.
 //!
 //! They are a crate of their own, since a crate with tests is proved twice.
 #![tactic(auto)]
@@ -21,19 +21,9 @@ mod dumps;
 #[cfg(test)]
 mod families;
 #[cfg(test)]
-mod files;
-#[cfg(test)]
-mod journals;
-#[cfg(test)]
 mod keys;
 #[cfg(test)]
-mod late_journals;
-#[cfg(test)]
 mod lending;
-#[cfg(test)]
-mod live_outputs;
-#[cfg(test)]
-mod one_file;
 #[cfg(test)]
 mod owed_answers;
 #[cfg(test)]
@@ -42,8 +32,6 @@ mod pcap;
 mod rings;
 #[cfg(test)]
 mod spacers;
-#[cfg(test)]
-mod streams;
 #[cfg(test)]
 mod tags;
 #[cfg(test)]

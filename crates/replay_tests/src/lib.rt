@@ -17,6 +17,8 @@ mod fast_paths;
 #[cfg(test)]
 mod fresh;
 #[cfg(test)]
+mod live_outputs;
+#[cfg(test)]
 mod order;
 #[cfg(test)]
 mod outside;

@@ -4,7 +4,7 @@ use Rattle.sequence_journal.specs.Uptimes.{Step, answered_in, EndsInside, IsUpti
 use Rattle.sequence_journal.specs.declared.link.LinkId.{LinkId}
 use Rattle.std.proofs.Common.{◌≡◌, ℕ, [], ◌∷◌, List, Some, inl, subst}
 use Rattle.yasir_io.specs.{Disks.Slots, declared.disk.SlotDisk.Ghosts as SlotDisk}
-use Rattle.line_tests.proofs.journals.answer_twice.Goals as goal
+use Rattle.disk_tests.proofs.journals.answer_twice.Goals as goal
 
 answered-one : {D : Type 0} (d : SlotDisk D) (link : LinkId) (begins : Slots) (floor n : ℕ)
     (loaded : D) (done : List (Step D)) (image : Slots) → floor_of link begins ≡ Some floor

@@ -1,5 +1,5 @@
 use Rattle.sequence_journal.proofs.UptimeLaws.{ends-loading}
-use Rattle.line_tests.proofs.journals.answer_none.Goals as goal
+use Rattle.disk_tests.proofs.journals.answer_none.Goals as goal
 
 pub returns : goal.returns
 returns g c = record {

@@ -2,7 +2,7 @@ use Rattle.sequence_journal.proofs.SlotLemmas.{at_some}
 use Rattle.sequence_journal.specs.{Journal.journal_floor, Slots.floor_of}
 use Rattle.sequence_journal.specs.Uptimes.{Step, IsStep, numbers_answered}
 use Rattle.std.proofs.Common.{◌≡◌, ◌∙◌, ℕ, ◌+◌, [], ◌∷◌, Some, refl, sym, subst, ap, unwrap_or}
-use Rattle.line_tests.proofs.journals.answer_one.Goals as goal
+use Rattle.disk_tests.proofs.journals.answer_one.Goals as goal
 
 pub returns-clause-ends : goal.returns-clause-ends
 returns-clause-ends g c begins floor told is synced =
