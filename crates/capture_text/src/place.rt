@@ -1,5 +1,5 @@
 //! Where in a line of a text capture its reader is, and what one byte does there.
-#![tactic(auto, unfolding(crate::specs::TextStep::step_at))]
+#![tactic(auto, unfolding(crate::specs::TextStep::text_step_at))]
 
 ghost use Rattle.std.specs.Prelude.{◌≡◌, ◌<◌, true};
 ghost use Rattle.yasir_ticks.specs.TickText.{is_decimal_digit};
