@@ -53,7 +53,8 @@ impl AnySpacer {
         ensures taken { IfOk result (λ spacer.
             ⟦<AnySpacer as DefinedSpacer>⟧.taken spacer ≡ 0) }
         ensures kind { IfOk result (λ spacer. spacer_kind spacer ≡ kind) }
-        ensures stands { IfOk result (λ spacer. ⟦<AnySpacer as DefinedSpacer>⟧.stands room spacer []) }
+        ensures stands { IfOk result (λ spacer. ⟦<AnySpacer as DefinedSpacer>⟧.stands room spacer
+            []) }
     {
         Ok(match kind {
             SpacerKind::Rtu => AnySpacer::Rtu(Spacer::new(alloc, room)?),

@@ -1,7 +1,8 @@
 //! What a step returns, as C reads it.
 ghost use Rattle.std.specs.Prelude.{◌≡◌};
 ghost use Rattle.yasir_c.specs.Answers.{answer_of, asking, numbers_in, unsealed_number};
-ghost use Rattle.yasir_c.specs.Answers.{refused_number, dropped_number, slot_number_told, tick_bytes};
+ghost use Rattle.yasir_c.specs.Answers.{refused_number, dropped_number, slot_number_told};
+ghost use Rattle.yasir_c.specs.Answers.{tick_bytes};
 
 use any_box::{AnyNote, Commit, HeldStep};
 use check_receiver::{CheckNote, DroppedWhy, RefusedWhy};

@@ -102,7 +102,8 @@ pub extern "C" fn yasir_new(
     key: &[u8],
     slots: &[u8],
 ) -> u8
-    ensures { Returns (MakesBy ⟦<AnyBox as DefinedBox>⟧ kind.now key.now slots.now handle.old.held.value
+    ensures { Returns (MakesBy ⟦<AnyBox as DefinedBox>⟧ kind.now key.now slots.now
+        handle.old.held.value
         handle.new.held.value) result }
 {
     make(alloc, handle, kind, key, slots).number()
@@ -148,7 +149,8 @@ pub(crate) fn step(
     answer: &mut Answer,
     slot: &mut [u8],
 ) -> Status
-    ensures { StepsBy ⟦<AnyBox as DefinedBox>⟧ handle.old.held.value handle.new.held.value tick answer.old
+    ensures { StepsBy ⟦<AnyBox as DefinedBox>⟧ handle.old.held.value handle.new.held.value tick
+        answer.old
         answer.new slot.old slot.new result }
 {
     let Some(tick) = tick_in(tick) else {
@@ -178,7 +180,8 @@ pub extern "C" fn yasir_step(
     answer: &mut Answer,
     slot: &mut [u8],
 ) -> u8
-    ensures { Returns (StepsBy ⟦<AnyBox as DefinedBox>⟧ handle.old.held.value handle.new.held.value tick answer.old
+    ensures { Returns (StepsBy ⟦<AnyBox as DefinedBox>⟧ handle.old.held.value handle.new.held.value
+        tick answer.old
         answer.new slot.old slot.new) result }
 {
     step(alloc, handle, tick, answer, slot).number()
@@ -240,7 +243,8 @@ fn take_run(
     sent: &mut [u8],
     sent_count: &mut usize,
 ) -> usize
-    ensures { TakesBy ⟦<AnyBox as DefinedBox>⟧ handle.old.held.value handle.new.held.value (run_ticks run.entry)
+    ensures { TakesBy ⟦<AnyBox as DefinedBox>⟧ handle.old.held.value handle.new.held.value
+        (run_ticks run.entry)
         sent.old sent.new sent_count.new result }
 {
     *sent_count = 0;
@@ -267,7 +271,8 @@ pub extern "C" fn yasir_take_bytes(
     sent: &mut [u8],
     sent_count: &mut usize,
 ) -> usize
-    ensures { TakesBy ⟦<AnyBox as DefinedBox>⟧ handle.old.held.value handle.new.held.value (map Byte bytes.now)
+    ensures { TakesBy ⟦<AnyBox as DefinedBox>⟧ handle.old.held.value handle.new.held.value
+        (map Byte bytes.now)
         sent.old sent.new sent_count.new result }
 {
     take_run(alloc, handle, TickRun::Bytes(bytes), sent, sent_count)
@@ -283,7 +288,8 @@ pub extern "C" fn yasir_take_silence(
     sent: &mut [u8],
     sent_count: &mut usize,
 ) -> usize
-    ensures { TakesBy ⟦<AnyBox as DefinedBox>⟧ handle.old.held.value handle.new.held.value (silent ticks)
+    ensures { TakesBy ⟦<AnyBox as DefinedBox>⟧ handle.old.held.value handle.new.held.value
+        (silent ticks)
         sent.old sent.new sent_count.new result }
 {
     take_run(alloc, handle, TickRun::Silence(ticks), sent, sent_count)

@@ -1,7 +1,8 @@
 //! What a handle holds.
 ghost use Rattle.std.specs.Prelude.{◌≡◌, IfOk, IfErr, Some};
 ghost use Rattle.yasir_ticks.specs.TickRun.{run_ticks};
-ghost use Rattle.yasir_c.specs.Holding.{HandleTakesTick, TakesNoTick, HandleHandsOut, HandsNothing, HandleTakesRun};
+ghost use Rattle.yasir_c.specs.Holding.{HandleTakesTick, TakesNoTick, HandleHandsOut, HandsNothing};
+ghost use Rattle.yasir_c.specs.Holding.{HandleTakesRun};
 ghost use Rattle.yasir_c.specs.Holding.{floor_told, SpacesTick, SpacesNoTick};
 
 use crate::answer::Answer;
@@ -25,7 +26,8 @@ impl Held {
     /// Takes the next tick with the box that is held. If the step uses a number, its answer is then
     /// withheld.
     pub(crate) fn step(&mut self, t: Tick) -> Result<HeldStep, Status>
-        ensures steps { IfOk result (HandleTakesTick ⟦<AnyBox as DefinedBox>⟧ (Some self.old) (Some self.new) t) }
+        ensures steps { IfOk result (HandleTakesTick ⟦<AnyBox as DefinedBox>⟧ (Some self.old)
+            (Some self.new) t) }
         ensures kept { IfErr result (λ why. (self.new ≡ self.old)
             × TakesNoTick (Some self.old) why) }
     {
@@ -51,7 +53,8 @@ impl Held {
     /// Takes the first of these ticks with the box that is held, as long as it returns silence for
     /// all of them or bytes for all of them, and returns how many.
     pub(crate) fn take_alike(&mut self, run: TickRun<'_>, sent: &mut RunBytes) -> usize
-        ensures { HandleTakesRun ⟦<AnyBox as DefinedBox>⟧ (Some self.old) (Some self.new) (run_ticks run.entry)
+        ensures { HandleTakesRun ⟦<AnyBox as DefinedBox>⟧ (Some self.old) (Some self.new)
+            (run_ticks run.entry)
             sent.new.items result }
     {
         match self {
@@ -75,7 +78,8 @@ impl Held {
 
     /// Takes the next tick with the spacer that is held.
     pub(crate) fn space(&mut self, t: Tick) -> Result<SpaceStep, Status>
-        ensures steps { IfOk result (SpacesTick ⟦<AnySpacer as DefinedSpacer>⟧ (Some self.old) (Some self.new) t) }
+        ensures steps { IfOk result (SpacesTick ⟦<AnySpacer as DefinedSpacer>⟧ (Some self.old)
+            (Some self.new) t) }
         ensures kept { IfErr result (λ why. (self.new ≡ self.old)
             × SpacesNoTick (Some self.old) why) }
     {

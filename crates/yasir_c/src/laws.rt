@@ -27,13 +27,15 @@ use any_box::{AnyBox, DefinedBox};
 pub fn all_answers_are_told()
     ensures begins { (kind : Kind) (dir : Dir) (key a b : List ℕ) (held : HeldBox)
         → HeldBegins ⟦<AnyBox as DefinedBox>⟧ kind dir key a b held
-        → TellsAnswers ⟦<AnyBox as DefinedBox>⟧ kind (setup_of key dir (floor_held held)) (ready held) [] [] }
+        → TellsAnswers ⟦<AnyBox as DefinedBox>⟧ kind (setup_of key dir (floor_held held))
+        (ready held) [] [] }
     ensures answers { (kind : Kind) (setup : Setup) (old new : WithholdingBox) (line : List Tick)
         (told : List Answer) (t : Tick) (step : HeldStep)
         → TellsAnswers ⟦<AnyBox as DefinedBox>⟧ kind setup old line told
         → HandleTakesTick ⟦<AnyBox as DefinedBox>⟧ (Some (LineBox old)) (Some (LineBox new)) t step
         → step.commit ≡ None
-        → TellsAnswers ⟦<AnyBox as DefinedBox>⟧ kind setup new (line ++ t ∷ []) (told ++ answer_of step ∷ []) }
+        → TellsAnswers ⟦<AnyBox as DefinedBox>⟧ kind setup new (line ++ t ∷ [])
+        (told ++ answer_of step ∷ []) }
     ensures withholds { (kind : Kind) (setup : Setup) (old new : WithholdingBox) (line : List Tick)
         (told : List Answer) (t : Tick) (step : HeldStep) (commit : Commit)
         → TellsAnswers ⟦<AnyBox as DefinedBox>⟧ kind setup old line told
@@ -53,7 +55,8 @@ pub fn all_answers_are_told()
     ensures runs { (kind : Kind) (setup : Setup) (old new : WithholdingBox) (line : List Tick)
         (told : List Answer) (run : List Tick) (sent : List ℕ) (taken : ℕ)
         → TellsAnswers ⟦<AnyBox as DefinedBox>⟧ kind setup old line told
-        → TakesFront ⟦<AnyBox as DefinedBox>⟧ (Some (LineBox old)) (Some (LineBox new)) run sent taken
+        → TakesFront ⟦<AnyBox as DefinedBox>⟧ (Some (LineBox old)) (Some (LineBox new)) run sent
+        taken
         → TellsAnswers ⟦<AnyBox as DefinedBox>⟧ kind setup new (line ++ take taken run)
         (told ++ map (λ tick. quiet tick) (answered taken sent)) }
 {}

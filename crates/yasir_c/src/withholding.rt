@@ -1,7 +1,8 @@
 //! A box that withholds what a step returns if the step uses a number.
 ghost use Rattle.std.specs.Prelude.{◌≡◌, IfOk, IfErr, Some};
 ghost use Rattle.yasir_ticks.specs.TickRun.{run_ticks};
-ghost use Rattle.yasir_c.specs.Holding.{HandleTakesTick, TakesNoTick, HandleHandsOut, HandsNothing, HandleTakesRun};
+ghost use Rattle.yasir_c.specs.Holding.{HandleTakesTick, TakesNoTick, HandleHandsOut, HandsNothing};
+ghost use Rattle.yasir_c.specs.Holding.{HandleTakesRun};
 ghost use Rattle.yasir_c.specs.Holding.{floor_told};
 ghost use Rattle.yasir_c.specs.Withholding.{ready};
 ghost use Rattle.yasir_c.specs.declared.held.Held.TheVariants.{LineBox};
@@ -43,7 +44,8 @@ impl WithholdingBox {
 
     /// Takes the next tick. If the step uses a number, its answer is then withheld.
     pub(crate) fn step(&mut self, t: Tick) -> Result<HeldStep, Status>
-        ensures steps { IfOk result (HandleTakesTick ⟦<AnyBox as DefinedBox>⟧ (Some (LineBox self.old))
+        ensures steps { IfOk result (HandleTakesTick ⟦<AnyBox as DefinedBox>⟧
+            (Some (LineBox self.old))
             (Some (LineBox self.new)) t) }
         ensures kept { IfErr result (λ why. (self.new ≡ self.old)
             × TakesNoTick (Some (LineBox self.old)) why) }
@@ -89,7 +91,8 @@ impl WithholdingBox {
     /// Takes the first of these ticks, as long as the box returns silence for all of them or bytes
     /// for all of them, without a note and with nothing to write, and returns how many.
     pub(crate) fn take_alike(&mut self, run: TickRun<'_>, sent: &mut RunBytes) -> usize
-        ensures { HandleTakesRun ⟦<AnyBox as DefinedBox>⟧ (Some (LineBox self.old)) (Some (LineBox self.new))
+        ensures { HandleTakesRun ⟦<AnyBox as DefinedBox>⟧ (Some (LineBox self.old))
+            (Some (LineBox self.new))
             (run_ticks run.entry) sent.new.items result }
     {
         let Readiness::Ready = self.readiness else {
