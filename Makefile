@@ -8,7 +8,8 @@
 #        BEFORE is the last version, a program or a checkout with one: the level release counts the instructions of both.
 # reading: writes the page out/reading.md, with all definitions on which the headline rests, in order of use.
 # live: shows mbpoll reading registers through four boxes, under attack. It needs mbpoll, libmodbus and a C compiler.
-.PHONY: try demo test check reading live
+# claims: writes the page out/claims.md, with each public clause and its sentence, and fails if one has none.
+.PHONY: try demo test check reading claims live
 
 try:
 	@python3 scripts/try.py $(if $(CAPTURE),$(foreach name,CAPTURE RATE P START FRAMES,$(if $($(name)),"$(name)=$($(name))")))
@@ -24,6 +25,9 @@ check:
 
 reading:
 	@python3 scripts/reading.py
+
+claims:
+	@python3 scripts/claims.py
 
 live:
 	@python3 scripts/live.py

@@ -37,6 +37,7 @@ CHECKS = [
     Check("prove_check", (), *same()),
     Check("docs_check", (), *same()),
     Check("reading", (), *same()),
+    Check("claims", (), *same()),
     Check("refusals", (), *same()),
     Check("docs_commands", ("program",), *same("PROGRAM")),
     Check("trial_model", ("program",), *same("compare", "PROGRAM")),

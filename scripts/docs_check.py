@@ -11,16 +11,21 @@
 - Each name in backquotes that has an underscore or a capital inside must be somewhere in the code.
 - A row of a table of docs/PROOF.md whose last column is a file of crates/ names functions and definitions in backquotes and
   clauses in italics: each must be in one of the row's files, a clause as a clause or a field.
+- A function in backquotes with a clause in italics behind it must have this clause, as scripts/claims.py finds them.
 - No paragraph may have more than 120 words. A row of a table is a paragraph.
-- Each page but docs/CLAIMS.md is in one group of BOUNDS, and neither a group nor all groups together may have more words
-  than stand there, as `wc -w` counts them. The newest version of CHANGELOG.md may have at most 40 lines.
+- Each page is in one group of BOUNDS, and neither a group nor all groups together may have more words than stand there, as
+  `wc -w` counts them. The newest version of CHANGELOG.md may have at most 40 lines.
 - The map of docs/ARCHITECTURE.md must show each crate of crates.txt in one row, above all that it uses, and fit one screen.
 - The page of `help` must have the words of each command of docs/USAGE.md, and `version` must print the newest version of
   CHANGELOG.md.
+- Of the page out/claims.md, which isn't in the repository, the text that scripts/claims.py would write is checked: the names
+  in its sentences must be in the code.
 
 It ends with 1 if something is wrong. It can't see whether a sentence says more than its clause.
 """
 import glob, os, re, sys
+
+import claims
 
 ROOT = os.path.dirname(os.path.dirname(os.path.abspath(__file__)))
 LONGEST = 120
@@ -32,14 +37,14 @@ BOUNDS = (
     (4000, ("docs/SECURITY.md",)),
     (2500, ("docs/JOURNAL.md",)),
     (3500, ("docs/PROOF.md", "docs/HEADLINE.md")),
+    (2000, ("docs/CLAIMS.md",)),
     (5000, ("docs/ARCHITECTURE.md", "docs/DECISIONS.md")),
     (2000, ("docs/PERFORMANCE.md",)),
     (1050, ("examples/README.md",)),
     (2500, ("docs/C_LIBRARY.md", "docs/CAPTURES.md", "examples/captures/README.md")),
     (6000, ("CONTRIBUTING.md", "docs/TESTING.md", "docs/GLOSSARY.md", "CHANGELOG.md")),
 )
-IN_ALL = 40000
-UNBOUNDED = ("docs/CLAIMS.md",)
+IN_ALL = 41500
 LINES_OF_A_VERSION = 40
 # The most rows and columns of the map.
 SCREEN = (60, 150)
@@ -129,6 +134,26 @@ def missing_names(text):
                 yield "no clause %s is in %s" % (clause, ", ".join(files))
 
 
+def clauses_of_the_code():
+    """The names of the clauses of each function, and of the clauses and members of each type and trait."""
+    found = {}
+    for path in glob.glob(os.path.join(ROOT, "crates", "*", "src", "**", "*.rt"), recursive=True):
+        for item in claims.items_of(read(path)):
+            owner, name = ([""] + item.path.split("::"))[-2:]
+            names = {name} if item.is_member else {clause.name for clause in item.clauses}
+            for of in (owner, "" if item.is_member else name):
+                found.setdefault(of, set()).update(names)
+    return found
+
+
+def missing_clauses(text, clauses):
+    """Clauses that a page names behind their function or trait, which has no such clause."""
+    for owner, name in sorted(set(re.findall(r"`([\w:]+)` \*(\w+)\*(?!\*)", text))):
+        of = owner.split("::")[-1]
+        if of in clauses and name not in clauses[of]:
+            yield "%s has no clause %s" % (owner, name)
+
+
 def words_of_the_code():
     """All words of the crates' code, definitions and proofs, of crates.txt and of the scripts."""
     found = set(re.findall(r"\w+", read("crates.txt")))
@@ -172,7 +197,7 @@ def too_long(texts):
     """Groups of pages with too many words, pages in no group, and a newest version with too many lines."""
     bounded = [page for _, group in BOUNDS for page in group]
     for page in texts:
-        if page not in bounded and page not in UNBOUNDED:
+        if page not in bounded:
             yield "%s has no bound" % page
     for most, group in BOUNDS:
         words = sum(words_of(texts[page]) for page in group if page in texts)
@@ -209,19 +234,21 @@ def wrong_map(text):
 
 def main():
     wrong, words = ["about.rt: " + fault for fault in wrong_texts()], words_of_the_code()
-    texts, files = {page: read(page) for page in pages()}, files_of_crates()
+    texts, files, clauses = {page: read(page) for page in pages()}, files_of_crates(), clauses_of_the_code()
     wrong += too_long(texts)
     for page, text in texts.items():
         faults = list(missing_files(page, text)) if page not in OF_THE_PAST else []
         faults += list(misplaced_files(text, files)) if page not in OF_THE_PAST else []
         faults += unlinked_pages(page, text)
         faults += missing_names(text) if page == "docs/PROOF.md" else []
+        faults += missing_clauses(text, clauses) if page not in OF_THE_PAST else []
         faults += wrong_map(text) if page == "docs/ARCHITECTURE.md" else []
         faults += unknown_names(text, words) if page not in OF_THE_PAST else []
         faults += ["%d words: %s .." % (len(part.split()), part.strip()[:60]) for part in paragraphs(text) if len(part.split()) > LONGEST]
         if page.startswith("docs/") and not any(os.path.basename(page) in other for name, other in texts.items() if name != page):
             faults.append("no other page names it")
         wrong += ["%s: %s" % (page, fault) for fault in faults]
+    wrong += ["%s: %s" % (claims.PAGE, fault) for fault in unknown_names(claims.page()[0], words)]
     print("\n".join(wrong + ["%d pages, %d faults" % (len(texts), len(wrong))]))
     return 1 if wrong else 0
 
