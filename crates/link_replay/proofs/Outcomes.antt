@@ -10,6 +10,7 @@ use Rattle.link_replay.specs.Commands.{Does, MayDo, IsCalm, HasOwnCauses, HasRec
 use Rattle.link_replay.specs.Commands.{HasCauses, EndsWell, EndsLog, FlushesLog}
 use Rattle.link_replay.specs.LiveCommands.{HasLiveCauses}
 use Rattle.live_commands.proofs.Able.{lives_done}
+use Rattle.link_replay.specs.declared.commands.live.TheConstants.{LIVE_AHEAD}
 use Rattle.live_commands.specs.LineEnds.{ends_port, line_around}
 use Rattle.link_replay.specs.InitCommand.{MakesJournal, IsBlank}
 use Rattle.link_replay.specs.{ReadCommand.device_reads, SpaceCommand.spaced_by}
@@ -217,12 +218,13 @@ module _ {K S O L D : Type 0} (k : Source K) (s : Source S) (o : Sink O) (l : Si
       text_done _ _ _ _ _ _ _ _ _ _ calm _ _ _ status does.printed causes.streams.sinks
   asked_done (Some (LiveSeal proto profile dir)) before after status may calm does causes =
       lives_done k (ends_port s o l) d (seal_boxed proto profile) (link_of proto profile dir)
-      (link-right proto profile dir) dir (seal_rest profile) before.key after.key (line_around before)
-      (line_around after) may calm.key calm.input calm.disk status does causes.disk
+      (link-right proto profile dir) dir (seal_rest profile) LIVE_AHEAD before.key after.key
+      (line_around before) (line_around after) may calm.key calm.input calm.disk status does
+      causes.disk
       (λ is. no_write before after status calm causes.counts.sinks is)
   asked_done (Some (LiveCheck proto profile dir)) before after status may calm does causes =
       lives_done k (ends_port s o l) d (check_boxed proto profile) (link_of proto profile dir)
-      (link-right proto profile dir) dir check_rest before.key after.key (line_around before)
+      (link-right proto profile dir) dir check_rest 0 before.key after.key (line_around before)
       (line_around after) may calm.key calm.input calm.disk status does causes.disk
       (λ is. no_write before after status calm causes.counts.sinks is)
   asked_done (Some Help) before after status may calm does causes =

@@ -29,7 +29,7 @@ words6 : (c : goal.After-read_six) → map string_bytes c.args.words.now
     ∷ c.as_str-in-len6-5.result.now ∷ c.as_str-in-len6-6.result.now ∷ []
 words6 c = six string_bytes c.args.words.now c.in-len6.len_at_least c.in-len6.len_below
     c.first-item-then-words-lt7.is c.second-item-then-words-lt7.is c.third-item-then-words-lt7.is
-    c.key-item-then-words-lt7.is c.sent-item.is c.got-item.is c.as_str-in-len6.ensures.value
+    c.fourth-item-then-words-lt7.is c.fifth-item.is c.sixth-item.is c.as_str-in-len6.ensures.value
     c.as_str-in-len6-2.ensures.value c.as_str-in-len6-3.ensures.value
     c.as_str-in-len6-4.ensures.value c.as_str-in-len6-5.ensures.value
     c.as_str-in-len6-6.ensures.value
