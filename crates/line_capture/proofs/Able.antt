@@ -12,15 +12,15 @@ use Rattle.command_ends.proofs.Readable.{all_of_told, met_of_told, not_refused, 
 use Rattle.line_stamps.specs.declared.capture.Way.TheVariants as way
 use Rattle.line_capture.specs.Able.{IsTakeable, IsGivable, IsPlacedWhole, timing_of_items, CaptureEndsWell}
 use Rattle.line_capture.specs.Captures.{NoError, is_error, HoldsItems, Collects, way_bytes}
-use Rattle.line_capture.specs.Captures.{CaptureIsRefused, IsRefused.at_byte, IsRefused.at_error}
-use Rattle.line_capture.specs.{Captures.IsRefused.at_end, Formats.Format}
+use Rattle.line_capture.specs.Captures.{CaptureIsRefused, CaptureIsRefused.at_byte, CaptureIsRefused.at_error}
+use Rattle.line_capture.specs.{Captures.CaptureIsRefused.at_end, Formats.Format}
 use Rattle.line_capture.specs.Gives.{marks_for, GivesFile, GivesRead, GivesCapture, end_status}
-use Rattle.line_capture.specs.Gives.Gives.{no_memory as no_input_given, read as input_given}
+use Rattle.line_capture.specs.Gives.GivesCapture.{no_memory as no_input_given, read as input_given}
 use Rattle.line_capture.specs.Gives.GivesFile.{no_memory as no_memory_given, refused, given}
 use Rattle.line_capture.specs.{Inputs.Told, Inputs.IsRead, Outcomes.status_in}
 use Rattle.line_capture.specs.Takes.{CaptureHeld, TakesCapture, TakesRead, WritesTaken, timing_for, outcome_of}
 use Rattle.line_capture.specs.Takes.{read_outcome, or_else, stop_outcome, origin_of}
-use Rattle.line_capture.specs.Takes.Takes.{no_memory as no_room, read as was_read}
+use Rattle.line_capture.specs.Takes.TakesCapture.{no_memory as no_room, read as was_read}
 use Rattle.line_capture.specs.Takes.TakesRead.{no_memory, kept as was_kept}
 use Rattle.line_capture.specs.Takes.WritesTaken.{written, failed}
 use Rattle.line_capture.specs.declared.bad_capture.BadCapture.{BadCapture}

@@ -1,7 +1,7 @@
 -- A capture, collected byte by byte.
 use Rattle.line_capture.{proofs.Keeping.right_more, specs.Captures.TakesItem}
 use Rattle.line_capture.specs.Captures.{CaptureIsRefused, Collects, EndsSo, TakesItems, is_error}
-use Rattle.line_capture.specs.Captures.IsRefused.{at_byte, at_error, at_end}
+use Rattle.line_capture.specs.Captures.CaptureIsRefused.{at_byte, at_error, at_end}
 use Rattle.line_capture.specs.Collecting.{Collecting, StopsNext}
 use Rattle.line_capture.specs.Collecting.StopsNext.{refused, in_error}
 use Rattle.line_capture.specs.declared.bad_capture.BadCapture.{BadCapture}

@@ -15,7 +15,7 @@ use Rattle.session_lists.specs.{TickLists.ticks_second, declared.tick_lists.Tick
 use Rattle.command_ends.specs.declared.status.Status.TheVariants as statuses
 use Rattle.line_capture.specs.Gives.{has_mark_behind, marks_for, AreLinesOf, end_status, GivesFile}
 use Rattle.line_capture.specs.Gives.{GivesRead, GivesCapture}
-use Rattle.line_capture.specs.Gives.Gives.{no_memory as no_room, read as was_read}
+use Rattle.line_capture.specs.Gives.GivesCapture.{no_memory as no_room, read as was_read}
 use Rattle.line_capture.specs.Gives.GivesFile.{no_memory, refused, given}
 use Rattle.line_capture.specs.{Inputs.Told, Takes.CaptureHeld, declared.input.ReadEnd.ReadEnd}
 use Rattle.line_capture.specs.declared.input.ReadEnd.TheVariants.{Whole, Failed, TooLong}

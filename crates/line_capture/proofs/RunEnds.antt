@@ -12,7 +12,7 @@ use Rattle.line_capture.specs.Takes.{WritesTaken, TakesRead, TakesCapture}
 use Rattle.line_capture.specs.Takes.{HasOutcome}
 use Rattle.line_capture.specs.Takes.{timing_for, counts_line, WrittenLines, WrittenFront, is_whole_capture}
 use Rattle.line_capture.specs.Takes.HasOutcome.{same, flush_failed}
-use Rattle.line_capture.specs.Takes.Takes.{no_memory as no_room, read as was_read}
+use Rattle.line_capture.specs.Takes.TakesCapture.{no_memory as no_room, read as was_read}
 use Rattle.line_capture.specs.Takes.{TakesRead.no_memory, TakesRead.kept, WritesTaken.written}
 use Rattle.line_capture.specs.{Takes.WritesTaken.failed, declared.collect.CaptureEnd.CaptureEnd}
 use Rattle.line_stamps.specs.declared.{capture.CaptureByte.CaptureByte, timing.Timing.Timing}

@@ -20,7 +20,7 @@ use Rattle.line_capture.specs.Records.{LineRecord, AreRecords, records_of}
 use Rattle.line_capture.specs.TakenAgain.{both_ways, first_taken, first_tick_again, SameTicks, TakesAgain}
 use Rattle.line_capture.specs.Takes.{CaptureHeld, TakesCapture, TakesRead, WritesTaken, WritesAll, outcome_of}
 use Rattle.line_capture.specs.Takes.{stop_outcome, or_else, read_outcome, timing_for, origin_of}
-use Rattle.line_capture.specs.Takes.{is_whole_capture, Takes.no_memory as no_room, Takes.read as was_read}
+use Rattle.line_capture.specs.Takes.{is_whole_capture, TakesCapture.no_memory as no_room, TakesCapture.read as was_read}
 use Rattle.line_capture.specs.Takes.TakesRead.{no_memory, kept as was_kept}
 use Rattle.line_capture.specs.Takes.WritesTaken.{written, failed}
 use Rattle.line_capture.specs.declared.bad_capture.BadCapture.{BadCapture as BadCaptureOf}

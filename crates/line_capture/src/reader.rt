@@ -64,7 +64,7 @@ impl FormReader for TextReader {
 
     ghost stands = { HasSeen };
 
-    ghost taken = { pcap_bytes_taken };
+    ghost taken = { text_bytes_taken };
 
     fn begin() -> Self {
         <TextReader as CaptureReader>::start()
@@ -130,9 +130,9 @@ impl<F: RowForm> FormReader for RowReader<F> {
 
     ghost format = { rows_format F.row_at F.name_of F.error_follows };
 
-    ghost stands = { PcapReaderStandsFor F.row_at F.name_of };
+    ghost stands = { RowReaderStandsFor F.row_at F.name_of };
 
-    ghost taken = { pcap_bytes_taken };
+    ghost taken = { row_bytes_taken };
 
     fn begin() -> Self {
         <RowReader<F> as CaptureReader>::start()
