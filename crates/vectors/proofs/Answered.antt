@@ -7,7 +7,7 @@ use Rattle.std.proofs.lemmas.List.Elements.{All-nil, All-cons, All-append}
 use Rattle.std.{proofs.lemmas.Slice.Eq.bytes_eq-Decides, specs.List.position_from}
 use Rattle.std.specs.Prelude.{Result, Option, Some, None, All}
 use Rattle.vectors.specs.Cases.{case_value_of, has_bytes, IsRight, is_right, IsAnswer, case_answer_at, answer}
-use Rattle.vectors.specs.declared.{case.Case.Case, table.Miss.Miss}
+use Rattle.vectors.specs.declared.{table.Case.Case, table.Miss.Miss}
 
 -- the answer to the cases from number `n` on, counted from 0
 abbrev answer_from : ℕ → List Case → Result (Unit {0}) Miss

@@ -11,11 +11,11 @@ use Rattle.dnp_link_frame.specs.Beginnings.{user_in}
 use Rattle.dnp_link_frame.specs.Blocks as dnp
 use Rattle.dnp_link_frame.specs.Crc.{crc_dnp}
 use Rattle.link_format.specs.Tag.{hmac_sha1, hmac_sha1_96, hmac_sha256}
-use Rattle.vectors.specs.declared.case.Case.{Case}
-use Rattle.vectors.specs.declared.case.CaseKind.{CaseKind}
-use Rattle.vectors.specs.declared.case.CaseKind.TheVariants.{Crc16, CrcDnp, HmacSha1, HmacSha196}
-use Rattle.vectors.specs.declared.case.CaseKind.TheVariants.{HmacSha256}
-use Rattle.vectors.specs.declared.case.CaseKind.TheVariants.{RtuFrame, DnpFrame, DnpUser}
+use Rattle.vectors.specs.declared.table.Case.{Case}
+use Rattle.vectors.specs.declared.table.CaseKind.{CaseKind}
+use Rattle.vectors.specs.declared.table.CaseKind.TheVariants.{Crc16, CrcDnp, HmacSha1, HmacSha196}
+use Rattle.vectors.specs.declared.table.CaseKind.TheVariants.{HmacSha256}
+use Rattle.vectors.specs.declared.table.CaseKind.TheVariants.{RtuFrame, DnpFrame, DnpUser}
 use Rattle.vectors.specs.declared.table.Miss.{Miss}
 
 -- the case of this kind with this key, text and wanted bytes

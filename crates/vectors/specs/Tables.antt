@@ -1,9 +1,9 @@
 -- The tables of known answers.
 use Rattle.std.specs.Prelude.{List, [], ◌∷◌, codes, replicate}
-use Rattle.vectors.specs.declared.case.Case.{Case}
-use Rattle.vectors.specs.declared.case.CaseKind.TheVariants.{Crc16, CrcDnp, HmacSha1, HmacSha196}
-use Rattle.vectors.specs.declared.case.CaseKind.TheVariants.{HmacSha256}
-use Rattle.vectors.specs.declared.case.CaseKind.TheVariants.{RtuFrame, DnpFrame, DnpUser}
+use Rattle.vectors.specs.declared.table.Case.{Case}
+use Rattle.vectors.specs.declared.table.CaseKind.TheVariants.{Crc16, CrcDnp, HmacSha1, HmacSha196}
+use Rattle.vectors.specs.declared.table.CaseKind.TheVariants.{HmacSha256}
+use Rattle.vectors.specs.declared.table.CaseKind.TheVariants.{RtuFrame, DnpFrame, DnpUser}
 use Rattle.vectors.specs.Cases.{case_of}
 
 -- CRCs of Modbus RTU, for the usual check text and for the two bytes 01 03; and of DNP3, for the

@@ -5,10 +5,10 @@
 //!     assert_eq!(rt; (rows, answer), (4, Ok(())));
 #![tactic(auto)]
 
-mod case;
 mod frame;
-pub mod laws;
 mod table;
 
-pub use case::{Case, CaseBytes, CaseKind};
-pub use table::{Miss, crc_table, frames_table, hmac_table, run_table, user_table};
+pub use table::{
+    Case, CaseBytes, CaseKind, Miss, crc_table, frames_table, hmac_table, run_table,
+    user_data_of_frames, user_table,
+};

@@ -2,7 +2,7 @@ use Rattle.std.proofs.Common.{◌<◌, sym, ◌∙◌, ap, Some, arith}
 use Rattle.std.proofs.lemmas.List.Elements.{All-from_get_or}
 use Rattle.line_rules.specs.Bytes.{AreBytes}
 use Rattle.vectors.proofs.UserData.{user_of-frame, user_of-none, user_data-within}
-use Rattle.vectors.proofs.case.user_of.Goals as goal
+use Rattle.vectors.proofs.table.user_of.Goals as goal
 
 pub bytes_of-requires : goal.bytes_of-requires
 bytes_of-requires c =
