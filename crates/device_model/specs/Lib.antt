@@ -9,3 +9,4 @@ pub mod DnpHunted
 pub mod Parted
 pub mod RtuFamily
 pub mod HuntFamily
+pub mod Stated

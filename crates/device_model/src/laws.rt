@@ -3,17 +3,15 @@ ghost use Rattle.std.specs.Prelude.{◌≡◌, true, List};
 ghost use Rattle.std.specs.List.{Contains};
 ghost use Rattle.yasir_ticks.specs.Ticks.{bytes_in};
 ghost use Rattle.yasir_ticks.specs.Bursts.{Burst, bursts};
-ghost use Rattle.yasir_ticks.specs.declared.TheConstants.{T1_5_TICKS, T3_5_TICKS};
+ghost use Rattle.yasir_ticks.specs.declared.TheConstants.{T1_5_TICKS};
 ghost use Rattle.yasir_ticks.specs.declared.tick.Tick.{Tick};
 ghost use Rattle.frame_ending.specs.LiveBytes.{live_bytes};
 ghost use Rattle.rtu_frame.specs.Rules.{rtu_rules};
 ghost use Rattle.device_model.specs.Forwarded.{is_forwarded, rtu_forwarded};
-ghost use Rattle.device_model.specs.DnpReads.{dnp_reads};
 ghost use Rattle.device_model.specs.Hunt.{Timed};
-ghost use Rattle.device_model.specs.HuntFamily.{dnp_family_reads};
 ghost use Rattle.device_model.specs.HuntLaws.{HuntsByCases};
-ghost use Rattle.device_model.specs.RtuFamily.{rtu_family_reads};
 ghost use Rattle.device_model.specs.RtuReads.{is_frame_body, rtu_reads};
+ghost use Rattle.device_model.specs.Stated.{StatedDevice, stated_reads, member_of};
 
 use crate::hunted::Hunted;
 
@@ -36,10 +34,10 @@ pub fn hunts_by_cases<R: Hunted>()
     ensures { (x : List Timed) → HuntsByCases R.FIRST R.SECOND R.rules x }
 {}
 
-/// The stated devices are members of the families: the Modbus RTU device is the one for which four
-/// silent ticks end a burst and which allows one inside a frame, and the DNP3 device is the one
-/// that ignores silence. This is a law of the definitions, for each line.
+/// The Modbus RTU device and the DNP3 device are members of the families: the one for which four
+/// silent ticks end a burst and which allows one inside a frame, and the one that ignores silence.
+/// This is a law of the definitions, for each line.
 pub fn stated_devices_are_members()
-    ensures rtu { (line : List Tick) → rtu_reads line ≡ rtu_family_reads T3_5_TICKS 1 line }
-    ensures dnp { (line : List Tick) → dnp_reads line ≡ dnp_family_reads 0 line }
+    ensures { (device : StatedDevice) (line : List Tick)
+        → stated_reads device line ≡ stated_reads (member_of device) line }
 {}

@@ -11,8 +11,8 @@
 #![tactic(auto)]
 
 mod device;
-mod dnp;
 mod hunted;
+pub mod hunters;
 mod hunting;
 mod hunting_family;
 mod laws;
@@ -22,7 +22,6 @@ mod run;
 mod silence;
 
 pub use device::{Device, Met};
-pub use dnp::{DnpDevice, DnpFamily};
 pub use hunted::Hunted;
 pub use hunting::HuntingDevice;
 pub use hunting_family::HuntingFamily;

@@ -2,6 +2,7 @@
 ghost use Rattle.std.specs.Prelude.{◌≡◌, ◌+◌, ◌<◌, ◌≤◌, length};
 
 use arrayvec::ArrayVec;
+use device_model::hunters::*;
 use device_model::*;
 use dnp_link_frame::{DnpBytes, Header, UserBytes, build};
 use rtu_frame::{RtuBytes, close};

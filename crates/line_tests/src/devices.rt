@@ -1,6 +1,7 @@
 //! Tests of the stated devices: which frames each of them reads of a line, and when.
 ghost use Rattle.std.specs.Prelude.{◌<◌, length, IfOk};
 
+use device_model::hunters::*;
 use device_model::*;
 use dnp_link_frame::Dnp;
 use std::alloc::{AllocError, Global};

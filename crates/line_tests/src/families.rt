@@ -7,6 +7,7 @@ use crate::devices::Part::{Bytes, Silence};
 use crate::devices::{
     DAMAGED, LEAST, LONGEST, LONGEST_HEADER, Part, QUERY, RESET_LINK, Want, is_wanted, short_line,
 };
+use device_model::hunters::*;
 use device_model::*;
 use std::alloc::Global;
 use std::process::Abort;

@@ -1,6 +1,7 @@
 //! Frames that are lent: a query of Modbus RTU and the reset of a DNP3 link, by runs and by ticks.
 ghost use Rattle.std.specs.Prelude.{◌+◌, ◌≤◌, length};
 
+use device_model::hunters::*;
 use device_model::*;
 use yasir_ticks::Tick;
 

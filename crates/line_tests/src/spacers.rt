@@ -5,7 +5,8 @@ ghost use Rattle.yasir_ticks.specs.declared.TheConstants.{MAX_TICKS};
 
 use crate::devices::Part::{Bytes, Silence};
 use crate::devices::{Part, RESET_LINK, add_bytes, add_silence, line_of, short_line};
-use device_model::{Device, DnpDevice, Hunted, HuntingFamily, Met, RtuDevice};
+use device_model::hunters::DnpDevice;
+use device_model::{Device, Hunted, HuntingFamily, Met, RtuDevice};
 use dnp_link_frame::Dnp;
 use line_spacer::*;
 use std::alloc::{AllocError, Global};

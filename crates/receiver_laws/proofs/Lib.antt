@@ -7,6 +7,7 @@ pub mod Hunters
 pub mod HunterReadings
 pub mod Anew
 pub mod DnpReadings
+pub mod Stated
 pub mod Words
 pub mod Standing
 pub mod Rising

@@ -1,15 +1,10 @@
 //! The main laws of the receiver: what a device behind it reads has passed and was sealed.
-ghost use Rattle.std.specs.Prelude.{◌≡◌, ◌≤◌, ◌⊎◌, ◌∷◌, ◌++◌, ℕ, List, Contains};
-ghost use Rattle.yasir_ticks.specs.declared.TheConstants.{T3_5_TICKS};
+ghost use Rattle.std.specs.Prelude.{◌≡◌, ◌∷◌, ◌++◌, ℕ, List, Contains};
 ghost use Rattle.yasir_ticks.specs.declared.tick.Tick.{Tick};
 ghost use Rattle.link_box.specs.Sealing.{sealed};
 ghost use Rattle.yasir_ticks.specs.Bursts.{Burst, bursts};
-ghost use Rattle.rtu_frame.specs.Rules.{rtu_rules};
-ghost use Rattle.dnp_link_frame.specs.Rules.{dnp_rules};
-ghost use Rattle.device_model.specs.DnpReads.{dnp_reads};
-ghost use Rattle.device_model.specs.HuntFamily.{dnp_family_reads};
-ghost use Rattle.device_model.specs.RtuFamily.{rtu_family_reads};
-ghost use Rattle.device_model.specs.RtuReads.{rtu_reads};
+ghost use Rattle.device_model.specs.Stated.{StatedDevice, stated_rules, stated_reads};
+ghost use Rattle.device_model.specs.Stated.{stated_silence, IsStatedWithin};
 ghost use Rattle.frame_ending.specs.Walk.{state_after};
 ghost use Rattle.frame_ending.specs.Longer.{Begins, Extends};
 ghost use Rattle.link_format.specs.Profile.{Profile, HasTags, delay};
@@ -25,25 +20,19 @@ ghost use Rattle.receiver_laws.specs.Standing.{HavePassed, numbered_frame};
 
 use line_rules::LineRules;
 
-/// A law of the receiver's definitions, for each profile, floor and link: at every moment, a Modbus
-/// RTU device on the receiver's line has read only frames that have passed, and it has read all of
-/// them once silence follows for the delay and for as long as a frame takes to end. The same holds
-/// for a DNP3 device, and for the members of both families. A Modbus RTU member ends a burst at
-/// `cut` silent ticks in a row, with a cut from 2 up to the receiver's delay, and allows up to
-/// `gap` of them in a row inside a frame, with a gap of 1 or more. A DNP3 member forgets what it
-/// has taken at `cut` silent ticks in a row, with a cut of 2 or more. If its cut is 0, it ignores
-/// silence.
+/// A law of the receiver's definitions, for each profile, floor and link: at every moment, a stated
+/// device on the receiver's line has read only frames that have passed, and it has read all of them
+/// once silence follows for the delay and for as long as a frame takes to end. The stated devices
+/// are the Modbus RTU device and the DNP3 device, and the members of both families. A Modbus RTU
+/// member ends a burst at `cut` silent ticks in a row, with a cut from 2 up to the receiver's
+/// delay, and allows up to `gap` of them in a row inside a frame, with a gap of 1 or more. A DNP3
+/// member forgets what it has taken at `cut` silent ticks in a row, with a cut of 2 or more. If its
+/// cut is 0, it ignores silence.
 pub fn device_reads_what_passed()
-    ensures rtu { (profile : Profile) (floor : ℕ) (link : List Tick)
-        → ReadsWhatPassed rtu_rules rtu_reads T3_5_TICKS profile floor link }
-    ensures dnp { (profile : Profile) (floor : ℕ) (link : List Tick)
-        → ReadsWhatPassed dnp_rules dnp_reads 0 profile floor link }
-    ensures rtu_family { (cut gap : ℕ) (profile : Profile) (floor : ℕ) (link : List Tick)
-        → 2 ≤ cut → cut ≤ delay profile → 1 ≤ gap
-        → ReadsWhatPassed rtu_rules (rtu_family_reads cut gap) cut profile floor link }
-    ensures dnp_family { (cut : ℕ) (profile : Profile) (floor : ℕ) (link : List Tick)
-        → (cut ≡ 0) ⊎ (2 ≤ cut)
-        → ReadsWhatPassed dnp_rules (dnp_family_reads cut) 0 profile floor link }
+    ensures { (device : StatedDevice) (profile : Profile) → IsStatedWithin (delay profile) device
+        → (floor : ℕ) (link : List Tick)
+        → ReadsWhatPassed (stated_rules device) (stated_reads device) (stated_silence device)
+        profile floor link }
 {}
 
 /// A law of the receiver's definitions, for the rules of each protocol, each profile whose delay is
@@ -96,21 +85,12 @@ pub fn passed_frames_are_accounted_for<R: LineRules>()
 
 /// A law of the transmitter's and the receiver's definitions, for each profile, any floors, any
 /// line of a device and any link: however the link was altered, cut, repeated or reordered, the
-/// frames that a Modbus RTU device or a DNP3 device behind the receiver reads are a subsequence of
-/// those that the transmitter sealed, unless one that passed is forged. The same holds for the
-/// members of both families in `device_reads_what_passed`.
+/// frames that a stated device behind the receiver reads are a subsequence of those that the
+/// transmitter sealed, unless one that passed is forged. The stated devices are those of
+/// `device_reads_what_passed`.
 pub fn device_reads_what_was_sealed()
-    ensures rtu { (profile : Profile) (seal_floor check_floor : ℕ) (line link : List Tick)
-        → ReadsWhatWasSealed rtu_rules rtu_reads T3_5_TICKS profile seal_floor check_floor line
-        link }
-    ensures dnp { (profile : Profile) (seal_floor check_floor : ℕ) (line link : List Tick)
-        → ReadsWhatWasSealed dnp_rules dnp_reads 0 profile seal_floor check_floor line link }
-    ensures rtu_family { (cut gap : ℕ) (profile : Profile) (seal_floor check_floor : ℕ)
-        (line link : List Tick) → 2 ≤ cut → cut ≤ delay profile → 1 ≤ gap
-        → ReadsWhatWasSealed rtu_rules (rtu_family_reads cut gap) cut profile seal_floor check_floor
-        line link }
-    ensures dnp_family { (cut : ℕ) (profile : Profile) (seal_floor check_floor : ℕ)
-        (line link : List Tick) → (cut ≡ 0) ⊎ (2 ≤ cut)
-        → ReadsWhatWasSealed dnp_rules (dnp_family_reads cut) 0 profile seal_floor check_floor line
-        link }
+    ensures { (device : StatedDevice) (profile : Profile) → IsStatedWithin (delay profile) device
+        → (seal_floor check_floor : ℕ) (line link : List Tick)
+        → ReadsWhatWasSealed (stated_rules device) (stated_reads device) (stated_silence device)
+        profile seal_floor check_floor line link }
 {}

@@ -1,9 +1,7 @@
 //! The law that both profiles meet what the other laws ask of a profile.
 ghost use Rattle.std.specs.Prelude.{ℕ};
 ghost use Rattle.link_format.specs.Setup.{Setup};
-ghost use Rattle.link_format.specs.Y18.{y18};
-ghost use Rattle.link_format.specs.Y24.{y24};
-ghost use Rattle.receiver_laws.specs.Fitting.{IsFit};
+ghost use Rattle.receiver_laws.specs.Fitting.{IsFit, StatedProfile, stated_profile};
 
 use line_rules::LineRules;
 
@@ -11,6 +9,6 @@ use line_rules::LineRules;
 /// of a profile, whatever the protocol's number, the limit, the key, the direction and the floor.
 /// So each of those laws holds of both.
 pub fn stated_profiles_are_fit<R: LineRules>()
-    ensures y18 { (label limit : ℕ) (setup : Setup) → IsFit (y18 label limit setup) R.rules }
-    ensures y24 { (label limit : ℕ) (setup : Setup) → IsFit (y24 label limit setup) R.rules }
+    ensures { (which : StatedProfile) (label limit : ℕ) (setup : Setup)
+        → IsFit (stated_profile which label limit setup) R.rules }
 {}

@@ -3,8 +3,7 @@ ghost use Rattle.std.specs.Prelude.{◌≤◌, ◌-◌, ℕ, List};
 ghost use Rattle.yasir_ticks.specs.Ticks.{AreTicks};
 ghost use Rattle.yasir_ticks.specs.declared.tick.Tick.{Tick};
 ghost use Rattle.link_format.specs.Profile.{Profile, HasTags};
-ghost use Rattle.dnp_link_frame.specs.Rules.{dnp_rules};
-ghost use Rattle.rtu_frame.specs.Rules.{rtu_rules};
+ghost use Rattle.device_model.specs.Stated.{StatedDevice, stated_rules, stated_lack};
 ghost use Rattle.receiver_laws.specs.Recovery.{IsLeftAlone, LackAtMost, Recovers};
 
 use line_rules::LineRules;
@@ -25,9 +24,8 @@ pub fn untouched_link_recovers<R: LineRules>()
     ensures lacks { LackAtMost R.rules (R.rules.longest - R.rules.header_len) }
 {}
 
-/// A law of the rules of both protocols: in Modbus RTU, in which no header says a size, a burst
+/// A law of the rules of the stated devices: in Modbus RTU, in which no header says a size, a burst
 /// lacks no byte, and in DNP3 at most 282, those after the header of the longest frame.
 pub fn lacking_bytes_are_bounded()
-    ensures rtu { LackAtMost rtu_rules 0 }
-    ensures dnp { LackAtMost dnp_rules 282 }
+    ensures { (device : StatedDevice) → LackAtMost (stated_rules device) (stated_lack device) }
 {}

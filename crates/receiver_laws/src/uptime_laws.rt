@@ -1,20 +1,17 @@
 //! Laws over any number of uptimes of both boxes, each box over its own journal.
-ghost use Rattle.std.specs.Prelude.{◌≡◌, ◌≤◌, ◌⊎◌, ℕ, List};
+ghost use Rattle.std.specs.Prelude.{ℕ, List};
 ghost use Rattle.yasir_ticks.specs.declared.tick.Tick.{Tick};
 ghost use Rattle.yasir_io.specs.Disks.{Slots};
-ghost use Rattle.rtu_frame.specs.Rules.{rtu_rules};
-ghost use Rattle.dnp_link_frame.specs.Rules.{dnp_rules};
-ghost use Rattle.device_model.specs.DnpReads.{dnp_reads};
-ghost use Rattle.device_model.specs.HuntFamily.{dnp_family_reads};
-ghost use Rattle.device_model.specs.RtuFamily.{rtu_family_reads};
-ghost use Rattle.device_model.specs.RtuReads.{rtu_reads};
+ghost use Rattle.device_model.specs.Stated.{StatedDevice, stated_rules, stated_reads};
+ghost use Rattle.device_model.specs.Stated.{IsStatedWithin};
 ghost use Rattle.sequence_journal.specs.declared.link.LinkId.{LinkId};
 ghost use Rattle.sequence_journal.specs.Uptimes.{RiseFrom, HasNoFloorBelow};
 ghost use Rattle.link_format.specs.NumberedFrame.{NumberedFrame, numbers_of};
 ghost use Rattle.link_format.specs.Profile.{Profile, delay};
 ghost use Rattle.receiver_laws.specs.Accounted.{IsAccountedFor};
 ghost use Rattle.receiver_laws.specs.OverUptimes.{BoxUptime, GoOnFrom, ShareDisk, BothGoOn};
-ghost use Rattle.receiver_laws.specs.OverUptimes.{sealed_over, passed_over_uptimes, ReadsOverUptimes};
+ghost use Rattle.receiver_laws.specs.OverUptimes.{sealed_over, passed_over_uptimes};
+ghost use Rattle.receiver_laws.specs.OverUptimes.{ReadsOverUptimes};
 
 use line_rules::LineRules;
 
@@ -46,28 +43,17 @@ pub fn uptimes_are_accounted_for<R: LineRules>()
 /// A law of the transmitter's and the receiver's definitions, for each profile and any uptimes of
 /// both boxes of which none loads a floor below the last number of the one before: however the link
 /// was altered, cut, repeated or reordered, also from one uptime to another, the frames that a
-/// Modbus RTU device or a DNP3 device behind the receiver reads in all uptimes are a subsequence of
-/// those that the transmitter sealed in all uptimes, unless one that passed is forged. The same
-/// holds for the members of both families in `device_reads_what_passed`.
+/// stated device behind the receiver reads in all uptimes are a subsequence of those that the
+/// transmitter sealed in all uptimes, unless one that passed is forged. The stated devices are
+/// those of `device_reads_what_passed`.
 ///
 /// It is a premise that the device is at rest when each uptime of the receiver begins: it begins to
 /// read the receiver's line anew there. Nothing is said about what it makes of a burst that a stop
 /// of the receiver cut short.
 pub fn device_reads_what_was_sealed_over_uptimes()
-    ensures rtu { (profile : Profile) (seal_floor check_floor : ℕ) (seals checks : List BoxUptime)
-        → BothGoOn profile rtu_rules seal_floor check_floor seals checks
-        → ReadsOverUptimes rtu_rules rtu_reads profile seal_floor check_floor seals checks }
-    ensures dnp { (profile : Profile) (seal_floor check_floor : ℕ) (seals checks : List BoxUptime)
-        → BothGoOn profile dnp_rules seal_floor check_floor seals checks
-        → ReadsOverUptimes dnp_rules dnp_reads profile seal_floor check_floor seals checks }
-    ensures rtu_family { (cut gap : ℕ) (profile : Profile) (seal_floor check_floor : ℕ)
-        (seals checks : List BoxUptime) → 2 ≤ cut → cut ≤ delay profile → 1 ≤ gap
-        → BothGoOn profile rtu_rules seal_floor check_floor seals checks
-        → ReadsOverUptimes rtu_rules (rtu_family_reads cut gap) profile seal_floor check_floor seals
-        checks }
-    ensures dnp_family { (cut : ℕ) (profile : Profile) (seal_floor check_floor : ℕ)
-        (seals checks : List BoxUptime) → (cut ≡ 0) ⊎ (2 ≤ cut)
-        → BothGoOn profile dnp_rules seal_floor check_floor seals checks
-        → ReadsOverUptimes dnp_rules (dnp_family_reads cut) profile seal_floor check_floor seals
-        checks }
+    ensures { (device : StatedDevice) (profile : Profile) → IsStatedWithin (delay profile) device
+        → (seal_floor check_floor : ℕ) (seals checks : List BoxUptime)
+        → BothGoOn profile (stated_rules device) seal_floor check_floor seals checks
+        → ReadsOverUptimes (stated_rules device) (stated_reads device) profile seal_floor
+        check_floor seals checks }
 {}

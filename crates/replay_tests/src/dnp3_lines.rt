@@ -5,7 +5,7 @@ use crate::over_boxes::{
 };
 use crate::texts::add_times;
 use command_ends::Status;
-use device_model::DnpDevice;
+use device_model::hunters::DnpDevice;
 use link_format::Dir;
 use std::alloc::{AllocError, Global};
 use std::process::Abort;

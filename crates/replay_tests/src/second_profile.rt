@@ -8,7 +8,8 @@ use crate::over_boxes::{
 };
 use crate::reading::has_read;
 use command_ends::Status;
-use device_model::{DnpDevice, RtuDevice};
+use device_model::RtuDevice;
+use device_model::hunters::DnpDevice;
 use link_format::Dir;
 use std::test::Fail;
 

@@ -2,6 +2,11 @@
 use Rattle.frame_ending.{proofs.Spread.bursts-spread, specs.Walk.emitted_by}
 use Rattle.device_model.specs.{Frames.FrameRead, Hunt.timed, Hunt.hunt, Hunt.hunt_anew}
 use Rattle.device_model.specs.{HuntFamily.hunt_family, HuntLaws.IsHunted, RtuReads.is_frame_body}
+use Rattle.device_model.specs.{DnpHunted.dnp_hunted, Stated.stated_silence}
+use Rattle.device_model.specs.Stated.{StatedDevice, stated_rules, stated_reads, IsStatedWithin}
+use Rattle.device_model.specs.Stated.StatedDevice.{rtu, dnp, rtu_member, dnp_member}
+use Rattle.dnp_link_frame.specs.{Rules.dnp_rules, RulesLaws.dnp_lawful, RulesLaws.dnp_headed}
+use Rattle.dnp_link_frame.specs.RulesLaws.{dnp_framed, dnp_spoiling}
 use Rattle.line_rules.specs.{Rules.Rules, RulesLaws.IsLawful, RulesLaws.IsHeaded}
 use Rattle.line_rules.specs.{RulesLaws.IsFramed, Spoiling.IsSpoiling}
 use Rattle.link_format.specs.Profile.{Profile, delay}
@@ -15,7 +20,7 @@ use Rattle.{receiver_laws.specs.Reading.ReadsWhatPassed, rtu_frame.specs.Rules.r
 use Rattle.{rtu_frame.specs.Rules.rtu_lawful, spacer_laws.proofs.Guarding.HearsEmissions}
 use Rattle.spacer_laws.proofs.{Guarding.emissions-apart, ReadFrames.rtu-frames}
 use Rattle.spacer_laws.{proofs.ReadFrames.family-frames, specs.SpacesOut.ReadsFrames}
-use Rattle.std.proofs.Common.{◌≡◌, ℕ, zero, suc, ◌≤◌, ◌⊎◌, inl, inr, List, arith}
+use Rattle.std.proofs.Common.{◌≡◌, ℕ, zero, suc, ◌≤◌, ◌⊎◌, inl, inr, List, arith, refl}
 use Rattle.yasir_ticks.specs.{Bursts.bursts, Ticks.bytes_in, declared.tick.Tick.Tick}
 
 pub rtu-hears : (cut pause : ℕ) (profile : Profile) → 2 ≤ cut → cut ≤ delay profile → 2 ≤ pause
@@ -63,3 +68,19 @@ module _ (first second : ℕ) (rules : Rules) (lawful : IsLawful rules) (headed 
       (anew-hunter (suc cut) some first second rules) (family-frames first second rules (suc cut))
       (λ floor link. anew_reads_what_passed (suc cut) some first second rules headed framed hunted
       lawful spoiling profile floor link)
+
+-- ---- the stated devices
+
+pub stated-hears : (device : StatedDevice) (profile : Profile)
+    → IsStatedWithin (delay profile) device
+    → HearsEmissions (stated_rules device) (stated_reads device) (stated_silence device) profile
+stated-hears rtu profile any =
+    rtu-hears 4 2 profile (omega arith) (omega arith) (omega arith)
+stated-hears dnp profile any =
+    family-hears 0x05 0x64 dnp_rules dnp_lawful dnp_headed dnp_framed dnp_spoiling dnp_hunted
+    profile 0 (inl refl)
+stated-hears (rtu_member cut pause) profile member =
+    rtu-hears cut (suc pause) profile member.0 member.1 (omega arith)
+stated-hears (dnp_member cut) profile member =
+    family-hears 0x05 0x64 dnp_rules dnp_lawful dnp_headed dnp_framed dnp_spoiling dnp_hunted
+    profile cut member

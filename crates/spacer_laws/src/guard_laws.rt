@@ -2,12 +2,9 @@
 ghost use Rattle.std.specs.Prelude.{◌≡◌, ◌≤◌, ◌⊎◌, ℕ, List};
 ghost use Rattle.yasir_ticks.specs.declared.TheConstants.{T3_5_TICKS};
 ghost use Rattle.yasir_ticks.specs.declared.tick.Tick.{Tick};
-ghost use Rattle.rtu_frame.specs.Rules.{rtu_rules};
-ghost use Rattle.dnp_link_frame.specs.Rules.{dnp_rules};
-ghost use Rattle.device_model.specs.DnpReads.{dnp_reads};
-ghost use Rattle.device_model.specs.HuntFamily.{dnp_family_reads, hunt_family};
-ghost use Rattle.device_model.specs.RtuFamily.{rtu_family_reads};
-ghost use Rattle.device_model.specs.RtuReads.{rtu_reads};
+ghost use Rattle.device_model.specs.HuntFamily.{hunt_family};
+ghost use Rattle.device_model.specs.Stated.{StatedDevice, stated_rules, stated_reads};
+ghost use Rattle.device_model.specs.Stated.{stated_silence, IsStatedWithin};
 ghost use Rattle.link_format.specs.Profile.{Profile, HasTags, delay};
 ghost use Rattle.receiver_laws.specs.Untouched.{IsUntouchedLink};
 ghost use Rattle.spacer_laws.specs.GivingAll.{HasRoomFor, GivesAll};
@@ -24,23 +21,14 @@ use device_model::Hunted;
 /// sealed, in their order.
 ///
 /// So this holds for any device behind the spacer, whatever it makes of bytes and silence. The
-/// spacer may hear as a Modbus RTU device or a DNP3 device does, or as a member of either family. A
-/// Modbus RTU member must have a cut from 2 silent ticks up to the receiver's delay.
+/// spacer may hear as each stated device does: as a Modbus RTU device or a DNP3 device, or as a
+/// member of either family. A Modbus RTU member must have a cut from 2 silent ticks up to the
+/// receiver's delay.
 pub fn only_sealed_frames_are_given()
-    ensures rtu { (profile : Profile) (gap cap seal_floor check_floor : ℕ) (line link : List Tick)
-        → T3_5_TICKS ≤ gap
-        → GivesOnlySealed profile rtu_rules rtu_reads gap cap seal_floor check_floor line link }
-    ensures dnp { (profile : Profile) (gap cap seal_floor check_floor : ℕ) (line link : List Tick)
-        → T3_5_TICKS ≤ gap
-        → GivesOnlySealed profile dnp_rules dnp_reads gap cap seal_floor check_floor line link }
-    ensures rtu_family { (cut pause : ℕ) (profile : Profile) (gap cap seal_floor check_floor : ℕ)
-        (line link : List Tick) → T3_5_TICKS ≤ gap → 2 ≤ cut → cut ≤ delay profile → 1 ≤ pause
-        → GivesOnlySealed profile rtu_rules (rtu_family_reads cut pause) gap cap seal_floor
+    ensures { (device : StatedDevice) (profile : Profile) → IsStatedWithin (delay profile) device
+        → (gap cap seal_floor check_floor : ℕ) (line link : List Tick) → T3_5_TICKS ≤ gap
+        → GivesOnlySealed profile (stated_rules device) (stated_reads device) gap cap seal_floor
         check_floor line link }
-    ensures dnp_family { (cut : ℕ) (profile : Profile) (gap cap seal_floor check_floor : ℕ)
-        (line link : List Tick) → T3_5_TICKS ≤ gap → (cut ≡ 0) ⊎ (2 ≤ cut)
-        → GivesOnlySealed profile dnp_rules (dnp_family_reads cut) gap cap seal_floor check_floor
-        line link }
 {}
 
 /// The law `only_sealed_frames_are_given` for the rules of each protocol whose devices hunt for
@@ -61,31 +49,13 @@ pub fn only_sealed_hunted_frames_are_given<R: Hunted>()
 /// of the longest frame, and the ticks after a frame's end that it takes to read it. This holds for
 /// each spacer of `only_sealed_frames_are_given`.
 pub fn untouched_link_gives_all()
-    ensures rtu { (profile : Profile) → HasTags profile → 1 ≤ profile.word_len
+    ensures { (device : StatedDevice) (profile : Profile) → IsStatedWithin (delay profile) device
+        → HasTags profile → 1 ≤ profile.word_len
         → (floor behind : ℕ) (line : List Tick) (more rest most gap cap : ℕ)
-        → IsUntouchedLink profile rtu_rules floor behind line more
+        → IsUntouchedLink profile (stated_rules device) floor behind line more
         → HasRoomFor profile most gap cap line
-        → GivesAll profile rtu_rules rtu_reads T3_5_TICKS most gap cap floor behind line more rest }
-    ensures dnp { (profile : Profile) → HasTags profile → 1 ≤ profile.word_len
-        → (floor behind : ℕ) (line : List Tick) (more rest most gap cap : ℕ)
-        → IsUntouchedLink profile dnp_rules floor behind line more
-        → HasRoomFor profile most gap cap line
-        → GivesAll profile dnp_rules dnp_reads 0 most gap cap floor behind line more rest }
-    ensures rtu_family { (cut pause : ℕ) (profile : Profile) → HasTags profile
-        → 1 ≤ profile.word_len
-        → (floor behind : ℕ) (line : List Tick) (more rest most gap cap : ℕ)
-        → IsUntouchedLink profile rtu_rules floor behind line more
-        → HasRoomFor profile most gap cap line
-        → 2 ≤ cut → cut ≤ delay profile → 1 ≤ pause
-        → GivesAll profile rtu_rules (rtu_family_reads cut pause) cut
-        most gap cap floor behind line more rest }
-    ensures dnp_family { (cut : ℕ) (profile : Profile) → HasTags profile → 1 ≤ profile.word_len
-        → (floor behind : ℕ) (line : List Tick) (more rest most gap cap : ℕ)
-        → IsUntouchedLink profile dnp_rules floor behind line more
-        → HasRoomFor profile most gap cap line
-        → (cut ≡ 0) ⊎ (2 ≤ cut)
-        → GivesAll profile dnp_rules (dnp_family_reads cut) 0
-        most gap cap floor behind line more rest }
+        → GivesAll profile (stated_rules device) (stated_reads device) (stated_silence device) most
+        gap cap floor behind line more rest }
 {}
 
 /// The law `untouched_link_gives_all` for the rules of each protocol whose devices hunt for frames,

@@ -3,13 +3,12 @@ ghost use Rattle.std.specs.Prelude.{◌≡◌, ◌+◌, ◌*◌, ◌≤◌, ◌�
 ghost use Rattle.yasir_ticks.specs.Ticks.{AreTicks};
 ghost use Rattle.yasir_ticks.specs.declared.TheConstants.{T3_5_TICKS};
 ghost use Rattle.yasir_ticks.specs.declared.tick.Tick.{Tick};
-ghost use Rattle.rtu_frame.specs.Rules.{rtu_rules};
-ghost use Rattle.dnp_link_frame.specs.Rules.{dnp_rules};
-ghost use Rattle.device_model.specs.DnpReads.{dnp_reads};
 ghost use Rattle.device_model.specs.Frames.{FrameRead};
-ghost use Rattle.device_model.specs.HuntFamily.{dnp_family_reads, hunt_family};
+ghost use Rattle.device_model.specs.HuntFamily.{hunt_family};
 ghost use Rattle.device_model.specs.RtuFamily.{rtu_family_reads};
 ghost use Rattle.device_model.specs.RtuReads.{rtu_reads};
+ghost use Rattle.device_model.specs.Stated.{StatedDevice, stated_rules, stated_reads};
+ghost use Rattle.device_model.specs.Stated.{stated_silence, IsStatedWithin};
 ghost use Rattle.link_format.specs.Profile.{Profile, HasTags};
 ghost use Rattle.line_spacer.specs.Spacing.{accepted_of};
 ghost use Rattle.spacer_laws.specs.Delivering.{IsSpacedForSealing, DeliversSpaced};
@@ -23,19 +22,13 @@ use line_rules::LineRules;
 /// silence that divides bursts: the spaced line carries whole frames of the protocol, at least the
 /// gap apart, and nothing else. The last of them may still be unfinished. These frames are the
 /// bursts of the spaced line, and a device that hears as the spacer does reads each of them once it
-/// has ended. The same holds for the members of both families.
+/// has ended. This holds for each stated device: the Modbus RTU device and the DNP3 device, and the
+/// members of both families. A Modbus RTU member must have a cut from 2 silent ticks up to the gap.
 pub fn frames_are_spaced()
-    ensures rtu { (gap cap : ℕ) (line : List Tick) → T3_5_TICKS ≤ gap
-        → SpacesOut rtu_rules rtu_reads rtu_reads T3_5_TICKS gap cap line }
-    ensures dnp { (gap cap : ℕ) (line : List Tick) → T3_5_TICKS ≤ gap
-        → SpacesOut dnp_rules dnp_reads dnp_reads 0 gap cap line }
-    ensures rtu_family { (cut pause gap cap : ℕ) (line : List Tick) → T3_5_TICKS ≤ gap
-        → 2 ≤ cut → cut ≤ gap → 1 ≤ pause
-        → SpacesOut rtu_rules (rtu_family_reads cut pause) (rtu_family_reads cut pause) cut gap cap
-        line }
-    ensures dnp_family { (cut gap cap : ℕ) (line : List Tick) → T3_5_TICKS ≤ gap
-        → (cut ≡ 0) ⊎ (2 ≤ cut)
-        → SpacesOut dnp_rules (dnp_family_reads cut) (dnp_family_reads cut) 0 gap cap line }
+    ensures { (device : StatedDevice) (gap cap : ℕ) (line : List Tick) → T3_5_TICKS ≤ gap
+        → IsStatedWithin gap device
+        → SpacesOut (stated_rules device) (stated_reads device) (stated_reads device)
+        (stated_silence device) gap cap line }
 {}
 
 /// The law `frames_are_spaced` for the rules of each protocol whose devices hunt for frames, and
@@ -49,22 +42,21 @@ pub fn hunted_frames_are_spaced<R: Hunted>()
 
 /// A law of the spacer's definitions, for each line and each gap: all frames that are accepted of
 /// the line have left once enough silent ticks follow it. There must be enough for as many of the
-/// longest frames as may wait and one more, each with its gap, and for Modbus RTU also for the
-/// silence that ends the last frame. The same holds for the members of both families.
+/// longest frames as may wait and one more, each with its gap, and for the silence that ends the
+/// last frame. The same holds for the members of the family. For devices that hunt for frames see
+/// `hunted_accepted_frames_leave`.
 pub fn accepted_frames_leave()
     ensures rtu { (gap cap : ℕ) (line : List Tick) (rest : ℕ)
         → (cap + 1) * (256 + gap) + T3_5_TICKS ≤ rest → AllLeave rtu_reads gap cap line rest }
-    ensures dnp { (gap cap : ℕ) (line : List Tick) (rest : ℕ) → AreTicks line
-        → (cap + 1) * (292 + gap) ≤ rest → AllLeave dnp_reads gap cap line rest }
     ensures rtu_family { (cut pause gap cap : ℕ) (line : List Tick) (rest : ℕ)
         → (cap + 1) * (256 + gap) + cut ≤ rest
         → AllLeave (rtu_family_reads cut pause) gap cap line rest }
-    ensures dnp_family { (cut gap cap : ℕ) (line : List Tick) (rest : ℕ) → AreTicks line
-        → (cap + 1) * (292 + gap) ≤ rest → AllLeave (dnp_family_reads cut) gap cap line rest }
 {}
 
-/// The law `accepted_frames_leave` for the rules of each protocol whose devices hunt for frames,
-/// and each hunting device.
+/// The law `accepted_frames_leave` for the rules of each protocol whose devices hunt for frames, as
+/// those of DNP3, and each hunting device: one that ignores silence, with a cut of 0, and one that
+/// forgets what it has taken at `cut` silent ticks in a row. No silence is needed to end the last
+/// frame.
 pub fn hunted_accepted_frames_leave<R: Hunted>()
     ensures { (cut gap cap : ℕ) (line : List Tick) (rest : ℕ) → AreTicks line
         → (cap + 1) * (R.rules.longest + gap) ≤ rest

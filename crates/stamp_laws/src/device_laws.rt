@@ -3,9 +3,8 @@
 ghost use Rattle.std.specs.Prelude.{◌≡◌, ◌++◌, ◌≤◌, ℕ, List, map};
 ghost use Rattle.yasir_ticks.specs.Ticks.{silent};
 ghost use Rattle.yasir_ticks.specs.declared.TheConstants.{T3_5_TICKS};
-ghost use Rattle.dnp_link_frame.specs.Rules.{dnp_rules};
-ghost use Rattle.device_model.specs.DnpReads.{dnp_reads};
-ghost use Rattle.device_model.specs.Hunt.{hunt};
+ghost use Rattle.line_rules.specs.Rules.{Rules};
+ghost use Rattle.device_model.specs.Hunt.{hunt, hunt_line};
 ghost use Rattle.device_model.specs.RtuReads.{rtu_reads};
 ghost use Rattle.line_stamps.specs.declared.capture.CaptureByte.{CaptureByte};
 ghost use Rattle.line_stamps.specs.declared.timing.Spacing.TheVariants.{ByTime, ByRecord};
@@ -36,11 +35,12 @@ pub fn records_tell_what_is_read()
         ≡ map frame_cut (records_that_are_frames (placed t cs)) }
 {}
 
-/// A law of the definitions: a DNP3 device ignores silence, so it reads of the line what it reads
-/// of the bytes of the capture, whatever their times and whatever is taken for a frame. Each frame
-/// is in the tick of its first byte.
-pub fn bytes_tell_what_dnp_reads()
-    ensures { (t : Timing) (cs : List CaptureByte) (n : ℕ)
-        → dnp_reads (line_of_places t cs ++ silent n)
-        ≡ hunt 0x05 0x64 dnp_rules 0 (map timed_byte (placed t cs)) }
+/// A law of the definitions, for each device that hunts for frames and ignores silence, as a DNP3
+/// device does, by any two bytes with which a header begins and any rules: it reads of the line
+/// what it reads of the bytes of the capture, whatever their times and whatever is taken for a
+/// frame. Each frame is in the tick of its first byte.
+pub fn bytes_tell_what_hunters_read()
+    ensures { (first second : ℕ) (rules : Rules) (t : Timing) (cs : List CaptureByte) (n : ℕ)
+        → hunt_line first second rules (line_of_places t cs ++ silent n)
+        ≡ hunt first second rules 0 (map timed_byte (placed t cs)) }
 {}

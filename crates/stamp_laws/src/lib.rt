@@ -11,5 +11,5 @@ mod device_laws;
 mod tests;
 
 pub use device_laws::{
-    bytes_tell_what_dnp_reads, records_tell_what_is_read, times_tell_what_is_read,
+    bytes_tell_what_hunters_read, records_tell_what_is_read, times_tell_what_is_read,
 };

@@ -86,5 +86,5 @@ fn frames_of_captures(rt: HostRuntime) -> Result<(), Fail> {
 fn laws() {
     times_tell_what_is_read();
     records_tell_what_is_read();
-    bytes_tell_what_dnp_reads();
+    bytes_tell_what_hunters_read();
 }

@@ -12,6 +12,9 @@ use Rattle.rtu_frame.proofs.FrameLaws.{is_frame-from}
 use Rattle.dnp_link_frame.specs.Rules.{dnp_rules}
 use Rattle.dnp_link_frame.proofs.FrameLaws.{frame-is_frame}
 use Rattle.dnp_link_frame.proofs.FrameParts.{length-frame_of}
+use Rattle.device_model.specs.Stated.{StatedDevice}
+use Rattle.device_model.specs.Stated.StatedDevice.{rtu, dnp, rtu_member, dnp_member}
+use Rattle.trial_session.specs.DrawnFrames.{Drawing}
 use Rattle.trial_session.specs.Draws.{next_state, draws, bytes_drawn, draw_state_after, nth_drawn}
 use Rattle.trial_session.specs.RtuDrawn.{rtu_drawing, rtu_body, rtu_frame_len}
 use Rattle.trial_session.specs.DnpDrawn.{dnp_drawing, drawn_dnp_header, dnp_user, dnp_user_len}
@@ -74,3 +77,10 @@ dnp_are_short x =
     let few = mod_below (nth_drawn 1 x) 251 (omega arith) in
     let long = length-frame_of (drawn_dnp_header x) (dnp_user x) in
     omega (arith, user_len, few, long)
+
+-- how the frames are drawn that a stated device reads
+abbrev pub stated_drawing : StatedDevice → Drawing
+stated_drawing rtu = rtu_drawing
+stated_drawing dnp = dnp_drawing
+stated_drawing (rtu_member cut gap) = rtu_drawing
+stated_drawing (dnp_member cut) = dnp_drawing

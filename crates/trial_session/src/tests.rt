@@ -1,7 +1,8 @@
 //! Tests of sessions: the counts are those of a model in Python.
 use super::*;
 use check_receiver::Checker;
-use device_model::{DnpDevice, RtuDevice};
+use device_model::RtuDevice;
+use device_model::hunters::DnpDevice;
 use dnp_link_frame::Dnp;
 use link_format::HmacSha1;
 use rtu_frame::Rtu;

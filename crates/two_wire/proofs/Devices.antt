@@ -3,6 +3,11 @@ use Rattle.frame_ending.proofs.Spread.{AreSpread, bursts-spread}
 use Rattle.frame_ending.specs.{Laid.later}
 use Rattle.device_model.specs.{Frames.FrameRead, Hunt.timed, Hunt.hunt, Hunt.hunt_anew}
 use Rattle.device_model.specs.{HuntFamily.hunt_family, HuntLaws.IsHunted, RtuReads.is_frame_body}
+use Rattle.device_model.specs.{DnpHunted.dnp_hunted}
+use Rattle.device_model.specs.Stated.{StatedDevice, stated_rules, stated_reads, IsStatedWithin}
+use Rattle.device_model.specs.Stated.StatedDevice.{rtu, dnp, rtu_member, dnp_member}
+use Rattle.dnp_link_frame.specs.{Rules.dnp_rules, RulesLaws.dnp_lawful, RulesLaws.dnp_headed}
+use Rattle.dnp_link_frame.specs.RulesLaws.{dnp_framed, dnp_spoiling}
 use Rattle.line_rules.specs.{Rules.Rules, RulesLaws.IsLawful, RulesLaws.IsHeaded}
 use Rattle.line_rules.specs.{RulesLaws.IsFramed, Spoiling.IsSpoiling}
 use Rattle.link_format.specs.Profile.{Profile, delay}
@@ -17,7 +22,7 @@ use Rattle.receiver_laws.{proofs.Settled.reads-laid, specs.Hunters.IsHunter}
 use Rattle.receiver_laws.specs.{Accounted.IsSubsequence, Reading.ReadsWhatPassed}
 use Rattle.receiver_laws.specs.Accounted.{IsSubsequence.none, IsSubsequence.skip, IsSubsequence.keep}
 use Rattle.rtu_frame.specs.Rules.{rtu_rules, rtu_lawful}
-use Rattle.std.proofs.Common.{◌≡◌, ℕ, zero, suc, ◌≤◌, ◌⊎◌, inl, inr, List, map, arith}
+use Rattle.std.proofs.Common.{◌≡◌, ℕ, zero, suc, ◌≤◌, ◌⊎◌, inl, inr, List, map, arith, refl}
 use Rattle.yasir_ticks.specs.{Bursts.Burst, Bursts.bursts, Ticks.bytes_in, declared.tick.Tick.Tick}
 use Rattle.two_wire.specs.Given.{GivesSome, ReadsSealed}
 use Rattle.two_wire.proofs.Giving.{given-sealed, later-some-spread}
@@ -82,3 +87,19 @@ module _ (first second : ℕ) (rules : Rules) (lawful : IsLawful rules) (headed 
       (anew-hunter (suc cut) wide first second rules)
       (λ floor link. anew_reads_what_passed (suc cut) wide first second rules headed framed hunted
       lawful spoiling profile floor link)
+
+pub stated-given : (device : StatedDevice) (profile : Profile)
+    → IsStatedWithin (delay profile) device
+    → (seal_floor check_floor late : ℕ) (line link given : List Tick)
+    → GivesSome profile (stated_rules device) check_floor late link given
+    → ReadsSealed (stated_rules device) (stated_reads device) profile seal_floor check_floor line
+    link given
+stated-given rtu profile any = rtu-given 4 2 profile (omega arith) (omega arith) (omega arith)
+stated-given dnp profile any =
+    family-given 0x05 0x64 dnp_rules dnp_lawful dnp_headed dnp_framed dnp_spoiling dnp_hunted profile
+    0 (inl refl)
+stated-given (rtu_member cut gap) profile member =
+    rtu-given cut (suc gap) profile member.0 member.1 (omega arith)
+stated-given (dnp_member cut) profile member =
+    family-given 0x05 0x64 dnp_rules dnp_lawful dnp_headed dnp_framed dnp_spoiling dnp_hunted profile
+    cut member

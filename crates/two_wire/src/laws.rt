@@ -3,11 +3,11 @@ ghost use Rattle.std.specs.Prelude.{◌≡◌, ◌≤◌, ◌⊎◌, ◌<◌, �
 ghost use Rattle.yasir_ticks.specs.Ticks.{silent};
 ghost use Rattle.yasir_ticks.specs.declared.tick.Tick.{Tick};
 ghost use Rattle.yasir_ticks.specs.declared.tick.Tick.TheVariants.{Silent, Byte};
-ghost use Rattle.device_model.specs.DnpReads.{dnp_reads};
-ghost use Rattle.device_model.specs.HuntFamily.{dnp_family_reads};
+ghost use Rattle.device_model.specs.HuntFamily.{hunt_family};
 ghost use Rattle.device_model.specs.RtuFamily.{rtu_family_reads};
-ghost use Rattle.device_model.specs.RtuReads.{rtu_reads};
-ghost use Rattle.dnp_link_frame.specs.Rules.{dnp_rules};
+ghost use Rattle.device_model.specs.Stated.{StatedDevice, stated_rules, stated_reads};
+ghost use Rattle.device_model.specs.Stated.{IsStatedWithin};
+ghost use Rattle.line_rules.specs.Rules.{Rules};
 ghost use Rattle.link_format.specs.Profile.{Profile, HasTags, delay};
 ghost use Rattle.link_box.specs.Timely.{IsTimely};
 ghost use Rattle.rtu_frame.specs.Rules.{rtu_rules};
@@ -60,32 +60,20 @@ pub fn gates_may_lag()
     ensures { (side : Side) (kept waits : Waits) (lag : ℕ) (before : Spoken)
         (ticks others : List Tick) → CoversTurns side waits lag kept
         → length ticks ≡ length others
-        → OthersInTurn side kept before (gated side waits at_rest ticks (on_wires lag others)) others
+        → OthersInTurn side kept before (gated side waits at_rest ticks (on_wires lag others))
+        others
         → AreApart (gated side waits at_rest ticks (on_wires lag others)) others }
 {}
 
 /// A law of the receiver's definitions: on a line on which some of the bursts that a receiver makes
-/// of a link are, whole and later, and the others are left out, a device reads only frames that have
-/// passed, and so only frames that were sealed, unless one that passed is forged.
+/// of a link are, whole and later, and the others are left out, a stated device reads only frames
+/// that have passed, and so only frames that were sealed, unless one that passed is forged.
 pub fn bursts_may_be_left_out()
-    ensures rtu { (profile : Profile) (seal_floor check_floor late : ℕ)
-        (line link given : List Tick)
-        → GivesSome profile rtu_rules check_floor late link given
-        → ReadsSealed rtu_rules rtu_reads profile seal_floor check_floor line link given }
-    ensures dnp { (profile : Profile) (seal_floor check_floor late : ℕ)
-        (line link given : List Tick)
-        → GivesSome profile dnp_rules check_floor late link given
-        → ReadsSealed dnp_rules dnp_reads profile seal_floor check_floor line link given }
-    ensures rtu_family { (cut gap : ℕ) (profile : Profile) (seal_floor check_floor late : ℕ)
-        (line link given : List Tick) → 2 ≤ cut → cut ≤ delay profile → 1 ≤ gap
-        → GivesSome profile rtu_rules check_floor late link given
-        → ReadsSealed rtu_rules (rtu_family_reads cut gap) profile seal_floor check_floor line link
-        given }
-    ensures dnp_family { (cut : ℕ) (profile : Profile) (seal_floor check_floor late : ℕ)
-        (line link given : List Tick) → (cut ≡ 0) ⊎ (2 ≤ cut)
-        → GivesSome profile dnp_rules check_floor late link given
-        → ReadsSealed dnp_rules (dnp_family_reads cut) profile seal_floor check_floor line link
-        given }
+    ensures { (device : StatedDevice) (profile : Profile) → IsStatedWithin (delay profile) device
+        → (seal_floor check_floor late : ℕ) (line link given : List Tick)
+        → GivesSome profile (stated_rules device) check_floor late link given
+        → ReadsSealed (stated_rules device) (stated_reads device) profile seal_floor check_floor
+        line link given }
 {}
 
 /// A law of a box, whatever is on its wires, two or four: what it gives to its device are some of
@@ -125,35 +113,21 @@ pub fn nobody_talks_at_once<R: LineRules>()
 /// device, the same holds of what it hears there, except while it talks, and of one that is deaf for
 /// longer, whenever it may be.
 pub fn two_wire_devices_read_what_was_sealed()
-    ensures rtu { (end : EndSetup) (w : EndWires) (seal_floor : ℕ) (line : List Tick)
-        → IsTwoWire rtu_rules end w → ReadsOnlySealed rtu_rules rtu_reads end w seal_floor line }
-    ensures dnp { (end : EndSetup) (w : EndWires) (seal_floor : ℕ) (line : List Tick)
-        → IsTwoWire dnp_rules end w → ReadsOnlySealed dnp_rules dnp_reads end w seal_floor line }
-    ensures rtu_family { (cut gap : ℕ) (end : EndSetup) (w : EndWires) (seal_floor : ℕ)
-        (line : List Tick) → 2 ≤ cut → cut ≤ delay end.incoming → 1 ≤ gap
-        → IsTwoWire rtu_rules end w
-        → ReadsOnlySealed rtu_rules (rtu_family_reads cut gap) end w seal_floor line }
-    ensures dnp_family { (cut : ℕ) (end : EndSetup) (w : EndWires) (seal_floor : ℕ)
-        (line : List Tick) → (cut ≡ 0) ⊎ (2 ≤ cut) → IsTwoWire dnp_rules end w
-        → ReadsOnlySealed dnp_rules (dnp_family_reads cut) end w seal_floor line }
+    ensures { (device : StatedDevice) (end : EndSetup)
+        → IsStatedWithin (delay end.incoming) device
+        → (w : EndWires) (seal_floor : ℕ) (line : List Tick)
+        → IsTwoWire (stated_rules device) end w
+        → ReadsOnlySealed (stated_rules device) (stated_reads device) end w seal_floor line }
 {}
 
 /// The same law on four wires, where the device has a pair of its own: the gate needs it too beside
 /// a device that is deaf while it talks, or longer.
 pub fn four_wire_devices_read_what_was_sealed()
-    ensures rtu { (end : EndSetup) (l : EndLines) (seal_floor : ℕ) (line : List Tick)
-        → IsFourWire rtu_rules end l
-        → ReadsOnlySealedApart rtu_rules rtu_reads end l seal_floor line }
-    ensures dnp { (end : EndSetup) (l : EndLines) (seal_floor : ℕ) (line : List Tick)
-        → IsFourWire dnp_rules end l
-        → ReadsOnlySealedApart dnp_rules dnp_reads end l seal_floor line }
-    ensures rtu_family { (cut gap : ℕ) (end : EndSetup) (l : EndLines) (seal_floor : ℕ)
-        (line : List Tick) → 2 ≤ cut → cut ≤ delay end.incoming → 1 ≤ gap
-        → IsFourWire rtu_rules end l
-        → ReadsOnlySealedApart rtu_rules (rtu_family_reads cut gap) end l seal_floor line }
-    ensures dnp_family { (cut : ℕ) (end : EndSetup) (l : EndLines) (seal_floor : ℕ)
-        (line : List Tick) → (cut ≡ 0) ⊎ (2 ≤ cut) → IsFourWire dnp_rules end l
-        → ReadsOnlySealedApart dnp_rules (dnp_family_reads cut) end l seal_floor line }
+    ensures { (device : StatedDevice) (end : EndSetup)
+        → IsStatedWithin (delay end.incoming) device
+        → (l : EndLines) (seal_floor : ℕ) (line : List Tick)
+        → IsFourWire (stated_rules device) end l
+        → ReadsOnlySealedApart (stated_rules device) (stated_reads device) end l seal_floor line }
 {}
 
 /// A law of two two-wire boxes on a link on which nothing is changed, for the rules of each protocol
@@ -186,8 +160,9 @@ pub fn polls_are_delivered<R: LineRules>()
 /// said anything for `window` ticks together, as it hears them (*waits*). So, whatever a device heard
 /// before the box was stopped, in mid-burst or not, and however long the box was down: a device that
 /// begins anew after `cut` silent ticks reads what the box says then as one that has heard nothing
-/// before, if `cut` isn't above `window`. Besides, a DNP3 device reads only what it had read (*dnp*),
-/// and a Modbus RTU device at most one frame more (*rtu*).
+/// before, if `cut` isn't above `window`. Besides, a device that hunts for frames, as a DNP3 device
+/// does, reads only what it had read (*hunters*), and a Modbus RTU device at most one frame more
+/// (*rtu*).
 pub fn gates_wait_at_first()
     ensures waits { (waits : Waits) (ticks heard : List Tick)
         → (gated Asks waits at_rest ticks heard
@@ -197,10 +172,11 @@ pub fn gates_wait_at_first()
         → IsFourWire rtu_rules end l → end.side ≡ Asks → cut ≤ end.waits.window
         → cut ≤ down + length l.to_device
         → ReadsAnew (rtu_family_reads cut gap) 1 down before l.to_device }
-    ensures dnp { (cut down : ℕ) (end : EndSetup) (l : EndLines) (before : List Tick)
-        → IsFourWire dnp_rules end l → end.side ≡ Asks → 1 ≤ cut → cut ≤ end.waits.window
+    ensures hunters { (first second : ℕ) (rules : Rules) (cut down : ℕ) (end : EndSetup)
+        (l : EndLines) (before : List Tick)
+        → IsFourWire rules end l → end.side ≡ Asks → 1 ≤ cut → cut ≤ end.waits.window
         → cut ≤ down + length l.to_device
-        → ReadsAnew (dnp_family_reads cut) 0 down before l.to_device }
+        → ReadsAnew (hunt_family first second rules cut) 0 down before l.to_device }
 {}
 
 /// A law of a gate after anything that has gone wrong, as an answer that came after its window and

@@ -1,4 +1,3 @@
-use Rattle.dnp_link_frame.specs.Rules.{dnp_rules}
 use Rattle.link_box.specs.Checking.{received_line}
 use Rattle.rtu_frame.specs.Rules.{rtu_rules}
 use Rattle.std.proofs.Common.{◌≡◌, ◌∙◌, ℕ, zero, suc, ap, arith}
@@ -17,10 +16,11 @@ returns-clause-rtu c = λ cut gap down end l before is side fits long.
     rtu-rests cut (suc gap) down end.waits ticks heard l.to_device before fits
     (is.given ∙ ap (λ z. gated z end.waits at_rest ticks heard) side) long
 
-pub returns-clause-dnp : goal.returns-clause-dnp
-returns-clause-dnp c zero = λ down end l before is side some fits long. absurd (omega arith)
-returns-clause-dnp c (suc cut) = λ down end l before is side some fits long.
-    let ticks = on_wires end.late (received_line end.incoming dnp_rules end.got_floor l.from_link) in
+pub returns-clause-hunters : goal.returns-clause-hunters
+returns-clause-hunters c first second rules zero = λ down end l before is side some fits long.
+    absurd (omega arith)
+returns-clause-hunters c first second rules (suc cut) = λ down end l before is side some fits long.
+    let ticks = on_wires end.late (received_line end.incoming rules end.got_floor l.from_link) in
     let heard = on_wires end.lag l.from_device in
-    hunter-rests 0x05 0x64 dnp_rules (suc cut) down end.waits ticks heard l.to_device before fits
+    hunter-rests first second rules (suc cut) down end.waits ticks heard l.to_device before fits
     (is.given ∙ ap (λ z. gated z end.waits at_rest ticks heard) side) long

@@ -1,4 +1,4 @@
-//! The DNP3 device and its family, as devices that hunt for frames.
+//! The protocols whose devices hunt for frames, each with its device and its family.
 use crate::hunted::Hunted;
 use crate::hunting::HuntingDevice;
 use crate::hunting_family::HuntingFamily;
