@@ -4,9 +4,9 @@ use Rattle.any_box.specs.contracts.any_box.AnyBoxDefinedBox.TheImpl.{ghosts as b
 use Rattle.any_box.specs.declared.kind.{Kind.Kind, Part.Part}
 use Rattle.any_box.specs.declared.kind.Part.TheVariants.{Sealer, Checker}
 use Rattle.check_receiver.specs.Boxed.{check_walking}
-use Rattle.command_ends.specs.declared.words.Profile.{Profile, TheVariants.Y18, TheVariants.Y24}
-use Rattle.command_ends.specs.declared.words.Proto.{Proto}
-use Rattle.command_ends.specs.declared.words.Proto.TheVariants as Of
+use Rattle.command_ends.specs.declared.link.Profile.{Profile, TheVariants.Y18, TheVariants.Y24}
+use Rattle.command_ends.specs.declared.link.Proto.{Proto}
+use Rattle.command_ends.specs.declared.link.Proto.TheVariants as Of
 use Rattle.dnp_link_frame.specs.contracts.dnp.DnpLineRules.TheImpl.{ghosts as dnp_of}
 use Rattle.dnp_link_frame.specs.declared.dnp.Dnp.{Dnp}
 use Rattle.frame_ending.proofs.Longer.{length-line_of}

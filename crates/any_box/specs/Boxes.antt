@@ -26,10 +26,10 @@ use Rattle.any_box.specs.declared.defined.DefinedBox.{Ghosts as DefinedBox}
 use Rattle.any_box.specs.declared.kind.Kind.{Kind}
 use Rattle.any_box.specs.declared.kind.Part.{Part}
 use Rattle.any_box.specs.declared.kind.Part.TheVariants.{Sealer, Checker}
-use Rattle.command_ends.specs.declared.words.Proto.{Proto}
-use Rattle.command_ends.specs.declared.words.Proto.TheVariants as Of
-use Rattle.command_ends.specs.declared.words.Profile.{Profile}
-use Rattle.command_ends.specs.declared.words.Profile.TheVariants.{Y18, Y24}
+use Rattle.command_ends.specs.declared.link.Proto.{Proto}
+use Rattle.command_ends.specs.declared.link.Proto.TheVariants as Of
+use Rattle.command_ends.specs.declared.link.Profile.{Profile}
+use Rattle.command_ends.specs.declared.link.Profile.TheVariants.{Y18, Y24}
 
 -- which of the eight a box is
 abbrev pub box_kind : AnyBox → Kind

@@ -1,12 +1,12 @@
 -- A spacer that counts its ticks: how it begins, and what a step does.
-use Rattle.any_box.specs.declared.any_spacer.AnySpacer.{AnySpacer}
+use Rattle.any_box.specs.declared.any_box.AnySpacer.{AnySpacer}
 use Rattle.any_box.specs.declared.defined.DefinedSpacer.{Ghosts as DefinedSpacer}
 use Rattle.std.specs.Prelude.{◌≡◌, ℕ, ◌+◌, [], Option, Some, None}
 use Rattle.yasir_ticks.specs.declared.TheConstants.{MAX_TICKS}
 use Rattle.yasir_ticks.specs.declared.tick.Tick.{Tick}
 use Rattle.line_spacer.specs.declared.spacer.SpaceStep.{SpaceStep}
-use Rattle.any_box.specs.Spacers.{spacer_kind, StepsOn}
-use Rattle.any_box.specs.declared.any_spacer.SpacerKind.{SpacerKind}
+use Rattle.any_box.specs.Spacers.{spacer_kind, SpacerStepsOn}
+use Rattle.any_box.specs.declared.kind.SpacerKind.{SpacerKind}
 use Rattle.any_box.specs.declared.held_spacer.HeldSpacer.{HeldSpacer}
 
 -- how many ticks it has taken
@@ -24,7 +24,7 @@ module _ (spacers : DefinedSpacer AnySpacer) where
   -- spacer had taken.
   pub record StepsSpacer (old new : HeldSpacer) (t : Tick) (step : SpaceStep) : Type 0 where
     pub counted : spacer_ticks new ≡ spacer_ticks old + 1
-    pub steps : StepsOn spacers old.spacer new.spacer t step
+    pub steps : SpacerStepsOn spacers old.spacer new.spacer t step
 
   -- Holds if a step takes the tick, or if the spacer had taken as many ticks as it can take and is
   -- as it was.

@@ -1,5 +1,5 @@
-//! The eight boxes as one type.
-ghost use Rattle.std.specs.Prelude.{◌≡◌, ◌+◌, ◌≤◌, ◌<◌, ℕ, [], length, take, Some};
+//! The eight boxes as one type, and the four spacers as another.
+ghost use Rattle.std.specs.Prelude.{◌≡◌, ◌+◌, ◌≤◌, ◌<◌, ℕ, [], length, take, Some, IfOk};
 ghost use Rattle.yasir_io.specs.Steady.{steady_slots};
 ghost use Rattle.yasir_ticks.specs.TickRun.{run_ticks};
 ghost use Rattle.yasir_ticks.specs.declared.TheConstants.{MAX_TICKS};
@@ -10,19 +10,23 @@ ghost use Rattle.any_box.specs.Commits.{CommitsOneOrNone};
 
 use crate::any_note::AnyNote;
 use crate::committing::{CommittingBox, step_any, take_any};
-use crate::defined::DefinedBox;
-use crate::kind::{Kind, Part};
+use crate::defined::{DefinedBox, DefinedSpacer};
+use crate::forgetful::ForgetfulDevice;
+use crate::kind::{Kind, Part, SpacerKind};
 use check_receiver::Checker;
 use command_ends::{Profile, Proto};
+use device_model::{Device, RtuDevice};
 use dnp_link_frame::Dnp;
 use frame_ending::{BoxStep, RunBytes};
 use line_rules::LineRules;
+use line_spacer::{SpaceStep, Spacer};
 use link_box::LinkBox;
 use link_format::{Dir, HmacSha1, HmacSha256, Mac};
 use rtu_frame::Rtu;
 use seal_transmitter::Sealer;
 use sequence_journal::Journal;
-use yasir_io::SteadySlots;
+use std::alloc::Global;
+use yasir_io::{NoMemory, SteadySlots};
 use yasir_ticks::{MAX_TICKS, Tick, TickRun};
 
 /// One of the eight boxes.
@@ -137,5 +141,64 @@ impl AnyBox {
             self.old self.new (take result (run_ticks run.entry)) (answered result sent.new.items) }
     {
         with_box!(self, line_box => take_any(line_box, run, sent))
+    }
+}
+
+/// One of the four spacers.
+#[derive(Drop)]
+pub enum AnySpacer {
+    /// It reads Modbus RTU, and leaves 21 silent ticks or more, as y18 needs.
+    RtuSpacer18(Spacer<RtuDevice, 21>),
+    /// It reads DNP3, and leaves 21 silent ticks or more, as y18 needs.
+    DnpSpacer18(Spacer<ForgetfulDevice<Dnp>, 21>),
+    /// It reads Modbus RTU, and leaves 27 silent ticks or more, as y24 needs.
+    RtuSpacer24(Spacer<RtuDevice, 27>),
+    /// It reads DNP3, and leaves 27 silent ticks or more, as y24 needs.
+    DnpSpacer24(Spacer<ForgetfulDevice<Dnp>, 27>),
+}
+
+impl DefinedSpacer for AnySpacer {
+    ghost use Rattle.any_box.specs.Spacers.{spacer_ticks_in, AnySpacerStandsAt};
+
+    ghost taken = { spacer_ticks_in ⟦<RtuDevice as Device>⟧ ⟦<ForgetfulDevice<Dnp> as Device>⟧ };
+
+    ghost stands = { AnySpacerStandsAt ⟦<RtuDevice as Device>⟧ ⟦<ForgetfulDevice<Dnp> as Device>⟧ };
+}
+
+impl AnySpacer {
+    ghost use Rattle.any_box.specs.Spacers.{spacer_kind, SpacerStepsOn};
+
+    /// A spacer that has taken no tick, with room for `room` frames to wait. It takes its memory
+    /// here, and none later.
+    pub fn new(alloc: Global, kind: SpacerKind, room: usize) -> Result<AnySpacer, NoMemory>
+        ensures taken { IfOk result (λ spacer. ⟦<AnySpacer as DefinedSpacer>⟧.taken spacer ≡ 0) }
+        ensures kind { IfOk result (λ spacer. spacer_kind spacer ≡ kind) }
+        ensures stands { IfOk result (λ spacer. ⟦<AnySpacer as DefinedSpacer>⟧.stands room spacer
+            []) }
+    {
+        Ok(match (kind.proto, kind.profile) {
+            (Proto::Rtu, Profile::Y18) => AnySpacer::RtuSpacer18(Spacer::new(alloc, room)?),
+            (Proto::Dnp3, Profile::Y18) => AnySpacer::DnpSpacer18(Spacer::new(alloc, room)?),
+            (Proto::Rtu, Profile::Y24) => AnySpacer::RtuSpacer24(Spacer::new(alloc, room)?),
+            (Proto::Dnp3, Profile::Y24) => AnySpacer::DnpSpacer24(Spacer::new(alloc, room)?),
+        })
+    }
+
+    /// Takes the next tick of the line, and returns the tick of the other line at the same place.
+    /// If a frame is lost in this step, since too many wait, it also returns the tick of the
+    /// frame's first byte. Fewer than `MAX_TICKS` ticks were taken before.
+    pub fn step(&mut self, t: Tick) -> SpaceStep
+        requires { ⟦<AnySpacer as DefinedSpacer>⟧.taken self.old < MAX_TICKS }
+        ensures taken { ⟦<AnySpacer as DefinedSpacer>⟧.taken self.new
+            ≡ ⟦<AnySpacer as DefinedSpacer>⟧.taken self.old + 1 }
+        ensures steps { SpacerStepsOn ⟦<AnySpacer as DefinedSpacer>⟧ self.old
+            self.new t result }
+    {
+        match self {
+            AnySpacer::RtuSpacer18(spacer) => spacer.step(t),
+            AnySpacer::DnpSpacer18(spacer) => spacer.step(t),
+            AnySpacer::RtuSpacer24(spacer) => spacer.step(t),
+            AnySpacer::DnpSpacer24(spacer) => spacer.step(t),
+        }
     }
 }

@@ -2,8 +2,9 @@
 ghost use Rattle.std.specs.Prelude.{◌≡◌, ◌≤◌};
 ghost use Rattle.yasir_ticks.specs.declared.TheConstants.{MAX_TICKS};
 
-use crate::any_spacer::{AnySpacer, SpacerKind};
+use crate::any_box::AnySpacer;
 use crate::defined::DefinedSpacer;
+use crate::kind::SpacerKind;
 use line_spacer::SpaceStep;
 use std::alloc::Global;
 use yasir_io::NoMemory;

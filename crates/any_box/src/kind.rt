@@ -1,4 +1,4 @@
-//! Which of the eight boxes a box is.
+//! Which of the eight boxes a box is, and which of the four spacers a spacer is.
 ghost use Rattle.std.specs.Prelude.{◌≡◌};
 
 use command_ends::{Profile, Proto, link_of};
@@ -36,4 +36,14 @@ impl Kind {
     {
         link_of(self.proto, self.profile, dir)
     }
+}
+
+/// Which of the four spacers a spacer is.
+#[derive(Clone, Copy, Debug, PartialEq, Eq)]
+pub struct SpacerKind {
+    /// The protocol that it reads.
+    pub proto: Proto,
+    /// The profile of the link for which it spaces frames. It leaves as many silent ticks between
+    /// two frames as a transmitter of this profile needs, or more: 21, or 27 for the longer tags.
+    pub profile: Profile,
 }

@@ -19,7 +19,8 @@
 //!
 //! A spacer behind the receiver of a Modbus RTU line, with room for four frames that wait:
 //!
-//!     let mut spacer = HeldSpacer::new(alloc, SpacerKind::Rtu, 4)?;
+//!     let kind = SpacerKind { proto: Proto::Rtu, profile: Profile::Y18 };
+//!     let mut spacer = HeldSpacer::new(alloc, kind, 4)?;
 //!     let Some(step) = spacer.step(received) else {
 //!         return Err(Full);
 //!     };
@@ -28,7 +29,6 @@
 
 mod any_box;
 mod any_note;
-mod any_spacer;
 mod committing;
 mod defined;
 mod forgetful;
@@ -38,14 +38,13 @@ mod kind;
 mod laws;
 mod owed;
 
-pub use any_box::AnyBox;
+pub use any_box::{AnyBox, AnySpacer};
 pub use any_note::AnyNote;
-pub use any_spacer::{AnySpacer, SpacerKind};
 pub use command_ends::{Profile, Proto};
 pub use defined::{DefinedBox, DefinedSpacer};
 pub use forgetful::ForgetfulDevice;
 pub use held_box::{Full, HeldBox, HeldStep};
 pub use held_spacer::HeldSpacer;
-pub use kind::{Kind, Part};
+pub use kind::{Kind, Part, SpacerKind};
 pub use laws::writes_keep_the_floor;
 pub use owed::Commit;

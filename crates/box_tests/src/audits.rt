@@ -3,6 +3,7 @@ ghost use Rattle.std.specs.Prelude.{◌≤◌, length, IfOk};
 ghost use Rattle.sequence_journal.specs.declared.numbers.TheConstants.{LIMIT};
 ghost use Rattle.session_audit.specs.Sessions.{IsSession, max_recorded};
 
+use command_ends::{Profile, Proto};
 use session_audit::{Counts, Dir, Finding, ReadFrame, Session, audit};
 use std::alloc::Global;
 use std::process::Abort;
@@ -91,14 +92,14 @@ fn session_of(link: Link, sent_floor: u64, got_floor: u64) -> Session<'static>
     requires got { got_floor ≤ LIMIT }
     ensures { IsSession result }
 {
-    let (label, profile) = match link {
-        Link::Rtu => (1, 18),
-        Link::Dnp => (2, 18),
-        Link::WideRtu => (1, 24),
-        Link::WideDnp => (2, 24),
+    let (proto, profile) = match link {
+        Link::Rtu => (Proto::Rtu, Profile::Y18),
+        Link::Dnp => (Proto::Dnp3, Profile::Y18),
+        Link::WideRtu => (Proto::Rtu, Profile::Y24),
+        Link::WideDnp => (Proto::Dnp3, Profile::Y24),
     };
     Session {
-        label,
+        proto,
         profile,
         dir: Dir::Ab,
         key: &KEY,

@@ -1,8 +1,8 @@
 -- A link's words name one protocol, one profile and one direction: each can be read back from them.
 use Rattle.link_format.specs.declared.dir.Dir.{Dir, TheVariants.Ab, TheVariants.Ba}
 use Rattle.command_ends.specs.Words.{dir_word, link_word}
-use Rattle.command_ends.specs.declared.words.Profile.{Profile, TheVariants.Y18, TheVariants.Y24}
-use Rattle.command_ends.specs.declared.words.Proto.{Proto, TheVariants.Rtu, TheVariants.Dnp3}
+use Rattle.command_ends.specs.declared.link.Profile.{Profile, TheVariants.Y18, TheVariants.Y24}
+use Rattle.command_ends.specs.declared.link.Proto.{Proto, TheVariants.Rtu, TheVariants.Dnp3}
 use Rattle.std.proofs.Common.{◌≡◌, ℕ, ◌+◌, ◌*◌, Bool, List, [], ◌∷◌, cond, nat_eq, refl}
 use Rattle.std.specs.Prelude.{codes}
 

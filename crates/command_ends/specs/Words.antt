@@ -2,10 +2,10 @@
 use Rattle.std.specs.Prelude.{ℕ, List, codes}
 use Rattle.link_format.specs.declared.dir.Dir.{Dir}
 use Rattle.link_format.specs.declared.dir.Dir.TheVariants.{Ab, Ba}
-use Rattle.command_ends.specs.declared.words.Proto.{Proto}
-use Rattle.command_ends.specs.declared.words.Proto.TheVariants.{Rtu, Dnp3}
-use Rattle.command_ends.specs.declared.words.Profile.{Profile}
-use Rattle.command_ends.specs.declared.words.Profile.TheVariants.{Y18, Y24}
+use Rattle.command_ends.specs.declared.link.Proto.{Proto}
+use Rattle.command_ends.specs.declared.link.Proto.TheVariants.{Rtu, Dnp3}
+use Rattle.command_ends.specs.declared.link.Profile.{Profile}
+use Rattle.command_ends.specs.declared.link.Profile.TheVariants.{Y18, Y24}
 
 -- the word for a protocol, which is also the word for the protocol with the profile y18
 abbrev pub proto_word : Proto → List ℕ

@@ -38,7 +38,6 @@ mod text;
 mod waiting;
 #[cfg(test)]
 mod word_tests;
-mod words;
 
 pub use ending::{flush_both, print_text, status_of};
 pub use ends::Ends;
@@ -46,8 +45,7 @@ pub use fault_log::{fault_line, write_fault};
 pub use frame_line::{LINE_ROOM, push_read_line, write_frame_line};
 pub use given::{NOT_GIVEN, take_places, words_after_name};
 pub use key_text::{Key, KeyError, read_key};
-pub use link::link_of;
+pub use link::{Profile, Proto, Usage, link_of, link_word, read_dir, read_link, read_proto};
 pub use status::{Status, Unclean};
 pub use text::{Line, push_decimal};
 pub use waiting::{append_decimal, append_digits};
-pub use words::{Profile, Proto, Usage, link_word, read_dir, read_link, read_proto};

@@ -3,8 +3,8 @@ use Rattle.std.specs.Prelude.{ℕ, ◌+◌}
 use Rattle.link_format.specs.Setup.{Setup}
 use Rattle.sequence_journal.specs.declared.numbers.TheConstants.{LIMIT}
 use Rattle.command_ends.specs.Links.{rules_of, link_profile_of, delay_of}
-use Rattle.command_ends.specs.declared.words.Profile.{Profile}
-use Rattle.command_ends.specs.declared.words.Proto.{Proto}
+use Rattle.command_ends.specs.declared.link.Profile.{Profile}
+use Rattle.command_ends.specs.declared.link.Proto.{Proto}
 use Rattle.line_commands.specs.Boxes.{Boxed}
 use Rattle.line_commands.specs.SealBoxed.{sealing}
 use Rattle.line_commands.specs.CheckBoxed.{checking}

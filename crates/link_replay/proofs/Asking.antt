@@ -7,8 +7,8 @@ use Rattle.link_replay.specs.declared.words.Command.TheVariants.{Duplex, LiveSea
 use Rattle.link_replay.specs.declared.words.Command.TheVariants.{Help, Version}
 use Rattle.command_ends.proofs.Telling.{is_word, proto_by, profile_by, dir_by, proto-by, profile-by}
 use Rattle.command_ends.proofs.Telling.{dir-by}
-use Rattle.command_ends.specs.{Words.dir_word, Words.link_word, declared.words.Profile.Profile}
-use Rattle.command_ends.specs.declared.words.Proto.{Proto, TheVariants.Rtu, TheVariants.Dnp3}
+use Rattle.command_ends.specs.{Words.dir_word, Words.link_word, declared.link.Profile.Profile}
+use Rattle.command_ends.specs.declared.link.Proto.{Proto, TheVariants.Rtu, TheVariants.Dnp3}
 use Rattle.std.proofs.Common.{◌≡◌, ◌∙◌, ℕ, zero, suc, List, [], ◌∷◌, Option, Some}
 use Rattle.std.proofs.Common.{None, cond, refl, sym, ap, arith, subst, ◌≤◌, ◌^◌, ◌<◌, inl}
 use Rattle.std.proofs.{Common.inr, lemmas.Fmt.decimal_is_IsNumeral}

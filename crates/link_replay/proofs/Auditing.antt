@@ -1,10 +1,10 @@
 -- The session that the words of an audit ask for, its verdict, and what is left if the input didn't
 -- end well.
-use Rattle.{line_commands.specs.LinkBoxes.seal_rest, link_replay.specs.ReadCommand.device_reads}
+use Rattle.line_commands.specs.LinkBoxes.{seal_rest}
 use Rattle.link_box.specs.Checking.{passed}
-use Rattle.command_ends.specs.Links.{rules_of, link_profile_of, delay_of}
-use Rattle.command_ends.specs.declared.words.Profile.{Profile, TheVariants.Y18, TheVariants.Y24}
-use Rattle.command_ends.specs.declared.words.Proto.{Proto, TheVariants.Rtu, TheVariants.Dnp3}
+use Rattle.command_ends.specs.Links.{rules_of, link_profile_of, delay_of, device_reads}
+use Rattle.command_ends.specs.declared.link.Profile.{Profile, TheVariants.Y18, TheVariants.Y24}
+use Rattle.command_ends.specs.declared.link.Proto.{Proto}
 use Rattle.link_replay.specs.AuditCommand.{AuditsItems, PrintsFinding, finding_status, verdict_in}
 use Rattle.link_replay.specs.AuditCommand.{verdict_text}
 use Rattle.link_replay.specs.declared.commands.audit.Audited.{Audited}
@@ -17,15 +17,15 @@ use Rattle.command_ends.specs.declared.status.Status.TheVariants.{Done, NoMemory
 use Rattle.command_ends.specs.declared.status.Unclean.{Unclean}
 use Rattle.link_box.specs.Sealing.{sealed}
 use Rattle.sequence_journal.specs.declared.numbers.TheConstants.{LIMIT}
-use Rattle.session_audit.{proofs.Auditing.kind-so, specs.AuditedInput.FindsNoVerdict}
-use Rattle.session_audit.specs.Sessions.{sent_setup, got_setup, verdict_of_session, verdict_with}
+use Rattle.session_audit.specs.{AuditedInput.FindsNoVerdict, Sessions.LinkKind}
+use Rattle.session_audit.specs.Sessions.{sent_setup, got_setup, verdict_with}
 use Rattle.session_audit.specs.Verdicts.{verdict_on}
 use Rattle.session_audit.specs.declared.{session.Session.Session, verdict.Verdict.Verdict}
 use Rattle.session_audit.specs.declared.verdict.Finding.{Finding}
 use Rattle.session_audit.specs.declared.verdict.Finding.TheVariants.{Empty, Forged, Differs, Clean}
-use Rattle.std.proofs.Common.{◌≡◌, ◌⊎◌, ◌∙◌, ℕ, List, ◌++◌, Option, true, false, inl, inr, refl}
+use Rattle.std.proofs.Common.{◌≡◌, ◌⊎◌, ◌∙◌, ℕ, List, ◌++◌, Option, inl, inr, refl}
 use Rattle.std.proofs.Common.{subst, sym}
-use Rattle.std.proofs.{Common.arith, lemmas.Bool.eq-eqb, lemmas.Bool.ne_eqb}
+use Rattle.std.proofs.Common.{arith}
 use Rattle.std.specs.Io.KnownBytes.{append_known}
 use Rattle.tick_drive.specs.declared.{consumer.Stop.Stop, end.End.End, end.End.TheVariants.Whole}
 use Rattle.tick_drive.specs.declared.end.End.TheVariants.{Refused, TooLong, ReadFault, Stopped}
@@ -34,14 +34,6 @@ use Rattle.yasir_ticks.specs.Ticks.{Item, silent}
 use Rattle.yasir_ticks.specs.declared.{TheConstants.T3_5_TICKS, tick.Tick.Tick}
 
 -- ---- the session
-
-pub label-known : (proto : Proto) (n : ℕ) → n ≡ (rules_of proto).label → (n ≡ 1) ⊎ (n ≡ 2)
-label-known Rtu n is = inl is
-label-known Dnp3 n is = inr is
-
-pub profile-known : (profile : Profile) (n : ℕ) → n ≡ delay_of profile → (n ≡ 18) ⊎ (n ≡ 24)
-profile-known Y18 n is = inl is
-profile-known Y24 n is = inr is
 
 -- the verdict on recordings of a session of this protocol and this profile
 abbrev verdict_by : Proto → Profile → Session → List Tick → List Tick → List Tick → Verdict
@@ -52,29 +44,20 @@ verdict_by proto profile session device link received = verdict_on (delay_of pro
     (rules_of proto) session.got_floor (link ++ silent link_rest))
     (device_reads proto (received ++ silent T3_5_TICKS))
 
+-- what belongs to a protocol and a profile
+abbrev kind_by : Proto → Profile → LinkKind
+kind_by proto profile = record {
+  profile = link_profile_of profile (rules_of proto).label LIMIT;
+  rules = rules_of proto;
+  reads = device_reads proto;
+}
+
 pub verdict-is : (proto : Proto) (profile : Profile) (session : Session)
-    → session.label ≡ (rules_of proto).label → session.profile ≡ delay_of profile
-    → (device link received : List Tick)
-    → verdict_of_session session device link received ≡ verdict_by proto profile session device link received
-verdict-is Rtu Y18 session label delay device link received =
-    kind-so (λ kind. verdict_with kind session device link received
-    ≡ verdict_by Rtu Y18 session device link received) session true true
-    (eq-eqb session.label 1 label) (eq-eqb session.profile 18 delay) refl
-verdict-is Rtu Y24 session label delay device link received =
-    kind-so (λ kind. verdict_with kind session device link received
-    ≡ verdict_by Rtu Y24 session device link received) session true false
-    (eq-eqb session.label 1 label) (ne_eqb session.profile 18 (λ is. omega (arith, is, delay)))
-    refl
-verdict-is Dnp3 Y18 session label delay device link received =
-    kind-so (λ kind. verdict_with kind session device link received
-    ≡ verdict_by Dnp3 Y18 session device link received) session false true
-    (ne_eqb session.label 1 (λ is. omega (arith, is, label))) (eq-eqb session.profile 18 delay)
-    refl
-verdict-is Dnp3 Y24 session label delay device link received =
-    kind-so (λ kind. verdict_with kind session device link received
-    ≡ verdict_by Dnp3 Y24 session device link received) session false false
-    (ne_eqb session.label 1 (λ is. omega (arith, is, label)))
-    (ne_eqb session.profile 18 (λ is. omega (arith, is, delay))) refl
+    (device link received : List Tick)
+    → verdict_with (kind_by proto profile) session device link received
+    ≡ verdict_by proto profile session device link received
+verdict-is proto Y18 session device link received = refl
+verdict-is proto Y24 session device link received = refl
 
 -- ---- the status of what was found
 

@@ -19,7 +19,7 @@ use Rattle.line_commands.specs.{Recording.EndsOtherwise, declared.recording.Reco
 use Rattle.link_replay.proofs.KeyedRuns.{EndsAs, keyed_done}
 use Rattle.link_replay.specs.DuplexCommand.{DuplexesWith, Duplexes, duplex_texts}
 use Rattle.link_replay.specs.ReplayCommand.{IsListable}
-use Rattle.command_ends.specs.declared.words.{Profile.Profile, Proto.Proto}
+use Rattle.command_ends.specs.declared.link.{Profile.Profile, Proto.Proto}
 use Rattle.command_ends.specs.Endings.{status_of}
 
 module _ {K S O L D : Type 0} (k : Source K) (s : Source S) (o : Sink O) (l : Sink L)

@@ -10,8 +10,8 @@ use Rattle.link_format.specs.Setup.{setup_of}
 use Rattle.link_replay.specs.ReplayCommand.{ReplaysWith, replay_listing, replay_profile}
 use Rattle.link_box.specs.Checking.{passed, received_line}
 use Rattle.command_ends.specs.Links.{rules_of}
-use Rattle.command_ends.specs.declared.words.Profile.{Profile, TheVariants.Y18, TheVariants.Y24}
-use Rattle.command_ends.specs.declared.words.Proto.{Proto, TheVariants.Rtu, TheVariants.Dnp3}
+use Rattle.command_ends.specs.declared.link.Profile.{Profile, TheVariants.Y18, TheVariants.Y24}
+use Rattle.command_ends.specs.declared.link.Proto.{Proto, TheVariants.Rtu, TheVariants.Dnp3}
 use Rattle.receiver_laws.proofs.{DnpReadings.dnp_reads_what_passed, Headline.reads-sealed}
 use Rattle.receiver_laws.proofs.{RtuReadings.rtu_reads_what_passed, Settled.reads_with}
 use Rattle.receiver_laws.specs.Headline.{ReadsWhatWasSealed}

@@ -4,8 +4,8 @@ use Rattle.{line_spacer.specs.Spacing.accepted_of, line_texts.specs.Sending.Sink
 use Rattle.{link_replay.specs.ReadCommand.device_reads}
 use Rattle.link_replay.specs.SpaceCommand.{spaced_by, SpacesInput, SpacesTexts, Spaces}
 use Rattle.command_ends.specs.Links.{gap_of}
-use Rattle.command_ends.specs.declared.words.Profile.{Profile, TheVariants.Y18, TheVariants.Y24}
-use Rattle.command_ends.specs.declared.words.Proto.{Proto, TheVariants.Rtu, TheVariants.Dnp3}
+use Rattle.command_ends.specs.declared.link.Profile.{Profile, TheVariants.Y18, TheVariants.Y24}
+use Rattle.command_ends.specs.declared.link.Proto.{Proto, TheVariants.Rtu, TheVariants.Dnp3}
 use Rattle.command_ends.specs.{Outside.Outside, Outside.outside, declared.status.Status.Status}
 use Rattle.command_ends.specs.declared.status.Status.TheVariants.{Done}
 use Rattle.line_commands.specs.{SpacedTexts.most_waiting, SpacesLine.SpacesLine}

@@ -35,8 +35,8 @@ use Rattle.link_replay.specs.ReadCommand.{device_reads}
 use Rattle.link_replay.specs.ReplayCommand.{IsListable}
 use Rattle.line_commands.specs.LinkBoxes.{seal_rest}
 use Rattle.link_replay.specs.declared.commands.audit.Audited.{Audited}
-use Rattle.command_ends.specs.declared.words.Profile.{Profile}
-use Rattle.command_ends.specs.declared.words.Proto.{Proto}
+use Rattle.command_ends.specs.declared.link.Profile.{Profile}
+use Rattle.command_ends.specs.declared.link.Proto.{Proto}
 
 -- what the words of an audit ask for: a link, and the floors of both boxes
 abbrev pub audited : Proto → Profile → Dir → ℕ → ℕ → Audited

@@ -30,8 +30,8 @@ use Rattle.line_commands.specs.KeptBox.{TimedBox}
 use Rattle.line_commands.specs.TimedLines.{timed_lines}
 use Rattle.line_commands.specs.Recording.{BothTexts, both_with, PrintsBoth}
 use Rattle.command_ends.specs.Links.{rules_of, link_profile_of}
-use Rattle.command_ends.specs.declared.words.Profile.{Profile}
-use Rattle.command_ends.specs.declared.words.Proto.{Proto}
+use Rattle.command_ends.specs.declared.link.Profile.{Profile}
+use Rattle.command_ends.specs.declared.link.Proto.{Proto}
 
 -- the profile of a box with this setup
 abbrev pub duplex_profile : Proto → Profile → Setup → LinkProfile

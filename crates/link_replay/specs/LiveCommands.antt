@@ -10,8 +10,8 @@ use Rattle.command_ends.specs.Links.{link_of}
 use Rattle.command_ends.specs.Outside.{Outside}
 use Rattle.command_ends.specs.Statuses.{fault_line}
 use Rattle.command_ends.specs.declared.status.Status.{Status}
-use Rattle.command_ends.specs.declared.words.Profile.{Profile}
-use Rattle.command_ends.specs.declared.words.Proto.{Proto}
+use Rattle.command_ends.specs.declared.link.Profile.{Profile}
+use Rattle.command_ends.specs.declared.link.Proto.{Proto}
 use Rattle.line_commands.specs.LinkBoxes.{seal_boxed, seal_rest, check_boxed, check_rest}
 use Rattle.command_ends.specs.Causes.{DiskCause}
 use Rattle.live_commands.specs.LineEnds.{LivesOver, HasCounts}

@@ -30,8 +30,8 @@ use Rattle.session_audit.specs.TellsOf.{TellsOf}
 use Rattle.link_replay.specs.ReadCommand.{device_reads}
 use Rattle.line_commands.specs.Given.{HasKey}
 use Rattle.line_commands.specs.LinkBoxes.{seal_rest}
-use Rattle.command_ends.specs.declared.words.Profile.{Profile}
-use Rattle.command_ends.specs.declared.words.Proto.{Proto}
+use Rattle.command_ends.specs.declared.link.Profile.{Profile}
+use Rattle.command_ends.specs.declared.link.Proto.{Proto}
 use Rattle.command_ends.specs.Links.{rules_of, link_profile_of}
 
 -- the profile of a link with this key and direction, for boxes that begin with new journals

@@ -7,8 +7,8 @@ use Rattle.command_ends.specs.Outside.{Outside}
 use Rattle.command_ends.specs.declared.status.Status.{Status}
 use Rattle.line_commands.specs.LinkBoxes.{seal_boxed, seal_rest}
 use Rattle.line_commands.specs.ReplaysBox.{ReplaysBox}
-use Rattle.command_ends.specs.declared.words.Profile.{Profile}
-use Rattle.command_ends.specs.declared.words.Proto.{Proto}
+use Rattle.command_ends.specs.declared.link.Profile.{Profile}
+use Rattle.command_ends.specs.declared.link.Proto.{Proto}
 use Rattle.command_ends.specs.Links.{link_of}
 
 -- What `seal` does.

@@ -14,9 +14,9 @@ use Rattle.command_ends.specs.declared.status.Status.TheVariants.{Done, NoMemory
 use Rattle.line_commands.specs.SpacedTexts.{spaced_texts, most_waiting}
 use Rattle.line_commands.specs.SpacesLine.{SpacesLine, space_rest}
 use Rattle.link_replay.specs.ReadCommand.{device_reads}
-use Rattle.command_ends.specs.declared.words.Profile.{Profile}
+use Rattle.command_ends.specs.declared.link.Profile.{Profile}
 use Rattle.command_ends.specs.Links.{gap_of}
-use Rattle.command_ends.specs.declared.words.Proto.{Proto}
+use Rattle.command_ends.specs.declared.link.Proto.{Proto}
 
 -- what `space` makes of a line: the spaced line, and the lines of the frames that are lost
 abbrev pub spaced_by : Proto → Profile → LineAndNotes

@@ -17,9 +17,9 @@ use Rattle.command_ends.specs.Links.{rules_of, link_profile_of}
 use Rattle.link_replay.specs.Printing.{Prints}
 use Rattle.link_replay.specs.ReadCommand.{device_reads}
 use Rattle.command_ends.specs.Words.{link_word}
-use Rattle.command_ends.specs.declared.words.Profile.{Profile}
-use Rattle.command_ends.specs.declared.words.Proto.{Proto}
-use Rattle.command_ends.specs.declared.words.Proto.TheVariants.{Rtu, Dnp3}
+use Rattle.command_ends.specs.declared.link.Profile.{Profile}
+use Rattle.command_ends.specs.declared.link.Proto.{Proto}
+use Rattle.command_ends.specs.declared.link.Proto.TheVariants.{Rtu, Dnp3}
 
 -- how the frames of a protocol are drawn
 abbrev pub drawing_of : Proto → Drawing

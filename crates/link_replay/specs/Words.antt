@@ -3,8 +3,8 @@ use Rattle.std.specs.Prelude.{◌≡◌, ◌≢◌, ◌⊎◌, ℕ, ◌^◌, ◌
 use Rattle.std.specs.Prelude.{None, codes, slice_get}
 use Rattle.link_format.specs.declared.dir.Dir.{Dir}
 use Rattle.sequence_journal.specs.declared.numbers.TheConstants.{LIMIT}
-use Rattle.command_ends.specs.declared.words.Proto.{Proto}
-use Rattle.command_ends.specs.declared.words.Profile.{Profile}
+use Rattle.command_ends.specs.declared.link.Proto.{Proto}
+use Rattle.command_ends.specs.declared.link.Profile.{Profile}
 use Rattle.command_ends.specs.Words.{proto_word, link_word, dir_word}
 use Rattle.link_replay.specs.declared.words.Command.{Command}
 use Rattle.link_replay.specs.declared.words.Command.TheVariants.{Init, Read, Vectors, Seal, Check}

@@ -1,22 +1,27 @@
 -- What a verdict says, and when two lists of reads don't differ.
-use Rattle.device_model.specs.{DnpReads.dnp_reads, Frames.FrameRead, RtuReads.rtu_reads}
+use Rattle.command_ends.specs.Links.{rules_of, label_of, link_profile_of, device_reads}
+use Rattle.command_ends.specs.declared.link.Profile.{Profile, TheVariants.Y18, TheVariants.Y24}
+use Rattle.command_ends.specs.declared.link.Proto.{Proto, TheVariants.Rtu, TheVariants.Dnp3}
+use Rattle.device_model.specs.{Frames.FrameRead, Stated.StatedDevice.rtu, Stated.StatedDevice.dnp}
 use Rattle.{dnp_link_frame.specs.Rules.dnp_rules, line_rules.specs.RulesLaws.IsLawful}
+use Rattle.dnp_link_frame.specs.RulesLaws.{dnp_lawful, dnp_headed}
 use Rattle.link_format.specs.NumberedFrame.{NumberedFrame, numbers_of}
-use Rattle.link_format.specs.{Profile.delay, Y18.y18, Y24.y24}
+use Rattle.link_format.specs.{Profile.delay, Setup.Setup}
 use Rattle.receiver_laws.proofs.Accounting.{sealed-rise, rising-accounted}
 use Rattle.receiver_laws.proofs.Headline.{all-stay, bytes-delivered, passed-sealed}
-use Rattle.receiver_laws.proofs.Rising.{have_passed}
+use Rattle.receiver_laws.proofs.{Rising.have_passed, Stated.stated_fit, Stated.stated_reads_all}
 use Rattle.receiver_laws.specs.Accounted.{forged, is_among, pair_of, pairs_of, IsSubsequence}
 use Rattle.receiver_laws.specs.{Accounted.IsAccountedFor, AllLeft.ReadsAllThatPassed}
 use Rattle.receiver_laws.specs.{Headline.bytes_read, Headline.bytes_sealed, Reading.delivered}
+use Rattle.receiver_laws.specs.Fitting.{StatedProfile.of_y18, StatedProfile.of_y24}
 use Rattle.session_lists.proofs.Comparing.{none-before}
 use Rattle.session_lists.specs.Comparison.{is_same_read, first_difference, read_later}
 use Rattle.session_lists.specs.Comparison.{difference_at, difference_of}
 use Rattle.session_lists.specs.declared.comparison.Difference.{Difference}
-use Rattle.rtu_frame.specs.Rules.{rtu_rules}
+use Rattle.rtu_frame.specs.Rules.{rtu_rules, rtu_lawful, rtu_headed}
 use Rattle.sequence_journal.specs.{Uptimes.RiseFrom, declared.numbers.TheConstants.LIMIT}
 use Rattle.session_audit.specs.{AuditedInput.AuditsInput, Clean.IsClean, Sessions.LinkKind}
-use Rattle.session_audit.specs.Sessions.{session_profile_of, kind_of, sent_profile, got_profile}
+use Rattle.session_audit.specs.Sessions.{sent_profile, got_profile}
 use Rattle.session_audit.specs.Sessions.{sealed_in_session, passed_in_session, read_in, line_received, verdict_with}
 use Rattle.session_audit.specs.{Sessions.verdict_of_session, Verdicts.finding_by}
 use Rattle.session_audit.specs.Verdicts.{are_none, counts_of}
@@ -31,7 +36,7 @@ use Rattle.std.proofs.lemmas.Bool.{cases_Bool, and_parts, and_from, eqb-true, eq
 use Rattle.std.proofs.lemmas.{Bool.cond-false, Bool.cond_both, Slice.Eq.bytes_eq-Decides}
 use Rattle.std.proofs.lemmas.List.{length-map}
 use Rattle.{std.specs.Prelude.IfOk, tick_drive.specs.declared.end.End.End}
-use Rattle.yasir_ticks.specs.{declared.tick.Tick.Tick}
+use Rattle.yasir_ticks.specs.{Ticks.AreTicks, declared.tick.Tick.Tick}
 
 -- ---- lists of reads
 
@@ -179,63 +184,26 @@ module _ (kind : LinkKind) (session : Session) where
       never-by (are_none (counts_of (sealed_in_session kind session device) P X))
       (forged (sealed_in_session kind session device) P) (difference_of E X) difference none
 
--- What holds for both protocols with both profiles holds for each session.
-pub each-kind : (P : LinkKind → Type 0)
-    → P (record { profile = y18 1 LIMIT; rules = rtu_rules; reads = rtu_reads })
-    → P (record { profile = y24 1 LIMIT; rules = rtu_rules; reads = rtu_reads })
-    → P (record { profile = y18 2 LIMIT; rules = dnp_rules; reads = dnp_reads })
-    → P (record { profile = y24 2 LIMIT; rules = dnp_rules; reads = dnp_reads })
-    → (session : Session) → P (kind_of session)
-each-kind P rtu18 rtu24 dnp18 dnp24 session =
-    cond_both (session.label == 1)
-    (record { profile = session_profile_of session.profile 1; rules = rtu_rules; reads = rtu_reads })
-    (record { profile = session_profile_of session.profile 2; rules = dnp_rules; reads = dnp_reads }) P
-    (λ rtu. cond_both (session.profile == 18) (y18 1 LIMIT) (y24 1 LIMIT)
-    (λ format. P (record { profile = format; rules = rtu_rules; reads = rtu_reads }))
-    (λ e. rtu18) (λ e. rtu24))
-    (λ dnp. cond_both (session.profile == 18) (y18 2 LIMIT) (y24 2 LIMIT)
-    (λ format. P (record { profile = format; rules = dnp_rules; reads = dnp_reads }))
-    (λ e. dnp18) (λ e. dnp24))
+-- ---- both protocols, with both profiles
 
--- ---- a session whose protocol and profile were told apart
+pub lawful-rules : (proto : Proto) → IsLawful (rules_of proto)
+lawful-rules Rtu = rtu_lawful
+lawful-rules Dnp3 = dnp_lawful
 
--- the kind of a link: `rtu` says whether the protocol is Modbus RTU, and `short` whether the
--- profile is y18
-abbrev pub kind_at : Bool → Bool → LinkKind
-kind_at rtu short =
-    if rtu then record {
-      profile = if short then y18 1 LIMIT else y24 1 LIMIT;
-      rules = rtu_rules;
-      reads = rtu_reads;
-    }
-    else record {
-      profile = if short then y18 2 LIMIT else y24 2 LIMIT;
-      rules = dnp_rules;
-      reads = dnp_reads;
-    }
-
-pub kind-so : (P : LinkKind → Type 0) (session : Session) (rtu short : Bool)
-    → (session.label == 1) ≡ rtu → (session.profile == 18) ≡ short → P (kind_at rtu short)
-    → P (kind_of session)
-kind-so P session rtu short rtu_is short_is holds =
-    let kind : kind_of session ≡ kind_at rtu short =
-    ap (λ b. kind_at b (session.profile == 18)) rtu_is ∙ ap (kind_at rtu) short_is in
-    subst P (sym kind) holds
-
-pub judged-so : {E : Type 0} (session : Session) (device link received : List Tick)
-    (rtu short : Bool) → (session.label == 1) ≡ rtu → (session.profile == 18) ≡ short
-    → (result : Result Verdict E)
-    → IfOk result (λ verdict. verdict
-    ≡ verdict_with (kind_at rtu short) session device link received)
-    → IfOk result (λ verdict. verdict ≡ verdict_of_session session device link received)
-judged-so session device link received rtu short rtu_is short_is result is =
-    kind-so (λ kind. IfOk result (λ verdict. verdict
-    ≡ verdict_with kind session device link received)) session rtu short rtu_is short_is is
-
-pub audited-so : (session : Session) (before now : Option (List ℕ)) (result : Result Verdict End)
-    (rtu short : Bool) → (session.label == 1) ≡ rtu → (session.profile == 18) ≡ short
-    → AuditsInput (verdict_with (kind_at rtu short) session) before now result
-    → AuditsInput (verdict_of_session session) before now result
-audited-so session before now result rtu short rtu_is short_is is =
-    kind-so (λ kind. AuditsInput (verdict_with kind session) before now result) session rtu short
-    rtu_is short_is is
+-- The line of a receiver, recorded until all has left, has all frames that passed.
+pub reads-own-line : (proto : Proto) (profile : Profile) (setup : Setup) (floor : ℕ)
+    (link : List Tick) → AreTicks link
+    → ReadsAllThatPassed (rules_of proto) (device_reads proto)
+    (link_profile_of profile (label_of proto) LIMIT setup) floor link 320 4
+reads-own-line Rtu Y18 setup floor link ticks =
+    stated_reads_all rtu _ tt (stated_fit rtu_rules rtu_headed of_y18 1 LIMIT setup).timely floor link
+    ticks 320 4 (omega arith) (omega arith)
+reads-own-line Rtu Y24 setup floor link ticks =
+    stated_reads_all rtu _ tt (stated_fit rtu_rules rtu_headed of_y24 1 LIMIT setup).timely floor link
+    ticks 320 4 (omega arith) (omega arith)
+reads-own-line Dnp3 Y18 setup floor link ticks =
+    stated_reads_all dnp _ tt (stated_fit dnp_rules dnp_headed of_y18 2 LIMIT setup).timely floor link
+    ticks 320 4 (omega arith) (omega arith)
+reads-own-line Dnp3 Y24 setup floor link ticks =
+    stated_reads_all dnp _ tt (stated_fit dnp_rules dnp_headed of_y24 2 LIMIT setup).timely floor link
+    ticks 320 4 (omega arith) (omega arith)

@@ -1,32 +1,25 @@
 -- A session that has ended, and the verdict on three recordings of it: the line of the device that
 -- sends, the link, and the line of the device that receives.
-use Rattle.std.specs.Prelude.{◌≡◌, ℕ, ◌+◌, ◌≤◌, ◌⊎◌, ◌==◌, List, ◌++◌, length, if◌then◌else◌}
+use Rattle.std.specs.Prelude.{ℕ, ◌+◌, ◌≤◌, List, ◌++◌, length}
 use Rattle.yasir_ticks.specs.Ticks.{silent}
 use Rattle.yasir_ticks.specs.declared.TheConstants.{T3_5_TICKS}
 use Rattle.yasir_ticks.specs.declared.tick.Tick.{Tick}
 use Rattle.line_rules.specs.Rules.{Rules}
-use Rattle.rtu_frame.specs.Rules.{rtu_rules}
-use Rattle.dnp_link_frame.specs.Rules.{dnp_rules}
-use Rattle.device_model.specs.DnpReads.{dnp_reads}
 use Rattle.device_model.specs.Frames.{FrameRead}
-use Rattle.device_model.specs.RtuReads.{rtu_reads}
 use Rattle.link_format.specs.NumberedFrame.{NumberedFrame}
 use Rattle.link_format.specs.Profile.{Profile, delay}
 use Rattle.link_format.specs.Setup.{Setup, setup_of}
-use Rattle.link_format.specs.Y18.{y18}
-use Rattle.link_format.specs.Y24.{y24}
 use Rattle.sequence_journal.specs.declared.numbers.TheConstants.{LIMIT}
 use Rattle.link_box.specs.Sealing.{sealed}
 use Rattle.link_box.specs.Checking.{passed, received_line}
+use Rattle.command_ends.specs.Links.{rules_of, label_of, link_profile_of, device_reads}
 use Rattle.session_lists.specs.Listed.{link_rest}
 use Rattle.session_audit.specs.Verdicts.{verdict_on}
 use Rattle.session_audit.specs.declared.session.Session.{Session}
 use Rattle.session_audit.specs.declared.verdict.Verdict.{Verdict}
 
--- Holds if the label and the profile are among those that exist, and each floor is at most `LIMIT`.
+-- Holds if each floor is at most `LIMIT`.
 pub record IsSession (session : Session) : Type 0 where
-  pub label : (session.label ≡ 1) ⊎ (session.label ≡ 2)
-  pub profile : (session.profile ≡ 18) ⊎ (session.profile ≡ 24)
   pub sent : session.sent_floor ≤ LIMIT
   pub got : session.got_floor ≤ LIMIT
 
@@ -57,21 +50,13 @@ pub record LinkKind : Type 0 where
   pub rules : Rules
   pub reads : List Tick → List FrameRead
 
--- the profile of a link by the session's `profile`, the label of the protocol and a setup: y18 for
--- 18, and y24 for any other number
-abbrev pub session_profile_of : ℕ → ℕ → Setup → Profile
-session_profile_of profile label = if profile == 18 then y18 label LIMIT else y24 label LIMIT
-
--- what belongs to this label and this profile: Modbus RTU for label 1, and DNP3 for any other
-abbrev pub kind_by : ℕ → ℕ → LinkKind
-kind_by label profile =
-    if label == 1
-    then record { profile = session_profile_of profile 1; rules = rtu_rules; reads = rtu_reads }
-    else record { profile = session_profile_of profile 2; rules = dnp_rules; reads = dnp_reads }
-
 -- what belongs to the protocol and the profile of a session
 abbrev pub kind_of : Session → LinkKind
-kind_of session = kind_by session.label session.profile
+kind_of session = record {
+  profile = link_profile_of session.profile (label_of session.proto) LIMIT;
+  rules = rules_of session.proto;
+  reads = device_reads session.proto;
+}
 
 -- ---- what the recordings say
 

@@ -10,7 +10,8 @@
 //! The verdict on a session of Modbus RTU with the profile y18, whose boxes had new journals:
 //!
 //!     let session = Session {
-//!         label: 1, profile: 18, dir: Dir::Ab, key: &key, sent_floor: 0, got_floor: 0,
+//!         proto: Proto::Rtu, profile: Profile::Y18, dir: Dir::Ab, key: &key, sent_floor: 0,
+//!         got_floor: 0,
 //!     };
 //!     match audit(alloc, &session, &device, &link, &received)?.finding {
 //!         Finding::Clean => {}

@@ -9,8 +9,9 @@ ghost use Rattle.session_audit.specs.Sessions.{IsSession, verdict_of_session};
 ghost use Rattle.session_audit.specs.Through.{verdict_through};
 
 use crate::judged_lists::{judge_lists, lists_for};
-use crate::link_boxes::with_boxes;
+use crate::link_boxes::audit_through;
 use crate::{Session, Verdict};
+use command_ends::with_link;
 use device_model::Device;
 use session_lists::{FrameBox, list_session};
 use std::alloc::Global;
@@ -46,6 +47,13 @@ fn audit_input_by<S: FrameBox, C: FrameBox, V: Device + Drop, I: Source>(
     Ok(judge_lists(session, &lists))
 }
 
+// Calls `audit_input_by` with the boxes and the device of a row of `with_link`.
+macro_rules! audit_recorded {
+    ($row:tt, $alloc:expr, $session:expr, $input:expr) => {
+        audit_through!($row, audit_input_by, [I], $alloc, $session, $input)
+    };
+}
+
 /// Judges a session that has ended, as `audit` does, by three recordings of it in one input, which
 /// two marks separate. No tick is kept. The frames that were sealed and those that passed are kept,
 /// and if there is no memory for them, `End::Stopped` is returned. Any other `End` says why the
@@ -56,10 +64,14 @@ pub fn audit_input<I: Source>(
     input: &mut I,
 ) -> Result<Verdict, End>
     requires { IsSession session.now }
-    ensures audits { AuditsInput (verdict_of_session session.now) (I.left input.old) (I.left input.new)
-        result }
+    ensures audits { AuditsInput (verdict_of_session session.now) (I.left input.old)
+        (I.left input.new) result }
     ensures read { IsReadCause (I.faults input.old) (I.faults input.new)
         (is_read_answer result) }
 {
-    with_boxes!(alloc, session, audit_input_by, [I], input)
+    with_link!(
+        session.proto,
+        session.profile,
+        audit_recorded(alloc, session, input)
+    )
 }

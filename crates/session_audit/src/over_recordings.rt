@@ -7,8 +7,9 @@ ghost use Rattle.session_audit.specs.Sessions.{IsSession, AreRecordings, verdict
 ghost use Rattle.session_audit.specs.Through.{verdict_through};
 
 use crate::judged_lists::{judge_lists, lists_for};
-use crate::link_boxes::with_boxes;
+use crate::link_boxes::audit_through;
 use crate::{Session, Verdict};
+use command_ends::with_link;
 use device_model::Device;
 use session_lists::{FrameBox, NoMemory, list_lines};
 use std::alloc::Global;
@@ -49,6 +50,13 @@ fn audit_by<S: FrameBox, C: FrameBox, V: Device + Drop>(
     }
 }
 
+// Calls `audit_by` with the boxes and the device of a row of `with_link`.
+macro_rules! audit_lines {
+    ($row:tt, $alloc:expr, $session:expr, $lines:expr) => {
+        audit_through!($row, audit_by, [], $alloc, $session, $lines)
+    };
+}
+
 /// Judges a session that has ended by three recordings of it: the line of the device that sends,
 /// the link, and the line of the device that receives, each as a list of at most 16,777,216 ticks.
 /// The transmitter's frames are sealed anew, the link is checked anew, and the third line is read
@@ -74,5 +82,9 @@ pub fn audit(
         link,
         received,
     };
-    with_boxes!(alloc, session, audit_by, [], lines)
+    with_link!(
+        session.proto,
+        session.profile,
+        audit_lines(alloc, session, lines)
+    )
 }

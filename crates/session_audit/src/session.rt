@@ -1,13 +1,14 @@
 //! A session that has ended, as its two boxes were set up.
+use command_ends::{Profile, Proto};
 use link_format::Dir;
 
 /// A session that has ended, as its two boxes were set up.
 #[derive(Clone, Copy, Debug)]
 pub struct Session<'a> {
-    /// The label of the protocol: 1 for Modbus RTU, 2 for DNP3.
-    pub label: u8,
-    /// The profile by its delay in ticks: 18 or 24.
-    pub profile: u8,
+    /// The protocol of the line.
+    pub proto: Proto,
+    /// The profile of the link.
+    pub profile: Profile,
     /// The direction of the line.
     pub dir: Dir,
     /// The key of both boxes.

@@ -1,5 +1,5 @@
 -- Calls that take no tick, and return no answer.
-use Rattle.any_box.specs.declared.any_spacer.AnySpacer.{AnySpacer}
+use Rattle.any_box.specs.declared.any_box.AnySpacer.{AnySpacer}
 use Rattle.any_box.specs.declared.defined.DefinedSpacer.{Ghosts as DefinedSpacer}
 use Rattle.any_box.specs.declared.any_box.AnyBox.{AnyBox}
 use Rattle.any_box.specs.declared.defined.DefinedBox.{Ghosts as DefinedBox}

@@ -1,5 +1,5 @@
 -- What a handle holds, a box of a link or a spacer or nothing, and what their calls do.
-use Rattle.any_box.specs.declared.any_spacer.AnySpacer.{AnySpacer}
+use Rattle.any_box.specs.declared.any_box.AnySpacer.{AnySpacer}
 use Rattle.any_box.specs.declared.defined.DefinedSpacer.{Ghosts as DefinedSpacer}
 use Rattle.any_box.specs.declared.any_box.AnyBox.{AnyBox}
 use Rattle.any_box.specs.declared.defined.DefinedBox.{Ghosts as DefinedBox}

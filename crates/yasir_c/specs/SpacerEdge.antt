@@ -1,12 +1,12 @@
 -- What the functions that C calls for a spacer do.
-use Rattle.any_box.specs.declared.any_spacer.AnySpacer.{AnySpacer}
+use Rattle.any_box.specs.declared.any_box.AnySpacer.{AnySpacer}
 use Rattle.any_box.specs.declared.defined.DefinedSpacer.{Ghosts as DefinedSpacer}
 use Rattle.std.specs.Prelude.{◌≡◌, ◌≢◌, ℕ, ◌≤◌, ◌⊎◌, Option, Some, None}
 use Rattle.yasir_ticks.specs.declared.tick.Tick.{Tick}
 use Rattle.line_spacer.specs.declared.spacer.SpaceStep.{SpaceStep}
 use Rattle.any_box.specs.HeldSpacers.{BeginsSpacer}
-use Rattle.any_box.specs.declared.any_spacer.SpacerKind.{SpacerKind}
-use Rattle.any_box.specs.declared.any_spacer.SpacerKind.TheVariants.{Rtu, RtuWide, Dnp3, Dnp3Wide}
+use Rattle.any_box.specs.declared.kind.SpacerKind.{SpacerKind}
+use Rattle.command_ends.specs.Links.{label_of, delay_of}
 use Rattle.any_box.specs.declared.held_spacer.HeldSpacer.{HeldSpacer}
 use Rattle.yasir_c.specs.Answers.{tick_bytes, tick_in}
 use Rattle.yasir_c.specs.Holding.{HoldsOne, SpacesTick, SpacesNoTick}
@@ -18,10 +18,7 @@ use Rattle.yasir_c.specs.declared.status.Status.TheVariants as Is
 
 -- the numbers of a protocol and a profile by which C names a spacer
 abbrev pub spacer_numbers : SpacerKind → ℕ × ℕ
-spacer_numbers Rtu = (1, 18)
-spacer_numbers RtuWide = (1, 24)
-spacer_numbers Dnp3 = (2, 18)
-spacer_numbers Dnp3Wide = (2, 24)
+spacer_numbers kind = (label_of kind.proto, delay_of kind.profile)
 
 -- Holds if these numbers name no spacer.
 abbrev pub NamesNoSpacer : ℕ → ℕ → Type 0

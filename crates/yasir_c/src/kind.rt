@@ -1,6 +1,6 @@
 //! Which box C asks for.
-ghost use Rattle.yasir_c.specs.Kinds.{part_number, proto_number, profile_number, dir_number};
-ghost use Rattle.yasir_c.specs.Kinds.{HasKindNumber};
+ghost use Rattle.command_ends.specs.Links.{HasKnownNumber};
+ghost use Rattle.yasir_c.specs.Kinds.{part_number, dir_number};
 
 use any_box::{Kind, Part, Profile, Proto};
 use link_format::Dir;
@@ -20,7 +20,7 @@ pub struct KindNumbers {
 }
 
 fn part_in(number: u8) -> Option<Part>
-    ensures { HasKindNumber part_number number result }
+    ensures { HasKnownNumber part_number number result }
 {
     match number {
         0 => Some(Part::Sealer),
@@ -29,28 +29,8 @@ fn part_in(number: u8) -> Option<Part>
     }
 }
 
-fn proto_in(number: u8) -> Option<Proto>
-    ensures { HasKindNumber proto_number number result }
-{
-    match number {
-        1 => Some(Proto::Rtu),
-        2 => Some(Proto::Dnp3),
-        _ => None,
-    }
-}
-
-fn profile_in(number: u8) -> Option<Profile>
-    ensures { HasKindNumber profile_number number result }
-{
-    match number {
-        18 => Some(Profile::Y18),
-        24 => Some(Profile::Y24),
-        _ => None,
-    }
-}
-
 fn dir_in(number: u8) -> Option<Dir>
-    ensures { HasKindNumber dir_number number result }
+    ensures { HasKnownNumber dir_number number result }
 {
     match number {
         0 => Some(Dir::Ab),
@@ -67,8 +47,8 @@ impl KindNumbers {
         ensures { IsKnownAs self.now result }
     {
         let part = part_in(self.part)?;
-        let proto = proto_in(self.protocol)?;
-        let profile = profile_in(self.profile)?;
+        let proto = Proto::of_label(self.protocol)?;
+        let profile = Profile::of_delay(self.profile)?;
         let dir = dir_in(self.direction)?;
         let kind = Kind {
             part,

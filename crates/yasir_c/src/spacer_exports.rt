@@ -7,20 +7,16 @@ use crate::handle::{Handle, put_in, taken_out};
 use crate::held::Held;
 use crate::spaced::Spaced;
 use crate::status::Status;
-use any_box::{AnySpacer, DefinedSpacer, HeldSpacer, SpacerKind};
+use any_box::{AnySpacer, DefinedSpacer, HeldSpacer, Profile, Proto, SpacerKind};
 use std::alloc::Global;
 
 // Returns the spacer of a protocol and a profile, by their numbers, or `None` if there is none.
 fn kind_in(protocol: u8, profile: u8) -> Option<SpacerKind>
     ensures { NamesSpacer protocol profile result }
 {
-    match (protocol, profile) {
-        (1, 18) => Some(SpacerKind::Rtu),
-        (1, 24) => Some(SpacerKind::RtuWide),
-        (2, 18) => Some(SpacerKind::Dnp3),
-        (2, 24) => Some(SpacerKind::Dnp3Wide),
-        _ => None,
-    }
+    let proto = Proto::of_label(protocol)?;
+    let profile = Profile::of_delay(profile)?;
+    Some(SpacerKind { proto, profile })
 }
 
 // Makes a spacer, and puts it into a handle that holds nothing.

@@ -13,7 +13,7 @@ ghost use Rattle.link_replay.specs.AuditCommand.{frame_or_none, frames_lines, ve
 ghost use Rattle.link_replay.specs.Commands.{HasCauses};
 
 use command_ends::{
-    Ends, KeyError, Profile, Proto, Status, Unclean, append_decimal, link_of, print_text, read_key,
+    Ends, KeyError, Profile, Proto, Status, Unclean, append_decimal, print_text, read_key,
     status_of, write_frame_line,
 };
 use link_format::Dir;
@@ -46,10 +46,9 @@ fn session_of(asked: Audited, key: &[u8]) -> Session<'_>
         → verdict_of_session result device link received
         ≡ audited_verdict asked key.now device link received }
 {
-    let link = link_of(asked.proto, asked.profile, asked.dir);
     Session {
-        label: link.label,
-        profile: link.profile,
+        proto: asked.proto,
+        profile: asked.profile,
         dir: asked.dir,
         key,
         sent_floor: asked.sent_floor,

@@ -5,10 +5,16 @@ ghost use Rattle.link_replay.specs.declared.words.Command.TheVariants.{Read};
 ghost use Rattle.link_replay.specs.Commands.{HasCauses};
 ghost use Rattle.link_replay.specs.ReadCommand.{ReadsOverInput};
 
-use command_ends::{Ends, Proto, Status};
-use device_model::{DnpDevice, RtuDevice};
+use command_ends::{Ends, Proto, Status, with_device};
 use line_commands::read_frames;
 use yasir_io::{Sink, SlotDisk, Source};
+
+// Prints the frames that a device reads from the input.
+macro_rules! read_by {
+    ($device:ty, $input:expr, $out:expr, $log:expr) => {
+        read_frames::<$device, S, O, L>($input, $out, $log)
+    };
+}
 
 /// Prints the frames that the device of a protocol reads from a recorded line. It isn't inlined:
 /// beside the loops of the other commands, its loops take up to 3 % more instructions.
@@ -28,10 +34,5 @@ pub fn read_line<K: Source, S: Source, O: Sink, L: Sink, D: SlotDisk>(
         log,
         ..
     } = ends;
-    match proto {
-        Proto::Rtu => return read_frames::<RtuDevice, S, O, L>(input, out, log),
-        Proto::Dnp3 => {}
-    }
-    let status = read_frames::<DnpDevice, S, O, L>(input, out, log);
-    status
+    with_device!(proto, read_by(input, out, log))
 }

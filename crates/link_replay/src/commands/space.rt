@@ -4,8 +4,8 @@ ghost use Rattle.command_ends.specs.Ends.{outside_before, outside_after};
 ghost use Rattle.link_replay.specs.declared.words.Command.TheVariants.{Space};
 ghost use Rattle.link_replay.specs.Commands.{HasCauses};
 ghost use Rattle.link_replay.specs.SpaceCommand.{Spaces, SpacesTexts};
-ghost use Rattle.command_ends.specs.declared.words.Profile.{Profile};
-ghost use Rattle.command_ends.specs.declared.words.Proto.{Proto};
+ghost use Rattle.command_ends.specs.declared.link.Profile.{Profile};
+ghost use Rattle.command_ends.specs.declared.link.Proto.{Proto};
 ghost use Rattle.line_commands.specs.SpacedTexts.{spaced_texts};
 
 use command_ends::{Ends, Profile, Proto, Status, with_link};

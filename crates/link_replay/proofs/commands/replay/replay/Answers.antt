@@ -1,7 +1,7 @@
 use Rattle.dnp_link_frame.specs.{Rules.dnp_rules, RulesLaws.dnp_lawful}
 use Rattle.link_replay.proofs.Headlines.{replays-so}
-use Rattle.command_ends.specs.declared.words.Profile.TheVariants.{Y18, Y24}
-use Rattle.command_ends.specs.declared.words.Proto.TheVariants.{Rtu, Dnp3}
+use Rattle.command_ends.specs.declared.link.Profile.TheVariants.{Y18, Y24}
+use Rattle.command_ends.specs.declared.link.Proto.TheVariants.{Rtu, Dnp3}
 use Rattle.rtu_frame.specs.Rules.{rtu_rules, rtu_lawful}
 use Rattle.link_box.proofs.SealNumbers.{sealed-numbered}
 use Rattle.link_replay.proofs.commands.replay.replay.Goals as goal

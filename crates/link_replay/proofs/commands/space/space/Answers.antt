@@ -1,6 +1,6 @@
 use Rattle.link_replay.proofs.Spaced.{spaces-of}
-use Rattle.command_ends.specs.declared.words.Profile.TheVariants.{Y18, Y24}
-use Rattle.command_ends.specs.declared.words.Proto.TheVariants.{Rtu, Dnp3}
+use Rattle.command_ends.specs.declared.link.Profile.TheVariants.{Y18, Y24}
+use Rattle.command_ends.specs.declared.link.Proto.TheVariants.{Rtu, Dnp3}
 use Rattle.link_replay.proofs.commands.space.space.Goals as goal
 
 pub returns-in-Rtu-Y18-with_link-clause-spaces : goal.returns-in-Rtu-Y18-with_link-clause-spaces
