@@ -38,6 +38,7 @@ CHECKS = [
     Check("docs_check", (), *same()),
     Check("reading", (), *same()),
     Check("claims", (), *same()),
+    Check("reach", (), *same()),
     Check("refusals", (), *same()),
     Check("docs_commands", ("program",), *same("PROGRAM")),
     Check("trial_model", ("program",), *same("compare", "PROGRAM")),

@@ -146,17 +146,17 @@ def names_in_many(specs, crates):
 
 
 def files_that_name(crates, pattern, own):
-    """How many files of src/, specs/ and proofs/ outside these crates have a word with the pattern, outside comments and tests."""
+    """The files of src/, of specs/ and of proofs/ outside these crates that have a word with the pattern, outside comments and tests."""
     found = []
     for part, ending in PARTS:
-        found.append(0)
+        found.append([])
         for crate in crates:
             if crate in own or crate in TESTS:
                 continue
             tests = test_files(os.path.join(ROOT, "crates", crate, "src"))
             for path in files_of(crate, part, ending):
-                if path not in tests:
-                    found[-1] += any(pattern.search(line) for line in lines_of(path) if counts(line))
+                if path not in tests and any(pattern.search(line) for line in lines_of(path) if counts(line)):
+                    found[-1].append(path)
     return found
 
 
@@ -169,13 +169,17 @@ def print_reach(specs, crates):
     print("with whole files it is %d lines, in %d files" % (sum(map(definitions_in, files)), len(files)))
     print("names in two or more crates: %d, with %d lines beside the longest of each" % names_in_many(specs, crates))
     for what, pattern, own in THIRD:
-        found = tuple(files_that_name(crates, pattern, own))
+        found = tuple(map(len, files_that_name(crates, pattern, own)))
         print("%s is named outside its crates in %d files of src/, %d of specs/, %d of proofs/" % ((what,) + found))
 
 
-def main():
+def crates_listed():
     named = (line.split("#")[0] for line in lines_of(os.path.join(ROOT, "crates.txt")))
-    crates = [line.split(":")[0].split()[0] for line in named if line.strip()]
+    return [line.split(":")[0].split()[0] for line in named if line.strip()]
+
+
+def main():
+    crates = crates_listed()
     row = "%-18s" + "%12s" * len(COLUMNS)
     print(row % (("crate",) + COLUMNS))
     whole = collections.Counter()
