@@ -11,13 +11,10 @@ use Rattle.tick_drive.specs.declared.end.End.TheVariants.{Refused, TooLong, Read
 
 pub input_cause : (before now : ℕ) (end : End) → IsReadCause before now (is_read_fault end)
     → InputCause before now (status_of end)
-input_cause before now Whole h = h.same refl
-input_cause before now (Refused bad) h = h.same refl
-input_cause before now (TooLong what count) h = h.same refl
 input_cause before now ReadFault h = (h.failed refl, h.never_falls)
 input_cause before now (Stopped stops.WriteFault) h = h.never_falls
 input_cause before now (Stopped stops.JournalFault) h = h.never_falls
-input_cause before now (Stopped stops.NoMemory) h = h.same refl
+input_cause before now end h = h.same refl
 
 pub input_cause_of_whole : (before now : ℕ) (status : Status)
     → (status ≡ Done) ⊎ (status ≡ WriteFault) → now ≡ before
@@ -35,20 +32,10 @@ pub sink_cause_of_end : (out_before out_now log_before log_now : ℕ) (end : End
     → SinkCause out_before out_now log_before log_now (status_of end)
 sink_cause_of_end out_before out_now log_before log_now Whole other partial out log =
     absurd (partial refl)
-sink_cause_of_end out_before out_now log_before log_now (Refused bad) other partial out log =
-    (out, omega (arith, log))
-sink_cause_of_end out_before out_now log_before log_now (TooLong what count) other partial out log =
-    (out, omega (arith, log))
-sink_cause_of_end out_before out_now log_before log_now ReadFault other partial out log =
-    (out, omega (arith, log))
-sink_cause_of_end out_before out_now log_before log_now (Stopped stops.JournalFault) other partial
-    out log =
-    (out, omega (arith, log))
-sink_cause_of_end out_before out_now log_before log_now (Stopped stops.NoMemory) other partial
-    out log =
-    (out, omega (arith, log))
 sink_cause_of_end out_before out_now log_before log_now (Stopped stops.WriteFault) other partial out
     log = cc
+sink_cause_of_end out_before out_now log_before log_now end other partial out log =
+    (out, omega (arith, log))
 
 -- If the sinks' counts hadn't changed before the flushes, then those that fit the status since the
 -- flushes began also fit it since the run began.

@@ -48,12 +48,8 @@ module _ {O L : Type 0} (o : Sink O) (l : Sink L) where
   pub flushes_of_end : (out0 out1 : O) (log0 log1 : L) (end : End) → (end ≡ Whole → ⊥)
       → NoneFlushed o l out0 out1 log0 log1 → FlushesAtEnd o l out0 out1 log0 log1 (status_of end)
   flushes_of_end out0 out1 log0 log1 Whole partial none = absurd (partial refl)
-  flushes_of_end out0 out1 log0 log1 (Refused bad) partial none = none
-  flushes_of_end out0 out1 log0 log1 (TooLong what count) partial none = none
-  flushes_of_end out0 out1 log0 log1 ReadFault partial none = none
-  flushes_of_end out0 out1 log0 log1 (Stopped stops.JournalFault) partial none = none
-  flushes_of_end out0 out1 log0 log1 (Stopped stops.NoMemory) partial none = none
   flushes_of_end out0 out1 log0 log1 (Stopped stops.WriteFault) partial none = inl none
+  flushes_of_end out0 out1 log0 log1 end partial none = none
 
   -- The fault line after a command isn't flushed, so the flushes still fit the status. `Done`,
   -- `Unclean` and `WriteFault` have no fault line.

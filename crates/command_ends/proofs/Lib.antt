@@ -8,3 +8,4 @@ pub mod FlushLaws
 pub mod Readable
 pub mod Printed
 pub mod Decimals
+pub mod Running

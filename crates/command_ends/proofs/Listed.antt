@@ -6,11 +6,8 @@ module _ {X : Type 0} (f : X → List ℕ) where
   three : (xs : List X) {a b c : X} {p q r : List ℕ} → 3 ≤ length xs → length xs < 4
       → a ≡ get_or xs 0 a → b ≡ get_or xs 1 b → c ≡ get_or xs 2 c → p ≡ f a → q ≡ f b → r ≡ f c
       → map f xs ≡ p ∷ q ∷ r ∷ []
-  three [] least below ai bi ci pi qi ri = absurd (omega arith)
-  three (u ∷ []) least below ai bi ci pi qi ri = absurd (omega arith)
-  three (u ∷ v ∷ []) least below ai bi ci pi qi ri = absurd (omega arith)
   three (u ∷ v ∷ w ∷ []) least below ai bi ci pi qi ri = cc
-  three (u ∷ v ∷ w ∷ x ∷ xs) least below ai bi ci pi qi ri = absurd (omega arith)
+  three xs least below ai bi ci pi qi ri = absurd (omega arith)
 
   pub four : (xs : List X) {a b c d : X} {p q r s : List ℕ} → 4 ≤ length xs → length xs < 5
       → a ≡ get_or xs 0 a → b ≡ get_or xs 1 b → c ≡ get_or xs 2 c → d ≡ get_or xs 3 d

@@ -1,8 +1,8 @@
 -- The fault line that follows what a command has written to the log, and the sinks' counts with it.
-use Rattle.command_ends.specs.Causes.{SinkCause, GotLine, LogsFault}
+use Rattle.command_ends.specs.Causes.{SinkCause, GotLine, LogsLine}
 use Rattle.command_ends.specs.{Statuses.fault_line, declared.status.Status.Status}
 use Rattle.command_ends.specs.declared.status.Status.TheVariants.{Done, WriteFault, Unclean}
-use Rattle.std.proofs.Common.{◌≡◌, ◌∙◌, ℕ, ◌≤◌, List, [], Option, inl, inr, refl, sym, subst, arith}
+use Rattle.std.proofs.Common.{◌≡◌, ◌∙◌, ℕ, ◌≤◌, List, [], ◌∷◌, Option, inl, inr, refl, sym, subst, arith}
 use Rattle.yasir_io.specs.Causes.{Rose}
 
 rose-from : (a b c : ℕ) → a ≤ b → Rose b c → Rose a c
@@ -15,17 +15,26 @@ line-from before now a b c line le got = elim got [
   | inr part ↦ inr (part.0, rose-from a b c le part.1)
 ]
 
+lines-from : (before now : Option (List ℕ)) (a b c : ℕ) (line : List ℕ) → a ≤ b
+    → LogsLine before now b c line → LogsLine before now a c line
+lines-from before now a b c [] le logs = logs
+lines-from before now a b c (x ∷ line) le logs = line-from before now a b c (x ∷ line) le logs
+
 -- What holds of the fault line, given the log's faults since the line was begun, also holds given
 -- those since the command began.
-pub logs-from : (out0 out1 before mid after : ℕ) (held_before held_now : Option (List ℕ))
-    (status : Status)
-    → SinkCause out0 out1 before mid status → LogsFault held_before held_now mid after status
-    → LogsFault held_before held_now before after status
-logs-from out0 out1 before mid after held_before held_now Done sinks logs = logs
-logs-from out0 out1 before mid after held_before held_now (Unclean verdict) sinks logs = logs
-logs-from out0 out1 before mid after held_before held_now WriteFault sinks logs = logs
-logs-from out0 out1 before mid after held_before held_now status sinks logs =
-    line-from held_before held_now before mid after _ sinks.1 logs
+module _ (out0 out1 before mid after : ℕ) (held_before held_now : Option (List ℕ)) where
+  pub logs-from : (status : Status) (line : List ℕ) → (fault_line status ≡ [] → line ≡ [])
+      → SinkCause out0 out1 before mid status → LogsLine held_before held_now mid after line
+      → LogsLine held_before held_now before after line
+  logs-from Done line none sinks logs =
+      lines-from held_before held_now before mid after line (omega (arith, sinks.1)) logs
+  logs-from (Unclean verdict) line none sinks logs =
+      lines-from held_before held_now before mid after line (omega (arith, sinks.1)) logs
+  logs-from WriteFault line none sinks logs =
+      subst (LogsLine held_before held_now before after) (sym (none refl))
+      (subst (LogsLine held_before held_now mid after) (none refl) logs)
+  logs-from status line none sinks logs =
+      lines-from held_before held_now before mid after line sinks.1 logs
 
 -- If the sinks' counts fit a status before the fault line, they still do after it, whether the line
 -- was written or failed.

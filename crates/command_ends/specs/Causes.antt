@@ -1,10 +1,9 @@
 -- The causes of a status: the counts of faults of the objects that a run was given, and what the
 -- log has got.
-use Rattle.std.specs.Prelude.{◌≡◌, ℕ, ◌≤◌, ◌⊎◌, List, Option}
+use Rattle.std.specs.Prelude.{◌≡◌, ℕ, ◌≤◌, ◌⊎◌, List, [], Option}
 use Rattle.std.specs.Io.KnownBytes.{append_known}
 use Rattle.yasir_io.specs.Causes.{Rose}
 use Rattle.yasir_io.specs.Output.{GotPrefix}
-use Rattle.command_ends.specs.Statuses.{fault_line}
 use Rattle.command_ends.specs.declared.status.Status.{Status}
 use Rattle.command_ends.specs.declared.status.Status.TheVariants.{Done, ReadFault, WriteFault}
 use Rattle.command_ends.specs.declared.status.Status.TheVariants.{JournalFault, Unclean}
@@ -52,13 +51,12 @@ abbrev pub GotLine : Option (List ℕ) → Option (List ℕ) → ℕ → ℕ →
 GotLine before now faults_before faults_now line =
     (now ≡ append_known before line) ⊎ (GotPrefix before now line × Rose faults_before faults_now)
 
--- Holds if the log has got the fault line of a refusal, and nothing else.
-abbrev pub LogsFault : Option (List ℕ) → Option (List ℕ) → ℕ → ℕ → Status → Type 0
-LogsFault before now faults_before faults_now Done = now ≡ before
-LogsFault before now faults_before faults_now (Unclean verdict) = now ≡ before
-LogsFault before now faults_before faults_now WriteFault = now ≡ before
-LogsFault before now faults_before faults_now status =
-    GotLine before now faults_before faults_now (fault_line status)
+-- Holds if the log has got the fault line of a run, or a front of it, and nothing else. If the run
+-- has none, the line is empty, and the log has got nothing.
+abbrev pub LogsLine : Option (List ℕ) → Option (List ℕ) → ℕ → ℕ → List ℕ → Type 0
+LogsLine before now faults_before faults_now [] = now ≡ before
+LogsLine before now faults_before faults_now line =
+    GotLine before now faults_before faults_now line
 
 -- Holds if no count of faults of the outside rose or is at its greatest value.
 pub record NoneRose (key_before key_now input_before input_now out_before out_now log_before log_now

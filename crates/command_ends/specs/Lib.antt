@@ -7,6 +7,7 @@ pub mod Endings
 pub mod Flushes
 pub mod Outside
 pub mod Ends
+pub mod Programs
 pub mod Given
 pub mod StreamCauses
 pub mod Readable

@@ -1,7 +1,7 @@
 //! The fault line of each status, and its way to the log.
-ghost use Rattle.std.specs.Prelude.{◌≡◌, ◌≤◌, [], ◌∷◌, ◌++◌, length, codes};
+ghost use Rattle.std.specs.Prelude.{◌≡◌, ◌≤◌, ◌++◌, length, codes};
 ghost use Rattle.command_ends.specs.Statuses.{fault_line, fault_word, unit_word};
-ghost use Rattle.command_ends.specs.Causes.{LogsFault};
+ghost use Rattle.command_ends.specs.Programs.{EndsLog};
 
 use crate::Status;
 use crate::text::{Line, push_decimal};
@@ -128,17 +128,22 @@ pub fn fault_line(status: &Status) -> Line
     }
 }
 
-/// Writes the fault line of a status to the log. If this write fails, the status stays the same.
-pub fn write_fault<L: Sink>(log: &mut L, status: &Status)
-    ensures logs { LogsFault (L.held log.old) (L.held log.new) (L.faults log.old) (L.faults log.new)
-        status.now }
-    ensures never_falls { L.faults log.old ≤ L.faults log.new }
+/// Writes the fault line of a run to the log, if it isn't empty. A failure of this write changes
+/// nothing.
+pub fn write_fault_line<L: Sink>(log: &mut L, line: &[u8])
+    ensures ends { EndsLog L.Sink log.old log.new line.now }
     ensures flushes { L.flushes log.new ≡ L.flushes log.old }
-    ensures same { fault_line status.now ≡ [] → log.new ≡ log.old }
 {
-    let line = fault_line(status);
     if line.is_empty() {
         return;
     }
-    let _ = write_all(log, line.as_slice());
+    let _ = write_all(log, line);
+}
+
+/// Writes the fault line of a status to the log. If this write fails, the status stays the same.
+pub fn write_fault<L: Sink>(log: &mut L, status: &Status)
+    ensures ends { EndsLog L.Sink log.old log.new (fault_line status.now) }
+    ensures flushes { L.flushes log.new ≡ L.flushes log.old }
+{
+    write_fault_line(log, fault_line(status).as_slice());
 }

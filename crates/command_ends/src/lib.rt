@@ -41,7 +41,7 @@ mod word_tests;
 
 pub use ending::{flush_both, print_text, status_of};
 pub use ends::Ends;
-pub use fault_log::{fault_line, write_fault};
+pub use fault_log::{fault_line, write_fault, write_fault_line};
 pub use frame_line::{LINE_ROOM, push_read_line, write_frame_line};
 pub use given::{NOT_GIVEN, take_places, words_after_name};
 pub use key_text::{Key, KeyError, read_key};

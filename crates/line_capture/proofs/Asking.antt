@@ -22,21 +22,18 @@ NoTake form rate ways = (f : TakeForm) (r : Rate) (w : Ways)
 module _ (verb form rate : List ℕ) where
   pub three_verb : (verb ≡ codes "give" → ⊥) → (command : Command)
       → IsCaptureCommand (verb ∷ form ∷ rate ∷ []) command → ⊥
-  three_verb other (Take f r w ByTime) is = cc
-  three_verb other (Take f r w ByRecord) is = cc
   three_verb other (Give f r) is = other (ap (word_at 0) is)
+  three_verb other command is = cc
 
   pub three_form : ((f : GiveForm) → form ≡ give_form_word f → ⊥) → (command : Command)
       → IsCaptureCommand (verb ∷ form ∷ rate ∷ []) command → ⊥
-  three_form none (Take f r w ByTime) is = cc
-  three_form none (Take f r w ByRecord) is = cc
   three_form none (Give f r) is = none f (ap (word_at 1) is)
+  three_form none command is = cc
 
   pub three_rate : ((r : Rate) → rate ≡ rate_word r → ⊥) → (command : Command)
       → IsCaptureCommand (verb ∷ form ∷ rate ∷ []) command → ⊥
-  three_rate none (Take f r w ByTime) is = cc
-  three_rate none (Take f r w ByRecord) is = cc
   three_rate none (Give f r) is = none r (ap (word_at 2) is)
+  three_rate none command is = cc
 
   pub three_ask : (f : GiveForm) (r : Rate) → verb ≡ codes "give" → form ≡ give_form_word f
       → rate ≡ rate_word r → IsCaptureCommand (verb ∷ form ∷ rate ∷ []) (Give f r)
@@ -71,9 +68,8 @@ module _ (verb form rate ways last : List ℕ) where
 
   pub five_last : (last ≡ codes "frames" → ⊥) → (command : Command)
       → IsCaptureCommand (verb ∷ form ∷ rate ∷ ways ∷ last ∷ []) command → ⊥
-  five_last other (Take f r w ByTime) is = cc
   five_last other (Take f r w ByRecord) is = other (ap (word_at 4) is)
-  five_last other (Give f r) is = cc
+  five_last other command is = cc
 
   pub no_five : NoTake form rate ways → (command : Command)
       → IsCaptureCommand (verb ∷ form ∷ rate ∷ ways ∷ last ∷ []) command → ⊥
@@ -93,11 +89,9 @@ module _ (verb form rate ways last : List ℕ) where
 pub least_words : (words : List (List ℕ)) (command : Command) → IsCaptureCommand words command
     → 3 ≤ length words
 least_words words (Take f r w ByTime) is = let n = ap length is in omega arith
-least_words words (Take f r w ByRecord) is = let n = ap length is in omega arith
-least_words words (Give f r) is = let n = ap length is in omega arith
+least_words words command is = let n = ap length is in omega arith
 
 pub most_words : (words : List (List ℕ)) (command : Command) → IsCaptureCommand words command
     → length words ≤ 5
 most_words words (Take f r w ByTime) is = let n = ap length is in omega arith
-most_words words (Take f r w ByRecord) is = let n = ap length is in omega arith
-most_words words (Give f r) is = let n = ap length is in omega arith
+most_words words command is = let n = ap length is in omega arith

@@ -84,26 +84,17 @@ few_ticks form file a b lines =
 -- A text in memory is read without a fault.
 pub no_read_fault : (end : End) → IsReadCause 0 0 (is_read_fault end)
     → Ended (end_status end) ≡ Ended statuses.ReadFault → ⊥
-no_read_fault ends.Whole cause is = cc
-no_read_fault (ends.Refused bad) cause is = cc
-no_read_fault (ends.TooLong what count) cause is = cc
 no_read_fault ends.ReadFault cause is = let h = cause.failed refl in absurd (omega arith)
-no_read_fault (ends.Stopped stop) cause is = cc
+no_read_fault end cause is = cc
 
 -- The causes are right if no sink was called.
 pub quiet_end : (end : End) (out log : ℕ) → SinkCause out out log log (end_status end)
 quiet_end ends.Whole out log = (refl, refl)
-quiet_end (ends.Refused bad) out log = (refl, omega arith)
-quiet_end (ends.TooLong what count) out log = (refl, omega arith)
-quiet_end ends.ReadFault out log = (refl, omega arith)
-quiet_end (ends.Stopped stop) out log = (refl, omega arith)
+quiet_end end out log = (refl, omega arith)
 
 end_no_usage : (end : End) → Ended (end_status end) ≡ Ended statuses.Usage → ⊥
 end_no_usage ends.Whole is = cc
-end_no_usage (ends.Refused bad) is = cc
-end_no_usage (ends.TooLong what count) is = cc
-end_no_usage ends.ReadFault is = cc
-end_no_usage (ends.Stopped stop) is = cc
+end_no_usage end is = cc
 
 print_no_usage : (text : List ℕ) (before now : Option (List ℕ)) (status : Status)
     → PrintsText text before now status → Ended status ≡ Ended statuses.Usage → ⊥
@@ -127,8 +118,7 @@ read_no_usage : (form : GiveForm) (rate : Rate) (read : ReadEnd) (file : List �
     → outcome ≡ Ended statuses.Usage → ⊥
 read_no_usage form rate Whole file before now outcome gives is =
     file_no_usage form rate file before now outcome gives is
-read_no_usage form rate Failed file before now outcome gives is = let h = gives.0 in cc
-read_no_usage form rate TooLong file before now outcome gives is = let h = gives.0 in cc
+read_no_usage form rate read file before now outcome gives is = let h = gives.0 in cc
 
 pub give_usage : (form : GiveForm) (rate : Rate) (in_before in_now : Told)
     (before now : CaptureHeld) (outcome : Outcome) → GivesCapture form rate in_before in_now before now outcome

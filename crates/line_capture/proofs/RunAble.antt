@@ -1,10 +1,11 @@
 -- A run with a right input.
 use Rattle.line_capture.proofs.Able.{EndsFree, take_done, give_done, ends_well}
-use Rattle.line_capture.{proofs.SoundForms.sound_form, specs.Able.CaptureMayDo, specs.Able.CaptureEndsWell}
-use Rattle.line_capture.specs.Programs.{CaptureOutside, CaptureDoes, AnswersCapture, CaptureIsCalm, RunCauses}
+use Rattle.line_capture.{proofs.SoundForms.sound_form, specs.Able.CaptureMayDo}
+use Rattle.line_capture.specs.Able.{CaptureEndsWell}
+use Rattle.line_capture.specs.Programs.{CaptureOutside, CaptureDoes, CaptureIsCalm, RunCauses}
 use Rattle.line_capture.specs.declared.outcome.Outcome.{Outcome}
 use Rattle.line_capture.specs.declared.words.Command.{Command, TheVariants.Take, TheVariants.Give}
-use Rattle.std.proofs.Common.{ℕ, List, Option, Some, None}
+use Rattle.std.proofs.Common.{Option, Some, None}
 use Rattle.yasir_io.specs.Causes.{Rose}
 use Rattle.yasir_io.specs.declared.{sink.Sink.Ghosts as Sink, source.Source.Ghosts as Source}
 
@@ -19,14 +20,14 @@ module _ {S O L : Type 0} (s : Source S) (o : Sink O) (l : Sink L) where
       give_done form rate _ _ _ _ outcome does able calm
 
   -- The run ends well, though the log may have got a fault line since.
-  pub able_after : (words : List (List ℕ)) (before after : CaptureOutside S O L) (noted : L)
+  pub able_after : (asked : Option Command) (before after : CaptureOutside S O L) (noted : L)
       (outcome : Outcome)
-      → (answers : AnswersCapture s o l words before (record after { log = noted }) outcome)
-      → RunCauses s o l before after outcome → CaptureMayDo answers.asked (s.left before.input)
-      → CaptureIsCalm s o l before after → CaptureEndsWell outcome
-  able_after words before after noted outcome answers causes able calm =
+      → CaptureDoes s o l asked before (record after { log = noted }) outcome
+      → RunCauses s o l before after outcome
+      → CaptureMayDo asked (s.left before.input) → CaptureIsCalm s o l before after
+      → CaptureEndsWell outcome
+  able_after asked before after noted outcome does causes able calm =
       ends_well outcome (s.faults before.input) (s.faults after.input) (o.faults before.out)
       (o.faults after.out) (l.faults before.log) (l.faults after.log)
-      (does_free answers.asked before (record after { log = noted }) outcome answers.does able
-      calm.input)
+      (does_free asked before (record after { log = noted }) outcome does able calm.input)
       causes.read_failed causes.sinks calm.input calm.out calm.log

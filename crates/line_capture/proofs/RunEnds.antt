@@ -6,6 +6,7 @@ use Rattle.line_stamps.specs.declared.capture.Way.TheVariants as way
 use Rattle.command_ends.specs.declared.status.Status.{Status}
 use Rattle.command_ends.specs.declared.status.Status.TheVariants as statuses
 use Rattle.line_capture.specs.{Captures.Collects, Formats.Format, Inputs.Told, Outcomes.status_in}
+use Rattle.line_capture.specs.Outcomes.{capture_fault_line}
 use Rattle.line_capture.specs.Placed.{CountsOverlaps}
 use Rattle.line_capture.specs.Takes.{CaptureHeld, stop_outcome, read_outcome, or_else, outcome_of}
 use Rattle.line_capture.specs.Takes.{WritesTaken, TakesRead, TakesCapture}
@@ -16,11 +17,7 @@ use Rattle.line_capture.specs.Takes.TakesCapture.{no_memory as no_room, read as 
 use Rattle.line_capture.specs.Takes.{TakesRead.no_memory, TakesRead.kept, WritesTaken.written}
 use Rattle.line_capture.specs.{Takes.WritesTaken.failed, declared.collect.CaptureEnd.CaptureEnd}
 use Rattle.line_stamps.specs.declared.{capture.CaptureByte.CaptureByte, timing.Timing.Timing}
-use Rattle.command_ends.proofs.{FlushLaws.flushes_after, Logging.sinks_after}
-use Rattle.command_ends.specs.{Causes.SinkCause, Flushes.FlushesAtEnd}
-use Rattle.command_ends.specs.Statuses.{fault_line as status_line}
-use Rattle.{yasir_io.specs.Flushed.IsNotFlushed}
-use Rattle.yasir_io.specs.declared.sink.Sink.{Ghosts as Sink}
+use Rattle.command_ends.specs.{Causes.SinkCause, Statuses.fault_line}
 use Rattle.line_capture.specs.declared.collect.CaptureEnd.TheVariants as ends
 use Rattle.line_capture.specs.declared.{collect.Kept.Kept, input.ReadEnd.ReadEnd}
 use Rattle.line_capture.specs.declared.input.ReadEnd.TheVariants.{Whole, Failed, TooLong}
@@ -40,25 +37,20 @@ record IsOfCapture (read : ReadEnd) (outcome : Outcome) : Type 0 where
   read_fault : outcome ≡ Ended statuses.ReadFault → read ≡ Failed
 
 of_read : (read : ReadEnd) → IsOfCapture read (read_outcome read)
-of_read Whole = record { no_usage = λ is. cc; read_fault = λ is. cc }
 of_read Failed = record { no_usage = λ is. cc; read_fault = λ is. refl }
-of_read TooLong = record { no_usage = λ is. cc; read_fault = λ is. cc }
+of_read read = record { no_usage = λ is. cc; read_fault = λ is. cc }
 
 of_stop : (read : ReadEnd) (w : _) (placed : ℕ) (stop : LineStop) (other : Outcome)
     → IsOfCapture read other → IsOfCapture read (or_else (stop_outcome w placed stop) other)
 of_stop read w placed stops.AllPlaced other is = is
-of_stop read w placed (stops.Unplaced why) other is =
-    record { no_usage = λ is. cc; read_fault = λ is. cc }
-of_stop read w placed (stops.TooLong count) other is =
+of_stop read w placed stop other is =
     record { no_usage = λ is. cc; read_fault = λ is. cc }
 
 of_capture : (read : ReadEnd) (end : CaptureEnd) (a b : LineEnd)
     → IsOfCapture read (outcome_of read end a b)
 of_capture read (ends.Bad bad) a b =
     record { no_usage = λ is. cc; read_fault = λ is. cc }
-of_capture read ends.Whole a b = of_stop read way.A a.placed a.stop _
-    (of_stop read way.B b.placed b.stop _ (of_read read))
-of_capture read ends.Open a b = of_stop read way.A a.placed a.stop _
+of_capture read end a b = of_stop read way.A a.placed a.stop _
     (of_stop read way.B b.placed b.stop _ (of_read read))
 
 -- ---- the end of a run
@@ -76,31 +68,11 @@ sinks_then out0 out1 out2 log0 log1 log2 status out log h =
     subst (λ n. SinkCause n out2 log0 log2 status) out
     (subst (λ n. SinkCause out1 out2 n log2 status) log h)
 
--- The causes stay right if a fault line is written afterwards, or its write fails.
-pub causes_after : (out0 out1 log0 log1 log2 : ℕ) (outcome : Outcome)
-    → SinkCause out0 out1 log0 log1 (status_in outcome) → log1 ≤ log2
-    → ((status : Status) → outcome ≡ Ended status → status_line status ≡ [] → log2 ≡ log1)
-    → SinkCause out0 out1 log0 log2 (status_in outcome)
-causes_after out0 out1 log0 log1 log2 (Ended status) h rises alike =
-    sinks_after out0 out1 log0 log1 log2 status h rises (alike status refl)
-causes_after out0 out1 log0 log1 log2 (BadCapture bad) h rises alike =
-    (h.0, omega (arith, h.1, rises))
-causes_after out0 out1 log0 log1 log2 (outcomes.Unplaced w place why) h rises alike =
-    (h.0, omega (arith, h.1, rises))
-
--- ---- flushes
-
--- Done, Unclean and WriteFault have no fault line, and the one of any other outcome isn't flushed.
-pub flushes_with_line : {O L : Type 0} (o : Sink O) (l : Sink L) (out0 out1 : O) (log0 log1 log2 : L)
-    (outcome : Outcome) → FlushesAtEnd o l out0 out1 log0 log1 (status_in outcome)
-    → ((status : Status) → outcome ≡ Ended status → status_line status ≡ [] → log2 ≡ log1)
-    → IsNotFlushed l log1 log2 → FlushesAtEnd o l out0 out1 log0 log2 (status_in outcome)
-flushes_with_line o l out0 out1 log0 log1 log2 (Ended status) h alike none =
-    flushes_after o l out0 out1 log0 log1 log2 status h (alike status refl) none
-flushes_with_line o l out0 out1 log0 log1 log2 (BadCapture bad) h alike none =
-    record { out = h.out; log = none ∙ h.log }
-flushes_with_line o l out0 out1 log0 log1 log2 (outcomes.Unplaced w place why) h alike none =
-    record { out = h.out; log = none ∙ h.log }
+-- An outcome has a fault line if the status with the same causes has one.
+pub no_line : (outcome : Outcome) → fault_line (status_in outcome) ≡ []
+    → capture_fault_line outcome ≡ []
+no_line (Ended status) none = none
+no_line outcome none = cc
 
 module _ (taking : Taking) (k : Kept) (read : ReadEnd) (end : CaptureEnd) (before now : CaptureHeld)
     (a b : LineEnd)

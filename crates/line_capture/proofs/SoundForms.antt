@@ -67,32 +67,24 @@ text_refused : (front : List ℕ) (items : List Seen) (byte : ℕ) (bad : BadCap
     → IsSeenText (front ++ byte ∷ more) all → ⊥
 text_refused front items byte (Text bad) more all refuses is =
     refuses.0 more all (subst (λ l. IsSeenText l all) (one-more front byte more) is)
-text_refused front items byte (Pcap bad) more all refuses is = absurd refuses
-text_refused front items byte (Rows bad) more all refuses is = absurd refuses
-text_refused front items byte (ByteError offset) more all refuses is = absurd refuses
+text_refused front items byte bad more all refuses is = absurd refuses
 
 text_lacking : (file : List ℕ) (items : List Seen) (bad : BadCapture) (all : List Seen)
     → text_format.lacks file items bad → IsSeenText file all → ⊥
 text_lacking file items (Text bad) all lacks is = lacks.0 all is
-text_lacking file items (Pcap bad) all lacks is = absurd lacks
-text_lacking file items (Rows bad) all lacks is = absurd lacks
-text_lacking file items (ByteError offset) all lacks is = absurd lacks
+text_lacking file items bad all lacks is = absurd lacks
 
 pcap_refused : (front : List ℕ) (items : List Seen) (byte : ℕ) (bad : BadCapture) (more : List ℕ)
     (all : List Seen) → pcap_format.refuses front items byte bad
     → IsCapture (front ++ byte ∷ more) all → ⊥
 pcap_refused front items byte (Pcap bad) more all refuses is =
     refuses.0 more all (subst (λ l. IsCapture l all) (one-more front byte more) is)
-pcap_refused front items byte (Text bad) more all refuses is = absurd refuses
-pcap_refused front items byte (Rows bad) more all refuses is = absurd refuses
-pcap_refused front items byte (ByteError offset) more all refuses is = absurd refuses
+pcap_refused front items byte bad more all refuses is = absurd refuses
 
 pcap_lacking : (file : List ℕ) (items : List Seen) (bad : BadCapture) (all : List Seen)
     → pcap_format.lacks file items bad → IsCapture file all → ⊥
 pcap_lacking file items (Pcap bad) all lacks is = lacks.0 all is
-pcap_lacking file items (Text bad) all lacks is = absurd lacks
-pcap_lacking file items (Rows bad) all lacks is = absurd lacks
-pcap_lacking file items (ByteError offset) all lacks is = absurd lacks
+pcap_lacking file items bad all lacks is = absurd lacks
 
 module _ (row_at : Stage → List ℕ → Result Row RowFault) (name_of : List ℕ → List ℕ) where
   rows_alike : (file : List ℕ) (a b : List Seen) → IsExport row_at name_of file a
@@ -110,16 +102,12 @@ module _ (row_at : Stage → List ℕ → Result Row RowFault) (name_of : List �
   rows_refused front items byte (Rows bad) more all refuses is =
       refuses.0 more all
       (subst (λ l. IsExport row_at name_of l all) (one-more front byte more) is)
-  rows_refused front items byte (Text bad) more all refuses is = absurd refuses
-  rows_refused front items byte (Pcap bad) more all refuses is = absurd refuses
-  rows_refused front items byte (ByteError offset) more all refuses is = absurd refuses
+  rows_refused front items byte bad more all refuses is = absurd refuses
 
   rows_lacking : (file : List ℕ) (items : List Seen) (bad : BadCapture) (all : List Seen)
       → LacksRows row_at name_of file items bad → IsExport row_at name_of file all → ⊥
   rows_lacking file items (Rows bad) all lacks is = lacks.0 all is
-  rows_lacking file items (Text bad) all lacks is = absurd lacks
-  rows_lacking file items (Pcap bad) all lacks is = absurd lacks
-  rows_lacking file items (ByteError offset) all lacks is = absurd lacks
+  rows_lacking file items bad all lacks is = absurd lacks
 
   sound_rows : (follows : Bool) → IsSound (rows_format row_at name_of follows)
   sound_rows follows = record {

@@ -153,15 +153,13 @@ record IsAllDone (read : ReadEnd) (end : CaptureEnd) (a b : LineStop) : Type 0 w
 
 read-done : (read : ReadEnd) → read_outcome read ≡ Ended statuses.Done → read ≡ Whole
 read-done Whole is = refl
-read-done Failed is = cc
-read-done TooLong is = cc
+read-done read is = cc
 
 stop-done : (w : _) (placed : ℕ) (stop : LineStop) (other : Outcome)
     → or_else (stop_outcome w placed stop) other ≡ Ended statuses.Done
     → (stop ≡ stops.AllPlaced) × (other ≡ Ended statuses.Done)
 stop-done w placed stops.AllPlaced other is = (refl, is)
-stop-done w placed (stops.Unplaced why) other is = cc
-stop-done w placed (stops.TooLong count) other is = cc
+stop-done w placed stop other is = cc
 
 placed-done : (read : ReadEnd) (end : CaptureEnd) (a b : LineEnd) → ((bad : BadCaptureOf) → end ≡ ends.Bad bad → ⊥)
     → or_else (stop_outcome way.A a.placed a.stop)
@@ -179,8 +177,7 @@ placed-done read end a b right is =
 all-done : (read : ReadEnd) (end : CaptureEnd) (a b : LineEnd)
     → outcome_of read end a b ≡ Ended statuses.Done → IsAllDone read end a.stop b.stop
 all-done read (ends.Bad bad) a b is = cc
-all-done read ends.Whole a b is = placed-done read ends.Whole a b (λ bad e. cc) is
-all-done read ends.Open a b is = placed-done read ends.Open a b (λ bad e. cc) is
+all-done read end a b is = placed-done read end a b (λ bad e. cc) is
 
 module _ (format : Format) (sound : IsSound format) (rate : Rate) (a b : List Tick)
     (records : List LineRecord) (are : AreRecords a b records) (file : List ℕ)

@@ -5,7 +5,8 @@ use Rattle.yasir_io.specs.declared.sink.Sink.{Ghosts as Sink}
 use Rattle.command_ends.specs.declared.status.Status.TheVariants as statuses
 use Rattle.line_capture.specs.Outcomes.{capture_exit_status}
 use Rattle.line_capture.specs.Programs.{CaptureOutside, CaptureRuns, RunCauses}
-use Rattle.line_capture.specs.Words.{AsksCapture}
+use Rattle.command_ends.specs.Programs.{AsksFor}
+use Rattle.line_capture.specs.Words.{IsCaptureCommand}
 use Rattle.line_capture.specs.declared.outcome.Outcome.{Outcome}
 use Rattle.line_capture.specs.declared.outcome.Outcome.TheVariants.{Ended}
 
@@ -13,7 +14,7 @@ module _ {S O L : Type 0} (s : Source S) (o : Sink O) (l : Sink L) where
   -- Holds if the program did what its words ask for, and ended in this way.
   pub record RunsWith (words : List (List ℕ)) (before after : CaptureOutside S O L) (outcome : Outcome)
       : Type 0 where
-    pub usage : (outcome ≡ Ended statuses.Usage) ↔ AsksCapture words None
+    pub usage : (outcome ≡ Ended statuses.Usage) ↔ AsksFor IsCaptureCommand words None
     pub runs : CaptureRuns s o l words before after outcome
     pub causes : RunCauses s o l before after outcome
 

@@ -1,5 +1,5 @@
 -- The exit status and the fault line of each outcome.
-use Rattle.std.specs.Prelude.{ℕ, List, ◌++◌, codes, decimal, Option}
+use Rattle.std.specs.Prelude.{ℕ, List, ◌++◌, codes, decimal}
 use Rattle.line_stamps.specs.declared.capture.Way.TheVariants.{A, B}
 use Rattle.line_stamps.specs.declared.placer.Unplaced.{Unplaced}
 use Rattle.line_stamps.specs.declared.placer.Unplaced.TheVariants.{Early, Overlap, Late}
@@ -9,7 +9,6 @@ use Rattle.capture_text.specs.declared.row_fault.RowFault.{RowFault}
 use Rattle.capture_text.specs.declared.row_fault.RowFault.TheVariants as rows
 use Rattle.capture_text.specs.declared.fault.TextFault.{TextFault}
 use Rattle.capture_text.specs.declared.fault.TextFault.TheVariants as text
-use Rattle.command_ends.specs.Causes.{GotLine, LogsFault}
 use Rattle.command_ends.specs.Statuses.{exit_status_of as status_exit, fault_line as status_line}
 use Rattle.command_ends.specs.declared.status.Status.{Status}
 use Rattle.command_ends.specs.declared.status.Status.TheVariants.{Usage}
@@ -74,13 +73,6 @@ capture_fault_line (outcomes.Unplaced A place why) =
     counted_line (codes "way a byte ") place (unplaced_word why)
 capture_fault_line (outcomes.Unplaced B place why) =
     counted_line (codes "way b byte ") place (unplaced_word why)
-
--- Holds if the log got the fault line of a refusal, or a front of it if this write failed.
-abbrev pub LogsOutcome : Option (List ℕ) → Option (List ℕ) → ℕ → ℕ → Outcome → Type 0
-LogsOutcome before now faults_before faults_now (Ended status) =
-    LogsFault before now faults_before faults_now status
-LogsOutcome before now faults_before faults_now outcome =
-    GotLine before now faults_before faults_now (capture_fault_line outcome)
 
 -- The status of `link_replay` that has the same causes as an outcome: the outcome's own status if
 -- it has one, and otherwise that of a refusal.

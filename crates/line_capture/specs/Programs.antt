@@ -1,36 +1,37 @@
 -- What a run of the program does.
 use Rattle.std.specs.Prelude.{◌≡◌, ℕ, ◌≤◌, List, Option, Some, None}
 use Rattle.yasir_io.specs.Causes.{Rose}
+use Rattle.yasir_io.specs.Flushed.{IsNotFlushed}
 use Rattle.yasir_io.specs.declared.source.Source.{Ghosts as Source}
 use Rattle.yasir_io.specs.declared.sink.Sink.{Ghosts as Sink}
 use Rattle.command_ends.specs.Causes.{SinkCause}
 use Rattle.command_ends.specs.Flushes.{FlushesAtEnd}
+use Rattle.command_ends.specs.Outside.{Outside, outside}
+use Rattle.command_ends.specs.Programs.{AsksFor, Runs, IsCalm}
 use Rattle.command_ends.specs.declared.status.Status.TheVariants as statuses
 use Rattle.line_capture.specs.Formats.{format_of}
 use Rattle.line_capture.specs.Gives.{GivesCapture}
 use Rattle.line_capture.specs.Able.{CaptureMayDo, CaptureEndsWell}
 use Rattle.line_capture.specs.Inputs.{told}
-use Rattle.line_capture.specs.Outcomes.{LogsOutcome, status_in}
+use Rattle.line_capture.specs.Outcomes.{capture_fault_line, status_in}
 use Rattle.line_capture.specs.Takes.{TakesCapture, held}
-use Rattle.line_capture.specs.Words.{AsksCapture}
+use Rattle.line_capture.specs.Words.{IsCaptureCommand}
 use Rattle.line_capture.specs.declared.outcome.Outcome.{Outcome}
 use Rattle.line_capture.specs.declared.outcome.Outcome.TheVariants.{Ended}
 use Rattle.line_capture.specs.declared.words.Command.{Command}
 use Rattle.line_capture.specs.declared.words.Command.TheVariants.{Take, Give}
 
--- What a run is handed: its input, and the two sinks.
-pub record CaptureOutside (S O L : Type 0) : Type 0 where
-  pub input : S
-  pub out : O
-  pub log : L
+-- What a run is handed: its input, and the two sinks. It has neither a key nor a journal.
+abbrev pub CaptureOutside : Type 0 → Type 0 → Type 0 → Type 0
+CaptureOutside S O L = Outside (Unit {0}) S O L (Unit {0})
 
--- this input and these sinks
 abbrev pub capture_outside : {S O L : Type 0} → S → O → L → CaptureOutside S O L
-capture_outside input out log = record { input = input; out = out; log = log }
+capture_outside input out log = outside tt input out log tt
 
 module _ {S O L : Type 0} (s : Source S) (o : Sink O) (l : Sink L) where
   -- What is done before the fault line: nothing at all if the words ask for no command.
-  abbrev pub CaptureDoes : Option Command → CaptureOutside S O L → CaptureOutside S O L → Outcome → Type 0
+  abbrev pub CaptureDoes : Option Command → CaptureOutside S O L → CaptureOutside S O L → Outcome
+      → Type 0
   CaptureDoes None before after outcome = (outcome ≡ Ended statuses.Usage) × (after ≡ before)
   CaptureDoes (Some (Take form rate ways spacing)) before after outcome =
       TakesCapture (format_of form) (record { rate = rate; ways = ways; spacing = spacing })
@@ -44,30 +45,21 @@ module _ {S O L : Type 0} (s : Source S) (o : Sink O) (l : Sink L) where
       (held (o.held before.out) (l.held before.log)) (held (o.held after.out) (l.held after.log))
       outcome
 
-  -- Holds if what the words ask for was done.
-  pub record AnswersCapture (words : List (List ℕ)) (before after : CaptureOutside S O L) (outcome : Outcome)
-      : Type 0 where
-    pub asked : Option Command
-    pub asks : AsksCapture words asked
-    pub does : CaptureDoes asked before after outcome
-
   -- Holds if no read, write or flush failed.
-  pub record CaptureIsCalm (before after : CaptureOutside S O L) : Type 0 where
-    pub input : ¬ Rose (s.faults before.input) (s.faults after.input)
-    pub out : ¬ Rose (o.faults before.out) (o.faults after.out)
-    pub log : ¬ Rose (l.faults before.log) (l.faults after.log)
+  abbrev pub CaptureIsCalm : CaptureOutside S O L → CaptureOutside S O L → Type 0
+  CaptureIsCalm = IsCalm (λ none. 0) s.faults o.faults l.faults (λ none. 0)
 
   -- Holds if what the words ask for was done, and then the fault line was added to the log, if the
   -- outcome has one.
-  pub record CaptureRuns (words : List (List ℕ)) (before after : CaptureOutside S O L) (outcome : Outcome)
-      : Type 0 where
-    -- the log as the command left it
-    pub noted : L
-    pub answers : AnswersCapture words before (record after { log = noted }) outcome
-    pub logs : LogsOutcome (l.held noted) (l.held after.log) (l.faults noted) (l.faults after.log)
-        outcome
-    -- if the input is right, the run is done, unless something fails capture_outside or there is no memory
-    pub able : CaptureMayDo answers.asked (s.left before.input) → CaptureIsCalm before after → CaptureEndsWell outcome
+  pub record CaptureRuns (words : List (List ℕ)) (before after : CaptureOutside S O L)
+      (outcome : Outcome) : Type 0 where
+    pub asked : Option Command
+    pub asks : AsksFor IsCaptureCommand words asked
+    pub runs : Runs l capture_fault_line CaptureDoes
+        (λ asked noted now outcome. IsNotFlushed l noted now) asked before after outcome
+    -- if the input is right, the run is done, unless something fails outside or there is no memory
+    pub able : CaptureMayDo asked (s.left before.input) → CaptureIsCalm before after
+        → CaptureEndsWell outcome
 
   -- What an outcome says of the counts of faults and of flushes. If the run is done, `out` was
   -- flushed and then the log, each one time, after all that was written to it.

@@ -1,5 +1,5 @@
 -- The words of the program's commands.
-use Rattle.std.specs.Prelude.{◌≡◌, ℕ, List, [], ◌∷◌, Option, Some, None, codes}
+use Rattle.std.specs.Prelude.{◌≡◌, ℕ, List, [], ◌∷◌, codes}
 use Rattle.line_stamps.specs.RateWords.{rate_word}
 use Rattle.line_stamps.specs.declared.timing.Spacing.{Spacing}
 use Rattle.line_stamps.specs.declared.timing.Spacing.TheVariants.{ByTime, ByRecord}
@@ -40,8 +40,3 @@ IsCaptureCommand words (Take form rate ways spacing) = words ≡ codes "take" �
     ∷ rate_word rate ∷ ways_word ways ∷ spacing_words spacing
 IsCaptureCommand words (Give form rate) =
     words ≡ codes "give" ∷ give_form_word form ∷ rate_word rate ∷ []
-
--- what the words ask for: a command, or `None` if they fit no command
-abbrev pub AsksCapture : List (List ℕ) → Option Command → Type 0
-AsksCapture words None = (command : Command) → IsCaptureCommand words command → ⊥
-AsksCapture words (Some command) = IsCaptureCommand words command

@@ -25,7 +25,7 @@ pub use command_ends::NOT_GIVEN;
 pub use give::{Giving, give};
 pub use input::{Input, MAX_INPUT_BYTES, ReadEnd, read_input};
 pub use laws::what_was_given_is_taken;
-pub use outcome::{Outcome, log_outcome};
+pub use outcome::Outcome;
 pub use placing::{LineEnd, LineStop, MAX_LINE_TICKS, count_overlaps, write_line};
 pub use program::{run, run_over_args};
 pub use reader::FormReader;

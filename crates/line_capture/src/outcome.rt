@@ -1,16 +1,13 @@
 //! How a run ends: its exit status and its fault line.
-ghost use Rattle.std.specs.Prelude.{◌≡◌, ◌≤◌, ◌+◌, [], ◌++◌, ◌∷◌, length, codes, decimal};
-ghost use Rattle.command_ends.specs.Statuses.{fault_line as status_line};
-ghost use Rattle.command_ends.specs.declared.status.Status.{Status};
+ghost use Rattle.std.specs.Prelude.{◌≡◌, ◌≤◌, ◌++◌, length, codes, decimal};
 ghost use Rattle.line_capture.specs.Outcomes.{capture_exit_status, capture_fault_line, text_word, pcap_word, rows_word};
-ghost use Rattle.line_capture.specs.Outcomes.{unplaced_word, LogsOutcome};
+ghost use Rattle.line_capture.specs.Outcomes.{unplaced_word};
 
 use crate::bad_capture::BadCapture;
 use capture_pcap::PcapFault;
 use capture_text::{RowFault, TextFault};
-use command_ends::{Line, Status, push_decimal, write_fault};
+use command_ends::{Line, Status, fault_line, push_decimal};
 use line_stamps::{Unplaced, Way};
-use yasir_io::{Sink, write_all};
 
 /// How a run of the program ended.
 #[derive(Clone, Copy, Debug, PartialEq, Eq)]
@@ -32,6 +29,17 @@ impl Outcome {
         match self {
             Outcome::Ended(status) => status.exit_status(),
             Outcome::BadCapture(_) | Outcome::Unplaced { .. } => 4,
+        }
+    }
+
+    /// Returns the fault line, with its LF. It is empty if the outcome has none.
+    pub fn fault_line(&self) -> Line
+        ensures { result.items ≡ capture_fault_line self.now }
+    {
+        match self {
+            Outcome::Ended(status) => fault_line(status),
+            Outcome::BadCapture(bad) => bad_capture_line(bad),
+            Outcome::Unplaced { way, place, why } => unplaced_line(*way, *place, *why),
         }
     }
 }
@@ -128,24 +136,4 @@ fn unplaced_line(way: Way, place: u64, why: Unplaced) -> Line
         Way::A => counted_line(b"way a byte ", place, unplaced_word(why)),
         Way::B => counted_line(b"way b byte ", place, unplaced_word(why)),
     }
-}
-
-/// Writes the fault line of an outcome to the log. A failure of this write changes nothing.
-pub fn log_outcome<L: Sink>(log: &mut L, outcome: &Outcome)
-    ensures logs { LogsOutcome (L.held log.old) (L.held log.new) (L.faults log.old)
-        (L.faults log.new) outcome.now }
-    ensures never_falls { L.faults log.old ≤ L.faults log.new }
-    ensures flushes { L.flushes log.new ≡ L.flushes log.old }
-    ensures same { (status : Status) → outcome.now ≡ Outcome.Ended status → status_line status ≡ []
-        → log.new ≡ log.old }
-{
-    let line = match outcome {
-        Outcome::Ended(status) => {
-            write_fault(log, status);
-            return;
-        }
-        Outcome::BadCapture(bad) => bad_capture_line(bad),
-        Outcome::Unplaced { way, place, why } => unplaced_line(*way, *place, *why),
-    };
-    let _ = write_all(log, line.as_slice());
 }

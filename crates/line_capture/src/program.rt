@@ -5,23 +5,24 @@ ghost use Rattle.yasir_io.specs.Causes.{Rose};
 ghost use Rattle.command_ends.specs.Causes.{SinkCause};
 ghost use Rattle.command_ends.specs.Flushes.{FlushesAtEnd};
 ghost use Rattle.command_ends.specs.Given.{words_after};
+ghost use Rattle.command_ends.specs.Programs.{AsksFor};
 ghost use Rattle.command_ends.specs.declared.status.Status.{Status};
 ghost use Rattle.line_capture.specs.Formats.{format_of};
-ghost use Rattle.line_capture.specs.Programs.{capture_outside, CaptureRuns, AnswersCapture, RunCauses};
+ghost use Rattle.line_capture.specs.Programs.{capture_outside, CaptureDoes, CaptureRuns, RunCauses};
 ghost use Rattle.line_capture.specs.Endings.{EndsOverArgs};
 ghost use Rattle.line_capture.specs.Outcomes.{status_in};
 ghost use Rattle.line_capture.specs.Inputs.{told};
 ghost use Rattle.line_capture.specs.Takes.{TakesCapture, held};
-ghost use Rattle.line_capture.specs.Words.{AsksCapture};
+ghost use Rattle.line_capture.specs.Words.{IsCaptureCommand};
 ghost use Rattle.line_capture.specs.declared.outcome.Outcome.{Outcome};
 
 use crate::give::{Giving, give};
-use crate::outcome::{Outcome, log_outcome};
+use crate::outcome::Outcome;
 use crate::take::{Taking, take};
 use crate::words::{Command, TakeForm, Usage, read_words};
 use capture_pcap::PcapReader;
 use capture_text::{Logic2Reader, SigrokReader, TextReader};
-use command_ends::{NOT_GIVEN, Status, words_after_name};
+use command_ends::{NOT_GIVEN, Status, words_after_name, write_fault_line};
 use std::alloc::{AllocError, Global};
 use std::env::Args;
 use std::io;
@@ -54,17 +55,17 @@ fn take_form<S: Source, O: Sink, L: Sink>(
     }
 }
 
-// Does what the words ask for, apart from the fault line.
+// Does what was asked for, and nothing if the words fit no command. It doesn't write the fault
+// line.
 fn answer<S: Source, O: Sink, L: Sink>(
     alloc: Global,
-    words: &[String],
+    asked: Option<Command>,
     input: &mut S,
     out: &mut O,
     log: &mut L,
 ) -> Outcome
-    ensures usage { (result ≡ Outcome.Ended Status.Usage)
-        ↔ AsksCapture (map string_bytes words.now) None }
-    ensures answers { AnswersCapture S.Source O.Sink L.Sink (map string_bytes words.now)
+    ensures usage { (result ≡ Outcome.Ended Status.Usage) ↔ (asked ≡ None) }
+    ensures does { CaptureDoes S.Source O.Sink L.Sink asked
         (capture_outside input.old out.old log.old) (capture_outside input.new out.new log.new) result }
     ensures sinks { SinkCause (O.faults out.old) (O.faults out.new) (L.faults log.old)
         (L.faults log.new) (status_in result) }
@@ -73,17 +74,16 @@ fn answer<S: Source, O: Sink, L: Sink>(
     ensures read_failed { result ≡ Outcome.Ended Status.ReadFault
         → Rose (S.faults input.old) (S.faults input.new) }
 {
-    let command = match read_words(words) {
-        Ok(command) => command,
-        Err(Usage) => return Outcome::Ended(Status::Usage),
-    };
-    match command {
-        Command::Take {
-            form,
-            rate,
-            ways,
-            spacing,
-        } => {
+    match asked {
+        None => Outcome::Ended(Status::Usage),
+        Some(
+            Command::Take {
+                form,
+                rate,
+                ways,
+                spacing,
+            },
+        ) => {
             let taking = Taking {
                 rate,
                 ways,
@@ -91,7 +91,17 @@ fn answer<S: Source, O: Sink, L: Sink>(
             };
             take_form(alloc, form, taking, input, out, log)
         }
-        Command::Give { form, rate } => give(alloc, Giving { form, rate }, input, out, log),
+        Some(Command::Give { form, rate }) => give(alloc, Giving { form, rate }, input, out, log),
+    }
+}
+
+// Returns the command that the words ask for, or `None` if they fit no command.
+fn asked_by(words: &[String]) -> Option<Command>
+    ensures { AsksFor IsCaptureCommand (map string_bytes words.now) result }
+{
+    match read_words(words) {
+        Ok(command) => Some(command),
+        Err(Usage) => None,
     }
 }
 
@@ -106,7 +116,7 @@ pub fn run<S: Source, O: Sink, L: Sink>(
 ) -> Outcome
     // The outcome is Usage exactly if the words ask for no command.
     ensures usage { (result ≡ Outcome.Ended Status.Usage)
-        ↔ AsksCapture (map string_bytes words.now) None }
+        ↔ AsksFor IsCaptureCommand (map string_bytes words.now) None }
 
     // What was read and written, and the fault line after it. If the input is right, the outcome is
     // Done, unless something fails outside or there is no memory.
@@ -118,8 +128,8 @@ pub fn run<S: Source, O: Sink, L: Sink>(
     ensures causes { RunCauses S.Source O.Sink L.Sink (capture_outside input.old out.old log.old)
         (capture_outside input.new out.new log.new) result }
 {
-    let outcome = answer(alloc, words, input, out, log);
-    log_outcome(log, &outcome);
+    let outcome = answer(alloc, asked_by(words), input, out, log);
+    write_fault_line(log, outcome.fault_line().as_slice());
     outcome
 }
 

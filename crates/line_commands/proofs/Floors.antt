@@ -90,13 +90,8 @@ module _ {D : Type 0} (d : SlotDisk D) (link : LinkId) (journal : Journal) (old 
 pub disk_cause_of_end : (before now : ℕ) (end : End)
     → IsDiskCause before now (is_journal_fault (drive_answer_of end))
     → DiskCause before now (status_of end)
-disk_cause_of_end before now Whole h = h.same refl
-disk_cause_of_end before now (Refused bad) h = h.same refl
-disk_cause_of_end before now (TooLong what count) h = h.same refl
-disk_cause_of_end before now ReadFault h = h.same refl
-disk_cause_of_end before now (Stopped stops.WriteFault) h = h.same refl
 disk_cause_of_end before now (Stopped stops.JournalFault) h = h.failed refl
-disk_cause_of_end before now (Stopped stops.NoMemory) h = h.same refl
+disk_cause_of_end before now end h = h.same refl
 
 pub disk_cause_of_whole : (before now : ℕ) (status : Status)
     → (status ≡ Done) ⊎ (status ≡ WriteFault) → now ≡ before → DiskCause before now status

@@ -80,8 +80,7 @@ module _ (made : LineAndNotes) where
     notes = may.notes;
     flushed = may.flushed;
   }
-  longer line run before (writes Log bytes) may = tt
-  longer line run before (flushes to well) may = tt
+  longer line run before event may = tt
 
   pub each_longer : (line run : List Tick) (front events : List Event)
       → EachMayCome made line front events → EachMayCome made (line ++ run) front events

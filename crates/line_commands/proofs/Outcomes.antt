@@ -88,25 +88,19 @@ few_in_lines box floor line before now laws sent =
 -- A drive that was stopped didn't take a whole input.
 pub not_whole : (end : End) → has_stopped end ≡ true → end ≡ Whole → ⊥
 not_whole Whole stopped is = cc
-not_whole (Refused bad) stopped is = cc
-not_whole (TooLong what count) stopped is = cc
-not_whole ReadFault stopped is = cc
-not_whole (Stopped stop) stopped is = cc
+not_whole end stopped is = cc
 
 pub sink_cause_of_stop : (out_before out_now log_before log_now : ℕ) (end : End)
     → has_stopped end ≡ true
     → IsSinkCause out_before out_now log_before log_now (is_write_fault (drive_answer_of end))
     → SinkCause out_before out_now log_before log_now (status_of end)
-sink_cause_of_stop out_before out_now log_before log_now Whole stopped h = cc
-sink_cause_of_stop out_before out_now log_before log_now (Refused bad) stopped h = cc
-sink_cause_of_stop out_before out_now log_before log_now (TooLong what count) stopped h = cc
-sink_cause_of_stop out_before out_now log_before log_now ReadFault stopped h = cc
 sink_cause_of_stop out_before out_now log_before log_now (Stopped stops.WriteFault) stopped h =
     h.failed refl
 sink_cause_of_stop out_before out_now log_before log_now (Stopped stops.JournalFault) stopped h =
     (h.out_same refl, h.log_never_falls)
 sink_cause_of_stop out_before out_now log_before log_now (Stopped stops.NoMemory) stopped h =
     (h.out_same refl, h.log_never_falls)
+sink_cause_of_stop out_before out_now log_before log_now end stopped h = cc
 
 -- A box with its key and direction, over the journal of its link, that was driven over an input.
 -- `before` is what was outside before the journal was loaded, and `loaded` the disk after that.
@@ -355,16 +349,13 @@ module _ {B N S O L D : Type 0} (b : LinkBox B N) (line_of : N → List ℕ) (s 
 
   pub drive_stops : (end : End) → has_stopped end ≡ true → Driven (last_state drive) end
       → Runs drive.ended.out drive.ended.log (status_of end)
-  drive_stops Whole stopped driven = cc
-  drive_stops (Refused bad) stopped driven = cc
-  drive_stops (TooLong what count) stopped driven = cc
-  drive_stops ReadFault stopped driven = cc
   drive_stops (Stopped stop) stopped driven =
       of_stop drive.ended.out drive.ended.log stop
       (stop_driven drive.rest at_first at_last (driving b line_of o l d) (begun_state drive)
       (last_state drive) origin (run.begun texts) (Finished drive.ended.out drive.ended.log)
       (Halts drive.ended.out drive.ended.log) stop driven
       (λ stop items at. halts_at drive.ended.out drive.ended.log stop items at))
+  drive_stops end stopped driven = cc
 
   -- ---- the input ended, and then all that waited was to be written
 
@@ -395,9 +386,8 @@ module _ {B N S O L D : Type 0} (b : LinkBox B N) (line_of : N → List ℕ) (s 
   pub input_of_stop : (before now : ℕ) → before ≤ now → (stop : Stop)
       → Runs drive.ended.out drive.ended.log (status_of (Stopped stop))
       → InputCause before now (status_of (Stopped stop))
-  input_of_stop before now never_falls stops.JournalFault runs = never_falls
-  input_of_stop before now never_falls stops.WriteFault runs = never_falls
   input_of_stop before now never_falls stops.NoMemory runs = absurd runs
+  input_of_stop before now never_falls stop runs = never_falls
 
   -- What waited was written, and the sinks were flushed, or a flush failed.
   pub all_runs : (out : O) (log : L) → o.held out ≡ o.held drive.ended.out

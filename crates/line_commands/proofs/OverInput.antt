@@ -34,25 +34,16 @@ ticks_in-cut items front rest is = ap ticks_in is ∙ ticks_in-append front rest
 -- ---- a drive that wasn't stopped
 
 pub answer_ok : (end : End) → has_stopped end ≡ false → drive_answer_of end ≡ Ok tt
-answer_ok Whole other = refl
-answer_ok (Refused bad) other = refl
-answer_ok (ends.TooLong what count) other = refl
-answer_ok ends.ReadFault other = refl
 answer_ok (Stopped stop) other = cc
+answer_ok end other = refl
 
 pub no_stop : (end : End) → ((stop : Stop) → end ≡ Stopped stop → ⊥) → has_stopped end ≡ false
 no_stop (Stopped stop) other = absurd (other stop refl)
-no_stop Whole other = refl
-no_stop (Refused bad) other = refl
-no_stop (ends.TooLong what count) other = refl
-no_stop ends.ReadFault other = refl
+no_stop end other = refl
 
 pub ends_as : (end : End) → EndsAs end (status_of end)
 ends_as Whole = inl refl
-ends_as (Refused bad) = refl
-ends_as (ends.TooLong what count) = refl
-ends_as ends.ReadFault = refl
-ends_as (Stopped stop) = refl
+ends_as end = refl
 
 -- If the end is no stop, all items were taken.
 pub gave_all : {C : Type 0} (meaning : Consuming C) (old new : C) (items : List Item) (end : End)
@@ -136,11 +127,7 @@ module _ (rest : ℕ) (before now : Option (List ℕ)) where
     pub driven_over : (end : End) → Drives meaning 0 rest before now old new end → Stood → Halted
         → DrivesOver rest before now waits stopped end
     driven_over (Stopped stop) driven stood halted = stop_driven stop driven halted
-    driven_over Whole driven stood halted = all_driven Whole refl driven stood
-    driven_over (Refused bad) driven stood halted = all_driven (Refused bad) refl driven stood
-    driven_over (ends.TooLong what count) driven stood halted =
-        all_driven (ends.TooLong what count) refl driven stood
-    driven_over ends.ReadFault driven stood halted = all_driven ends.ReadFault refl driven stood
+    driven_over end driven stood halted = all_driven end refl driven stood
 
   -- ---- from the end of the drive to the status
 
@@ -149,19 +136,13 @@ module _ (rest : ℕ) (before now : Option (List ℕ)) where
       → has_stopped end ≡ false → DrivesOver rest before now waits stopped end
       → MakesAll rest before now waits end
   all_wait waits stopped (Stopped stop) other driven = cc
-  all_wait waits stopped Whole other driven = driven
-  all_wait waits stopped (Refused bad) other driven = driven
-  all_wait waits stopped (ends.TooLong what count) other driven = driven
-  all_wait waits stopped ends.ReadFault other driven = driven
+  all_wait waits stopped end other driven = driven
 
   pub all_drives : (waits : List Tick → Type 0) (stopped : Stop → List Tick → Type 0) (end : End)
       → has_stopped end ≡ false → MakesAll rest before now waits end
       → DrivesOver rest before now waits stopped end
   all_drives waits stopped (Stopped stop) other all = cc
-  all_drives waits stopped Whole other all = all
-  all_drives waits stopped (Refused bad) other all = all
-  all_drives waits stopped (ends.TooLong what count) other all = all
-  all_drives waits stopped ends.ReadFault other all = all
+  all_drives waits stopped end other all = all
 
   -- The input ended, what was made of all its ticks was written, and the sinks were flushed, or a
   -- flush failed.
@@ -177,15 +158,9 @@ module _ (rest : ℕ) (before now : Option (List ℕ)) where
   ends_over made all front others Whole other taken whole part status (inr fault) =
       subst (RunsOver rest before now all front others) (sym fault)
       (all_is_front front Whole (made_then made front Whole taken part))
-  ends_over made all front others (Refused bad) other taken whole part status is =
+  ends_over made all front others end other taken whole part status is =
       subst (RunsOver rest before now all front others) (sym is)
-      (made_then made all (Refused bad) taken whole)
-  ends_over made all front others (ends.TooLong what count) other taken whole part status is =
-      subst (RunsOver rest before now all front others) (sym is)
-      (made_then made all (ends.TooLong what count) taken whole)
-  ends_over made all front others ends.ReadFault other taken whole part status is =
-      subst (RunsOver rest before now all front others) (sym is)
-      (made_then made all ends.ReadFault taken whole)
+      (made_then made all end taken whole)
 
   module _ (waits : List Tick → Type 0) (stopped : Stop → List Tick → Type 0) (end : End)
       (other : has_stopped end ≡ false) (driven : DrivesOver rest before now waits stopped end) where
@@ -213,8 +188,7 @@ pub is_at_write : (rest : ℕ) (before now : Option (List ℕ)) (front : List Ti
     (stop : Stop) → MakesFront rest before now (AtWrite front stop)
     → (stop ≡ stops.WriteFault) × MakesFront rest before now front
 is_at_write rest before now front stops.WriteFault at = (refl, at)
-is_at_write rest before now front stops.JournalFault at = absurd at.makes
-is_at_write rest before now front stops.NoMemory at = absurd at.makes
+is_at_write rest before now front stop at = absurd at.makes
 
 -- ---- a right input
 

@@ -112,13 +112,7 @@ module _ (old : LineReader) (text bytes : List ℕ) (has : HasRead old text) (ta
       → get_or bytes (taken - 1) 0 ≢ 10 → ended_items own ≡ ended_items has.part
   quiet_by new NoTick takes no_feed =
       takes.items 0 has.part has.stands ∙ append-nil (ended_items has.part)
-  quiet_by new KeptBytes takes no_feed =
-      let last = takes.last 0 has.part has.stands (λ e. cc) in
-      unended_by takes.within last.0 no_feed last.1
-  quiet_by new (SilentTicks n) takes no_feed =
-      let last = takes.last 0 has.part has.stands (λ e. cc) in
-      unended_by takes.within last.0 no_feed last.1
-  quiet_by new OneMark takes no_feed =
+  quiet_by new content takes no_feed =
       let last = takes.last 0 has.part has.stands (λ e. cc) in
       unended_by takes.within last.0 no_feed last.1
 

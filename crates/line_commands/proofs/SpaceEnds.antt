@@ -113,9 +113,7 @@ has_memory Whole other status (inl done) none =
 has_memory Whole other status (inr fault) none =
     let both : WriteFault ≡ NoMemory = sym fault ∙ none in cc
 has_memory (Refused bad) other status is none = cc
-has_memory (TooLong what count) other status is none = cc
-has_memory ReadFault other status is none = cc
-has_memory (Stopped stop) other status is none = cc
+has_memory end other status is none = cc
 
 -- A run that took nothing lacked memory.
 pub nothing_taken : (made : LineAndNotes) (in_before in_now : Option (List ℕ))

@@ -9,6 +9,7 @@ use Rattle.command_ends.proofs.Telling.{is_word, proto_by, profile_by, dir_by, p
 use Rattle.command_ends.proofs.Telling.{dir-by}
 use Rattle.command_ends.specs.{Words.dir_word, Words.link_word, declared.link.Profile.Profile}
 use Rattle.command_ends.specs.declared.link.Proto.{Proto, TheVariants.Rtu, TheVariants.Dnp3}
+use Rattle.command_ends.proofs.Running.{asks_one}
 use Rattle.std.proofs.Common.{◌≡◌, ◌∙◌, ℕ, zero, suc, List, [], ◌∷◌, Option, Some}
 use Rattle.std.proofs.Common.{None, cond, refl, sym, ap, arith, subst, ◌≤◌, ◌^◌, ◌<◌, inl}
 use Rattle.std.proofs.{Common.inr, lemmas.Fmt.decimal_is_IsNumeral}
@@ -110,21 +111,8 @@ spelled-one m n few_m few_n same =
 -- The floors of an audit that words ask for are 0 or numbers of frames.
 pub asked-floors : (words : List (List ℕ)) (asked : Option Command) → Asks words asked
     → AreFloors asked
-asked-floors words None asks = tt
-asked-floors words (Some (Init proto profile dir)) asks = tt
-asked-floors words (Some (Read proto)) asks = tt
-asked-floors words (Some Vectors) asks = tt
-asked-floors words (Some (Seal proto profile dir)) asks = tt
-asked-floors words (Some (Check proto profile dir)) asks = tt
-asked-floors words (Some (Replay proto profile dir)) asks = tt
-asked-floors words (Some (Trial proto profile seed count)) asks = tt
-asked-floors words (Some (Space proto profile)) asks = tt
 asked-floors words (Some (Audit proto profile dir sent got)) asks = (asks.2, asks.3)
-asked-floors words (Some (Duplex proto profile dir)) asks = tt
-asked-floors words (Some (LiveSeal proto profile dir)) asks = tt
-asked-floors words (Some (LiveCheck proto profile dir)) asks = tt
-asked-floors words (Some Help) asks = tt
-asked-floors words (Some Version) asks = tt
+asked-floors words asked asks = tt
 
 -- If the words ask for a trial, the number that the last word spells is from 1 to 10000.
 pub trial-counts : (first second seed count : List ℕ) (n : ℕ) (command : Command)
@@ -142,8 +130,4 @@ trial-counts first second seed count n command verb spelled few asked =
     (subst (λ k. 1 ≤ k) same this.1, subst (λ k. k ≤ 10000) same this.2)
 
 pub asks-one : (words : List (List ℕ)) (a b : Option Command) → Asks words a → Asks words b → a ≡ b
-asks-one words None None ha hb = refl
-asks-one words None (Some b) ha hb = absurd (ha b hb)
-asks-one words (Some a) None ha hb = absurd (hb a ha)
-asks-one words (Some a) (Some b) ha hb =
-    ap (λ command. Some command) (sym (command-in words a ha) ∙ command-in words b hb)
+asks-one = asks_one IsCommand command_in command-in

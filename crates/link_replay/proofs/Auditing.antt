@@ -65,10 +65,8 @@ verdict-is proto Y24 session device link received = refl
 finding-known : (finding : Finding)
     → (finding_status finding ≡ Done) ⊎ ((verdict : Unclean)
     × (finding_status finding ≡ statuses.Unclean verdict))
-finding-known Empty = inr (_, refl)
-finding-known (Forged number start) = inr (_, refl)
-finding-known (Differs difference) = inr (_, refl)
 finding-known Clean = inl refl
+finding-known finding = inr (_, refl)
 
 -- After an output that is written and flushed, the status may be that of any finding.
 module _ (finding : Finding) where
@@ -148,10 +146,7 @@ module _ (verdict_on_three : List Tick → List Tick → List Tick → Verdict) 
       → AuditsItems asked key in_before in_now out_before out_now NoMemory
   stopped-nothing (Stopped stop) other is none =
       record { items = none.items; takes = none.takes; out = same }
-  stopped-nothing Whole other is none = cc
-  stopped-nothing (Refused bad) other is none = cc
-  stopped-nothing (TooLong what count) other is none = cc
-  stopped-nothing ReadFault other is none = cc
+  stopped-nothing end other is none = cc
 
   -- If the input didn't end well, the consumer didn't stop and nothing was printed, the status of
   -- that end says so.
@@ -159,10 +154,6 @@ module _ (verdict_on_three : List Tick → List Tick → List Tick → Verdict) 
       → FindsNoVerdict verdict_on_three in_before in_now end
       → AuditsItems asked key in_before in_now out_before out_now (status_of end)
   nothing-printed Whole other none = absurd (none.other refl)
-  nothing-printed (Refused bad) other none =
-      record { items = none.items; takes = none.takes; out = same }
-  nothing-printed (TooLong what count) other none =
-      record { items = none.items; takes = none.takes; out = same }
-  nothing-printed ReadFault other none =
-      record { items = none.items; takes = none.takes; out = same }
   nothing-printed (Stopped stop) other none = absurd (other stop refl)
+  nothing-printed end other none =
+      record { items = none.items; takes = none.takes; out = same }

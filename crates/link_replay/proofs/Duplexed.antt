@@ -78,26 +78,15 @@ module _ (texts : List Tick → List Tick → BothTexts) (in_before in_now : Opt
       → log_now ≡ log_before
       → DuplexesWith texts in_before in_now out_before out_now log_before log_now (status_of end)
   ends-so Whole ended out log = absurd (ended.other refl)
-  ends-so (Refused bad) ended out log =
-      record { items = ended.items; takes = ended.takes; out = out; log = log }
-  ends-so (ends.TooLong what count) ended out log =
-      record { items = ended.items; takes = ended.takes; out = out; log = log }
-  ends-so ends.ReadFault ended out log =
-      record { items = ended.items; takes = ended.takes; out = out; log = log }
-  ends-so (Stopped stops.NoMemory) ended out log =
-      record { items = ended.items; takes = ended.takes; out = out; log = log }
   ends-so (Stopped stops.WriteFault) ended out log =
       let never : stops.WriteFault ≡ stops.NoMemory = ended.memory stops.WriteFault refl in cc
   ends-so (Stopped stops.JournalFault) ended out log =
       let never : stops.JournalFault ≡ stops.NoMemory = ended.memory stops.JournalFault refl in cc
+  ends-so end ended out log =
+      record { items = ended.items; takes = ended.takes; out = out; log = log }
 
   pub no-write : (end : End) → EndsOtherwise texts in_before in_now end
       → is_write_fault (drive_answer_of end) ≡ false
-  no-write Whole ended = refl
-  no-write (Refused bad) ended = refl
-  no-write (ends.TooLong what count) ended = refl
-  no-write ends.ReadFault ended = refl
-  no-write (Stopped stops.NoMemory) ended = refl
-  no-write (Stopped stops.JournalFault) ended = refl
   no-write (Stopped stops.WriteFault) ended =
       let never : stops.WriteFault ≡ stops.NoMemory = ended.memory stops.WriteFault refl in cc
+  no-write end ended = refl

@@ -76,8 +76,8 @@ module _ {K S O L D : Type 0} (k : Source K) (s : Source S) (o : Sink O) (l : Si
   pub input-causes : (status : Status) → InputCause (s.faults in0) (s.faults in1) status
       → SinkCause (o.faults out0) (o.faults out1) (l.faults log0) (l.faults log1) status
       → FlushesAtEnd o l out0 out1 log0 log1 status
-      → HasOwnCauses k s o l d (Some asked) (outside key in0 out0 log0 disk)
-      (outside key in1 out1 log1 disk) status
+      → HasOwnCauses (Some asked) (s.faults in0) (s.faults in1) (d.faults disk) (d.faults disk)
+      status
       → HasRecordedCauses k s o l d (Some asked) (outside key in0 out0 log0 disk)
       (outside key in1 out1 log1 disk) status
   input-causes status input sinks flushes own = record {

@@ -6,8 +6,8 @@ use Rattle.line_commands.proofs.OverInput.{right_input_done}
 use Rattle.link_replay.proofs.Duplexed.{duplex_done}
 use Rattle.link_replay.proofs.Listable.{listable_done, auditable_done}
 use Rattle.link_replay.{proofs.Spaced.whole-spaces, specs.AuditCommand.audited}
-use Rattle.link_replay.specs.Commands.{Does, MayDo, IsCalm, HasOwnCauses, HasRecordedCauses}
-use Rattle.link_replay.specs.Commands.{HasCauses, EndsWell, EndsLog, FlushesLog}
+use Rattle.command_ends.specs.Programs.{EndsLog, IsCalm}
+use Rattle.link_replay.specs.Commands.{Does, MayDo, EndsWell, HasCauses, HasRecordedCauses, FlushesLog}
 use Rattle.link_replay.specs.LiveCommands.{HasLiveCauses}
 use Rattle.live_commands.proofs.Able.{lives_done}
 use Rattle.link_replay.specs.declared.commands.live.TheConstants.{LIVE_AHEAD}
@@ -63,36 +63,13 @@ module _ (key0 key1 in0 in1 out0 out1 log0 log1 disk0 disk1 : ℕ)
       elim sinks [ inl out ↦ absurd (calm.out out) | inr log ↦ absurd (calm.log log) ]
   text_done text out_before out_now status h sinks = absurd h
 
-rose-then : (a b c : ℕ) → Rose a b → b ≤ c → Rose a c
-rose-then a b c rose le = omega (arith, rose, le)
-
 module _ {K S O L D : Type 0} (k : Source K) (s : Source S) (o : Sink O) (l : Sink L)
     (d : SlotDisk D) where
-  own-after : (asked : Option Command) (before after : Outside K S O L D) (noted : L)
-      (status : Status)
-      → HasOwnCauses k s o l d asked before (record after { log = noted }) status
-      → HasOwnCauses k s o l d asked before after status
-  own-after (Some (Seal proto profile dir)) before after noted status h = h
-  own-after (Some (Check proto profile dir)) before after noted status h = h
-  own-after (Some (Replay proto profile dir)) before after noted status h = h
-  own-after (Some (Trial proto profile seed count)) before after noted status h = h
-  own-after (Some (Space proto profile)) before after noted status h = h
-  own-after (Some (Audit proto profile dir sent got)) before after noted status h = h
-  own-after (Some (Duplex proto profile dir)) before after noted status h = h
-  own-after None before after noted status h = h
-  own-after (Some (Init proto profile dir)) before after noted status h = h
-  own-after (Some (Read proto)) before after noted status h = h
-  own-after (Some Vectors) before after noted status h = h
-  own-after (Some (LiveSeal proto profile dir)) before after noted status h = h
-  own-after (Some (LiveCheck proto profile dir)) before after noted status h = h
-  own-after (Some Help) before after noted status h = h
-  own-after (Some Version) before after noted status h = h
-
   -- The causes still hold after the fault line, whether it was written or its write failed.
   recorded_after : (asked : Option Command) (before after : Outside K S O L D) (noted : L)
       (status : Status)
       → HasRecordedCauses k s o l d asked before (record after { log = noted }) status
-      → EndsLog l noted after.log status → IsNotFlushed l noted after.log
+      → EndsLog l noted after.log (fault_line status) → IsNotFlushed l noted after.log
       → HasRecordedCauses k s o l d asked before after status
   recorded_after asked before after noted status h ends not_flushed = record {
     streams = record {
@@ -103,12 +80,12 @@ module _ {K S O L D : Type 0} (k : Source K) (s : Source S) (o : Sink O) (l : Si
       flushes = flushes_after o l before.out after.out before.log noted after.log status
           h.streams.flushes ends.same not_flushed;
     };
-    own = own-after asked before after noted status h.own;
+    own = h.own;
   }
 
   live_after : (before after : Outside K S O L D) (noted : L) (status : Status)
       → HasLiveCauses k s o l d before (record after { log = noted }) status
-      → EndsLog l noted after.log status → HasLiveCauses k s o l d before after status
+      → EndsLog l noted after.log (fault_line status) → HasLiveCauses k s o l d before after status
   live_after before after noted status h ends = record {
     counts = record {
       reads = h.counts.reads;
@@ -121,76 +98,27 @@ module _ {K S O L D : Type 0} (k : Source K) (s : Source S) (o : Sink O) (l : Si
 
   pub causes_after : (asked : Option Command) (before after : Outside K S O L D) (noted : L)
       (status : Status) → HasCauses k s o l d asked before (record after { log = noted }) status
-      → EndsLog l noted after.log status → FlushesLog l asked noted after.log status
+      → EndsLog l noted after.log (fault_line status) → FlushesLog l asked noted after.log status
       → HasCauses k s o l d asked before after status
-  causes_after None before after noted status h ends flushed =
-      recorded_after None before after noted status h ends flushed
-  causes_after (Some (Init proto profile dir)) before after noted status h ends flushed =
-      recorded_after (Some (Init proto profile dir)) before after noted status h ends flushed
-  causes_after (Some (Read proto)) before after noted status h ends flushed =
-      recorded_after (Some (Read proto)) before after noted status h ends flushed
-  causes_after (Some Vectors) before after noted status h ends flushed =
-      recorded_after (Some Vectors) before after noted status h ends flushed
-  causes_after (Some (Seal proto profile dir)) before after noted status h ends flushed =
-      recorded_after (Some (Seal proto profile dir)) before after noted status h ends flushed
-  causes_after (Some (Check proto profile dir)) before after noted status h ends flushed =
-      recorded_after (Some (Check proto profile dir)) before after noted status h ends flushed
-  causes_after (Some (Replay proto profile dir)) before after noted status h ends flushed =
-      recorded_after (Some (Replay proto profile dir)) before after noted status h ends flushed
-  causes_after (Some (Trial proto profile seed count)) before after noted status h ends flushed =
-      recorded_after (Some (Trial proto profile seed count)) before after noted status h ends flushed
-  causes_after (Some (Space proto profile)) before after noted status h ends flushed =
-      recorded_after (Some (Space proto profile)) before after noted status h ends flushed
-  causes_after (Some (Audit proto profile dir sent got)) before after noted status h ends flushed =
-      recorded_after (Some (Audit proto profile dir sent got)) before after noted status h ends flushed
-  causes_after (Some (Duplex proto profile dir)) before after noted status h ends flushed =
-      recorded_after (Some (Duplex proto profile dir)) before after noted status h ends flushed
   causes_after (Some (LiveSeal proto profile dir)) before after noted status h ends flushed =
       live_after before after noted status h ends
   causes_after (Some (LiveCheck proto profile dir)) before after noted status h ends flushed =
       live_after before after noted status h ends
-  causes_after (Some Help) before after noted status h ends flushed =
-      recorded_after (Some Help) before after noted status h ends flushed
-  causes_after (Some Version) before after noted status h ends flushed =
-      recorded_after (Some Version) before after noted status h ends flushed
+  causes_after asked before after noted status h ends flushed =
+      recorded_after asked before after noted status h ends flushed
 
   -- What the causes say of the sinks, for whatever command.
   pub sinks_in : (asked : Option Command) (before after : Outside K S O L D) (status : Status)
       → HasCauses k s o l d asked before after status
       → SinkCause (o.faults before.out) (o.faults after.out) (l.faults before.log)
       (l.faults after.log) status
-  sinks_in None before after status h = h.streams.sinks
-  sinks_in (Some (Init proto profile dir)) before after status h = h.streams.sinks
-  sinks_in (Some (Read proto)) before after status h = h.streams.sinks
-  sinks_in (Some Vectors) before after status h = h.streams.sinks
-  sinks_in (Some (Seal proto profile dir)) before after status h = h.streams.sinks
-  sinks_in (Some (Check proto profile dir)) before after status h = h.streams.sinks
-  sinks_in (Some (Replay proto profile dir)) before after status h = h.streams.sinks
-  sinks_in (Some (Trial proto profile seed count)) before after status h = h.streams.sinks
-  sinks_in (Some (Space proto profile)) before after status h = h.streams.sinks
-  sinks_in (Some (Audit proto profile dir sent got)) before after status h = h.streams.sinks
-  sinks_in (Some (Duplex proto profile dir)) before after status h = h.streams.sinks
   sinks_in (Some (LiveSeal proto profile dir)) before after status h = h.counts.sinks
   sinks_in (Some (LiveCheck proto profile dir)) before after status h = h.counts.sinks
-  sinks_in (Some Help) before after status h = h.streams.sinks
-  sinks_in (Some Version) before after status h = h.streams.sinks
-
-  -- If no count of faults rose in a run, none had risen before the fault line was written.
-  pub calm_before : (before after : Outside K S O L D) (noted : L)
-      → l.faults noted ≤ l.faults after.log
-      → IsCalm k s o l d before after → IsCalm k s o l d before (record after { log = noted })
-  calm_before before after noted rises calm = record {
-    key = calm.key;
-    input = calm.input;
-    out = calm.out;
-    log = λ rose. calm.log (rose-then (l.faults before.log) (l.faults noted) (l.faults after.log)
-        rose rises);
-    disk = calm.disk;
-  }
+  sinks_in asked before after status h = h.streams.sinks
 
   -- Where nothing outside failed, no write did.
   no_write : (before after : Outside K S O L D) (status : Status)
-      → IsCalm k s o l d before after
+      → IsCalm k.faults s.faults o.faults l.faults d.faults before after
       → SinkCause (o.faults before.out) (o.faults after.out) (l.faults before.log)
       (l.faults after.log) status → status ≡ WriteFault → ⊥
   no_write before after status calm sinks is = elim (subst (SinkCause (o.faults before.out)
@@ -200,7 +128,7 @@ module _ {K S O L D : Type 0} (k : Source K) (s : Source S) (o : Sink O) (l : Si
       ]
 
   pub asked_done : (asked : Option Command) (before after : Outside K S O L D) (status : Status)
-      → MayDo k s o l d asked before → IsCalm k s o l d before after
+      → MayDo k s o l d asked before → IsCalm k.faults s.faults o.faults l.faults d.faults before after
       → Does k s o l d asked before after status → HasCauses k s o l d asked before after status
       → EndsWell k s o l d asked before status
   asked_done None before after status may calm does causes = absurd may

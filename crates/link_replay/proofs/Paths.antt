@@ -28,19 +28,6 @@ kind-made words asked makes asks =
 -- If the words don't ask for a new journal, the journal's file is expected to be there already.
 pub kind-kept : (words : List (List ℕ)) (asked : Option Command) → (AskForJournal words → ⊥)
     → Asks words asked → Standing ≡ journal_kind asked
-kind-kept words None other asks = refl
 kind-kept words (Some (Init proto profile dir)) other asks =
     absurd (other (proto, profile, dir, asks))
-kind-kept words (Some (Read proto)) other asks = refl
-kind-kept words (Some Vectors) other asks = refl
-kind-kept words (Some (Seal proto profile dir)) other asks = refl
-kind-kept words (Some (Check proto profile dir)) other asks = refl
-kind-kept words (Some (Replay proto profile dir)) other asks = refl
-kind-kept words (Some (Audit proto profile dir sent got)) other asks = refl
-kind-kept words (Some (Trial proto profile seed count)) other asks = refl
-kind-kept words (Some (Space proto profile)) other asks = refl
-kind-kept words (Some (Duplex proto profile dir)) other asks = refl
-kind-kept words (Some (LiveSeal proto profile dir)) other asks = refl
-kind-kept words (Some (LiveCheck proto profile dir)) other asks = refl
-kind-kept words (Some Help) other asks = refl
-kind-kept words (Some Version) other asks = refl
+kind-kept words asked other asks = refl

@@ -1,5 +1,5 @@
 -- What the program does for each command that its words may ask for, or if they ask for none.
-use Rattle.std.specs.Prelude.{◌≡◌, ◌⊎◌, ◌≤◌, [], Option, Some, None}
+use Rattle.std.specs.Prelude.{◌≡◌, ◌⊎◌, ℕ, Option, Some, None}
 use Rattle.yasir_io.specs.declared.source.Source.{Ghosts as Source}
 use Rattle.yasir_io.specs.declared.sink.Sink.{Ghosts as Sink}
 use Rattle.yasir_io.specs.declared.disk.SlotDisk.{Ghosts as SlotDisk}
@@ -8,7 +8,7 @@ use Rattle.yasir_io.specs.Disks.{LeavesOnly}
 use Rattle.yasir_io.specs.Flushed.{IsNotFlushed}
 use Rattle.sequence_journal.specs.Journal.{IsBut}
 use Rattle.command_ends.specs.Outside.{Outside}
-use Rattle.command_ends.specs.Causes.{InputCause, DiskCause, LogsFault, NoneRose}
+use Rattle.command_ends.specs.Causes.{InputCause, DiskCause}
 use Rattle.command_ends.specs.StreamCauses.{HasStreamCauses}
 use Rattle.link_replay.specs.InitCommand.{Inits, IsBlank}
 use Rattle.command_ends.specs.Readable.{IsReadable}
@@ -26,7 +26,6 @@ use Rattle.link_replay.specs.SpaceCommand.{Spaces}
 use Rattle.link_replay.specs.AuditCommand.{Audits, EndsWithVerdict, audited}
 use Rattle.link_replay.specs.DuplexCommand.{Duplexes}
 use Rattle.link_replay.specs.AboutCommands.{Helps, TellsVersion}
-use Rattle.command_ends.specs.Statuses.{fault_line}
 use Rattle.command_ends.specs.declared.status.Status.{Status}
 use Rattle.command_ends.specs.declared.status.Status.TheVariants.{Usage, Done, NoMemory}
 use Rattle.link_replay.specs.declared.words.Command.{Command}
@@ -49,19 +48,28 @@ KeepsDisk d (Some (LiveCheck proto profile dir)) old new =
     KeepsFloorThroughout d (link_of proto profile dir) old new
 KeepsDisk d asked old new = new ≡ old
 
--- Holds if the log has got the fault line of a status, or a front of it, and nothing was done if the
--- status has none.
-pub record EndsLog {L : Type 0} (l : Sink L) (noted now : L) (status : Status) : Type 0 where
-  pub logs : LogsFault (l.held noted) (l.held now) (l.faults noted) (l.faults now) status
-  pub never_falls : l.faults noted ≤ l.faults now
-  pub same : fault_line status ≡ [] → now ≡ noted
-
 -- What was done to the log between a command's end and the end of the run: the fault line was
 -- written to it, and for a live line's command it was flushed behind that line.
 abbrev pub FlushesLog : {L : Type 0} → Sink L → Option Command → L → L → Status → Type 0
 FlushesLog l (Some (LiveSeal proto profile dir)) noted now status = FlushesFault l noted now status
 FlushesLog l (Some (LiveCheck proto profile dir)) noted now status = FlushesFault l noted now status
 FlushesLog l asked noted now status = IsNotFlushed l noted now
+
+-- The causes that depend on the command: that of the disk and, if the command reads no key, that of
+-- the input.
+abbrev pub HasOwnCauses : Option Command → ℕ → ℕ → ℕ → ℕ → Status → Type 0
+HasOwnCauses (Some (Seal proto profile dir)) in_before in_now disk_before disk_now status =
+    DiskCause disk_before disk_now status
+HasOwnCauses (Some (Check proto profile dir)) in_before in_now disk_before disk_now status =
+    DiskCause disk_before disk_now status
+HasOwnCauses (Some (Replay proto profile dir)) in_before in_now disk_before disk_now status =
+    DiskCause disk_before disk_now status
+HasOwnCauses (Some (Audit proto profile dir sent got)) in_before in_now disk_before disk_now status =
+    DiskCause disk_before disk_now status
+HasOwnCauses (Some (Duplex proto profile dir)) in_before in_now disk_before disk_now status =
+    DiskCause disk_before disk_now status
+HasOwnCauses asked in_before in_now disk_before disk_now status =
+    InputCause in_before in_now status × DiskCause disk_before disk_now status
 
 module _ {K S O L D : Type 0} (k : Source K) (s : Source S) (o : Sink O) (l : Sink L)
     (d : SlotDisk D) where
@@ -92,17 +100,6 @@ module _ {K S O L D : Type 0} (k : Source K) (s : Source S) (o : Sink O) (l : Si
       ChecksLive k s o l d proto profile dir before after status
   Does (Some Help) before after status = Helps o l before after status
   Does (Some Version) before after status = TellsVersion o l before after status
-
-  -- What a run does: what was asked for, and then, if the status has a fault line, the writing of
-  -- that line to the log.
-  pub record Runs (asked : Option Command) (before after : Outside K S O L D) (status : Status)
-      : Type 0 where
-    -- the log as the command left it
-    pub noted : L
-    pub does : Does asked before (record after { log = noted }) status
-    pub faults : LogsFault (l.held noted) (l.held after.log)
-        (l.faults before.log) (l.faults after.log) status
-    pub flushed : FlushesLog l asked noted after.log status
 
   -- Holds if all that the command is given is right.
   abbrev pub MayDo : Option Command → Outside K S O L D → Type 0
@@ -145,36 +142,14 @@ module _ {K S O L D : Type 0} (k : Source K) (s : Source S) (o : Sink O) (l : Si
   EndsWell (Some (Duplex proto profile dir)) before status = (status ≡ Done) ⊎ (status ≡ NoMemory)
   EndsWell asked before status = status ≡ Done
 
-  -- Holds if nothing outside failed.
-  abbrev pub IsCalm : Outside K S O L D → Outside K S O L D → Type 0
-  IsCalm before after = NoneRose (k.faults before.key) (k.faults after.key)
-      (s.faults before.input) (s.faults after.input) (o.faults before.out) (o.faults after.out)
-      (l.faults before.log) (l.faults after.log) (d.faults before.disk) (d.faults after.disk)
-
-  -- The causes that depend on the command: that of the disk and, if the command reads no key, that of
-  -- the input.
-  abbrev pub HasOwnCauses : Option Command → Outside K S O L D → Outside K S O L D → Status → Type 0
-  HasOwnCauses (Some (Seal proto profile dir)) before after status =
-      DiskCause (d.faults before.disk) (d.faults after.disk) status
-  HasOwnCauses (Some (Check proto profile dir)) before after status =
-      DiskCause (d.faults before.disk) (d.faults after.disk) status
-  HasOwnCauses (Some (Replay proto profile dir)) before after status =
-      DiskCause (d.faults before.disk) (d.faults after.disk) status
-  HasOwnCauses (Some (Audit proto profile dir sent got)) before after status =
-      DiskCause (d.faults before.disk) (d.faults after.disk) status
-  HasOwnCauses (Some (Duplex proto profile dir)) before after status =
-      DiskCause (d.faults before.disk) (d.faults after.disk) status
-  HasOwnCauses asked before after status =
-      InputCause (s.faults before.input) (s.faults after.input) status
-      × DiskCause (d.faults before.disk) (d.faults after.disk) status
-
   -- For each status of a command that isn't one of a live line, which counts of faults rose, and
   -- which flushes were made. Both sinks are flushed on the way to Done and to Unclean, once each,
   -- after all that was written, and nowhere else.
   pub record HasRecordedCauses (asked : Option Command) (before after : Outside K S O L D)
       (status : Status) : Type 0 where
     pub streams : HasStreamCauses k s o l before after status
-    pub own : HasOwnCauses asked before after status
+    pub own : HasOwnCauses asked (s.faults before.input) (s.faults after.input)
+        (d.faults before.disk) (d.faults after.disk) status
 
   -- For each status, which counts of faults rose, and, but for a live line, which flushes were made.
   abbrev pub HasCauses : Option Command → Outside K S O L D → Outside K S O L D → Status → Type 0

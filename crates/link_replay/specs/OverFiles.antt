@@ -10,13 +10,14 @@ use Rattle.yasir_io.specs.declared.files.SlotFile.TheVariants.{Standing, New}
 use Rattle.command_ends.specs.Outside.{Outside, outside}
 use Rattle.line_commands.specs.declared.streams.Streams.{Streams}
 use Rattle.command_ends.specs.Given.{IsKeyFile, IsJournalFile}
-use Rattle.command_ends.specs.Statuses.{exit_status_of}
+use Rattle.command_ends.specs.Statuses.{exit_status_of, fault_line}
 use Rattle.command_ends.specs.declared.status.Status.{Status}
 use Rattle.command_ends.specs.declared.status.Status.TheVariants.{Usage, NoMemory}
 use Rattle.link_replay.specs.declared.words.Command.{Command}
 use Rattle.link_replay.specs.declared.words.Command.TheVariants.{Init}
 use Rattle.link_replay.specs.Words.{key_place, journal_place, word_in}
-use Rattle.link_replay.specs.Commands.{Runs, HasCauses, MayDo, IsCalm, EndsWell, KeepsDisk}
+use Rattle.command_ends.specs.Programs.{Runs, IsCalm}
+use Rattle.link_replay.specs.Commands.{Does, FlushesLog, HasCauses, MayDo, EndsWell, KeepsDisk}
 
 -- the path of a file whose path has this place among the words of a command, if the command has
 -- such a file
@@ -51,12 +52,12 @@ module _ {R F D S O L : Type 0}
     pub key : IsKeyFile (path_in key_place words asked) key_before
     pub journal : IsJournalFile (path_in journal_place words asked) (journal_kind asked) disk_before
     pub usage : (status ≡ Usage) ↔ (asked ≡ None)
-    pub runs : Runs k s o l d asked (with_files before key_before disk_before)
-        (with_files after key_after disk_after) status
+    pub runs : Runs l fault_line (Does k s o l d) (FlushesLog l) asked
+        (with_files before key_before disk_before) (with_files after key_after disk_after) status
     pub any_moment : KeepsDisk d asked disk_before disk_after
     pub done : MayDo k s o l d asked (with_files before key_before disk_before)
-        → IsCalm k s o l d (with_files before key_before disk_before)
-        (with_files after key_after disk_after)
+        → IsCalm k.faults s.faults o.faults l.faults d.faults
+        (with_files before key_before disk_before) (with_files after key_after disk_after)
         → EndsWell k s o l d asked (with_files before key_before disk_before) status
     pub causes : HasCauses k s o l d asked (with_files before key_before disk_before)
         (with_files after key_after disk_after) status

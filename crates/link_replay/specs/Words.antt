@@ -5,6 +5,7 @@ use Rattle.link_format.specs.declared.dir.Dir.{Dir}
 use Rattle.sequence_journal.specs.declared.numbers.TheConstants.{LIMIT}
 use Rattle.command_ends.specs.declared.link.Proto.{Proto}
 use Rattle.command_ends.specs.declared.link.Profile.{Profile}
+use Rattle.command_ends.specs.Programs.{AsksFor}
 use Rattle.command_ends.specs.Words.{proto_word, link_word, dir_word}
 use Rattle.link_replay.specs.declared.words.Command.{Command}
 use Rattle.link_replay.specs.declared.words.Command.TheVariants.{Init, Read, Vectors, Seal, Check}
@@ -60,8 +61,7 @@ AskForJournal words = (proto : Proto) × (profile : Profile) × (dir : Dir)
 
 -- Holds if this is what the words ask for: a command, or `None` if they fit no command.
 abbrev pub Asks : List (List ℕ) → Option Command → Type 0
-Asks words None = (command : Command) → IsCommand words command → ⊥
-Asks words (Some command) = IsCommand words command
+Asks words asked = AsksFor IsCommand words asked
 
 -- Holds if a command isn't one of a live line.
 abbrev pub IsRecorded : Command → Type 0

@@ -2,11 +2,13 @@
 ghost use Rattle.std.specs.Prelude.{◌≡◌, ◌↔◌, Option, Some, None, map};
 ghost use Rattle.std.specs.String.{string_bytes};
 ghost use Rattle.command_ends.specs.Ends.{outside_before, outside_after};
+ghost use Rattle.command_ends.specs.Programs.{Runs, IsCalm, EndsLog};
+ghost use Rattle.command_ends.specs.Statuses.{fault_line};
 ghost use Rattle.link_replay.specs.OverFiles.{outside_of};
 ghost use Rattle.link_replay.specs.declared.words.Command.{Command};
 ghost use Rattle.link_replay.specs.Words.{Asks, AreFloors, IsRecorded};
-ghost use Rattle.link_replay.specs.Commands.{Does, Runs, KeepsDisk, MayDo, IsCalm, EndsWell};
-ghost use Rattle.link_replay.specs.Commands.{HasCauses, FlushesLog, EndsLog};
+ghost use Rattle.link_replay.specs.Commands.{Does, KeepsDisk, HasCauses, FlushesLog};
+ghost use Rattle.link_replay.specs.Commands.{MayDo, EndsWell};
 ghost use Rattle.link_replay.specs.LiveCommands.{FlushesFault};
 
 use crate::commands::about::{print_help, print_version};
@@ -136,7 +138,7 @@ fn asked_by(words: &[String]) -> Option<Command>
 // Writes the fault line of a status, if it has one, to the log, and flushes the log behind it. If
 // the write fails, nothing more is done, and the status stays the same if a call fails.
 fn send_fault<L: Sink>(log: &mut L, status: &Status)
-    ensures ends { EndsLog L.Sink log.old log.new status.now }
+    ensures ends { EndsLog L.Sink log.old log.new (fault_line status.now) }
     ensures flushes { FlushesFault L.Sink log.old log.new status.now }
 {
     let line = fault_line(status);
@@ -152,7 +154,7 @@ fn send_fault<L: Sink>(log: &mut L, status: &Status)
 
 // Writes the fault line of a status to the log, behind what the command has written.
 fn log_fault<L: Sink>(asked: Option<Command>, log: &mut L, status: &Status)
-    ensures ends { EndsLog L.Sink log.old log.new status.now }
+    ensures ends { EndsLog L.Sink log.old log.new (fault_line status.now) }
     ensures flushes { FlushesLog L.Sink asked log.old log.new status.now }
 {
     match asked {
@@ -176,7 +178,8 @@ pub fn run<K: Source, S: Source, O: Sink, L: Sink, D: SlotDisk>(
 
     // What was read, written and kept, for each command, and then the fault line.
     ensures runs { (asked : Option Command) → Asks (map string_bytes words.now) asked
-        → Runs K.Source S.Source O.Sink L.Sink D.SlotDisk asked
+        → Runs L.Sink fault_line (Does K.Source S.Source O.Sink L.Sink D.SlotDisk)
+        (FlushesLog L.Sink) asked
         (outside_of key.old streams.old disk.old)
         (outside_of key.new streams.new disk.new) result }
 
@@ -190,7 +193,7 @@ pub fn run<K: Source, S: Source, O: Sink, L: Sink, D: SlotDisk>(
     ensures done { (asked : Option Command) → Asks (map string_bytes words.now) asked
         → MayDo K.Source S.Source O.Sink L.Sink D.SlotDisk asked
         (outside_of key.old streams.old disk.old)
-        → IsCalm K.Source S.Source O.Sink L.Sink D.SlotDisk
+        → IsCalm K.faults S.faults O.faults L.faults D.faults
         (outside_of key.old streams.old disk.old)
         (outside_of key.new streams.new disk.new)
         → EndsWell K.Source S.Source O.Sink L.Sink D.SlotDisk asked

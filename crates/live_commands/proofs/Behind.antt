@@ -25,38 +25,26 @@ module _ {B P D : Type 0} (p : Port P) (d : SlotDisk D) where
   pub goes_whole : (old new : Live B P D) (end : End) → has_stopped end ≡ false
       → is_read_fault end ≡ false → LiveGoes p d old new end → LiveGoes p d old new Whole
   goes_whole old new Whole goes_on no_read goes = goes
-  goes_whole old new (Refused bad) goes_on no_read goes = record {
-    images = goes.images;
-    disk = goes.disk;
-    reads = goes.reads;
-    outputs = goes.outputs;
-  }
-  goes_whole old new (TooLong what count) goes_on no_read goes = record {
-    images = goes.images;
-    disk = goes.disk;
-    reads = goes.reads;
-    outputs = goes.outputs;
-  }
   goes_whole old new ReadFault goes_on no_read goes = absurd (no_true no_read)
   goes_whole old new (Stopped stop) goes_on no_read goes = absurd (no_true goes_on)
+  goes_whole old new end goes_on no_read goes = record {
+    images = goes.images;
+    disk = goes.disk;
+    reads = goes.reads;
+    outputs = goes.outputs;
+  }
 
   goes_as : (old new : Live B P D) (end : End) → has_stopped end ≡ false
       → is_read_fault end ≡ false → LiveGoes p d old new Whole → LiveGoes p d old new end
   goes_as old new Whole goes_on no_read goes = goes
-  goes_as old new (Refused bad) goes_on no_read goes = record {
-    images = goes.images;
-    disk = goes.disk;
-    reads = goes.reads;
-    outputs = goes.outputs;
-  }
-  goes_as old new (TooLong what count) goes_on no_read goes = record {
-    images = goes.images;
-    disk = goes.disk;
-    reads = goes.reads;
-    outputs = goes.outputs;
-  }
   goes_as old new ReadFault goes_on no_read goes = absurd (no_true no_read)
   goes_as old new (Stopped stop) goes_on no_read goes = absurd (no_true goes_on)
+  goes_as old new end goes_on no_read goes = record {
+    images = goes.images;
+    disk = goes.disk;
+    reads = goes.reads;
+    outputs = goes.outputs;
+  }
 
   -- If no calls ended in a fault, more calls that handed on what waits end as these did.
   goes_handed : (old mid new : Live B P D) (end : End) → has_stopped end ≡ false

@@ -55,9 +55,7 @@ module _ {B N P D : Type 0} (b : LinkBox B N) (line_of : N → List ℕ) (p : Po
       left = refl;
       ends = λ origin text has. absurd (answer text has.has_read);
     }
-    finish_refused lines rest at Whole only_now ready of_text answer = absurd of_text
-    finish_refused lines rest at ReadFault only_now ready of_text answer = absurd of_text
-    finish_refused lines rest at (Stopped stop) only_now ready of_text answer = absurd of_text
+    finish_refused lines rest at end only_now ready of_text answer = absurd of_text
 
     longer : (at : Live B P D) (stop : Stop) (origin : LiveOrigin) (line more : List Tick)
         → StopsHearing b line_of at.live_box.lines (p.history at.port) (d.told at.disk) stop origin line
@@ -128,9 +126,7 @@ module _ {B N P D : Type 0} (b : LinkBox B N) (line_of : N → List ℕ) (p : Po
         };
       }
       last_ended (TooLong Bytes count) none = absurd none
-      last_ended (Refused bad) none = absurd none
-      last_ended Whole none = absurd none
-      last_ended ReadFault none = absurd none
+      last_ended end none = absurd none
 
       module _ (given : Given b line_of p d old mid run) (new : Live B P D) where
         heard_last : (origin : LiveOrigin) (text : List ℕ) → TakenAt b line_of p d lines old origin text
@@ -227,30 +223,12 @@ module _ {B N P D : Type 0} (b : LinkBox B N) (line_of : N → List ℕ) (p : Po
             (read_further origin ends.more)) (ap (λ l. l ++ ends.more) none)
             (ends.ends origin (at_start origin zero none heard)));
       }
-      hears_ended_line now new (Refused bad) ends = record {
+      hears_ended_line now new end ends = record {
         text = ends.more;
         came = ends.came;
         goes = ends.goes;
         clear = ends.clear;
-        ends = λ origin zero none heard. inl (subst (EndsAt b line_of p d new (Refused bad)
-            (read_further origin ends.more)) (ap (λ l. l ++ ends.more) none)
-            (ends.ends origin (at_start origin zero none heard)));
-      }
-      hears_ended_line now new (TooLong what count) ends = record {
-        text = ends.more;
-        came = ends.came;
-        goes = ends.goes;
-        clear = ends.clear;
-        ends = λ origin zero none heard. inl (subst (EndsAt b line_of p d new (TooLong what count)
-            (read_further origin ends.more)) (ap (λ l. l ++ ends.more) none)
-            (ends.ends origin (at_start origin zero none heard)));
-      }
-      hears_ended_line now new (Stopped stop) ends = record {
-        text = ends.more;
-        came = ends.came;
-        goes = ends.goes;
-        clear = ends.clear;
-        ends = λ origin zero none heard. inl (subst (EndsAt b line_of p d new (Stopped stop)
+        ends = λ origin zero none heard. inl (subst (EndsAt b line_of p d new end
             (read_further origin ends.more)) (ap (λ l. l ++ ends.more) none)
             (ends.ends origin (at_start origin zero none heard)));
       }
@@ -280,11 +258,8 @@ module _ {B N P D : Type 0} (b : LinkBox B N) (line_of : N → List ℕ) (p : Po
             → EndsText (HeardAt b line_of p d new (read_further origin all.more))
             (HaltsAt b line_of p d new (read_further origin all.more)) rest
             (IsAtEnd (p.left new.port)) end all.more
-        ends_by Whole finishes = last_by Whole finishes
-        ends_by (Refused bad) finishes = last_by (Refused bad) finishes
-        ends_by (TooLong what count) finishes = last_by (TooLong what count) finishes
-        ends_by (Stopped stop) finishes = last_by (Stopped stop) finishes
         ends_by ReadFault finishes = absurd (no_true finishes.no_read)
+        ends_by end finishes = last_by end finishes
 
         pub hears_finished_line : (end : End) → Finishes b line_of p d now rest mid new end
             → HearsLine b line_of p d rest old new end

@@ -52,9 +52,7 @@ module _ {B P D : Type 0} (p : Port P) (d : SlotDisk D) where
     reads = goes.reads;
     outputs = goes.outputs;
   }
-  goes_of_text old new Whole of_text goes = absurd of_text
-  goes_of_text old new ReadFault of_text goes = absurd of_text
-  goes_of_text old new (Stopped stop) of_text goes = absurd of_text
+  goes_of_text old new end of_text goes = absurd of_text
 
   pub goes_given : (old new : Live B P D)
       → GoesOn p d (outside_of old) (outside_of new) (Ok tt) → LiveGoes p d old new Whole
@@ -262,21 +260,13 @@ module _ {B N P D : Type 0} (b : LinkBox B N) (line_of : N → List ℕ) (p : Po
           begins = read_begins old_lines text has.has_read;
           ends = record { many = inl long; heard = has.heard };
         }
-    feed_ends old_lines new_lines at bytes (TooLong Ticks count) answer origin text has =
-        absurd (answer text has.has_read)
-    feed_ends old_lines new_lines at bytes Whole answer origin text has =
-        absurd (answer text has.has_read)
-    feed_ends old_lines new_lines at bytes ReadFault answer origin text has =
-        absurd (answer text has.has_read)
-    feed_ends old_lines new_lines at bytes (Stopped stop) answer origin text has =
+    feed_ends old_lines new_lines at bytes end answer origin text has =
         absurd (answer text has.has_read)
 
     no_read_of_text : (end : End) → IsOfText end → is_read_fault end ≡ false
     no_read_of_text (Refused bad) of_text = refl
     no_read_of_text (TooLong what count) of_text = refl
-    no_read_of_text Whole of_text = absurd of_text
-    no_read_of_text ReadFault of_text = absurd of_text
-    no_read_of_text (Stopped stop) of_text = absurd of_text
+    no_read_of_text end of_text = absurd of_text
 
     pub feed_ended : (old_lines new_lines : LineReader) (at : Live B P D) (bytes : List ℕ) (end : End)
         → ((disk : D) (c : Slots) → d.left_since disk (d.moment disk) c → d.may_leave disk c)
@@ -317,9 +307,7 @@ module _ {B N P D : Type 0} (b : LinkBox B N) (line_of : N → List ℕ) (p : Po
         ends = line_stopped old_lines new_lines old new bytes taken items run alike reads stop stops;
       }
       line_ended (TooLong Bytes count) none = absurd none
-      line_ended (Refused bad) none = absurd none
-      line_ended Whole none = absurd none
-      line_ended ReadFault none = absurd none
+      line_ended end none = absurd none
 
       pub line_taken : 0 < taken → taken ≤ length bytes → Given b line_of p d old new run
           → TakesFirst b line_of p d old_lines new_lines old new bytes taken

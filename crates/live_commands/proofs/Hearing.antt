@@ -281,8 +281,5 @@ module _ {B N P D : Type 0} (b : LinkBox B N) (line_of : N → List ℕ) (p : Po
     pub hear_answer : (lines0 lines1 : LineReader) (old new : Live B P D) (end : End)
         → is_read_fault end ≡ false → EndsHearing b line_of p d lines0 old new end
         → HearAnswer b line_of p d lines0 lines1 old new (Err end)
-    hear_answer lines0 lines1 old new Whole no_read ends = ends
-    hear_answer lines0 lines1 old new (Refused bad) no_read ends = ends
-    hear_answer lines0 lines1 old new (TooLong what count) no_read ends = ends
-    hear_answer lines0 lines1 old new (Stopped stop) no_read ends = ends
     hear_answer lines0 lines1 old new ReadFault no_read ends = absurd (no_true no_read)
+    hear_answer lines0 lines1 old new end no_read ends = ends

@@ -37,17 +37,14 @@ runs_of : {P D : Type 0} (p : Port P) (d : SlotDisk D) (link : LinkId) (boxes : 
     → EndsLine p d link boxes rest ahead before after end
     → (is_read_fault end ≡ true → Rose (p.read_faults before.port) (p.read_faults after.port))
     → RunsLine p d link boxes rest ahead before after (status_of end)
-runs_of p d link boxes rest ahead before after Whole ends rose = ends
-runs_of p d link boxes rest ahead before after (Refused bad) ends rose = ends
-runs_of p d link boxes rest ahead before after (TooLong what count) ends rose = ends
 runs_of p d link boxes rest ahead before after ReadFault ends rose = (ends, rose refl)
-runs_of p d link boxes rest ahead before after (Stopped stops.WriteFault) ends rose = ends
 runs_of p d link boxes rest ahead before after (Stopped stops.JournalFault) ends rose = inl ends
 runs_of p d link boxes rest ahead before after (Stopped stops.NoMemory) ends rose =
     elim ends.ends [
       | inl within ↦ within.ends
       | inr last ↦ last.1.holds
     ]
+runs_of p d link boxes rest ahead before after end ends rose = ends
 
 -- What has a floor has one between numbers that it isn't beyond.
 told_between : (link : LinkId) (low floor high : ℕ) → low ≤ floor → floor ≤ high
@@ -60,24 +57,6 @@ told_between link low floor high below above (Some slots) told =
 -- What an end says of the port's counts of faults is what its status says of them.
 pub port_causes : {P D B : Type 0} (p : Port P) (d : SlotDisk D) (old new : Live B P D) (end : End)
     → LiveGoes p d old new end → PortCauses p old.port new.port (status_of end)
-port_causes p d old new Whole goes = record {
-  never_falls = goes.reads.never_falls;
-  no_read = λ _. goes.reads.same refl;
-  no_write = λ _. goes.outputs.same refl;
-  write = λ e. cc;
-}
-port_causes p d old new (Refused bad) goes = record {
-  never_falls = goes.reads.never_falls;
-  no_read = λ _. goes.reads.same refl;
-  no_write = λ _. goes.outputs.same refl;
-  write = λ e. cc;
-}
-port_causes p d old new (TooLong what count) goes = record {
-  never_falls = goes.reads.never_falls;
-  no_read = λ _. goes.reads.same refl;
-  no_write = λ _. goes.outputs.same refl;
-  write = λ e. cc;
-}
 port_causes p d old new ReadFault goes = record {
   never_falls = goes.reads.never_falls;
   no_read = λ other. absurd (other refl);
@@ -90,13 +69,7 @@ port_causes p d old new (Stopped stops.WriteFault) goes = record {
   no_write = λ other. absurd (other refl);
   write = λ e. goes.outputs.failed refl;
 }
-port_causes p d old new (Stopped stops.JournalFault) goes = record {
-  never_falls = goes.reads.never_falls;
-  no_read = λ _. goes.reads.same refl;
-  no_write = λ _. goes.outputs.same refl;
-  write = λ e. cc;
-}
-port_causes p d old new (Stopped stops.NoMemory) goes = record {
+port_causes p d old new end goes = record {
   never_falls = goes.reads.never_falls;
   no_read = λ _. goes.reads.same refl;
   no_write = λ _. goes.outputs.same refl;
@@ -190,21 +163,13 @@ module _ {B N P D : Type 0} (b : LinkBox B N) (line_of : N → List ℕ) (p : Po
       → number_in new.live_box.lines ≡ n
       → ToldFloor link (journal_floor last) (d.told new.disk)
       → IfSome (d.told new.disk) (HasFloorBetween link n (n + left_ahead ahead at))
-  floor_between Whole is goes_on n low high number told =
-      told_between link n (journal_floor last) (n + 0) low
-      (omega (arith, number, drives.lowered (subst (λ e. is_lowered_at e ≡ true) is refl)))
-      (d.told new.disk) told
-  floor_between (Refused bad) is goes_on n low high number told = told_between link n
-      (journal_floor last) (n + 0) low
-      (omega (arith, number, drives.lowered (subst (λ e. is_lowered_at e ≡ true) is refl)))
-      (d.told new.disk) told
-  floor_between (TooLong what count) is goes_on n low high number told = told_between link n
-      (journal_floor last) (n + 0) low
-      (omega (arith, number, drives.lowered (subst (λ e. is_lowered_at e ≡ true) is refl)))
-      (d.told new.disk) told
   floor_between ReadFault is goes_on n low high number told =
       told_between link n (journal_floor last) (n + ahead) low high (d.told new.disk) told
   floor_between (Stopped stop) is goes_on n low high number told = absurd (no_true goes_on)
+  floor_between at is goes_on n low high number told =
+      told_between link n (journal_floor last) (n + 0) low
+      (omega (arith, number, drives.lowered (subst (λ e. is_lowered_at e ≡ true) is refl)))
+      (d.told new.disk) told
 
   carries : has_stopped end ≡ false → (line : List Tick) → HeardAt b line_of p d new heard_of line
       → Carries p d link (left_ahead ahead end) box at_first at_last drives.heard.text line

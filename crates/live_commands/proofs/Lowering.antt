@@ -34,18 +34,14 @@ use Rattle.yasir_io.specs.{declared.disk.SlotDisk.Ghosts as SlotDisk}
 use Rattle.yasir_ticks.specs.{Ticks.ticks_in, declared.tick.Tick.Tick}
 
 pub goes_on_at : (end : End) → is_lowered_at end ≡ true → has_stopped end ≡ false
-goes_on_at Whole e = refl
-goes_on_at (Refused bad) e = refl
-goes_on_at (TooLong what count) e = refl
 goes_on_at ReadFault e = cc
 goes_on_at (Stopped stop) e = cc
+goes_on_at end e = refl
 
 no_read_at : (end : End) → is_lowered_at end ≡ true → is_read_fault end ≡ false
-no_read_at Whole e = refl
-no_read_at (Refused bad) e = refl
-no_read_at (TooLong what count) e = refl
 no_read_at ReadFault e = cc
 no_read_at (Stopped stop) e = cc
+no_read_at end e = refl
 
 module _ (Heard Heard' : List Tick → Type 0) (Halts Halts' : Stop → List Tick → Type 0) (stop : Stop)
     (stops : (line more : List Tick) → Heard line → Halts' stop (line ++ more)) (rest : ℕ)
@@ -62,16 +58,14 @@ module _ (Heard Heard' : List Tick → Type 0) (Halts Halts' : Stop → List Tic
       inl (within_stopped Heard Heard' Halts Halts' stop stops Whole refl text within)
   text_stopped Whole e (inr last) = at_last last.0
       (last_stopped Heard Heard' Halts Halts' stop stops rest Whole refl text last.1)
-  text_stopped (Refused bad) e (inl within) =
-      inl (within_stopped Heard Heard' Halts Halts' stop stops (Refused bad) refl text within)
   text_stopped (Refused bad) e (inr last) = at_last last.0
       (last_stopped Heard Heard' Halts Halts' stop stops rest (Refused bad) refl text last.1)
-  text_stopped (TooLong what count) e (inl within) =
-      inl (within_stopped Heard Heard' Halts Halts' stop stops (TooLong what count) refl text within)
   text_stopped (TooLong what count) e (inr last) = at_last last.0
       (last_stopped Heard Heard' Halts Halts' stop stops rest (TooLong what count) refl text last.1)
   text_stopped ReadFault e ends = cc
   text_stopped (Stopped other) e ends = cc
+  text_stopped end e (inl within) =
+      inl (within_stopped Heard Heard' Halts Halts' stop stops end refl text within)
 
 module _ {B N P D : Type 0} (b : LinkBox B N) (line_of : N → List ℕ) (p : Port P) (d : SlotDisk D)
     (old mid : Live B P D) (live_box : LiveBox B) (disk : D) (rest : ℕ)

@@ -50,8 +50,7 @@ module _ (Heard Heard' : List Tick → Type 0) (Halts Halts' : Stop → List Tic
   behind_by (TooLong Bytes count) hears halts front later ends =
       record { many = ends.many; heard = hears refl _ ends.heard }
   behind_by (Stopped stop) hears halts front later ends = halts refl stop _ ends
-  behind_by Whole hears halts front later ends = ends
-  behind_by ReadFault hears halts front later ends = ends
+  behind_by end hears halts front later ends = ends
 
   pub within_by : (end : End) → Hears end → Stops end → (text : List ℕ)
       → EndsWithin Heard Halts end text → EndsWithin Heard' Halts' end text
@@ -74,10 +73,9 @@ module _ (Heard Heard' : List Tick → Type 0) (Halts Halts' : Stop → List Tic
     right = ends.right;
     holds = ticks_by (hears refl) count _ ends.holds;
   }
-  last_by rest (TooLong Bytes count) hears halts text ends = ends
   last_by rest (Stopped stop) hears halts text ends =
       record { items = ends.items; right = ends.right; holds = halts refl stop _ ends.holds }
-  last_by rest ReadFault hears halts text ends = ends
+  last_by rest end hears halts text ends = ends
 
   either_by : (at_end : Type 0) (rest : ℕ) (end : End) → Hears end → Stops end → (text : List ℕ)
       → EndsWithin Heard Halts end text ⊎ (at_end × EndsAtLast Heard Halts rest end text)
@@ -89,16 +87,10 @@ module _ (Heard Heard' : List Tick → Type 0) (Halts Halts' : Stop → List Tic
   pub text_by : (rest : ℕ) (at_end : Type 0) (end : End) → Hears end → Stops end
       → (text : List ℕ)
       → EndsText Heard Halts rest at_end end text → EndsText Heard' Halts' rest at_end end text
-  text_by rest at_end Whole hears halts text ends =
-      either_by at_end rest Whole hears halts text ends
-  text_by rest at_end (Refused bad) hears halts text ends =
-      either_by at_end rest (Refused bad) hears halts text ends
-  text_by rest at_end (TooLong what count) hears halts text ends =
-      either_by at_end rest (TooLong what count) hears halts text ends
-  text_by rest at_end (Stopped stop) hears halts text ends =
-      either_by at_end rest (Stopped stop) hears halts text ends
   text_by rest at_end ReadFault hears halts text ends =
       record { begins = ends.begins; heard = hears refl _ ends.heard }
+  text_by rest at_end end hears halts text ends =
+      either_by at_end rest end hears halts text ends
 
 -- If a box that had taken some ticks was stopped then, the reading ended with that, wherever it had
 -- ended before.
@@ -118,14 +110,13 @@ module _ (Heard Heard' : List Tick → Type 0) (Halts Halts' : Stop → List Tic
 
   stopped_behind : (end : End) → has_stopped end ≡ false → (front later : List ℕ)
       → EndsBehind Heard Halts end front later → Halts' stop (ticks_in (ended_items front))
-  stopped_behind (Refused bad) goes front later ends = stops_at _ ends.heard
   stopped_behind (TooLong Ticks count) goes front later ends =
       subst (Halts' stop) (append-nil (ticks_in (ended_items front)))
       (stops_earlier count (ended_items front) ends [])
-  stopped_behind (TooLong Bytes count) goes front later ends = stops_at _ ends.heard
   stopped_behind (Stopped other) goes front later ends = absurd (no_true goes)
   stopped_behind Whole goes front later ends = absurd ends
   stopped_behind ReadFault goes front later ends = absurd ends
+  stopped_behind end goes front later ends = stops_at _ ends.heard
 
   pub within_stopped : (end : End) → has_stopped end ≡ false → (text : List ℕ)
       → EndsWithin Heard Halts end text → EndsWithin Heard' Halts' (Stopped stop) text
@@ -158,6 +149,5 @@ module _ (Heard Heard' : List Tick → Type 0) (Halts Halts' : Stop → List Tic
     right = ends.right;
     holds = stops_earlier count ends.items ends.holds (silent rest);
   })
-  last_stopped rest (TooLong Bytes count) goes text ends = absurd ends
   last_stopped rest (Stopped other) goes text ends = absurd (no_true goes)
-  last_stopped rest ReadFault goes text ends = absurd ends
+  last_stopped rest end goes text ends = absurd ends

@@ -55,8 +55,7 @@ module _ {S N : Type 0} (w : Walker S N) (frame_in : N → Option NumberedFrame)
 starts-with : (rules : Rules) (d : Burst) (v : Verdict)
     → IfSome (passed_in (note_by rules d v)) (λ f. f.start ≡ d.start)
 starts-with rules d (passed_with number) = refl
-starts-with rules d (refused why) = tt
-starts-with rules d (dropped why) = tt
+starts-with rules d v = tt
 
 pub passed-starts : (profile : Profile) (rules : Rules) (floor : ℕ) (link : List Tick)
     → All (λ f. f.start ≤ length link) (passed profile rules floor link)

@@ -100,9 +100,8 @@ pub few-bursts : (line : List Tick) → length (bursts line) ≤ length line
 few-bursts line = length-bursts_from 4 0 line
 
 pub few-before : (items : List Item) → length (before_mark items) ≤ length (ticks_in items)
-few-before [] = omega arith
 few-before (tick t ∷ items) = let few = few-before items in omega (arith, few)
-few-before (mark ∷ items) = omega arith
+few-before items = omega arith
 
 -- ---- the lists
 

@@ -81,18 +81,15 @@ run-long w brief begun line run answer answers =
 
 through-one : (fate : Fate) → cond (is_through fate) 1 0 ≡ through_in (Some fate)
 through-one Through = refl
-through-one Refused = refl
-through-one Dropped = refl
+through-one fate = refl
 
 refused-one : (fate : Fate) → cond (is_refused fate) 1 0 ≡ refused_in (Some fate)
 refused-one Through = refl
-refused-one Refused = refl
-refused-one Dropped = refl
+refused-one fate = refl
 
 dropped-one : (fate : Fate) → cond (is_dropped fate) 1 0 ≡ dropped_in (Some fate)
 dropped-one Through = refl
-dropped-one Refused = refl
-dropped-one Dropped = refl
+dropped-one fate = refl
 
 module _ {A : Type 0} (fate_of : A → Fate) where
   pub through-told : (note : Option A)
