@@ -180,16 +180,13 @@ data_more start left way first =
 field_more : (body : Body) (field : List ℕ) → takes_data body ≡ false
     → MoreIn (body_field_at body field).0
 unfolding body_field_at
-field_more (RtacSeconds start left) field h = refl
-field_more (RtacFraction start left) field h = refl
 field_more (Event start left) field h = data_more start left _ true
 field_more (Data start left way first) field h = cc
+field_more body field h = refl
 
 byte_more : (body : Body) (byte : ℕ) → takes_data body ≡ true → MoreIn (body_byte_at body byte).0
-byte_more (RtacSeconds start left) byte h = cc
-byte_more (RtacFraction start left) byte h = cc
-byte_more (Event start left) byte h = cc
 byte_more (Data start left way first) byte h = data_more start (left - 1) way false
+byte_more body byte h = cc
 
 pub live_field : (block : Block) (field : List ℕ) → Live block → takes_bytes block ≡ false
     → length field ≡ 4 → LiveStep (block_field_at block field)
@@ -246,18 +243,4 @@ pub live_byte : (block : Block) (byte : ℕ) → Live block → takes_bytes bloc
 live_byte (b.Packet s size left body) byte l h =
     live_body s size left (body_byte_at body byte).0 l.0 (byte_more body byte h)
 live_byte (b.Unread s size left) byte l h = live_rest s size (left - 1) l.0
-live_byte b.SectionSize byte l h = tt
-live_byte (b.SectionOrder big little) byte l h = tt
-live_byte (b.Kind s) byte l h = tt
-live_byte (b.Size s kind) byte l h = tt
-live_byte (b.Link s size) byte l h = tt
-live_byte (b.Snap s size) byte l h = tt
-live_byte (b.Option s size left counts) byte l h = tt
-live_byte (b.Value s size left counts fields) byte l h = tt
-live_byte (b.Resolution s size left) byte l h = tt
-live_byte (b.Interface s size) byte l h = tt
-live_byte (b.High s size) byte l h = tt
-live_byte (b.Low s size high) byte l h = tt
-live_byte (b.Captured s size start) byte l h = tt
-live_byte (b.Original s size start captured) byte l h = tt
-live_byte (b.End s size) byte l h = tt
+live_byte block byte l h = tt

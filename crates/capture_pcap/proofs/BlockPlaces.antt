@@ -544,18 +544,4 @@ block_byte_goes (b.Packet s size left body) text items byte at h =
     packet_byte_goes s size left body text items byte at h
 block_byte_goes (b.Unread s size left) text items byte at h =
     rest_byte_goes s size left text items byte at.0 at.1
-block_byte_goes b.SectionSize text items byte at h = tt
-block_byte_goes (b.SectionOrder big_size little_size) text items byte at h = tt
-block_byte_goes (b.Kind s) text items byte at h = tt
-block_byte_goes (b.Size s kind) text items byte at h = tt
-block_byte_goes (b.Link s size) text items byte at h = tt
-block_byte_goes (b.Snap s size) text items byte at h = tt
-block_byte_goes (b.Option s size left counts) text items byte at h = tt
-block_byte_goes (b.Value s size left counts fields) text items byte at h = tt
-block_byte_goes (b.Resolution s size left) text items byte at h = tt
-block_byte_goes (b.Interface s size) text items byte at h = tt
-block_byte_goes (b.High s size) text items byte at h = tt
-block_byte_goes (b.Low s size high) text items byte at h = tt
-block_byte_goes (b.Captured s size start) text items byte at h = tt
-block_byte_goes (b.Original s size start captured) text items byte at h = tt
-block_byte_goes (b.End s size) text items byte at h = tt
+block_byte_goes block text items byte at h = tt

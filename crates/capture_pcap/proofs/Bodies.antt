@@ -27,10 +27,9 @@ first_behind first (b ∷ bytes) = false
 seen_bytes-more : (start : ℕ) (way : Way) (first : Bool) (bytes : List ℕ) (b : ℕ)
     → seen_bytes start way first bytes ++ seen_byte start way (first_behind first bytes) b ∷ []
     ≡ seen_bytes start way first (bytes ++ b ∷ [])
-seen_bytes-more start way first [] b = refl
-seen_bytes-more start way first (c ∷ []) b = refl
 seen_bytes-more start way first (c ∷ d ∷ bytes) b =
     ap (λ x. seen_byte start way first c ∷ x) (seen_bytes-more start way false (d ∷ bytes) b)
+seen_bytes-more start way first bytes b = refl
 
 seen_data-more : (start : ℕ) (way : Option Way) (first : Bool) (bytes : List ℕ) (b : ℕ)
     → seen_data start way first bytes

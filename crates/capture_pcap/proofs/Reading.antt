@@ -50,22 +50,7 @@ reached spot file items e =
 block_ends : (block : Block) (file : List ℕ) (items : List Seen) → AtBlock block file items
     → may_end_block block ≡ true → IsCapture file items
 block_ends (b.Kind s) file items at m = pcapng file items (record { last = s; blocks = at })
-block_ends b.SectionSize file items at m = cc
-block_ends (b.SectionOrder big little) file items at m = cc
-block_ends (b.Size s kind) file items at m = cc
-block_ends (b.Link s size) file items at m = cc
-block_ends (b.Snap s size) file items at m = cc
-block_ends (b.Option s size left counts) file items at m = cc
-block_ends (b.Value s size left counts words) file items at m = cc
-block_ends (b.Resolution s size left) file items at m = cc
-block_ends (b.Interface s size) file items at m = cc
-block_ends (b.High s size) file items at m = cc
-block_ends (b.Low s size high) file items at m = cc
-block_ends (b.Captured s size start) file items at m = cc
-block_ends (b.Original s size start taken) file items at m = cc
-block_ends (b.Packet s size left body) file items at m = cc
-block_ends (b.Unread s size left) file items at m = cc
-block_ends (b.End s size) file items at m = cc
+block_ends block file items at m = cc
 
 -- If a file may end here, it is a pcap or pcapng file.
 ends_so : (stage : Stage) (front : List ℕ) (items : List Seen) → AtStage stage front items

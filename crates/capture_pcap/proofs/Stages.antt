@@ -402,32 +402,10 @@ byte_goes stage front items b (blocks block bytes _ at live) h =
 block_byte_taken : (block : Block) (byte : ℕ) (why : PcapFault) → block_takes_bytes block ≡ true
     → block_byte_at block byte ≡ Err why → ⊥
 block_byte_taken (b.Packet s size left body) byte why h e = cc
-block_byte_taken (b.Unread s size left) byte why h e = cc
-block_byte_taken b.SectionSize byte why h e = cc
-block_byte_taken (b.SectionOrder big_size little_size) byte why h e = cc
-block_byte_taken (b.Kind s) byte why h e = cc
-block_byte_taken (b.Size s kind) byte why h e = cc
-block_byte_taken (b.Link s size) byte why h e = cc
-block_byte_taken (b.Snap s size) byte why h e = cc
-block_byte_taken (b.Option s size left counts) byte why h e = cc
-block_byte_taken (b.Value s size left counts fields) byte why h e = cc
-block_byte_taken (b.Resolution s size left) byte why h e = cc
-block_byte_taken (b.Interface s size) byte why h e = cc
-block_byte_taken (b.High s size) byte why h e = cc
-block_byte_taken (b.Low s size high) byte why h e = cc
-block_byte_taken (b.Captured s size start) byte why h e = cc
-block_byte_taken (b.Original s size start taken) byte why h e = cc
-block_byte_taken (b.End s size) byte why h e = cc
+block_byte_taken block byte why h e = cc
 
 pub byte_taken : (stage : Stage) (byte : ℕ) (why : PcapFault) → takes_bytes stage ≡ true
     → byte_at stage byte ≡ Err why → ⊥
-byte_taken (Packet clock body) byte why h e = cc
 byte_taken (Blocks block) byte why h e =
     block_byte_taken block byte why h (refused_in_block (block_byte_at block byte) why e)
-byte_taken Magic byte why h e = cc
-byte_taken (Free clock before) byte why h e = cc
-byte_taken (Link clock) byte why h e = cc
-byte_taken (Seconds clock) byte why h e = cc
-byte_taken (Fraction clock first) byte why h e = cc
-byte_taken (Captured clock start) byte why h e = cc
-byte_taken (Original clock start taken) byte why h e = cc
+byte_taken stage byte why h e = cc

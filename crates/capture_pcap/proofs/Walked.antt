@@ -34,10 +34,6 @@ pub record Four (bytes : List ℕ) (n : ℕ) : Type 0 where
   pub rest_long : length rest ≡ n
 
 pub four_of : (bytes : List ℕ) (n : ℕ) → length bytes ≡ 4 + n → Four bytes n
-four_of [] n h = absurd (omega arith)
-four_of (a ∷ []) n h = absurd (omega arith)
-four_of (a ∷ b ∷ []) n h = absurd (omega arith)
-four_of (a ∷ b ∷ c ∷ []) n h = absurd (omega arith)
 four_of (a ∷ b ∷ c ∷ d ∷ rest) n h = record {
   first = a ∷ b ∷ c ∷ d ∷ [];
   rest = rest;
@@ -45,3 +41,4 @@ four_of (a ∷ b ∷ c ∷ d ∷ rest) n h = record {
   first_long = refl;
   rest_long = omega (arith, h);
 }
+four_of bytes n h = absurd (omega arith)

@@ -141,11 +141,7 @@ module _ (profile : Profile) (tags : HasTags profile) (some : 1 ≤ profile.word
       let long = packet-length profile tags some rules lawful n d whole its.no_extra in
       (omega arith, rest)
   ends-by s d m (unsealed Early) es is whole end rest = rest
-  ends-by s d m (unsealed Form) es is whole end rest =
-      let live = live_end-within rules d in
-      let long = length-append (live_ticks rules d) [] in
-      (omega arith, rest)
-  ends-by s d m (unsealed Spent) es is whole end rest =
+  ends-by s d m j es is whole end rest =
       let live = live_end-within rules d in
       let long = length-append (live_ticks rules d) [] in
       (omega arith, rest)

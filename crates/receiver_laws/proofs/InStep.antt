@@ -45,10 +45,8 @@ module _ (profile : Profile) (rules : Rules) where
       let early : (note_of d (passed_with n)).tick < m = omega arith in
       ap (λ l. last_number s.floor (frames_in l))
       (before-early m (note_of d (passed_with n)) notes early) ∙ rest
-  floor-step m s d (refused why) notes last closed rest =
-      ap (λ l. last_number s.floor l) (unnoted m (note_of d (refused why)) notes refl) ∙ rest
-  floor-step m s d (dropped why) notes last closed rest =
-      ap (λ l. last_number s.floor l) (unnoted m (note_of d (dropped why)) notes refl) ∙ rest
+  floor-step m s d v notes last closed rest =
+      ap (λ l. last_number s.floor l) (unnoted m (note_of d v) notes refl) ∙ rest
 
   -- Once all bursts are closed, the floor so far is that of the state after them.
   pub floor-so-far : (m : ℕ) (s : CheckState) (ds : List Burst) → AreClosed 4 m ds

@@ -47,13 +47,11 @@ use Rattle.yasir_ticks.specs.declared.tick.Tick.{Tick, TheVariants.Silent, TheVa
 
 pause-bytes : (x : List Tick) → AreTicks x → AreBytes (bytes_in (before_pause x))
 unfolding before_pause
-pause-bytes [] are = All-nil (λ b. b < 256)
 pause-bytes (Byte b ∷ x) are =
     All-cons (λ b. b < 256) b (bytes_in (before_pause x)) are.0 (pause-bytes x are.1)
-pause-bytes (Silent ∷ []) are = All-nil (λ b. b < 256)
-pause-bytes (Silent ∷ Silent ∷ x) are = All-nil (λ b. b < 256)
 pause-bytes (Silent ∷ Byte b ∷ x) are =
     All-cons (λ b. b < 256) b (bytes_in (before_pause x)) are.1.0 (pause-bytes x are.1.1)
+pause-bytes x are = All-nil (λ b. b < 256)
 
 module _ (profile : Profile) (rules : Rules) (lawful : IsLawful rules) (most : ℕ)
     (lack : LackAtMost rules most) (l : List Tick) (ticks : AreTicks l) where

@@ -65,11 +65,9 @@ no-pause x (goes_on b (suc (suc gap)) rest few contiguous) = absurd (omega arith
 
 pause-behind : (w y : List Tick) → has_pause (w ++ (Silent ∷ Silent ∷ y)) ≡ true
 unfolding has_pause
-pause-behind [] y = refl
 pause-behind (Byte b ∷ w) y = pause-behind w y
-pause-behind (Silent ∷ []) y = refl
-pause-behind (Silent ∷ Silent ∷ w) y = refl
 pause-behind (Silent ∷ Byte b ∷ w) y = pause-behind w y
+pause-behind w y = refl
 
 -- ---- sealed frames among the notes
 
@@ -329,13 +327,7 @@ module _ (profile : Profile) (other : ℕ → List ℕ → List ℕ) (rules : Ru
           passing within)
           (others stand.5)
       by-judgement s d ds (unsealed Early) judges whole among es stand others c = others stand c
-      by-judgement s d ds (unsealed Form) judges whole among es stand others c =
-          let p : Burst = forwarded rules d [] in
-          one-more mirror rules Reflected (length link) c p es
-          (λ number passes early. absurd (plain-stays c d number whole
-          (passed-passing mirror rules c p number passes)))
-          (others stand.5)
-      by-judgement s d ds (unsealed Spent) judges whole among es stand others c =
+      by-judgement s d ds j judges whole among es stand others c =
           let p : Burst = forwarded rules d [] in
           one-more mirror rules Reflected (length link) c p es
           (λ number passes early. absurd (plain-stays c d number whole

@@ -48,12 +48,9 @@ module _ (profile : Profile) (rules : Rules) where
       (λ late. subst P (sym (before-late m (note_of d (passed_with n)) notes late))
       (rise-lower s.floor n (numbers_of (frames_in (notes_before m notes))) (omega arith) rise))
       (cases_lt (note_tick profile rules d (passed_with n)) m)
-  rise-step m s d notes (refused why) is rise =
+  rise-step m s d notes v is rise =
       let P : List NumberedFrame → Type 0 = λ l. RiseFrom s.floor (numbers_of l) in
-      subst P (sym (unnoted m (note_of d (refused why)) notes refl)) rise
-  rise-step m s d notes (dropped why) is rise =
-      let P : List NumberedFrame → Type 0 = λ l. RiseFrom s.floor (numbers_of l) in
-      subst P (sym (unnoted m (note_of d (dropped why)) notes refl)) rise
+      subst P (sym (unnoted m (note_of d v) notes refl)) rise
 
   rise-walk : (m : ℕ) (s : CheckState) (ds : List Burst)
       → RiseFrom s.floor
@@ -78,12 +75,9 @@ module _ (profile : Profile) (rules : Rules) where
         rest))
         (λ late. subst Q (sym (before-late m (note_of d (passed_with n)) notes late)) rest)
         (cases_lt (note_tick profile rules d (passed_with n)) m)
-    each-step s d notes (refused why) each rest =
+    each-step s d notes v each rest =
         let Q : List NumberedFrame → Type 0 = λ l. All P l in
-        subst Q (sym (unnoted m (note_of d (refused why)) notes refl)) rest
-    each-step s d notes (dropped why) each rest =
-        let Q : List NumberedFrame → Type 0 = λ l. All P l in
-        subst Q (sym (unnoted m (note_of d (dropped why)) notes refl)) rest
+        subst Q (sym (unnoted m (note_of d v) notes refl)) rest
 
     each-walk : (link : List Tick)
         → ((s : CheckState) (d : Burst) (ds : List Burst) (n : ℕ) → AreOn link (d ∷ ds)

@@ -163,8 +163,7 @@ module _ (profile : Profile) (rules : Rules) where
       ⊎ ((e : Burst) × (emission_by profile rules d j ≡ e ∷ []) × (e.start ≡ d.start))
   emission-one d (sealed_with n) = inr (packet profile rules n d, refl, refl)
   emission-one d (unsealed Early) = inl refl
-  emission-one d (unsealed Form) = inr (forwarded rules d [], refl, refl)
-  emission-one d (unsealed Spent) = inr (forwarded rules d [], refl, refl)
+  emission-one d j = inr (forwarded rules d [], refl, refl)
 
   -- Holds if the emissions of these bursts have the parts `A` and `M`, and each part comes from a
   -- part of the bursts.

@@ -69,23 +69,8 @@ module _ {S C V : Type 0} (s : FrameBox S) (c : FrameBox C) (v : Device V)
   pub ends-listing : (end : End) → (end ≡ Whole → ⊥) → HasDriven end
       → (device_rest : ℕ) → ListsRecordings s c v device_rest old new before now end
   ends-listing Whole other driven rest = absurd (other refl)
-  ends-listing (Refused bad) other driven rest = record {
+  ends-listing end other driven rest = record {
     items = driven.items;
     takes = driven.takes;
-    memory = for-memory (Refused bad) driven;
-  }
-  ends-listing (TooLong what count) other driven rest = record {
-    items = driven.items;
-    takes = driven.takes;
-    memory = for-memory (TooLong what count) driven;
-  }
-  ends-listing ReadFault other driven rest = record {
-    items = driven.items;
-    takes = driven.takes;
-    memory = for-memory ReadFault driven;
-  }
-  ends-listing (Stopped stop) other driven rest = record {
-    items = driven.items;
-    takes = driven.takes;
-    memory = for-memory (Stopped stop) driven;
+    memory = for-memory end driven;
   }

@@ -12,14 +12,12 @@ use Rattle.yasir_ticks.specs.declared.tick.Tick.TheVariants.{Silent}
 -- mark as they were.
 
 pub has_mark-mark : (items : List Item) → lists_have_mark (items ++ mark ∷ []) ≡ true
-has_mark-mark [] = refl
 has_mark-mark (tick u ∷ items) = has_mark-mark items
-has_mark-mark (mark ∷ items) = refl
+has_mark-mark items = refl
 
 pub before_mark-mark : (items : List Item) → before_mark (items ++ mark ∷ []) ≡ before_mark items
-before_mark-mark [] = refl
 before_mark-mark (tick u ∷ items) = ap (λ l. u ∷ l) (before_mark-mark items)
-before_mark-mark (mark ∷ items) = refl
+before_mark-mark items = refl
 
 pub behind_mark-mark : (items : List Item) → behind_mark (items ++ mark ∷ []) ≡ behind_mark items
 behind_mark-mark [] = refl

@@ -38,12 +38,11 @@ part-there (suc n) (mark ∷ items) t differ = part-there n items t (λ same. di
 
 -- A mark changes no part.
 pub part-mark : (n : ℕ) (items : List Item) → part n (items ++ mark ∷ []) ≡ part n items
-part-mark zero [] = refl
 part-mark (suc n) [] = refl
 part-mark zero (tick u ∷ items) = ap (λ l. u ∷ l) (part-mark zero items)
 part-mark (suc n) (tick u ∷ items) = part-mark (suc n) items
-part-mark zero (mark ∷ items) = refl
 part-mark (suc n) (mark ∷ items) = part-mark n items
+part-mark zero items = refl
 
 -- After three marks or more a tick belongs to none of the lists.
 pub place-none : (k : ℕ) → place_after (suc (suc (suc k))) ≡ place.None

@@ -222,10 +222,8 @@ module _ {S C V : Type 0} (s : FrameBox S) (c : FrameBox C) (v : Device V)
 -- A mark that doesn't end the link leaves what is still to come of the link's silence as it is.
 rest-kept : (rest : ℕ) (p : Place) → (p ≡ place.Second → ⊥)
     → rest_left rest (place_behind p) ≡ rest_left rest p
-rest-kept rest place.First other = refl
 rest-kept rest place.Second other = absurd (other refl)
-rest-kept rest place.Third other = refl
-rest-kept rest place.None other = refl
+rest-kept rest p other = refl
 
 module _ {S C V : Type 0} (s : FrameBox S) (c : FrameBox C) (v : Device V) where
   -- A call that gives at least one item may end because there is no memory for a frame.
@@ -517,23 +515,8 @@ module _ {S C V : Type 0} (s : FrameBox S) (c : FrameBox C) (v : Device V)
     pub ends-session : (end : End) → (end ≡ Whole → ⊥) → HasDriven end
         → ListsSession s c v old new before now end
     ends-session Whole other driven = absurd (other refl)
-    ends-session (Refused bad) other driven = record {
+    ends-session end other driven = record {
       items = driven.items;
       takes = driven.takes;
-      memory = for-memory (Refused bad) driven;
-    }
-    ends-session (TooLong what count) other driven = record {
-      items = driven.items;
-      takes = driven.takes;
-      memory = for-memory (TooLong what count) driven;
-    }
-    ends-session ReadFault other driven = record {
-      items = driven.items;
-      takes = driven.takes;
-      memory = for-memory ReadFault driven;
-    }
-    ends-session (Stopped stop) other driven = record {
-      items = driven.items;
-      takes = driven.takes;
-      memory = for-memory (Stopped stop) driven;
+      memory = for-memory end driven;
     }

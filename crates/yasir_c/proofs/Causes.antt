@@ -20,51 +20,31 @@ use Rattle.yasir_ticks.specs.declared.tick.Tick.{Tick}
 pub hands-nothing : (old new : Option Held) (ok : ℕ) (answer : Answer) (status : Status)
     → HandsNothing ok old new status → CommittedBy old new ok answer answer status
 hands-nothing old new ok answer Is.Done why = absurd why
-hands-nothing old new ok answer Is.BadArgument why = (refl, why)
-hands-nothing old new ok answer Is.NoJournal why = (refl, why)
-hands-nothing old new ok answer Is.OtherLink why = (refl, why)
-hands-nothing old new ok answer Is.NoMemory why = (refl, why)
-hands-nothing old new ok answer Is.Full why = (refl, why)
-hands-nothing old new ok answer Is.Commit why = (refl, why)
-hands-nothing old new ok answer Is.Waiting why = (refl, why)
-hands-nothing old new ok answer Is.Stopped why = (refl, why)
-hands-nothing old new ok answer Is.Empty why = (refl, why)
+hands-nothing old new ok answer status why = (refl, why)
 
 module _ (boxes : DefinedBox AnyBox) where
   -- a box takes no tick
   pub takes-none : (old new : Option Held) (number : ℕ) (answer : Answer) (slot : List ℕ)
       (status : Status) → new ≡ old → TakesNoTick old status
       → StepsBy boxes old new number answer answer slot slot status
-  takes-none old new number answer slot Is.Done is why = absurd why
-  takes-none old new number answer slot Is.BadArgument is why = absurd why
-  takes-none old new number answer slot Is.NoJournal is why = absurd why
-  takes-none old new number answer slot Is.OtherLink is why = absurd why
-  takes-none old new number answer slot Is.NoMemory is why = absurd why
   takes-none old new number answer slot Is.Full is why =
       (record { box_is = is; answer_is = refl; slot_is = refl }, why)
-  takes-none old new number answer slot Is.Commit is why = absurd why
   takes-none old new number answer slot Is.Waiting is why =
       (record { box_is = is; answer_is = refl; slot_is = refl }, why)
   takes-none old new number answer slot Is.Stopped is why =
       (record { box_is = is; answer_is = refl; slot_is = refl }, why)
   takes-none old new number answer slot Is.Empty is why =
       (record { box_is = is; answer_is = refl; slot_is = refl }, why)
+  takes-none old new number answer slot status is why = absurd why
 
 module _ (spacers : DefinedSpacer AnySpacer) where
   -- a spacer takes no tick
   pub spaces-none : (old new : Option Held) (number : ℕ) (answer : Spaced) (status : Status)
       → new ≡ old → SpacesNoTick old status
       → SpacesBy spacers old new number answer answer status
-  spaces-none old new number answer Is.Done is why = absurd why
-  spaces-none old new number answer Is.BadArgument is why = absurd why
-  spaces-none old new number answer Is.NoJournal is why = absurd why
-  spaces-none old new number answer Is.OtherLink is why = absurd why
-  spaces-none old new number answer Is.NoMemory is why = absurd why
   spaces-none old new number answer Is.Full is why = (is, refl, why)
-  spaces-none old new number answer Is.Commit is why = absurd why
-  spaces-none old new number answer Is.Waiting is why = absurd why
-  spaces-none old new number answer Is.Stopped is why = absurd why
   spaces-none old new number answer Is.Empty is why = (is, refl, why)
+  spaces-none old new number answer status is why = absurd why
 
   -- a step of the spacer that is held
   pub spaces : (old : Held) (before after : HeldSpacer) (t : Tick) (result : Option SpaceStep)

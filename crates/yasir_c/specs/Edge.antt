@@ -43,7 +43,7 @@ abbrev pub second_slot : List ℕ → List ℕ
 second_slot slots = take SLOT_LEN (drop SLOT_LEN slots)
 
 -- Holds if C asks for this box with both slots of its journal, and the handle holds nothing.
-pub record AsksFor (numbers : KindNumbers) (slots : List ℕ) (old : Option Held) (kind : Kind)
+pub record AsksForBox (numbers : KindNumbers) (slots : List ℕ) (old : Option Held) (kind : Kind)
     (dir : Dir) : Type 0 where
   pub kind_is : IsKind numbers kind dir
   pub length_is : length slots ≡ 2 * SLOT_LEN
@@ -54,7 +54,7 @@ pub record FindsNoJournal (numbers : KindNumbers) (slots : List ℕ) (old : Opti
     : Type 0 where
   pub kind : Kind
   pub dir : Dir
-  pub asks : AsksFor numbers slots old kind dir
+  pub asks : AsksForBox numbers slots old kind dir
   pub no_floor : any_floor (slots_given (first_slot slots) (second_slot slots)) ≡ None
 
 -- Holds if a box is asked for, and the slots hold numbers only for other links than that of the
@@ -63,7 +63,7 @@ pub record FindsOtherLink (numbers : KindNumbers) (slots : List ℕ) (old : Opti
     : Type 0 where
   pub kind : Kind
   pub dir : Dir
-  pub asks : AsksFor numbers slots old kind dir
+  pub asks : AsksForBox numbers slots old kind dir
   pub place : Slot
   pub wrong : wrong_slot (link_for kind dir)
       (slots_given (first_slot slots) (second_slot slots)) ≡ Some place
@@ -124,7 +124,7 @@ module _ (boxes : DefinedBox AnyBox) where
     pub kind : Kind
     pub dir : Dir
     pub new_is : new ≡ Some (LineBox (ready held))
-    pub asks : AsksFor numbers slots old kind dir
+    pub asks : AsksForBox numbers slots old kind dir
     pub begins : HeldBegins boxes kind dir key (first_slot slots) (second_slot slots) held
 
   -- What has happened, by the status: the handle holds a box that begins, or there is a cause for

@@ -4,16 +4,16 @@ use Rattle.link_replay.proofs.Flushing.{input-causes, disk-of-frames}
 use Rattle.{link_replay.specs.declared.words.Command.TheVariants.Read, std.proofs.Common.refl}
 use Rattle.link_replay.proofs.commands.read.read_line.Goals as goal
 
-pub returns-in-Rtu-with_device-clause-reads : goal.returns-in-Rtu-with_device-clause-reads
-returns-in-Rtu-with_device-clause-reads g c = rw c.in-Rtu-with_device.is (record {
+pub returns-in-Rtu-clause-reads : goal.returns-in-Rtu-clause-reads
+returns-in-Rtu-clause-reads g c = rw c.in-Rtu.is (record {
   frames = c.read_frames.ensures.frames;
   log = c.read_frames.ensures.log;
   key = refl;
   disk = refl;
 })
 
-pub returns-in-Rtu-with_device-clause-causes : goal.returns-in-Rtu-with_device-clause-causes
-returns-in-Rtu-with_device-clause-causes g c =
+pub returns-in-Rtu-clause-causes : goal.returns-in-Rtu-clause-causes
+returns-in-Rtu-clause-causes g c =
     let made = c.read_frames.ensures in
     input-causes _ _ _ _ _ (Read c.args.proto) _ _ _ _ _ _ _ _ c.read_frames.result made.input
     made.sinks made.flushes (
@@ -22,16 +22,16 @@ returns-in-Rtu-with_device-clause-causes g c =
           c.read_frames.result made.frames,
     )
 
-pub returns-in-Dnp3-with_device-clause-reads : goal.returns-in-Dnp3-with_device-clause-reads
-returns-in-Dnp3-with_device-clause-reads g c = rw c.in-Dnp3-with_device.is (record {
+pub returns-in-Dnp3-clause-reads : goal.returns-in-Dnp3-clause-reads
+returns-in-Dnp3-clause-reads g c = rw c.in-Dnp3.is (record {
   frames = c.read_frames-2.ensures.frames;
   log = c.read_frames-2.ensures.log;
   key = refl;
   disk = refl;
 })
 
-pub returns-in-Dnp3-with_device-clause-causes : goal.returns-in-Dnp3-with_device-clause-causes
-returns-in-Dnp3-with_device-clause-causes g c =
+pub returns-in-Dnp3-clause-causes : goal.returns-in-Dnp3-clause-causes
+returns-in-Dnp3-clause-causes g c =
     let made = c.read_frames-2.ensures in
     input-causes _ _ _ _ _ (Read c.args.proto) _ _ _ _ _ _ _ _ c.read_frames-2.result made.input
     made.sinks made.flushes (
