@@ -17,7 +17,7 @@ use Rattle.yasir_ticks.specs.{Bursts.Burst, Bursts.end_of, BurstsOf.IsContiguous
 module _ (profile : Profile) (rules : Rules) (lawful : IsLawful rules) where
   module _ (cut : ℕ) (some : 2 ≤ cut) (few : cut ≤ delay profile) where
     -- an emission, and others that begin late enough after it
-    spread-by : (s : CheckState) (d : Burst) (v : Verdict) (m : ℕ) (es : List Burst)
+    pub spread-by : (s : CheckState) (d : Burst) (v : Verdict) (m : ℕ) (es : List Burst)
         → IsContiguous 4 d.body → (IsJudged v → s.earliest_start ≤ d.start)
         → m ≤ s.earliest_start + delay profile
         → ((k : ℕ) → k ≤ (state_by profile rules s d v).earliest_start + delay profile

@@ -121,7 +121,7 @@ judged-verdict profile rules floor d =
 
 -- ---- the tick of the note
 
-judged-tick : (profile : Profile) (rules : Rules) (d : Burst) (v : Verdict) → IsJudged v
+pub judged-tick : (profile : Profile) (rules : Rules) (d : Burst) (v : Verdict) → IsJudged v
     → note_tick profile rules d v ≡ trailer_tick profile rules d
 judged-tick profile rules d (passed_with number) judged = refl
 judged-tick profile rules d (refused why) judged = refl

@@ -44,12 +44,12 @@ same-line cut n a b (d ∷ ds) of_a of_b long =
     ∙ (ap (λ k. silent k ++ (d.body ++ of_a.1)) gap
     ∙ (ap (λ y. silent of_b.0 ++ (d.body ++ y)) rest ∙ sym of_b.2))
 
-end-later : (m n : ℕ) (ds : List Burst) → m ≤ n → EndBy m ds → EndBy n ds
+pub end-later : (m n : ℕ) (ds : List Burst) → m ≤ n → EndBy m ds → EndBy n ds
 end-later m n [] le ends = tt
 end-later m n (d ∷ ds) le ends = let end = ends.0 in (omega arith, end-later m n ds le ends.1)
 
 -- Laid on a line, the bursts of `line` give `line` again, and silence after it.
-laid-line : (line : List Tick) (k m : ℕ) → length line + k ≡ m
+pub laid-line : (line : List Tick) (k m : ℕ) → length line + k ≡ m
     → laid m (bursts line) ≡ line ++ silent k
 laid-line line k m here =
     let ds : List Burst = bursts line in

@@ -75,7 +75,7 @@ module _ (profile : Profile) (tags : HasTags profile) (some : 1 ≤ profile.word
           (packet-ticks ∙ sym ticks)
           ∙ drop-append_seam (live_ticks rules d) (trailing bytes)
 
-      passes : (s : CheckState) → rules.is_frame (live_bytes rules d) ≡ true
+      pub passes : (s : CheckState) → rules.is_frame (live_bytes rules d) ≡ true
           → s.earliest_start ≤ d.start → s.floor < number → number ≤ s.floor + words profile
           → number ≤ profile.limit → checked profile rules s its ≡ passed_with number
       passes s framed free above near within =

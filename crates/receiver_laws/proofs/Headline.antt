@@ -71,7 +71,7 @@ module _ (rules : Rules) (lawful : IsLawful rules) (reads : List Tick → List F
     (profile : Profile) (passes : (floor : ℕ) (link : List Tick)
     → ReadsWhatPassed rules reads ends profile floor link) where
   -- In one uptime of the receiver, the device reads a front of what passed.
-  reads-front : (floor : ℕ) (link : List Tick)
+  pub reads-front : (floor : ℕ) (link : List Tick)
       → IsSubsequence (bytes_read (reads (received_line profile rules floor link)))
       (bytes_sealed (passed profile rules floor link))
   reads-front floor link =
@@ -85,7 +85,7 @@ module _ (rules : Rules) (lawful : IsLawful rules) (reads : List Tick → List F
       subst (λ y. IsSubsequence (bytes_read read_ones) y) (sym whole)
       (front-is (bytes_read read_ones) (bytes_read later))
 
-  reads-passed : (checks : List BoxUptime) → IsSubsequence (bytes_over reads profile rules checks)
+  pub reads-passed : (checks : List BoxUptime) → IsSubsequence (bytes_over reads profile rules checks)
       (bytes_sealed (passed_over_uptimes profile rules checks))
   reads-passed [] = none
   reads-passed (check ∷ checks) =

@@ -226,7 +226,7 @@ module _ (first second : ℕ) (rules : Rules) (headed : IsHeaded rules) (framed 
         (spoiled-taken x zeros h a (refused-head s d why is) (live-room d) all
         (length-replicate (owed rules d) 0))
 
-    emission-taken : (s : CheckState) (d : Burst) (v : Verdict) (es : List Burst)
+    pub emission-taken : (s : CheckState) (d : Burst) (v : Verdict) (es : List Burst)
         → IsContiguous 4 d.body → checked profile rules s d ≡ v
         → AreTaken first second rules es
         → AreTaken first second rules (emission_by profile rules d v ++ es)
@@ -246,14 +246,14 @@ module _ (first second : ℕ) (rules : Rules) (headed : IsHeaded rules) (framed 
 
     -- ---- what a device reads
 
-    whole-frame : (s : CheckState) (d : Burst) (n : ℕ) → IsContiguous 4 d.body
+    pub whole-frame : (s : CheckState) (d : Burst) (n : ℕ) → IsContiguous 4 d.body
         → checked profile rules s d ≡ passed_with n
         → rules.is_frame (bytes_in (whole profile rules d).body) ≡ true
     whole-frame s d n contiguous is =
         ap rules.is_frame (live_ticks-bytes rules d)
         ∙ (passed-passing profile rules s d n is).framed
 
-    wrong-frame : IsSpoiling rules → (s : CheckState) (d : Burst) (why : RefusedWhy)
+    pub wrong-frame : IsSpoiling rules → (s : CheckState) (d : Burst) (why : RefusedWhy)
         → IsContiguous 4 d.body → checked profile rules s d ≡ refused why
         → rules.is_frame (bytes_in (wrong profile rules d).body) ≡ false
     wrong-frame spoiling s d why contiguous is =

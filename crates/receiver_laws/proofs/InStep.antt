@@ -64,7 +64,7 @@ module _ (profile : Profile) (rules : Rules) where
   HaveLeft b [] = Unit {0}
   HaveLeft b (d ∷ ds) = (start_after profile rules d + owed rules d ≤ b) × HaveLeft b ds
 
-  free-step : (b : ℕ) (s : CheckState) (d : Burst) (v : Verdict) → s.earliest_start ≤ b
+  pub free-step : (b : ℕ) (s : CheckState) (d : Burst) (v : Verdict) → s.earliest_start ≤ b
       → start_after profile rules d + owed rules d ≤ b
       → (state_by profile rules s d v).earliest_start ≤ b
   free-step b s d (passed_with n) free left = omega arith
@@ -172,7 +172,7 @@ module _ (profile : Profile) (tags : HasTags profile) (some : 1 ≤ profile.word
       omega arith
 
   -- A frame lacks no byte.
-  frame-whole : (frame : List ℕ) → rules.is_frame frame ≡ true → lacking_of rules frame ≡ 0
+  pub frame-whole : (frame : List ℕ) → rules.is_frame frame ≡ true → lacking_of rules frame ≡ 0
   frame-whole frame framed =
       let size = framing.whole frame framed in
       ap (λ h. lacking_by h (rules.size frame - length frame)) (framing.good_header frame framed)

@@ -17,7 +17,7 @@ use Rattle.std.proofs.{Common.arith, lemmas.List.map-append, lemmas.List.append-
 use Rattle.{yasir_io.specs.Disks.Slots, yasir_ticks.specs.declared.tick.Tick.Tick}
 
 -- The last of the numbers is the number of the last frame.
-last-is : (floor : ℕ) (frames : List NumberedFrame)
+pub last-is : (floor : ℕ) (frames : List NumberedFrame)
     → last_from floor (numbers_of frames) ≡ last_number floor frames
 last-is floor [] = refl
 last-is floor (f ∷ frames) = last-is f.number frames
@@ -25,7 +25,7 @@ last-is floor (f ∷ frames) = last-is f.number frames
 module _ (frames : ℕ → List Tick → List NumberedFrame) where
   -- If numbers rise in each uptime, and the uptimes go on from one another, numbers rise over all
   -- of them.
-  rise-over : ((floor : ℕ) (line : List Tick) → RiseFrom floor (numbers_of (frames floor line)))
+  pub rise-over : ((floor : ℕ) (line : List Tick) → RiseFrom floor (numbers_of (frames floor line)))
       → (floor : ℕ) (uptimes : List BoxUptime) → GoOnFrom frames floor uptimes
       → RiseFrom floor (numbers_of (frames_over frames uptimes))
   rise-over each floor [] go_on = tt

@@ -105,7 +105,7 @@ module _ (profile : Profile) (tags : HasTags profile) (some : 1 ≤ profile.word
 
   -- ---- the transmitter seals each
 
-  seals : (s : SealState) (d : Burst) → s.earliest_start ≤ d.start → has_extra rules d ≡ false
+  pub seals : (s : SealState) (d : Burst) → s.earliest_start ≤ d.start → has_extra rules d ≡ false
       → rules.is_frame (live_bytes rules d) ≡ true → s.floor < profile.limit
       → judged profile rules s d ≡ sealed_with (suc s.floor)
   seals s d late none framed within =

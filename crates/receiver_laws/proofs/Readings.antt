@@ -74,11 +74,11 @@ module _ (ends m : ℕ) (is_whole : Burst → Bool) where
 -- ---- burst by burst
 
 module _ (profile : Profile) (rules : Rules) where
-  abbrev told : List (Noted FullNote) → List FrameRead
+  abbrev pub told : List (Noted FullNote) → List FrameRead
   told notes = map (delivered profile) (frames_in notes)
 
   -- the note of a burst
-  abbrev note_of : CheckState → Burst → Verdict → Noted FullNote
+  abbrev pub note_of : CheckState → Burst → Verdict → Noted FullNote
   note_of s d v = record { tick = note_tick profile rules d v; note = note_by rules d v }
 
   abbrev pub whole : Burst → Burst
@@ -95,7 +95,7 @@ module _ (profile : Profile) (rules : Rules) where
       → checked profile rules s d ≡ passed_with n → is_whole (whole d) ≡ true)
       (fails : (s : CheckState) (d : Burst) (why : RefusedWhy) → IsContiguous 4 d.body
       → checked profile rules s d ≡ refused why → is_whole (wrong d) ≡ false) where
-    abbrev read_by : ℕ → List Burst → List FrameRead
+    abbrev pub read_by : ℕ → List Burst → List FrameRead
     read_by m ds = frames_ended ends is_whole m ds
 
     frame-is : (d : Burst) (n : ℕ)
@@ -107,10 +107,10 @@ module _ (profile : Profile) (rules : Rules) where
 
     module _ (m : ℕ) (s : CheckState) (d : Burst) (contiguous : IsContiguous 4 d.body)
         (more : List Burst) (notes : List (Noted FullNote)) where
-      abbrev read_now : Verdict → List FrameRead
+      abbrev pub read_now : Verdict → List FrameRead
       read_now v = read_by m (emission_by profile rules d v ++ more)
 
-      abbrev told_now : Verdict → List FrameRead
+      abbrev pub told_now : Verdict → List FrameRead
       told_now v = told (notes_before m (note_of s d v ∷ notes))
 
       -- Once a passed burst has been read, its frame is in both lists.
@@ -148,7 +148,7 @@ module _ (profile : Profile) (rules : Rules) where
         is = same.1 ∙ (begins.is ∙ ap (λ x. x ++ begins.rest) (sym same.0));
       }
 
-      step-begins : (v : Verdict) → checked profile rules s d ≡ v
+      pub step-begins : (v : Verdict) → checked profile rules s d ≡ v
           → AreSpread 2 ((state_by profile rules s d v).earliest_start + delay profile) more
           → Begins (read_by m more) (told (notes_before m notes))
           → Begins (read_now v) (told_now v)
@@ -175,7 +175,7 @@ module _ (profile : Profile) (rules : Rules) where
       step-begins (dropped why) is spread begins =
           begins-both (read_now (dropped why)) (told_now (dropped why)) (dropped-both why) begins
 
-      step-all : (v : Verdict) → checked profile rules s d ≡ v
+      pub step-all : (v : Verdict) → checked profile rules s d ≡ v
           → end_of d + delay profile + ends ≤ m
           → read_by m more ≡ told (notes_before m notes)
           → read_now v ≡ told_now v

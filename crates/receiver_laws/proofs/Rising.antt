@@ -25,7 +25,7 @@ module _ (profile : Profile) (rules : Rules) where
   abbrev next : CheckState → Burst → CheckState
   next s d = state_by profile rules s d (checked profile rules s d)
 
-  above-floor : (s : CheckState) (d : Burst) (n : ℕ) → checked profile rules s d ≡ passed_with n
+  pub above-floor : (s : CheckState) (d : Burst) (n : ℕ) → checked profile rules s d ≡ passed_with n
       → (s.floor < n) × (n ≤ profile.limit)
   above-floor s d n is =
       let number = number-within profile s.floor (trailer_of profile rules d) n
@@ -63,7 +63,7 @@ module _ (profile : Profile) (rules : Rules) where
   -- ---- what holds for each burst that passes holds for each frame
 
   module _ (P : NumberedFrame → Type 0) (m : ℕ) where
-    each-step : (s : CheckState) (d : Burst) (notes : List (Noted FullNote)) (v : Verdict)
+    pub each-step : (s : CheckState) (d : Burst) (notes : List (Noted FullNote)) (v : Verdict)
         → ((n : ℕ) → v ≡ passed_with n → P (numbered_frame rules d n))
         → All P (frames_in (notes_before m notes))
         → All P (frames_in (notes_before m (note_of d v ∷ notes)))

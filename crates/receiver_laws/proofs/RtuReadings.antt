@@ -21,10 +21,10 @@ use Rattle.yasir_ticks.specs.{BurstsOf.IsContiguous, Ticks.bytes_in, declared.ti
 
 module _ (profile : Profile) (cut pause : ℕ) (wide : 2 ≤ cut) (near : cut ≤ delay profile)
     (long : 2 ≤ pause) where
-  abbrev is_whole : Burst → Bool
+  abbrev pub is_whole : Burst → Bool
   is_whole d = is_frame_body pause d.body
 
-  whole-frame : (s : CheckState) (d : Burst) (n : ℕ) → IsContiguous 4 d.body
+  pub whole-frame : (s : CheckState) (d : Burst) (n : ℕ) → IsContiguous 4 d.body
       → checked profile rtu_rules s d ≡ passed_with n
       → is_whole (whole profile rtu_rules d) ≡ true
   whole-frame s d n contiguous is =
@@ -34,7 +34,7 @@ module _ (profile : Profile) (cut pause : ℕ) (wide : 2 ≤ cut) (near : cut �
       ap (λ v. not v && is_frame (bytes_in (live_ticks rtu_rules d))) calm
       ∙ (ap is_frame (live_ticks-bytes rtu_rules d) ∙ framed)
 
-  wrong-frame : (s : CheckState) (d : Burst) (why : RefusedWhy) → IsContiguous 4 d.body
+  pub wrong-frame : (s : CheckState) (d : Burst) (why : RefusedWhy) → IsContiguous 4 d.body
       → checked profile rtu_rules s d ≡ refused why
       → is_whole (wrong profile rtu_rules d) ≡ false
   wrong-frame s d why contiguous is =

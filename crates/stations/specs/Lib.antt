@@ -1,0 +1,4 @@
+pub mod Shared
+pub mod Table
+pub mod StationLaws
+pub mod InTurn
