@@ -36,6 +36,7 @@ COMMANDS = [
     ("help", NEW, (1,)),
     ("version", NEW, (1,)),
     ("trial rtu 7 3", NEW, (1,)),
+    ("poll rtu 7 3", NEW, (1,)),
 ]
 
 

@@ -81,7 +81,7 @@ def run(program, words, parts, folder):
 
 def main():
     program = built.program(sys.argv, 1)
-    commands = ["init rtu ab NEW", "vectors", "help", "version", "trial rtu 7 10000", "trial dnp3 7 10000", "read rtu", "read dnp3", "space rtu", "space dnp3"]
+    commands = ["init rtu ab NEW", "vectors", "help", "version", "trial rtu 7 10000", "trial dnp3 7 10000", "poll rtu 7 10000", "poll dnp3 7 10000", "read rtu", "read dnp3", "space rtu", "space dnp3"]
     for box in ("seal %s ab KEY JOURNAL", "check %s ab KEY JOURNAL", "replay %s ab KEY", "audit %s ab KEY 0 0", "duplex %s ab KEY"):
         commands += [box % proto for proto in ("rtu", "dnp3")]
     wrong, names = 0, sys.argv[2:]
@@ -93,7 +93,7 @@ def main():
             name, proto = (words.split() + [""])[:2]
             if names and name not in names:
                 continue
-            kinds = [("nothing is read", [], "")] if name in ("init", "vectors", "help", "version", "trial") else inputs(proto, MARKS.get(name, 0))
+            kinds = [("nothing is read", [], "")] if name in ("init", "vectors", "help", "version", "trial", "poll") else inputs(proto, MARKS.get(name, 0))
             for kind, parts, fault in kinds:
                 status, seconds, last = run(program, words, parts, folder)
                 whole = AUDIT_STATUS.values() if name == "audit" else (0,)

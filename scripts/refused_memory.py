@@ -5,7 +5,7 @@
 
 A small library, compiled by `cc` and loaded before the C library, counts the calls that take or grow memory. For every N up to
 the last call that a whole run makes, one run has only its N-th call refused, and another its N-th call and all after it. `replay`,
-`space`, `audit` and `duplex` must end with NoMemory, with nothing in their output and only their fault line in the log, or as they
+`space`, `audit`, `duplex` and `poll` must end with NoMemory, with nothing in their output and only their fault line in the log, or as they
 do when nothing is refused. The other commands take no memory after their words are read. It ends with 1 if a run ends in another
 way. It is no part of the gate.
 """
@@ -122,7 +122,7 @@ def main():
         ("replay rtu ab KEY", requests), ("replay dnp3 ab KEY", device), ("replay rtu ab KEY", long), ("read rtu", requests.split(b"%\n")[0]),
         ("audit rtu ab KEY 0 0", session), ("audit rtu ab KEY 0 0", long + b"%\n" + long.split(b"%\n")[0]),
         ("duplex rtu ab KEY", requests), ("duplex dnp3 ba KEY", device), ("duplex rtu ab KEY", long),
-        ("space rtu", requests.split(b"%\n")[0]), ("space dnp24", device.split(b"%\n")[0]),
+        ("poll rtu 7 3", b""), ("space rtu", requests.split(b"%\n")[0]), ("space dnp24", device.split(b"%\n")[0]),
         ("seal rtu ab KEY JOURNAL", requests.split(b"%\n")[0]), ("check rtu ab KEY JOURNAL", requests.split(b"%\n")[1]), ("vectors", b""), ("help", b""), ("version", b""), ("trial rtu 7 20", b""),
     ]
     wrong = 0
@@ -136,7 +136,7 @@ def main():
                 for behind in (False, True):
                     end = runs.run(words, text, n, behind)[:3]
                     right = end == (status, out, log) or end[:2] == (NO_WORDS, b"") or end == (NO_MEMORY, b"", b"")
-                    if words[0] in ("replay", "space", "audit", "duplex"):
+                    if words[0] in ("replay", "space", "audit", "duplex", "poll"):
                         right = right or end == (NO_MEMORY, b"", b"fault: memory\n")
                     ends[end[0]] = ends.get(end[0], 0) + 1
                     if not right:

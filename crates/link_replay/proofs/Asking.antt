@@ -2,7 +2,7 @@
 use Rattle.{link_format.specs.declared.dir.Dir.Dir, link_replay.specs.Words.IsCommand}
 use Rattle.link_replay.specs.{Words.Asks, Words.AreFloors, declared.words.Command.Command}
 use Rattle.link_replay.specs.declared.words.Command.TheVariants.{Init, Read, Vectors, Seal, Check}
-use Rattle.link_replay.specs.declared.words.Command.TheVariants.{Replay, Trial, Space, Audit}
+use Rattle.link_replay.specs.declared.words.Command.TheVariants.{Replay, Trial, Poll, Space, Audit}
 use Rattle.link_replay.specs.declared.words.Command.TheVariants.{Duplex, LiveSeal, LiveCheck}
 use Rattle.link_replay.specs.declared.words.Command.TheVariants.{Help, Version}
 use Rattle.command_ends.proofs.Telling.{is_word, proto_by, profile_by, dir_by, proto-by, profile-by}
@@ -12,7 +12,7 @@ use Rattle.command_ends.specs.declared.link.Proto.{Proto, TheVariants.Rtu, TheVa
 use Rattle.command_ends.proofs.Running.{asks_one}
 use Rattle.std.proofs.Common.{◌≡◌, ◌∙◌, ℕ, zero, suc, List, [], ◌∷◌, Option, Some}
 use Rattle.std.proofs.Common.{None, cond, refl, sym, ap, arith, subst, ◌≤◌, ◌^◌, ◌<◌, inl}
-use Rattle.std.proofs.{Common.inr, lemmas.Fmt.decimal_is_IsNumeral}
+use Rattle.std.proofs.{Common.inr, Common.⊎_elim, lemmas.Fmt.decimal_is_IsNumeral}
 use Rattle.std.specs.{Prelude.codes, Prelude.decimal, Str.Parse.digits_value}
 
 -- the command that the first word names, by that word and the five words after it
@@ -28,6 +28,8 @@ command_by verb first second third fourth fifth =
     (Check (proto_by first) (profile_by first) (dir_by second))
     (cond (is_word (codes "trial") verb)
     (Trial (proto_by first) (profile_by first) (digits_value 10 second) (digits_value 10 third))
+    (cond (is_word (codes "poll") verb)
+    (Poll (proto_by first) (profile_by first) (digits_value 10 second) (digits_value 10 third))
     (cond (is_word (codes "space") verb) (Space (proto_by first) (profile_by first))
     (cond (is_word (codes "audit") verb)
     (Audit (proto_by first) (profile_by first) (dir_by second) (digits_value 10 fourth)
@@ -43,7 +45,7 @@ command_by verb first second third fourth fifth =
     (cond (is_word (codes "-h") verb) Help
     (cond (is_word (codes "version") verb) Version
     (cond (is_word (codes "--version") verb) Version
-    (Replay (proto_by first) (profile_by first) (dir_by second))))))))))))))))
+    (Replay (proto_by first) (profile_by first) (dir_by second)))))))))))))))))
 
 abbrev word_at : ℕ → List (List ℕ) → List ℕ
 word_at zero [] = []
@@ -94,6 +96,13 @@ command-in words (Trial proto profile seed count) h =
       number-by seed (omega (arith, h.0)),
       number-by count (omega (arith, h.2)),
     ) refl
+command-in words (Poll proto profile seed count) h =
+    ap command_in h.3 ∙ rw (
+      proto-by proto profile,
+      profile-by proto profile,
+      number-by seed (omega (arith, h.0)),
+      number-by count (omega (arith, h.2)),
+    ) refl
 command-in words (Audit proto profile dir sent got) h =
     ap command_in h.4 ∙ rw (
       proto-by proto profile,
@@ -114,20 +123,27 @@ pub asked-floors : (words : List (List ℕ)) (asked : Option Command) → Asks w
 asked-floors words (Some (Audit proto profile dir sent got)) asks = (asks.2, asks.3)
 asked-floors words asked asks = tt
 
--- If the words ask for a trial, the number that the last word spells is from 1 to 10000.
-pub trial-counts : (first second seed count : List ℕ) (n : ℕ) (command : Command)
-    → first ≡ codes "trial" → count ≡ decimal n → n < 2 ^ 32
+-- If the words ask for a trial or for polls, the number that the last word spells is from 1 to 10000.
+pub drawn-counts : (first second seed count : List ℕ) (n : ℕ) (command : Command)
+    → (first ≡ codes "trial") ⊎ (first ≡ codes "poll") → count ≡ decimal n → n < 2 ^ 32
     → IsCommand (first ∷ second ∷ seed ∷ count ∷ []) command → (1 ≤ n) × (n ≤ 10000)
-trial-counts first second seed count n command verb spelled few asked =
-    let words : List (List ℕ) = codes "trial" ∷ second ∷ seed ∷ decimal n ∷ [] in
-    let so : IsCommand words command =
-    subst (λ v. IsCommand (v ∷ second ∷ seed ∷ decimal n ∷ []) command) verb
-    (subst (λ w. IsCommand (first ∷ second ∷ seed ∷ w ∷ []) command) spelled asked) in
-    let named : command ≡ Trial (proto_by second) (profile_by second) (digits_value 10 seed)
-    (digits_value 10 (decimal n)) = sym (command-in words command so) in
-    let this = subst (λ c. IsCommand words c) named so in
+drawn-counts first second seed count n command verb spelled few asked =
     let same = number-by n (omega (arith, few)) in
-    (subst (λ k. 1 ≤ k) same this.1, subst (λ k. k ≤ 10000) same this.2)
+    let named : command_in (first ∷ second ∷ seed ∷ decimal n ∷ []) ≡ command =
+    command-in _ command (subst (λ w. IsCommand (first ∷ second ∷ seed ∷ w ∷ []) command) spelled asked)
+    in
+    let so : IsCommand (first ∷ second ∷ seed ∷ decimal n ∷ [])
+    (command_in (first ∷ second ∷ seed ∷ decimal n ∷ [])) =
+    subst (λ c. IsCommand (first ∷ second ∷ seed ∷ decimal n ∷ []) c) (sym named)
+    (subst (λ w. IsCommand (first ∷ second ∷ seed ∷ w ∷ []) command) spelled asked) in
+    ⊎_elim (λ (is : first ≡ codes "trial").
+    let this = subst (λ v. IsCommand (v ∷ second ∷ seed ∷ decimal n ∷ [])
+    (command_in (v ∷ second ∷ seed ∷ decimal n ∷ []))) is so in
+    (subst (λ k. 1 ≤ k) same this.1, subst (λ k. k ≤ 10000) same this.2))
+    (λ (is : first ≡ codes "poll").
+    let this = subst (λ v. IsCommand (v ∷ second ∷ seed ∷ decimal n ∷ [])
+    (command_in (v ∷ second ∷ seed ∷ decimal n ∷ []))) is so in
+    (subst (λ k. 1 ≤ k) same this.1, subst (λ k. k ≤ 10000) same this.2)) verb
 
 pub asks-one : (words : List (List ℕ)) (a b : Option Command) → Asks words a → Asks words b → a ≡ b
 asks-one = asks_one IsCommand command_in command-in

@@ -3,7 +3,7 @@ use Rattle.std.proofs.Common.{take, drop, refl}
 use Rattle.link_replay.specs.AboutCommands.{NamesCommands}
 use Rattle.link_replay.specs.declared.commands.about.TheConstants.{HELP_PAGE}
 use Rattle.link_replay.specs.declared.words.Command.TheVariants.{Init, Read, Vectors, Seal, Check}
-use Rattle.link_replay.specs.declared.words.Command.TheVariants.{Replay, Trial, Space}
+use Rattle.link_replay.specs.declared.words.Command.TheVariants.{Replay, Trial, Poll, Space}
 use Rattle.link_replay.specs.declared.words.Command.TheVariants.{Audit, Duplex, LiveSeal, LiveCheck}
 use Rattle.link_replay.specs.declared.words.Command.TheVariants.{Help, Version}
 
@@ -30,9 +30,11 @@ page_names_commands (Duplex proto profile dir) =
     record { before = take 751 HELP_PAGE; after = drop 771 HELP_PAGE; is = refl }
 page_names_commands (Trial proto profile seed count) =
     record { before = take 811 HELP_PAGE; after = drop 833 HELP_PAGE; is = refl }
+page_names_commands (Poll proto profile seed count) =
+    record { before = take 887 HELP_PAGE; after = drop 908 HELP_PAGE; is = refl }
 page_names_commands Vectors =
-    record { before = take 887 HELP_PAGE; after = drop 898 HELP_PAGE; is = refl }
+    record { before = take 964 HELP_PAGE; after = drop 975 HELP_PAGE; is = refl }
 page_names_commands Help =
-    record { before = take 960 HELP_PAGE; after = drop 968 HELP_PAGE; is = refl }
+    record { before = take 1037 HELP_PAGE; after = drop 1045 HELP_PAGE; is = refl }
 page_names_commands Version =
-    record { before = take 1026 HELP_PAGE; after = drop 1037 HELP_PAGE; is = refl }
+    record { before = take 1103 HELP_PAGE; after = drop 1114 HELP_PAGE; is = refl }

@@ -7,6 +7,7 @@ pub mod Listable
 pub mod Duplexed
 pub mod Spaced
 pub mod Trials
+mod Polls
 pub mod Numbers
 pub mod Paths
 pub mod Auditing

@@ -16,7 +16,7 @@ use Rattle.link_replay.specs.InitCommand.{MakesJournal, IsBlank}
 use Rattle.link_replay.specs.{ReadCommand.device_reads, SpaceCommand.spaced_by}
 use Rattle.link_replay.specs.declared.words.Command.{Command}
 use Rattle.link_replay.specs.declared.words.Command.TheVariants.{Init, Read, Vectors, Seal, Check}
-use Rattle.link_replay.specs.declared.words.Command.TheVariants.{Replay, Trial, Space, Audit}
+use Rattle.link_replay.specs.declared.words.Command.TheVariants.{Replay, Trial, Poll, Space, Audit}
 use Rattle.link_replay.specs.declared.words.Command.TheVariants.{Duplex, LiveSeal, LiveCheck}
 use Rattle.link_replay.specs.declared.words.Command.TheVariants.{Help, Version}
 use Rattle.command_ends.{proofs.Links.link-right, specs.Links.link_of}
@@ -169,6 +169,10 @@ module _ {K S O L D : Type 0} (k : Source K) (s : Source S) (o : Sink O) (l : Si
       does causes.streams.reads causes.own causes.streams.sinks
   asked_done (Some (Trial proto profile seed count)) before after status may calm does causes =
       text_done _ _ _ _ _ _ _ _ _ _ calm _ _ _ status does.line.printed causes.streams.sinks
+  asked_done (Some (Poll proto profile seed count)) before after NoMemory may calm does causes =
+      inr refl
+  asked_done (Some (Poll proto profile seed count)) before after status may calm does causes =
+      inl (text_done _ _ _ _ _ _ _ _ _ _ calm _ _ _ status does.prints.printed causes.streams.sinks)
   asked_done (Some (Space proto profile)) before after status may calm does causes =
       elim (right_input_done space_rest _ _ (TextsHaveSent (spaced_by proto profile) _ _)
       (HasSentFronts (spaced_by proto profile) _ _) (TakesNothing (spaced_by proto profile) _ _ _ _)

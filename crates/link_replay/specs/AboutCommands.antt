@@ -7,7 +7,7 @@ use Rattle.link_replay.specs.Printing.{Prints}
 use Rattle.link_replay.specs.declared.commands.about.TheConstants.{HELP_PAGE}
 use Rattle.link_replay.specs.declared.words.Command.{Command}
 use Rattle.link_replay.specs.declared.words.Command.TheVariants.{Init, Read, Vectors, Seal, Check}
-use Rattle.link_replay.specs.declared.words.Command.TheVariants.{Replay, Trial, Space}
+use Rattle.link_replay.specs.declared.words.Command.TheVariants.{Replay, Trial, Poll, Space}
 use Rattle.link_replay.specs.declared.words.Command.TheVariants.{Audit, Duplex, LiveSeal, LiveCheck}
 use Rattle.link_replay.specs.declared.words.Command.TheVariants.{Help, Version}
 
@@ -24,6 +24,7 @@ named_words (Duplex proto profile dir) = codes "duplex P DIR KEY"
 named_words (LiveSeal proto profile dir) = codes "live seal P DIR KEY JOURNAL"
 named_words (LiveCheck proto profile dir) = codes "live check P DIR KEY JOURNAL"
 named_words (Trial proto profile seed count) = codes "trial P SEED COUNT"
+named_words (Poll proto profile seed count) = codes "poll P SEED COUNT"
 named_words Vectors = codes "vectors"
 named_words Help = codes "help"
 named_words Version = codes "version"

@@ -22,6 +22,7 @@ use Rattle.link_replay.specs.LiveCommands.{SealsLive, ChecksLive, HasLiveCauses,
 use Rattle.link_replay.specs.CheckCommand.{Checks}
 use Rattle.link_replay.specs.ReplayCommand.{Replays, IsListable}
 use Rattle.link_replay.specs.TrialCommand.{Tries}
+use Rattle.link_replay.specs.PollCommand.{Polls}
 use Rattle.link_replay.specs.SpaceCommand.{Spaces}
 use Rattle.link_replay.specs.AuditCommand.{Audits, EndsWithVerdict, audited}
 use Rattle.link_replay.specs.DuplexCommand.{Duplexes}
@@ -30,7 +31,7 @@ use Rattle.command_ends.specs.declared.status.Status.{Status}
 use Rattle.command_ends.specs.declared.status.Status.TheVariants.{Usage, Done, NoMemory}
 use Rattle.link_replay.specs.declared.words.Command.{Command}
 use Rattle.link_replay.specs.declared.words.Command.TheVariants.{Init, Read, Vectors, Seal, Check}
-use Rattle.link_replay.specs.declared.words.Command.TheVariants.{Replay, Trial, Space}
+use Rattle.link_replay.specs.declared.words.Command.TheVariants.{Replay, Trial, Poll, Space}
 use Rattle.link_replay.specs.declared.words.Command.TheVariants.{Audit, Duplex, LiveSeal, LiveCheck}
 use Rattle.link_replay.specs.declared.words.Command.TheVariants.{Help, Version}
 
@@ -88,6 +89,8 @@ module _ {K S O L D : Type 0} (k : Source K) (s : Source S) (o : Sink O) (l : Si
       Replays k s o l proto profile dir before after status
   Does (Some (Trial proto profile seed count)) before after status =
       Tries o l proto profile seed count before after status
+  Does (Some (Poll proto profile seed count)) before after status =
+      Polls o l proto profile seed count before after status
   Does (Some (Space proto profile)) before after status =
       Spaces s o l proto profile before after status
   Does (Some (Audit proto profile dir sent got)) before after status =
@@ -114,6 +117,7 @@ module _ {K S O L D : Type 0} (k : Source K) (s : Source S) (o : Sink O) (l : Si
       IsReplayable (link_of proto profile dir) (k.left before.key) (d.told before.disk)
       (s.left before.input)
   MayDo (Some (Trial proto profile seed count)) before = Unit {0}
+  MayDo (Some (Poll proto profile seed count)) before = Unit {0}
   MayDo (Some (Space proto profile)) before = IsReadable (s.left before.input)
   MayDo (Some (Replay proto profile dir)) before = IsListable 1 (k.left before.key)
       (s.left before.input)
@@ -131,10 +135,12 @@ module _ {K S O L D : Type 0} (k : Source K) (s : Source S) (o : Sink O) (l : Si
   MayDo (Some Version) before = Unit {0}
 
   -- How a command may end if all that it is given is right and nothing outside fails. Only
-  -- `replay`, `space`, `audit` and `duplex` take memory, and there may be none for them. An audit
-  -- ends with the status of its verdict on the recordings that it was given.
+  -- `replay`, `space`, `audit`, `duplex` and `poll` take memory, and there may be none for them. An
+  -- audit ends with the status of its verdict on the recordings that it was given.
   abbrev pub EndsWell : Option Command → Outside K S O L D → Status → Type 0
   EndsWell (Some (Replay proto profile dir)) before status = (status ≡ Done) ⊎ (status ≡ NoMemory)
+  EndsWell (Some (Poll proto profile seed count)) before status =
+      (status ≡ Done) ⊎ (status ≡ NoMemory)
   EndsWell (Some (Space proto profile)) before status = (status ≡ Done) ⊎ (status ≡ NoMemory)
   EndsWell (Some (Audit proto profile dir sent got)) before status =
       EndsWithVerdict (audited proto profile dir sent got) (k.left before.key)

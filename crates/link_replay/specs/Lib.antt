@@ -11,6 +11,7 @@ pub mod CheckCommand
 pub mod LiveCommands
 pub mod ReplayCommand
 pub mod TrialCommand
+pub mod PollCommand
 pub mod AboutCommands
 pub mod Commands
 pub mod OverFiles

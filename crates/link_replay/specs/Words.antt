@@ -9,7 +9,7 @@ use Rattle.command_ends.specs.Programs.{AsksFor}
 use Rattle.command_ends.specs.Words.{proto_word, link_word, dir_word}
 use Rattle.link_replay.specs.declared.words.Command.{Command}
 use Rattle.link_replay.specs.declared.words.Command.TheVariants.{Init, Read, Vectors, Seal, Check}
-use Rattle.link_replay.specs.declared.words.Command.TheVariants.{Replay, Trial, Space}
+use Rattle.link_replay.specs.declared.words.Command.TheVariants.{Replay, Trial, Poll, Space}
 use Rattle.link_replay.specs.declared.words.Command.TheVariants.{Audit, Duplex, LiveSeal, LiveCheck}
 use Rattle.link_replay.specs.declared.words.Command.TheVariants.{Help, Version}
 
@@ -39,6 +39,8 @@ IsCommand words (Replay proto profile dir) = (key : List ℕ) × (key ≢ [])
     × (words ≡ codes "replay" ∷ link_word proto profile ∷ dir_word dir ∷ key ∷ [])
 IsCommand words (Trial proto profile seed count) = (seed < 2 ^ 32) × (1 ≤ count) × (count ≤ 10000)
     × (words ≡ codes "trial" ∷ link_word proto profile ∷ decimal seed ∷ decimal count ∷ [])
+IsCommand words (Poll proto profile seed count) = (seed < 2 ^ 32) × (1 ≤ count) × (count ≤ 10000)
+    × (words ≡ codes "poll" ∷ link_word proto profile ∷ decimal seed ∷ decimal count ∷ [])
 IsCommand words (Space proto profile) = words ≡ codes "space" ∷ link_word proto profile ∷ []
 IsCommand words (Audit proto profile dir sent got) =
     (key : List ℕ) × (key ≢ []) × (sent ≤ LIMIT) × (got ≤ LIMIT)
@@ -83,6 +85,7 @@ key_place (Seal proto profile dir) = Some 3
 key_place (Check proto profile dir) = Some 3
 key_place (Replay proto profile dir) = Some 3
 key_place (Trial proto profile seed count) = None
+key_place (Poll proto profile seed count) = None
 key_place (Space proto profile) = None
 key_place (Audit proto profile dir sent got) = Some 3
 key_place (Duplex proto profile dir) = Some 3
@@ -101,6 +104,7 @@ journal_place (Seal proto profile dir) = Some 4
 journal_place (Check proto profile dir) = Some 4
 journal_place (Replay proto profile dir) = None
 journal_place (Trial proto profile seed count) = None
+journal_place (Poll proto profile seed count) = None
 journal_place (Space proto profile) = None
 journal_place (Audit proto profile dir sent got) = None
 journal_place (Duplex proto profile dir) = None

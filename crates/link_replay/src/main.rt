@@ -22,6 +22,8 @@ mod long_recordings;
 mod over_files;
 #[cfg(test)]
 mod over_files_tests;
+#[cfg(test)]
+mod poll_tests;
 mod program;
 #[cfg(test)]
 mod recording_tests;

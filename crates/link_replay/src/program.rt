@@ -17,6 +17,7 @@ use crate::commands::check::check;
 use crate::commands::duplex::duplex;
 use crate::commands::init::make_journal;
 use crate::commands::live::{Linked, live_check, live_seal};
+use crate::commands::poll::{Drawn, poll};
 use crate::commands::read::read_line;
 use crate::commands::replay::replay;
 use crate::commands::seal::seal;
@@ -55,6 +56,15 @@ fn perform<K: Source, S: Source, O: Sink, L: Sink, D: SlotDisk>(
         Command::Replay(proto, profile, dir) => replay(alloc, proto, profile, dir, ends),
         Command::Trial(proto, profile, seed, count) => {
             try_link(proto, profile, seed, count, ends)
+        }
+        Command::Poll(proto, profile, seed, count) => {
+            let drawn = Drawn {
+                proto,
+                profile,
+                seed,
+                count,
+            };
+            poll(alloc, drawn, ends)
         }
         Command::Space(proto, profile) => space(alloc, proto, profile, ends),
         Command::Audit(proto, profile, dir, sent_floor, got_floor) => {
@@ -164,8 +174,9 @@ fn log_fault<L: Sink>(asked: Option<Command>, log: &mut L, status: &Status)
 }
 
 /// Runs the program: it reads its words, which are those after the program's name, and does what
-/// they ask for. Only `space`, `audit`, `duplex` and `replay` take memory. The clause of `replay`
-/// in `runs` is the program's headline: the record `Headline` of `specs/ReplayCommand.antt`.
+/// they ask for. Only `space`, `audit`, `duplex`, `replay` and `poll` take memory. The clause of
+/// `replay` in `runs` is the program's headline: the record `Headline` of
+/// `specs/ReplayCommand.antt`.
 pub fn run<K: Source, S: Source, O: Sink, L: Sink, D: SlotDisk>(
     alloc: Global,
     words: &[String],
@@ -188,8 +199,8 @@ pub fn run<K: Source, S: Source, O: Sink, L: Sink, D: SlotDisk>(
         → KeepsDisk D.SlotDisk asked disk.old disk.new }
 
     // If all that the command is given is right and nothing outside fails, the command is done, and
-    // an audit ends with the status of its verdict. Only `replay`, `space`, `audit` and `duplex` may
-    // end for lack of memory instead.
+    // an audit ends with the status of its verdict. Only `replay`, `space`, `audit`, `duplex` and
+    // `poll` may end for lack of memory instead.
     ensures done { (asked : Option Command) → Asks (map string_bytes words.now) asked
         → MayDo K.Source S.Source O.Sink L.Sink D.SlotDisk asked
         (outside_of key.old streams.old disk.old)

@@ -1,6 +1,6 @@
 //! The words of the program: which command they ask for, and which of them are paths.
-ghost use Rattle.std.specs.Prelude.{◌≡◌, ◌↔◌, ℕ, ◌^◌, ◌<◌, ◌≤◌, [], ◌∷◌, None, IfOk, OnErr, IsTrue};
-ghost use Rattle.std.specs.Prelude.{map, codes, decimal};
+ghost use Rattle.std.specs.Prelude.{◌≡◌, ◌⊎◌, ◌↔◌, ℕ, ◌^◌, ◌<◌, ◌≤◌, [], ◌∷◌, None, IfOk};
+ghost use Rattle.std.specs.Prelude.{OnErr, IsTrue, map, codes, decimal};
 ghost use Rattle.std.specs.String.{string_bytes};
 ghost use Rattle.sequence_journal.specs.declared.numbers.TheConstants.{LIMIT};
 ghost use Rattle.link_replay.specs.declared.words.Command.{Command};
@@ -11,7 +11,7 @@ use command_ends::{Profile, Proto, Usage, read_dir, read_link, read_proto};
 use link_format::Dir;
 use sequence_journal::LIMIT;
 
-/// The greatest count of frames in a trial.
+/// The greatest count of frames in a trial, and of requests in a session of polls.
 const MOST_FRAMES: u32 = 10_000;
 
 /// The greatest number that fits into 32 bits.
@@ -35,6 +35,9 @@ pub enum Command {
     /// Tries a link with frames that are drawn: the first number is the seed, and the second one
     /// says how many frames.
     Trial(Proto, Profile, u32, u32),
+    /// Polls devices over two wires at both ends of an attacked link. The first number is the seed,
+    /// and the second one says how many requests are asked.
+    Poll(Proto, Profile, u32, u32),
     /// Sends on the frames of a line with as much silence between them as the profile asks for.
     Space(Proto, Profile),
     /// Judges a session by three recordings. The numbers are the floors of its transmitter and its
@@ -145,9 +148,10 @@ fn read_floor(word: &str) -> Result<u64, Usage>
     Ok(n)
 }
 
-// Reads the words of `trial`: a link without a direction, a seed, and how many frames.
-fn read_trial(first: &str, second: &str, seed: &str, count: &str) -> Result<Command, Usage>
-    requires { first.now ≡ codes "trial" }
+// Reads the words of `trial` and `poll`: a link without a direction, a seed, and how many frames or
+// requests.
+fn read_drawn(first: &str, second: &str, seed: &str, count: &str) -> Result<Command, Usage>
+    requires { (first.now ≡ codes "trial") ⊎ (first.now ≡ codes "poll") }
     ensures ok { IfOk result (λ command.
         IsCommand (first.now ∷ second.now ∷ seed.now ∷ count.now ∷ []) command) }
     ensures usage { OnErr result ((command : Command)
@@ -161,6 +165,9 @@ fn read_trial(first: &str, second: &str, seed: &str, count: &str) -> Result<Comm
     }
     if count > MOST_FRAMES {
         return Err(Usage);
+    }
+    if first == "poll" {
+        return Ok(Command::Poll(proto, profile, seed, count));
     }
     Ok(Command::Trial(proto, profile, seed, count))
 }
@@ -207,7 +214,7 @@ fn read_four(first: &str, second: &str, third: &str, fourth: &str) -> Result<Com
     match first {
         "init" => read_init(first, second, third, fourth),
         "replay" => read_replay(first, second, third, fourth),
-        "trial" => read_trial(first, second, third, fourth),
+        "trial" | "poll" => read_drawn(first, second, third, fourth),
         "duplex" => read_duplex(first, second, third, fourth),
         _ => Err(Usage),
     }
@@ -364,7 +371,8 @@ pub fn key_word(words: &[String]) -> Option<usize>
 {
     match read_words(words) {
         Ok(Command::Init(..) | Command::Read(_) | Command::Vectors) => None,
-        Ok(Command::Trial(..) | Command::Space(..) | Command::Help | Command::Version) => None,
+        Ok(Command::Trial(..) | Command::Poll(..) | Command::Space(..)) => None,
+        Ok(Command::Help | Command::Version) => None,
         Ok(Command::Seal(..) | Command::Check(..) | Command::Replay(..)) => Some(3),
         Ok(Command::Audit(..)) => Some(3),
         Ok(Command::Duplex(..)) => Some(3),
@@ -384,7 +392,8 @@ pub fn journal_word(words: &[String]) -> Option<usize>
         Ok(Command::Init(..)) => Some(3),
         Ok(Command::Seal(..) | Command::Check(..)) => Some(4),
         Ok(Command::Read(_) | Command::Vectors | Command::Help | Command::Version) => None,
-        Ok(Command::Replay(..) | Command::Trial(..) | Command::Space(..)) => None,
+        Ok(Command::Replay(..) | Command::Trial(..) | Command::Poll(..) | Command::Space(..)) =>
+            None,
         Ok(Command::Audit(..)) => None,
         Ok(Command::Duplex(..)) => None,
         Ok(Command::LiveSeal(..) | Command::LiveCheck(..)) => Some(5),
@@ -398,7 +407,8 @@ pub fn makes_journal(words: &[String]) -> bool
 {
     match read_words(words) {
         Ok(Command::Init(..)) => true,
-        Ok(Command::Read(_) | Command::Vectors | Command::Trial(..) | Command::Space(..)) => false,
+        Ok(Command::Read(_) | Command::Vectors | Command::Space(..)) => false,
+        Ok(Command::Trial(..) | Command::Poll(..)) => false,
         Ok(Command::Help | Command::Version) => false,
         Ok(Command::Seal(..) | Command::Check(..) | Command::Replay(..)) => false,
         Ok(Command::Audit(..)) => false,

@@ -50,7 +50,7 @@ pub use listing::list_ticks;
 pub use places::is_at_its_number;
 pub use read_frame::ReadFrame;
 pub use recordings::{LINK_REST, list_recordings};
-pub use replay_lists::ReplayLists;
+pub use replay_lists::{ReplayLists, hear_into, step_into};
 pub use session_lists::{Floors, SessionLists, Timing};
 pub use sessions::{list_lines, list_session};
 pub use tick_lists::{Place, TickLists};

@@ -27,19 +27,26 @@ use yasir_ticks::{MAX_TICKS, Tick, TickRun};
 #[cfg(test)]
 pub(crate) mod turn_tests;
 
-// Makes one step of a box, and keeps the frame that falls into it, if there is one. Returns the
-// tick of the other line.
+/// Makes one step of a box, and keeps the frame that falls into it, if there is one. Returns the
+/// tick of the other line.
 #[inline]
-pub(crate) fn step_into<B: FrameBox>(
+pub fn step_into<B: FrameBox>(
     line_box: &mut B,
     frames: &mut FrameList<Numbered>,
     t: Tick,
 ) -> Result<Tick, NoMemory>
+    /// The box has taken fewer than `MAX_TICKS` ticks.
     requires room { B.taken line_box.old < MAX_TICKS }
+    /// It may take a tick.
     requires able { B.able line_box.old }
+    /// It may then take more.
     ensures able { B.able line_box.new }
+    /// It has taken one more.
     ensures taken { B.taken line_box.new ≡ B.taken line_box.old + 1 }
+    /// At most one frame more is kept.
     ensures few { OnOk result (list_len frames.new ≤ list_len frames.old + 1) }
+    /// If the list held the frames of a line that the box had taken, it holds those of this line with
+    /// the tick behind it, and the tick that is returned comes behind the other line.
     ensures ok { IfOk result (λ tick. (setup : Setup) (line : List Tick)
         → KeepsFrames B.FrameBox line_box.old frames.old setup line
         → StepsInto B.FrameBox line_box.new frames.new setup line t tick) }
@@ -79,16 +86,21 @@ pub(crate) fn pass_run<B: FrameBox>(
     }
 }
 
-// Makes one step of a device, and keeps the frame that it reads in it, if there is one.
+/// Makes one step of a device, and keeps the frame that it reads in it, if there is one.
 #[inline]
-pub(crate) fn hear_into<V: Device>(
+pub fn hear_into<V: Device>(
     device: &mut V,
     frames: &mut FrameList<u64>,
     t: Tick,
 ) -> Result<(), NoMemory>
+    /// The device has taken fewer than `MAX_TICKS` ticks.
     requires { V.taken device.old < MAX_TICKS }
+    /// It has taken one more.
     ensures taken { V.taken device.new ≡ V.taken device.old + 1 }
+    /// At most one frame more is kept.
     ensures few { OnOk result (list_len frames.new ≤ list_len frames.old + 1) }
+    /// If the list held what the device had read of a line, it holds what it reads of this line with
+    /// the tick behind it.
     ensures ok { OnOk result ((line : List Tick) → Listens V.Device device.old frames.old line
         → Listens V.Device device.new frames.new (line ++ t ∷ [])) }
 {

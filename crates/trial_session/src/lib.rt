@@ -34,7 +34,7 @@ pub use drawn_frames::DrawnFrames;
 pub use draws::{Draws, FrameBytes};
 pub use fate::Fate;
 pub use laws::sessions_tell;
-pub use printing::session_line;
+pub use printing::{push_worded, session_line};
 pub use session::try_session;
 pub use summary::Summary;
 

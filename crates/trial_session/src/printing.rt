@@ -7,11 +7,15 @@ use crate::{CountingBox, DrawnFrames, Summary, try_session};
 use command_ends::{Line, push_decimal};
 use device_model::Device;
 
-// Appends a word and then a number, each with a blank before it.
-fn push_worded(line: &mut Line, word: &[u8], n: u64)
+/// Appends a word and then a number, each with a blank before it.
+pub fn push_worded(line: &mut Line, word: &[u8], n: u64)
+    /// The word has at most ten bytes.
     requires word { length word.now ≤ 10 }
+    /// The line has at most 500 bytes before.
     requires room { length line.old.items ≤ 500 }
+    /// They stand behind what the line had.
     ensures line { line.new.items ≡ line.old.items ++ worded word.now n }
+    /// They are at most 40 bytes.
     ensures short { length line.new.items ≤ length line.old.items + 40 }
 {
     line.push(b' ');

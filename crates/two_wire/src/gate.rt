@@ -2,7 +2,7 @@
 //! the wires to its device.
 ghost use Rattle.std.specs.Prelude.{◌≡◌, ◌+◌, ◌<◌, ◌≤◌};
 ghost use Rattle.two_wire.specs.Turns.{quiet_of};
-ghost use Rattle.two_wire.specs.Wires.{heard};
+ghost use Rattle.two_wire.specs.Wires.{heard, driven};
 
 use yasir_ticks::{MAX_TICKS, T1_5_TICKS, T3_5_TICKS, Tick};
 
@@ -42,16 +42,32 @@ pub fn hear(own: Tick, wires: Tick) -> Tick
     }
 }
 
+/// Returns what is on the wires in a tick, if a port drives them with this tick of its own, and this
+/// other tick is on them otherwise.
+#[inline]
+pub fn drive(own: Tick, other: Tick) -> Tick
+    ensures { result ≡ driven own other }
+{
+    match own {
+        Tick::Silent => other,
+        Tick::Byte(_) => own,
+    }
+}
+
 impl Spoken {
     ghost use Rattle.std.specs.Prelude.{◌≡◌, ◌+◌, ◌<◌, ◌≤◌, ◌||◌};
     ghost use Rattle.two_wire.specs.Turns.{quiet_of};
-    ghost use Rattle.two_wire.specs.Turns.{after, may_ask, may_answer, may_ask_on};
+    ghost use Rattle.two_wire.specs.Turns.{after, may_ask, may_answer, may_ask_on, may_speak};
     ghost use Rattle.two_wire.specs.Gate.{known_after};
 
-    // Returns who spoke last after one more tick.
-    fn after(self, ask: Tick, answer: Tick) -> Spoken
+    /// Returns who spoke last after one more tick, in which the asker and the answerer drive the
+    /// wires with these.
+    pub fn after(self, ask: Tick, answer: Tick) -> Spoken
+        /// Fewer than `MAX_TICKS` silent ticks have come since.
         requires { quiet_of self < MAX_TICKS }
+        /// It is who has a byte in this tick, and otherwise who it was before, a tick longer ago.
         ensures last { result ≡ after self ask answer }
+        /// At most one silent tick more has come since.
         ensures counted { quiet_of result ≤ quiet_of self + 1 }
     {
         match (ask, answer) {
@@ -106,6 +122,16 @@ impl Spoken {
             Spoken::Answerer(quiet) => quiet < u64::from(waits.pause),
         }
     }
+
+    /// Whether this side may speak now.
+    pub fn may_speak(self, side: Side, waits: Waits) -> bool
+        ensures { result ≡ may_speak side waits self }
+    {
+        match side {
+            Side::Asks => self.may_ask(waits),
+            Side::Answers => self.may_answer(waits),
+        }
+    }
 }
 
 /// Lets a burst of a receiver through to the wires of its device, whole or not at all: if it begins
@@ -154,10 +180,7 @@ impl Gate {
         if self.quiet < u64::from(T1_5_TICKS) {
             return self.open_now;
         }
-        match self.side {
-            Side::Asks => self.spoken.may_ask(self.waits),
-            Side::Answers => self.spoken.may_answer(self.waits),
-        }
+        self.spoken.may_speak(self.side, self.waits)
     }
 
     /// Returns the tick with which the box drives the wires now, if its receiver has returned this

@@ -4,7 +4,7 @@
 mod gate;
 mod laws;
 
-pub use gate::{Gate, Side, Spoken, Waits, hear};
+pub use gate::{Gate, Side, Spoken, Waits, drive, hear};
 pub use laws::{
     bursts_may_be_left_out, four_wire_devices_read_what_was_sealed, gates_may_lag, gates_recover,
     gates_wait_at_first, nobody_talks_at_once, polls_are_delivered, ports_are_deaf_to_themselves,

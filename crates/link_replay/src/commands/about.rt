@@ -13,7 +13,7 @@ use yasir_io::{Sink, SlotDisk, Source};
 pub const VERSION_LINE: [u8; 18] = *b"link_replay 0.7.0\n";
 
 /// The page that `help` prints.
-pub const HELP_PAGE: [u8; 1888] =
+pub const HELP_PAGE: [u8; 1965] =
     *b"link_replay runs the boxes that protect a serial line, over recorded lines and
 over lines as they come.
 
@@ -28,6 +28,7 @@ over lines as they come.
   audit P DIR KEY F G           judge a session by three recordings of it
   duplex P DIR KEY              one box for both directions
   trial P SEED COUNT            attack a session that is made from a number
+  poll P SEED COUNT             poll over two wires, attacked, from a number
   vectors                       check the known answers of the standards
   help                          print this page (also --help, -h)
   version                       print the version (also --version)

@@ -6,6 +6,7 @@ pub mod check;
 pub mod duplex;
 pub mod init;
 pub mod live;
+pub mod poll;
 mod printing;
 pub mod read;
 pub mod replay;

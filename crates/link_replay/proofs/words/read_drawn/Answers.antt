@@ -1,9 +1,9 @@
-use Rattle.{link_replay.proofs.Asking.trial-counts, std.proofs.Common.arith}
-use Rattle.link_replay.proofs.words.read_trial.Goals as goal
+use Rattle.{link_replay.proofs.Asking.drawn-counts, std.proofs.Common.arith}
+use Rattle.link_replay.proofs.words.read_drawn.Goals as goal
 
 pub returns-then-count-lt1-clause-usage : goal.returns-then-count-lt1-clause-usage
 returns-then-count-lt1-clause-usage c = λ command asked.
-    let within = trial-counts c.args.first.now c.args.second.now c.args.seed.now c.args.count.now
+    let within = drawn-counts c.args.first.now c.args.second.now c.args.seed.now c.args.count.now
     c.in_ok-count.count command c.requires c.in_ok-count.ensures.ok c.in_ok-count.ensures.small
     asked in
     omega (arith, within.0, c.if-count-lt1.true)
@@ -11,7 +11,7 @@ returns-then-count-lt1-clause-usage c = λ command asked.
 pub returns-then-count-gt-MOST_FRAMES-clause-usage :
     goal.returns-then-count-gt-MOST_FRAMES-clause-usage
 returns-then-count-gt-MOST_FRAMES-clause-usage c = λ command asked.
-    let within = trial-counts c.args.first.now c.args.second.now c.args.seed.now c.args.count.now
+    let within = drawn-counts c.args.first.now c.args.second.now c.args.seed.now c.args.count.now
     c.in_ok-count.count command c.requires c.in_ok-count.ensures.ok c.in_ok-count.ensures.small
     asked in
     omega (arith, within.1, c.if-count-gt-MOST_FRAMES.true)

@@ -1,0 +1,7 @@
+mod Appending
+mod Asks
+mod Ending
+mod Finding
+mod Holding
+mod OneTick
+mod Telling

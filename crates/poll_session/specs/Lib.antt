@@ -1,0 +1,8 @@
+pub mod TurnedEnds
+pub mod Watches
+pub mod PollEnds
+pub mod Asking
+pub mod Unsealed
+pub mod Polled
+pub mod Sessions
+pub mod PollLine
