@@ -45,6 +45,7 @@ CHECKS = [
     Check("random_lines", ("program",), ["200", "PROGRAM"], ["2000", "PROGRAM", "2"], ["20000", "PROGRAM", "3"]),
     Check("audit", ("program",), ["330", "PROGRAM"], ["3300", "PROGRAM", "2"], ["13200", "PROGRAM", "3"]),
     Check("duplex", ("program",), ["150", "PROGRAM"], ["1500", "PROGRAM", "2"], ["6000", "PROGRAM", "3"]),
+    Check("two_wire", ("program",), ["100", "PROGRAM"], ["1000", "PROGRAM", "2"], ["6000", "PROGRAM", "3"]),
     Check("poll", ("program",), ["PROGRAM", "2", "50"], ["PROGRAM"], ["PROGRAM", "400"]),
     Check("try_check", ("program", "line_capture"), *same("PROGRAM")),
     Check("closed_streams", ("program",), *same("PROGRAM")),

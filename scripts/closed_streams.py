@@ -32,6 +32,7 @@ COMMANDS = [
     ("replay rtu ab KEY", NEW, (0, 1)),
     ("audit rtu ab KEY 0 0", NEW, (0, 1)),
     ("duplex rtu ab KEY", NEW, (0, 1, 2)),
+    ("two_wire rtu ab answers 45 4 KEY", NEW, (0, 1, 2)),
     ("vectors", NEW, (1,)),
     ("help", NEW, (1,)),
     ("version", NEW, (1,)),
@@ -98,7 +99,8 @@ def texts(replay):
     """The input of each command, other than the request, by a `link_replay`."""
     link = replay.run("seal rtu ab KEY JOURNAL", REQUEST, NEW, ())[1]
     received = replay.run("check rtu ab KEY JOURNAL", link, NEW, ())[1]
-    lists = {"check": [link], "live check": [link], "replay": [REQUEST, link], "duplex": [REQUEST, link], "audit": [REQUEST, link, received]}
+    lists = {"check": [link], "live check": [link], "replay": [REQUEST, link], "duplex": [REQUEST, link],
+             "two_wire": [REQUEST, link], "audit": [REQUEST, link, received]}
     return {command: b"%\n".join(parts) for command, parts in lists.items()}
 
 

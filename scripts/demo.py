@@ -165,6 +165,44 @@ def show_deaf(name, protocol, what, answer, folder):
     return same
 
 
+def show_gated(name, what, waits, device, link, folder):
+    """Shows a two-wire box beside a device, and what the device reads of the ticks that the box gives it."""
+    print("== %s\n" % what)
+    words = ["two_wire", "rtu", "ba"] + waits.split()
+    lines, notes = run(words + [os.path.join(EXAMPLES, "key.txt")], joined(folder, name + ".wires.ticks", device, link))
+    same = show("%s: the link's ticks, and after the %% those that its device gets" % " ".join(words), lines, name + ".gated.txt")
+    same &= show("its notes, on standard error", notes, name + ".gated_notes.txt")
+    given = os.path.join(folder, name + ".given.ticks")
+    with open(given, "w") as written:
+        written.write(lines.split("%\n")[1])
+    return same & show("read rtu: the frames that the device reads", run(["read", "rtu"], given)[0], name + ".gated_acts.txt")
+
+
+def show_write_inside(folder):
+    """Shows what a device reads that answers, and doesn't listen, while a sealed frame comes whose ending is a frame: behind a
+    spacer, and behind a gate."""
+    name, key = "write_inside", os.path.join(EXAMPLES, "key.txt")
+    print("== A sealed request of function 16 whose ending is a frame (examples/%s.ticks), behind a spacer\n" % name)
+    path = lambda what: os.path.join(folder, "%s.%s" % (name, what))
+    run(["init", "rtu", "ab", path("sealed")])
+    run(["init", "rtu", "ab", path("passed")])
+    line = os.path.join(EXAMPLES, name + ".ticks")
+    for words, what in ((["seal", "rtu", "ab", key, path("sealed")], "link"), (["check", "rtu", "ab", key, path("passed")], "received"),
+                        (["space", "rtu"], "spaced")):
+        text = run(words, line)[0]
+        line = path(what)
+        with open(line, "w") as written:
+            written.write(text)
+    same = show("seal rtu ab | check rtu ab | space rtu: the line that the spacer sends on", text, name + ".guarded.ticks")
+    with open(path("heard"), "w") as written:
+        written.write(silent_between(text, 70, 76))
+    same &= show("read rtu: the frames that a device reads that answers in ticks 70 to 76, and doesn't listen meanwhile",
+                 run(["read", "rtu"], path("heard"))[0], name + ".deaf_acts.txt")
+    with open(path("link")) as link:
+        return same & show_gated(name, "The same link behind a gate, which waits for an answer for up to 60 ticks and keeps the request back",
+                                 "asks 60 4", "-124\n+010302002a399b\n", "-60\n" + link.read(), folder)
+
+
 def show_session(name, protocol, line, link, what, folder):
     """Shows both boxes over a line and a link at once: what was sealed, passed and read, and what passed and was never sealed."""
     print("== %s\n" % what)
@@ -299,6 +337,9 @@ def main():
         same &= show_altered("outstation_altered", "dnp3", "This link again", "outstation", folder)
         same &= show_guarded("byte_behind", folder)
         same &= show_deaf("deaf_device", "rtu", "A link with a byte and a frame directly after it", (41, 47), folder)
+        same &= show_gated("deaf_device", "The same link, and that device (examples/deaf_answer.ticks) behind a gate", "asks 19 4",
+                           example("deaf_answer.ticks"), example("deaf_device.ticks"), folder)
+        same &= show_write_inside(folder)
         same &= show_deaf("deaf_outstation", "dnp3", "A link with a frame inside a longer one", (40, 49), folder)
         same &= show_wrong_link(folder)
         same &= show_taken_over(folder)

@@ -18,7 +18,7 @@ from model import AUDIT_STATUS, PAUSE, Dnp3, Rtu, Y18, trailer
 TICKS, BYTES = 16_777_216, 268_435_456
 FRAMES = {"rtu": b"01030000000ac5cd", "dnp3": b"056405c001000004e921"}
 MANY, SILENCE = 70_000, 40
-MARKS = {"replay": 1, "duplex": 1, "audit": 2}
+MARKS = {"replay": 1, "duplex": 1, "two_wire": 1, "audit": 2}
 FULL_LINE, COMMENT = b"+" + b"5a" * 32 + b"\n", b"#" + b"x" * 120 + b"\n"
 
 
@@ -82,7 +82,8 @@ def run(program, words, parts, folder):
 def main():
     program = built.program(sys.argv, 1)
     commands = ["init rtu ab NEW", "vectors", "help", "version", "trial rtu 7 10000", "trial dnp3 7 10000", "poll rtu 7 10000", "poll dnp3 7 10000", "read rtu", "read dnp3", "space rtu", "space dnp3"]
-    for box in ("seal %s ab KEY JOURNAL", "check %s ab KEY JOURNAL", "replay %s ab KEY", "audit %s ab KEY 0 0", "duplex %s ab KEY"):
+    for box in ("seal %s ab KEY JOURNAL", "check %s ab KEY JOURNAL", "replay %s ab KEY", "audit %s ab KEY 0 0", "duplex %s ab KEY",
+                "two_wire %s ab answers 45 4 KEY"):
         commands += [box % proto for proto in ("rtu", "dnp3")]
     wrong, names = 0, sys.argv[2:]
     unknown = set(names) - {words.split()[0] for words in commands}

@@ -123,7 +123,8 @@ def cases_of(folder, ticks):
         for word, attacked in ((name, False), (name, True), (other, False)):
             cases.append(("check %s%s" % (word, ", attacked" * attacked), at("link.%s.%d" % (word, attacked)), ["check", word, "ab"]))
         cases += [("check %s, unsealed" % name, dense, ["check", name, "ab"]), ("replay " + name, both, ["replay", name, "ab"]),
-                  ("duplex " + name, both, ["duplex", name, "ba"]), ("audit " + name, at("audit." + name), ["audit", name, "ab"]),
+                  ("duplex " + name, both, ["duplex", name, "ba"]),
+                  ("two_wire " + name, both, ["two_wire", name, "ba", "asks", "20", "4"]), ("audit " + name, at("audit." + name), ["audit", name, "ab"]),
                   ("trial " + name, os.devnull, ["trial", name, "7", str(ticks // TICKS_OF_A_FRAME)])]
     return cases + [("read rtu, thin", at("thin"), ["read", "rtu"]), ("read rtu, comments", at("comments"), ["read", "rtu"])]
 
@@ -148,7 +149,7 @@ def make_inputs(folder, ticks):
 
 def words_of(words, key, journal):
     """The words of a case, with the key and the journal that its command takes."""
-    named = {"seal": [key, journal], "check": [key, journal], "replay": [key], "duplex": [key], "audit": [key, "0", "0"]}
+    named = {"seal": [key, journal], "check": [key, journal], "replay": [key], "duplex": [key], "two_wire": [key], "audit": [key, "0", "0"]}
     return words + named.get(words[0], [])
 
 

@@ -289,6 +289,49 @@ def duplex(proto, key, direction, line, link, profile=Y18):
     return sent, received, [note for _, note in sorted(sealing + checking, key=lambda noted: noted[0])]
 
 
+def gated(side, window, pause, ticks, heard):
+    """What a gate lets through of a receiver's ticks while this is heard on the wires, and the ticks in which a burst begins that it
+    keeps back. Who spoke last is nobody, the asker or the answerer, so many silent ticks ago."""
+    who, ago, quiet, opened, through, held = "nobody", 0, 2, False, [], []
+    for tick, (own, other) in enumerate(zip(ticks, heard)):
+        if own is not None and quiet >= 2:
+            if side == "asks":
+                opened = ago >= window or who == "asker" and ago < 4 or who == "answerer" and ago >= pause
+            else:
+                opened = who == "asker" and 4 <= ago < window or who == "answerer" and ago < pause
+            held += [] if opened else [tick]
+        quiet = 0 if own is not None else quiet + 1
+        said = own if opened else None
+        through.append(said)
+        asked, answered = (said, other) if side == "asks" else (other, said)
+        if side == "asks" and who == "nobody" and said is None and other is not None:
+            ago = 0
+        elif asked is not None or answered is not None:
+            who, ago = "asker" if asked is not None else "answerer", 0
+        else:
+            ago += 1
+    return through, held
+
+
+def two_wire(proto, key, direction, waits, device, link, profile=Y18):
+    """What a two-wire box drives the link and the wires to its device with, if this is on both, and its notes. `waits` are its side,
+    WINDOW and PAUSE. It hears what it doesn't drive, and drives the wires one tick after it decides. So the ticks that are known of
+    what it drives grow by one with each turn, and often by many."""
+    device, link = filled(device, link)
+    later = lambda ticks: [None] + ticks[:-1]
+    to_link, to_device = [None] * len(link), [None] * len(device)
+    while True:
+        heard_device, heard_link = [[None if own is not None else on for own, on in zip(owns, wires)]
+                                    for owns, wires in ((to_device, device), (to_link, link))]
+        sent, sealing, _, _ = seal_steps(proto, key, direction, 0, heard_device, profile)
+        given, checking, _, _ = check_steps(proto, key, 1 - direction, 0, heard_link, profile)
+        let, held = gated(*waits, later(given), heard_device)
+        if (later(sent), let) == (to_link, to_device):
+            notes = sealing + checking + [(tick, "held at %d" % tick) for tick in held]
+            return to_link, to_device, [note for _, note in sorted(notes, key=lambda noted: noted[0])]
+        to_link, to_device = later(sent), let
+
+
 def space(proto, line, profile=Y18, cap=WAITING, rest=SPACER_REST):
     """The spaced line, the notes of the frames that are lost, and the accepted frames: for each the step in which it is read, the tick
     at which it begins on the spaced line, and its bytes."""

@@ -24,11 +24,11 @@ use Rattle.line_commands.specs.declared.recording.Recorded.{Recorded}
 abbrev pub both_rest : ℕ
 both_rest = 320
 
--- the length in ticks to which both recordings are filled_recording
+-- the length in ticks to which both recordings are filled
 abbrev pub steps_of : List Tick → List Tick → ℕ
 steps_of device link = max (length device) (length link) + both_rest
 
--- a recording, filled_recording with silence up to this many ticks
+-- a recording, filled with silence up to this many ticks
 abbrev pub filled_recording : ℕ → List Tick → List Tick
 filled_recording steps line = line ++ silent (steps - length line)
 
@@ -38,7 +38,7 @@ pub record BothTexts : Type 0 where
   pub device : List ℕ
   pub notes : List ℕ
 
--- What both boxes make of the line of a device and of a link. Both recordings are filled_recording, so that
+-- What both boxes make of the line of a device and of a link. Both recordings are filled, so that
 -- tick i of each goes into step i. The notes are in the order of steps, and within a step the one
 -- of the outgoing box comes first.
 abbrev pub both_texts : TimedBox → TimedBox → List Tick → List Tick → BothTexts
@@ -58,6 +58,10 @@ abbrev pub both_with : (Setup → TimedBox) → (Setup → TimedBox) → List �
 both_with outgoing incoming key dir =
     both_texts (outgoing (setup_of key dir 0)) (incoming (setup_of key (opposite_of dir) 0))
 
+-- Holds if these are the texts that are made so of both recordings.
+abbrev pub AreMade : (List Tick → List Tick → BothTexts) → List Tick → List Tick → BothTexts → Type 0
+AreMade texts_of device link texts = texts ≡ texts_of device link
+
 -- the texts of both lines, separated by a mark
 abbrev pub both_lines : BothTexts → List ℕ
 both_lines texts = texts.link ++ codes "%\n" ++ texts.device
@@ -68,13 +72,15 @@ pub record HoldsTexts (recorded : Recorded) (texts : BothTexts) : Type 0 where
   pub device : recorded.device.items ≡ texts.device
   pub notes : recorded.notes.items ≡ texts.notes
 
-module _ (texts_of : List Tick → List Tick → BothTexts) (before now : Option (List ℕ)) where
+module _ (AreTexts : List Tick → List Tick → BothTexts → Type 0) (before now : Option (List ℕ)) where
   -- The whole input was read, it is a right text with one mark, and what is made of its two
   -- recordings is kept.
   pub record RecordsWhole (recorded : Recorded) : Type 0 where
     pub items : List Item
     pub whole : IsWhole 1 0 before now items
-    pub holds : HoldsTexts recorded (texts_of (before_mark items) (behind_mark items))
+    pub texts : BothTexts
+    pub are : AreTexts (before_mark items) (behind_mark items) texts
+    pub holds : HoldsTexts recorded texts
 
   -- The input isn't whole, or there was no memory for what is made of it.
   pub record EndsOtherwise (end : End) : Type 0 where

@@ -7,8 +7,8 @@ use yasir_io::{Failed, Sink};
 
 /// A text in memory, of any length. A write fails if there is no memory for it.
 #[derive(Drop)]
-pub(crate) struct MemoryText {
-    pub(crate) bytes: Vec<u8>,
+pub struct MemoryText {
+    pub bytes: Vec<u8>,
     faults: u64,
     flushes: u64,
     unflushed: bool,
@@ -16,7 +16,7 @@ pub(crate) struct MemoryText {
 
 impl MemoryText {
     /// Returns an empty text.
-    pub(crate) fn new(alloc: Global) -> MemoryText
+    pub fn new(alloc: Global) -> MemoryText
         ensures { text_bytes result ≡ [] }
     {
         MemoryText {

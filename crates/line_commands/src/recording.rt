@@ -12,6 +12,7 @@ ghost use Rattle.command_ends.specs.Flushes.{FlushesAtEnd};
 ghost use Rattle.line_commands.specs.KeptBox.{timed_of};
 ghost use Rattle.line_commands.specs.BothBoxes.{Setups, AreSteady, KeepsBoth, both_taken};
 ghost use Rattle.line_commands.specs.Recording.{both_rest, steps_of, both_texts, both_with, both_lines};
+ghost use Rattle.line_commands.specs.Recording.{AreMade};
 ghost use Rattle.line_commands.specs.Recording.{BothTexts, HoldsTexts, RecordsBoth, PrintsBoth};
 
 use crate::both_boxes::BothBoxes;
@@ -34,6 +35,25 @@ pub struct Recorded {
     link: Vec<u8>,
     device: Vec<u8>,
     notes: Vec<u8>,
+}
+
+impl Recorded {
+    ghost use Rattle.line_commands.specs.Recording.{HoldsTexts};
+
+    /// Returns the text of the link, that of the device's line, and the lines of the notes.
+    pub fn new(link: Vec<u8>, device: Vec<u8>, notes: Vec<u8>) -> Recorded
+        ensures { HoldsTexts result (record {
+          link = link.items;
+          device = device.items;
+          notes = notes.items;
+        }) }
+    {
+        Recorded {
+            link,
+            device,
+            notes,
+        }
+    }
 }
 
 // Fills both recordings with silence to the length of the longer one and the ticks that follow it,
@@ -96,8 +116,8 @@ pub fn record_both<S: LineBox, C: LineBox, I: Source>(
 ) -> Result<Recorded, End>
     requires outgoing { S.widths_fit }
     requires incoming { C.widths_fit }
-    ensures records { RecordsBoth (both_with (timed_of S.walking S.line_of)
-        (timed_of C.walking C.line_of) key.now outgoing) (I.left input.old) (I.left input.new)
+    ensures records { RecordsBoth (AreMade (both_with (timed_of S.walking S.line_of)
+        (timed_of C.walking C.line_of) key.now outgoing)) (I.left input.old) (I.left input.new)
         result }
     ensures read { IsReadCause (I.faults input.old) (I.faults input.new) (is_read_answer result) }
 {

@@ -1,10 +1,13 @@
 -- Words ask for at most one command.
 use Rattle.{link_format.specs.declared.dir.Dir.Dir, link_replay.specs.Words.IsCommand}
+use Rattle.link_replay.specs.Words.{side_word}
 use Rattle.link_replay.specs.{Words.Asks, Words.AreFloors, declared.words.Command.Command}
 use Rattle.link_replay.specs.declared.words.Command.TheVariants.{Init, Read, Vectors, Seal, Check}
 use Rattle.link_replay.specs.declared.words.Command.TheVariants.{Replay, Trial, Poll, Space, Audit}
 use Rattle.link_replay.specs.declared.words.Command.TheVariants.{Duplex, LiveSeal, LiveCheck}
-use Rattle.link_replay.specs.declared.words.Command.TheVariants.{Help, Version}
+use Rattle.link_replay.specs.declared.words.Command.TheVariants.{TwoWire, Help, Version}
+use Rattle.two_wire.specs.declared.gate.Side.{Side}
+use Rattle.two_wire.specs.declared.gate.Side.TheVariants as side
 use Rattle.command_ends.proofs.Telling.{is_word, proto_by, profile_by, dir_by, proto-by, profile-by}
 use Rattle.command_ends.proofs.Telling.{dir-by}
 use Rattle.command_ends.specs.{Words.dir_word, Words.link_word, declared.link.Profile.Profile}
@@ -14,6 +17,14 @@ use Rattle.std.proofs.Common.{◌≡◌, ◌∙◌, ℕ, zero, suc, List, [], �
 use Rattle.std.proofs.Common.{None, cond, refl, sym, ap, arith, subst, ◌≤◌, ◌^◌, ◌<◌, inl}
 use Rattle.std.proofs.{Common.inr, Common.⊎_elim, lemmas.Fmt.decimal_is_IsNumeral}
 use Rattle.std.specs.{Prelude.codes, Prelude.decimal, Str.Parse.digits_value}
+
+-- the side whose word this is
+abbrev side_by : List ℕ → Side
+side_by word = cond (is_word (codes "asks") word) side.Asks side.Answers
+
+side-by : (s : Side) → side_by (side_word s) ≡ s
+side-by side.Asks = refl
+side-by side.Answers = refl
 
 -- the command that the first word names, by that word and the five words after it
 abbrev command_by : List ℕ → List ℕ → List ℕ → List ℕ → List ℕ → List ℕ → Command
@@ -36,6 +47,11 @@ command_by verb first second third fourth fifth =
     (digits_value 10 fifth))
     (cond (is_word (codes "duplex") verb)
     (Duplex (proto_by first) (profile_by first) (dir_by second))
+    (cond (is_word (codes "two_wire") verb)
+    (TwoWire (proto_by first) (profile_by first) (dir_by second) (side_by third) (record {
+      window = digits_value 10 fourth;
+      pause = digits_value 10 fifth;
+    }))
     (cond (is_word (codes "live") verb)
     (cond (is_word (codes "seal") first)
     (LiveSeal (proto_by second) (profile_by second) (dir_by third))
@@ -45,7 +61,7 @@ command_by verb first second third fourth fifth =
     (cond (is_word (codes "-h") verb) Help
     (cond (is_word (codes "version") verb) Version
     (cond (is_word (codes "--version") verb) Version
-    (Replay (proto_by first) (profile_by first) (dir_by second)))))))))))))))))
+    (Replay (proto_by first) (profile_by first) (dir_by second))))))))))))))))))
 
 abbrev word_at : ℕ → List (List ℕ) → List ℕ
 word_at zero [] = []
@@ -83,6 +99,15 @@ command-in words (Seal proto profile dir) h = ap command_in h.4 ∙ box-by Seal 
 command-in words (Check proto profile dir) h = ap command_in h.4 ∙ box-by Check proto profile dir
 command-in words (Replay proto profile dir) h = ap command_in h.2 ∙ box-by Replay proto profile dir
 command-in words (Duplex proto profile dir) h = ap command_in h.2 ∙ box-by Duplex proto profile dir
+command-in words (TwoWire proto profile dir side waits) h =
+    ap command_in h.3 ∙ rw (
+      proto-by proto profile,
+      profile-by proto profile,
+      dir-by dir,
+      side-by side,
+      number-by waits.window (omega (arith, h.2.window_most)),
+      number-by waits.pause (omega (arith, h.2.pause_most)),
+    ) refl
 command-in words (LiveSeal proto profile dir) h =
     ap command_in h.4 ∙ box-by LiveSeal proto profile dir
 command-in words (LiveCheck proto profile dir) h =
@@ -144,6 +169,11 @@ drawn-counts first second seed count n command verb spelled few asked =
     let this = subst (λ v. IsCommand (v ∷ second ∷ seed ∷ decimal n ∷ [])
     (command_in (v ∷ second ∷ seed ∷ decimal n ∷ []))) is so in
     (subst (λ k. 1 ≤ k) same this.1, subst (λ k. k ≤ 10000) same this.2)) verb
+
+-- words ask for one command at most
+pub one-command : (words : List (List ℕ)) (a b : Command) → IsCommand words a → IsCommand words b
+    → a ≡ b
+one-command words a b ha hb = sym (command-in words a ha) ∙ command-in words b hb
 
 pub asks-one : (words : List (List ℕ)) (a b : Option Command) → Asks words a → Asks words b → a ≡ b
 asks-one = asks_one IsCommand command_in command-in

@@ -5,7 +5,7 @@ use Rattle.link_replay.specs.declared.commands.about.TheConstants.{HELP_PAGE}
 use Rattle.link_replay.specs.declared.words.Command.TheVariants.{Init, Read, Vectors, Seal, Check}
 use Rattle.link_replay.specs.declared.words.Command.TheVariants.{Replay, Trial, Poll, Space}
 use Rattle.link_replay.specs.declared.words.Command.TheVariants.{Audit, Duplex, LiveSeal, LiveCheck}
-use Rattle.link_replay.specs.declared.words.Command.TheVariants.{Help, Version}
+use Rattle.link_replay.specs.declared.words.Command.TheVariants.{TwoWire, Help, Version}
 
 pub page_names_commands : NamesCommands HELP_PAGE
 page_names_commands (Read proto) =
@@ -28,13 +28,15 @@ page_names_commands (Audit proto profile dir sent got) =
     record { before = take 677 HELP_PAGE; after = drop 700 HELP_PAGE; is = refl }
 page_names_commands (Duplex proto profile dir) =
     record { before = take 751 HELP_PAGE; after = drop 771 HELP_PAGE; is = refl }
+page_names_commands (TwoWire proto profile dir side waits) =
+    record { before = take 811 HELP_PAGE; after = drop 851 HELP_PAGE; is = refl }
 page_names_commands (Trial proto profile seed count) =
-    record { before = take 811 HELP_PAGE; after = drop 833 HELP_PAGE; is = refl }
+    record { before = take 891 HELP_PAGE; after = drop 913 HELP_PAGE; is = refl }
 page_names_commands (Poll proto profile seed count) =
-    record { before = take 887 HELP_PAGE; after = drop 908 HELP_PAGE; is = refl }
+    record { before = take 967 HELP_PAGE; after = drop 988 HELP_PAGE; is = refl }
 page_names_commands Vectors =
-    record { before = take 964 HELP_PAGE; after = drop 975 HELP_PAGE; is = refl }
+    record { before = take 1044 HELP_PAGE; after = drop 1055 HELP_PAGE; is = refl }
 page_names_commands Help =
-    record { before = take 1037 HELP_PAGE; after = drop 1045 HELP_PAGE; is = refl }
+    record { before = take 1117 HELP_PAGE; after = drop 1125 HELP_PAGE; is = refl }
 page_names_commands Version =
-    record { before = take 1103 HELP_PAGE; after = drop 1114 HELP_PAGE; is = refl }
+    record { before = take 1183 HELP_PAGE; after = drop 1194 HELP_PAGE; is = refl }

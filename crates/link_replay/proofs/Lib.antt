@@ -1,4 +1,5 @@
 pub mod Asking
+pub mod Counting
 pub mod Outcomes
 pub mod Flushing
 pub mod Headlines

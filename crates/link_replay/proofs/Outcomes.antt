@@ -3,7 +3,7 @@
 use Rattle.line_commands.proofs.Replayable.{replayable_done}
 use Rattle.line_commands.specs.LinkBoxes.{seal_boxed, seal_rest, check_boxed, check_rest}
 use Rattle.line_commands.proofs.OverInput.{right_input_done}
-use Rattle.link_replay.proofs.Duplexed.{duplex_done}
+use Rattle.link_replay.proofs.Duplexed.{duplex_done, two_wire_done}
 use Rattle.link_replay.proofs.Listable.{listable_done, auditable_done}
 use Rattle.link_replay.{proofs.Spaced.whole-spaces, specs.AuditCommand.audited}
 use Rattle.command_ends.specs.Programs.{EndsLog, IsCalm}
@@ -18,7 +18,7 @@ use Rattle.link_replay.specs.declared.words.Command.{Command}
 use Rattle.link_replay.specs.declared.words.Command.TheVariants.{Init, Read, Vectors, Seal, Check}
 use Rattle.link_replay.specs.declared.words.Command.TheVariants.{Replay, Trial, Poll, Space, Audit}
 use Rattle.link_replay.specs.declared.words.Command.TheVariants.{Duplex, LiveSeal, LiveCheck}
-use Rattle.link_replay.specs.declared.words.Command.TheVariants.{Help, Version}
+use Rattle.link_replay.specs.declared.words.Command.TheVariants.{TwoWire, Help, Version}
 use Rattle.command_ends.{proofs.Links.link-right, specs.Links.link_of}
 use Rattle.command_ends.proofs.{FlushLaws.flushes_after, Logging.sinks_after}
 use Rattle.command_ends.specs.Causes.{SinkCause, DiskCause, NoneRose}
@@ -189,4 +189,7 @@ module _ {K S O L D : Type 0} (k : Source K) (s : Source S) (o : Sink O) (l : Si
       does.prints causes.streams.reads causes.streams.sinks
   asked_done (Some (Duplex proto profile dir)) before after status may calm does causes =
       duplex_done k s o l d proto profile dir before after may calm status does
+      causes.streams.reads causes.streams.sinks
+  asked_done (Some (TwoWire proto profile dir side waits)) before after status may calm does causes =
+      two_wire_done k s o l d proto profile dir before after side waits may calm status does
       causes.streams.reads causes.streams.sinks

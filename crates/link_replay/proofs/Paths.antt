@@ -5,7 +5,7 @@ use Rattle.link_replay.specs.{Words.Asks, Words.word_in, declared.words.Command.
 use Rattle.link_replay.specs.declared.words.Command.TheVariants.{Init, Read, Vectors, Seal, Check}
 use Rattle.link_replay.specs.declared.words.Command.TheVariants.{Replay, Trial, Poll, Space, Audit}
 use Rattle.link_replay.specs.declared.words.Command.TheVariants.{Duplex, LiveSeal, LiveCheck}
-use Rattle.link_replay.specs.declared.words.Command.TheVariants.{Help, Version}
+use Rattle.link_replay.specs.declared.words.Command.TheVariants.{TwoWire, Help, Version}
 use Rattle.std.proofs.Common.{◌≡◌, ℕ, List, Option, Some, None, refl, sym, ap}
 use Rattle.yasir_io.specs.declared.files.SlotFile.TheVariants.{Standing, New}
 

@@ -9,7 +9,7 @@ use Rattle.link_replay.specs.declared.words.Command.{Command}
 use Rattle.link_replay.specs.declared.words.Command.TheVariants.{Init, Read, Vectors, Seal, Check}
 use Rattle.link_replay.specs.declared.words.Command.TheVariants.{Replay, Trial, Poll, Space}
 use Rattle.link_replay.specs.declared.words.Command.TheVariants.{Audit, Duplex, LiveSeal, LiveCheck}
-use Rattle.link_replay.specs.declared.words.Command.TheVariants.{Help, Version}
+use Rattle.link_replay.specs.declared.words.Command.TheVariants.{TwoWire, Help, Version}
 
 -- the words that ask for a command, as the page of `help` names them
 abbrev pub named_words : Command → List ℕ
@@ -21,6 +21,7 @@ named_words (Space proto profile) = codes "space P"
 named_words (Replay proto profile dir) = codes "replay P DIR KEY"
 named_words (Audit proto profile dir sent got) = codes "audit P DIR KEY F G"
 named_words (Duplex proto profile dir) = codes "duplex P DIR KEY"
+named_words (TwoWire proto profile dir side waits) = codes "two_wire P DIR SIDE WINDOW PAUSE KEY"
 named_words (LiveSeal proto profile dir) = codes "live seal P DIR KEY JOURNAL"
 named_words (LiveCheck proto profile dir) = codes "live check P DIR KEY JOURNAL"
 named_words (Trial proto profile seed count) = codes "trial P SEED COUNT"

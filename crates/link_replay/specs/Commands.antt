@@ -26,6 +26,7 @@ use Rattle.link_replay.specs.PollCommand.{Polls}
 use Rattle.link_replay.specs.SpaceCommand.{Spaces}
 use Rattle.link_replay.specs.AuditCommand.{Audits, EndsWithVerdict, audited}
 use Rattle.link_replay.specs.DuplexCommand.{Duplexes}
+use Rattle.link_replay.specs.TwoWireCommand.{DrivesTwoWires}
 use Rattle.link_replay.specs.AboutCommands.{Helps, TellsVersion}
 use Rattle.command_ends.specs.declared.status.Status.{Status}
 use Rattle.command_ends.specs.declared.status.Status.TheVariants.{Usage, Done, NoMemory}
@@ -33,7 +34,7 @@ use Rattle.link_replay.specs.declared.words.Command.{Command}
 use Rattle.link_replay.specs.declared.words.Command.TheVariants.{Init, Read, Vectors, Seal, Check}
 use Rattle.link_replay.specs.declared.words.Command.TheVariants.{Replay, Trial, Poll, Space}
 use Rattle.link_replay.specs.declared.words.Command.TheVariants.{Audit, Duplex, LiveSeal, LiveCheck}
-use Rattle.link_replay.specs.declared.words.Command.TheVariants.{Help, Version}
+use Rattle.link_replay.specs.declared.words.Command.TheVariants.{TwoWire, Help, Version}
 
 -- What a crash may leave of the disk, at any moment of the run or at its end.
 abbrev pub KeepsDisk : {D : Type 0} → SlotDisk D → Option Command → D → D → Type 0
@@ -69,6 +70,8 @@ HasOwnCauses (Some (Audit proto profile dir sent got)) in_before in_now disk_bef
     DiskCause disk_before disk_now status
 HasOwnCauses (Some (Duplex proto profile dir)) in_before in_now disk_before disk_now status =
     DiskCause disk_before disk_now status
+HasOwnCauses (Some (TwoWire proto profile dir side waits)) in_before in_now disk_before disk_now
+    status = DiskCause disk_before disk_now status
 HasOwnCauses asked in_before in_now disk_before disk_now status =
     InputCause in_before in_now status × DiskCause disk_before disk_now status
 
@@ -97,6 +100,8 @@ module _ {K S O L D : Type 0} (k : Source K) (s : Source S) (o : Sink O) (l : Si
       Audits k s o l (audited proto profile dir sent got) before after status
   Does (Some (Duplex proto profile dir)) before after status =
       Duplexes k s o l proto profile dir before after status
+  Does (Some (TwoWire proto profile dir side waits)) before after status =
+      DrivesTwoWires k s o l proto profile dir side waits before after status
   Does (Some (LiveSeal proto profile dir)) before after status =
       SealsLive k s o l d proto profile dir before after status
   Does (Some (LiveCheck proto profile dir)) before after status =
@@ -125,6 +130,8 @@ module _ {K S O L D : Type 0} (k : Source K) (s : Source S) (o : Sink O) (l : Si
       (s.left before.input)
   MayDo (Some (Duplex proto profile dir)) before = IsListable 1 (k.left before.key)
       (s.left before.input)
+  MayDo (Some (TwoWire proto profile dir side waits)) before = IsListable 1 (k.left before.key)
+      (s.left before.input)
   MayDo (Some (LiveSeal proto profile dir)) before =
       IsLivable (link_of proto profile dir) (k.left before.key) (d.told before.disk)
       (s.left before.input)
@@ -135,8 +142,8 @@ module _ {K S O L D : Type 0} (k : Source K) (s : Source S) (o : Sink O) (l : Si
   MayDo (Some Version) before = Unit {0}
 
   -- How a command may end if all that it is given is right and nothing outside fails. Only
-  -- `replay`, `space`, `audit`, `duplex` and `poll` take memory, and there may be none for them. An
-  -- audit ends with the status of its verdict on the recordings that it was given.
+  -- `replay`, `space`, `audit`, `duplex`, `two_wire` and `poll` take memory, and there may be none for
+  -- them. An audit ends with the status of its verdict on the recordings that it was given.
   abbrev pub EndsWell : Option Command → Outside K S O L D → Status → Type 0
   EndsWell (Some (Replay proto profile dir)) before status = (status ≡ Done) ⊎ (status ≡ NoMemory)
   EndsWell (Some (Poll proto profile seed count)) before status =
@@ -146,6 +153,8 @@ module _ {K S O L D : Type 0} (k : Source K) (s : Source S) (o : Sink O) (l : Si
       EndsWithVerdict (audited proto profile dir sent got) (k.left before.key)
       (s.left before.input) status ⊎ (status ≡ NoMemory)
   EndsWell (Some (Duplex proto profile dir)) before status = (status ≡ Done) ⊎ (status ≡ NoMemory)
+  EndsWell (Some (TwoWire proto profile dir side waits)) before status =
+      (status ≡ Done) ⊎ (status ≡ NoMemory)
   EndsWell asked before status = status ≡ Done
 
   -- For each status of a command that isn't one of a live line, which counts of faults rose, and

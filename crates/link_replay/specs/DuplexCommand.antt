@@ -1,9 +1,8 @@
 -- The command `duplex`: the transmitter of one direction of a line and the receiver of the other
 -- direction, step by step over the recorded line of a device and a recorded link.
-use Rattle.std.specs.Prelude.{◌≡◌, ℕ, List, Option}
+use Rattle.std.specs.Prelude.{◌≡◌, ℕ, List}
 use Rattle.yasir_io.specs.declared.source.Source.{Ghosts as Source}
 use Rattle.yasir_io.specs.declared.sink.Sink.{Ghosts as Sink}
-use Rattle.yasir_ticks.specs.Ticks.{Item}
 use Rattle.yasir_ticks.specs.declared.tick.Tick.{Tick}
 use Rattle.frame_ending.specs.Answers.{told_notes}
 use Rattle.link_format.specs.declared.dir.Dir.{Dir}
@@ -13,25 +12,17 @@ use Rattle.sequence_journal.specs.declared.numbers.TheConstants.{LIMIT}
 use Rattle.link_box.specs.Sealing.{seal_notes, link_line}
 use Rattle.seal_transmitter.specs.Answers.{brief_seal_note}
 use Rattle.link_box.specs.Checking.{check_notes, received_line, brief_note as check_brief}
-use Rattle.tick_drive.specs.Input.{Takes, IsWhole}
-use Rattle.tick_drive.specs.declared.consumer.Stop.TheVariants as stops
-use Rattle.tick_drive.specs.declared.end.End.{End}
-use Rattle.tick_drive.specs.declared.end.End.TheVariants.{Refused, Stopped}
-use Rattle.tick_drive.specs.declared.end.End.TheVariants as ends
-use Rattle.session_lists.specs.Recordings.{before_mark, behind_mark}
 use Rattle.command_ends.specs.Outside.{Outside}
 use Rattle.command_ends.specs.declared.status.Status.{Status}
-use Rattle.command_ends.specs.declared.status.Status.TheVariants.{Done, BadTicks, ReadFault}
-use Rattle.command_ends.specs.declared.status.Status.TheVariants.{WriteFault, TooLong, NoMemory}
-use Rattle.session_audit.specs.Keyed.{ReadsKeyFirst, LeavesAll}
 use Rattle.line_commands.specs.CheckLines.{check_line}
 use Rattle.line_commands.specs.SealLines.{seal_line}
 use Rattle.line_commands.specs.KeptBox.{TimedBox}
 use Rattle.line_commands.specs.TimedLines.{timed_lines}
-use Rattle.line_commands.specs.Recording.{BothTexts, both_with, PrintsBoth}
+use Rattle.line_commands.specs.Recording.{BothTexts, AreMade, both_with}
 use Rattle.command_ends.specs.Links.{rules_of, link_profile_of}
 use Rattle.command_ends.specs.declared.link.Profile.{Profile}
 use Rattle.command_ends.specs.declared.link.Proto.{Proto}
+use Rattle.link_replay.specs.BothLines.{RunsOverBothKeyed}
 
 -- the profile of a box with this setup
 abbrev pub duplex_profile : Proto → Profile → Setup → LinkProfile
@@ -55,57 +46,20 @@ duplex_checker proto profile setup = record {
       (check_notes (duplex_profile proto profile setup) (rules_of proto) setup.floor link));
 }
 
--- The texts that two boxes with a key make of both recordings. The first box has this direction,
+-- Holds of the texts that two boxes with a key make of both recordings. The first box has this direction,
 -- and the second one the other direction.
 abbrev pub both_in : (Setup → TimedBox) → (Setup → TimedBox) → Dir → List ℕ → List Tick
-    → List Tick → BothTexts
-both_in outgoing incoming dir key = both_with outgoing incoming key dir
+    → List Tick → BothTexts → Type 0
+both_in outgoing incoming dir key = AreMade (both_with outgoing incoming key dir)
 
--- the texts that the transmitter and the receiver make of both recordings
-abbrev pub duplex_texts : Proto → Profile → Dir → List ℕ → List Tick → List Tick → BothTexts
+-- holds of the texts that the transmitter and the receiver make of both recordings
+abbrev pub duplex_texts : Proto → Profile → Dir → List ℕ → List Tick → List Tick → BothTexts → Type 0
 duplex_texts proto profile dir =
     both_in (duplex_sealer proto profile) (duplex_checker proto profile) dir
 
-module _ (texts : List Tick → List Tick → BothTexts)
-    (in_before in_now out_before out_now log_before log_now : Option (List ℕ)) where
-  -- Holds if all of the input was taken and is a text with one mark: the ticks of a device come
-  -- before the mark, and those of a link after it. The sinks have got the texts of both, as the
-  -- status says.
-  pub record PrintsDuplex (status : Status) : Type 0 where
-    pub items : List Item
-    pub whole : IsWhole 1 0 in_before in_now items
-    pub prints : PrintsBoth (texts (before_mark items) (behind_mark items)) out_before out_now
-        log_before log_now status
-
-  -- Holds if the input ended in this way, or there was no memory for what is made of it. The sinks
-  -- have got nothing.
-  pub record PrintsNeither (end : End) : Type 0 where
-    pub items : List Item
-    pub takes : Takes 1 0 in_before in_now items end
-    pub out : out_now ≡ out_before
-    pub log : log_now ≡ log_before
-
-  -- What each status says of the input and the sinks.
-  abbrev pub DuplexesWith : Status → Type 0
-  DuplexesWith Done = PrintsDuplex Done
-  DuplexesWith WriteFault = PrintsDuplex WriteFault
-  DuplexesWith (BadTicks bad) = PrintsNeither (Refused bad)
-  DuplexesWith (TooLong what count) = PrintsNeither (ends.TooLong what count)
-  DuplexesWith ReadFault = PrintsNeither ends.ReadFault
-  DuplexesWith NoMemory = PrintsNeither (Stopped stops.NoMemory)
-  DuplexesWith status = ⊥
-
 module _ {K S O L D : Type 0} (k : Source K) (s : Source S) (o : Sink O) (l : Sink L) where
-  -- What each status says of a run that reads the key first and makes the texts with it.
-  abbrev pub DuplexesKeyed : (List ℕ → List Tick → List Tick → BothTexts) → Outside K S O L D
-      → Outside K S O L D → Status → Type 0
-  DuplexesKeyed texts before after status = ReadsKeyFirst k before.key after.key
-      (λ key. DuplexesWith (texts key) (s.left before.input) (s.left after.input)
-      (o.held before.out) (o.held after.out) (l.held before.log) (l.held after.log))
-      (LeavesAll before.input after.input before.out after.out before.log after.log) status
-
   -- What `duplex` does. The journal's disk isn't touched.
   pub record Duplexes (proto : Proto) (profile : Profile) (dir : Dir)
       (before after : Outside K S O L D) (status : Status) : Type 0 where
-    pub texts : DuplexesKeyed (duplex_texts proto profile dir) before after status
+    pub texts : RunsOverBothKeyed k s o l (duplex_texts proto profile dir) before after status
     pub disk : after.disk ≡ before.disk

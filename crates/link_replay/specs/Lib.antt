@@ -3,7 +3,9 @@ pub mod InitCommand
 pub mod ReadCommand
 pub mod SpaceCommand
 pub mod AuditCommand
+pub mod BothLines
 pub mod DuplexCommand
+pub mod TwoWireCommand
 pub mod Printing
 pub mod VectorsCommand
 pub mod SealCommand

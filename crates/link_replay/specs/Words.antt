@@ -1,5 +1,5 @@
 -- The words of the program's commands.
-use Rattle.std.specs.Prelude.{◌≡◌, ◌≢◌, ◌⊎◌, ℕ, ◌^◌, ◌<◌, ◌≤◌, decimal, List, [], ◌∷◌, Option, Some}
+use Rattle.std.specs.Prelude.{◌≡◌, ◌≢◌, ◌⊎◌, ℕ, ◌+◌, ◌^◌, ◌<◌, ◌≤◌, decimal, List, [], ◌∷◌, Option, Some}
 use Rattle.std.specs.Prelude.{None, codes, slice_get}
 use Rattle.link_format.specs.declared.dir.Dir.{Dir}
 use Rattle.sequence_journal.specs.declared.numbers.TheConstants.{LIMIT}
@@ -7,11 +7,15 @@ use Rattle.command_ends.specs.declared.link.Proto.{Proto}
 use Rattle.command_ends.specs.declared.link.Profile.{Profile}
 use Rattle.command_ends.specs.Programs.{AsksFor}
 use Rattle.command_ends.specs.Words.{proto_word, link_word, dir_word}
+use Rattle.command_ends.specs.Links.{delay_of}
+use Rattle.two_wire.specs.declared.gate.Side.{Side}
+use Rattle.two_wire.specs.declared.gate.Side.TheVariants as side
+use Rattle.two_wire.specs.declared.gate.Waits.{Waits}
 use Rattle.link_replay.specs.declared.words.Command.{Command}
 use Rattle.link_replay.specs.declared.words.Command.TheVariants.{Init, Read, Vectors, Seal, Check}
 use Rattle.link_replay.specs.declared.words.Command.TheVariants.{Replay, Trial, Poll, Space}
 use Rattle.link_replay.specs.declared.words.Command.TheVariants.{Audit, Duplex, LiveSeal, LiveCheck}
-use Rattle.link_replay.specs.declared.words.Command.TheVariants.{Help, Version}
+use Rattle.link_replay.specs.declared.words.Command.TheVariants.{TwoWire, Help, Version}
 
 -- Holds if the words ask for a box: its name, a protocol and a profile, a direction, and the paths
 -- of its key and its journal, which aren't empty.
@@ -26,6 +30,32 @@ abbrev pub AskForLiveBox : List ℕ → Proto → Profile → Dir → List (List
 AskForLiveBox name proto profile dir words =
     (key : List ℕ) × (path : List ℕ) × (key ≢ []) × (path ≢ [])
     × (words ≡ codes "live" ∷ name ∷ link_word proto profile ∷ dir_word dir ∷ key ∷ path ∷ [])
+
+-- the word of a side
+abbrev pub side_word : Side → List ℕ
+side_word side.Asks = codes "asks"
+side_word side.Answers = codes "answers"
+
+-- the most silent ticks that may be waited
+abbrev pub most_waited : ℕ
+most_waited = 1000000
+
+-- the least PAUSE of a two-wire box, which is the silence that ends a frame
+abbrev pub least_pause : ℕ
+least_pause = 4
+
+-- The least WINDOW of a two-wire box. A box that asks waits for an answer at least as long as behind
+-- one. A box that answers needs time for a packet on the link and for what the receiver holds back.
+abbrev pub least_window : Profile → Side → ℕ → ℕ
+least_window profile side.Asks pause = pause
+least_window profile side.Answers pause = delay_of profile + 5
+
+-- Holds if a two-wire box of this profile may wait so.
+pub record MayWait (profile : Profile) (side : Side) (waits : Waits) : Type 0 where
+  pub pause_least : least_pause ≤ waits.pause
+  pub pause_most : waits.pause ≤ most_waited
+  pub window_least : least_window profile side waits.pause ≤ waits.window
+  pub window_most : waits.window ≤ most_waited
 
 -- Holds if the words ask for the command.
 abbrev pub IsCommand : List (List ℕ) → Command → Type 0
@@ -51,6 +81,10 @@ IsCommand words Help = (words ≡ codes "help" ∷ []) ⊎ (words ≡ codes "--h
 IsCommand words Version = (words ≡ codes "version" ∷ []) ⊎ (words ≡ codes "--version" ∷ [])
 IsCommand words (Duplex proto profile dir) = (key : List ℕ) × (key ≢ [])
     × (words ≡ codes "duplex" ∷ link_word proto profile ∷ dir_word dir ∷ key ∷ [])
+IsCommand words (TwoWire proto profile dir side waits) =
+    (key : List ℕ) × (key ≢ []) × MayWait profile side waits
+    × (words ≡ codes "two_wire" ∷ link_word proto profile ∷ dir_word dir ∷ side_word side
+    ∷ decimal waits.window ∷ decimal waits.pause ∷ key ∷ [])
 IsCommand words (LiveSeal proto profile dir) =
     AskForLiveBox (codes "seal") proto profile dir words
 IsCommand words (LiveCheck proto profile dir) =
@@ -89,6 +123,7 @@ key_place (Poll proto profile seed count) = None
 key_place (Space proto profile) = None
 key_place (Audit proto profile dir sent got) = Some 3
 key_place (Duplex proto profile dir) = Some 3
+key_place (TwoWire proto profile dir side waits) = Some 6
 key_place (LiveSeal proto profile dir) = Some 4
 key_place (LiveCheck proto profile dir) = Some 4
 key_place Help = None
@@ -108,6 +143,7 @@ journal_place (Poll proto profile seed count) = None
 journal_place (Space proto profile) = None
 journal_place (Audit proto profile dir sent got) = None
 journal_place (Duplex proto profile dir) = None
+journal_place (TwoWire proto profile dir side waits) = None
 journal_place (LiveSeal proto profile dir) = Some 5
 journal_place (LiveCheck proto profile dir) = Some 5
 journal_place Help = None

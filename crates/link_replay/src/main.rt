@@ -37,6 +37,8 @@ mod space_tests;
 mod tests;
 #[cfg(test)]
 mod trial_tests;
+#[cfg(test)]
+mod two_wire_tests;
 mod words;
 
 pub use command_ends::{NOT_GIVEN, Profile, Proto, Usage};

@@ -20,8 +20,18 @@ fn poll(rt: &impl Abort, alloc: Global, words: &str, front: &[u8]) -> Result<(),
 // The master asks as many requests as it is told to, and each one is sealed.
 #[test]
 fn polls_of_both_protocols_and_profiles(rt: HostRuntime) -> Result<(), Fail> {
-    poll(&rt, rt.alloc(), "poll rtu 7 5", b"poll rtu 7 5 asked 5 requests sealed ")?;
-    poll(&rt, rt.alloc(), "poll dnp24 0 5", b"poll dnp24 0 5 asked 5 requests sealed ")
+    poll(
+        &rt,
+        rt.alloc(),
+        "poll rtu 7 5",
+        b"poll rtu 7 5 asked 5 requests sealed ",
+    )?;
+    poll(
+        &rt,
+        rt.alloc(),
+        "poll dnp24 0 5",
+        b"poll dnp24 0 5 asked 5 requests sealed ",
+    )
 }
 
 fn is_poll(alloc: Global, words: &str) -> Result<bool, AllocError> {

@@ -24,6 +24,7 @@ use crate::commands::seal::seal;
 use crate::commands::space::space;
 use crate::commands::tables::print_tables;
 use crate::commands::trial::try_link;
+use crate::commands::wires::{SharedLine, drive_two_wires};
 use crate::{Command, read_words};
 use command_ends::{Ends, Status, fault_line, write_fault};
 use line_commands::Streams;
@@ -78,6 +79,16 @@ fn perform<K: Source, S: Source, O: Sink, L: Sink, D: SlotDisk>(
             audit(alloc, asked, ends)
         }
         Command::Duplex(proto, profile, dir) => duplex(alloc, proto, profile, dir, ends),
+        Command::TwoWire(proto, profile, dir, side, waits) => {
+            let of = SharedLine {
+                proto,
+                profile,
+                dir,
+                side,
+                waits,
+            };
+            drive_two_wires(alloc, of, ends)
+        }
         Command::LiveSeal(..) | Command::LiveCheck(..) => unreachable!(),
         Command::Help => print_help(ends),
         Command::Version => print_version(ends),
@@ -174,8 +185,8 @@ fn log_fault<L: Sink>(asked: Option<Command>, log: &mut L, status: &Status)
 }
 
 /// Runs the program: it reads its words, which are those after the program's name, and does what
-/// they ask for. Only `space`, `audit`, `duplex`, `replay` and `poll` take memory. The clause of
-/// `replay` in `runs` is the program's headline: the record `Headline` of
+/// they ask for. Only `space`, `audit`, `duplex`, `two_wire`, `replay` and `poll` take memory. The
+/// clause of `replay` in `runs` is the program's headline: the record `Headline` of
 /// `specs/ReplayCommand.antt`.
 pub fn run<K: Source, S: Source, O: Sink, L: Sink, D: SlotDisk>(
     alloc: Global,
@@ -200,7 +211,7 @@ pub fn run<K: Source, S: Source, O: Sink, L: Sink, D: SlotDisk>(
 
     // If all that the command is given is right and nothing outside fails, the command is done, and
     // an audit ends with the status of its verdict. Only `replay`, `space`, `audit`, `duplex` and
-    // `poll` may end for lack of memory instead.
+    // `two_wire` and `poll` may end for lack of memory instead.
     ensures done { (asked : Option Command) → Asks (map string_bytes words.now) asked
         → MayDo K.Source S.Source O.Sink L.Sink D.SlotDisk asked
         (outside_of key.old streams.old disk.old)

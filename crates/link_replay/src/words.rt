@@ -6,16 +6,24 @@ ghost use Rattle.sequence_journal.specs.declared.numbers.TheConstants.{LIMIT};
 ghost use Rattle.link_replay.specs.declared.words.Command.{Command};
 ghost use Rattle.link_replay.specs.Words.{IsCommand, Asks};
 ghost use Rattle.link_replay.specs.Words.{key_place, journal_place, AskForJournal};
+ghost use Rattle.link_replay.specs.Words.{side_word, most_waited, least_window, MayWait};
 
 use command_ends::{Profile, Proto, Usage, read_dir, read_link, read_proto};
 use link_format::Dir;
 use sequence_journal::LIMIT;
+use two_wire::{Side, Waits};
 
 /// The greatest count of frames in a trial, and of requests in a session of polls.
 const MOST_FRAMES: u32 = 10_000;
 
 /// The greatest number that fits into 32 bits.
 const MOST_OF_32_BITS: u64 = 4_294_967_295;
+
+/// The most silent ticks that a two-wire box may wait.
+const MOST_WAITED: u32 = 1_000_000;
+
+/// The least PAUSE of a two-wire box: the silence that ends a frame.
+const LEAST_PAUSE: u32 = 4;
 
 /// What the program is asked to do.
 #[derive(Clone, Copy, Debug, PartialEq, Eq)]
@@ -45,6 +53,9 @@ pub enum Command {
     Audit(Proto, Profile, Dir, u64, u64),
     /// Seals a device's line in one direction, and checks a link in the other.
     Duplex(Proto, Profile, Dir),
+    /// Runs a box between the wires to a device and those of a link, on each of which all take turns:
+    /// for which side it speaks to its device, and how long is waited there.
+    TwoWire(Proto, Profile, Dir, Side, Waits),
     /// Seals the frames of a device's live line on their way to the link.
     LiveSeal(Proto, Profile, Dir),
     /// Checks the packets of a live link, and sends on what passes.
@@ -305,6 +316,107 @@ fn read_live(
     }
 }
 
+// Returns the side that a word names.
+fn read_side(word: &str) -> Result<Side, Usage>
+    ensures ok { IfOk result (λ side. word.now ≡ side_word side) }
+    ensures usage { OnErr result ((side : Side) → word.now ≡ side_word side → ⊥) }
+{
+    match word {
+        "asks" => Ok(Side::Asks),
+        "answers" => Ok(Side::Answers),
+        _ => Err(Usage),
+    }
+}
+
+// Returns the ticks to wait that a word spells in decimal digits without a leading zero.
+fn read_waited(word: &str) -> Result<u32, Usage>
+    ensures ok { IfOk result (λ n. word.now ≡ decimal n) }
+    ensures within { IfOk result (λ n. n ≤ most_waited) }
+    ensures usage { OnErr result ((n : ℕ) → n ≤ most_waited → word.now ≡ decimal n → ⊥) }
+{
+    let n = read_number(word)?;
+    if n > MOST_WAITED {
+        return Err(Usage);
+    }
+    Ok(n)
+}
+
+// Returns the least WINDOW of a two-wire box with this PAUSE.
+fn window_for(profile: Profile, side: Side, pause: u32) -> u32
+    ensures { result ≡ least_window profile side pause }
+{
+    match (side, profile) {
+        (Side::Asks, _) => pause,
+        (Side::Answers, Profile::Y18) => 23,
+        (Side::Answers, Profile::Y24) => 29,
+    }
+}
+
+// Reads how long a two-wire box waits.
+fn read_waits(profile: Profile, side: Side, window: &str, pause: &str) -> Result<Waits, Usage>
+    ensures window { IfOk result (λ waits. window.now ≡ decimal waits.window) }
+    ensures pause { IfOk result (λ waits. pause.now ≡ decimal waits.pause) }
+    ensures may { IfOk result (λ waits. MayWait profile side waits) }
+    ensures usage { OnErr result ((waits : Waits) → MayWait profile side waits
+        → window.now ≡ decimal waits.window → pause.now ≡ decimal waits.pause → ⊥) }
+{
+    let window = read_waited(window)?;
+    let pause = read_waited(pause)?;
+    if pause < LEAST_PAUSE {
+        return Err(Usage);
+    }
+    if window < window_for(profile, side, pause) {
+        return Err(Usage);
+    }
+    Ok(Waits { window, pause })
+}
+
+// Reads the words of `two_wire`: a link, a side, how long is waited, and the path of a key, which
+// must not be empty.
+fn read_two_wire(
+    link: &str,
+    dir: &str,
+    side: &str,
+    window: &str,
+    pause: &str,
+    key: &str,
+) -> Result<Command, Usage>
+    ensures ok { IfOk result (λ command. IsCommand (codes "two_wire" ∷ link.now ∷ dir.now
+        ∷ side.now ∷ window.now ∷ pause.now ∷ key.now ∷ []) command) }
+    ensures usage { OnErr result ((command : Command) → IsCommand (codes "two_wire" ∷ link.now
+        ∷ dir.now ∷ side.now ∷ window.now ∷ pause.now ∷ key.now ∷ []) command → ⊥) }
+{
+    if key.is_empty() {
+        return Err(Usage);
+    }
+    let (proto, profile) = read_link(link)?;
+    let dir = read_dir(dir)?;
+    let side = read_side(side)?;
+    let waits = read_waits(profile, side, window, pause)?;
+    Ok(Command::TwoWire(proto, profile, dir, side, waits))
+}
+
+// Reads a command of seven words.
+fn read_seven(
+    first: &str,
+    second: &str,
+    third: &str,
+    fourth: &str,
+    fifth: &str,
+    sixth: &str,
+    seventh: &str,
+) -> Result<Command, Usage>
+    ensures ok { IfOk result (λ command. IsCommand (first.now ∷ second.now ∷ third.now ∷ fourth.now
+        ∷ fifth.now ∷ sixth.now ∷ seventh.now ∷ []) command) }
+    ensures usage { OnErr result ((command : Command) → IsCommand (first.now ∷ second.now
+        ∷ third.now ∷ fourth.now ∷ fifth.now ∷ sixth.now ∷ seventh.now ∷ []) command → ⊥) }
+{
+    match first {
+        "two_wire" => read_two_wire(second, third, fourth, fifth, sixth, seventh),
+        _ => Err(Usage),
+    }
+}
+
 // Reads a command of six words.
 fn read_six(
     first: &str,
@@ -358,6 +470,15 @@ pub fn read_words(words: &[String]) -> Result<Command, Usage>
             fifth.as_str(),
             sixth.as_str(),
         ),
+        [first, link, dir, side, window, pause, key] => {
+            let verb = first.as_str();
+            let link = link.as_str();
+            let dir = dir.as_str();
+            let side = side.as_str();
+            let window = window.as_str();
+            let pause = pause.as_str();
+            read_seven(verb, link, dir, side, window, pause, key.as_str())
+        }
         _ => Err(Usage),
     }
 }
@@ -376,6 +497,7 @@ pub fn key_word(words: &[String]) -> Option<usize>
         Ok(Command::Seal(..) | Command::Check(..) | Command::Replay(..)) => Some(3),
         Ok(Command::Audit(..)) => Some(3),
         Ok(Command::Duplex(..)) => Some(3),
+        Ok(Command::TwoWire(..)) => Some(6),
         Ok(Command::LiveSeal(..) | Command::LiveCheck(..)) => Some(4),
         Err(Usage) => None,
     }
@@ -395,7 +517,7 @@ pub fn journal_word(words: &[String]) -> Option<usize>
         Ok(Command::Replay(..) | Command::Trial(..) | Command::Poll(..) | Command::Space(..)) =>
             None,
         Ok(Command::Audit(..)) => None,
-        Ok(Command::Duplex(..)) => None,
+        Ok(Command::Duplex(..) | Command::TwoWire(..)) => None,
         Ok(Command::LiveSeal(..) | Command::LiveCheck(..)) => Some(5),
         Err(Usage) => None,
     }
@@ -412,7 +534,7 @@ pub fn makes_journal(words: &[String]) -> bool
         Ok(Command::Help | Command::Version) => false,
         Ok(Command::Seal(..) | Command::Check(..) | Command::Replay(..)) => false,
         Ok(Command::Audit(..)) => false,
-        Ok(Command::Duplex(..)) => false,
+        Ok(Command::Duplex(..) | Command::TwoWire(..)) => false,
         Ok(Command::LiveSeal(..) | Command::LiveCheck(..)) => false,
         Err(Usage) => false,
     }

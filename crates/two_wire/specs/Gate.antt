@@ -1,7 +1,7 @@
 -- The gate between a receiver and the wires of a device. The box speaks there for the side that is
 -- far away: for the one that asks, if devices that answer are on the wires, and for the one that
 -- answers, if a master is. The gate lets a burst through whole, or not at all.
-use Rattle.std.specs.Prelude.{ℕ, suc, nat_le, Bool, true, false, List, [], ◌∷◌}
+use Rattle.std.specs.Prelude.{ℕ, suc, nat_le, Bool, true, false, not, ◌&&◌, List, [], ◌∷◌, ◌++◌}
 use Rattle.std.specs.Prelude.{if◌then◌else◌}
 use Rattle.yasir_ticks.specs.declared.TheConstants.{T1_5_TICKS}
 use Rattle.yasir_ticks.specs.declared.tick.Tick.{Tick}
@@ -51,6 +51,11 @@ let_through Silent open_now = Silent
 let_through (Byte b) false = Silent
 let_through (Byte b) true = Byte b
 
+-- whether a burst begins with this tick of the receiver that the gate keeps back
+abbrev pub holds_back : Side → Waits → GateState → Tick → Bool
+holds_back side waits g Silent = false
+holds_back side waits g (Byte b) = nat_le T1_5_TICKS g.quiet && not (lets side waits g)
+
 -- Who spoke last, as the box knows it, after one more tick of its own and of what it hears. As long
 -- as a box that asks hasn't waited since it began, it doesn't take what it hears for the answer to a
 -- question of its own: it waits again.
@@ -83,3 +88,12 @@ gated side waits g (tick ∷ ticks) [] = []
 gated side waits g (tick ∷ ticks) (other ∷ others) =
     let_through tick (lets side waits g)
     ∷ gated side waits (gate_after side waits g tick other) ticks others
+
+-- the steps in which a burst begins that the gate keeps back, where the first of these ticks falls
+-- into step `n`
+abbrev pub held_steps : Side → Waits → ℕ → GateState → List Tick → List Tick → List ℕ
+held_steps side waits n g [] others = []
+held_steps side waits n g (tick ∷ ticks) [] = []
+held_steps side waits n g (tick ∷ ticks) (other ∷ others) =
+    (if holds_back side waits g tick then n ∷ [] else [])
+    ++ held_steps side waits (suc n) (gate_after side waits g tick other) ticks others

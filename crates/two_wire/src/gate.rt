@@ -152,7 +152,7 @@ pub struct Gate {
 impl Gate {
     ghost use Rattle.std.specs.Prelude.{◌≡◌, ◌+◌, ◌<◌, ◌≤◌};
     ghost use Rattle.two_wire.specs.Gate.{GateState, gate_state, gate_side, gate_waits, gate_ticks};
-    ghost use Rattle.two_wire.specs.Gate.{at_rest, lets, let_through, gate_after};
+    ghost use Rattle.two_wire.specs.Gate.{at_rest, lets, let_through, holds_back, gate_after};
 
     /// Returns a gate that has taken no tick, for a box that speaks for this side. It doesn't know
     /// who spoke before: the side that asks waits first until nobody has said anything for `window`
@@ -181,6 +181,17 @@ impl Gate {
             return self.open_now;
         }
         self.spoken.may_speak(self.side, self.waits)
+    }
+
+    /// Returns whether a burst begins with this tick of the receiver that the gate keeps back.
+    pub fn holds(&self, tick: Tick) -> bool
+        ensures { result ≡ holds_back (gate_side self.now) (gate_waits self.now)
+            (gate_state self.now) tick }
+    {
+        match tick {
+            Tick::Silent => false,
+            Tick::Byte(_) => u64::from(T1_5_TICKS) <= self.quiet && !self.lets(),
+        }
     }
 
     /// Returns the tick with which the box drives the wires now, if its receiver has returned this

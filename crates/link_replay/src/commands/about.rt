@@ -13,7 +13,7 @@ use yasir_io::{Sink, SlotDisk, Source};
 pub const VERSION_LINE: [u8; 18] = *b"link_replay 0.7.0\n";
 
 /// The page that `help` prints.
-pub const HELP_PAGE: [u8; 1965] =
+pub const HELP_PAGE: [u8; 2244] =
     *b"link_replay runs the boxes that protect a serial line, over recorded lines and
 over lines as they come.
 
@@ -27,6 +27,7 @@ over lines as they come.
   replay P DIR KEY              list what was sealed, passed, read and forged
   audit P DIR KEY F G           judge a session by three recordings of it
   duplex P DIR KEY              one box for both directions
+  two_wire P DIR SIDE WINDOW PAUSE KEY  the same, on wires where all take turns
   trial P SEED COUNT            attack a session that is made from a number
   poll P SEED COUNT             poll over two wires, attacked, from a number
   vectors                       check the known answers of the standards
@@ -37,6 +38,9 @@ P        rtu or dnp3; with longer tags rtu24 or dnp24, but not for read
 DIR      ab or ba
 KEY      the path of a key: 32 to 128 hex digits
 JOURNAL  the path of a box's journal
+SIDE     for whom the box speaks to its device: asks or answers
+WINDOW   the silent ticks in which an answer must begin, up to 1000000
+PAUSE    the silent ticks behind an answer's end, up to 1000000
 F, G     the last numbers of transmitter and receiver before the session
 SEED     0 to 4294967295
 COUNT    1 to 10000

@@ -5,11 +5,10 @@ ghost use Rattle.command_ends.specs.Ends.{outside_before, outside_after};
 ghost use Rattle.command_ends.specs.Flushes.{FlushesAtEnd};
 ghost use Rattle.command_ends.specs.StreamCauses.{HasStreamCauses};
 ghost use Rattle.line_commands.specs.KeptBox.{timed_of};
-ghost use Rattle.line_commands.specs.Recording.{both_with};
 ghost use Rattle.link_replay.specs.declared.words.Command.TheVariants.{Duplex};
 ghost use Rattle.link_replay.specs.Commands.{HasCauses};
-ghost use Rattle.link_replay.specs.DuplexCommand.{DuplexesWith, DuplexesKeyed, Duplexes};
-ghost use Rattle.link_replay.specs.DuplexCommand.{both_in};
+ghost use Rattle.link_replay.specs.BothLines.{RunsOverBoth, RunsOverBothKeyed};
+ghost use Rattle.link_replay.specs.DuplexCommand.{Duplexes, both_in};
 
 use check_receiver::Checker;
 use command_ends::{Ends, KeyError, Profile, Proto, Status, read_key, status_of, with_link};
@@ -29,8 +28,8 @@ fn duplex_keyed<S: LineBox, C: LineBox, K: Source, I: Source, O: Sink, L: Sink, 
 ) -> Status
     requires outgoing { S.widths_fit }
     requires incoming { C.widths_fit }
-    ensures duplexes { DuplexesWith (both_with (timed_of S.walking S.line_of)
-        (timed_of C.walking C.line_of) key.now dir)
+    ensures duplexes { RunsOverBoth (both_in (timed_of S.walking S.line_of)
+        (timed_of C.walking C.line_of) dir key.now)
         (I.left ends.entry.input.now) (I.left (outside_after ends.exit).input)
         (O.held ends.entry.out.now) (O.held (outside_after ends.exit).out)
         (L.held ends.entry.log.now) (L.held (outside_after ends.exit).log) result }
@@ -65,7 +64,7 @@ fn duplex_with<S: LineBox, C: LineBox, K: Source, I: Source, O: Sink, L: Sink, D
 ) -> Status
     requires outgoing { S.widths_fit }
     requires incoming { C.widths_fit }
-    ensures duplexes { DuplexesKeyed K.Source I.Source O.Sink L.Sink
+    ensures duplexes { RunsOverBothKeyed K.Source I.Source O.Sink L.Sink
         (both_in (timed_of S.walking S.line_of) (timed_of C.walking C.line_of) dir)
         (outside_before ends.entry) (outside_after ends.exit) result }
     ensures disk { (outside_after ends.exit).disk ≡ ends.entry.disk.now }

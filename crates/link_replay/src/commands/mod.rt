@@ -14,3 +14,4 @@ pub mod seal;
 pub mod space;
 pub mod tables;
 pub mod trial;
+pub mod wires;

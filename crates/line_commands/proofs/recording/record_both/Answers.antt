@@ -21,6 +21,8 @@ pub returns-in-Ok-clause-records : goal.returns-in-Ok-clause-records
 returns-in-Ok-clause-records g c = record {
   items = c.in-Whole.ensures.driven.items;
   whole = c.in-Whole.ensures.driven.takes;
+  texts = _;
+  are = refl;
   holds = c.in-Ok.ensures (record {
     outgoing = setup_of c.args.key.now c.args.outgoing 0;
     incoming = setup_of c.args.key.now (opposite_of c.args.outgoing) 0;

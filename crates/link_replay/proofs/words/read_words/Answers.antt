@@ -1,6 +1,9 @@
 use Rattle.link_replay.specs.{Words.IsCommand, declared.words.Command.Command}
 use Rattle.command_ends.proofs.Listed.{four, five, six}
 use Rattle.std.proofs.Common.{◌≡◌, [], ◌∷◌, map, IfOk, OnErr, subst, sym}
+use Rattle.std.proofs.Common.{arith}
+use Rattle.std.proofs.lemmas.List.{length-map}
+use Rattle.link_replay.proofs.Counting.{seven, words-count}
 use Rattle.std.specs.String.{string_bytes}
 use Rattle.link_replay.proofs.words.read_words.Goals as goal
 
@@ -63,3 +66,39 @@ pub returns-in-len6-clause-usage : goal.returns-in-len6-clause-usage
 returns-in-len6-clause-usage c =
     subst (λ l. OnErr c.read_six.result ((command : Command) → IsCommand l command → ⊥))
     (sym (words6 c)) c.read_six.ensures.usage
+
+words7 : (c : goal.After-read_seven) → map string_bytes c.args.words.now
+    ≡ c.as_str-verb.result.now ∷ c.as_str-link.result.now
+    ∷ c.as_str-dir.result.now ∷ c.as_str-side.result.now
+    ∷ c.as_str-window.result.now ∷ c.as_str-pause.result.now
+    ∷ c.as_str-in-len7.result.now ∷ []
+words7 c = seven string_bytes c.args.words.now c.in-len7.len_at_least c.in-len7.len_below
+    c.first-item-then-words-lt8.is c.link-item.is c.dir-item.is c.side-item.is c.window-item.is
+    c.pause-item.is c.key-item-then-words-lt8.is c.as_str-verb.ensures.value
+    c.as_str-link.ensures.value c.as_str-dir.ensures.value
+    c.as_str-side.ensures.value c.as_str-window.ensures.value
+    c.as_str-pause.ensures.value c.as_str-in-len7.ensures.value
+
+pub returns-in-len7-clause-ok : goal.returns-in-len7-clause-ok
+returns-in-len7-clause-ok c =
+    subst (λ l. IfOk c.read_seven.result (λ command. IsCommand l command)) (sym (words7 c))
+    c.read_seven.ensures.ok
+
+pub returns-in-len7-clause-usage : goal.returns-in-len7-clause-usage
+returns-in-len7-clause-usage c =
+    subst (λ l. OnErr c.read_seven.result ((command : Command) → IsCommand l command → ⊥))
+    (sym (words7 c)) c.read_seven.ensures.usage
+
+pub returns-in_default-2-clause-usage : goal.returns-in_default-2-clause-usage
+returns-in_default-2-clause-usage c = λ command asked.
+    (words-count _ command asked).2 (omega (
+      arith,
+      length-map c.args.words.now string_bytes,
+      c.in_default.len_at_least,
+      c.in_default.len_below,
+    ))
+
+pub returns-in_default-3-clause-usage : goal.returns-in_default-3-clause-usage
+returns-in_default-3-clause-usage c = λ command asked.
+    let most = (words-count _ command asked).1 in
+    omega (arith, most, length-map c.args.words.now string_bytes, c.in_default.len_at_least)

@@ -1,0 +1,5 @@
+pub mod NotedSteps
+pub mod Filling
+pub mod TextOf
+pub mod Made
+pub mod BothParts

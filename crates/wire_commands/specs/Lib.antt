@@ -1,0 +1,3 @@
+pub mod WireLines
+pub mod Making
+pub mod TickLines
